@@ -1,0 +1,7 @@
+pub mod FileType
+pub mod Metadata
+pub mod Paths
+pub mod PathRows
+pub mod FileSystem
+pub mod Tree
+pub mod TreeRows

@@ -1,0 +1,94 @@
+-- A small tree, built, and what it answers.
+use Rattle.std.specs.Prelude.{◌≡◌, ℕ, List, [], ◌∷◌, Option, Some, None, Result, Ok, Err, codes, refl}
+use Rattle.std.specs.declared.io.ErrorKind.{ErrorKind}
+use Rattle.std.specs.declared.io.ErrorKind.TheVariants as kind
+use Rattle.walk_model.specs.declared.file_type.FileType.TheVariants as type
+use Rattle.walk_model.specs.declared.metadata.Metadata.{Metadata}
+use Rattle.walk_model.specs.Metadata.{metadata}
+use Rattle.walk_model.specs.FileSystem.{Functions}
+use Rattle.walk_model.specs.Tree.{Tree, Node, directory, file, link, only_root, add, deny, remove, Refusal, not_found, already_exists, functions_of}
+
+-- a step of building
+abbrev pub Step : Type 0
+Step = Tree → Result Tree Refusal
+
+-- a directory, a file of this length, a link to this target, at a path
+abbrev pub d : List ℕ → Step
+d path = add (directory [] None) path
+
+abbrev pub f : ℕ → List ℕ → Step
+f len path = add (file len) path
+
+abbrev pub l : List ℕ → List ℕ → Step
+l target path = add (link target) path
+
+-- a directory that can't be read
+abbrev pub x : List ℕ → Step
+x path = deny kind.PermissionDenied path
+
+-- the tree after the steps; one that is refused changes nothing
+abbrev or_same : Tree → Result Tree Refusal → Tree
+or_same tree (Ok new) = new
+or_same tree (Err refusal) = tree
+
+abbrev pub built : Tree → List Step → Tree
+built tree [] = tree
+built tree (step ∷ steps) = built (or_same tree (step tree)) steps
+
+abbrev small : Tree
+small = built only_root (d (codes "/r") ∷ f 7 (codes "/r/f") ∷ l (codes "f") (codes "/r/l") ∷ l (codes "r") (codes "/q") ∷ [])
+
+abbrev answers : Functions
+answers = functions_of small
+
+metadata_through_links : answers.meta_of (codes "/q/l") ≡ Ok (metadata type.File 7)
+metadata_through_links = refl
+
+symlink_metadata_of_a_link : answers.link_meta_of (codes "/q/l") ≡ Ok (metadata type.Symlink 1)
+symlink_metadata_of_a_link = refl
+
+read_link_of_a_file : answers.target_of (codes "/r/f") ≡ Err kind.InvalidInput
+read_link_of_a_file = refl
+
+read_dir_of_a_file : answers.list_of (codes "/r/f") ≡ Err kind.InvalidInput
+read_dir_of_a_file = refl
+
+below_a_file : answers.meta_of (codes "/r/f/x") ≡ Err kind.Other
+below_a_file = refl
+
+up_after_a_link : answers.meta_of (codes "/q/..") ≡ Ok (metadata type.Dir 0)
+up_after_a_link = refl
+
+relative_path : answers.meta_of (codes "r") ≡ Ok (metadata type.Dir 0)
+relative_path = refl
+
+empty_path : answers.meta_of [] ≡ Err kind.NotFound
+empty_path = refl
+
+dot_of_a_file : answers.meta_of (codes "/r/f/.") ≡ Ok (metadata type.File 7)
+dot_of_a_file = refl
+
+dots_of_a_file : answers.meta_of (codes "/r/f/..") ≡ Err kind.Other
+dots_of_a_file = refl
+
+add_through_a_link : f 1 (codes "/q/f") small ≡ Err already_exists
+add_through_a_link = refl
+
+add_below_nothing : d (codes "/n/m") small ≡ Err not_found
+add_below_nothing = refl
+
+add_the_root : d (codes "/") small ≡ Err not_found
+add_the_root = refl
+
+deny_a_link : x (codes "/r/l") small ≡ Err not_found
+deny_a_link = refl
+
+removed : (functions_of (built small (remove (codes "/r/f") ∷ []))).link_meta_of (codes "/r/f") ≡ Err kind.NotFound
+removed = refl
+
+-- the target of a link to itself
+abbrev circle : Tree
+circle = built only_root (l (codes "a") (codes "/a") ∷ [])
+
+too_many_links : (functions_of circle).meta_of (codes "/a") ≡ Err kind.Other
+too_many_links = refl

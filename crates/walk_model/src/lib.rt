@@ -1,0 +1,5 @@
+//! What a directory walk is: its definitions, in `specs/`, and the laws on lists that proofs cite.
+#![tactic(auto)]
+
+pub mod file_type;
+pub mod metadata;
