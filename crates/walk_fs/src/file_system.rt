@@ -1,0 +1,70 @@
+//! The file system as a trait.
+ghost use Rattle.std.specs.Prelude.{◌≡◌, ℕ, List, Result, map, string_bytes};
+ghost use Rattle.std.specs.Arc.{arc_value};
+ghost use Rattle.walk_model.specs.FileSystem.{Functions};
+ghost use Rattle.walk_fs.specs.Views.{listed, AnswersValue};
+
+use crate::fault::Fault;
+use crate::listed::Listed;
+use std::alloc::Allocator;
+use std::io;
+use std::sync::Arc;
+use walk_model::metadata::Metadata;
+
+/// What a walk asks of a file system. Paths are texts, as `std::path` has them on Unix; relative ones start where the
+/// file system says. Each answer that needs memory is made with the caller's allocator.
+pub trait FileSystem: Drop {
+    /// It always answers the same: each answer is that of `functions`, unless memory runs out.
+    ghost IsFixed: { Self → Type 0 };
+
+    /// What it then answers at each path.
+    ghost functions: { Self → Functions };
+
+    /// The items of a directory, in the file system's order, without `.` and `..` (`std::fs::read_dir`). An item that
+    /// could not be read is an error in its place.
+    fn read_dir<A: Allocator + Copy>(
+        &self,
+        alloc: A,
+        path: &str,
+    ) -> Result<Vec<io::Result<Listed<A>>, A>, Fault>
+        ensures { IsFixed self.now → AnswersValue (λ v. map listed v.items) result ((functions self.now).list_of path.now) };
+
+    /// The type and length of what a path leads to, all links followed (`std::fs::metadata`).
+    fn metadata(&self, path: &str) -> Result<Metadata, Fault>
+        ensures { IsFixed self.now → AnswersValue (λ m. m) result ((functions self.now).meta_of path.now) };
+
+    /// The same without following the last component (`std::fs::symlink_metadata`).
+    fn symlink_metadata(&self, path: &str) -> Result<Metadata, Fault>
+        ensures { IsFixed self.now → AnswersValue (λ m. m) result ((functions self.now).link_meta_of path.now) };
+
+    /// The target of a symbolic link as its text stands (`std::fs::read_link`).
+    fn read_link<A: Allocator + Copy>(&self, alloc: A, path: &str) -> Result<String<A>, Fault>
+        ensures { IsFixed self.now → AnswersValue string_bytes result ((functions self.now).target_of path.now) };
+}
+
+/// A shared file system answers what the one that is shared does.
+impl<S: FileSystem, B: Allocator> FileSystem for Arc<S, B> {
+    ghost IsFixed = { λ s. S.IsFixed (arc_value s) };
+
+    ghost functions = { λ s. S.functions (arc_value s) };
+
+    fn read_dir<A: Allocator + Copy>(
+        &self,
+        alloc: A,
+        path: &str,
+    ) -> Result<Vec<io::Result<Listed<A>>, A>, Fault> {
+        (**self).read_dir(alloc, path)
+    }
+
+    fn metadata(&self, path: &str) -> Result<Metadata, Fault> {
+        (**self).metadata(path)
+    }
+
+    fn symlink_metadata(&self, path: &str) -> Result<Metadata, Fault> {
+        (**self).symlink_metadata(path)
+    }
+
+    fn read_link<A: Allocator + Copy>(&self, alloc: A, path: &str) -> Result<String<A>, Fault> {
+        (**self).read_link(alloc, path)
+    }
+}

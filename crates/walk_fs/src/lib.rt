@@ -1,0 +1,6 @@
+//! What a walk asks of a file system.
+#![tactic(auto)]
+
+pub mod fault;
+pub mod file_system;
+pub mod listed;

@@ -1,0 +1,11 @@
+//! An item of a listing.
+use std::alloc::{Allocator, Global};
+use std::io;
+use walk_model::file_type::FileType;
+
+/// A name in a directory, with the type of what stands there or the error met when it was asked for.
+#[derive(Drop)]
+pub struct Listed<A: Allocator + Copy = Global> {
+    pub name: String<A>,
+    pub file_type: io::Result<FileType>,
+}
