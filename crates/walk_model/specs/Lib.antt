@@ -5,3 +5,12 @@ pub mod PathRows
 pub mod FileSystem
 pub mod Tree
 pub mod TreeRows
+pub mod Error
+pub mod Entry
+pub mod Options
+pub mod ReadDir
+pub mod Sorting
+pub mod Job
+pub mod Listing
+pub mod Held
+pub mod WalkRows

@@ -1,0 +1,60 @@
+-- Entries as values. R is the type of a directory's client state, E that of an entry's.
+use Rattle.std.specs.Prelude.{◌≡◌, ℕ, Bool, true, false, List, [], ◌∷◌, Option, Some, None, Result, Ok, Err, if◌then◌else◌, option_map, is_some, ◌==◌}
+use Rattle.walk_model.specs.declared.file_type.FileType.{FileType}
+use Rattle.walk_model.specs.Error.{Failure}
+use Rattle.walk_model.specs.Paths.{join}
+
+-- what an entry holds of the directory to be read below it: its path, the error of its reading, and the state that the reading is to begin with
+pub record Children (R : Type 0) : Type 0 where
+  pub path : List ℕ
+  pub error : Option Failure
+  pub state : Option R
+
+-- an entry: all its fields
+pub record Entry (R E : Type 0) : Type 0 where
+  pub depth : ℕ
+  pub file_name : List ℕ
+  pub file_type : FileType
+  pub client_state : E
+  pub parent_path : List ℕ
+  pub through_link : Bool
+  pub ancestors : List (List ℕ)
+  pub read_children : Option (Children R)
+
+-- an item of a list: an entry or an error
+abbrev pub Item : Type 0 → Type 0 → Type 0
+Item R E = Result (Entry R E) Failure
+
+-- a directory at this path that is to be read, where an entry's type says so
+abbrev pub children_at : {R : Type 0} → Bool → List ℕ → Option (Children R)
+children_at dir path = if dir then Some (record { path = path; error = None; state = None }) else None
+
+-- whether a name is hidden: it starts with a dot
+abbrev pub is_hidden : List ℕ → Bool
+is_hidden [] = false
+is_hidden (c ∷ cs) = c == 46
+
+-- the same directory, with the error of its reading
+abbrev pub failed : {R : Type 0} → Failure → Children R → Children R
+failed f c = record c { error = Some f }
+
+module _ {R E : Type 0} where
+  -- the path of an entry
+  abbrev pub path_of : Entry R E → List ℕ
+  path_of e = join e.parent_path e.file_name
+
+  -- whether an item has a directory to be read
+  abbrev pub has_directory : Item R E → Bool
+  has_directory (Ok e) = is_some e.read_children
+  has_directory (Err f) = false
+
+  -- the item with the error of its directory's reading in it
+  abbrev pub with_error : Failure → Item R E → Item R E
+  with_error f (Err e) = Err e
+  with_error f (Ok e) = Ok (record e { read_children = option_map (failed f) e.read_children })
+
+  -- every entry of the list is at this depth
+  abbrev pub AtDepth : ℕ → List (Item R E) → Type 0
+  AtDepth depth [] = Unit {0}
+  AtDepth depth (Ok e ∷ items) = (e.depth ≡ depth) × AtDepth depth items
+  AtDepth depth (Err f ∷ items) = AtDepth depth items

@@ -1,0 +1,44 @@
+-- What an iterator of a walk has received and not yet passed on.
+use Rattle.std.specs.Prelude.{◌≡◌, ℕ, zero, suc, ◌+◌, ◌-◌, ◌*◌, ◌^◌, Bool, true, false, List, [], ◌∷◌, Result, Ok, Err}
+use Rattle.walk_model.specs.Entry.{Item, has_directory}
+use Rattle.walk_model.specs.ReadDir.{Spec, Outcome}
+use Rattle.walk_model.specs.Listing.{Pair, Source, nothing, unread, was_read, listing, answers}
+
+abbrev pub first_source : {R E : Type 0} → Bool → List (Spec R) → Source R E
+first_source false specs = nothing
+first_source true [] = nothing
+first_source true (spec ∷ specs) = unread spec
+
+abbrev pub after_first : {R : Type 0} → Bool → List (Spec R) → List (Spec R)
+after_first false specs = specs
+after_first true [] = []
+after_first true (spec ∷ specs) = specs
+
+-- each item that has a directory takes the next of the unread specifications
+abbrev pub pair_up : {R E : Type 0} → List (Item R E) → List (Spec R) → List (Pair R E)
+pair_up [] specs = []
+pair_up (x ∷ items) specs = record { item = x; source = first_source (has_directory x) specs } ∷ pair_up items (after_first (has_directory x) specs)
+
+-- what an iterator that holds these pairs will answer
+abbrev pub to_come : {R E : Type 0} → (Spec R → Outcome R E) → ℕ → ℕ → List (Pair R E) → List (Item R E)
+to_come reading min_depth max_depth held = answers min_depth (listing reading max_depth held)
+
+-- At most how many answers a pair stands for, so many levels above the greatest depth: itself, and as many as a list can have, each with what is below it.
+unfoldable pub bound : ℕ → ℕ
+bound zero = 1
+bound (suc levels) = 1 + 2 ^ 64 * bound levels
+
+abbrev pub source_weight : {R E : Type 0} → ℕ → Source R E → ℕ
+source_weight max_depth nothing = 1
+source_weight max_depth (unread spec) = bound (max_depth - spec.depth)
+source_weight max_depth (was_read spec outcome) = bound (max_depth - spec.depth)
+
+-- at most how many answers are to come of what is held
+abbrev pub weight : {R E : Type 0} → ℕ → List (Pair R E) → ℕ
+weight max_depth [] = 0
+weight max_depth (p ∷ held) = source_weight max_depth p.source + weight max_depth held
+
+-- at most how many readings are to come of specifications
+abbrev pub spec_weight : {R : Type 0} → ℕ → List (Spec R) → ℕ
+spec_weight max_depth [] = 0
+spec_weight max_depth (spec ∷ specs) = bound (max_depth - spec.depth) + spec_weight max_depth specs

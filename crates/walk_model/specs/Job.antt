@@ -1,0 +1,153 @@
+-- One reading of a directory, and the list of one item that a walk begins with.
+use Rattle.std.specs.Prelude.{ℕ, ◌+◌, nat_le, Bool, true, false, ◌&&◌, List, [], ◌∷◌, ◌++◌, flat_map, find, reverse, Option, Some, None, is_some, unwrap_or, Result, Ok, Err, if◌then◌else◌}
+use Rattle.std.specs.declared.io.ErrorKind.{ErrorKind}
+use Rattle.walk_model.specs.declared.file_type.FileType.{FileType}
+use Rattle.walk_model.specs.declared.metadata.Metadata.{Metadata}
+use Rattle.walk_model.specs.FileType.{is_dir, is_symlink}
+use Rattle.walk_model.specs.Metadata.{type_of}
+use Rattle.walk_model.specs.FileSystem.{Named, Listed, Functions}
+use Rattle.walk_model.specs.Paths.{join, parent, file_name, same_path}
+use Rattle.walk_model.specs.Error.{Failure, io, looped}
+use Rattle.walk_model.specs.Entry.{Entry, Item, children_at, is_hidden, path_of}
+use Rattle.walk_model.specs.ReadDir.{Spec, Reading, Outcome}
+use Rattle.walk_model.specs.Options.{Options}
+use Rattle.walk_model.specs.Sorting.{arranged}
+
+-- What readings are made of: a fixed file system, the options, what the callback makes of a list (of a directory at a depth, or the root's), and the state of a new entry.
+pub record Job (R E : Type 0) : Type 0 where
+  pub fs : Functions
+  pub options : Options
+  pub processed : Option ℕ → List ℕ → R → List (Item R E) → Reading R E
+  pub default : E
+
+-- one function of an answer, another of its error
+abbrev pub either : {X F Y : Type 0} → (X → Y) → (F → Y) → Result X F → Y
+either f g (Ok x) = f x
+either f g (Err e) = g e
+
+-- the nearest ancestor, which is the last of the list, that a target is the same path as
+abbrev pub looped_to : List ℕ → List (List ℕ) → Option (List ℕ)
+looped_to target ancestors = find (same_path target) (reverse ancestors)
+
+-- the name of an entry made from a path, and its parent: where the path has no file name, they are the whole path and nothing
+abbrev pub own_name : List ℕ → List ℕ
+own_name path = unwrap_or (file_name path) path
+
+abbrev pub own_parent : List ℕ → List ℕ
+own_parent path = if is_some (file_name path) then unwrap_or (parent path) [] else []
+
+module _ {R E : Type 0} (job : Job R E) where
+  abbrev made_of : ℕ → List ℕ → Bool → List (List ℕ) → Metadata → Entry R E
+  made_of depth path through ancestors m = record {
+      depth = depth;
+      file_name = own_name path;
+      file_type = type_of m;
+      client_state = job.default;
+      parent_path = own_parent path;
+      through_link = through;
+      ancestors = ancestors;
+      read_children = children_at (is_dir (type_of m)) path;
+    }
+
+  -- the entry of a path, or the error with its depth and path; it is asked for through a link or not
+  abbrev pub made : ℕ → List ℕ → Bool → List (List ℕ) → Item R E
+  made depth path through ancestors = either
+      (λ m. Ok (made_of depth path through ancestors m))
+      (λ kind. Err (io depth (Some path) kind))
+      (if through then job.fs.meta_of path else job.fs.link_meta_of path)
+
+  -- the entry x behind the link e, unless x is an ancestor
+  abbrev unless_looped : Entry R E → Entry R E → Option (List ℕ) → Item R E
+  unless_looped e x None = Ok x
+  unless_looped e x (Some ancestor) = Err (looped e.depth ancestor (path_of e))
+
+  -- the entry x that is reached through the link e: a directory is looked for among the ancestors, by the link's text
+  abbrev reached : Entry R E → Entry R E → Item R E
+  reached e x =
+      if is_dir x.file_type
+      then either
+        (λ target. unless_looped e x (looped_to target e.ancestors))
+        (λ kind. Err (io e.depth None kind))
+        (job.fs.target_of (path_of e))
+      else Ok x
+
+  -- an entry after the link rule: where links are followed, a link gives way to what it leads to
+  abbrev pub followed : Entry R E → Item R E
+  followed e =
+      if job.options.follow_links && is_symlink e.file_type
+      then either (reached e) Err (made e.depth (path_of e) true e.ancestors)
+      else Ok e
+
+  -- the ancestors of what stands in a directory; none are kept where links aren't followed
+  abbrev pub ancestors_in : Spec R → List (List ℕ)
+  ancestors_in spec = if job.options.follow_links then spec.ancestors ++ spec.path ∷ [] else []
+
+  -- the entry of a name in a directory
+  abbrev pub entry_in : Spec R → List ℕ → FileType → Entry R E
+  entry_in spec name type = record {
+      depth = spec.depth + 1;
+      file_name = name;
+      file_type = type;
+      client_state = job.default;
+      parent_path = spec.path;
+      through_link = false;
+      ancestors = ancestors_in spec;
+      read_children = children_at (is_dir type) (join spec.path name);
+    }
+
+  -- what a name with a type gives: nothing where it is hidden and skipped
+  abbrev pub shown : Spec R → List ℕ → FileType → List (Item R E)
+  shown spec name type =
+      if job.options.skip_hidden && is_hidden name then [] else followed (entry_in spec name type) ∷ []
+
+  -- what a name gives; where its type is an error, that error with the joined path
+  abbrev pub named : Spec R → Named → List (Item R E)
+  named spec n = either (shown spec n.name) (λ kind. Err (io (spec.depth + 1) (Some (join spec.path n.name)) kind) ∷ []) n.file_type
+
+  -- what one item of a listing gives
+  abbrev pub item_of : Spec R → Listed → List (Item R E)
+  item_of spec = either (named spec) (λ kind. Err (io (spec.depth + 1) None kind) ∷ [])
+
+  -- the items of a listing after the hidden and the link rule, in the file system's order
+  abbrev pub raw : Spec R → List Listed → List (Item R E)
+  raw spec = flat_map (item_of spec)
+
+  -- the same in the order that is asked for
+  abbrev pub ordered : Spec R → List Listed → List (Item R E)
+  ordered spec items = if job.options.sort then arranged (raw spec items) else raw spec items
+
+  -- One reading. At the greatest depth nothing is read; a listing that fails is an error with the directory's depth and path.
+  abbrev pub reading : Spec R → Outcome R E
+  reading spec =
+      if nat_le job.options.max_depth spec.depth
+      then Ok (record { state = spec.state; list = [] })
+      else either
+        (λ items. Ok (job.processed (Some spec.depth) spec.path spec.state (ordered spec items)))
+        (λ kind. Err (io spec.depth (Some spec.path) kind))
+        (job.fs.list_of spec.path)
+
+  -- a root that is still a link: a directory behind it is to be read, and the entry stays that of the link
+  abbrev pub with_target : Entry R E → Item R E
+  with_target e =
+      if is_symlink e.file_type
+      then either
+        (λ m. Ok (if is_dir (type_of m) then record e { read_children = children_at true (path_of e) } else e))
+        (λ kind. Err (io 0 (Some (path_of e)) kind))
+        (job.fs.meta_of (path_of e))
+      else Ok e
+
+  -- the paths that the root's ancestors begin with
+  abbrev root_ancestors : List ℕ → List (List ℕ)
+  root_ancestors path = if job.options.follow_links then path ∷ [] else []
+
+  -- the root's item before the callback
+  abbrev pub root_item : List ℕ → Item R E
+  root_item path = either (λ e. either with_target Err (followed e)) Err (made 0 path false (root_ancestors path))
+
+  -- the path that the callback is given with the root's item: the root's parent, and nothing where no entry could be made
+  abbrev pub root_parent : List ℕ → List ℕ
+  root_parent path = either (λ e. e.parent_path) (λ _. []) (made 0 path false (root_ancestors path))
+
+  -- the list that a walk begins with
+  abbrev pub root_list : List ℕ → R → Reading R E
+  root_list path state = job.processed None (root_parent path) state (root_item path ∷ [])
