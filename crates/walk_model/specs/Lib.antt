@@ -13,4 +13,5 @@ pub mod Sorting
 pub mod Job
 pub mod Listing
 pub mod Held
+pub mod Preorder
 pub mod WalkRows

@@ -1,0 +1,151 @@
+-- What one step of a walk does to what is held.
+use Rattle.std.proofs.Common.{◌≡◌, ℕ, zero, suc, ◌+◌, ◌-◌, ◌*◌, ◌^◌, ◌<◌, ◌≤◌, Bool, true, false, is_some, List, [], ◌∷◌, ◌++◌, map, length, Option, Some, None, option_to_list, Result, Ok, Err, refl, sym, ap, ◌∙◌, append_assoc, arith, subst}
+use Rattle.std.proofs.Math.Nat.{mul-le-mul_right}
+use Rattle.std.proofs.lemmas.Grind.{flat_map-append}
+use Rattle.std.proofs.lemmas.List.{map-append}
+use Rattle.std.specs.Prelude.{flat_map, filter, option_map, unwrap_or}
+use Rattle.walk_model.specs.Error.{Failure}
+use Rattle.walk_model.specs.Entry.{Children, Entry, Item, has_directory, with_error, AtDepth}
+use Rattle.walk_model.specs.ReadDir.{Spec, Reading, Outcome, Place, place, spec_of, spec_below, children, children_of, list_of, IsLawful, ReadsFirst}
+use Rattle.walk_model.specs.Listing.{Pair, Source, nothing, unread, was_read, source_of, pair, paired, pairs_of, after_reading, is_answered, answers, levels_of, stands, opened, below, listing}
+use Rattle.walk_model.specs.Held.{first_source, after_first, pair_up, bound, source_weight, weight, spec_weight}
+use Rattle.walk_model.specs.Preorder.{readings, preorder}
+
+module _ {R E : Type 0} where
+  -- a list that was read stands in front of the rest as its pairs
+  front : (state : R) (l xs : List (Item R E)) (ss : List (Spec R)) → pair_up (l ++ xs) (flat_map (λ item. option_to_list (spec_of state item)) l ++ ss) ≡ map (pair state) l ++ pair_up xs ss
+  front state [] xs ss = refl
+  front state (Err f ∷ l) xs ss = ap (λ t. record { item = Err f; source = nothing } ∷ t) (front state l xs ss)
+
+  front state (Ok e ∷ l) xs ss =
+      let tail : List (Spec R) = flat_map (λ item. option_to_list (spec_of state item)) l in
+      elim e.read_children as (λ o. record { item = Ok e; source = first_source (is_some o) ((option_to_list (option_map (spec_below state e) o) ++ tail) ++ ss) } ∷ pair_up (l ++ xs) (after_first (is_some o) ((option_to_list (option_map (spec_below state e) o) ++ tail) ++ ss)) ≡ record { item = Ok e; source = source_of (option_map (spec_below state e) o) } ∷ (map (pair state) l ++ pair_up xs ss)) [
+        | None ↦ ap (λ t. record { item = Ok e; source = nothing } ∷ t) (front state l xs ss)
+        | Some c ↦ ap (λ t. record { item = Ok e; source = unread (spec_below state e c) } ∷ t) (front state l xs ss)
+      ]
+
+  -- an outcome's list stands in front of the rest as its pairs
+  pub pair_up-outcome : (outcome : Outcome R E) (xs : List (Item R E)) (ss : List (Spec R)) → pair_up (list_of outcome ++ xs) (children_of outcome ++ ss) ≡ pairs_of outcome ++ pair_up xs ss
+  pair_up-outcome (Ok r) xs ss = front r.state r.list xs ss
+  pair_up-outcome (Err f) xs ss = refl
+
+  -- the weight of a list depends on the places of its specifications alone
+  same_weight : (max_depth : ℕ) (xs : List (Item R E)) (ss ts : List (Spec R)) → map place ss ≡ map place ts → weight max_depth (pair_up xs ss) ≡ weight max_depth (pair_up xs ts)
+  same_weight max_depth [] ss ts h = refl
+  same_weight max_depth (x ∷ xs) [] [] h = refl
+  same_weight max_depth (x ∷ xs) [] (t ∷ ts) h = cc
+  same_weight max_depth (x ∷ xs) (s ∷ ss) [] h = cc
+  same_weight max_depth (x ∷ xs) (s ∷ ss) (t ∷ ts) h =
+      elim (has_directory x) as (λ b. source_weight {E = E} max_depth (first_source b (s ∷ ss)) + weight max_depth (pair_up xs (after_first b (s ∷ ss))) ≡ source_weight {E = E} max_depth (first_source b (t ∷ ts)) + weight max_depth (pair_up xs (after_first b (t ∷ ts)))) [
+        | false ↦ ap (λ n. 1 + n) (same_weight max_depth xs (s ∷ ss) (t ∷ ts) h)
+        | true ↦
+          let same_place : place s ≡ place t = cc in
+          let head : s.depth ≡ t.depth = ap (λ (p : Place). p.depth) same_place in
+          let tail : map place ss ≡ map place ts = cc in
+          rw head (ap (λ n. bound (max_depth - t.depth) + n) (same_weight max_depth xs ss ts tail))
+      ]
+
+  weight-append : (max_depth : ℕ) (ps qs : List (Pair R E)) → weight max_depth (ps ++ qs) ≡ weight max_depth ps + weight max_depth qs
+  weight-append max_depth [] qs = omega arith
+  weight-append max_depth (p ∷ ps) qs = omega (arith, weight-append max_depth ps qs)
+
+pub bound_pos : (n : ℕ) → 1 ≤ bound n
+unfolding bound
+bound_pos zero = omega arith
+bound_pos (suc n) = omega arith
+
+-- less than 2 ^ 64 times the bound below is below the bound
+pub below_bound : (n len w : ℕ) → len < 2 ^ 64 → w ≤ len * bound n → w < bound (suc n)
+unfolding bound
+below_bound n len w few h = let more : len * bound n ≤ 2 ^ 64 * bound n = mul-le-mul_right (bound n) (omega arith) in omega arith
+
+module _ {R E : Type 0} where
+  one_source : (max_depth depth : ℕ) (state : R) (e : Entry R E) → e.depth ≡ depth → source_weight {E = E} max_depth (source_of (spec_of {E = E} state (Ok e))) ≤ bound (max_depth - depth)
+  one_source max_depth depth state e h =
+      elim e.read_children as (λ o. source_weight {E = E} max_depth (source_of (option_map (spec_below state e) o)) ≤ bound (max_depth - depth)) [
+        | None ↦ bound_pos (max_depth - depth)
+        | Some c ↦ rw h (omega arith)
+      ]
+
+  -- what is paired weighs no more than as many times the bound below
+  weight-paired : (max_depth depth : ℕ) (state : R) (l : List (Item R E)) → AtDepth depth l → weight max_depth (map (pair state) l) ≤ length l * bound (max_depth - depth)
+  weight-paired max_depth depth state [] a = omega arith
+  weight-paired max_depth depth state (Err f ∷ l) a = omega (arith, weight-paired max_depth depth state l a, bound_pos (max_depth - depth))
+  weight-paired max_depth depth state (Ok e ∷ l) a = omega (arith, weight-paired max_depth depth state l a.1, one_source max_depth depth state e a.0)
+
+  -- the pairs of an outcome weigh less than the specification that it was read from
+  lighter_at : (max_depth n : ℕ) (s : Spec R) (outcome : Outcome R E) → IsLawful max_depth s outcome → length (list_of outcome) < 2 ^ 64 → max_depth - s.depth ≡ n → weight max_depth (pairs_of outcome) < bound n
+  lighter_at max_depth n s (Err f) lawful few levels = bound_pos n
+  lighter_at max_depth zero s (Ok r) lawful few levels =
+      let none : r.list ≡ [] = lawful.1 (omega arith) in
+      rw none (bound_pos 0)
+  lighter_at max_depth (suc n) s (Ok r) lawful few levels =
+      below_bound n (length r.list) (weight max_depth (paired r)) few
+      (let same : max_depth - (s.depth + 1) ≡ n = omega arith in rw same at (weight-paired max_depth (s.depth + 1) r.state r.list lawful.0))
+
+  -- reading the directory of an entry makes what is held lighter
+  pub lighter : (max_depth : ℕ) (clones : Type 0) (e : Entry R E) (xs : List (Item R E)) (old new : List (Spec R)) (outcome : Outcome R E) → has_directory {R = R} (Ok e) ≡ true → length (list_of outcome) < 2 ^ 64 → ReadsFirst max_depth clones old outcome new → weight max_depth (pair_up (list_of outcome ++ xs) new) < weight max_depth (pair_up (Ok e ∷ xs) old)
+  lighter max_depth clones e xs old new outcome dir few reads =
+      let places : map place (reads.front ++ reads.rest) ≡ map place (children_of outcome ++ reads.rest) = map-append place reads.front reads.rest ∙ ap (λ l. l ++ map place reads.rest) reads.places ∙ sym (map-append place (children_of outcome) reads.rest) in
+      rw (reads.took, dir, reads.left, same_weight max_depth (list_of outcome ++ xs) (reads.front ++ reads.rest) (children_of outcome ++ reads.rest) places, pair_up-outcome outcome xs reads.rest, weight-append max_depth (pairs_of outcome) (pair_up xs reads.rest))
+      (omega (arith, lighter_at max_depth (max_depth - reads.first.depth) reads.first outcome reads.lawful few refl))
+
+heavy_source : {R : Type 0} (E : Type 0) (max_depth : ℕ) (b : Bool) (ss : List (Spec R)) → 1 ≤ source_weight {R = R} {E = E} max_depth (first_source b ss)
+heavy_source E max_depth false ss = omega arith
+heavy_source E max_depth true [] = omega arith
+heavy_source E max_depth true (s ∷ ss) = bound_pos (max_depth - s.depth)
+
+module _ {R E : Type 0} where
+  -- what is held isn't nothing
+  pub heavy : (max_depth : ℕ) (x : Item R E) (xs : List (Item R E)) (ss : List (Spec R)) → 0 < weight max_depth (pair_up (x ∷ xs) ss)
+  heavy max_depth x xs ss = omega (arith, heavy_source E max_depth (has_directory x) ss)
+
+  -- an item that has no directory, or for whose directory there is no specification
+  pub lighter_alone : (max_depth : ℕ) (x : Item R E) (xs : List (Item R E)) (ss : List (Spec R)) → weight max_depth (pair_up xs (after_first (has_directory x) ss)) < weight max_depth (pair_up (x ∷ xs) ss)
+  lighter_alone max_depth x xs ss = omega (arith, heavy_source E max_depth (has_directory x) ss)
+
+module _ {R E : Type 0} (reading : Spec R → Outcome R E) where
+  below-nothing : (n : ℕ) → below reading n nothing ≡ []
+  unfolding below
+  below-nothing zero = refl
+  below-nothing (suc n) = refl
+
+  pub listing-append : (max_depth : ℕ) (ps qs : List (Pair R E)) → listing reading max_depth (ps ++ qs) ≡ listing reading max_depth ps ++ listing reading max_depth qs
+  listing-append max_depth ps qs = flat_map-append (λ (p : Pair R E). stands reading p.item p.source ∷ below reading (levels_of max_depth p.source) p.source) ps qs
+
+  -- a level below a directory, as many levels are left as below any of its entries
+  one_below : (max_depth depth n : ℕ) (state : R) (e : Entry R E) → e.depth ≡ depth → max_depth - depth ≡ n → below reading n (source_of (spec_of {E = E} state (Ok e))) ≡ below reading (levels_of {E = E} max_depth (source_of (spec_of {E = E} state (Ok e)))) (source_of (spec_of {E = E} state (Ok e)))
+  one_below max_depth depth n state e h levels =
+      elim e.read_children as (λ o. below reading n (source_of (option_map (spec_below state e) o)) ≡ below reading (levels_of {E = E} max_depth (source_of (option_map (spec_below state e) o))) (source_of (option_map (spec_below state e) o))) [
+        | None ↦ below-nothing n ∙ sym (below-nothing 0)
+        | Some c ↦ ap (λ k. below reading k (unread (spec_below state e c))) (sym levels ∙ ap (λ d. max_depth - d) (sym h))
+      ]
+
+  -- what stands below a list that was read is its listing
+  list_below : (max_depth depth n : ℕ) (state : R) (l : List (Item R E)) → AtDepth depth l → max_depth - depth ≡ n → flat_map (λ (p : Pair R E). stands reading p.item p.source ∷ below reading n p.source) (map (pair state) l) ≡ listing reading max_depth (map (pair state) l)
+  list_below max_depth depth n state [] a levels = refl
+  list_below max_depth depth n state (Err f ∷ l) a levels = rw (below-nothing n, below-nothing 0) (ap (λ t. Err f ∷ t) (list_below max_depth depth n state l a levels))
+  list_below max_depth depth n state (Ok e ∷ l) a levels = rw (one_below max_depth depth n state e a.0 levels, list_below max_depth depth n state l a.1 levels) refl
+
+  opened_at : (max_depth n : ℕ) (s : Spec R) (outcome : Outcome R E) → outcome ≡ reading s → IsLawful max_depth s outcome → max_depth - s.depth ≡ n → below reading n (unread s) ≡ listing reading max_depth (pairs_of outcome)
+  unfolding below
+  opened_at max_depth zero s (Ok r) is lawful levels =
+      let none : r.list ≡ [] = lawful.1 (omega arith) in
+      rw none refl
+  opened_at max_depth zero s (Err f) is lawful levels = refl
+  opened_at max_depth (suc n) s (Ok r) is lawful levels = rw (← is) (list_below max_depth (s.depth + 1) n r.state r.list lawful.0 (omega arith))
+  opened_at max_depth (suc n) s (Err f) is lawful levels = rw (← is) refl
+
+  -- what is listed of an entry and the rest, once its directory was read
+  pub listed : (max_depth : ℕ) (clones : Type 0) (e : Entry R E) (xs : List (Item R E)) (old new : List (Spec R)) (outcome : Outcome R E) → has_directory {R = R} (Ok e) ≡ true → (reads : ReadsFirst max_depth clones old outcome new) → clones → outcome ≡ reading reads.first → listing reading max_depth (pair_up (Ok e ∷ xs) old) ≡ after_reading outcome (Ok e) ∷ listing reading max_depth (pair_up (list_of outcome ++ xs) new)
+  listed max_depth clones e xs old new outcome dir reads equal is =
+      rw (reads.took, dir, reads.left, reads.children equal, pair_up-outcome outcome xs reads.rest, listing-append max_depth (pairs_of outcome) (pair_up xs reads.rest), ← is, opened_at max_depth (max_depth - reads.first.depth) reads.first outcome is reads.lawful refl)
+      refl
+
+  -- an item with no directory
+  pub alone : (max_depth : ℕ) (x : Item R E) (xs : List (Item R E)) (ss : List (Spec R)) → has_directory x ≡ false → listing reading max_depth (pair_up (x ∷ xs) ss) ≡ x ∷ listing reading max_depth (pair_up xs ss)
+  alone max_depth x xs ss h = rw (h, below-nothing 0) refl
+
+  -- an item where nothing is left to be read
+  pub unread_none : (max_depth : ℕ) (x : Item R E) (xs : List (Item R E)) (ss : List (Spec R)) → ss ≡ [] → has_directory x ≡ true → listing reading max_depth (pair_up (x ∷ xs) ss) ≡ x ∷ listing reading max_depth (pair_up xs [])
+  unread_none max_depth x xs ss h dir = rw (h, dir, below-nothing 0) refl
