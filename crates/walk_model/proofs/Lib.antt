@@ -1,2 +1,3 @@
+pub mod PathFacts
 pub mod HeldFacts
 pub mod PreorderFacts
