@@ -1,0 +1,4 @@
+pub mod Text
+pub mod Error
+pub mod Entry
+pub mod ReadDir

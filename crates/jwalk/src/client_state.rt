@@ -1,0 +1,22 @@
+//! The states that a walk's user keeps.
+use std::fmt::Debug;
+
+/// What a walk's user keeps beside directories and entries.
+///
+/// `ReadDirState` begins with the root's and goes down the tree: a directory's reading starts with a clone of what the
+/// reading of its parent left, or of the state that its entry's `read_children` names. `DirEntryState` stands in each
+/// entry and begins with its default.
+///
+/// A clone may be refused for want of memory; then so is the step that made it. A pair `(B, E)` of two states is a
+/// `ClientState`.
+pub trait ClientState: Default + Debug + Drop {
+    type ReadDirState: Clone + Default + Debug + Drop;
+
+    type DirEntryState: Default + Debug + Drop;
+}
+
+impl<B: Clone + Default + Debug + Drop, E: Default + Debug + Drop> ClientState for (B, E) {
+    type ReadDirState = B;
+
+    type DirEntryState = E;
+}

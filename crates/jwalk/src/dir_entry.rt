@@ -1,0 +1,70 @@
+//! An entry of a walk.
+use crate::client_state::ClientState;
+use crate::error::Error;
+use crate::read_children::ReadChildren;
+use std::alloc::{AllocError, Allocator, Global};
+use std::sync::Arc;
+use walk_model::file_type::FileType;
+
+/// A file, a directory, a link or anything else that a walk came to.
+#[derive(Drop)]
+pub struct DirEntry<C: ClientState, A: Allocator + Copy = Global> {
+    /// The depth below the root, which has depth 0.
+    pub depth: usize,
+    /// The last part of the path. A root that has no file name, as `..`, has its whole path here.
+    pub file_name: String<A>,
+    /// The type of what stands at the path.
+    pub file_type: FileType,
+    /// What a callback keeps with the entry.
+    pub client_state: C::DirEntryState,
+    /// The path of the directory that the entry was listed in.
+    pub parent_path: Arc<String<A>, A>,
+    /// The directory to be read below the entry: set where it is one, unless a callback took it away.
+    pub read_children: Option<ReadChildren<C, A>>,
+}
+
+impl<C: ClientState, A: Allocator + Copy> DirEntry<C, A> {
+    ghost use Rattle.std.specs.Prelude.{◌≡◌, Ok, IfOk, string_bytes};
+    ghost use Rattle.walk_model.specs.Entry.{path_of, with_error};
+    ghost use Rattle.jwalk.specs.Text.{text};
+    ghost use Rattle.jwalk.specs.Error.{failure};
+    ghost use Rattle.jwalk.specs.Entry.{entry};
+
+    /// The depth below the root, which has depth 0.
+    pub fn depth(&self) -> usize
+        ensures { result ≡ (entry self.now).depth }
+    {
+        self.depth
+    }
+
+    /// The last part of the path.
+    pub fn file_name(&self) -> &str
+        ensures { result.now ≡ (entry self.now).file_name }
+    {
+        self.file_name.as_str()
+    }
+
+    /// The type of what stands at the path.
+    pub fn file_type(&self) -> FileType
+        ensures { result ≡ (entry self.now).file_type }
+    {
+        self.file_type
+    }
+
+    /// The path of the directory that the entry was listed in.
+    pub fn parent_path(&self) -> &str
+        ensures { result.now ≡ (entry self.now).parent_path }
+    {
+        self.parent_path.as_str()
+    }
+
+    /// The entry with the error that reading its directory ended in.
+    pub(crate) fn with_error(mut self, error: Error<A>) -> Self
+        ensures { Ok (entry result) ≡ with_error (failure error) (Ok (entry self)) }
+    {
+        if let Some(children) = &mut self.read_children {
+            children.error = Some(error);
+        }
+        self
+    }
+}

@@ -1,0 +1,14 @@
+//! Directory walks in strict depth-first order.
+#![tactic(auto)]
+
+pub mod client_state;
+pub mod dir_entry;
+pub mod error;
+pub mod read_children;
+pub mod read_dir;
+pub mod read_dir_spec;
+
+pub use client_state::ClientState;
+pub use dir_entry::DirEntry;
+pub use error::Error;
+pub use read_children::ReadChildren;
