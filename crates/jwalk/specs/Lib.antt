@@ -2,3 +2,4 @@ pub mod Text
 pub mod Error
 pub mod Entry
 pub mod ReadDir
+pub mod States

@@ -1,4 +1,10 @@
 //! A directory that was read.
+ghost use Rattle.std.specs.Prelude.{◌≡◌, IfOk, map};
+ghost use Rattle.walk_model.specs.ReadDir.{place, children};
+ghost use Rattle.jwalk.specs.Entry.{item};
+ghost use Rattle.jwalk.specs.ReadDir.{spec, reading};
+ghost use Rattle.jwalk.specs.States.{ClonesAreEqual};
+
 use crate::client_state::ClientState;
 use crate::dir_entry::DirEntry;
 use crate::error::Error;
@@ -10,4 +16,36 @@ use std::alloc::{AllocError, Allocator, Global};
 pub struct ReadDir<C: ClientState, A: Allocator + Copy = Global> {
     pub(crate) read_dir_state: C::ReadDirState,
     pub(crate) results_list: Vec<Result<DirEntry<C, A>, Error<A>>, A>,
+}
+
+impl<C: ClientState, A: Allocator + Copy> ReadDir<C, A> {
+    /// The reading that left this state and this list.
+    pub fn new(
+        read_dir_state: C::ReadDirState,
+        results_list: Vec<Result<DirEntry<C, A>, Error<A>>, A>,
+    ) -> Self
+        ensures { reading result ≡ record { state = read_dir_state; list = map item results_list.items } }
+    {
+        ReadDir {
+            read_dir_state,
+            results_list,
+        }
+    }
+
+    /// The directories to be read below the entries of the list, in its order: one for each entry that has
+    /// `read_children`, beginning with the state named there or with a clone of the one that this reading left.
+    ///
+    /// Fails only for want of memory, met by the list or by the clone of a state.
+    pub fn read_children_specs(&self) -> Result<Vec<ReadDirSpec<C, A>, A>, AllocError>
+        ensures places { IfOk result (λ v. map (λ s. place (spec s)) v.items ≡ map place (children (reading self.now))) }
+        ensures specs { ClonesAreEqual C.ReadDirState.is_clone → IfOk result (λ v. map spec v.items ≡ children (reading self.now)) }
+    {
+        let mut specs = Vec::new(*self.results_list.allocator());
+        for found in &self.results_list {
+            if let Some(spec) = ReadDirSpec::of_item(&self.read_dir_state, found)? {
+                specs.push(spec)?;
+            }
+        }
+        Ok(specs)
+    }
 }
