@@ -1,3 +1,4 @@
 pub mod PathFacts
 pub mod HeldFacts
 pub mod PreorderFacts
+pub mod SortingFacts

@@ -1,5 +1,5 @@
 -- The stable order of a list: entries by the bytes of their names, then the errors, and what ties as it stood.
-use Rattle.std.specs.Prelude.{Bool, true, false, List, [], ◌∷◌, Result, Ok, Err, if◌then◌else◌, IsPermutation}
+use Rattle.std.specs.Prelude.{◌≡◌, ◌↔◌, Bool, true, false, List, [], ◌∷◌, Result, Ok, Err, if◌then◌else◌, IsPermutation}
 use Rattle.std.specs.Ordering.{nat_cmp, is_lt}
 use Rattle.std.specs.Cmp.Lexicographic.{slice_cmp}
 use Rattle.std.specs.List.Sorted.{IsSortedBy, IsStableBy}
@@ -28,3 +28,7 @@ module _ {R E : Type 0} where
   abbrev pub arranged : List (Item R E) → List (Item R E)
   arranged [] = []
   arranged (x ∷ xs) = put x (arranged xs)
+
+-- a list's one stable order is the arranged list
+abbrev pub OrdersAreArranged : Type 0 → Type 0 → Type 0
+OrdersAreArranged R E = (l m : List (Item R E)) → IsSorted l m ↔ (m ≡ arranged l)

@@ -2,4 +2,5 @@
 #![tactic(auto)]
 
 pub mod file_type;
+pub mod laws;
 pub mod metadata;
