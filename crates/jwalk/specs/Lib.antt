@@ -3,3 +3,4 @@ pub mod Error
 pub mod Entry
 pub mod ReadDir
 pub mod States
+pub mod Job

@@ -1,6 +1,6 @@
 //! A directory that was read.
-ghost use Rattle.std.specs.Prelude.{◌≡◌, IfOk, map};
-ghost use Rattle.walk_model.specs.ReadDir.{place, children};
+ghost use Rattle.std.specs.Prelude.{◌≡◌, ◌++◌, IfOk, OnOk, map, option_to_list};
+ghost use Rattle.walk_model.specs.ReadDir.{place, spec_of, children};
 ghost use Rattle.jwalk.specs.Entry.{item};
 ghost use Rattle.jwalk.specs.ReadDir.{spec, reading};
 ghost use Rattle.jwalk.specs.States.{ClonesAreEqual};
@@ -16,6 +16,24 @@ use std::alloc::{AllocError, Allocator, Global};
 pub struct ReadDir<C: ClientState, A: Allocator + Copy = Global> {
     pub(crate) read_dir_state: C::ReadDirState,
     pub(crate) results_list: Vec<Result<DirEntry<C, A>, Error<A>>, A>,
+}
+
+/// Adds the specification of an item's directory, if it has one.
+fn push_spec<C: ClientState, A: Allocator + Copy>(
+    specs: &mut Vec<ReadDirSpec<C, A>, A>,
+    state: &C::ReadDirState,
+    found: &Result<DirEntry<C, A>, Error<A>>,
+) -> Result<(), AllocError>
+    ensures places { OnOk result (map (λ s. place (spec s)) specs.new.items ≡ map (λ s. place (spec s)) specs.old.items ++ map place (option_to_list (spec_of state.now (item found.now)))) }
+    ensures specs { ClonesAreEqual C.ReadDirState.is_clone → OnOk result (map spec specs.new.items ≡ map spec specs.old.items ++ option_to_list (spec_of state.now (item found.now))) }
+{
+    match ReadDirSpec::of_item(state, found)? {
+        Some(spec) => {
+            specs.push(spec)?;
+            Ok(())
+        }
+        None => Ok(()),
+    }
 }
 
 impl<C: ClientState, A: Allocator + Copy> ReadDir<C, A> {
@@ -42,9 +60,7 @@ impl<C: ClientState, A: Allocator + Copy> ReadDir<C, A> {
     {
         let mut specs = Vec::new(*self.results_list.allocator());
         for found in &self.results_list {
-            if let Some(spec) = ReadDirSpec::of_item(&self.read_dir_state, found)? {
-                specs.push(spec)?;
-            }
+            push_spec(&mut specs, &self.read_dir_state, found)?;
         }
         Ok(specs)
     }
