@@ -1,1 +1,2 @@
 pub mod PathFacts
+pub mod PathEnds
