@@ -1,2 +1,3 @@
 pub mod PathFacts
 pub mod PathEnds
+pub mod PathParents

@@ -1,12 +1,12 @@
 -- A text byte by byte: a trailing slash or `.` adds no component, and each other byte adds to their texts.
-use Rattle.std.proofs.Common.{◌≡◌, ◌≢◌, ℕ, zero, suc, ◌+◌, ◌-◌, ◌<◌, ◌≤◌, Bool, true, false, cond, not, ◌||◌, ◌&&◌, eqb, ltb, List, [], ◌∷◌, ◌++◌, length, get_or, take, drop, map, flat_map, find, bytes_eq, Option, Some, None, ◌⊎◌, inl, inr, refl, sym, ap, ap₂, subst, ◌∙◌, ⊎_elim, append_assoc, append-nil, arith, ne_eqb, eqb-true, ltb-true, ltb-false, eq-eqb, length-append, length-take, get_or-take, take-take, take_all, take-append-drop}
+use Rattle.std.proofs.Common.{◌≡◌, ◌≢◌, ℕ, zero, suc, ◌+◌, ◌-◌, ◌<◌, ◌≤◌, true, false, cond, ◌||◌, ◌&&◌, eqb, ltb, List, [], ◌∷◌, ◌++◌, length, get_or, take, flat_map, bytes_eq, ◌⊎◌, inl, inr, refl, sym, ap, ap₂, subst, ◌∙◌, ⊎_elim, append_assoc, arith, eqb-true, ltb-true, ltb-false, length-append, length-take, take-take, take_all}
 use Rattle.std.specs.List.{onto_first}
 use Rattle.std.specs.Path.{is_trailing, trimmed_len, trim_trailing}
-use Rattle.std.proofs.lemmas.Bool.{cond-true, cond-false, both_ways, or_cases, or_parts, or_from, or_left, or_right, and_from, and_parts, and_right, cases_Bool, false_from_ne_true}
-use Rattle.std.proofs.lemmas.List.{take_more, same_from_push, length_push}
+use Rattle.std.proofs.lemmas.Bool.{cond-true, cond-false, both_ways, or_cases, or_left, or_right, and_from, and_parts, and_right}
+use Rattle.std.proofs.lemmas.List.{take_more, length_push}
 use Rattle.std.proofs.lemmas.List.Concat.{flat_map-append}
 use Rattle.std.proofs.lemmas.Slice.Eq.{bytes_eq-Decides}
-use Rattle.walk_model.specs.Paths.{Component, root, here, up, plain, slash, dot, dots, parts, component_of, first_component, components_of, components}
+use Rattle.walk_model.specs.Paths.{Component, root, here, slash, dot, dots, parts, component_of, first_component, components_of, components}
 use Rattle.walk_model.specs.PathTexts.{component_text}
 use Rattle.walk_model.proofs.PathFacts.{by_test, parts_are}
 
@@ -139,7 +139,13 @@ next-byte path n l c e =
 
 cut : (path : List ℕ) (n : ℕ) → n ≤ length path → Cut path n
 cut path zero l = record {
-  front = []; last = []; is = refl; empty = λ _. (refl, refl); some = λ h. absurd (omega arith); ends = λ h. absurd (omega arith); in_part = λ h. absurd (omega arith);
+  front = [];
+  last = [];
+  is = refl;
+  empty = λ _. (refl, refl);
+  some = λ h. absurd (omega arith);
+  ends = λ h. absurd (omega arith);
+  in_part = λ h. absurd (omega arith);
 }
 cut path (suc n) l =
     let c = cut path n (omega arith) in
@@ -306,3 +312,22 @@ trim_trailing-grows path k lt =
 
 pub trim_trailing-shortest : (path : List ℕ) → IsShortest (trim_trailing path)
 trim_trailing-shortest path k lt = λ e. omega (arith, trim_trailing-grows path k lt, ap size e)
+
+-- a text of one byte with the root is `/`
+one_byte : (a : ℕ) → components (a ∷ []) ≡ root ∷ [] → a ≡ slash
+one_byte a h = by_test (eqb a slash) (λ e. eqb-true a slash e) (λ e. by_test (eqb a 46) (λ d. absurd (is_here e d)) (λ d. absurd (is_plain e d)))
+  where
+    is_here : eqb a slash ≡ false → eqb a 46 ≡ true → ⊥
+    is_here e d = let at : here ∷ [] ≡ root ∷ [] = sym (ap components (ap (λ x. x ∷ []) (eqb-true a 46 d))) ∙ h in cc
+
+    is_plain : eqb a slash ≡ false → eqb a 46 ≡ false → ⊥
+    is_plain e d = let at = simp (e, d) at h in cc
+
+root_text : (text : List ℕ) → (1 < length text → size (components (take 1 text)) < size (components text)) → components text ≡ root ∷ [] → text ≡ slash ∷ []
+root_text [] h e = cc
+root_text (a ∷ []) h e = ap (λ b. b ∷ []) (one_byte a e)
+root_text (a ∷ b ∷ rest) h e = absurd (omega (arith, h (omega arith), byte-grows (a ∷ b ∷ rest) 0 (omega arith) refl, ap size e))
+
+-- a text with the root alone is `/`, less what trails
+pub trim_trailing-root : (path : List ℕ) → components (trim_trailing path) ≡ root ∷ [] → trim_trailing path ≡ slash ∷ []
+trim_trailing-root path e = root_text (trim_trailing path) (trim_trailing-grows path 1) e
