@@ -1,11 +1,13 @@
 //! One reading of a directory.
-ghost use Rattle.std.specs.Prelude.{◌≡◌, ◌+◌, ◌<◌, ◌^◌, ◌&&◌, ℕ, List, IfOk, map, option_to_list, string_bytes};
-ghost use Rattle.walk_fs.specs.Views.{listed};
-ghost use Rattle.walk_model.specs.Entry.{AtDepth, is_hidden};
+ghost use Rattle.std.specs.Prelude.{◌≡◌, ◌+◌, ◌<◌, ◌^◌, ◌&&◌, ◌++◌, Some, IfOk, OnOk, map, option_map, option_to_list, string_bytes};
+ghost use Rattle.walk_fs.specs.Views.{listed, named};
+ghost use Rattle.walk_model.specs.Entry.{AtDepth, is_hidden, children_at};
+ghost use Rattle.walk_model.specs.FileType.{is_dir};
+ghost use Rattle.walk_model.specs.Paths.{join};
 ghost use Rattle.walk_model.specs.ReadDir.{IsLawful};
 ghost use Rattle.walk_model.specs.Job as value;
 ghost use Rattle.jwalk.specs.Text.{text};
-ghost use Rattle.jwalk.specs.Entry.{entry, item};
+ghost use Rattle.jwalk.specs.Entry.{entry, item, children};
 ghost use Rattle.jwalk.specs.ReadDir.{spec, outcome, reading};
 ghost use Rattle.jwalk.specs.States.{DefaultIs};
 ghost use Rattle.jwalk.specs.Job.{job, file_system, callback, greatest_depth, IsSteady};
@@ -71,6 +73,7 @@ impl<C: ClientState, S: FileSystem, P: ProcessReadDir<C, A>, A: Allocator + Copy
         name: &str,
         file_type: FileType,
     ) -> Result<Option<ReadChildren<C, A>>, AllocError>
+        ensures { IfOk result (λ o. option_map children o ≡ children_at (is_dir file_type) (join (text of.now.path) name.now)) }
     {
         if !file_type.is_dir() {
             return Ok(None);
@@ -99,5 +102,134 @@ impl<C: ClientState, S: FileSystem, P: ProcessReadDir<C, A>, A: Allocator + Copy
             parent_path: of.path.clone()?,
             read_children,
         })
+    }
+
+    /// Whether an item of this name is left out.
+    fn skips(&self, name: &str) -> bool
+        ensures { result ≡ self.now.skip_hidden && is_hidden name.now }
+    {
+        self.skip_hidden && is_hidden(name)
+    }
+
+    /// What an item of a listing that has a name gives: nothing where it is hidden and skipped.
+    fn named(
+        &self,
+        of: &ReadDirSpec<C, A>,
+        found: Listed<A>,
+    ) -> Result<Option<Result<DirEntry<C, A>, Error<A>>>, AllocError>
+        requires { of.now.depth + 1 < 2 ^ 64 }
+        ensures depth { IfOk result (λ o. AtDepth (of.now.depth + 1) (map item (option_to_list o))) }
+        ensures value { (d : C.DirEntryState) → DefaultIs C.DirEntryState.is_default d → IfOk result (λ o. map item (option_to_list o) ≡ value.named (job (S.functions (file_system self.now)) (P.processed (callback self.now)) d self.now) (spec of.now) (named found)) }
+    {
+        let Listed { name, file_type } = found;
+        match file_type {
+            Err(err) => {
+                let joined = path_text::join(self.alloc, of.path.as_str(), name.as_str())?;
+                let path = Arc::new(self.alloc, joined)?;
+                Ok(Some(Err(Error::from_path(of.depth + 1, path, err))))
+            }
+            Ok(file_type) => {
+                if self.skips(name.as_str()) {
+                    return Ok(None);
+                }
+                Ok(Some(Ok(self.entry_in(of, name, file_type)?)))
+            }
+        }
+    }
+
+    /// What one item of a listing gives.
+    fn item_of(
+        &self,
+        of: &ReadDirSpec<C, A>,
+        found: io::Result<Listed<A>>,
+    ) -> Result<Option<Result<DirEntry<C, A>, Error<A>>>, AllocError>
+        requires { of.now.depth + 1 < 2 ^ 64 }
+        ensures depth { IfOk result (λ o. AtDepth (of.now.depth + 1) (map item (option_to_list o))) }
+        ensures value { (d : C.DirEntryState) → DefaultIs C.DirEntryState.is_default d → IfOk result (λ o. map item (option_to_list o) ≡ value.item_of (job (S.functions (file_system self.now)) (P.processed (callback self.now)) d self.now) (spec of.now) (listed found)) }
+    {
+        match found {
+            Err(err) => Ok(Some(Err(Error::from_io(of.depth + 1, err)))),
+            Ok(found) => self.named(of, found),
+        }
+    }
+
+    /// Adds what one item of a listing gives.
+    fn push_item(
+        &self,
+        items: &mut Vec<Result<DirEntry<C, A>, Error<A>>, A>,
+        of: &ReadDirSpec<C, A>,
+        found: io::Result<Listed<A>>,
+    ) -> Result<(), AllocError>
+        requires { of.now.depth + 1 < 2 ^ 64 }
+        ensures depth { AtDepth (of.now.depth + 1) (map item items.old.items) → OnOk result (AtDepth (of.now.depth + 1) (map item items.new.items)) }
+        ensures value { (d : C.DirEntryState) → DefaultIs C.DirEntryState.is_default d → OnOk result (map item items.new.items ≡ map item items.old.items ++ value.item_of (job (S.functions (file_system self.now)) (P.processed (callback self.now)) d self.now) (spec of.now) (listed found)) }
+    {
+        match self.item_of(of, found)? {
+            Some(item) => {
+                items.push(item)?;
+                Ok(())
+            }
+            None => Ok(()),
+        }
+    }
+
+    /// The items of a listing in its order.
+    fn raw(
+        &self,
+        of: &ReadDirSpec<C, A>,
+        listing: Vec<io::Result<Listed<A>>, A>,
+    ) -> Result<Vec<Result<DirEntry<C, A>, Error<A>>, A>, AllocError>
+        requires { of.now.depth + 1 < 2 ^ 64 }
+        ensures depth { IfOk result (λ v. AtDepth (of.now.depth + 1) (map item v.items)) }
+        ensures value { (d : C.DirEntryState) → DefaultIs C.DirEntryState.is_default d → IfOk result (λ v. map item v.items ≡ value.raw (job (S.functions (file_system self.now)) (P.processed (callback self.now)) d self.now) (spec of.now) (map listed listing.items)) }
+    {
+        let mut items = Vec::with_capacity(self.alloc, listing.len())?;
+        for found in listing {
+            self.push_item(&mut items, of, found)?;
+        }
+        Ok(items)
+    }
+
+    /// The list of a directory that could be listed, after the callback.
+    fn processed(
+        &self,
+        of: &ReadDirSpec<C, A>,
+        listing: Vec<io::Result<Listed<A>>, A>,
+    ) -> Result<ReadDir<C, A>, AllocError>
+        requires lawful { P.IsLawful (callback self.now) }
+        requires fits { of.now.depth + 1 < 2 ^ 64 }
+        ensures depth { IfOk result (λ r. AtDepth (of.now.depth + 1) (map item r.results_list.items)) }
+        ensures value { (d : C.DirEntryState) → IsSteady (S.IsFixed (file_system self.now)) (P.IsFixed (callback self.now)) C.ReadDirState.is_clone C.DirEntryState.is_default d → IfOk result (λ r. P.processed (callback self.now) (Some of.now.depth) (text of.now.path) of.now.client_read_state (value.ordered (job (S.functions (file_system self.now)) (P.processed (callback self.now)) d self.now) (spec of.now) (map listed listing.items)) ≡ reading r) }
+    {
+        let mut items = self.raw(of, listing)?;
+        let mut state = of.client_read_state.clone()?;
+        self.process
+            .process(Some(of.depth), of.path.as_str(), &mut state, &mut items)?;
+        Ok(ReadDir::new(state, items))
+    }
+
+    /// Reads one directory: its list, or the error that listing it ended in, which has the directory's depth and path.
+    /// A directory whose depth is the greatest or more isn't read: its list is empty, and neither the file system nor
+    /// the callback is called.
+    ///
+    /// Fails only for want of memory: of the walk's own, of the file system's or of the callback's, or where the clone
+    /// of the state is refused.
+    pub fn read_one(
+        &self,
+        of: &ReadDirSpec<C, A>,
+    ) -> Result<Result<ReadDir<C, A>, Error<A>>, AllocError>
+        requires { P.IsLawful (callback self.now) }
+        ensures lawful { IfOk result (λ o. IsLawful (greatest_depth self.now) (spec of.now) (outcome o)) }
+        ensures value { (d : C.DirEntryState) → IsSteady (S.IsFixed (file_system self.now)) (P.IsFixed (callback self.now)) C.ReadDirState.is_clone C.DirEntryState.is_default d → IfOk result (λ o. outcome o ≡ value.reading (job (S.functions (file_system self.now)) (P.processed (callback self.now)) d self.now) (spec of.now)) }
+    {
+        if of.depth >= self.max_depth {
+            let state = of.client_read_state.clone()?;
+            return Ok(Ok(ReadDir::new(state, Vec::new(self.alloc))));
+        }
+        match self.fs.read_dir(self.alloc, of.path.as_str()) {
+            Ok(listing) => Ok(Ok(self.processed(of, listing)?)),
+            Err(Fault::Io(err)) => Ok(Err(Error::from_path(of.depth, of.path.clone()?, err))),
+            Err(Fault::Memory) => Err(AllocError),
+        }
     }
 }

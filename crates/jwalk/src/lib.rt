@@ -4,6 +4,8 @@
 pub mod client_state;
 pub mod dir_entry;
 pub mod error;
+pub mod job;
+pub mod process_read_dir;
 pub mod read_children;
 pub mod read_dir;
 pub mod read_dir_spec;

@@ -149,3 +149,9 @@ module _ {R E : Type 0} (reading : Spec R → Outcome R E) where
   -- an item where nothing is left to be read
   pub unread_none : (max_depth : ℕ) (x : Item R E) (xs : List (Item R E)) (ss : List (Spec R)) → ss ≡ [] → has_directory x ≡ true → listing reading max_depth (pair_up (x ∷ xs) ss) ≡ x ∷ listing reading max_depth (pair_up xs [])
   unread_none max_depth x xs ss h dir = rw (h, dir, below-nothing 0) refl
+
+-- entries of one depth, one list after another
+pub AtDepth-append : {R E : Type 0} (depth : ℕ) (l m : List (Item R E)) → AtDepth depth l → AtDepth depth m → AtDepth depth (l ++ m)
+AtDepth-append depth [] m a b = b
+AtDepth-append depth (Ok e ∷ l) m a b = (a.0, AtDepth-append depth l m a.1 b)
+AtDepth-append depth (Err f ∷ l) m a b = AtDepth-append depth l m a b

@@ -1,8 +1,8 @@
 -- What an iterator of a walk has received and not yet passed on.
-use Rattle.std.specs.Prelude.{◌≡◌, ℕ, zero, suc, ◌+◌, ◌-◌, ◌*◌, ◌^◌, Bool, true, false, List, [], ◌∷◌, Result, Ok, Err}
+use Rattle.std.specs.Prelude.{◌≡◌, ℕ, zero, suc, ◌+◌, ◌-◌, ◌*◌, ◌^◌, Bool, true, false, List, [], ◌∷◌, ◌++◌, Option, Some, None, MatchBool}
 use Rattle.walk_model.specs.Entry.{Item, has_directory}
-use Rattle.walk_model.specs.ReadDir.{Spec, Outcome}
-use Rattle.walk_model.specs.Listing.{Pair, Source, nothing, unread, was_read, listing, answers}
+use Rattle.walk_model.specs.ReadDir.{Spec, Outcome, IsLawful}
+use Rattle.walk_model.specs.Listing.{Pair, Source, nothing, unread, was_read, after_reading, pairs_of, listing, is_answered, answers}
 
 abbrev pub first_source : {R E : Type 0} → Bool → List (Spec R) → Source R E
 first_source false specs = nothing
@@ -22,6 +22,30 @@ pair_up (x ∷ items) specs = record { item = x; source = first_source (has_dire
 -- what an iterator that holds these pairs will answer
 abbrev pub to_come : {R E : Type 0} → (Spec R → Outcome R E) → ℕ → ℕ → List (Pair R E) → List (Item R E)
 to_come reading min_depth max_depth held = answers min_depth (listing reading max_depth held)
+
+-- an item of this source is passed: it is answered so, and the rest is held then
+abbrev pub PassesItem : {R E : Type 0} → ℕ → Item R E → Source R E → List (Pair R E) → Item R E → List (Pair R E) → Type 0
+PassesItem max_depth item nothing rest answer held = (answer ≡ item) × (held ≡ rest)
+PassesItem {R} {E} max_depth item (unread spec) rest answer held = (outcome : Outcome R E) × IsLawful max_depth spec outcome × (answer ≡ after_reading outcome item) × (held ≡ pairs_of outcome ++ rest)
+PassesItem max_depth item (was_read spec outcome) rest answer held = (answer ≡ after_reading outcome item) × (held ≡ pairs_of outcome ++ rest)
+
+-- The first pair is passed: a directory's reading gives way to its own pairs.
+abbrev pub Passes : {R E : Type 0} → ℕ → List (Pair R E) → Item R E → List (Pair R E) → Type 0
+Passes max_depth [] answer held = ⊥
+Passes max_depth (p ∷ rest) answer held = PassesItem max_depth p.item p.source rest answer held
+
+abbrev pub is_plain : {R E : Type 0} → Source R E → Bool
+is_plain nothing = true
+is_plain (unread spec) = false
+is_plain (was_read spec outcome) = false
+
+-- Where no directory stands before the first item that the least depth keeps, that item is the answer and what follows it is held then; where none is kept and no directory is there, there is no answer and nothing is held.
+abbrev pub AnswersPlainly : {R E : Type 0} → ℕ → List (Pair R E) → Option (Item R E) → List (Pair R E) → Type 0
+AnswersPlainly min_depth [] answer held = (answer ≡ None) × (held ≡ [])
+AnswersPlainly min_depth (p ∷ rest) answer held =
+    MatchBool (is_plain p.source)
+    (MatchBool (is_answered min_depth p.item) ((answer ≡ Some p.item) × (held ≡ rest)) (AnswersPlainly min_depth rest answer held))
+    (Unit {0})
 
 -- At most how many answers a pair stands for, so many levels above the greatest depth: itself, and as many as a list can have, each with what is below it.
 unfoldable pub bound : ℕ → ℕ

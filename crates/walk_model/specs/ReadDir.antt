@@ -1,6 +1,6 @@
 -- Directories to be read, and readings of them.
-use Rattle.std.specs.Prelude.{◌≡◌, ℕ, ◌+◌, ◌≤◌, ◌<◌, List, [], ◌∷◌, ◌++◌, map, flat_map, Option, Some, None, option_map, option_to_list, unwrap_or, Result, Ok, Err}
-use Rattle.walk_model.specs.Error.{Failure}
+use Rattle.std.specs.Prelude.{◌≡◌, ◌≢◌, ℕ, ◌+◌, ◌≤◌, ◌<◌, List, [], ◌∷◌, ◌++◌, map, flat_map, Option, Some, None, option_map, option_to_list, unwrap_or, Result, Ok, Err}
+use Rattle.walk_model.specs.Error.{Failure, memory}
 use Rattle.walk_model.specs.Entry.{Children, Entry, Item, AtDepth}
 
 -- a directory to be read: its depth and path, the paths of the directories above it where links are followed, and its state
@@ -60,10 +60,10 @@ module _ {R E : Type 0} where
   abbrev pub KeepsDepths : Option ℕ → List (Item R E) → List (Item R E) → Type 0
   KeepsDepths depth old new = AtDepth (list_depth depth) old → AtDepth (list_depth depth) new
 
-  -- What every reading keeps, whatever a file system answers: its entries are one below their directory, at the greatest depth there are none, and only above it a reading fails.
+  -- What every reading keeps, whatever a file system answers: its entries are one below their directory, at the greatest depth there are none, and only above it a reading fails, never for want of memory.
   abbrev pub IsLawful : ℕ → Spec R → Outcome R E → Type 0
   IsLawful max_depth s (Ok r) = AtDepth (s.depth + 1) r.list × (max_depth ≤ s.depth → r.list ≡ [])
-  IsLawful max_depth s (Err f) = s.depth < max_depth
+  IsLawful max_depth s (Err f) = (s.depth < max_depth) × (f ≢ memory)
 
 -- The first of the specifications is read: it gives way to those of the directories in its outcome. Their states are what the reading left, where a clone equals what it was made of.
 pub record ReadsFirst {R E : Type 0} (max_depth : ℕ) (clones_are_equal : Type 0) (old : List (Spec R)) (outcome : Outcome R E) (new : List (Spec R)) : Type 0 where
