@@ -1,3 +1,4 @@
 pub mod PathFacts
 pub mod PathEnds
 pub mod PathParents
+pub mod PathJoins

@@ -143,8 +143,8 @@ parent_of text r is (inr h) =
     ∙ sym (parent-found text front last cs (λ z. h.3 (root_last text (components front) (cs ∙ ap (λ c. components front ++ c ∷ []) z))) (take_parent text front some) h.2)
 
 -- the parent that `std::path` gives
-pub path_parent-is : (text : List ℕ) → path_parent text ≡ parent text
-path_parent-is text = parent_of text (path_parent text) refl (has_parent text)
+pub path_parent_is : (text : List ℕ) → path_parent text ≡ parent text
+path_parent_is text = parent_of text (path_parent text) refl (has_parent text)
 
 -- ---- the last component
 
