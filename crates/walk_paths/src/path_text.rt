@@ -3,7 +3,7 @@ ghost use Rattle.std.specs.Prelude.{◌≡◌, ◌++◌, ◌≤◌, IfOk, length
 ghost use Rattle.walk_model.specs.Paths.{starts_with_slash, with_slash, join, parent, file_name};
 
 use std::alloc::{AllocError, Allocator};
-use std::path::{Component, Path};
+use std::path::Path;
 
 fn is_absolute(path: &str) -> bool
     ensures { result ≡ starts_with_slash path.now }
@@ -62,11 +62,58 @@ pub fn parent(path: &str) -> Option<&str>
 ///
 /// Of `a/b/`, `a/b/.` and `b` it is `b`; of `a/..`, `/` and the empty path there is none. The rule is that of
 /// `std::path::Path::file_name` on Unix.
+#[tactic(auto, using(walk_model::proofs::PathNames::path_file_name_is))]
 pub fn file_name(path: &str) -> Option<&str>
     ensures { option_copied result ≡ file_name path.now }
 {
-    match Path::new(path).components().next_back() {
-        Some(Component::Normal(name)) => Some(name),
-        _ => None,
+    Path::new(path).file_name()
+}
+
+#[cfg(test)]
+mod tests {
+    use super::*;
+    use std::test::Fail;
+
+    #[test]
+    fn names_and_parents_of_texts(rt: HostRuntime) {
+        let rows = [
+            ("", None, None),
+            ("/", None, None),
+            ("/.", None, None),
+            (".", None, Some("")),
+            ("..", None, Some("")),
+            ("../..", None, Some("..")),
+            ("a", Some("a"), Some("")),
+            ("a/.", Some("a"), Some("")),
+            ("/a", Some("a"), Some("/")),
+            ("//a", Some("a"), Some("/")),
+            ("//x/y", Some("y"), Some("//x")),
+            ("a/b/", Some("b"), Some("a")),
+            ("a//b", Some("b"), Some("a")),
+            ("a/./b", Some("b"), Some("a")),
+            ("./a", Some("a"), Some(".")),
+            ("a/..", None, Some("a")),
+        ];
+        for (text, name, above) in rows {
+            assert_eq!(rt; file_name(text), name, "at {text}");
+            assert_eq!(rt; parent(text), above, "at {text}");
+        }
+    }
+
+    #[test]
+    fn joins_with_one_slash(rt: HostRuntime) -> Result<(), Fail> {
+        let rows = [
+            ("a", "b", "a/b"),
+            ("a/", "b", "a/b"),
+            ("", "b", "b"),
+            ("/", "b", "/b"),
+            ("a", "/b", "/b"),
+            ("a", "", "a/"),
+        ];
+        for (a, b, whole) in rows {
+            let joined = join(rt.alloc(), a, b)?;
+            assert_eq!(rt; joined.as_str(), whole, "at {a} and {b}");
+        }
+        Ok(())
     }
 }
