@@ -1,6 +1,8 @@
-pub mod PathFacts
-pub mod PathEnds
-pub mod PathParents
 pub mod HeldFacts
+pub mod PathEnds
+pub mod PathFacts
+pub mod PathJoins
+pub mod PathNames
+pub mod PathParents
 pub mod PreorderFacts
 pub mod SortingFacts

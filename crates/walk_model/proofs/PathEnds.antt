@@ -1,5 +1,5 @@
 -- A text byte by byte: a trailing slash or `.` adds no component, and each other byte adds to their texts.
-use Rattle.std.proofs.Common.{◌≡◌, ◌≢◌, ℕ, zero, suc, ◌+◌, ◌-◌, ◌<◌, ◌≤◌, true, false, cond, ◌||◌, ◌&&◌, eqb, ltb, List, [], ◌∷◌, ◌++◌, length, get_or, take, flat_map, bytes_eq, ◌⊎◌, inl, inr, refl, sym, ap, ap₂, subst, ◌∙◌, ⊎_elim, append_assoc, arith, eqb-true, ltb-true, ltb-false, length-append, length-take, take-take, take_all}
+use Rattle.std.proofs.Common.{◌≡◌, ◌≢◌, ℕ, zero, suc, ◌+◌, ◌-◌, ◌<◌, ◌≤◌, true, false, cond, ◌||◌, ◌&&◌, eqb, ltb, List, [], ◌∷◌, ◌++◌, length, get_or, take, flat_map, bytes_eq, ◌⊎◌, inl, inr, refl, sym, ap, ap₂, subst, ◌∙◌, ⊎_elim, append_assoc, arith, eqb-true, ltb-true, ltb-false, lt-ltb, length-append, length-take, take-take, take_all}
 use Rattle.std.specs.List.{onto_first}
 use Rattle.std.specs.Path.{is_trailing, trimmed_len, trim_trailing}
 use Rattle.std.proofs.lemmas.Bool.{cond-true, cond-false, both_ways, or_cases, or_left, or_right, and_from, and_parts, and_right}
@@ -12,7 +12,7 @@ use Rattle.walk_model.proofs.PathFacts.{by_test, parts_are}
 
 -- ---- the parts of a text with one more byte
 
-parts-slash : (q : List ℕ) → parts (q ++ slash ∷ []) ≡ parts q ++ [] ∷ []
+pub parts-slash : (q : List ℕ) → parts (q ++ slash ∷ []) ≡ parts q ++ [] ∷ []
 parts-slash [] = refl
 parts-slash (c ∷ q) =
     by_test (eqb c slash)
@@ -24,12 +24,12 @@ parts-slash (c ∷ q) =
     by_parts (p ∷ ps) first others e = refl
 
 -- b put at the end of the last part
-abbrev onto_last : ℕ → List (List ℕ) → List (List ℕ)
+abbrev pub onto_last : ℕ → List (List ℕ) → List (List ℕ)
 onto_last b [] = []
 onto_last b (p ∷ []) = (p ++ b ∷ []) ∷ []
 onto_last b (p ∷ r ∷ rs) = p ∷ onto_last b (r ∷ rs)
 
-onto_last-push : (b : ℕ) (front : List (List ℕ)) (last : List ℕ) → onto_last b (front ++ last ∷ []) ≡ front ++ (last ++ b ∷ []) ∷ []
+pub onto_last-push : (b : ℕ) (front : List (List ℕ)) (last : List ℕ) → onto_last b (front ++ last ∷ []) ≡ front ++ (last ++ b ∷ []) ∷ []
 onto_last-push b [] last = refl
 onto_last-push b (p ∷ []) last = refl
 onto_last-push b (p ∷ r ∷ rs) last = ap (λ l. p ∷ l) (onto_last-push b (r ∷ rs) last)
@@ -43,7 +43,7 @@ onto_first-last b c [] first others e = cc
 onto_first-last b c (p ∷ []) first others e = refl
 onto_first-last b c (p ∷ r ∷ rs) first others e = refl
 
-parts-byte : (b : ℕ) (q : List ℕ) → eqb b slash ≡ false → parts (q ++ b ∷ []) ≡ onto_last b (parts q)
+pub parts-byte : (b : ℕ) (q : List ℕ) → eqb b slash ≡ false → parts (q ++ b ∷ []) ≡ onto_last b (parts q)
 parts-byte b [] e = rw e refl
 parts-byte b (c ∷ q) e =
     by_test (eqb c slash)
@@ -79,13 +79,13 @@ size-byte : (b : ℕ) → eqb b 46 ≡ false → size (component_of (b ∷ [])) 
 size-byte b e = size-part (b ∷ []) ∙ cond-false _ 0 1 (ap (λ t. t && true) e)
 
 -- the last part, with one more byte
-part_grows : (last : List ℕ) (b : ℕ) → (last ≡ [] → eqb b 46 ≡ false) → size (component_of last) < size (component_of (last ++ b ∷ []))
+pub part_grows : (last : List ℕ) (b : ℕ) → (last ≡ [] → eqb b 46 ≡ false) → size (component_of last) < size (component_of (last ++ b ∷ []))
 part_grows [] b h = omega (arith, size-byte b (h refl))
 part_grows (a ∷ []) b h = omega (arith, size-long a b [], size-part-le (a ∷ []))
 part_grows (a ∷ c ∷ rest) b h = omega (arith, size-long a c (rest ++ b ∷ []), size-part-le (a ∷ c ∷ rest), length-append (a ∷ c ∷ rest) (b ∷ []))
 
 -- the first part, where it is the only one
-size-first : (part : List ℕ) → size (first_component part []) ≡ length part
+pub size-first : (part : List ℕ) → size (first_component part []) ≡ length part
 size-first [] = refl
 size-first (c ∷ cs) =
     by_test (bytes_eq (c ∷ cs) dot)
@@ -95,7 +95,7 @@ size-first (c ∷ cs) =
 -- ---- components by the front parts and the last one
 
 -- what the parts before the last give, where there are any
-abbrev before : List ℕ → List (List ℕ) → List Component
+abbrev pub before : List ℕ → List (List ℕ) → List Component
 before p ps = first_component p ([] ∷ []) ++ flat_map component_of ps
 
 first-followed : (p : List ℕ) (ps : List (List ℕ)) (z : List ℕ) (zs : List (List ℕ)) → first_component p (ps ++ z ∷ zs) ≡ first_component p ([] ∷ [])
@@ -103,41 +103,41 @@ first-followed [] [] z zs = refl
 first-followed [] (r ∷ rs) z zs = refl
 first-followed (c ∷ cs) ps z zs = refl
 
-components-after : (p : List ℕ) (ps : List (List ℕ)) (z : List ℕ) (zs : List (List ℕ))
+pub components-after : (p : List ℕ) (ps : List (List ℕ)) (z : List ℕ) (zs : List (List ℕ))
     → components_of (p ∷ ps ++ z ∷ zs) ≡ before p ps ++ flat_map component_of (z ∷ zs)
 components-after p ps z zs =
     ap₂ ◌++◌ (first-followed p ps z zs) (flat_map-append component_of ps (z ∷ zs))
     ∙ sym (append_assoc (first_component p ([] ∷ [])) (flat_map component_of ps) (flat_map component_of (z ∷ zs)))
 
 -- the parts of the first n bytes: those before the last, and the last
-record Cut (path : List ℕ) (n : ℕ) : Type 0 where
-  front : List (List ℕ)
-  last : List ℕ
-  is : parts (take n path) ≡ front ++ last ∷ []
-  empty : n ≡ 0 → (front ≡ []) × (last ≡ [])
-  some : 0 < n → front ≡ [] → last ≢ []
-  ends : 0 < n → last ≡ [] → eqb (get_or path (n - 1) 0) slash ≡ true
-  in_part : 0 < n → eqb (get_or path (n - 1) 0) slash ≡ true → last ≡ []
+pub record Cut (path : List ℕ) (n : ℕ) : Type 0 where
+  pub front : List (List ℕ)
+  pub last : List ℕ
+  pub is : parts (take n path) ≡ front ++ last ∷ []
+  pub empty : n ≡ 0 → (front ≡ []) × (last ≡ [])
+  pub some : 0 < n → front ≡ [] → last ≢ []
+  pub ends : 0 < n → last ≡ [] → eqb (get_or path (n - 1) 0) slash ≡ true
+  pub in_part : 0 < n → eqb (get_or path (n - 1) 0) slash ≡ true → last ≡ []
 
-push-nonempty : {X : Type 0} (xs : List X) (x : X) → xs ++ x ∷ [] ≢ []
+pub push-nonempty : {X : Type 0} (xs : List X) (x : X) → xs ++ x ∷ [] ≢ []
 push-nonempty [] x e = cc
 push-nonempty (y ∷ xs) x e = cc
 
-take_next : (path : List ℕ) (n : ℕ) → n < length path → take (suc n) path ≡ take n path ++ get_or path n 0 ∷ []
+pub take_next : (path : List ℕ) (n : ℕ) → n < length path → take (suc n) path ≡ take n path ++ get_or path n 0 ∷ []
 take_next path n l = ap (λ k. take k path) {x = suc n} {y = n + 1} (omega arith) ∙ take_more path n 0 l
 
-next-slash : (path : List ℕ) (n : ℕ) → n < length path → (c : Cut path n) → eqb (get_or path n 0) slash ≡ true
+pub next-slash : (path : List ℕ) (n : ℕ) → n < length path → (c : Cut path n) → eqb (get_or path n 0) slash ≡ true
     → parts (take (suc n) path) ≡ (c.front ++ c.last ∷ []) ++ [] ∷ []
 next-slash path n l c e =
     ap parts (take_next path n l ∙ ap (λ x. take n path ++ x ∷ []) (eqb-true (get_or path n 0) slash e)) ∙ parts-slash (take n path) ∙ ap (λ ps. ps ++ [] ∷ []) c.is
 
-next-byte : (path : List ℕ) (n : ℕ) → n < length path → (c : Cut path n) → eqb (get_or path n 0) slash ≡ false
+pub next-byte : (path : List ℕ) (n : ℕ) → n < length path → (c : Cut path n) → eqb (get_or path n 0) slash ≡ false
     → parts (take (suc n) path) ≡ c.front ++ (c.last ++ get_or path n 0 ∷ []) ∷ []
 next-byte path n l c e =
     let b = get_or path n 0 in
     ap parts (take_next path n l) ∙ parts-byte b (take n path) e ∙ ap (onto_last b) c.is ∙ onto_last-push b c.front c.last
 
-cut : (path : List ℕ) (n : ℕ) → n ≤ length path → Cut path n
+pub cut : (path : List ℕ) (n : ℕ) → n ≤ length path → Cut path n
 cut path zero l = record {
   front = [];
   last = [];
@@ -205,7 +205,7 @@ after_byte (p ∷ ps) last b h =
 
 -- ---- one more byte
 
-trailing-same : (path : List ℕ) (n : ℕ) → n < length path → is_trailing path n ≡ true → components (take (suc n) path) ≡ components (take n path)
+pub trailing-same : (path : List ℕ) (n : ℕ) → n < length path → is_trailing path n ≡ true → components (take (suc n) path) ≡ components (take n path)
 trailing-same path n l h =
     let b = get_or path n 0 in
     let b_before = get_or path (n - 1) 0 in
@@ -224,7 +224,12 @@ trailing-same path n l h =
     ∙ sym (ap components_of (c.is ∙ ap (λ x. c.front ++ x ∷ []) none)))
     (or_cases (eqb b slash) (eqb b 46 && eqb b_before slash) both.1)
 
-byte-grows : (path : List ℕ) (n : ℕ) → n < length path → is_trailing path n ≡ false → size (components (take n path)) < size (components (take (suc n) path))
+-- a byte after a slash that does not trail is no `.`
+pub no_dot : (path : List ℕ) (n : ℕ) (c : Cut path n) → is_trailing path n ≡ false → 0 < n → c.last ≡ [] → eqb (get_or path n 0) 46 ≡ false
+no_dot path n c h some z =
+    by_test (eqb (get_or path n 0) 46) (λ q. absurd (both_ways _ h (and_from _ _ (lt-ltb 0 n some) (or_right _ _ (and_from _ _ q (c.ends some z)))))) (λ q. q)
+
+pub byte-grows : (path : List ℕ) (n : ℕ) → n < length path → is_trailing path n ≡ false → size (components (take n path)) < size (components (take (suc n) path))
 byte-grows path n l h =
     let b = get_or path n 0 in
     let b_before = get_or path (n - 1) 0 in
@@ -243,9 +248,7 @@ byte-grows path n l h =
     ))
     (λ e.
     let either : c.last ≡ [] → (c.front ≡ []) ⊎ (eqb b 46 ≡ false) = λ z.
-    by_test (ltb 0 n)
-    (λ p. by_test (eqb b 46) (λ q. absurd (trailing_if p (or_right _ _ (and_from _ _ q (c.ends (ltb-true 0 n p) z))))) (λ q. inr q))
-    (λ p. inl (c.empty (omega (arith, ltb-false 0 n p))).0) in
+    by_test (ltb 0 n) (λ p. inr (no_dot path n c h (ltb-true 0 n p) z)) (λ p. inl (c.empty (omega (arith, ltb-false 0 n p))).0) in
     omega (
       arith,
       ap (λ ps. size (components_of ps)) c.is,
@@ -301,7 +304,7 @@ pub trim_trailing-components : (path : List ℕ) → components (trim_trailing p
 unfolding trim_trailing
 trim_trailing-components path = trimmed-same path (length path) (omega arith) ∙ ap components (take_all (length path) path (omega arith))
 
-trim_trailing-grows : (path : List ℕ) (k : ℕ) → k < length (trim_trailing path) → size (components (take k (trim_trailing path))) < size (components (trim_trailing path))
+pub trim_trailing-grows : (path : List ℕ) (k : ℕ) → k < length (trim_trailing path) → size (components (take k (trim_trailing path))) < size (components (trim_trailing path))
 unfolding trim_trailing
 trim_trailing-grows path k lt =
     let n = trimmed_len path (length path) in

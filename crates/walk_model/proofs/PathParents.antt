@@ -1,14 +1,13 @@
 -- The parent that `std::path` gives is the shortest beginning with all components but the last.
 use Rattle.std.proofs.Common.{◌≡◌, ◌≢◌, ℕ, suc, ◌<◌, Bool, true, false, ◌||◌, eqb, List, [], ◌∷◌, ◌++◌, length, take, drop, map, find, bytes_eq, Option, Some, None, option_map, ◌⊎◌, inl, inr, refl, sym, ap, ap₂, subst, ◌∙◌, ⊎_elim, arith, eqb-true, take-append-drop}
-use Rattle.std.specs.Path.{root_dir, trim_trailing, rsplit_once, parent_and_last, split_last_component, path_parent, path_components, IsLastComponent}
-use Rattle.std.specs.declared.path.components.Component.{Component as StdComponent}
+use Rattle.std.specs.Path.{root_dir, trim_trailing, rsplit_once, parent_and_last, split_last_component, path_parent, path_components}
 use Rattle.std.proofs.lemmas.Bool.{cond-true, cond-false, cond_both, both_ways, or_cases, or_parts, and_parts, and_from, false_from_ne_true}
 use Rattle.std.proofs.lemmas.List.{nil_from_length, map_push}
 use Rattle.std.proofs.lemmas.Paths.{path_components_parent, take_parent}
 use Rattle.std.proofs.lemmas.Slice.Eq.{bytes_eq-Decides}
-use Rattle.walk_model.specs.Paths.{Component, root, here, up, plain, slash, components, component_eq, components_eq, last_of, all_but_last, name_of, file_name, beginnings, shortest_with, parent_before, parent}
-use Rattle.walk_model.specs.PathTexts.{component_read, component_seen, AreSteps, AreProper}
-use Rattle.walk_model.proofs.PathFacts.{by_test, path_components-read, components-proper, last_read}
+use Rattle.walk_model.specs.Paths.{Component, root, here, up, plain, slash, components, component_eq, components_eq, last_of, all_but_last, beginnings, shortest_with, parent_before, parent}
+use Rattle.walk_model.specs.PathTexts.{component_read, AreSteps, AreProper}
+use Rattle.walk_model.proofs.PathFacts.{by_test, path_components-read, components-proper}
 use Rattle.walk_model.proofs.PathEnds.{IsShortest, trim_trailing-components, trim_trailing-shortest, trim_trailing-root}
 
 -- ---- lists of components
@@ -35,7 +34,7 @@ components_eq-is [] [] e = refl
 components_eq-is (c ∷ cs) (d ∷ ds) e = let both = and_parts (component_eq c d) (components_eq cs ds) e in ap₂ (λ x y. x ∷ y) (component_eq-is c d both.0) (components_eq-is cs ds both.1)
 components_eq-is cs ds e = cc
 
-last_of-push : (cs : List Component) (c : Component) → last_of (cs ++ c ∷ []) ≡ Some c
+pub last_of-push : (cs : List Component) (c : Component) → last_of (cs ++ c ∷ []) ≡ Some c
 last_of-push [] c = refl
 last_of-push (d ∷ []) c = refl
 last_of-push (d ∷ e ∷ cs) c = last_of-push (e ∷ cs) c
@@ -143,15 +142,5 @@ parent_of text r is (inr h) =
     ∙ sym (parent-found text front last cs (λ z. h.3 (root_last text (components front) (cs ∙ ap (λ c. components front ++ c ∷ []) z))) (take_parent text front some) h.2)
 
 -- the parent that `std::path` gives
-pub path_parent-is : (text : List ℕ) → path_parent text ≡ parent text
-path_parent-is text = parent_of text (path_parent text) refl (has_parent text)
-
--- ---- the last component
-
--- what the last component that `std::path` gives says of the file name
-pub file_name-none : (text : List ℕ) (after : List (List ℕ)) → IsLastComponent (path_components text) None after → file_name text ≡ None
-file_name-none text after h = ap (λ cs. name_of (last_of cs)) (sym (path_components-read text) ∙ (last_read _ after None h).0)
-
-pub file_name-some : (text : List ℕ) (after : List (List ℕ)) (d : StdComponent) → IsLastComponent (path_components text) (Some d) after → file_name text ≡ name_of (Some (component_seen d))
-file_name-some text after d h =
-    ap (λ cs. name_of (last_of cs)) (sym (path_components-read text) ∙ last_read _ after (Some d) h) ∙ ap name_of (last_of-push (map component_read after) (component_seen d))
+pub path_parent_is : (text : List ℕ) → path_parent text ≡ parent text
+path_parent_is text = parent_of text (path_parent text) refl (has_parent text)

@@ -1,0 +1,4 @@
+//! Path texts, taken apart and put together as `std::path` does on Unix.
+#![tactic(auto)]
+
+pub mod path_text;

@@ -1,0 +1,119 @@
+//! A path is a text; its components stand between its slashes.
+ghost use Rattle.std.specs.Prelude.{◌≡◌, ◌++◌, ◌≤◌, IfOk, length, option_copied, string_bytes};
+ghost use Rattle.walk_model.specs.Paths.{starts_with_slash, with_slash, join, parent, file_name};
+
+use std::alloc::{AllocError, Allocator};
+use std::path::Path;
+
+fn is_absolute(path: &str) -> bool
+    ensures { result ≡ starts_with_slash path.now }
+{
+    matches!(path.as_bytes(), [b'/', ..])
+}
+
+// What stands between a path and a name below it.
+#[tactic(auto, using(walk_model::proofs::PathJoins::with_slash_kept, walk_model::proofs::PathJoins::with_slash_added))]
+fn separator(path: &str) -> &'static str
+    ensures text { path.now ++ result.now ≡ with_slash path.now }
+    ensures short { length result.now ≤ 1 }
+{
+    match path.as_bytes() {
+        [] => "",
+        [.., b'/'] => "",
+        _ => "/",
+    }
+}
+
+/// The path `b` as seen from `a`, in one string of exactly its length: `b` alone where it starts with `/`, and else `a`
+/// and `b` with one `/` between them. No `/` is added where `a` is empty or ends with one.
+///
+/// `a` and `b` give `a/b`, as do `a/` and `b`; an empty path and `b` give `b`; `a` and `/b` give `/b`; `a` and an empty
+/// path give `a/`. The rule is that of `std::path::Path::join` on Unix.
+///
+/// Fails only where memory is refused.
+pub fn join<A: Allocator + Copy>(alloc: A, a: &str, b: &str) -> Result<String<A>, AllocError>
+    ensures { IfOk result (λ path. string_bytes path ≡ join a.now b.now) }
+{
+    if is_absolute(b) {
+        return String::from_str(alloc, b);
+    }
+    let slash = separator(a);
+    let mut path = String::with_capacity(alloc, a.len() + b.len() + slash.len())?;
+    path.push_str(a)?;
+    path.push_str(slash)?;
+    path.push_str(b)?;
+    Ok(path)
+}
+
+/// The shortest beginning of a path that has all its components but the last, or `None` where the last is the root or
+/// there is none.
+///
+/// Of `a/b/` it is `a`, of `a` the empty path, of `/a` it is `/`, and of `./a` it is `.`; `/` and the empty path have
+/// none. What trails, as slashes and `.`, is left out. The rule is that of `std::path::Path::parent` on Unix.
+#[tactic(auto, using(walk_model::proofs::PathParents::path_parent_is))]
+pub fn parent(path: &str) -> Option<&str>
+    ensures { option_copied result ≡ parent path.now }
+{
+    Path::new(path).parent().map(|above| above.as_str())
+}
+
+/// The last component of a path where that is a plain name, and `None` where it is the root, `.` or `..`, or there is
+/// none.
+///
+/// Of `a/b/`, `a/b/.` and `b` it is `b`; of `a/..`, `/` and the empty path there is none. The rule is that of
+/// `std::path::Path::file_name` on Unix.
+#[tactic(auto, using(walk_model::proofs::PathNames::path_file_name_is))]
+pub fn file_name(path: &str) -> Option<&str>
+    ensures { option_copied result ≡ file_name path.now }
+{
+    Path::new(path).file_name()
+}
+
+#[cfg(test)]
+mod tests {
+    use super::*;
+    use std::test::Fail;
+
+    #[test]
+    fn names_and_parents_of_texts(rt: HostRuntime) {
+        let rows = [
+            ("", None, None),
+            ("/", None, None),
+            ("/.", None, None),
+            (".", None, Some("")),
+            ("..", None, Some("")),
+            ("../..", None, Some("..")),
+            ("a", Some("a"), Some("")),
+            ("a/.", Some("a"), Some("")),
+            ("/a", Some("a"), Some("/")),
+            ("//a", Some("a"), Some("/")),
+            ("//x/y", Some("y"), Some("//x")),
+            ("a/b/", Some("b"), Some("a")),
+            ("a//b", Some("b"), Some("a")),
+            ("a/./b", Some("b"), Some("a")),
+            ("./a", Some("a"), Some(".")),
+            ("a/..", None, Some("a")),
+        ];
+        for (text, name, above) in rows {
+            assert_eq!(rt; file_name(text), name, "at {text}");
+            assert_eq!(rt; parent(text), above, "at {text}");
+        }
+    }
+
+    #[test]
+    fn joins_with_one_slash(rt: HostRuntime) -> Result<(), Fail> {
+        let rows = [
+            ("a", "b", "a/b"),
+            ("a/", "b", "a/b"),
+            ("", "b", "b"),
+            ("/", "b", "/b"),
+            ("a", "/b", "/b"),
+            ("a", "", "a/"),
+        ];
+        for (a, b, whole) in rows {
+            let joined = join(rt.alloc(), a, b)?;
+            assert_eq!(rt; joined.as_str(), whole, "at {a} and {b}");
+        }
+        Ok(())
+    }
+}
