@@ -1,5 +1,5 @@
 //! Readings in preorder.
-ghost use Rattle.std.specs.Prelude.{◌≡◌, ◌<◌, IfSome, option_map};
+ghost use Rattle.std.specs.Prelude.{◌≡◌, ◌<◌, IfSome, IsSome, option_map};
 ghost use Rattle.walk_model.specs.Held.{spec_weight};
 ghost use Rattle.walk_model.specs.Job as value;
 ghost use Rattle.jwalk.specs.ReadDir.{outcome};
@@ -7,6 +7,7 @@ ghost use Rattle.jwalk.specs.States.{ClonesAreEqual};
 ghost use Rattle.jwalk.specs.Job.{job, file_system, callback, greatest_depth, IsSteady};
 
 use crate::client_state::ClientState;
+use crate::dir_entry::DirEntry;
 use crate::error::Error;
 use crate::process_read_dir::ProcessReadDir;
 use crate::read_dir::ReadDir;
@@ -49,6 +50,20 @@ impl<C: ClientState, S: FileSystem, P: ProcessReadDir<C, A>, A: Allocator + Copy
             ReadDirIter::Walk(walk) => walk.read_or_stop(),
             ReadDirIter::ParWalk(never) => match *never {},
         }
+    }
+
+    /// The reading of an entry's directory: the next one, where the entries are those of the readings so far in the
+    /// walk's order.
+    pub fn next_of(&mut self, entry: &DirEntry<C, A>) -> Option<Result<ReadDir<C, A>, Error<A>>>
+        requires lawful { P.IsLawful (callback (job_of self.old)) }
+        requires has_directory { IsSome entry.now.read_children }
+        ensures job { job_of self.new ≡ job_of self.old }
+        ensures first { GivesFirst (greatest_depth (job_of self.old)) (ClonesAreEqual C.ReadDirState.is_clone) (to_read self.old) (option_map outcome result) (to_read self.new) }
+        ensures fewer { IfSome result (λ _. spec_weight (greatest_depth (job_of self.old)) (to_read self.new) < spec_weight (greatest_depth (job_of self.old)) (to_read self.old)) }
+        ensures value { (d : C.DirEntryState) → IsSteady (S.IsFixed (file_system (job_of self.old))) (P.IsFixed (callback (job_of self.old))) C.ReadDirState.is_clone C.DirEntryState.is_default d → GivesReading (value.reading (job (S.functions (file_system (job_of self.old))) (P.processed (callback (job_of self.old))) d (job_of self.old))) (to_read self.old) (option_map outcome result) }
+    {
+        prove!(entry.read_children.is_some());
+        self.read_next()
     }
 }
 
