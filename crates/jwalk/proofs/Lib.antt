@@ -1,2 +1,3 @@
-pub mod ListFacts
+pub mod AnswerFacts
 pub mod GivesFacts
+pub mod ListFacts

@@ -5,7 +5,7 @@ use Rattle.walk_model.specs.Entry.{Item}
 use Rattle.walk_model.specs.ReadDir.{Spec, Outcome}
 use Rattle.walk_model.specs.Listing.{Pair, nothing}
 use Rattle.walk_model.specs.Held as value
-use Rattle.walk_model.specs.Held.{pair_up, Passes, AnswersPlainly}
+use Rattle.walk_model.specs.Held.{pair_up, Passes, PassesOne, IsAtDirectory, AnswersPlainly}
 use Rattle.jwalk.specs.Entry.{item}
 use Rattle.jwalk.specs.Job.{greatest_depth}
 use Rattle.jwalk.specs.ReadDirIter as readings
@@ -16,7 +16,7 @@ use Rattle.jwalk.specs.declared.job.Job.{Job}
 use Rattle.jwalk.specs.declared.dir_entry_iter.DirEntryIter.{DirEntryIter}
 
 -- what stands in front of a walk that was refused at its start: the error that tells of it
-abbrev refusal : {R E : Type 0} → Bool → List (Pair R E)
+abbrev pub refusal : {R E : Type 0} → Bool → List (Pair R E)
 refusal true = record { item = Err memory; source = nothing } ∷ []
 refusal false = []
 
@@ -35,6 +35,12 @@ module _ {C S P A R E : Type 0} where
   -- the items that were received and not passed on, each with the directory below it
   abbrev pub held : DirEntryIter C S P A R E → List (Pair R E)
   held it = refusal it.refused ++ pair_up (items_of it) (unread_of it)
+
+  -- one pair is passed; or memory was refused below a directory, and nothing is left
+  abbrev pub PassesOrStops : ℕ → Type 0 → (E → Type 0) → (E → Spec R → Outcome R E) → DirEntryIter C S P A R E → Item R E → DirEntryIter C S P A R E → Type 0
+  PassesOrStops max_depth clones_are_equal is_steady reading_by old answer new =
+      ((answer ≡ Err memory) × (items_of new ≡ []) × (unread_of new ≡ []) × IsAtDirectory (pair_up (items_of old) (unread_of old)))
+      ⊎ PassesOne max_depth clones_are_equal is_steady reading_by (pair_up (items_of old) (unread_of old)) answer (pair_up (items_of new) (unread_of new))
 
   -- the least depth, which can't be set yet
   abbrev pub min_depth_of : DirEntryIter C S P A R E → ℕ

@@ -1,5 +1,5 @@
 //! Readings in preorder.
-ghost use Rattle.std.specs.Prelude.{◌≡◌, ◌<◌, IfSome, IsSome, option_map};
+ghost use Rattle.std.specs.Prelude.{◌≡◌, ◌<◌, [], IfSome, IsSome, option_map};
 ghost use Rattle.walk_model.specs.Held.{spec_weight};
 ghost use Rattle.walk_model.specs.Job as value;
 ghost use Rattle.jwalk.specs.ReadDir.{outcome};
@@ -64,6 +64,17 @@ impl<C: ClientState, S: FileSystem, P: ProcessReadDir<C, A>, A: Allocator + Copy
     {
         prove!(entry.read_children.is_some());
         self.read_next()
+    }
+
+    /// Forgets what is not read yet.
+    pub(crate) fn stop(&mut self)
+        ensures job { job_of self.new ≡ job_of self.old }
+        ensures to_read { to_read self.new ≡ [] }
+    {
+        match self {
+            ReadDirIter::Walk(walk) => walk.stop(),
+            ReadDirIter::ParWalk(never) => match *never {},
+        }
     }
 }
 

@@ -6,7 +6,7 @@ use Rattle.walk_model.specs.Entry.{Entry, Item, has_directory}
 use Rattle.walk_model.specs.ReadDir.{Spec, Outcome, list_of, ReadsFirst, IsReadingOfFirst}
 use Rattle.walk_model.specs.Listing.{Pair, Source, nothing, unread, was_read, after_reading, pairs_of, is_answered, answers, listing}
 use Rattle.walk_model.specs.Held.{first_source, after_first, pair_up, to_come, weight, Passes, PassesPlainly, AnswersPlainly, IsAtDirectory, PassesOne, is_plain}
-use Rattle.walk_model.proofs.HeldFacts.{pair_up-outcome, listed, lighter, alone, unread_none}
+use Rattle.walk_model.proofs.HeldFacts.{pair_up-outcome, listed, lighter, alone, unread_none, heavy_source_of}
 use Rattle.walk_model.proofs.PreorderFacts.{first_is_read}
 
 module _ {R E : Type 0} (max_depth : ℕ) (clones : Type 0) (is_steady : E → Type 0) (reading_by : E → Spec R → Outcome R E) where
@@ -44,12 +44,12 @@ module _ {R E : Type 0} (max_depth : ℕ) (clones : Type 0) (is_steady : E → T
       lighter = lighter max_depth clones e xs old new outcome h few reads;
     }
 
+module _ {R E : Type 0} where
   -- where something is unread, a directory is to be read below an entry that has one
   pub at_directory : (x : Item R E) (xs : List (Item R E)) (ss : List (Spec R)) → has_directory x ≡ true → ss ≢ [] → IsAtDirectory (pair_up (x ∷ xs) ss)
   at_directory x xs [] h some = absurd (some refl)
   at_directory x xs (s ∷ ss) h some = rw h refl
 
-module _ {R E : Type 0} where
   -- every item is answered from depth 0 on
   pub always_answered : (x : Item R E) → is_answered 0 x ≡ true
   always_answered (Ok e) = grind (arith, nat_tests)
@@ -72,3 +72,8 @@ module _ {R E : Type 0} where
   pub plainly_any : (old : List (Pair R E)) (answer : Option (Item R E)) (new : List (Pair R E)) → IsAtDirectory old → AnswersPlainly 0 old answer new
   plainly_any [] answer new h = absurd h
   plainly_any (p ∷ rest) answer new h = rw h tt
+
+  -- what is held at a directory isn't nothing
+  pub heavy_held : (max_depth : ℕ) (held : List (Pair R E)) → IsAtDirectory held → 0 < weight max_depth held
+  heavy_held max_depth [] h = absurd h
+  heavy_held max_depth (p ∷ rest) h = omega (arith, heavy_source_of max_depth p.source)
