@@ -1,0 +1,94 @@
+-- The table of directories as a list of values: what its names stand for, what a look-up finds in it, and the tree that it is.
+use Rattle.std.specs.Prelude.{◌≡◌, ℕ, ◌<◌, List, [], ◌∷◌, ◌++◌, map, length, slice_index_or, Option, Some, None, is_some, Result, Ok, Err, if◌then◌else◌, bytes_eq, option_and_then}
+use Rattle.std.specs.Option.{option_map}
+use Rattle.std.specs.Map.{lookup}
+use Rattle.std.specs.declared.io.ErrorKind.{ErrorKind}
+use Rattle.std.specs.declared.io.ErrorKind.TheVariants as kind
+use Rattle.walk_model.specs.Paths.{Component, root, here, up, plain}
+use Rattle.walk_model.specs.Tree.{Node, directory, file, Tree}
+use Rattle.memory_fs.specs.declared.child.Child.{Child}
+use Rattle.memory_fs.specs.declared.child.Child.TheVariants.{Dir, File}
+
+-- a directory: where the one that holds it stands, and its children by name, in order of creation
+pub record Branch : Type 0 where
+  pub parent : ℕ
+  pub children : List (List ℕ × Child)
+
+-- the child of this name
+abbrev pub child_named : List (List ℕ × Child) → List ℕ → Option Child
+child_named children name = lookup (λ other. bytes_eq name other) children
+
+-- the directory with a new child behind the others
+abbrev pub with_child : List ℕ → Child → Branch → Branch
+with_child name child b = record { parent = b.parent; children = b.children ++ (name, child) ∷ [] }
+
+-- the directory at a place of the table, and one with nothing in it past the end
+abbrev pub branch_at : List Branch → ℕ → Branch
+branch_at table place = slice_index_or table place (record { parent = 0; children = [] })
+
+abbrev pub children_at : List Branch → ℕ → List (List ℕ × Child)
+children_at table place = (branch_at table place).children
+
+abbrev pub parent_at : List Branch → ℕ → ℕ
+parent_at table place = (branch_at table place).parent
+
+-- the child of this name where a directory stands
+abbrev pub child_of : List Branch → Child → List ℕ → Option Child
+child_of table (Dir place) name = child_named (children_at table place) name
+child_of table (File len) name = None
+
+-- what stands at the end of the names
+abbrev pub at_end : List Branch → Child → List (List ℕ) → Option Child
+at_end table child [] = Some child
+at_end table child (name ∷ names) = option_and_then (λ next. at_end table next names) (child_of table child name)
+
+abbrev pub names_of : List (List ℕ × Child) → List (List ℕ)
+names_of children = map (λ e. e.0) children
+
+-- the node that a child is
+abbrev pub node_of : List Branch → Child → Node
+node_of table (Dir place) = directory (names_of (children_at table place)) None
+node_of table (File len) = file len
+
+-- the tree that the table is, whose root comes first
+abbrev pub tree_of_table : List Branch → Tree
+tree_of_table table names = option_map (node_of table) (at_end table (Dir 0) names)
+
+abbrev pub child_or_missing : Option Child → Result Child ErrorKind
+child_or_missing None = Err kind.NotFound
+child_or_missing (Some child) = Ok child
+
+-- one component worked off
+abbrev pub next_child : List Branch → Child → Component → Result Child ErrorKind
+next_child table (File len) c = Err kind.Other
+next_child table (Dir place) root = Ok (Dir 0)
+next_child table (Dir place) here = Ok (Dir place)
+next_child table (Dir place) up = Ok (Dir (parent_at table place))
+next_child table (Dir place) (plain name) = child_or_missing (child_named (children_at table place) name)
+
+abbrev go_on : (Child → Result Child ErrorKind) → Result Child ErrorKind → Result Child ErrorKind
+go_on next (Ok child) = next child
+go_on next (Err k) = Err k
+
+-- the components worked off from the front
+abbrev pub reached : List Branch → Child → List Component → Result Child ErrorKind
+reached table child [] = Ok child
+reached table child (c ∷ cs) = go_on (λ next. reached table next cs) (next_child table child c)
+
+-- the place is in the table, if it is one
+abbrev pub IsWithin : List Branch → Child → Type 0
+IsWithin table (Dir place) = place < length table
+IsWithin table (File len) = Unit {0}
+
+-- a directory that a name stands for is in the table and isn't the root, and that name in that directory is the only one that stands for it
+pub record IsHeld (table : List Branch) (holder : ℕ) (name : List ℕ) (place : ℕ) : Type 0 where
+  pub within : place < length table
+  pub below_root : 0 < place
+  pub parent : parent_at table place ≡ holder
+  pub only_name : (other : List ℕ) → child_named (children_at table holder) other ≡ Some (Dir place) → other ≡ name
+
+-- the root is there, each directory's parent is, and each directory that a name stands for is held by it alone
+pub record IsSound (table : List Branch) : Type 0 where
+  pub rooted : 0 < length table
+  pub parents : (place : ℕ) → place < length table → parent_at table place < length table
+  pub held : (holder : ℕ) (name : List ℕ) (place : ℕ) → child_named (children_at table holder) name ≡ Some (Dir place) → IsHeld table holder name place

@@ -1,0 +1,2 @@
+pub mod Branch
+pub mod Directory

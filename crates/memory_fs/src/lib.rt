@@ -1,0 +1,5 @@
+//! A file system in memory.
+#![tactic(auto)]
+
+mod child;
+mod directory;
