@@ -1,2 +1,3 @@
+pub mod TableLemmas
 pub mod PlaceLemmas
 pub mod DirectoryLemmas

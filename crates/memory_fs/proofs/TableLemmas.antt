@@ -1,0 +1,69 @@
+-- What a look-up by names finds in a table of directories, and that in a sound one each directory has one place.
+use Rattle.std.proofs.Common.{◌≡◌, ◌≢◌, ℕ, ◌+◌, ◌<◌, Bool, true, false, cond, List, [], ◌∷◌, ◌++◌, map, length, Option, None, Some, refl, sym, ap, subst, ◌∙◌, ◌⊎◌, inl, inr, arith}
+use Rattle.std.specs.Prelude.{option_and_then, if◌then◌else◌}
+use Rattle.walk_model.specs.Tree.{Place, above}
+use Rattle.memory_fs.specs.declared.child.Child.{Child}
+use Rattle.memory_fs.specs.declared.child.Child.TheVariants.{Dir, File}
+use Rattle.memory_fs.specs.Branch.{Branch, child_named, children_at, parent_at, child_of, at_end, IsHeld, IsSound}
+use Rattle.memory_fs.proofs.PlaceLemmas.{by_last, above-append, same_front, same_last}
+
+and_then-Some : {X : Type 0} (o : Option X) → option_and_then (λ x. Some x) o ≡ o
+and_then-Some None = refl
+and_then-Some (Some x) = refl
+
+-- one more name
+pub at_end-append : (table : List Branch) (child : Child) (names : Place) (name : List ℕ)
+    → at_end table child (names ++ name ∷ []) ≡ option_and_then (λ found. child_of table found name) (at_end table child names)
+at_end-append table child [] name = and_then-Some (child_of table child name)
+at_end-append table child (m ∷ ms) name =
+    elim (child_of table child m) as (λ o. option_and_then (λ next. at_end table next (ms ++ name ∷ [])) o ≡ option_and_then (λ found. child_of table found name) (option_and_then (λ next. at_end table next ms) o))
+    [ None ↦ refl | Some next ↦ at_end-append table next ms name ]
+
+-- a name is found in the directory before it
+pub record IsLastStep (table : List Branch) (front : Place) (name : List ℕ) (child : Child) : Type 0 where
+  pub holder : ℕ
+  pub before : at_end table (Dir 0) front ≡ Some (Dir holder)
+  pub step : child_named (children_at table holder) name ≡ Some child
+
+pub last_step : (table : List Branch) (front : Place) (name : List ℕ) (child : Child) → at_end table (Dir 0) (front ++ name ∷ []) ≡ Some child → IsLastStep table front name child
+last_step table front name child found = by (at_end table (Dir 0) front) refl (sym (at_end-append table (Dir 0) front name) ∙ found)
+  where
+    by : (o : Option Child) → at_end table (Dir 0) front ≡ o → option_and_then (λ x. child_of table x name) (at_end table (Dir 0) front) ≡ Some child → IsLastStep table front name child
+    by None e h = let h' : None ≡ Some child = sym (ap (option_and_then (λ x. child_of table x name)) e) ∙ h in cc
+    by (Some (Dir i)) e h = record { holder = i; before = e; step = sym (ap (option_and_then (λ x. child_of table x name)) e) ∙ h }
+    by (Some (File len)) e h = let h' : None ≡ Some child = sym (ap (option_and_then (λ x. child_of table x name)) e) ∙ h in cc
+
+dir_of : Option Child → ℕ
+dir_of None = 0
+dir_of (Some (Dir i)) = i
+dir_of (Some (File len)) = 0
+
+pub same_dir : (i j : ℕ) → Some (Dir i) ≡ Some (Dir j) → i ≡ j
+same_dir i j e = cc
+
+module _ (table : List Branch) (sound : IsSound table) where
+  -- what is found at a place is within the table
+  -- the directory that holds one is its parent
+  pub at_above : (place : Place) (i : ℕ) → at_end table (Dir 0) place ≡ Some (Dir i) → at_end table (Dir 0) (above place) ≡ Some (Dir (parent_at table i)) ⊎ (place ≡ [])
+  at_above = by_last (λ place. (i : ℕ) → at_end table (Dir 0) place ≡ Some (Dir i) → at_end table (Dir 0) (above place) ≡ Some (Dir (parent_at table i)) ⊎ (place ≡ []))
+      (λ i e. inr refl)
+      (λ front name hyp i e.
+        let s = last_step table front name (Dir i) e in
+        inl (ap (at_end table (Dir 0)) (above-append front name) ∙ s.before ∙ ap (λ k. Some (Dir k)) (sym (sound.held s.holder name i s.step).parent)))
+
+  -- a directory has one place
+  pub one_place : (place other : Place) (i : ℕ) → at_end table (Dir 0) place ≡ Some (Dir i) → at_end table (Dir 0) other ≡ Some (Dir i) → other ≡ place
+  one_place = by_last (λ place. (other : Place) (i : ℕ) → at_end table (Dir 0) place ≡ Some (Dir i) → at_end table (Dir 0) other ≡ Some (Dir i) → other ≡ place)
+      (by_last (λ other. (i : ℕ) → at_end table (Dir 0) [] ≡ Some (Dir i) → at_end table (Dir 0) other ≡ Some (Dir i) → other ≡ []) (λ i e h. refl)
+        (λ front name hyp i e h. let s = last_step table front name (Dir i) h in let r = (sound.held s.holder name i s.step).below_root in let z = same_dir 0 i e in absurd (omega arith)))
+      (λ front name hyp. by_last (λ other. (i : ℕ) → at_end table (Dir 0) (front ++ name ∷ []) ≡ Some (Dir i) → at_end table (Dir 0) other ≡ Some (Dir i) → other ≡ front ++ name ∷ [])
+        (λ i e h. let s = last_step table front name (Dir i) e in let r = (sound.held s.holder name i s.step).below_root in let z = same_dir 0 i h in absurd (omega arith))
+        (λ front' name' hyp' i e h.
+          let s = last_step table front name (Dir i) e in
+          let s' = last_step table front' name' (Dir i) h in
+          let held = sound.held s.holder name i s.step in
+          let held' = sound.held s'.holder name' i s'.step in
+          let holders : s'.holder ≡ s.holder = sym held'.parent ∙ held.parent in
+          let fronts : front' ≡ front = hyp front' s.holder s.before (s'.before ∙ ap (λ k. Some (Dir k)) holders) in
+          let names : name' ≡ name = held.only_name name' (ap (λ k. child_named (children_at table k) name') (sym holders) ∙ s'.step) in
+          ap (λ (p : Place). p ++ name' ∷ []) fronts ∙ ap (λ (n : List ℕ). front ++ n ∷ []) names))
