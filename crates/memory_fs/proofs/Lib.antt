@@ -1,3 +1,5 @@
+pub mod GrowthLemmas
+pub mod LookUpLemmas
 pub mod TableLemmas
 pub mod PlaceLemmas
 pub mod DirectoryLemmas

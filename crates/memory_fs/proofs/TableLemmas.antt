@@ -33,23 +33,17 @@ last_step table front name child found = by (at_end table (Dir 0) front) refl (s
     by (Some (Dir i)) e h = record { holder = i; before = e; step = sym (ap (option_and_then (λ x. child_of table x name)) e) ∙ h }
     by (Some (File len)) e h = let h' : None ≡ Some child = sym (ap (option_and_then (λ x. child_of table x name)) e) ∙ h in cc
 
-dir_of : Option Child → ℕ
-dir_of None = 0
-dir_of (Some (Dir i)) = i
-dir_of (Some (File len)) = 0
-
 pub same_dir : (i j : ℕ) → Some (Dir i) ≡ Some (Dir j) → i ≡ j
 same_dir i j e = cc
 
 module _ (table : List Branch) (sound : IsSound table) where
-  -- what is found at a place is within the table
   -- the directory that holds one is its parent
-  pub at_above : (place : Place) (i : ℕ) → at_end table (Dir 0) place ≡ Some (Dir i) → at_end table (Dir 0) (above place) ≡ Some (Dir (parent_at table i)) ⊎ (place ≡ [])
-  at_above = by_last (λ place. (i : ℕ) → at_end table (Dir 0) place ≡ Some (Dir i) → at_end table (Dir 0) (above place) ≡ Some (Dir (parent_at table i)) ⊎ (place ≡ []))
-      (λ i e. inr refl)
+  pub at_above : (place : Place) (i : ℕ) → at_end table (Dir 0) place ≡ Some (Dir i) → at_end table (Dir 0) (above place) ≡ Some (Dir (parent_at table i))
+  at_above = by_last (λ place. (i : ℕ) → at_end table (Dir 0) place ≡ Some (Dir i) → at_end table (Dir 0) (above place) ≡ Some (Dir (parent_at table i)))
+      (λ i e. ap (λ k. Some (Dir k)) (sym sound.own_parent ∙ ap (parent_at table) (same_dir 0 i e)))
       (λ front name hyp i e.
         let s = last_step table front name (Dir i) e in
-        inl (ap (at_end table (Dir 0)) (above-append front name) ∙ s.before ∙ ap (λ k. Some (Dir k)) (sym (sound.held s.holder name i s.step).parent)))
+        ap (at_end table (Dir 0)) (above-append front name) ∙ s.before ∙ ap (λ k. Some (Dir k)) (sym (sound.held s.holder name i s.step).parent))
 
   -- a directory has one place
   pub one_place : (place other : Place) (i : ℕ) → at_end table (Dir 0) place ≡ Some (Dir i) → at_end table (Dir 0) other ≡ Some (Dir i) → other ≡ place

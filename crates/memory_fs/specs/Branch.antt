@@ -4,7 +4,7 @@ use Rattle.std.specs.Option.{option_map}
 use Rattle.std.specs.Map.{lookup}
 use Rattle.std.specs.declared.io.ErrorKind.{ErrorKind}
 use Rattle.std.specs.declared.io.ErrorKind.TheVariants as kind
-use Rattle.walk_model.specs.Paths.{Component, root, here, up, plain}
+use Rattle.walk_model.specs.Paths.{Component, root, here, up, plain, components}
 use Rattle.walk_model.specs.Tree.{Node, directory, file, Tree}
 use Rattle.memory_fs.specs.declared.child.Child.{Child}
 use Rattle.memory_fs.specs.declared.child.Child.TheVariants.{Dir, File}
@@ -66,7 +66,7 @@ next_child table (Dir place) here = Ok (Dir place)
 next_child table (Dir place) up = Ok (Dir (parent_at table place))
 next_child table (Dir place) (plain name) = child_or_missing (child_named (children_at table place) name)
 
-abbrev go_on : (Child → Result Child ErrorKind) → Result Child ErrorKind → Result Child ErrorKind
+abbrev pub go_on : (Child → Result Child ErrorKind) → Result Child ErrorKind → Result Child ErrorKind
 go_on next (Ok child) = next child
 go_on next (Err k) = Err k
 
@@ -74,6 +74,11 @@ go_on next (Err k) = Err k
 abbrev pub reached : List Branch → Child → List Component → Result Child ErrorKind
 reached table child [] = Ok child
 reached table child (c ∷ cs) = go_on (λ next. reached table next cs) (next_child table child c)
+
+-- what is found at a path; nothing is at the empty one
+abbrev pub found : List Branch → List ℕ → Result Child ErrorKind
+found table [] = Err kind.NotFound
+found table (c ∷ cs) = reached table (Dir 0) (components (c ∷ cs))
 
 -- the place is in the table, if it is one
 abbrev pub IsWithin : List Branch → Child → Type 0
@@ -87,8 +92,9 @@ pub record IsHeld (table : List Branch) (holder : ℕ) (name : List ℕ) (place 
   pub parent : parent_at table place ≡ holder
   pub only_name : (other : List ℕ) → child_named (children_at table holder) other ≡ Some (Dir place) → other ≡ name
 
--- the root is there, each directory's parent is, and each directory that a name stands for is held by it alone
+-- the root is there and holds itself, each directory's parent is there, and each directory that a name stands for is held by it alone
 pub record IsSound (table : List Branch) : Type 0 where
   pub rooted : 0 < length table
+  pub own_parent : parent_at table 0 ≡ 0
   pub parents : (place : ℕ) → place < length table → parent_at table place < length table
   pub held : (holder : ℕ) (name : List ℕ) (place : ℕ) → child_named (children_at table holder) name ≡ Some (Dir place) → IsHeld table holder name place
