@@ -3,7 +3,7 @@ use Rattle.std.proofs.Common.{◌≡◌, ◌≢◌, ℕ, ◌+◌, ◌<◌, ◌�
 use Rattle.std.specs.Prelude.{option_and_then, if◌then◌else◌}
 use Rattle.std.specs.Option.{option_map}
 use Rattle.std.specs.Str.{bytes_eq}
-use Rattle.std.proofs.lemmas.Bool.{cases_eq, cases_Bool, false≢true}
+use Rattle.std.proofs.lemmas.Bool.{cases_eq, cases_lt, cases_Bool, false≢true}
 use Rattle.std.proofs.lemmas.List.{map-append}
 use Rattle.std.proofs.lemmas.Slice.Eq.{bytes_eq-Decides}
 use Rattle.walk_model.specs.Tree.{Place, Tree, Node, directory, file, same_place, renamed, with_child as with_node, place_of, Spot}
@@ -12,6 +12,10 @@ use Rattle.memory_fs.specs.declared.child.Child.TheVariants.{Dir, File}
 use Rattle.memory_fs.specs.Branch.{Branch, child_named, children_at, parent_at, child_of, at_end, names_of, node_of, tree_of_table, IsHeld, IsSound}
 use Rattle.memory_fs.proofs.PlaceLemmas.{by_last, same_front, same_last, longer_place, same_place-refl, same_place-false, place_cases}
 use Rattle.memory_fs.proofs.TableLemmas.{at_end-append, one_place, same_dir}
+
+same_branches : {X : Type 0} (b : Bool) (x : X) → x ≡ (if b then x else x)
+same_branches true x = refl
+same_branches false x = refl
 
 abbrev or_last : Option Child → Option Child → Option Child
 or_last None last = last
@@ -30,6 +34,14 @@ pub record Grows (old new : List Branch) (holder : ℕ) (name : List ℕ) (child
   pub here : children_at new holder ≡ children_at old holder ++ (name, child) ∷ []
   pub others : (place : ℕ) → place ≢ holder → children_at new place ≡ children_at old place
   pub leaf : (other : List ℕ) → child_of new child other ≡ None
+
+-- no directory has gone or moved, and a new one stands behind the others
+pub record Extends (old new : List Branch) (holder : ℕ) (child : Child) : Type 0 where
+  pub within : holder < length old
+  pub longer : length old ≤ length new
+  pub kept : (place : ℕ) → place < length old → parent_at new place ≡ parent_at old place
+  pub added : (place : ℕ) → length old ≤ place → place < length new → parent_at new place ≡ holder
+  pub new_dir : (place : ℕ) → child ≡ Dir place → (place ≡ length old) × (place < length new)
 
 module _ (old new : List Branch) (holder : ℕ) (name : List ℕ) (child : Child) (grows : Grows old new holder name child) where
   pub named_new : child_named (children_at new holder) name ≡ Some child
@@ -122,3 +134,74 @@ module _ (old new : List Branch) (holder : ℕ) (name : List ℕ) (child : Child
             by (inr ne) =
                 ap (λ (b : Bool). option_and_then (λ x. child_of new x last) (if b then Some child else at_end old (Dir 0) front)) (same_place-false front (place ++ name ∷ []) ne)
                 ∙ below_same front last (at_end old (Dir 0) front) refl
+
+    -- so the tree has the new node, and its holder the new name
+    pub tree-grown : (node : Node) → node_of new child ≡ node → (q : Place)
+        → tree_of_table new q ≡ with_node node (record { holder = place; name = name }) (tree_of_table old) q
+    tree-grown node is q = ap (option_map (node_of new)) (at_end-grown q) ∙ by (same_place q (place ++ name ∷ []))
+      where
+        kept_node : (o : Option Child) → at_end old (Dir 0) q ≡ o
+            → option_map (node_of new) o ≡ (if same_place q place then renamed (λ names. names ++ name ∷ []) (option_map (node_of old) o) else option_map (node_of old) o)
+        kept_node None e = same_branches (same_place q place) None
+        kept_node (Some (File len)) e = same_branches (same_place q place) (Some (file len))
+        kept_node (Some (Dir k)) e = at (cases_eq k holder)
+          where
+            at : (k ≡ holder) ⊎ (k ≢ holder)
+                → Some (node_of new (Dir k)) ≡ (if same_place q place then Some (directory (names_of (children_at old k) ++ name ∷ []) None) else Some (node_of old (Dir k)))
+            at (inl h) =
+                ap (λ (es : List (List ℕ × Child)). Some (directory (names_of es) None)) (ap (children_at new) h ∙ grows.here ∙ ap (λ j. children_at old j ++ (name, child) ∷ []) (sym h))
+                ∙ ap (λ (ns : List (List ℕ)). Some (directory ns None)) (map-append (λ e. e.0) (children_at old k) ((name, child) ∷ []))
+                ∙ sym (ap (λ (b : Bool). if b then Some (directory (names_of (children_at old k) ++ name ∷ []) None) else Some (node_of old (Dir k)))
+                    (ap (λ (p : Place). same_place p place) (one_place old sound place q holder stands (e ∙ ap (λ j. Some (Dir j)) h)) ∙ same_place-refl place))
+            at (inr ne) =
+                ap (λ (es : List (List ℕ × Child)). Some (directory (names_of es) None)) (grows.others k ne)
+                ∙ sym (ap (λ (b : Bool). if b then Some (directory (names_of (children_at old k) ++ name ∷ []) None) else Some (node_of old (Dir k)))
+                    (same_place-false q place (λ h. ne (same_dir k holder (sym e ∙ ap (at_end old (Dir 0)) h ∙ stands)))))
+
+        by : (b : Bool) → option_map (node_of new) (if b then Some child else at_end old (Dir 0) q)
+            ≡ (if b then Some node else if same_place q place then renamed (λ names. names ++ name ∷ []) (tree_of_table old q) else tree_of_table old q)
+        by true = ap (λ (n : Node). Some n) is
+        by false = kept_node (at_end old (Dir 0) q) refl
+
+  -- a name that stands for a directory is an old one, or the new one
+  edge_cases : (i : ℕ) (n : List ℕ) (j : ℕ) → child_named (children_at new i) n ≡ Some (Dir j)
+      → (child_named (children_at old i) n ≡ Some (Dir j)) ⊎ ((i ≡ holder) × (n ≡ name) × (child ≡ Dir j))
+  edge_cases i n j e = by (cases_eq i holder) (name_cases n name)
+    where
+      by : (i ≡ holder) ⊎ (i ≢ holder) → (n ≡ name) ⊎ (n ≢ name) → (child_named (children_at old i) n ≡ Some (Dir j)) ⊎ ((i ≡ holder) × (n ≡ name) × (child ≡ Dir j))
+      by (inl h) (inl same) =
+          let z : Some child ≡ Some (Dir j) = sym named_new ∙ ap (child_named (children_at new holder)) (sym same) ∙ ap (λ k. child_named (children_at new k) n) (sym h) ∙ e in
+          let is : child ≡ Dir j = cc in inr (h, same, is)
+      by (inl h) (inr ne) = inl (ap (λ k. child_named (children_at old k) n) h ∙ sym (named_old n ne) ∙ ap (λ k. child_named (children_at new k) n) (sym h) ∙ e)
+      by (inr ne) same = inl (ap (λ (es : List (List ℕ × Child)). child_named es n) (sym (grows.others i ne)) ∙ e)
+
+  -- a sound table stays so
+  pub sound-grown : IsSound old → Extends old new holder child → IsSound new
+  sound-grown sound more = record {
+    rooted = let r = sound.rooted in let l = more.longer in omega arith;
+    own_parent = more.kept 0 sound.rooted ∙ sound.own_parent;
+    parents = λ place h. within_new place h (cases_lt place (length old));
+    held = λ i n j e. held_new i n j (edge_cases i n j e);
+  }
+    where
+      within_new : (place : ℕ) → place < length new → (place < length old) ⊎ (length old ≤ place) → parent_at new place < length new
+      within_new place h (inl lt) = let k = more.kept place lt in let p = sound.parents place lt in let l = more.longer in omega arith
+      within_new place h (inr le) = let k = more.added place le h in let w = more.within in let l = more.longer in omega arith
+
+      held_new : (i : ℕ) (n : List ℕ) (j : ℕ) → (child_named (children_at old i) n ≡ Some (Dir j)) ⊎ ((i ≡ holder) × (n ≡ name) × (child ≡ Dir j)) → IsHeld new i n j
+      held_new i n j (inl e) =
+          let h = sound.held i n j e in
+          record {
+            within = let w = h.within in let l = more.longer in omega arith;
+            below_root = h.below_root;
+            parent = more.kept j h.within ∙ h.parent;
+            only_name = λ other e'. ⊎_elim (λ e''. h.only_name other e'') (λ w. let z = (more.new_dir j w.2).0 in let lt = h.within in absurd (omega arith)) (edge_cases i other j e');
+          }
+      held_new i n j (inr w) =
+          let d = more.new_dir j w.2 in
+          record {
+            within = d.1;
+            below_root = let z = d.0 in let r = sound.rooted in omega arith;
+            parent = more.added j (let z = d.0 in omega arith) d.1 ∙ sym w.0;
+            only_name = λ other e'. ⊎_elim (λ e''. let lt = (sound.held i other j e'').within in let z = d.0 in absurd (omega arith)) (λ v. v.1 ∙ sym w.1) (edge_cases i other j e');
+          }
