@@ -1,3 +1,5 @@
+pub mod SpotLemmas
+pub mod EditLemmas
 pub mod GrowthLemmas
 pub mod LookUpLemmas
 pub mod TableLemmas

@@ -1,5 +1,5 @@
 -- A look-up in the tree finds what one in the table does.
-use Rattle.std.proofs.Common.{◌≡◌, ℕ, Bool, true, false, List, [], ◌∷◌, ◌++◌, Option, None, Some, Result, Ok, Err, refl, sym, ap, subst, ◌∙◌}
+use Rattle.std.proofs.Common.{◌≡◌, ◌≢◌, ℕ, Bool, true, false, List, [], ◌∷◌, ◌++◌, Option, None, Some, Result, Ok, Err, refl, sym, ap, subst, ◌∙◌}
 use Rattle.std.specs.Prelude.{option_and_then, if◌then◌else◌}
 use Rattle.std.specs.Option.{option_map}
 use Rattle.std.specs.declared.io.ErrorKind.{ErrorKind}
@@ -60,3 +60,7 @@ module _ (table : List Branch) (follow : Bool) (links : Option LookUp) where
 pub look_up_agrees : (table : List Branch) (follow : Bool) → IsSound table → (path : List ℕ) → Agrees table (look_up (tree_of_table table) follow path) (found table path)
 look_up_agrees table follow sound [] = refl
 look_up_agrees table follow sound (c ∷ cs) = along_agrees table follow (Some (looked_up (tree_of_table table) follow 39)) sound (components (c ∷ cs)) [] (Dir 0) refl
+
+pub found-some : (table : List Branch) (path : List ℕ) → path ≢ [] → found table path ≡ reached table (Dir 0) (components path)
+found-some table [] ne = absurd (ne refl)
+found-some table (c ∷ cs) ne = refl

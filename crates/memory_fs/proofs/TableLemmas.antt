@@ -1,10 +1,11 @@
 -- What a look-up by names finds in a table of directories, and that in a sound one each directory has one place.
-use Rattle.std.proofs.Common.{◌≡◌, ◌≢◌, ℕ, ◌+◌, ◌<◌, Bool, true, false, cond, List, [], ◌∷◌, ◌++◌, map, length, Option, None, Some, refl, sym, ap, subst, ◌∙◌, ◌⊎◌, inl, inr, arith}
-use Rattle.std.specs.Prelude.{option_and_then, if◌then◌else◌}
-use Rattle.walk_model.specs.Tree.{Place, above}
+use Rattle.std.proofs.Common.{◌≡◌, ◌≢◌, ℕ, zero, suc, ◌+◌, ◌<◌, Bool, true, false, cond, List, [], ◌∷◌, ◌++◌, map, length, Option, None, Some, refl, sym, ap, subst, ◌∙◌, ◌⊎◌, inl, inr, arith}
+use Rattle.std.specs.Prelude.{option_and_then, IfOk, ok_or}
+use Rattle.std.specs.declared.io.ErrorKind.{ErrorKind}
+use Rattle.walk_model.specs.Tree.{Place, above, only_root}
 use Rattle.memory_fs.specs.declared.child.Child.{Child}
 use Rattle.memory_fs.specs.declared.child.Child.TheVariants.{Dir, File}
-use Rattle.memory_fs.specs.Branch.{Branch, child_named, children_at, parent_at, child_of, at_end, IsHeld, IsSound}
+use Rattle.memory_fs.specs.Branch.{Branch, child_named, children_at, parent_at, child_of, at_end, empty_branch, tree_of_table, IsHeld, IsSound, IsWithin}
 use Rattle.memory_fs.proofs.PlaceLemmas.{by_last, above-append, same_front, same_last}
 
 and_then-Some : {X : Type 0} (o : Option X) → option_and_then (λ x. Some x) o ≡ o
@@ -61,3 +62,25 @@ module _ (table : List Branch) (sound : IsSound table) where
           let fronts : front' ≡ front = hyp front' s.holder s.before (s'.before ∙ ap (λ k. Some (Dir k)) holders) in
           let names : name' ≡ name = held.only_name name' (ap (λ k. child_named (children_at table k) name') (sym holders) ∙ s'.step) in
           ap (λ (p : Place). p ++ name' ∷ []) fronts ∙ ap (λ (n : List ℕ). front ++ n ∷ []) names))
+
+-- ---- the root alone
+pub sound-root : IsSound (empty_branch 0 ∷ [])
+sound-root = record { rooted = omega arith; own_parent = refl; parents = parents_root; held = λ holder name place e. absurd (none_held holder name place e) }
+  where
+    parents_root : (place : ℕ) → place < length (empty_branch 0 ∷ []) → parent_at (empty_branch 0 ∷ []) place < length (empty_branch 0 ∷ [])
+    parents_root zero h = omega arith
+    parents_root (suc k) h = omega arith
+
+    none_held : (holder : ℕ) (name : List ℕ) (place : ℕ) → child_named (children_at (empty_branch 0 ∷ []) holder) name ≡ Some (Dir place) → ⊥
+    none_held zero name place e = cc
+    none_held (suc k) name place e = cc
+
+pub tree-root : (place : Place) → tree_of_table (empty_branch 0 ∷ []) place ≡ only_root place
+tree-root [] = refl
+tree-root (n ∷ ns) = refl
+
+-- ---- what is found is within the table
+pub within_named : (table : List Branch) → IsSound table → (place : ℕ) (name : List ℕ) (o : Option Child) (k : ErrorKind) → o ≡ child_named (children_at table place) name → IfOk (ok_or o k) (IsWithin table)
+within_named table sound place name None k e = tt
+within_named table sound place name (Some (Dir j)) k e = (sound.held place name j (sym e)).within
+within_named table sound place name (Some (File len)) k e = tt

@@ -1,13 +1,15 @@
 -- The table of directories as a list of values: what its names stand for, what a look-up finds in it, and the tree that it is.
-use Rattle.std.specs.Prelude.{◌≡◌, ℕ, ◌<◌, List, [], ◌∷◌, ◌++◌, map, length, slice_index_or, Option, Some, None, is_some, Result, Ok, Err, if◌then◌else◌, bytes_eq, option_and_then}
+use Rattle.std.specs.Prelude.{◌≡◌, ℕ, ◌<◌, List, [], ◌∷◌, ◌++◌, map, length, slice_index_or, slice_set, Option, Some, None, is_some, Result, Ok, Err, if◌then◌else◌, bytes_eq, option_and_then}
 use Rattle.std.specs.Option.{option_map}
 use Rattle.std.specs.Map.{lookup}
 use Rattle.std.specs.declared.io.ErrorKind.{ErrorKind}
 use Rattle.std.specs.declared.io.ErrorKind.TheVariants as kind
-use Rattle.walk_model.specs.Paths.{Component, root, here, up, plain, components}
+use Rattle.walk_model.specs.Paths.{Component, root, here, up, plain, components, last_of, all_but_last, name_of}
 use Rattle.walk_model.specs.Tree.{Node, directory, file, Tree}
 use Rattle.memory_fs.specs.declared.child.Child.{Child}
 use Rattle.memory_fs.specs.declared.child.Child.TheVariants.{Dir, File}
+use Rattle.memory_fs.specs.declared.add_error.AddError.{AddError}
+use Rattle.memory_fs.specs.declared.add_error.AddError.TheVariants.{NotFound, AlreadyExists}
 
 -- a directory: where the one that holds it stands, and its children by name, in order of creation
 pub record Branch : Type 0 where
@@ -22,9 +24,17 @@ child_named children name = lookup (λ other. bytes_eq name other) children
 abbrev pub with_child : List ℕ → Child → Branch → Branch
 with_child name child b = record { parent = b.parent; children = b.children ++ (name, child) ∷ [] }
 
--- the directory at a place of the table, and one with nothing in it past the end
+-- a directory with no children
+abbrev pub empty_branch : ℕ → Branch
+empty_branch parent = record { parent = parent; children = [] }
+
+-- the directory at a place of the table, and an empty one past the end
 abbrev pub branch_at : List Branch → ℕ → Branch
-branch_at table place = slice_index_or table place (record { parent = 0; children = [] })
+branch_at table place = slice_index_or table place (empty_branch 0)
+
+-- the table in which a directory has a new child behind the others
+abbrev pub with_named : List Branch → ℕ → List ℕ → Child → List Branch
+with_named table holder name child = slice_set table holder (with_child name child (branch_at table holder))
 
 abbrev pub children_at : List Branch → ℕ → List (List ℕ × Child)
 children_at table place = (branch_at table place).children
@@ -79,6 +89,24 @@ reached table child (c ∷ cs) = go_on (λ next. reached table next cs) (next_ch
 abbrev pub found : List Branch → List ℕ → Result Child ErrorKind
 found table [] = Err kind.NotFound
 found table (c ∷ cs) = reached table (Dir 0) (components (c ∷ cs))
+
+-- the directory, if one was found
+abbrev pub holder_of : Result Child ErrorKind → Option ℕ
+holder_of (Ok (Dir place)) = Some place
+holder_of (Ok (File len)) = None
+holder_of (Err k) = None
+
+abbrev pub free_in : List Branch → List ℕ → Option ℕ → Result (ℕ × List ℕ) AddError
+free_in table name None = Err NotFound
+free_in table name (Some holder) = if is_some (child_named (children_at table holder) name) then Err AlreadyExists else Ok (holder, name)
+
+abbrev pub free_below : List Branch → List Component → Option (List ℕ) → Result (ℕ × List ℕ) AddError
+free_below table front None = Err NotFound
+free_below table front (Some name) = free_in table name (holder_of (reached table (Dir 0) front))
+
+-- the directory and the free name that a path leads to
+abbrev pub free_spot : List Branch → List Component → Result (ℕ × List ℕ) AddError
+free_spot table cs = free_below table (all_but_last cs) (name_of (last_of cs))
 
 -- the place is in the table, if it is one
 abbrev pub IsWithin : List Branch → Child → Type 0

@@ -1,2 +1,4 @@
 pub mod Branch
 pub mod Directory
+pub mod Table
+pub mod MemoryFs
