@@ -1,3 +1,5 @@
+pub mod NewChildLemmas
+pub mod AddLemmas
 pub mod SpotLemmas
 pub mod EditLemmas
 pub mod GrowthLemmas
