@@ -1,3 +1,4 @@
+pub mod AnswerLemmas
 pub mod NewChildLemmas
 pub mod AddLemmas
 pub mod SpotLemmas

@@ -6,6 +6,8 @@ use Rattle.std.specs.declared.io.ErrorKind.{ErrorKind}
 use Rattle.std.specs.declared.io.ErrorKind.TheVariants as kind
 use Rattle.walk_model.specs.Paths.{Component, root, here, up, plain, components, last_of, all_but_last, name_of}
 use Rattle.walk_model.specs.Tree.{Node, directory, file, Tree}
+use Rattle.walk_model.specs.FileSystem.{Listed}
+use Rattle.memory_fs.specs.Child.{type_of}
 use Rattle.memory_fs.specs.declared.child.Child.{Child}
 use Rattle.memory_fs.specs.declared.child.Child.TheVariants.{Dir, File}
 use Rattle.memory_fs.specs.declared.add_error.AddError.{AddError}
@@ -54,6 +56,19 @@ at_end table child (name ∷ names) = option_and_then (λ next. at_end table nex
 
 abbrev pub names_of : List (List ℕ × Child) → List (List ℕ)
 names_of children = map (λ e. e.0) children
+
+-- a child as a listing gives it
+abbrev pub listed_child : List ℕ × Child → Listed
+listed_child e = Ok (record { name = e.0; file_type = Ok (type_of e.1) })
+
+-- the children as a listing gives them
+abbrev pub listing_of : List (List ℕ × Child) → List Listed
+listing_of children = map listed_child children
+
+-- each of these children is found by its name
+abbrev pub AreFound : List (List ℕ × Child) → List (List ℕ × Child) → Type 0
+AreFound children [] = Unit {0}
+AreFound children (e ∷ es) = (child_named children e.0 ≡ Some e.1) × AreFound children es
 
 -- the node that a child is
 abbrev pub node_of : List Branch → Child → Node

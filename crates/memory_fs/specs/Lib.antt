@@ -1,3 +1,4 @@
+pub mod Child
 pub mod Branch
 pub mod Directory
 pub mod Table

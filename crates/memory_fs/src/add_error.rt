@@ -1,4 +1,7 @@
 //! Why a tree can't be built on.
+ghost use Rattle.std.specs.Prelude.{◌≡◌};
+
+use std::alloc::AllocError;
 use std::error::Error;
 use std::fmt;
 
@@ -24,3 +27,13 @@ impl fmt::Display for AddError {
 }
 
 impl Error for AddError {}
+
+impl From<AllocError> for AddError {
+    ghost use Rattle.memory_fs.specs.declared.add_error.AddError.TheVariants.{Memory};
+
+    ghost from_gives = { λ _ e. e ≡ Memory };
+
+    fn from(_error: AllocError) -> Self {
+        AddError::Memory
+    }
+}

@@ -11,9 +11,14 @@ use crate::add_error::AddError;
 use crate::child::Child;
 use crate::spot::Spot;
 use crate::table::Table;
-use std::alloc::{AllocError, Allocator, Global};
+use std::alloc::{Allocator, Global};
+use std::io;
 use std::io::ErrorKind;
 use std::path::{Component, Components, Path};
+use walk_fs::fault::Fault;
+use walk_fs::file_system::FileSystem;
+use walk_fs::listed::Listed;
+use walk_model::metadata::Metadata;
 
 /// A tree of directories and files. Its answers never change while it is not built on.
 #[derive(Drop)]
@@ -23,14 +28,14 @@ pub struct MemoryFs<A: Allocator + Copy = Global> {
 }
 
 impl<A: Allocator + Copy> MemoryFs<A> {
-    ghost use Rattle.std.specs.Prelude.{◌≡◌, ◌<◌, ℕ, length, IfSome, IsOk, IfOk, OnOk, OnErr, IfErr, MatchResult, Ok, Err};
+    ghost use Rattle.std.specs.Prelude.{◌≡◌, ◌<◌, ◌↔◌, ℕ, [], length, None, IfSome, IfOk, OnOk, OnErr, MatchResult, Ok, Err};
     ghost use Rattle.walk_model.specs.Paths.{components};
     ghost use Rattle.walk_model.specs.PathTexts.{components_left, component_seen};
-    ghost use Rattle.walk_model.specs.Tree.{Place, only_root};
+    ghost use Rattle.walk_model.specs.Tree.{Place, only_root, directory, file, add, not_found, already_exists};
     ghost use Rattle.memory_fs.specs.declared.child.Child.{Child};
     ghost use Rattle.memory_fs.specs.declared.child.Child.TheVariants.{Dir};
     ghost use Rattle.memory_fs.specs.Branch.{next_child, reached, found, holder_of, free_spot, IsWithin};
-    ghost use Rattle.memory_fs.specs.MemoryFs.{tree_of};
+    ghost use Rattle.memory_fs.specs.MemoryFs.{tree_of, IsSameTree, IsBuilt};
 
     /// The tree with nothing below its root, which needs no memory. The allocator serves all that is added.
     pub fn new(alloc: A) -> Self
@@ -39,6 +44,31 @@ impl<A: Allocator + Copy> MemoryFs<A> {
         MemoryFs {
             table: Table::new(alloc),
         }
+    }
+
+    /// Adds an empty directory. The path's last component has to be a plain name, and the ones before it lead to a
+    /// directory, from the root; else it is `NotFound`.
+    pub fn add_dir(&mut self, path: &str) -> Result<(), AddError>
+        ensures added { OnOk result (IsBuilt (add (directory [] None) path.now (tree_of self.old)) (tree_of self.new)) }
+        ensures not_found { (result ≡ Err AddError.NotFound) ↔ (add (directory [] None) path.now (tree_of self.old) ≡ Err not_found) }
+        ensures already_exists { (result ≡ Err AddError.AlreadyExists) ↔ (add (directory [] None) path.now (tree_of self.old) ≡ Err already_exists) }
+        ensures err { OnErr result (IsSameTree (tree_of self.old) (tree_of self.new)) }
+    {
+        let spot = self.spot(path)?;
+        self.table.add_directory(spot.holder, spot.name)?;
+        Ok(())
+    }
+
+    /// Adds a file of a length in bytes, where `add_dir` would add a directory.
+    pub fn add_file(&mut self, path: &str, len: u64) -> Result<(), AddError>
+        ensures added { OnOk result (IsBuilt (add (file len) path.now (tree_of self.old)) (tree_of self.new)) }
+        ensures not_found { (result ≡ Err AddError.NotFound) ↔ (add (file len) path.now (tree_of self.old) ≡ Err not_found) }
+        ensures already_exists { (result ≡ Err AddError.AlreadyExists) ↔ (add (file len) path.now (tree_of self.old) ≡ Err already_exists) }
+        ensures err { OnErr result (IsSameTree (tree_of self.old) (tree_of self.new)) }
+    {
+        let spot = self.spot(path)?;
+        self.table.add(spot.holder, spot.name, Child::File(len))?;
+        Ok(())
     }
 
     // One component worked off.
@@ -113,6 +143,52 @@ impl<A: Allocator + Copy> MemoryFs<A> {
             return Err(AddError::AlreadyExists);
         }
         Ok(Spot { holder, name })
+    }
+}
+
+impl<A: Allocator + Copy> FileSystem for MemoryFs<A> {
+    ghost use Rattle.walk_model.specs.Tree.{functions_of};
+    ghost use Rattle.memory_fs.specs.MemoryFs.{tree_of};
+
+    ghost IsFixed = { λ _. Unit {0} };
+
+    ghost functions = { λ fs. functions_of (tree_of fs) };
+
+    fn read_dir<B: Allocator + Copy>(
+        &self,
+        alloc: B,
+        path: &str,
+    ) -> Result<Vec<io::Result<Listed<B>>, B>, Fault> {
+        match self.look_up(path) {
+            Ok(Child::Dir(place)) => match self.table.directory(place).listing(alloc) {
+                Ok(items) => Ok(items),
+                Err(_) => Err(Fault::Memory),
+            },
+            Ok(Child::File(_)) => Err(Fault::Io(io::Error::from(ErrorKind::InvalidInput))),
+            Err(kind) => Err(Fault::Io(io::Error::from(kind))),
+        }
+    }
+
+    fn metadata(&self, path: &str) -> Result<Metadata, Fault> {
+        match self.look_up(path) {
+            Ok(child) => Ok(child.metadata()),
+            Err(kind) => Err(Fault::Io(io::Error::from(kind))),
+        }
+    }
+
+    fn symlink_metadata(&self, path: &str) -> Result<Metadata, Fault> {
+        match self.look_up(path) {
+            Ok(child) => Ok(child.metadata()),
+            Err(kind) => Err(Fault::Io(io::Error::from(kind))),
+        }
+    }
+
+    // Nothing in the tree is a link.
+    fn read_link<B: Allocator + Copy>(&self, _alloc: B, path: &str) -> Result<String<B>, Fault> {
+        match self.look_up(path) {
+            Ok(_) => Err(Fault::Io(io::Error::from(ErrorKind::InvalidInput))),
+            Err(kind) => Err(Fault::Io(io::Error::from(kind))),
+        }
     }
 }
 

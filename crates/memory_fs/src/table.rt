@@ -61,7 +61,7 @@ impl<A: Allocator + Copy> Table<A> {
     }
 
     /// Puts a new directory behind the others of a directory. Where memory is refused, nothing changes.
-    pub(crate) fn add_directory(&mut self, alloc: A, holder: usize, name: &str) -> Result<(), AllocError>
+    pub(crate) fn add_directory(&mut self, holder: usize, name: &str) -> Result<(), AllocError>
         requires within { holder < length (branches self.old) }
         requires free { child_named (children_at (branches self.old) holder) name.now ≡ None }
         ensures ok { OnOk result (branches self.new ≡ with_named (branches self.old) holder name.now (Dir (length (branches self.old))) ++ empty_branch holder ∷ []) }
@@ -70,7 +70,8 @@ impl<A: Allocator + Copy> Table<A> {
         self.others.reserve(1)?;
         let place = self.len();
         self.add(holder, name, Child::Dir(place))?;
-        match self.others.push(Directory::new(alloc, holder)) {
+        let directory = Directory::new(*self.others.allocator(), holder);
+        match self.others.push(directory) {
             Ok(()) => Ok(()),
             Err(_) => unreachable!(),
         }
