@@ -1,6 +1,7 @@
 -- What is added to the table is added to the tree.
 use Rattle.std.proofs.Common.{◌≡◌, ℕ, ◌<◌, Bool, true, false, List, [], ◌∷◌, ◌++◌, length, Option, None, Some, Result, Ok, Err, refl, sym, ap, subst, ◌∙◌}
-use Rattle.std.specs.Prelude.{is_some, option_and_then, if◌then◌else◌}
+use Rattle.std.specs.declared.alloc.AllocError.{AllocError}
+use Rattle.std.specs.Prelude.{◌↔◌, OnOk, OnErr, is_some, option_and_then, if◌then◌else◌}
 use Rattle.std.specs.Option.{option_map}
 use Rattle.std.specs.declared.io.ErrorKind.{ErrorKind}
 use Rattle.walk_model.specs.Paths.{Component, root, here, up, plain, components, last_of, all_but_last, name_of}
@@ -92,3 +93,56 @@ module _ (table : List Branch) (sound : IsSound table) (holder : ℕ) (name : Li
       → IsSound (with_named table holder name (Dir (length table)) ++ empty_branch holder ∷ [])
   sound-directory answer spot =
       sound-grown table (with_directory table holder name lt spot.free) holder name (Dir (length table)) (grows-directory table holder name lt spot.free) sound (extends-directory table holder name lt spot.free)
+
+-- ---- refusals
+-- what a refusal says of the tree, and that no other does
+pub record IsToldApart (answer : Result Tree Refusal) (result : Result (Unit {0}) AddError) : Type 0 where
+  pub not_found : (result ≡ Err NotFound) ↔ (answer ≡ Err not_found)
+  pub already_exists : (result ≡ Err AlreadyExists) ↔ (answer ≡ Err already_exists)
+
+pub told-refusal : (table : List Branch) (answer : Result Tree Refusal) (node : Node) (e : AddError) → AddsAlike table answer node (Err e) → IsToldApart answer (Err e)
+told-refusal table answer node NotFound is = record {
+  not_found = (λ h. is, λ h. refl);
+  already_exists = (λ h. cc, λ h. let z : ◌≡◌ {A = Result Tree Refusal} (Err not_found) (Err already_exists) = sym is ∙ h in cc);
+}
+told-refusal table answer node AlreadyExists is = record {
+  not_found = (λ h. cc, λ h. let z : ◌≡◌ {A = Result Tree Refusal} (Err already_exists) (Err not_found) = sym is ∙ h in cc);
+  already_exists = (λ h. is, λ h. refl);
+}
+told-refusal table answer node Memory is = absurd is
+
+told-other : (answer : Result Tree Refusal) (tree : Tree) (result : Result (Unit {0}) AddError) → (result ≡ Err NotFound → ⊥) → (result ≡ Err AlreadyExists → ⊥) → answer ≡ Ok tree → IsToldApart answer result
+told-other answer tree result n a is = record {
+  not_found = (λ h. absurd (n h), λ h. let z : ◌≡◌ {A = Result Tree Refusal} (Ok tree) (Err not_found) = sym is ∙ h in cc);
+  already_exists = (λ h. absurd (a h), λ h. let z : ◌≡◌ {A = Result Tree Refusal} (Ok tree) (Err already_exists) = sym is ∙ h in cc);
+}
+
+pub told-memory : (table : List Branch) (answer : Result Tree Refusal) (node : Node) (holder : ℕ) (name : List ℕ) → IsSpot table answer node holder name → IsToldApart answer (Err Memory)
+told-memory table answer node holder name spot = told-other answer _ (Err Memory) (λ h. cc) (λ h. cc) spot.answer_is
+
+pub told-ok : (table : List Branch) (answer : Result Tree Refusal) (node : Node) (holder : ℕ) (name : List ℕ) → IsSpot table answer node holder name → IsToldApart answer (Ok tt)
+told-ok table answer node holder name spot = told-other answer _ (Ok tt) (λ h. cc) (λ h. cc) spot.answer_is
+
+module _ (table : List Branch) (sound : IsSound table) (node : Node) (path : List ℕ) where
+  pub found-spot : (holder : ℕ) (name : List ℕ) → free_spot table (components path) ≡ Ok (holder, name) → IsSpot table (add node path (tree_of_table table)) node holder name
+  found-spot holder name is = subst (AddsAlike table (add node path (tree_of_table table)) node) is (add_alike table sound node path)
+
+  -- where the spot was refused
+  pub told-no_spot : (e : AddError) (result : Result (Unit {0}) AddError) → free_spot table (components path) ≡ Err e → result ≡ Err e → IsToldApart (add node path (tree_of_table table)) result
+  told-no_spot e result is was =
+      subst (IsToldApart (add node path (tree_of_table table))) (sym was)
+      (told-refusal table (add node path (tree_of_table table)) node e (subst (AddsAlike table (add node path (tree_of_table table)) node) is (add_alike table sound node path)))
+
+  -- where memory was refused
+  pub told-no_memory : (holder : ℕ) (name : List ℕ) (result : Result (Unit {0}) AddError) → free_spot table (components path) ≡ Ok (holder, name) → result ≡ Err Memory
+      → IsToldApart (add node path (tree_of_table table)) result
+  told-no_memory holder name result is was =
+      subst (IsToldApart (add node path (tree_of_table table))) (sym was) (told-memory table (add node path (tree_of_table table)) node holder name (found-spot holder name is))
+
+  pub told-added : (holder : ℕ) (name : List ℕ) → free_spot table (components path) ≡ Ok (holder, name) → IsToldApart (add node path (tree_of_table table)) (Ok tt)
+  told-added holder name is = told-ok table (add node path (tree_of_table table)) node holder name (found-spot holder name is)
+
+-- the table stays sound, whether the child was added or not
+pub sound-either : (r : Result (Unit {0}) AllocError) (old more new : List Branch) → OnOk r (new ≡ more) → OnErr r (new ≡ old) → IsSound old → IsSound more → IsSound new
+sound-either (Ok u) old more new ok err sound sound' = subst IsSound (sym ok) sound'
+sound-either (Err e) old more new ok err sound sound' = subst IsSound (sym err) sound
