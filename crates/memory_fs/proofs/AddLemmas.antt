@@ -1,5 +1,5 @@
 -- What is added to the table is added to the tree.
-use Rattle.std.proofs.Common.{◌≡◌, ℕ, ◌<◌, Bool, true, false, List, [], ◌∷◌, ◌++◌, length, Option, None, Some, Result, Ok, Err, refl, sym, ap, subst, ◌∙◌}
+use Rattle.std.proofs.Common.{◌≡◌, ℕ, ◌<◌, true, List, [], ◌∷◌, ◌++◌, length, Option, None, Some, Result, Ok, Err, refl, sym, ap, subst, ◌∙◌}
 use Rattle.std.specs.declared.alloc.AllocError.{AllocError}
 use Rattle.std.specs.Prelude.{◌↔◌, OnOk, OnErr, is_some, option_and_then, if◌then◌else◌}
 use Rattle.std.specs.Option.{option_map}
@@ -43,8 +43,8 @@ module _ (table : List Branch) (sound : IsSound table) (node : Node) where
     stands = e;
     free = named;
     answer_is =
-      ap (λ (o : Option Child). add_at (tree_of_table table) node (if is_directory (option_map (node_of table) o) then Some (spot_at place name) else None)) e
-      ∙ ap (λ (o : Option Child). if is_some (option_map (node_of table) o) then Err already_exists else Ok (with_node node (spot_at place name) (tree_of_table table))) q;
+        ap (λ (o : Option Child). add_at (tree_of_table table) node (if is_directory (option_map (node_of table) o) then Some (spot_at place name) else None)) e
+        ∙ ap (λ (o : Option Child). if is_some (option_map (node_of table) o) then Err already_exists else Ok (with_node node (spot_at place name) (tree_of_table table))) q;
   }
   in_directory place name holder e (Some x) q named =
       ap (λ (o : Option Child). add_at (tree_of_table table) node (if is_directory (option_map (node_of table) o) then Some (spot_at place name) else None)) e
@@ -87,7 +87,7 @@ module _ (table : List Branch) (sound : IsSound table) (holder : ℕ) (name : Li
   built-directory answer spot =
       subst (λ (a : Result Tree Refusal). IsBuilt a (tree_of_table (with_directory table holder name lt spot.free))) (sym spot.answer_is)
       (tree-grown table (with_directory table holder name lt spot.free) holder name (Dir (length table)) (grows-directory table holder name lt spot.free) sound spot.place spot.stands (directory [] None)
-        (ap (λ (es : List (List ℕ × Child)). directory (names_of es) None) (node-directory table holder name lt spot.free)))
+      (ap (λ (es : List (List ℕ × Child)). directory (names_of es) None) (node-directory table holder name lt spot.free)))
 
   pub sound-directory : (answer : Result Tree Refusal) → IsSpot table answer (directory [] None) holder name
       → IsSound (with_named table holder name (Dir (length table)) ++ empty_branch holder ∷ [])

@@ -1,16 +1,16 @@
 -- What the tree answers as a file system, by what the table finds.
-use Rattle.std.proofs.Common.{◌≡◌, ℕ, Bool, List, [], ◌∷◌, ◌++◌, map, Option, None, Some, Result, Ok, Err, refl, sym, ap, subst, ◌∙◌}
+use Rattle.std.proofs.Common.{◌≡◌, ℕ, Bool, List, [], ◌∷◌, map, Option, Some, Result, Ok, Err, refl, sym, ap, ◌∙◌}
 use Rattle.std.specs.Prelude.{option_and_then}
 use Rattle.std.specs.Option.{option_map}
 use Rattle.std.specs.declared.io.ErrorKind.{ErrorKind}
 use Rattle.std.specs.declared.io.ErrorKind.TheVariants as kind
 use Rattle.walk_model.specs.declared.file_type.FileType.{FileType}
-use Rattle.walk_model.specs.FileSystem.{Named, Listed}
+use Rattle.walk_model.specs.FileSystem.{Listed}
 use Rattle.walk_model.specs.Tree.{Place, child, look_up, at_found, listing_at, metadata_at, target_at, type_at}
 use Rattle.memory_fs.specs.declared.child.Child.{Child}
 use Rattle.memory_fs.specs.declared.child.Child.TheVariants.{Dir, File}
 use Rattle.memory_fs.specs.Child.{type_of, metadata_of}
-use Rattle.memory_fs.specs.Branch.{Branch, child_named, children_at, child_of, at_end, names_of, node_of, tree_of_table, found, listed_child, listing_of, AreFound, IsSound}
+use Rattle.memory_fs.specs.Branch.{Branch, children_at, child_of, at_end, names_of, node_of, tree_of_table, found, listed_child, listing_of, AreFound, IsSound}
 use Rattle.memory_fs.proofs.TableLemmas.{at_end-append}
 use Rattle.memory_fs.proofs.LookUpLemmas.{Agrees, look_up_agrees}
 
@@ -83,5 +83,5 @@ module _ (table : List Branch) (sound : IsSound table) (follow : Bool) (path : L
   listing-found i is named =
       answer-found table sound follow path (λ place. listing_at (tree_of_table table) place (tree_of_table table place)) (Dir i) is (Ok (listing_of (children_at table i)))
       (λ place e.
-        ap (λ (o : Option Child). listing_at (tree_of_table table) place (option_map (node_of table) o)) e
-        ∙ ap (λ (ls : List Listed). Ok ls) (listed-names place i e (children_at table i) named))
+      ap (λ (o : Option Child). listing_at (tree_of_table table) place (option_map (node_of table) o)) e
+      ∙ ap (λ (ls : List Listed). Ok ls) (listed-names place i e (children_at table i) named))

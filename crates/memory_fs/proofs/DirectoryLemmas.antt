@@ -1,5 +1,5 @@
 -- What a directory's map of children says of its branch.
-use Rattle.std.proofs.Common.{◌≡◌, ℕ, Bool, true, false, cond, List, [], ◌∷◌, ◌++◌, map, Option, None, Some, refl, sym, ap, ◌∙◌, String, string_bytes}
+use Rattle.std.proofs.Common.{◌≡◌, ℕ, Bool, true, false, cond, List, [], ◌∷◌, ◌++◌, map, None, Some, refl, sym, ap, ◌∙◌, String, string_bytes}
 use Rattle.std.specs.String.{string_eq}
 use Rattle.std.specs.Str.{bytes_eq}
 use Rattle.std.specs.List.{AllByRecursion, IsDistinct}
@@ -50,6 +50,7 @@ found_behind first child children (e ∷ es) differ found =
 -- where the keys differ, each child is found by its name
 pub found-named : {A : Type 0} (es : List (String A × Child)) → IsDistinct string_eq (keys_of es) → AreFound (named es) (named es)
 found-named [] distinct = tt
-found-named (e ∷ es) distinct =
-    (ap (λ b. cond b (Some e.1) (child_named (named es) (string_bytes e.0))) ((bytes_eq-Decides (string_bytes e.0) (string_bytes e.0)).1 refl),
-     found_behind e.0 e.1 (named es) es (IsDistinct-head string_eq e.0 (keys_of es) distinct) (found-named es (IsDistinct-tail string_eq e.0 (keys_of es) distinct)))
+found-named (e ∷ es) distinct = (
+  ap (λ b. cond b (Some e.1) (child_named (named es) (string_bytes e.0))) ((bytes_eq-Decides (string_bytes e.0) (string_bytes e.0)).1 refl),
+  found_behind e.0 e.1 (named es) es (IsDistinct-head string_eq e.0 (keys_of es) distinct) (found-named es (IsDistinct-tail string_eq e.0 (keys_of es) distinct)),
+)

@@ -1,12 +1,12 @@
 -- A table with one more child, and the tree that it is then.
-use Rattle.std.proofs.Common.{◌≡◌, ◌≢◌, ℕ, ◌+◌, ◌<◌, ◌≤◌, Bool, true, false, cond, List, [], ◌∷◌, ◌++◌, map, length, Option, None, Some, Result, Ok, Err, refl, sym, ap, subst, ◌∙◌, ◌⊎◌, inl, inr, ⊎_elim, arith}
+use Rattle.std.proofs.Common.{◌≡◌, ◌≢◌, ℕ, ◌<◌, ◌≤◌, Bool, true, false, cond, List, [], ◌∷◌, ◌++◌, length, Option, None, Some, refl, sym, ap, ◌∙◌, ◌⊎◌, inl, inr, ⊎_elim, arith}
 use Rattle.std.specs.Prelude.{option_and_then, if◌then◌else◌}
 use Rattle.std.specs.Option.{option_map}
 use Rattle.std.specs.Str.{bytes_eq}
 use Rattle.std.proofs.lemmas.Bool.{cases_eq, cases_lt, cases_Bool, false≢true}
 use Rattle.std.proofs.lemmas.List.{map-append}
 use Rattle.std.proofs.lemmas.Slice.Eq.{bytes_eq-Decides}
-use Rattle.walk_model.specs.Tree.{Place, Tree, Node, directory, file, same_place, renamed, with_child as with_node, place_of, Spot}
+use Rattle.walk_model.specs.Tree.{Place, Node, directory, file, same_place, renamed, with_child as with_node}
 use Rattle.memory_fs.specs.declared.child.Child.{Child}
 use Rattle.memory_fs.specs.declared.child.Child.TheVariants.{Dir, File}
 use Rattle.memory_fs.specs.Branch.{Branch, child_named, children_at, parent_at, child_of, at_end, names_of, node_of, tree_of_table, IsHeld, IsSound}
@@ -93,7 +93,7 @@ module _ (old new : List Branch) (holder : ℕ) (name : List ℕ) (child : Child
     in_holder front last same (inl e) =
         ap (child_named (children_at new holder)) e ∙ named_new
         ∙ sym (ap (λ (b : Bool). if b then Some child else at_end old (Dir 0) (front ++ last ∷ []))
-            (ap (λ (p : Place). same_place p (place ++ name ∷ [])) (ap (λ (p : Place). p ++ last ∷ []) same ∙ ap (λ (n : List ℕ). place ++ n ∷ []) e) ∙ same_place-refl (place ++ name ∷ [])))
+        (ap (λ (p : Place). same_place p (place ++ name ∷ [])) (ap (λ (p : Place). p ++ last ∷ []) same ∙ ap (λ (n : List ℕ). place ++ n ∷ []) e) ∙ same_place-refl (place ++ name ∷ [])))
     in_holder front last same (inr ne) =
         elsewhere front last (child_named (children_at new holder) last) (λ e. ne (same_last front place last name e))
         (named_old last ne ∙ sym (ap (option_and_then (λ x. child_of old x last)) (ap (at_end old (Dir 0)) same ∙ stands)))
@@ -152,11 +152,11 @@ module _ (old new : List Branch) (holder : ℕ) (name : List ℕ) (child : Child
                 ap (λ (es : List (List ℕ × Child)). Some (directory (names_of es) None)) (ap (children_at new) h ∙ grows.here ∙ ap (λ j. children_at old j ++ (name, child) ∷ []) (sym h))
                 ∙ ap (λ (ns : List (List ℕ)). Some (directory ns None)) (map-append (λ e. e.0) (children_at old k) ((name, child) ∷ []))
                 ∙ sym (ap (λ (b : Bool). if b then Some (directory (names_of (children_at old k) ++ name ∷ []) None) else Some (node_of old (Dir k)))
-                    (ap (λ (p : Place). same_place p place) (one_place old sound place q holder stands (e ∙ ap (λ j. Some (Dir j)) h)) ∙ same_place-refl place))
+                (ap (λ (p : Place). same_place p place) (one_place old sound place q holder stands (e ∙ ap (λ j. Some (Dir j)) h)) ∙ same_place-refl place))
             at (inr ne) =
                 ap (λ (es : List (List ℕ × Child)). Some (directory (names_of es) None)) (grows.others k ne)
                 ∙ sym (ap (λ (b : Bool). if b then Some (directory (names_of (children_at old k) ++ name ∷ []) None) else Some (node_of old (Dir k)))
-                    (same_place-false q place (λ h. ne (same_dir k holder (sym e ∙ ap (at_end old (Dir 0)) h ∙ stands)))))
+                (same_place-false q place (λ h. ne (same_dir k holder (sym e ∙ ap (at_end old (Dir 0)) h ∙ stands)))))
 
         by : (b : Bool) → option_map (node_of new) (if b then Some child else at_end old (Dir 0) q)
             ≡ (if b then Some node else if same_place q place then renamed (λ names. names ++ name ∷ []) (tree_of_table old q) else tree_of_table old q)

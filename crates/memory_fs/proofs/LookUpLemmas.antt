@@ -1,11 +1,11 @@
 -- A look-up in the tree finds what one in the table does.
-use Rattle.std.proofs.Common.{◌≡◌, ◌≢◌, ℕ, Bool, true, false, List, [], ◌∷◌, ◌++◌, Option, None, Some, Result, Ok, Err, refl, sym, ap, subst, ◌∙◌}
+use Rattle.std.proofs.Common.{◌≡◌, ◌≢◌, ℕ, Bool, List, [], ◌∷◌, Option, None, Some, Result, Ok, Err, refl, sym, ap, subst, ◌∙◌}
 use Rattle.std.specs.Prelude.{option_and_then, if◌then◌else◌}
 use Rattle.std.specs.Option.{option_map}
 use Rattle.std.specs.declared.io.ErrorKind.{ErrorKind}
 use Rattle.std.specs.declared.io.ErrorKind.TheVariants as kind
 use Rattle.walk_model.specs.Paths.{Component, root, here, up, plain, components}
-use Rattle.walk_model.specs.Tree.{Place, Tree, Node, above, child, is_directory, LookUp, to_child, step, along, looked_up, look_up}
+use Rattle.walk_model.specs.Tree.{Place, above, child, is_directory, LookUp, to_child, step, along, looked_up, look_up}
 use Rattle.memory_fs.specs.declared.child.Child.{Child}
 use Rattle.memory_fs.specs.declared.child.Child.TheVariants.{Dir, File}
 use Rattle.memory_fs.specs.Branch.{Branch, child_named, children_at, parent_at, child_of, at_end, node_of, tree_of_table, child_or_missing, go_on, reached, found, IsSound}

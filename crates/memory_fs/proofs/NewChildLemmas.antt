@@ -1,10 +1,10 @@
 -- The table with a new file, and with a new directory.
-use Rattle.std.proofs.Common.{◌≡◌, ◌≢◌, ℕ, zero, suc, ◌+◌, ◌<◌, ◌≤◌, List, [], ◌∷◌, ◌++◌, length, get_or, Option, None, Some, refl, sym, ap, subst, ◌∙◌, ◌⊎◌, inl, inr, arith}
+use Rattle.std.proofs.Common.{◌≡◌, ◌≢◌, ℕ, zero, suc, ◌+◌, ◌<◌, ◌≤◌, List, [], ◌∷◌, ◌++◌, length, None, refl, sym, ap, ◌∙◌, ◌⊎◌, inl, inr, arith}
 use Rattle.std.proofs.lemmas.Bool.{cases_eq}
 use Rattle.std.proofs.lemmas.List.{get_or-set_same, get_or-set_other, length-set, length-append, get_or_past}
 use Rattle.memory_fs.specs.declared.child.Child.{Child}
 use Rattle.memory_fs.specs.declared.child.Child.TheVariants.{Dir, File}
-use Rattle.memory_fs.specs.Branch.{Branch, child_named, branch_at, children_at, parent_at, child_of, empty_branch, with_child, with_named}
+use Rattle.memory_fs.specs.Branch.{Branch, child_named, branch_at, children_at, parent_at, empty_branch, with_child, with_named}
 use Rattle.memory_fs.proofs.GrowthLemmas.{Grows, Extends}
 
 module _ (table : List Branch) (holder : ℕ) (name : List ℕ) (child : Child) (lt : holder < length table) where
@@ -101,8 +101,8 @@ module _ (table : List Branch) (holder : ℕ) (name : List ℕ) (lt : holder < l
         within = lt;
         longer = omega arith;
         kept = λ place h.
-          parent-pushed (with_named table holder name (Dir (length table))) holder place (let n = length-named table holder name (Dir (length table)) lt in omega arith)
-          ∙ parent-named table holder name (Dir (length table)) lt place;
+            parent-pushed (with_named table holder name (Dir (length table))) holder place (let n = length-named table holder name (Dir (length table)) lt in omega arith)
+            ∙ parent-named table holder name (Dir (length table)) lt place;
         added = added_parent;
         new_dir = λ place e. let same : length table ≡ place = cc in (sym same, omega arith);
       }

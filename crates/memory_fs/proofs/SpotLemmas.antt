@@ -1,15 +1,14 @@
 -- Where a path that is built on leads, in the table and in the tree.
-use Rattle.std.proofs.Common.{◌≡◌, ℕ, Bool, true, false, List, [], ◌∷◌, ◌++◌, map, Option, None, Some, Result, Ok, Err, refl, sym, ap, subst, ◌∙◌}
+use Rattle.std.proofs.Common.{◌≡◌, ℕ, Bool, List, [], ◌∷◌, ◌++◌, map, Option, None, Some, Ok, Err, refl, sym, ap, ◌∙◌}
 use Rattle.std.specs.Prelude.{is_some, if◌then◌else◌}
 use Rattle.std.specs.Option.{option_map}
 use Rattle.std.specs.Path.{IsLastComponent}
 use Rattle.std.specs.declared.path.components.Component.{Component as StdComponent}
-use Rattle.walk_model.specs.Paths.{Component, root, here, up, plain, last_of, all_but_last, name_of}
+use Rattle.walk_model.specs.Paths.{Component, last_of, all_but_last, name_of}
 use Rattle.walk_model.specs.PathTexts.{component_read, component_seen}
 use Rattle.walk_model.proofs.PathFacts.{last_read}
 use Rattle.memory_fs.specs.declared.child.Child.{Child}
-use Rattle.memory_fs.specs.declared.add_error.AddError.{AddError}
-use Rattle.memory_fs.specs.declared.add_error.AddError.TheVariants.{NotFound, AlreadyExists}
+use Rattle.memory_fs.specs.declared.add_error.AddError.TheVariants.{AlreadyExists}
 use Rattle.memory_fs.specs.Branch.{Branch, branch_at, child_named, free_in, free_below, free_spot}
 
 last_of-append : (front : List Component) (c : Component) → last_of (front ++ c ∷ []) ≡ Some c

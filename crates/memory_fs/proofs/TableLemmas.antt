@@ -1,12 +1,12 @@
 -- What a look-up by names finds in a table of directories, and that in a sound one each directory has one place.
-use Rattle.std.proofs.Common.{◌≡◌, ◌≢◌, ℕ, zero, suc, ◌+◌, ◌<◌, Bool, true, false, cond, List, [], ◌∷◌, ◌++◌, map, length, Option, None, Some, refl, sym, ap, subst, ◌∙◌, ◌⊎◌, inl, inr, arith}
+use Rattle.std.proofs.Common.{◌≡◌, ℕ, zero, suc, ◌<◌, List, [], ◌∷◌, ◌++◌, length, Option, None, Some, refl, sym, ap, ◌∙◌, arith}
 use Rattle.std.specs.Prelude.{option_and_then, IfOk, ok_or}
 use Rattle.std.specs.declared.io.ErrorKind.{ErrorKind}
 use Rattle.walk_model.specs.Tree.{Place, above, only_root}
 use Rattle.memory_fs.specs.declared.child.Child.{Child}
 use Rattle.memory_fs.specs.declared.child.Child.TheVariants.{Dir, File}
-use Rattle.memory_fs.specs.Branch.{Branch, child_named, children_at, parent_at, child_of, at_end, empty_branch, tree_of_table, IsHeld, IsSound, IsWithin}
-use Rattle.memory_fs.proofs.PlaceLemmas.{by_last, above-append, same_front, same_last}
+use Rattle.memory_fs.specs.Branch.{Branch, child_named, children_at, parent_at, child_of, at_end, empty_branch, tree_of_table, IsSound, IsWithin}
+use Rattle.memory_fs.proofs.PlaceLemmas.{by_last, above-append}
 
 and_then-Some : {X : Type 0} (o : Option X) → option_and_then (λ x. Some x) o ≡ o
 and_then-Some None = refl
@@ -43,25 +43,25 @@ module _ (table : List Branch) (sound : IsSound table) where
   at_above = by_last (λ place. (i : ℕ) → at_end table (Dir 0) place ≡ Some (Dir i) → at_end table (Dir 0) (above place) ≡ Some (Dir (parent_at table i)))
       (λ i e. ap (λ k. Some (Dir k)) (sym sound.own_parent ∙ ap (parent_at table) (same_dir 0 i e)))
       (λ front name hyp i e.
-        let s = last_step table front name (Dir i) e in
-        ap (at_end table (Dir 0)) (above-append front name) ∙ s.before ∙ ap (λ k. Some (Dir k)) (sym (sound.held s.holder name i s.step).parent))
+      let s = last_step table front name (Dir i) e in
+      ap (at_end table (Dir 0)) (above-append front name) ∙ s.before ∙ ap (λ k. Some (Dir k)) (sym (sound.held s.holder name i s.step).parent))
 
   -- a directory has one place
   pub one_place : (place other : Place) (i : ℕ) → at_end table (Dir 0) place ≡ Some (Dir i) → at_end table (Dir 0) other ≡ Some (Dir i) → other ≡ place
   one_place = by_last (λ place. (other : Place) (i : ℕ) → at_end table (Dir 0) place ≡ Some (Dir i) → at_end table (Dir 0) other ≡ Some (Dir i) → other ≡ place)
       (by_last (λ other. (i : ℕ) → at_end table (Dir 0) [] ≡ Some (Dir i) → at_end table (Dir 0) other ≡ Some (Dir i) → other ≡ []) (λ i e h. refl)
-        (λ front name hyp i e h. let s = last_step table front name (Dir i) h in let r = (sound.held s.holder name i s.step).below_root in let z = same_dir 0 i e in absurd (omega arith)))
+      (λ front name hyp i e h. let s = last_step table front name (Dir i) h in let r = (sound.held s.holder name i s.step).below_root in let z = same_dir 0 i e in absurd (omega arith)))
       (λ front name hyp. by_last (λ other. (i : ℕ) → at_end table (Dir 0) (front ++ name ∷ []) ≡ Some (Dir i) → at_end table (Dir 0) other ≡ Some (Dir i) → other ≡ front ++ name ∷ [])
-        (λ i e h. let s = last_step table front name (Dir i) e in let r = (sound.held s.holder name i s.step).below_root in let z = same_dir 0 i h in absurd (omega arith))
-        (λ front' name' hyp' i e h.
-          let s = last_step table front name (Dir i) e in
-          let s' = last_step table front' name' (Dir i) h in
-          let held = sound.held s.holder name i s.step in
-          let held' = sound.held s'.holder name' i s'.step in
-          let holders : s'.holder ≡ s.holder = sym held'.parent ∙ held.parent in
-          let fronts : front' ≡ front = hyp front' s.holder s.before (s'.before ∙ ap (λ k. Some (Dir k)) holders) in
-          let names : name' ≡ name = held.only_name name' (ap (λ k. child_named (children_at table k) name') (sym holders) ∙ s'.step) in
-          ap (λ (p : Place). p ++ name' ∷ []) fronts ∙ ap (λ (n : List ℕ). front ++ n ∷ []) names))
+      (λ i e h. let s = last_step table front name (Dir i) e in let r = (sound.held s.holder name i s.step).below_root in let z = same_dir 0 i h in absurd (omega arith))
+      (λ front' name' hyp' i e h.
+      let s = last_step table front name (Dir i) e in
+      let s' = last_step table front' name' (Dir i) h in
+      let held = sound.held s.holder name i s.step in
+      let held' = sound.held s'.holder name' i s'.step in
+      let holders : s'.holder ≡ s.holder = sym held'.parent ∙ held.parent in
+      let fronts : front' ≡ front = hyp front' s.holder s.before (s'.before ∙ ap (λ k. Some (Dir k)) holders) in
+      let names : name' ≡ name = held.only_name name' (ap (λ k. child_named (children_at table k) name') (sym holders) ∙ s'.step) in
+      ap (λ (p : Place). p ++ name' ∷ []) fronts ∙ ap (λ (n : List ℕ). front ++ n ∷ []) names))
 
 -- ---- the root alone
 pub sound-root : IsSound (empty_branch 0 ∷ [])

@@ -1,5 +1,5 @@
 -- What a clause sees of a directory.
-use Rattle.std.specs.Prelude.{ℕ, map, string_bytes}
+use Rattle.std.specs.Prelude.{map, string_bytes}
 use Rattle.memory_fs.specs.declared.directory.Directory.{Directory}
 use Rattle.memory_fs.specs.Branch.{Branch}
 

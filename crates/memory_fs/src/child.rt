@@ -5,7 +5,7 @@ use walk_model::file_type::FileType;
 use walk_model::metadata::Metadata;
 
 /// A directory by its place in the table, or a file by its length.
-#[derive(Clone, Copy, Debug, PartialEq, Eq)]
+#[derive(Clone, Copy)]
 pub enum Child {
     Dir(usize),
     File(u64),

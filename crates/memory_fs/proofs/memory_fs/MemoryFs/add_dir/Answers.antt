@@ -26,20 +26,20 @@ invariant_of-self g c =
     let spot = found-spot (branches c.args.self.now.table) c.args.self.now.sound (directory [] None) c.args.path.now c.in_ok-spot.spot.holder c.in_ok-spot.spot.name.now c.in_ok-spot.ensures.value in
     record {
       sound = sound-either c.add_directory.result (branches c.args.self.now.table) _ (branches c.add_directory.new.self) c.add_directory.ensures.ok c.add_directory.ensures.err c.args.self.now.sound
-        (sound-directory (branches c.args.self.now.table) c.args.self.now.sound c.in_ok-spot.spot.holder c.in_ok-spot.spot.name.now c.in_ok-spot.ensures.within (add (directory [] None) c.args.path.now (tree_of c.args.self.now)) spot)
+          (sound-directory (branches c.args.self.now.table) c.args.self.now.sound c.in_ok-spot.spot.holder c.in_ok-spot.spot.name.now c.in_ok-spot.ensures.within (add (directory [] None) c.args.path.now (tree_of c.args.self.now)) spot);
     }
 
 pub returns-in_err-add_directory-clause-not_found : goal.returns-in_err-add_directory-clause-not_found
 returns-in_err-add_directory-clause-not_found g c =
     let p = err_from_is_err_and c.from_residual-in_err-add_directory.result c.from_residual-in_err-add_directory.ensures.1 in
     (told-no_memory (branches c.args.self.now.table) c.args.self.now.sound (directory [] None) c.args.path.now c.in_ok-spot.spot.holder c.in_ok-spot.spot.name.now c.from_residual-in_err-add_directory.result c.in_ok-spot.ensures.value
-      (p.1 ∙ ap (λ e. Err e) p.2)).not_found
+    (p.1 ∙ ap (λ e. Err e) p.2)).not_found
 
 pub returns-in_err-add_directory-clause-already_exists : goal.returns-in_err-add_directory-clause-already_exists
 returns-in_err-add_directory-clause-already_exists g c =
     let p = err_from_is_err_and c.from_residual-in_err-add_directory.result c.from_residual-in_err-add_directory.ensures.1 in
     (told-no_memory (branches c.args.self.now.table) c.args.self.now.sound (directory [] None) c.args.path.now c.in_ok-spot.spot.holder c.in_ok-spot.spot.name.now c.from_residual-in_err-add_directory.result c.in_ok-spot.ensures.value
-      (p.1 ∙ ap (λ e. Err e) p.2)).already_exists
+    (p.1 ∙ ap (λ e. Err e) p.2)).already_exists
 
 pub returns-clause-added : goal.returns-clause-added
 returns-clause-added g c =

@@ -1,4 +1,4 @@
-use Rattle.std.proofs.Common.{sym, ap, subst, ◌∙◌, Err, Ok}
+use Rattle.std.proofs.Common.{sym, ap, subst, ◌∙◌, Err}
 use Rattle.std.proofs.lemmas.Result.{err_from_is_err_and}
 use Rattle.walk_model.specs.Tree.{file, add}
 use Rattle.memory_fs.specs.Branch.{tree_of_table}
@@ -26,20 +26,20 @@ invariant_of-self g c =
     let spot = found-spot (branches c.args.self.now.table) c.args.self.now.sound (file c.args.len) c.args.path.now c.in_ok-spot.spot.holder c.in_ok-spot.spot.name.now c.in_ok-spot.ensures.value in
     record {
       sound = sound-either c.add.result (branches c.args.self.now.table) _ (branches c.add.new.self) c.add.ensures.ok c.add.ensures.err c.args.self.now.sound
-        (sound-file (branches c.args.self.now.table) c.args.self.now.sound c.in_ok-spot.spot.holder c.in_ok-spot.spot.name.now c.in_ok-spot.ensures.within (add (file c.args.len) c.args.path.now (tree_of c.args.self.now)) c.args.len spot)
+          (sound-file (branches c.args.self.now.table) c.args.self.now.sound c.in_ok-spot.spot.holder c.in_ok-spot.spot.name.now c.in_ok-spot.ensures.within (add (file c.args.len) c.args.path.now (tree_of c.args.self.now)) c.args.len spot);
     }
 
 pub returns-in_err-add-clause-not_found : goal.returns-in_err-add-clause-not_found
 returns-in_err-add-clause-not_found g c =
     let p = err_from_is_err_and c.from_residual-in_err-add.result c.from_residual-in_err-add.ensures.1 in
     (told-no_memory (branches c.args.self.now.table) c.args.self.now.sound (file c.args.len) c.args.path.now c.in_ok-spot.spot.holder c.in_ok-spot.spot.name.now c.from_residual-in_err-add.result c.in_ok-spot.ensures.value
-      (p.1 ∙ ap (λ e. Err e) p.2)).not_found
+    (p.1 ∙ ap (λ e. Err e) p.2)).not_found
 
 pub returns-in_err-add-clause-already_exists : goal.returns-in_err-add-clause-already_exists
 returns-in_err-add-clause-already_exists g c =
     let p = err_from_is_err_and c.from_residual-in_err-add.result c.from_residual-in_err-add.ensures.1 in
     (told-no_memory (branches c.args.self.now.table) c.args.self.now.sound (file c.args.len) c.args.path.now c.in_ok-spot.spot.holder c.in_ok-spot.spot.name.now c.from_residual-in_err-add.result c.in_ok-spot.ensures.value
-      (p.1 ∙ ap (λ e. Err e) p.2)).already_exists
+    (p.1 ∙ ap (λ e. Err e) p.2)).already_exists
 
 pub returns-clause-added : goal.returns-clause-added
 returns-clause-added g c =

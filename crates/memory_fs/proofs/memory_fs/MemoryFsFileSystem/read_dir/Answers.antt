@@ -7,7 +7,7 @@ use Rattle.memory_fs.proofs.memory_fs.MemoryFsFileSystem.read_dir.Goals as goal
 pub returns-in-Ok : goal.returns-in-Ok
 returns-in-Ok g c = λ _.
     listing-found (branches c.args.self.now.table) c.args.self.now.sound true c.args.path.now c.in-Ok-Dir.place (sym c.look_up.ensures.value ∙ c.in-Ok-Dir.is ∙ ap (λ x. Ok x) c.in-Ok-Dir.field-0-is)
-      (subst (λ (b : Branch). AreFound b.children b.children) c.directory.ensures c.in-Ok.ensures.found)
+    (subst (λ (b : Branch). AreFound b.children b.children) c.directory.ensures c.in-Ok.ensures.found)
     ∙ ap (λ (b : Branch). Ok (listing_of b.children)) (sym c.directory.ensures)
     ∙ ap (λ ls. Ok ls) (sym c.in-Ok.ensures.items)
 
