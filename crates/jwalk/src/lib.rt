@@ -12,9 +12,11 @@ pub mod read_dir;
 pub mod read_dir_iter;
 pub mod read_dir_spec;
 pub mod serial_walk;
+pub mod walk_dir;
 
 pub use client_state::ClientState;
 pub use dir_entry::DirEntry;
 pub use dir_entry_iter::DirEntryIter;
 pub use error::Error;
 pub use read_children::ReadChildren;
+pub use walk_dir::WalkDirGeneric;
