@@ -1,0 +1,2 @@
+mod Above
+mod Frontiers

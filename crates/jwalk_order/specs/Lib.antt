@@ -1,0 +1,4 @@
+pub mod Frontier
+pub mod IndexPath
+pub mod Matcher
+pub mod Ordered
