@@ -1,7 +1,7 @@
 -- Addresses. An address is the list of the indices that lead to it from the roots.
-use Rattle.std.specs.Prelude.{◌≡◌, ◌≢◌, ℕ, List, [], ◌++◌}
+use Rattle.std.specs.Prelude.{◌≡◌, ◌≢◌, ℕ, Bool, List, [], ◌++◌}
 use Rattle.std.specs.Cmp.Lexicographic.{slice_cmp}
-use Rattle.std.specs.Ordering.{nat_cmp, on, flip_args}
+use Rattle.std.specs.Ordering.{nat_cmp, is_lt, on, flip_args}
 use Rattle.std.specs.declared.cmp.Ordering.{Ordering}
 use Rattle.jwalk_order.specs.declared.index_path.IndexPath.{IndexPath}
 
@@ -17,3 +17,7 @@ module _ {A : Type 0} where
 -- One or more indices behind the first address lead to the second.
 abbrev pub IsAbove : List ℕ → List ℕ → Type 0
 IsAbove a b = (rest : List ℕ) × (rest ≢ []) × (b ≡ a ++ rest)
+
+-- whether an address comes before another in lexicographic order
+abbrev pub is_before : List ℕ → List ℕ → Bool
+is_before a b = is_lt (slice_cmp nat_cmp a b)

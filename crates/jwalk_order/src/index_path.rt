@@ -33,9 +33,10 @@ impl<A: Allocator + Copy> IndexPath<A> {
     pub fn adding(&self, index: usize) -> Result<Self, AllocError>
         ensures { IfOk result (λ child. address child ≡ address self.now ++ index ∷ []) }
     {
-        let mut child = self.try_clone()?;
-        child.push(index)?;
-        Ok(child)
+        let mut indices = Vec::with_capacity(*self.indices.allocator(), self.indices.len() + 1)?;
+        indices.extend_from_slice(self.indices.as_slice())?;
+        indices.push(index)?;
+        Ok(IndexPath { indices })
     }
 
     /// Goes to the child at `index`.

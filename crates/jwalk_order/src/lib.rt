@@ -3,4 +3,4 @@
 
 pub mod index_path;
 pub mod ordered;
-pub mod ordered_matcher;
+pub mod ordered_queue;

@@ -5,8 +5,7 @@ ghost use Rattle.std.specs.Cmp.Lexicographic.{pointwise};
 ghost use Rattle.std.specs.Cmp.Rules.{comparing};
 ghost use Rattle.std.specs.Ordering.{as_partial_cmp, on};
 ghost use Rattle.std.proofs.Common.{rules};
-ghost use Rattle.jwalk_order.specs.IndexPath.{reversed_cmp};
-ghost use Rattle.jwalk_order.specs.Ordered.{address_of, child_count_of};
+ghost use Rattle.jwalk_order.specs.Ordered.{address_of, child_count_of, ordered_cmp};
 
 use crate::index_path::IndexPath;
 use std::alloc::{Allocator, Global};
@@ -57,7 +56,7 @@ impl<T, A: Allocator + Copy> Eq for Ordered<T, A> {
 }
 
 impl<T, A: Allocator + Copy> Ord for Ordered<T, A> {
-    ghost cmp = { on (λ item. item.index_path) reversed_cmp };
+    ghost cmp = { ordered_cmp };
 
     ghost total = { Prim.search (comparing, rules) };
 
@@ -71,7 +70,7 @@ impl<T, A: Allocator + Copy> Ord for Ordered<T, A> {
 }
 
 impl<T, A: Allocator + Copy> PartialOrd for Ordered<T, A> {
-    ghost partial_cmp = { as_partial_cmp (on (λ item. item.index_path) reversed_cmp) };
+    ghost partial_cmp = { as_partial_cmp ordered_cmp };
 
     ghost laws = { partial_order_from_own_ties (Prim.search (comparing, rules)) (Prim.search (comparing, rules)) };
 

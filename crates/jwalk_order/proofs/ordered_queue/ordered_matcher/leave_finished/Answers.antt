@@ -1,6 +1,6 @@
 use Rattle.std.proofs.Common.{rules, ◌≡◌, ◌<◌, ◌-◌, get_or, arith, ◌∙◌}
 use Rattle.jwalk_order.proofs.Frontiers.{Leaves, leaves}
-use Rattle.jwalk_order.proofs.ordered_matcher.leave_finished.Goals as goal
+use Rattle.jwalk_order.proofs.ordered_queue.ordered_matcher.leave_finished.Goals as goal
 
 pub loop-counts-preserved : goal.loop-counts-preserved
 loop-counts-preserved g c =

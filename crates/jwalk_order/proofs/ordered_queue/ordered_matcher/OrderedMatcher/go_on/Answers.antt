@@ -1,7 +1,7 @@
 use Rattle.std.proofs.Common.{◌∙◌}
 use Rattle.std.proofs.lemmas.Bool.{false≢true}
 use Rattle.jwalk_order.proofs.Frontiers.{goes_on}
-use Rattle.jwalk_order.proofs.ordered_matcher.OrderedMatcher.go_on.Goals as goal
+use Rattle.jwalk_order.proofs.ordered_queue.ordered_matcher.OrderedMatcher.go_on.Goals as goal
 
 pub returns-then-not-is_empty : goal.returns-then-not-is_empty
 returns-then-not-is_empty g c =

@@ -1,5 +1,5 @@
 use Rattle.jwalk_order.proofs.Frontiers.{enters}
-use Rattle.jwalk_order.proofs.ordered_matcher.OrderedMatcher.enter.Goals as goal
+use Rattle.jwalk_order.proofs.ordered_queue.ordered_matcher.OrderedMatcher.enter.Goals as goal
 
 pub returns-clause-entered : goal.returns-clause-entered
 returns-clause-entered g c =

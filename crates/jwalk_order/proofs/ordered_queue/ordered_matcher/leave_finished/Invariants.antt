@@ -1,6 +1,6 @@
 use Rattle.std.proofs.Common.{◌≡◌, [], vec_len}
 use Rattle.jwalk_order.specs.Matcher.{siblings, IsPaired}
-use Rattle.jwalk_order.proofs.ordered_matcher.leave_finished.Given as goal
+use Rattle.jwalk_order.proofs.ordered_queue.ordered_matcher.leave_finished.Given as goal
 
 abbrev pub invariant-loop-counts : goal.invariant-loop-counts
 invariant-loop-counts g l =
