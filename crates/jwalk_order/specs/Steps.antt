@@ -1,5 +1,5 @@
 -- What a step answers.
-use Rattle.std.specs.Prelude.{◌≡◌, ◌≢◌, ℕ, ◌<◌, ◌⊎◌, false, true, List, [], Contains}
+use Rattle.std.specs.Prelude.{◌≡◌, ◌≢◌, ℕ, ◌<◌, ◌⊎◌, false, true, List, [], Option, Some, None, Contains}
 use Rattle.jwalk_order.specs.Frontier.{next_address, passed}
 use Rattle.jwalk_order.specs.Ordered.{address_of, child_count_of, IsLeast}
 use Rattle.jwalk_order.specs.Queue.{Queue, IsUnchanged, Gives}
@@ -52,3 +52,8 @@ module _ {T A : Type 0} where
   -- The item that is due has children to be looked for, which takes memory.
   abbrev pub MayRefuse : Queue T A → Type 0
   MayRefuse q = (q.ordering ≡ Strict) × ((x : Ordered T A) × IsDue q x × (0 < child_count_of x))
+
+  -- What `next` answers: the item of a step, or nothing where there is none or memory runs out.
+  abbrev pub AnswersNext : Queue T A → Option (Ordered T A) → Queue T A → Type 0
+  AnswersNext old (Some x) new = Answers old (Item x) new
+  AnswersNext old None new = (IsWaiting old ⊎ (IsDone old ⊎ MayRefuse old)) × IsUnchanged old new

@@ -1,8 +1,9 @@
 //! The items of a queue as they come.
-ghost use Rattle.std.specs.Prelude.{IfOk, OnErr};
+ghost use Rattle.std.specs.Prelude.{length, IfOk, OnErr};
+ghost use Rattle.std.specs.Iterator.{at_most};
 ghost use Rattle.jwalk_order.specs.Queue.{IsUnchanged};
 ghost use Rattle.jwalk_order.specs.QueueIter.{queue_of, IsOver, IsOverTheSame};
-ghost use Rattle.jwalk_order.specs.Steps.{Answers, MayRefuse};
+ghost use Rattle.jwalk_order.specs.Steps.{Answers, AnswersNext, MayRefuse};
 
 use crate::ordered::Ordered;
 use crate::ordered_queue::OrderedQueue;
@@ -46,5 +47,22 @@ impl<'a, T, A: Allocator + Copy> OrderedQueueIter<'a, T, A> {
         ensures refused { OnErr result (MayRefuse (queue_of self.old)) }
     {
         self.queue.step()
+    }
+}
+
+/// The items that can come now. `None` says that none can, or that there was no memory for its children to be looked
+/// for: [`OrderedQueueIter::step`] says which. Items may come again after it.
+impl<'a, T, A: Allocator + Copy> Iterator for OrderedQueueIter<'a, T, A> {
+    type Item = Ordered<T, A>;
+
+    ghost next_gives = { λ old item new. AnswersNext (queue_of old) item (queue_of new) × IsOverTheSame old new };
+
+    ghost remaining = { λ it. at_most (length (queue_of it).items) };
+
+    fn next(&mut self) -> Option<Ordered<T, A>> {
+        match self.step() {
+            Ok(Step::Item(item)) => Some(item),
+            Ok(Step::Empty | Step::Done) | Err(_) => None,
+        }
     }
 }
