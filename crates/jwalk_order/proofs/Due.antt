@@ -81,8 +81,7 @@ module _ {T A : Type 0} where
   gives q top item rest f room running strict some is next item-is permutation f-is more =
       let same : top ≡ item = same_top top item q.items is item-is in
       let f-is' : f ≡ frontier_behind q.ordering q.frontier (child_count_of item) =
-          f-is ∙ ap (λ x. passed q.frontier (child_count_of x)) same ∙ ap (λ o. frontier_behind o q.frontier (child_count_of item)) (sym strict) in
-      (
+      f-is ∙ ap (λ x. passed q.frontier (child_count_of x)) same ∙ ap (λ o. frontier_behind o q.frontier (child_count_of item)) (sym strict) in (
         top_due q item running strict item-is some (ap address_of (sym same) ∙ next),
         record {
           items = permutation;

@@ -132,3 +132,6 @@ impl<A: Allocator + Copy> PartialOrd for IndexPath<A> {
         Some(self.cmp(other))
     }
 }
+
+#[cfg(test)]
+mod tests;

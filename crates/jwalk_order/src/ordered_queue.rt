@@ -44,12 +44,12 @@ impl<T, A: Allocator + Copy> Model for OrderedQueue<T, A> {
     ghost Value = { Queue T A };
 
     ghost view = { λ q. record {
-        items = heap_items q.items;
-        pending = q.pending;
-        stopped = q.is_stopped;
-        ordering = q.ordering;
-        frontier = q.matcher;
-        room = heap_capacity q.items - heap_len q.items
+      items = heap_items q.items;
+      pending = q.pending;
+      stopped = q.is_stopped;
+      ordering = q.ordering;
+      frontier = q.matcher;
+      room = heap_capacity q.items - heap_len q.items;
     } };
 
     ghost invariant = { λ q. IsHeap ordered_cmp (heap_items q.items) };
@@ -198,3 +198,6 @@ impl<T, A: Allocator + Copy> OrderedQueue<T, A> {
         }
     }
 }
+
+#[cfg(test)]
+mod tests;
