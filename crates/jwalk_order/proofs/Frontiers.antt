@@ -102,10 +102,6 @@ leaves indices counts n m n-is m-is paired some none =
       same = siblings-take indices counts paired.same some' none';
     }
 
-length-some : (xs : List ℕ) → xs ≢ [] → 0 < length xs
-length-some [] some = absurd (some refl)
-length-some (x ∷ xs) some = omega arith
-
 pub length-frontier_of : (indices counts : List ℕ) → frontier_of indices counts ≢ [] → 0 < length indices
 length-frontier_of [] counts some = absurd (some refl)
 length-frontier_of (i ∷ indices) counts some = omega arith
@@ -124,13 +120,13 @@ passed-none indices counts f f-is some =
     let some' : 0 < length indices = length-frontier_of indices counts (λ none. some (sym f-is ∙ none)) in
     ap (λ z. passed z 0) (sym f-is ∙ frontier_of-some indices counts some')
 
--- What is left goes on with the next sibling: m is the length of the counts, and x the last of them.
-pub goes_on : (before_i before_c indices counts : List ℕ) (f : List (List ℕ)) (m x : ℕ) → frontier_of before_i before_c ≡ f → f ≢ []
-    → siblings [] indices counts ≡ siblings [] before_i before_c → length indices ≡ length counts → m ≡ length counts → indices ≢ []
-    → x ≡ get_or counts (m - 1) x → (0 < length counts → 0 < get_or counts (length counts - 1) 0)
-    → frontier_of (set indices (length indices - 1) (get_or indices (length indices - 1) 0 + 1)) (set counts (m - 1) (x - 1)) ≡ passed f 0
-goes_on before_i before_c indices counts f m x f-is some left same m-is some_left x-is unfinished =
-    let some_index : 0 < length indices = length-some indices some_left in
+-- What is left goes on with the next sibling: `last` is the index of the last count, and x that count.
+pub goes_on : (before_i before_c indices counts : List ℕ) (f : List (List ℕ)) (last x : ℕ) → frontier_of before_i before_c ≡ f → f ≢ []
+    → siblings [] indices counts ≡ siblings [] before_i before_c → length indices ≡ length counts → last + 1 ≡ length counts
+    → x ≡ get_or counts last x → (0 < length counts → 0 < get_or counts (length counts - 1) 0)
+    → frontier_of (set indices (length indices - 1) (get_or indices (length indices - 1) 0 + 1)) (set counts last (x - 1)) ≡ passed f 0
+goes_on before_i before_c indices counts f last x f-is some left same last-is x-is unfinished =
     let some_count : 0 < length counts = omega arith in
-    let last : x ≡ get_or counts (length counts - 1) 0 = x-is ∙ ap (λ k. get_or counts (k - 1) x) m-is ∙ get_or_default counts (length counts - 1) x 0 (omega arith) in
-    rw (m-is, last) (frontier_of-step indices counts same some_count (unfinished some_count) ∙ left ∙ sym (passed-none before_i before_c f f-is some))
+    let at_last : last ≡ length counts - 1 = omega arith in
+    let x-is' : x ≡ get_or counts (length counts - 1) 0 = x-is ∙ get_or_default counts last x 0 (omega arith) ∙ ap (λ k. get_or counts k 0) at_last in
+    rw (at_last, x-is') (frontier_of-step indices counts same some_count (unfinished some_count) ∙ left ∙ sym (passed-none before_i before_c f f-is some))

@@ -14,7 +14,7 @@ pub record Queue (T A : Type 0) : Type 0 where
   pub ordering : Ordering
   -- the addresses still to be passed
   pub frontier : List (List ℕ)
-  -- how many pushes need no memory
+  -- how many pushes are sure to succeed, since they need no memory
   pub room : ℕ
 
 module _ {T A : Type 0} where

@@ -28,12 +28,12 @@ module _ {T A : Type 0} where
     pub in_turn : IsInTurn q.ordering q.frontier (address_of x)
 
   -- Nothing is left to come: nothing is pending, or everything is passed.
-  abbrev pub HasCome : Ordering → Queue T A → Type 0
-  HasCome Relaxed q = (q.items ≡ []) × (q.pending ≡ 0)
-  HasCome Strict q = q.frontier ≡ []
+  abbrev pub IsExhausted : Ordering → Queue T A → Type 0
+  IsExhausted Relaxed q = (q.items ≡ []) × (q.pending ≡ 0)
+  IsExhausted Strict q = q.frontier ≡ []
 
   abbrev pub IsDone : Queue T A → Type 0
-  IsDone q = (q.stopped ≡ true) ⊎ HasCome q.ordering q
+  IsDone q = (q.stopped ≡ true) ⊎ IsExhausted q.ordering q
 
   -- Something is left to come, and no item is due.
   abbrev pub IsOutstanding : Ordering → Queue T A → Type 0

@@ -22,7 +22,7 @@ impl<A: Allocator + Copy> IndexPath<A> {
     pub fn new(indices: Vec<usize, A>) -> Self
         ensures { result.indices ≡ indices }
     {
-        IndexPath { indices }
+        Self { indices }
     }
 
     /// The address of the child at `index`, made with this one's allocator.

@@ -122,6 +122,7 @@ impl<T, A: Allocator + Copy> OrderedQueue<T, A> {
     pub fn reserve(&mut self, count: usize) -> Result<(), AllocError>
         ensures unchanged { IsUnchanged self.old self.new }
         ensures room { OnOk result (count ≤ self.new.room) }
+        ensures in_room { count ≤ self.old.room → IsOk result }
     {
         self.items.reserve(count)
     }

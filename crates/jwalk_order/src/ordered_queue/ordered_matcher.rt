@@ -115,8 +115,7 @@ impl<A: Allocator + Copy> OrderedMatcher<A> {
         ensures { self.new ≡ passed self.old 0 }
     {
         leave_finished(&mut self.looking_for.indices, &mut self.counts);
-        if !self.looking_for.is_empty() {
-            let last = self.counts.len() - 1;
+        if let Some(last) = self.counts.len().checked_sub(1) {
             self.counts[last] -= 1;
             self.looking_for.increment_last();
         }
