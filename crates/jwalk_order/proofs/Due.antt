@@ -12,8 +12,8 @@ use Rattle.std.specs.declared.cmp.Ordering as cmp
 use Rattle.jwalk_order.specs.Frontier.{next_address, passed}
 use Rattle.jwalk_order.specs.IndexPath.{is_before}
 use Rattle.jwalk_order.specs.Ordered.{address_of, child_count_of, ordered_cmp, IsLeast}
-use Rattle.jwalk_order.specs.Queue.{Queue, IsUnchanged, Gives}
-use Rattle.jwalk_order.specs.Steps.{IsDue, IsInTurn, IsWaiting, IsOutstanding, frontier_behind}
+use Rattle.jwalk_order.specs.OrderedQueue.{Queue, IsUnchanged, Gives}
+use Rattle.jwalk_order.specs.Step.{IsDue, IsInTurn, IsWaiting, IsOutstanding, frontier_behind}
 use Rattle.jwalk_order.specs.declared.ordered.Ordered.{Ordered}
 use Rattle.jwalk_order.specs.declared.ordered_queue.Ordering.{Ordering}
 use Rattle.jwalk_order.specs.declared.ordered_queue.Ordering.TheVariants.{Strict}

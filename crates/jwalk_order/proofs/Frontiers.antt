@@ -2,7 +2,7 @@
 use Rattle.std.proofs.Common.{◌≡◌, ◌≢◌, ℕ, suc, ◌+◌, ◌-◌, ◌<◌, List, [], ◌∷◌, ◌++◌, length, get_or, set, take, refl, sym, ap, ◌∙◌, arith, append_assoc}
 use Rattle.std.proofs.lemmas.List.{append-nil, take_more, take_all, take_more_set, length-set, length-take, get_or-take, get_or_default}
 use Rattle.jwalk_order.specs.Frontier.{children_from, passed}
-use Rattle.jwalk_order.specs.Matcher.{siblings, frontier_of, IsPaired}
+use Rattle.jwalk_order.specs.OrderedMatcher.{siblings, frontier_of, IsPaired}
 
 pub siblings-push : (parent indices counts : List ℕ) (i count : ℕ) → length indices ≡ length counts
     → siblings parent (indices ++ i ∷ []) (counts ++ count ∷ []) ≡ children_from (i + 1) (parent ++ indices) count ++ siblings parent indices counts

@@ -1,7 +1,7 @@
 pub mod Frontier
 pub mod IndexPath
-pub mod Matcher
 pub mod Ordered
-pub mod Queue
-pub mod QueueIter
-pub mod Steps
+pub mod OrderedMatcher
+pub mod OrderedQueue
+pub mod OrderedQueueIter
+pub mod Step

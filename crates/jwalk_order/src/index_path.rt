@@ -1,5 +1,5 @@
 //! Addresses.
-ghost use Rattle.std.specs.Prelude.{◌≡◌, ◌≢◌, ◌<◌, ◌+◌, ◌-◌, ◌^◌, ◌++◌, ◌∷◌, [], ◌↔◌, length, nat_eq, slice_index, slice_set, option_to_list, IfOk, IsTrue, OnErr, OnOk};
+ghost use Rattle.std.specs.Prelude.{◌≡◌, ◌≢◌, ◌<◌, ◌+◌, ◌-◌, ◌^◌, ◌++◌, ◌∷◌, [], ◌↔◌, length, nat_eq, slice_index, slice_set, option_to_list, IfOk, IsSome, IsTrue, OnErr, OnOk};
 ghost use Rattle.std.specs.Cmp.{partial_order_from_own_ties};
 ghost use Rattle.std.specs.Cmp.Lexicographic.{pointwise};
 ghost use Rattle.std.specs.Cmp.Rules.{comparing};
@@ -65,7 +65,8 @@ impl<A: Allocator + Copy> IndexPath<A> {
     /// Goes to the parent, and answers the index that was last. A root's parent is the empty address. At the empty
     /// address it answers `None`.
     pub fn pop(&mut self) -> Option<usize>
-        ensures { address self.old ≡ address self.new ++ option_to_list result }
+        ensures some { IsSome result ↔ (0 < length (address self.old)) }
+        ensures last { address self.old ≡ address self.new ++ option_to_list result }
     {
         self.indices.pop()
     }

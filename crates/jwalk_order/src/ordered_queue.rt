@@ -1,8 +1,8 @@
 //! A queue that gives what lies at the least address first.
 ghost use Rattle.std.specs.Prelude.{◌≡◌, ◌-◌, ◌+◌, ◌<◌, ◌≤◌, ◌^◌, IfErr, IfOk, IsOk, MatchResult, OnErr, OnOk, false, true};
-ghost use Rattle.jwalk_order.specs.Queue.{Queue, IsNew, IsUnchanged, Adds};
-ghost use Rattle.jwalk_order.specs.QueueIter.{IsOver};
-ghost use Rattle.jwalk_order.specs.Steps.{Answers, MayRefuse};
+ghost use Rattle.jwalk_order.specs.OrderedQueue.{Queue, IsNew, IsUnchanged, Adds};
+ghost use Rattle.jwalk_order.specs.OrderedQueueIter.{IsOver};
+ghost use Rattle.jwalk_order.specs.Step.{Answers, MayRefuse};
 
 use crate::ordered::Ordered;
 use std::alloc::{AllocError, Allocator, Global};
@@ -39,7 +39,7 @@ impl<T, A: Allocator + Copy> Model for OrderedQueue<T, A> {
     ghost use Rattle.std.specs.Prelude.{◌-◌};
     ghost use Rattle.std.specs.BinaryHeap.{heap_items, heap_len, heap_capacity, IsHeap};
     ghost use Rattle.jwalk_order.specs.Ordered.{ordered_cmp};
-    ghost use Rattle.jwalk_order.specs.Queue.{Queue};
+    ghost use Rattle.jwalk_order.specs.OrderedQueue.{Queue};
 
     ghost Value = { Queue T A };
 

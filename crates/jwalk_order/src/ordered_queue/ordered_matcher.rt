@@ -2,7 +2,7 @@
 ghost use Rattle.std.specs.Prelude.{◌≡◌, ◌≢◌, ◌<◌, ◌-◌, [], ◌↔◌, length, slice_index, take, IfOk, IsOk, IsTrue, OnErr, OnOk};
 ghost use Rattle.jwalk_order.specs.Frontier.{next_address, passed, roots};
 ghost use Rattle.jwalk_order.specs.IndexPath.{address};
-ghost use Rattle.jwalk_order.specs.Matcher.{siblings, IsPaired};
+ghost use Rattle.jwalk_order.specs.OrderedMatcher.{siblings, IsPaired};
 ghost use Rattle.jwalk_order.specs.Ordered.{address_of, child_count_of};
 
 use crate::index_path::IndexPath;
@@ -21,7 +21,7 @@ pub struct OrderedMatcher<A: Allocator + Copy = Global> {
 
 impl<A: Allocator + Copy> Model for OrderedMatcher<A> {
     ghost use Rattle.std.specs.Prelude.{ℕ, List};
-    ghost use Rattle.jwalk_order.specs.Matcher.{frontier_of, IsPaired};
+    ghost use Rattle.jwalk_order.specs.OrderedMatcher.{frontier_of, IsPaired};
 
     ghost Value = { List (List ℕ) };
 

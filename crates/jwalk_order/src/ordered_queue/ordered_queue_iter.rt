@@ -1,9 +1,9 @@
 //! The items of a queue as they come.
 ghost use Rattle.std.specs.Prelude.{length, IfOk, OnErr};
 ghost use Rattle.std.specs.Iterator.{at_most};
-ghost use Rattle.jwalk_order.specs.Queue.{IsUnchanged};
-ghost use Rattle.jwalk_order.specs.QueueIter.{queue_of, IsOver, IsOverTheSame};
-ghost use Rattle.jwalk_order.specs.Steps.{Answers, AnswersNext, MayRefuse};
+ghost use Rattle.jwalk_order.specs.OrderedQueue.{IsUnchanged};
+ghost use Rattle.jwalk_order.specs.OrderedQueueIter.{queue_of, IsOver, IsOverTheSame};
+ghost use Rattle.jwalk_order.specs.Step.{Answers, AnswersNext, MayRefuse};
 
 use crate::ordered::Ordered;
 use crate::ordered_queue::OrderedQueue;

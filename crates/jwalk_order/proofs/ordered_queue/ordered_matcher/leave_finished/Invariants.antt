@@ -1,5 +1,5 @@
 use Rattle.std.proofs.Common.{◌≡◌, [], vec_len}
-use Rattle.jwalk_order.specs.Matcher.{siblings, IsPaired}
+use Rattle.jwalk_order.specs.OrderedMatcher.{siblings, IsPaired}
 use Rattle.jwalk_order.proofs.ordered_queue.ordered_matcher.leave_finished.Given as goal
 
 abbrev pub invariant-loop-counts : goal.invariant-loop-counts

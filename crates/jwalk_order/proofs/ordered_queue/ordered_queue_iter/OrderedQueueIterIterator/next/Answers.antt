@@ -1,6 +1,6 @@
 use Rattle.std.proofs.Common.{◌≡◌, ◌∷◌, length, arith}
 use Rattle.std.proofs.lemmas.List.Sorted.{length_permutation}
-use Rattle.jwalk_order.specs.QueueIter.{queue_of}
+use Rattle.jwalk_order.specs.OrderedQueueIter.{queue_of}
 use Rattle.jwalk_order.proofs.ordered_queue.ordered_queue_iter.OrderedQueueIterIterator.next.Goals as goal
 
 pub returns-in-Ok-Item-clause-goes : goal.returns-in-Ok-Item-clause-goes

@@ -1,7 +1,7 @@
 -- What a clause sees of an `OrderedQueueIter`: the queue behind its reference.
 use Rattle.std.specs.Prelude.{◌≡◌}
 use Rattle.std.specs.Borrow.{MutBor}
-use Rattle.jwalk_order.specs.Queue.{Queue}
+use Rattle.jwalk_order.specs.OrderedQueue.{Queue}
 use Rattle.jwalk_order.specs.declared.ordered_queue.ordered_queue_iter.OrderedQueueIter.{OrderedQueueIter}
 
 module _ {T A : Type 0} where

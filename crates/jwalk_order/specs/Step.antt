@@ -2,7 +2,7 @@
 use Rattle.std.specs.Prelude.{◌≡◌, ◌≢◌, ℕ, ◌<◌, ◌⊎◌, false, true, List, [], Option, Some, None, Contains}
 use Rattle.jwalk_order.specs.Frontier.{next_address, passed}
 use Rattle.jwalk_order.specs.Ordered.{address_of, child_count_of, IsLeast}
-use Rattle.jwalk_order.specs.Queue.{Queue, IsUnchanged, Gives}
+use Rattle.jwalk_order.specs.OrderedQueue.{Queue, IsUnchanged, Gives}
 use Rattle.jwalk_order.specs.declared.ordered.Ordered.{Ordered}
 use Rattle.jwalk_order.specs.declared.ordered_queue.Ordering.{Ordering}
 use Rattle.jwalk_order.specs.declared.ordered_queue.Ordering.TheVariants.{Relaxed, Strict}
