@@ -24,8 +24,8 @@ pub enum Ordering {
     Strict,
 }
 
-/// Items with their addresses, those at equal addresses beside one another, a count of those that are pending, and a
-/// mark that stops it.
+/// Items with their addresses, any number of them at one address, of which those at the least address come first. It
+/// counts the items that are pending, and can be stopped.
 #[derive(Drop)]
 pub struct OrderedQueue<T, A: Allocator + Copy = Global> {
     items: BinaryHeap<Ordered<T, A>, A>,

@@ -74,12 +74,18 @@ fn nothing_comes_of_no_roots_or_after_a_stop(rt: HostRuntime) -> Result<(), Fail
 }
 
 #[test]
-fn pushes_succeed_after_a_reserve(rt: HostRuntime) -> Result<(), Fail> {
+fn two_pushes_succeed_after_a_reserve_of_two(rt: HostRuntime) -> Result<(), Fail> {
     let alloc = rt.alloc();
     let mut queue = OrderedQueue::new(alloc, Ordering::Relaxed)?;
     queue.reserve(2)?;
-    assert!(rt; queue.push(at(alloc, &[0], 0)?).is_ok());
-    assert!(rt; queue.push(at(alloc, &[0, 0], 0)?).is_ok());
+    let first = queue.push(at(alloc, &[0], 0)?).is_ok();
+    prove!(first);
+    assert!(rt; first);
+    assert!(rt; is_at(&queue.iter().step()?, &[0]));
+    queue.complete_item();
+    let second = queue.push(at(alloc, &[0, 0], 0)?).is_ok();
+    prove!(second);
+    assert!(rt; second);
     Ok(())
 }
 
