@@ -1,6 +1,6 @@
 //! A queue that gives what lies at the least address first.
-ghost use Rattle.std.specs.Prelude.{◌≡◌, ◌-◌, ◌+◌, ◌<◌, ◌≤◌, ◌^◌, IfErr, IfOk, IsOk, MatchResult, OnErr, OnOk, false, true};
-ghost use Rattle.jwalk_order.specs.OrderedQueue.{Queue, IsNew, IsUnchanged, Adds};
+ghost use Rattle.std.specs.Prelude.{◌≡◌, ◌-◌, ◌+◌, ◌<◌, ◌≤◌, ◌^◌, IfErr, IfOk, IsOk, OnErr, OnOk, false, true};
+ghost use Rattle.jwalk_order.specs.OrderedQueue.{IsNew, IsUnchanged, Adds};
 ghost use Rattle.jwalk_order.specs.OrderedQueueIter.{IsOver};
 ghost use Rattle.jwalk_order.specs.Step.{Answers, MayRefuse};
 

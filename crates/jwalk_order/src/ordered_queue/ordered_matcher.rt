@@ -1,5 +1,5 @@
 //! Which address comes next.
-ghost use Rattle.std.specs.Prelude.{◌≡◌, ◌≢◌, ◌<◌, ◌-◌, [], ◌↔◌, length, slice_index, take, IfOk, IsOk, IsTrue, OnErr, OnOk};
+ghost use Rattle.std.specs.Prelude.{◌≡◌, ◌≢◌, ◌<◌, ◌-◌, [], ◌↔◌, length, slice_index, IfOk, IsOk, IsTrue, OnErr, OnOk};
 ghost use Rattle.jwalk_order.specs.Frontier.{next_address, passed, roots};
 ghost use Rattle.jwalk_order.specs.IndexPath.{address};
 ghost use Rattle.jwalk_order.specs.OrderedMatcher.{siblings, IsPaired};
