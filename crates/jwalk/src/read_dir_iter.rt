@@ -6,13 +6,14 @@ ghost use Rattle.jwalk.specs.ReadDir.{outcome, reading};
 ghost use Rattle.jwalk.specs.States.{ClonesAreEqual};
 ghost use Rattle.jwalk.specs.Job.{job, file_system, callback, greatest_depth, IsSteady};
 
+pub use crate::serial_walk::SerialWalk;
+
 use crate::client_state::ClientState;
 use crate::dir_entry::DirEntry;
 use crate::error::Error;
 use crate::job::Job;
 use crate::process_read_dir::ProcessReadDir;
 use crate::read_dir::ReadDir;
-use crate::serial_walk::SerialWalk;
 use std::alloc::{AllocError, Allocator, Global};
 use std::convert::Infallible;
 use walk_fs::file_system::FileSystem;
