@@ -1,11 +1,10 @@
 -- One call of a walk's `next`, case by case.
-use Rattle.std.proofs.Common.{◌≡◌, ◌⊎◌, ◌∙◌, ◌<◌, ℕ, Bool, true, false, List, [], ◌∷◌, ◌++◌, append-nil, Option, Some, None, Result, Ok, Err, IfNone, IfSome, OnSome, inl, inr, refl, sym, ap, arith}
-use Rattle.std.specs.Prelude.{option_map}
+use Rattle.std.proofs.Common.{◌≡◌, ◌∙◌, ◌<◌, true, false, [], ◌∷◌, ◌++◌, append-nil, Option, Some, None, Result, Ok, Err, IfNone, IfSome, OnSome, inl, inr, refl, sym, ap, arith}
 use Rattle.walk_model.specs.Error.{memory}
 use Rattle.walk_model.specs.Entry.{Item}
 use Rattle.walk_model.specs.ReadDir.{Spec, Reading, Outcome, children_of}
-use Rattle.walk_model.specs.Listing.{Pair, nothing, paired, answers, listing}
-use Rattle.walk_model.specs.Held.{pair_up, weight, PassesOne}
+use Rattle.walk_model.specs.Listing.{nothing, paired, answers, listing}
+use Rattle.walk_model.specs.Held.{pair_up, weight}
 use Rattle.walk_model.proofs.HeldFacts.{alone, pair_up-outcome}
 use Rattle.walk_model.proofs.StepFacts.{plainly_one, plainly_any, answers-zero, heavy_held}
 use Rattle.jwalk.specs.declared.error.Error.{Error}
@@ -15,7 +14,7 @@ use Rattle.jwalk.specs.Error.{failure}
 use Rattle.jwalk.specs.Entry.{item}
 use Rattle.jwalk.specs.Job.{greatest_depth}
 use Rattle.jwalk.specs.ReadDirIter.{StacksChildren}
-use Rattle.jwalk.specs.DirEntryIter.{refusal, job_of, items_of, unread_of, held, to_come, Refuses, Answers, PassesOrStops}
+use Rattle.jwalk.specs.DirEntryIter.{job_of, items_of, unread_of, held, to_come, Refuses, Answers, PassesOrStops}
 
 module _ {C S P A R E : Type 0} where
   held_rest : (it : DirEntryIter C S P A R E) → it.refused ≡ false → held it ≡ pair_up (items_of it) (unread_of it)
@@ -50,19 +49,19 @@ module _ {C S P A R E : Type 0} (clones : Type 0) (is_steady : E → Type 0) (re
       let after = held_rest new started in
       elim passed [
         | inl stopped ↦
-          let refuses : Refuses (item x) new = record { tells = stopped.0; nothing_held = held_nothing new started stopped.1; nothing_unread = stopped.2 } in
-          record {
-            job = job;
-            plain = rw before (plainly_any (pair_up (items_of old) (unread_of old)) (Some (item x)) (held new) stopped.3);
-            passes = λ equal. inl refuses;
-            coming = λ d steady. inl refuses;
-          }
+            let refuses : Refuses (item x) new = record { tells = stopped.0; nothing_held = held_nothing new started stopped.1; nothing_unread = stopped.2 } in
+            record {
+              job = job;
+              plain = rw before (plainly_any (pair_up (items_of old) (unread_of old)) (Some (item x)) (held new) stopped.3);
+              passes = λ equal. inl refuses;
+              coming = λ d steady. inl refuses;
+            }
         | inr one ↦ record {
-            job = job;
-            plain = rw (before, after) (plainly_one (pair_up (items_of old) (unread_of old)) (item x) (pair_up (items_of new) (unread_of new)) one.plain);
-            passes = λ equal. inr (rw (before, after) (one.passes equal));
-            coming = λ d steady. inr (coming_next (reading_by d) old new (item x) job (rw (before, after) (one.listed d steady)));
-          }
+          job = job;
+          plain = rw (before, after) (plainly_one (pair_up (items_of old) (unread_of old)) (item x) (pair_up (items_of new) (unread_of new)) one.plain);
+          passes = λ equal. inr (rw (before, after) (one.passes equal));
+          coming = λ d steady. inr (coming_next (reading_by d) old new (item x) job (rw (before, after) (one.listed d steady)));
+        }
       ]
 
   -- nothing is held any more

@@ -1,5 +1,5 @@
 -- How a walk begins.
-use Rattle.std.proofs.Common.{◌≡◌, ◌⊎◌, ◌∙◌, ◌-◌, ◌^◌, ℕ, Bool, true, List, Option, Some, None, Result, Ok, Err, IfOk, IfSome, IfNone, inl, inr, refl, sym, ap}
+use Rattle.std.proofs.Common.{◌≡◌, ◌⊎◌, ◌∙◌, ◌-◌, ◌^◌, ℕ, Bool, true, List, Option, Result, Ok, Err, IfOk, IfSome, IfNone, inl, inr, sym, ap}
 use Rattle.std.specs.Result.{result_ok}
 use Rattle.walk_model.specs.FileSystem.{Functions}
 use Rattle.walk_model.specs.Options.{defaults}
@@ -21,7 +21,7 @@ same_job functions processed d j walk skip depth = ap (λ b. job_by functions pr
 -- a root's list that was made is held, unless memory was refused
 pub begun : {X F R E : Type 0} (view : X → Reading R E) (v : Reading R E) (refused : Type 0) (held : List (Pair R E)) (read : Result X F) (given : Option X) → given ≡ result_ok read → refused ⊎ IfSome given (λ r. held ≡ paired (view r)) → IfNone given refused → IfOk read (λ r. v ≡ view r) → refused ⊎ (held ≡ paired v)
 begun view v refused held (Ok r) given is some none value =
-    elim (rw is at some) [ | inl h ↦ inl h | inr h ↦ inr (h ∙ ap paired (sym value)) ]
+    elim (rw is at some) [ inl h ↦ inl h | inr h ↦ inr (h ∙ ap paired (sym value)) ]
 begun view v refused held (Err e) given is some none value = inl (rw is at none)
 
 -- what is said of a value in an `Ok` is said of an equal one

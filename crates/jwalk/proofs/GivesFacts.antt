@@ -1,5 +1,5 @@
 -- What one call of an iterator over readings gives.
-use Rattle.std.proofs.Common.{◌≡◌, ◌≢◌, Err, ◌⊎◌, inl, inr, ℕ, List, [], ◌∷◌, Option, Some, None, ap, refl}
+use Rattle.std.proofs.Common.{◌≡◌, ◌≢◌, Err, inl, inr, ℕ, List, [], Option, Some, None, ap}
 use Rattle.walk_model.specs.Error.{Failure, memory}
 use Rattle.walk_model.specs.ReadDir.{Spec, Outcome, ReadsFirst}
 use Rattle.walk_model.specs.Preorder.{preorder}
@@ -17,10 +17,10 @@ given_in_preorder reading max_depth clones old (Some outcome) new equal first va
 
 -- what is given is a refusal, or a reading of the first specification
 pub refusal_given : {R E : Type 0} (max_depth : ℕ) (clones : Type 0) (old : List (Spec R)) (given : Outcome R E) (new : List (Spec R)) → GivesFirst max_depth clones old (Some given) new → given ≡ Err memory → old ≢ []
-refusal_given max_depth clones old given new first is = elim first [ | inl refused ↦ refused.1 | inr read ↦ absurd (read.0 is) ]
+refusal_given max_depth clones old given new first is = elim first [ inl refused ↦ refused.1 | inr read ↦ absurd (read.0 is) ]
 
 pub reading_given : {R E : Type 0} (max_depth : ℕ) (clones : Type 0) (old : List (Spec R)) (given : Outcome R E) (new : List (Spec R)) → GivesFirst max_depth clones old (Some given) new → given ≢ Err memory → ReadsFirst max_depth clones old given new
-reading_given max_depth clones old given new first other = elim first [ | inl refused ↦ absurd (other refused.0) | inr read ↦ read.1 ]
+reading_given max_depth clones old given new first other = elim first [ inl refused ↦ absurd (other refused.0) | inr read ↦ read.1 ]
 
 -- an error that tells of something else is no refusal
 pub not_refused : (R E : Type 0) (f : Failure) → f ≢ memory → ◌≢◌ {A = Outcome R E} (Err f) (Err memory)

@@ -1,7 +1,7 @@
 -- Facts on lists that are gathered, stacked and mapped.
-use Rattle.std.proofs.Common.{◌≡◌, ℕ, ◌+◌, ◌<◌, List, [], ◌∷◌, ◌++◌, length, get_or, drop, map, reverse, refl, sym, ap, ◌∙◌, append_assoc, add-one, drop-cons, Option, Some, None, option_to_list, is_some, false}
+use Rattle.std.proofs.Common.{◌≡◌, ℕ, ◌+◌, ◌<◌, List, [], ◌∷◌, ◌++◌, length, get_or, drop, map, reverse, refl, sym, ap, ◌∙◌, append_assoc, add-one, drop-cons, Option, Some, None, is_some}
 use Rattle.std.specs.Prelude.{option_map}
-use Rattle.std.proofs.lemmas.List.{map-append, reverse-append, reverse-reverse}
+use Rattle.std.proofs.lemmas.List.{reverse-append, reverse-reverse}
 
 -- One more item of xs: what was gathered, and what is left to be gathered, are still all.
 pub gathers : {T Z : Type 0} (k : List T → List Z) (h : T → List Z) → ((x : T) (l : List T) → k (x ∷ l) ≡ h x ++ k l) → (a b : List Z) (xs : List T) (i : ℕ) (x : T) → i < length xs → x ≡ get_or xs i x → b ≡ a ++ h x → a ++ k (drop i xs) ≡ k xs → b ++ k (drop (i + 1) xs) ≡ k xs

@@ -1,5 +1,5 @@
 -- A job seen as a value, and what a walk takes to be given. It can't be told yet to sort or to follow links.
-use Rattle.std.specs.Prelude.{◌≡◌, ℕ, List, Option}
+use Rattle.std.specs.Prelude.{ℕ, List, Option}
 use Rattle.walk_model.specs.FileSystem.{Functions}
 use Rattle.walk_model.specs.Entry.{Item}
 use Rattle.walk_model.specs.Options.{defaults}

@@ -1,6 +1,5 @@
 -- Directories to be read, and readings, seen as values.
 use Rattle.std.specs.Prelude.{[], map, Result, Ok, Err}
-use Rattle.walk_model.specs.ReadDir as value
 use Rattle.walk_model.specs.ReadDir.{Spec, Reading, Outcome}
 use Rattle.jwalk.specs.declared.read_dir_spec.ReadDirSpec.{ReadDirSpec}
 use Rattle.jwalk.specs.declared.read_dir.ReadDir.{ReadDir}

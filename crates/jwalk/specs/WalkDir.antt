@@ -1,5 +1,5 @@
 -- A walk as its builder describes it.
-use Rattle.std.specs.Prelude.{◌≡◌, ◌⊎◌, ℕ, List, String, string_bytes}
+use Rattle.std.specs.Prelude.{◌≡◌, ◌⊎◌, ℕ, List, string_bytes}
 use Rattle.walk_model.specs.FileSystem.{Functions}
 use Rattle.walk_model.specs.Options.{Options, defaults}
 use Rattle.walk_model.specs.Listing.{paired}

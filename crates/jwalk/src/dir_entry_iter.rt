@@ -39,9 +39,12 @@ pub struct DirEntryIter<
     pub(crate) refused: bool,
 }
 
-impl<C: ClientState, S: FileSystem, P: ProcessReadDir<C, A>, A: Allocator + Copy>
-    DirEntryIter<C, S, P, A>
-{
+impl<C: ClientState, S: FileSystem, P: ProcessReadDir<C, A>, A: Allocator + Copy> DirEntryIter<
+    C,
+    S,
+    P,
+    A,
+> {
     ghost use Rattle.std.specs.Prelude.{◌^◌, ◌++◌, ◌⊎◌, length, OnOk, OnErr, IfSome, IfNone};
     ghost use Rattle.walk_model.specs.Held.{PassesOne, IsAtDirectory};
     ghost use Rattle.walk_model.specs.ReadDir.{list_of};
@@ -171,8 +174,7 @@ impl<C: ClientState, S: FileSystem, P: ProcessReadDir<C, A>, A: Allocator + Copy
 }
 
 impl<C: ClientState, S: FileSystem, P: ProcessReadDir<C, A>, A: Allocator + Copy> Iterator
-    for DirEntryIter<C, S, P, A>
-{
+    for DirEntryIter<C, S, P, A> {
     type Item = Result<DirEntry<C, A>, Error<A>>;
 
     ghost use Rattle.std.specs.Iterator.{at_most};

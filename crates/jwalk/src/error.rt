@@ -69,7 +69,8 @@ impl<A: Allocator + Copy> Error<A> {
     {
         match &self.inner {
             ErrorInner::Io {
-                path: Some(path), ..
+                path: Some(path),
+                ..
             } => Some(path.as_str()),
             _ => None,
         }

@@ -32,7 +32,12 @@ use walk_paths::path_text;
 
 /// What reads one directory: a file system, a callback, and the options that a reading goes by.
 #[derive(Drop)]
-pub struct Job<C: ClientState, S: FileSystem, P: ProcessReadDir<C, A>, A: Allocator + Copy = Global> {
+pub struct Job<
+    C: ClientState,
+    S: FileSystem,
+    P: ProcessReadDir<C, A>,
+    A: Allocator + Copy = Global,
+> {
     fs: S,
     process: P,
     skip_hidden: bool,
@@ -292,10 +297,7 @@ impl<C: ClientState, S: FileSystem, P: ProcessReadDir<C, A>, A: Allocator + Copy
     }
 
     /// The root's entry, or the error with its path.
-    fn made(
-        &self,
-        path: &str,
-    ) -> Result<Result<DirEntry<C, A>, Error<A>>, AllocError>
+    fn made(&self, path: &str) -> Result<Result<DirEntry<C, A>, Error<A>>, AllocError>
         ensures depth { IfOk result (λ r. AtDepth 0 (item r ∷ [])) }
         ensures value { (d : C.DirEntryState) → S.IsFixed (file_system self.now) → DefaultIs C.DirEntryState.is_default d → IfOk result (λ r. item r ≡ value.made (job (S.functions (file_system self.now)) (P.processed (callback self.now)) d self.now) 0 path.now false []) }
     {
@@ -350,11 +352,7 @@ impl<C: ClientState, S: FileSystem, P: ProcessReadDir<C, A>, A: Allocator + Copy
     /// link, and the directory is read below it; a root that is a broken link is an error with its path.
     ///
     /// Fails only for want of memory: of the walk's own, of the file system's or of the callback's.
-    pub fn root_list(
-        &self,
-        path: &str,
-        state: C::ReadDirState,
-    ) -> Result<ReadDir<C, A>, AllocError>
+    pub fn root_list(&self, path: &str, state: C::ReadDirState) -> Result<ReadDir<C, A>, AllocError>
         requires { P.IsLawful (callback self.now) }
         ensures depth { IfOk result (λ r. AtDepth 0 (reading r).list) }
         ensures value { (d : C.DirEntryState) → IsSteady (S.IsFixed (file_system self.now)) (P.IsFixed (callback self.now)) C.ReadDirState.is_clone C.DirEntryState.is_default d → IfOk result (λ r. value.root_list (job (S.functions (file_system self.now)) (P.processed (callback self.now)) d self.now) path.now state ≡ reading r) }

@@ -6,14 +6,13 @@ ghost use Rattle.jwalk.specs.ReadDir.{outcome, reading};
 ghost use Rattle.jwalk.specs.States.{ClonesAreEqual};
 ghost use Rattle.jwalk.specs.Job.{job, file_system, callback, greatest_depth, IsSteady};
 
-pub use crate::serial_walk::SerialWalk;
-
 use crate::client_state::ClientState;
 use crate::dir_entry::DirEntry;
 use crate::error::Error;
 use crate::job::Job;
 use crate::process_read_dir::ProcessReadDir;
 use crate::read_dir::ReadDir;
+pub use crate::serial_walk::SerialWalk;
 use std::alloc::{AllocError, Allocator, Global};
 use std::convert::Infallible;
 use walk_fs::file_system::FileSystem;
@@ -35,9 +34,12 @@ pub enum ReadDirIter<
     ParWalk(Infallible),
 }
 
-impl<C: ClientState, S: FileSystem, P: ProcessReadDir<C, A>, A: Allocator + Copy>
-    ReadDirIter<C, S, P, A>
-{
+impl<C: ClientState, S: FileSystem, P: ProcessReadDir<C, A>, A: Allocator + Copy> ReadDirIter<
+    C,
+    S,
+    P,
+    A,
+> {
     ghost use Rattle.jwalk.specs.ReadDirIter.{job_of, to_read, StacksChildren, GivesFirst, GivesReading};
 
     /// Readings in turn, with nothing to read yet.
@@ -100,8 +102,7 @@ impl<C: ClientState, S: FileSystem, P: ProcessReadDir<C, A>, A: Allocator + Copy
 }
 
 impl<C: ClientState, S: FileSystem, P: ProcessReadDir<C, A>, A: Allocator + Copy> Iterator
-    for ReadDirIter<C, S, P, A>
-{
+    for ReadDirIter<C, S, P, A> {
     type Item = Result<ReadDir<C, A>, Error<A>>;
 
     ghost use Rattle.std.specs.Iterator.{at_most};

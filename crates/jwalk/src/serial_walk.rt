@@ -28,9 +28,12 @@ pub struct SerialWalk<
     pub(crate) specs: Vec<ReadDirSpec<C, A>, A>,
 }
 
-impl<C: ClientState, S: FileSystem, P: ProcessReadDir<C, A>, A: Allocator + Copy>
-    SerialWalk<C, S, P, A>
-{
+impl<C: ClientState, S: FileSystem, P: ProcessReadDir<C, A>, A: Allocator + Copy> SerialWalk<
+    C,
+    S,
+    P,
+    A,
+> {
     ghost use Rattle.jwalk.specs.ReadDirIter.{stacked, StacksChildren, GivesFirst, GivesReading};
 
     /// A walk that has nothing to read.
@@ -58,10 +61,7 @@ impl<C: ClientState, S: FileSystem, P: ProcessReadDir<C, A>, A: Allocator + Copy
     }
 
     /// The same for an outcome, where an error has no directories.
-    fn stack_outcome(
-        &mut self,
-        read: &Result<ReadDir<C, A>, Error<A>>,
-    ) -> Result<(), AllocError>
+    fn stack_outcome(&mut self, read: &Result<ReadDir<C, A>, Error<A>>) -> Result<(), AllocError>
         ensures job { self.new.job ≡ self.old.job }
         ensures few { length (list_of (outcome read.now)) < 2 ^ 64 }
         ensures children { OnOk result (StacksChildren (ClonesAreEqual C.ReadDirState.is_clone) (stacked self.old) (outcome read.now) (stacked self.new)) }

@@ -49,9 +49,12 @@ impl<C: ClientState, S: FileSystem, A: Allocator + Copy> WalkDirGeneric<C, S, No
     }
 }
 
-impl<C: ClientState, S: FileSystem, P: ProcessReadDir<C, A>, A: Allocator + Copy>
-    WalkDirGeneric<C, S, P, A>
-{
+impl<C: ClientState, S: FileSystem, P: ProcessReadDir<C, A>, A: Allocator + Copy> WalkDirGeneric<
+    C,
+    S,
+    P,
+    A,
+> {
     ghost use Rattle.jwalk.specs.WalkDir.{file_system_of, callback_of, root_of, Begins};
 
     /// The root's path as it was given.
@@ -84,8 +87,7 @@ impl<C: ClientState, S: FileSystem, P: ProcessReadDir<C, A>, A: Allocator + Copy
 }
 
 impl<C: ClientState, S: FileSystem, A: Allocator + Copy> IntoIterator
-    for WalkDirGeneric<C, S, NoProcess, A>
-{
+    for WalkDirGeneric<C, S, NoProcess, A> {
     type Item = Result<DirEntry<C, A>, Error<A>>;
 
     type IntoIter = DirEntryIter<C, S, NoProcess, A>;

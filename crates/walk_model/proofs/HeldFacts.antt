@@ -1,22 +1,19 @@
 -- What one step of a walk does to what is held.
-use Rattle.std.proofs.Common.{◌≡◌, ℕ, zero, suc, ◌+◌, ◌-◌, ◌*◌, ◌^◌, ◌<◌, ◌≤◌, Bool, true, false, is_some, List, [], ◌∷◌, ◌++◌, map, length, Option, Some, None, option_to_list, Result, Ok, Err, refl, sym, ap, ◌∙◌, append_assoc, arith, subst}
+use Rattle.std.proofs.Common.{◌≡◌, ℕ, zero, suc, ◌+◌, ◌-◌, ◌*◌, ◌^◌, ◌<◌, ◌≤◌, Bool, true, false, is_some, List, [], ◌∷◌, ◌++◌, map, length, Some, None, option_to_list, Ok, Err, refl, sym, ap, ◌∙◌, arith}
 use Rattle.std.proofs.Math.Nat.{mul-le-mul_right}
 use Rattle.std.proofs.lemmas.Grind.{flat_map-append}
 use Rattle.std.proofs.lemmas.List.{map-append}
-use Rattle.std.specs.Prelude.{flat_map, filter, option_map, unwrap_or}
-use Rattle.walk_model.specs.Error.{Failure}
-use Rattle.walk_model.specs.Entry.{Children, Entry, Item, has_directory, with_error, AtDepth}
-use Rattle.walk_model.specs.ReadDir.{Spec, Reading, Outcome, Place, place, spec_of, spec_below, children, children_of, list_of, IsLawful, ReadsFirst}
-use Rattle.walk_model.specs.Listing.{Pair, Source, nothing, unread, was_read, source_of, pair, paired, pairs_of, after_reading, is_answered, answers, levels_of, stands, opened, below, listing}
-use Rattle.walk_model.specs.Held.{first_source, after_first, pair_up, bound, source_weight, weight, spec_weight}
-use Rattle.walk_model.specs.Preorder.{readings, preorder}
+use Rattle.std.specs.Prelude.{flat_map, option_map}
+use Rattle.walk_model.specs.Entry.{Entry, Item, has_directory, AtDepth}
+use Rattle.walk_model.specs.ReadDir.{Spec, Outcome, Place, place, spec_of, spec_below, children_of, list_of, IsLawful, ReadsFirst}
+use Rattle.walk_model.specs.Listing.{Pair, Source, nothing, unread, was_read, source_of, pair, paired, pairs_of, after_reading, levels_of, stands, below, listing}
+use Rattle.walk_model.specs.Held.{first_source, after_first, pair_up, bound, source_weight, weight}
 
 module _ {R E : Type 0} where
   -- a list that was read stands in front of the rest as its pairs
   front : (state : R) (l xs : List (Item R E)) (ss : List (Spec R)) → pair_up (l ++ xs) (flat_map (λ item. option_to_list (spec_of state item)) l ++ ss) ≡ map (pair state) l ++ pair_up xs ss
   front state [] xs ss = refl
   front state (Err f ∷ l) xs ss = ap (λ t. record { item = Err f; source = nothing } ∷ t) (front state l xs ss)
-
   front state (Ok e ∷ l) xs ss =
       let tail : List (Spec R) = flat_map (λ item. option_to_list (spec_of state item)) l in
       elim e.read_children as (λ o. record { item = Ok e; source = first_source (is_some o) ((option_to_list (option_map (spec_below state e) o) ++ tail) ++ ss) } ∷ pair_up (l ++ xs) (after_first (is_some o) ((option_to_list (option_map (spec_below state e) o) ++ tail) ++ ss)) ≡ record { item = Ok e; source = source_of (option_map (spec_below state e) o) } ∷ (map (pair state) l ++ pair_up xs ss)) [
@@ -39,10 +36,10 @@ module _ {R E : Type 0} where
       elim (has_directory x) as (λ b. source_weight {E = E} max_depth (first_source b (s ∷ ss)) + weight max_depth (pair_up xs (after_first b (s ∷ ss))) ≡ source_weight {E = E} max_depth (first_source b (t ∷ ts)) + weight max_depth (pair_up xs (after_first b (t ∷ ts)))) [
         | false ↦ ap (λ n. 1 + n) (same_weight max_depth xs (s ∷ ss) (t ∷ ts) h)
         | true ↦
-          let same_place : place s ≡ place t = cc in
-          let head : s.depth ≡ t.depth = ap (λ (p : Place). p.depth) same_place in
-          let tail : map place ss ≡ map place ts = cc in
-          rw head (ap (λ n. bound (max_depth - t.depth) + n) (same_weight max_depth xs ss ts tail))
+            let same_place : place s ≡ place t = cc in
+            let head : s.depth ≡ t.depth = ap (λ (p : Place). p.depth) same_place in
+            let tail : map place ss ≡ map place ts = cc in
+            rw head (ap (λ n. bound (max_depth - t.depth) + n) (same_weight max_depth xs ss ts tail))
       ]
 
   weight-append : (max_depth : ℕ) (ps qs : List (Pair R E)) → weight max_depth (ps ++ qs) ≡ weight max_depth ps + weight max_depth qs

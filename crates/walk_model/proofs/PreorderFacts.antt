@@ -1,10 +1,10 @@
 -- What one reading does to what is still to be read.
-use Rattle.std.proofs.Common.{◌≡◌, ◌≢◌, ℕ, zero, suc, ◌+◌, ◌-◌, ◌*◌, ◌^◌, ◌<◌, ◌≤◌, List, [], ◌∷◌, ◌++◌, map, length, Option, Some, None, option_to_list, Result, Ok, Err, refl, sym, ap, ◌∙◌, append_assoc, arith}
+use Rattle.std.proofs.Common.{◌≡◌, ◌≢◌, ℕ, zero, suc, ◌+◌, ◌-◌, ◌*◌, ◌^◌, ◌<◌, ◌≤◌, List, [], ◌∷◌, ◌++◌, map, length, Some, None, option_to_list, Ok, Err, refl, sym, ap, ◌∙◌, arith}
 use Rattle.std.proofs.lemmas.Grind.{flat_map-append}
 use Rattle.std.proofs.lemmas.List.{map-append}
 use Rattle.std.specs.Prelude.{flat_map, option_map}
-use Rattle.walk_model.specs.Entry.{Children, Entry, Item, AtDepth}
-use Rattle.walk_model.specs.ReadDir.{Spec, Reading, Outcome, Place, place, spec_of, spec_below, children, children_of, list_of, IsLawful, ReadsFirst, IsReadingOfFirst}
+use Rattle.walk_model.specs.Entry.{Entry, Item, AtDepth}
+use Rattle.walk_model.specs.ReadDir.{Spec, Outcome, Place, place, spec_of, spec_below, children, children_of, list_of, IsLawful, ReadsFirst, IsReadingOfFirst}
 use Rattle.walk_model.specs.Held.{bound, spec_weight}
 use Rattle.walk_model.specs.Preorder.{readings, preorder}
 use Rattle.walk_model.proofs.HeldFacts.{bound_pos, below_bound}

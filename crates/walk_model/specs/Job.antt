@@ -1,13 +1,12 @@
 -- One reading of a directory, and the list of one item that a walk begins with.
 use Rattle.std.specs.Prelude.{ℕ, ◌+◌, nat_le, Bool, true, false, ◌&&◌, List, [], ◌∷◌, ◌++◌, flat_map, find, reverse, Option, Some, None, is_some, unwrap_or, Result, Ok, Err, if◌then◌else◌}
-use Rattle.std.specs.declared.io.ErrorKind.{ErrorKind}
 use Rattle.walk_model.specs.declared.file_type.FileType.{FileType}
 use Rattle.walk_model.specs.declared.metadata.Metadata.{Metadata}
 use Rattle.walk_model.specs.FileType.{is_dir, is_symlink}
 use Rattle.walk_model.specs.Metadata.{type_of}
 use Rattle.walk_model.specs.FileSystem.{Named, Listed, Functions}
 use Rattle.walk_model.specs.Paths.{join, parent, file_name, same_path}
-use Rattle.walk_model.specs.Error.{Failure, io, looped}
+use Rattle.walk_model.specs.Error.{io, looped}
 use Rattle.walk_model.specs.Entry.{Entry, Item, children_at, is_hidden, path_of}
 use Rattle.walk_model.specs.ReadDir.{Spec, Reading, Outcome}
 use Rattle.walk_model.specs.Options.{Options}
@@ -39,15 +38,15 @@ own_parent path = if is_some (file_name path) then unwrap_or (parent path) [] el
 module _ {R E : Type 0} (job : Job R E) where
   abbrev pub made_of : ℕ → List ℕ → Bool → List (List ℕ) → Metadata → Entry R E
   made_of depth path through ancestors m = record {
-      depth = depth;
-      file_name = own_name path;
-      file_type = type_of m;
-      client_state = job.default;
-      parent_path = own_parent path;
-      through_link = through;
-      ancestors = ancestors;
-      read_children = children_at (is_dir (type_of m)) path;
-    }
+    depth = depth;
+    file_name = own_name path;
+    file_type = type_of m;
+    client_state = job.default;
+    parent_path = own_parent path;
+    through_link = through;
+    ancestors = ancestors;
+    read_children = children_at (is_dir (type_of m)) path;
+  }
 
   -- the entry of a path, or the error with its depth and path; it is asked for through a link or not
   abbrev pub made : ℕ → List ℕ → Bool → List (List ℕ) → Item R E
@@ -66,9 +65,9 @@ module _ {R E : Type 0} (job : Job R E) where
   reached e x =
       if is_dir x.file_type
       then either
-        (λ target. unless_looped e x (looped_to target e.ancestors))
-        (λ kind. Err (io e.depth None kind))
-        (job.fs.target_of (path_of e))
+      (λ target. unless_looped e x (looped_to target e.ancestors))
+      (λ kind. Err (io e.depth None kind))
+      (job.fs.target_of (path_of e))
       else Ok x
 
   -- an entry after the link rule: where links are followed, a link gives way to what it leads to
@@ -85,15 +84,15 @@ module _ {R E : Type 0} (job : Job R E) where
   -- the entry of a name in a directory
   abbrev pub entry_in : Spec R → List ℕ → FileType → Entry R E
   entry_in spec name type = record {
-      depth = spec.depth + 1;
-      file_name = name;
-      file_type = type;
-      client_state = job.default;
-      parent_path = spec.path;
-      through_link = false;
-      ancestors = ancestors_in spec;
-      read_children = children_at (is_dir type) (join spec.path name);
-    }
+    depth = spec.depth + 1;
+    file_name = name;
+    file_type = type;
+    client_state = job.default;
+    parent_path = spec.path;
+    through_link = false;
+    ancestors = ancestors_in spec;
+    read_children = children_at (is_dir type) (join spec.path name);
+  }
 
   -- what a name with a type gives: nothing where it is hidden and skipped
   abbrev pub shown : Spec R → List ℕ → FileType → List (Item R E)
@@ -122,18 +121,18 @@ module _ {R E : Type 0} (job : Job R E) where
       if nat_le job.options.max_depth spec.depth
       then Ok (record { state = spec.state; list = [] })
       else either
-        (λ items. Ok (job.processed (Some spec.depth) spec.path spec.state (ordered spec items)))
-        (λ kind. Err (io spec.depth (Some spec.path) kind))
-        (job.fs.list_of spec.path)
+      (λ items. Ok (job.processed (Some spec.depth) spec.path spec.state (ordered spec items)))
+      (λ kind. Err (io spec.depth (Some spec.path) kind))
+      (job.fs.list_of spec.path)
 
   -- a root that is still a link: a directory behind it is to be read, and the entry stays that of the link
   abbrev pub with_target : Entry R E → Item R E
   with_target e =
       if is_symlink e.file_type
       then either
-        (λ m. Ok (if is_dir (type_of m) then record e { read_children = children_at true (path_of e) } else e))
-        (λ kind. Err (io 0 (Some (path_of e)) kind))
-        (job.fs.meta_of (path_of e))
+      (λ m. Ok (if is_dir (type_of m) then record e { read_children = children_at true (path_of e) } else e))
+      (λ kind. Err (io 0 (Some (path_of e)) kind))
+      (job.fs.meta_of (path_of e))
       else Ok e
 
   -- the paths that the root's ancestors begin with

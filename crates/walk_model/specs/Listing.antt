@@ -1,7 +1,6 @@
 -- The whole walk, by recursion on the depth that is left.
-use Rattle.std.specs.Prelude.{◌≡◌, ℕ, zero, suc, ◌-◌, nat_le, Bool, true, List, [], ◌∷◌, ◌++◌, map, flat_map, filter, Option, Some, None, Result, Ok, Err}
-use Rattle.walk_model.specs.Error.{Failure}
-use Rattle.walk_model.specs.Entry.{Entry, Item, with_error}
+use Rattle.std.specs.Prelude.{ℕ, zero, suc, ◌-◌, nat_le, Bool, true, List, [], ◌∷◌, map, flat_map, filter, Option, Some, None, Ok, Err}
+use Rattle.walk_model.specs.Entry.{Item, with_error}
 use Rattle.walk_model.specs.ReadDir.{Spec, Reading, Outcome, spec_of}
 
 -- where the items below an item come from: nowhere, from a directory to be read, or from a reading that was made

@@ -1,5 +1,5 @@
 -- Path texts, row by row.
-use Rattle.std.specs.Prelude.{◌≡◌, ℕ, Bool, true, false, List, [], ◌∷◌, Option, Some, None, codes, refl}
+use Rattle.std.specs.Prelude.{◌≡◌, ℕ, true, false, List, [], ◌∷◌, Option, Some, None, codes, refl}
 use Rattle.walk_model.specs.Paths.{Component, root, here, up, plain, components, file_name, parent, join, same_path}
 
 -- the three answers for a text

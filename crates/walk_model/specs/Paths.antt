@@ -1,5 +1,5 @@
 -- Path texts by their components, as `std::path` has them on Unix. A text is the list of its bytes.
-use Rattle.std.specs.Prelude.{◌≡◌, ℕ, Bool, true, false, ◌||◌, ◌&&◌, List, [], ◌∷◌, ◌++◌, length, map, find, take, Option, Some, None, if◌then◌else◌, ◌==◌, bytes_eq, flat_map}
+use Rattle.std.specs.Prelude.{ℕ, Bool, true, false, ◌||◌, ◌&&◌, List, [], ◌∷◌, ◌++◌, map, find, Option, Some, None, if◌then◌else◌, ◌==◌, bytes_eq, flat_map}
 use Rattle.std.specs.List.{slice_split}
 
 -- one component of a path

@@ -1,10 +1,9 @@
 -- The stable order of a list: entries by the bytes of their names, then the errors, and what ties as it stood.
-use Rattle.std.specs.Prelude.{◌≡◌, ◌↔◌, Bool, true, false, List, [], ◌∷◌, Result, Ok, Err, if◌then◌else◌, IsPermutation}
+use Rattle.std.specs.Prelude.{◌≡◌, ◌↔◌, Bool, true, false, List, [], ◌∷◌, Ok, Err, if◌then◌else◌, IsPermutation}
 use Rattle.std.specs.Ordering.{nat_cmp, is_lt}
 use Rattle.std.specs.Cmp.Lexicographic.{slice_cmp}
 use Rattle.std.specs.List.Sorted.{IsSortedBy, IsStableBy}
-use Rattle.walk_model.specs.Error.{Failure}
-use Rattle.walk_model.specs.Entry.{Entry, Item}
+use Rattle.walk_model.specs.Entry.{Item}
 
 module _ {R E : Type 0} where
   -- whether x has to stand before y: an entry before an error, and entries by the bytes of their names

@@ -1,12 +1,12 @@
 -- A tree in memory: what stands in it, what a look-up finds, and what building changes.
-use Rattle.std.specs.Prelude.{ℕ, zero, suc, Bool, true, false, ◌||◌, ◌&&◌, List, [], ◌∷◌, ◌++◌, map, filter, length, not, Option, Some, None, is_some, Result, Ok, Err, if◌then◌else◌, bytes_eq}
+use Rattle.std.specs.Prelude.{ℕ, zero, suc, Bool, true, false, ◌&&◌, List, [], ◌∷◌, ◌++◌, map, filter, length, not, Option, Some, None, is_some, Result, Ok, Err, if◌then◌else◌, bytes_eq}
 use Rattle.std.specs.declared.io.ErrorKind.{ErrorKind}
 use Rattle.std.specs.declared.io.ErrorKind.TheVariants as kind
 use Rattle.walk_model.specs.declared.file_type.FileType.{FileType}
 use Rattle.walk_model.specs.declared.file_type.FileType.TheVariants as type
 use Rattle.walk_model.specs.declared.metadata.Metadata.{Metadata}
 use Rattle.walk_model.specs.Metadata.{metadata}
-use Rattle.walk_model.specs.FileSystem.{Named, Listed, Functions}
+use Rattle.walk_model.specs.FileSystem.{Listed, Functions}
 use Rattle.walk_model.specs.Paths.{Component, root, here, up, plain, components, last_of, all_but_last}
 
 -- a place in the tree: the names on the way to it from the root

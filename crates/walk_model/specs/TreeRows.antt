@@ -1,12 +1,10 @@
 -- A small tree, built, and what it answers.
-use Rattle.std.specs.Prelude.{◌≡◌, ℕ, List, [], ◌∷◌, Option, Some, None, Result, Ok, Err, codes, refl}
-use Rattle.std.specs.declared.io.ErrorKind.{ErrorKind}
+use Rattle.std.specs.Prelude.{◌≡◌, ℕ, List, [], ◌∷◌, None, Result, Ok, Err, codes, refl}
 use Rattle.std.specs.declared.io.ErrorKind.TheVariants as kind
 use Rattle.walk_model.specs.declared.file_type.FileType.TheVariants as type
-use Rattle.walk_model.specs.declared.metadata.Metadata.{Metadata}
 use Rattle.walk_model.specs.Metadata.{metadata}
 use Rattle.walk_model.specs.FileSystem.{Functions}
-use Rattle.walk_model.specs.Tree.{Tree, Node, directory, file, link, only_root, add, deny, remove, Refusal, not_found, already_exists, functions_of}
+use Rattle.walk_model.specs.Tree.{Tree, directory, file, link, only_root, add, deny, remove, Refusal, not_found, already_exists, functions_of}
 
 -- a step of building
 abbrev pub Step : Type 0

@@ -1,18 +1,16 @@
 -- Walks over small trees, row by row: what they answer, a line each.
-use Rattle.std.specs.Prelude.{◌≡◌, ℕ, zero, suc, length, nat_lt, ◌+◌, ◌/◌, ◌%◌, Bool, true, false, List, [], ◌∷◌, ◌++◌, map, Option, Some, None, Result, Ok, Err, if◌then◌else◌, codes, refl}
+use Rattle.std.specs.Prelude.{◌≡◌, ℕ, zero, suc, length, nat_lt, ◌+◌, ◌/◌, ◌%◌, true, false, List, [], ◌∷◌, ◌++◌, map, Option, Some, None, Ok, Err, if◌then◌else◌, codes, refl}
 use Rattle.std.specs.declared.io.ErrorKind.{ErrorKind}
 use Rattle.std.specs.declared.io.ErrorKind.TheVariants as kind
 use Rattle.walk_model.specs.declared.file_type.FileType.{FileType}
 use Rattle.walk_model.specs.declared.file_type.FileType.TheVariants as type
 use Rattle.walk_model.specs.Metadata.{metadata}
-use Rattle.walk_model.specs.FileType.{is_symlink}
-use Rattle.walk_model.specs.FileSystem.{Functions, Listed}
-use Rattle.walk_model.specs.Tree.{Tree, only_root, functions_of}
+use Rattle.walk_model.specs.FileSystem.{Functions}
+use Rattle.walk_model.specs.Tree.{only_root, functions_of}
 use Rattle.walk_model.specs.TreeRows.{Step, d, f, l, x, built}
 use Rattle.walk_model.specs.Error.{Failure, io, looped, busy, memory, lost}
-use Rattle.walk_model.specs.Entry.{Children, Entry, Item, path_of}
+use Rattle.walk_model.specs.Entry.{Children, Item, path_of}
 use Rattle.walk_model.specs.Options.{Options, defaults, with_sort, with_skip_hidden, with_follow_links, with_min_depth, with_max_depth}
-use Rattle.walk_model.specs.ReadDir.{Reading}
 use Rattle.walk_model.specs.Job.{Job, reading, root_list}
 use Rattle.walk_model.specs.Listing.{paired, below}
 use Rattle.walk_model.specs.Held.{to_come}

@@ -1,4 +1,4 @@
-use Rattle.std.proofs.Common.{◌≡◌, ◌≢◌, ◌<◌, ◌^◌, ℕ, length, Ok, Err, refl, ap, arith}
+use Rattle.std.proofs.Common.{◌≢◌, Ok, Err, refl, ap, arith}
 use Rattle.walk_model.specs.Error.{memory}
 use Rattle.walk_model.specs.Job as value
 use Rattle.walk_model.specs.ReadDir.{Outcome}

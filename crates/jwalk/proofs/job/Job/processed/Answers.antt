@@ -1,4 +1,3 @@
-use Rattle.std.proofs.Common.{◌≡◌, ap, sym, ◌∙◌}
 use Rattle.jwalk.proofs.job.Job.processed.Goals as goal
 
 pub returns-clause-value : goal.returns-clause-value

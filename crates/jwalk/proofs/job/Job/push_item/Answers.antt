@@ -1,6 +1,5 @@
-use Rattle.std.proofs.Common.{◌≡◌, ◌+◌, ◌++◌, ◌∷◌, [], map, Ok, ap, sym, subst, ◌∙◌}
+use Rattle.std.proofs.Common.{◌+◌, ◌++◌, ◌∷◌, [], map, ap, ◌∙◌}
 use Rattle.std.proofs.lemmas.List.{map-append}
-use Rattle.walk_model.specs.Entry.{AtDepth}
 use Rattle.walk_model.proofs.HeldFacts.{AtDepth-append}
 use Rattle.jwalk.specs.Entry.{item}
 use Rattle.jwalk.proofs.job.Job.push_item.Goals as goal

@@ -1,4 +1,4 @@
-use Rattle.std.proofs.Common.{◌≡◌, ◌+◌, ◌++◌, ◌∷◌, [], List, Result, map, Ok, ap, sym, ◌∙◌, append-nil}
+use Rattle.std.proofs.Common.{◌++◌, ◌∷◌, [], map, ap, sym, ◌∙◌, append-nil}
 use Rattle.std.proofs.lemmas.Grind.{flat_map-append}
 use Rattle.std.proofs.lemmas.List.{map-append, map-id}
 use Rattle.std.proofs.lemmas.Iterator.Adapters.{YieldsList-from_vec}
@@ -13,14 +13,14 @@ pub loop-found-preserved : goal.loop-found-preserved
 loop-found-preserved g c = record {
   depth = c.in_ok-push_item.ensures.depth c.loop-found.invariant.depth;
   value = λ d default.
-    let one = value.item_of (job (g.S.FileSystem.functions (file_system c.args.self.now)) (g.P.ProcessReadDir.processed (callback c.args.self.now)) d c.args.self.now) (spec c.args.of.now) in
-    let gone = map listed c.loop-found.yielded in
-    let next = listed c.in-Some.found in
-    c.in_ok-push_item.ensures.value d default
-    ∙ ap (λ l. l ++ one next) (c.loop-found.invariant.value d default)
-    ∙ ap (λ l. value.raw (job (g.S.FileSystem.functions (file_system c.args.self.now)) (g.P.ProcessReadDir.processed (callback c.args.self.now)) d c.args.self.now) (spec c.args.of.now) gone ++ l) (sym (append-nil (one next)))
-    ∙ sym (flat_map-append one gone (next ∷ []))
-    ∙ ap (value.raw (job (g.S.FileSystem.functions (file_system c.args.self.now)) (g.P.ProcessReadDir.processed (callback c.args.self.now)) d c.args.self.now) (spec c.args.of.now)) (sym (map-append listed c.loop-found.yielded (c.in-Some.found ∷ [])));
+      let one = value.item_of (job (g.S.FileSystem.functions (file_system c.args.self.now)) (g.P.ProcessReadDir.processed (callback c.args.self.now)) d c.args.self.now) (spec c.args.of.now) in
+      let gone = map listed c.loop-found.yielded in
+      let next = listed c.in-Some.found in
+      c.in_ok-push_item.ensures.value d default
+      ∙ ap (λ l. l ++ one next) (c.loop-found.invariant.value d default)
+      ∙ ap (λ l. value.raw (job (g.S.FileSystem.functions (file_system c.args.self.now)) (g.P.ProcessReadDir.processed (callback c.args.self.now)) d c.args.self.now) (spec c.args.of.now) gone ++ l) (sym (append-nil (one next)))
+      ∙ sym (flat_map-append one gone (next ∷ []))
+      ∙ ap (value.raw (job (g.S.FileSystem.functions (file_system c.args.self.now)) (g.P.ProcessReadDir.processed (callback c.args.self.now)) d c.args.self.now) (spec c.args.of.now)) (sym (map-append listed c.loop-found.yielded (c.in-Some.found ∷ [])));
 }
 
 pub returns-clause-value : goal.returns-clause-value

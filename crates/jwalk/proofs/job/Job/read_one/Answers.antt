@@ -1,4 +1,4 @@
-use Rattle.std.proofs.Common.{◌≡◌, ap, sym, ◌∙◌, false, Ok, map, arith}
+use Rattle.std.proofs.Common.{◌≡◌, ap, sym, false, Ok, map, arith}
 use Rattle.std.proofs.lemmas.Bool.Decides.{nat_tests}
 use Rattle.std.specs.Prelude.{nat_le}
 use Rattle.walk_fs.specs.Views.{listed}

@@ -1,10 +1,7 @@
-use Rattle.std.proofs.Common.{◌≡◌, ◌∙◌, ◌∷◌, ◌++◌, [], List, Result, None, map, ap, sym}
+use Rattle.std.proofs.Common.{◌≡◌, ◌∙◌, ◌∷◌, ◌++◌, [], List, None, map, ap, sym}
 use Rattle.std.specs.Prelude.{string_bytes}
-use Rattle.walk_model.specs.Entry.{AtDepth}
 use Rattle.walk_model.specs.ReadDir.{Reading}
-use Rattle.jwalk.specs.Text.{text}
 use Rattle.jwalk.specs.Entry.{item}
-use Rattle.jwalk.specs.ReadDir.{reading}
 use Rattle.jwalk.specs.Job.{callback}
 use Rattle.jwalk.proofs.ListFacts.{same_call}
 use Rattle.jwalk.proofs.job.Job.root_list.Goals as goal

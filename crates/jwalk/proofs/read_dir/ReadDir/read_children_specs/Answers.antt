@@ -1,9 +1,8 @@
-use Rattle.std.proofs.Common.{◌≡◌, ◌+◌, ◌<◌, ℕ, map, List, [], ◌∷◌, ◌++◌, refl, append-nil, drop, length, get_or, arith, ◌∙◌, sym}
+use Rattle.std.proofs.Common.{◌≡◌, ◌<◌, map, [], refl, append-nil, drop, length, get_or, arith, ◌∙◌, sym}
 use Rattle.std.proofs.lemmas.List.{map-append, drop_all}
 use Rattle.std.specs.Prelude.{option_to_list}
 use Rattle.walk_model.specs.ReadDir.{place, spec_of, children}
 use Rattle.jwalk.specs.Entry.{item}
-use Rattle.jwalk.specs.ReadDir.{spec, reading}
 use Rattle.jwalk.proofs.ListFacts.{gathers}
 use Rattle.jwalk.proofs.read_dir.ReadDir.read_children_specs.Goals as goal
 

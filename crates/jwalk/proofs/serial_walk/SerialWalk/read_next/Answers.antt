@@ -1,4 +1,4 @@
-use Rattle.std.proofs.Common.{◌≡◌, ◌∙◌, map, reverse, ap}
+use Rattle.std.proofs.Common.{◌∙◌, map, reverse, ap}
 use Rattle.walk_model.proofs.PreorderFacts.{fewer_to_read}
 use Rattle.jwalk.specs.ReadDir.{spec, outcome}
 use Rattle.jwalk.specs.States.{ClonesAreEqual}

@@ -1,4 +1,4 @@
-use Rattle.std.proofs.Common.{◌≡◌, ◌∙◌, ◌++◌, map, reverse, ap}
+use Rattle.std.proofs.Common.{◌∙◌, ◌++◌, map, reverse, ap}
 use Rattle.std.proofs.lemmas.List.{map-append}
 use Rattle.walk_model.specs.ReadDir.{place}
 use Rattle.jwalk.specs.ReadDir.{spec}
