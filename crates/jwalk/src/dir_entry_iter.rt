@@ -107,6 +107,10 @@ impl<C: ClientState, S: FileSystem, P: ProcessReadDir<C, A>, A: Allocator + Copy
         let mut items = read.results_list;
         let _count = items.len();
         items.reverse();
+        if self.items.is_empty() {
+            self.items = items;
+            return Ok(());
+        }
         self.items.append(&mut items)?;
         Ok(())
     }
