@@ -1,0 +1,114 @@
+#!/usr/bin/env python3
+"""Times `walk --tree` on trees in memory, beside `cat` of the same input and `find` over the same tree on disk.
+
+    python3 bench/walk.py [FOLDER]
+
+Build the program first: (cd crates/walk && rt run). FOLDER holds the inputs and the trees on disk (a temporary folder
+where none is given). Each time is the best of three warm runs with the output in a file, and the peak memory is that
+of the last one.
+"""
+import os
+import subprocess
+import sys
+import tempfile
+import time
+
+PROGRAM = os.path.join(os.path.dirname(os.path.abspath(__file__)), "..", "crates", "walk", "out", "walk")
+
+
+def wide(count):
+    """One directory with files alone."""
+    yield "d", "/r"
+    for i in range(count - 1):
+        yield "f", f"/r/file-{i:07d}"
+
+
+def bushy(count):
+    """Many directories with 19 files each."""
+    yield "d", "/r"
+    made, directory = 1, 0
+    while made < count:
+        yield "d", f"/r/dir-{directory:06d}"
+        made += 1
+        for i in range(min(19, count - made)):
+            yield "f", f"/r/dir-{directory:06d}/file-{i:02d}"
+            made += 1
+        directory += 1
+
+
+def chain(count):
+    """Directories below one another, with short names."""
+    path = ""
+    for _ in range(count):
+        path += "/a"
+        yield "d", path
+
+
+TREES = [
+    ("wide", 50_000, wide, "/r"),
+    ("wide", 200_000, wide, "/r"),
+    ("bushy", 50_000, bushy, "/r"),
+    ("bushy", 200_000, bushy, "/r"),
+    ("chain", 250, chain, "/a"),
+    ("chain", 1_000, chain, "/a"),
+]
+
+
+def run(words, input_path, output_path):
+    """The seconds and the peak memory in KiB of one run."""
+    with open(input_path, "rb") as source, open(output_path, "wb") as out:
+        start = time.perf_counter()
+        child = subprocess.Popen(words, stdin=source, stdout=out)
+        _, status, usage = os.wait4(child.pid, 0)
+        seconds = time.perf_counter() - start
+    if status != 0:
+        sys.exit(f"{words} ended with {status}")
+    return seconds, usage.ru_maxrss
+
+
+def best(words, input_path, output_path):
+    runs = [run(words, input_path, output_path) for _ in range(4)][1:]
+    return min(seconds for seconds, _ in runs), runs[-1][1]
+
+
+def on_disk(folder, entries):
+    for letter, path in entries:
+        if letter == "d":
+            os.mkdir(folder + path)
+        else:
+            open(folder + path, "w").close()
+
+
+def main():
+    folder = sys.argv[1] if len(sys.argv) > 1 else tempfile.mkdtemp(prefix="walk-bench-")
+    output = os.path.join(folder, "out.txt")
+    print(f"{os.cpu_count()} cores")
+    print(f"{'tree':<8}{'lines':>9}{'walk ms':>10}{'cat ms':>9}{'find ms':>9}{'x find':>8}{'bytes/line':>12}")
+    before = {}
+    for name, count, entries, root in TREES:
+        listed = os.path.join(folder, f"{name}-{count}.txt")
+        with open(listed, "w") as file:
+            for letter, path in entries(count):
+                file.write(f"d {path}\n" if letter == "d" else f"f 1 {path}\n")
+        disk = os.path.join(folder, f"{name}-{count}")
+        if not os.path.isdir(disk):
+            os.mkdir(disk)
+            on_disk(disk, entries(count))
+        seconds, memory = best([PROGRAM, "--tree", root], listed, output)
+        with open(output, "rb") as file:
+            lines = sum(1 for _ in file)
+        if lines != count:
+            sys.exit(f"{name} {count}: {lines} lines were printed")
+        cat, _ = best(["cat"], listed, output)
+        find, _ = best(["find", disk + root], listed, output)
+        print(f"{name:<8}{count:>9}{seconds * 1e3:>10.1f}{cat * 1e3:>9.1f}{find * 1e3:>9.1f}{seconds / find:>8.2f}{memory * 1024 / count:>12.0f}")
+        if name in before:
+            smaller, faster = before[name]
+            print(f"    {count // smaller} times the lines take {seconds / faster:.1f} times the time")
+        before[name] = (count, seconds)
+    if len(sys.argv) < 2:
+        subprocess.run(["rm", "-rf", folder], check=True)
+
+
+if __name__ == "__main__":
+    main()
