@@ -4,9 +4,9 @@ use Rattle.walk_model.specs.Error.{memory}
 use Rattle.walk_model.specs.Entry.{Item}
 use Rattle.walk_model.specs.ReadDir.{Spec, Reading, Outcome, children_of}
 use Rattle.walk_model.specs.Listing.{nothing, paired, answers, listing}
-use Rattle.walk_model.specs.Held.{pair_up, weight}
+use Rattle.walk_model.specs.Held.{pair_up, weight, kept, ended}
 use Rattle.walk_model.proofs.HeldFacts.{alone, pair_up-outcome}
-use Rattle.walk_model.proofs.StepFacts.{plainly_one, plainly_any, answers-zero, heavy_held}
+use Rattle.walk_model.proofs.StepFacts.{plainly_one, plainly_any, always_answered, answers-zero, heavy_held}
 use Rattle.jwalk.specs.declared.error.Error.{Error}
 use Rattle.jwalk.specs.declared.dir_entry.DirEntry.{DirEntry}
 use Rattle.jwalk.specs.declared.dir_entry_iter.DirEntryIter.{DirEntryIter}
@@ -38,7 +38,7 @@ module _ {C S P A R E : Type 0} (clones : Type 0) (is_steady : E → Type 0) (re
       record {
         job = job;
         plain = rw (front, rest, told) (refl, refl);
-        passes = λ equal. inr (rw (front, rest, told) (refl, refl));
+        passes = λ equal. inr (kept (rw (front, rest, told) (refl, refl)) (always_answered {R = R} {E = E} (Err (failure error))));
         coming = λ d steady. inr (coming_next (reading_by d) old new (Err (failure error)) job (rw (front, rest, told) (alone (reading_by d) (greatest_depth (job_of old)) (Err memory) (items_of old) (unread_of old) refl)));
       }
 
@@ -59,7 +59,7 @@ module _ {C S P A R E : Type 0} (clones : Type 0) (is_steady : E → Type 0) (re
         | inr one ↦ record {
           job = job;
           plain = rw (before, after) (plainly_one (pair_up (items_of old) (unread_of old)) (item x) (pair_up (items_of new) (unread_of new)) one.plain);
-          passes = λ equal. inr (rw (before, after) (one.passes equal));
+          passes = λ equal. inr (kept (rw (before, after) (one.passes equal)) (always_answered (item x)));
           coming = λ d steady. inr (coming_next (reading_by d) old new (item x) job (rw (before, after) (one.listed d steady)));
         }
       ]
@@ -72,7 +72,7 @@ module _ {C S P A R E : Type 0} (clones : Type 0) (is_steady : E → Type 0) (re
       record {
         job = job;
         plain = rw before (refl, after);
-        passes = λ equal. after;
+        passes = λ equal. inr (rw (before, after) ended);
         coming = λ d steady. ap (λ l. answers 0 (listing (reading_by d) (greatest_depth (job_of old)) l)) before;
       }
 

@@ -1,11 +1,11 @@
 -- What a walk holds, and what one of its answers does.
-use Rattle.std.specs.Prelude.{◌≡◌, ◌⊎◌, ℕ, Bool, true, false, List, [], ◌∷◌, ◌++◌, map, reverse, Option, Some, None, option_map, Result, Err}
+use Rattle.std.specs.Prelude.{◌≡◌, ◌⊎◌, ℕ, Bool, true, false, List, [], ◌∷◌, ◌++◌, map, reverse, Option, Some, None, IsSomeAnd, option_map, Result, Err}
 use Rattle.walk_model.specs.Error.{memory}
 use Rattle.walk_model.specs.Entry.{Item}
 use Rattle.walk_model.specs.ReadDir.{Spec, Outcome}
 use Rattle.walk_model.specs.Listing.{Pair, nothing}
 use Rattle.walk_model.specs.Held as value
-use Rattle.walk_model.specs.Held.{pair_up, Passes, PassesOne, IsAtDirectory, AnswersPlainly}
+use Rattle.walk_model.specs.Held.{pair_up, PassesTo, PassesOne, IsAtDirectory, AnswersPlainly}
 use Rattle.jwalk.specs.Entry.{item}
 use Rattle.jwalk.specs.Job.{greatest_depth}
 use Rattle.jwalk.specs.ReadDirIter as readings
@@ -66,14 +66,13 @@ module _ {C S P A R E : Type 0} where
   AnswersFirst reading old None new = to_come reading old ≡ []
   AnswersFirst reading old (Some answer) new = Refuses answer new ⊎ (to_come reading old ≡ answer ∷ to_come reading new)
 
-  -- whatever the file system answers: an item is passed with what its directory's reading gave, or memory was refused
-  abbrev pub PassesFirst : DirEntryIter C S P A R E → Option (Item R E) → DirEntryIter C S P A R E → Type 0
-  PassesFirst old None new = held new ≡ []
-  PassesFirst old (Some answer) new = Refuses answer new ⊎ Passes (greatest_depth (job_of old)) (held old) answer (held new)
+  -- whatever the file system answers: items are passed with what their directories' readings gave, or memory was refused
+  abbrev pub PassesItems : DirEntryIter C S P A R E → Option (Item R E) → DirEntryIter C S P A R E → Type 0
+  PassesItems old answer new = IsSomeAnd answer (λ a. Refuses a new) ⊎ PassesTo (greatest_depth (job_of old)) (min_depth_of old) (held old) answer (held new)
 
   -- One call of a walk's `next`. What is promised of a fixed file system holds with d as the default state of an entry.
   pub record Answers (clones_are_equal : Type 0) (is_steady : E → Type 0) (reading_by : E → Spec R → Outcome R E) (old : DirEntryIter C S P A R E) (answer : Option (Result (DirEntry C A R E) (Error A))) (new : DirEntryIter C S P A R E) : Type 0 where
     pub job : job_of new ≡ job_of old
     pub plain : AnswersPlainly (min_depth_of old) (held old) (option_map item answer) (held new)
-    pub passes : clones_are_equal → PassesFirst old (option_map item answer) new
+    pub passes : clones_are_equal → PassesItems old (option_map item answer) new
     pub coming : (d : E) → is_steady d → AnswersFirst (reading_by d) old (option_map item answer) new

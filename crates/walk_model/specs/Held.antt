@@ -34,6 +34,12 @@ abbrev pub Passes : {R E : Type 0} → ℕ → List (Pair R E) → Item R E → 
 Passes max_depth [] answer held = ⊥
 Passes max_depth (p ∷ rest) answer held = PassesItem max_depth p.item p.source rest answer held
 
+-- Pairs are passed one after another up to the first whose answer the least depth keeps, or up to the end.
+pub data PassesTo {R E : Type 0} (max_depth min_depth : ℕ) : List (Pair R E) → Option (Item R E) → List (Pair R E) → Type 0 where
+  kept : {old : List (Pair R E)} {answer : Item R E} {new : List (Pair R E)} → Passes max_depth old answer new → is_answered min_depth answer ≡ true → PassesTo max_depth min_depth old (Some answer) new
+  left_out : {old : List (Pair R E)} (passed : Item R E) (between : List (Pair R E)) {answer : Option (Item R E)} {new : List (Pair R E)} → Passes max_depth old passed between → is_answered min_depth passed ≡ false → PassesTo max_depth min_depth between answer new → PassesTo max_depth min_depth old answer new
+  ended : PassesTo max_depth min_depth [] None []
+
 abbrev pub is_plain : {R E : Type 0} → Source R E → Bool
 is_plain nothing = true
 is_plain (unread spec) = false
