@@ -1,0 +1,8 @@
+//! Walks a tree and prints one line for each answer.
+#![tactic(auto)]
+
+mod number;
+mod tree_line;
+mod words;
+
+fn main() {}
