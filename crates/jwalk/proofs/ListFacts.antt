@@ -26,3 +26,7 @@ reverse-stacked xs ys = reverse-append xs (reverse ys) ∙ ap (λ l. l ++ revers
 pub is_some-map : {X Y : Type 0} (f : X → Y) (o : Option X) → is_some (option_map f o) ≡ is_some o
 is_some-map f None = refl
 is_some-map f (Some x) = refl
+
+-- a call at equal arguments
+pub same_call : {T L Z : Type 0} (f : T → L → Z) {t u : T} {l m : L} {z : Z} → u ≡ t → m ≡ l → f u m ≡ z → f t l ≡ z
+same_call f {t} {u} {l} {m} p q e = ap (λ x. f x l) (sym p) ∙ ap (f u) (sym q) ∙ e

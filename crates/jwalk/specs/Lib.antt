@@ -4,3 +4,4 @@ pub mod Entry
 pub mod ReadDir
 pub mod States
 pub mod Job
+pub mod ReadDirIter

@@ -5,6 +5,8 @@ use crate::read_children::ReadChildren;
 use std::alloc::{AllocError, Allocator, Global};
 use std::sync::Arc;
 use walk_model::file_type::FileType;
+use walk_model::metadata::Metadata;
+use walk_paths::path_text;
 
 /// A file, a directory, a link or anything else that a walk came to.
 #[derive(Drop)]
@@ -24,8 +26,10 @@ pub struct DirEntry<C: ClientState, A: Allocator + Copy = Global> {
 }
 
 impl<C: ClientState, A: Allocator + Copy> DirEntry<C, A> {
-    ghost use Rattle.std.specs.Prelude.{◌≡◌, Ok, IfOk, string_bytes};
-    ghost use Rattle.walk_model.specs.Entry.{path_of, with_error};
+    ghost use Rattle.std.specs.Prelude.{◌≡◌, true, Ok, IfOk, string_bytes, if◌then◌else◌};
+    ghost use Rattle.walk_model.specs.Entry.{path_of, with_error, children_at};
+    ghost use Rattle.walk_model.specs.FileType.{is_dir};
+    ghost use Rattle.walk_model.specs.Metadata.{type_of};
     ghost use Rattle.jwalk.specs.Text.{text};
     ghost use Rattle.jwalk.specs.Error.{failure};
     ghost use Rattle.jwalk.specs.Entry.{entry};
@@ -56,6 +60,26 @@ impl<C: ClientState, A: Allocator + Copy> DirEntry<C, A> {
         ensures { result.now ≡ (entry self.now).parent_path }
     {
         self.parent_path.as_str()
+    }
+
+    /// The path of the entry: its `file_name` below its `parent_path`.
+    ///
+    /// Fails only for want of memory.
+    pub fn path(&self) -> Result<String<A>, AllocError>
+        ensures { IfOk result (λ path. string_bytes path ≡ path_of (entry self.now)) }
+    {
+        let alloc = *self.file_name.allocator();
+        path_text::join(alloc, self.parent_path.as_str(), self.file_name.as_str())
+    }
+
+    /// The entry of a link, where the directory at its path is to be read, if it leads to one.
+    pub(crate) fn with_directory(mut self, path: Arc<String<A>, A>, target: Metadata) -> Self
+        ensures { entry result ≡ (if is_dir (type_of target) then record (entry self) { read_children = children_at true (text path) } else entry self) }
+    {
+        if target.is_dir() {
+            self.read_children = Some(ReadChildren::new(path));
+        }
+        self
     }
 
     /// The entry with the error that reading its directory ended in.

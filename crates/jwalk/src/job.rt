@@ -1,5 +1,5 @@
 //! One reading of a directory.
-ghost use Rattle.std.specs.Prelude.{◌≡◌, ◌+◌, ◌<◌, ◌^◌, ◌&&◌, ◌++◌, Some, IfOk, OnOk, map, option_map, option_to_list, string_bytes};
+ghost use Rattle.std.specs.Prelude.{◌≡◌, ◌+◌, ◌<◌, ◌^◌, ◌&&◌, ◌++◌, [], ◌∷◌, false, Some, Ok, IfOk, OnOk, map, option_map, option_to_list, string_bytes};
 ghost use Rattle.walk_fs.specs.Views.{listed, named};
 ghost use Rattle.walk_model.specs.Entry.{AtDepth, is_hidden, children_at};
 ghost use Rattle.walk_model.specs.FileType.{is_dir};
@@ -27,6 +27,7 @@ use walk_fs::fault::Fault;
 use walk_fs::file_system::FileSystem;
 use walk_fs::listed::Listed;
 use walk_model::file_type::FileType;
+use walk_model::metadata::Metadata;
 use walk_paths::path_text;
 
 /// What reads one directory: a file system, a callback, and the options that a reading goes by.
@@ -45,6 +46,36 @@ fn is_hidden(name: &str) -> bool
     ensures { result ≡ is_hidden name.now }
 {
     matches!(name.as_bytes(), [b'.', ..])
+}
+
+/// The name of a root: its file name, or its whole path where it has none.
+fn own_name(path: &str) -> &str
+    ensures { result.now ≡ value.own_name path.now }
+{
+    match path_text::file_name(path) {
+        Some(name) => name,
+        None => path,
+    }
+}
+
+/// The parent of a root: nothing where it has no file name.
+fn own_parent(path: &str) -> &str
+    ensures { result.now ≡ value.own_parent path.now }
+{
+    if path_text::file_name(path).is_none() {
+        return "";
+    }
+    match path_text::parent(path) {
+        Some(parent) => parent,
+        None => "",
+    }
+}
+
+/// The item of a root before the callback, and the path that the callback is given with it.
+#[derive(Drop)]
+struct RootItem<C: ClientState, A: Allocator + Copy> {
+    item: Result<DirEntry<C, A>, Error<A>>,
+    parent_path: Arc<String<A>, A>,
 }
 
 impl<C: ClientState, S: FileSystem, P: ProcessReadDir<C, A>, A: Allocator + Copy> Job<C, S, P, A> {
@@ -231,5 +262,109 @@ impl<C: ClientState, S: FileSystem, P: ProcessReadDir<C, A>, A: Allocator + Copy
             Err(Fault::Io(err)) => Ok(Err(Error::from_path(of.depth, of.path.clone()?, err))),
             Err(Fault::Memory) => Err(AllocError),
         }
+    }
+
+    /// The root's entry with this metadata.
+    fn root_entry(
+        &self,
+        path: Arc<String<A>, A>,
+        metadata: Metadata,
+    ) -> Result<DirEntry<C, A>, AllocError>
+        ensures depth { IfOk result (λ e. e.depth ≡ 0) }
+        ensures value { (d : C.DirEntryState) → DefaultIs C.DirEntryState.is_default d → IfOk result (λ e. entry e ≡ value.made_of (job (S.functions (file_system self.now)) (P.processed (callback self.now)) d self.now) 0 (text path) false [] metadata) }
+    {
+        let file_type = metadata.file_type();
+        let file_name = String::from_str(self.alloc, own_name(path.as_str()))?;
+        let parent_path = String::from_str(self.alloc, own_parent(path.as_str()))?;
+        let read_children = if file_type.is_dir() {
+            Some(ReadChildren::new(path))
+        } else {
+            None
+        };
+        Ok(DirEntry {
+            depth: 0,
+            file_name,
+            file_type,
+            client_state: C::DirEntryState::default(),
+            parent_path: Arc::new(self.alloc, parent_path)?,
+            read_children,
+        })
+    }
+
+    /// The root's entry, or the error with its path.
+    fn made(
+        &self,
+        path: &str,
+    ) -> Result<Result<DirEntry<C, A>, Error<A>>, AllocError>
+        ensures depth { IfOk result (λ r. AtDepth 0 (item r ∷ [])) }
+        ensures value { (d : C.DirEntryState) → S.IsFixed (file_system self.now) → DefaultIs C.DirEntryState.is_default d → IfOk result (λ r. item r ≡ value.made (job (S.functions (file_system self.now)) (P.processed (callback self.now)) d self.now) 0 path.now false []) }
+    {
+        let shared = Arc::new(self.alloc, String::from_str(self.alloc, path)?)?;
+        match self.fs.symlink_metadata(path) {
+            Ok(metadata) => Ok(Ok(self.root_entry(shared, metadata)?)),
+            Err(Fault::Io(err)) => Ok(Err(Error::from_path(0, shared, err))),
+            Err(Fault::Memory) => Err(AllocError),
+        }
+    }
+
+    /// A root's entry with what stands behind it, if it is a link: a directory there is to be read.
+    fn with_target(
+        &self,
+        found: DirEntry<C, A>,
+    ) -> Result<Result<DirEntry<C, A>, Error<A>>, AllocError>
+        ensures depth { AtDepth 0 (Ok (entry found) ∷ []) → IfOk result (λ r. AtDepth 0 (item r ∷ [])) }
+        ensures value { (d : C.DirEntryState) → S.IsFixed (file_system self.now) → IfOk result (λ r. item r ≡ value.with_target (job (S.functions (file_system self.now)) (P.processed (callback self.now)) d self.now) (entry found)) }
+    {
+        if !found.file_type.is_symlink() {
+            return Ok(Ok(found));
+        }
+        let path = Arc::new(self.alloc, found.path()?)?;
+        match self.fs.metadata(path.as_str()) {
+            Ok(metadata) => Ok(Ok(found.with_directory(path, metadata))),
+            Err(Fault::Io(err)) => Ok(Err(Error::from_path(0, path, err))),
+            Err(Fault::Memory) => Err(AllocError),
+        }
+    }
+
+    /// The root's item before the callback, with the path that the callback is given beside it.
+    fn root_item(&self, path: &str) -> Result<RootItem<C, A>, AllocError>
+        ensures depth { IfOk result (λ r. AtDepth 0 (item r.item ∷ [])) }
+        ensures value { (d : C.DirEntryState) → S.IsFixed (file_system self.now) → DefaultIs C.DirEntryState.is_default d → IfOk result (λ r. item r.item ≡ value.root_item (job (S.functions (file_system self.now)) (P.processed (callback self.now)) d self.now) path.now) }
+        ensures parent { (d : C.DirEntryState) → S.IsFixed (file_system self.now) → DefaultIs C.DirEntryState.is_default d → IfOk result (λ r. text r.parent_path ≡ value.root_parent (job (S.functions (file_system self.now)) (P.processed (callback self.now)) d self.now) path.now) }
+    {
+        match self.made(path)? {
+            Ok(found) => {
+                let parent_path = found.parent_path.clone()?;
+                let item = self.with_target(found)?;
+                Ok(RootItem { item, parent_path })
+            }
+            Err(error) => Ok(RootItem {
+                item: Err(error),
+                parent_path: Arc::new(self.alloc, String::new(self.alloc))?,
+            }),
+        }
+    }
+
+    /// The list that a walk begins with: the root's entry, or the error met when it was asked for, after the callback,
+    /// which is given no depth, the root's parent path and this state. A root that is a link to a directory stays a
+    /// link, and the directory is read below it; a root that is a broken link is an error with its path.
+    ///
+    /// Fails only for want of memory: of the walk's own, of the file system's or of the callback's.
+    pub fn root_list(
+        &self,
+        path: &str,
+        state: C::ReadDirState,
+    ) -> Result<ReadDir<C, A>, AllocError>
+        requires { P.IsLawful (callback self.now) }
+        ensures depth { IfOk result (λ r. AtDepth 0 (reading r).list) }
+        ensures value { (d : C.DirEntryState) → IsSteady (S.IsFixed (file_system self.now)) (P.IsFixed (callback self.now)) C.ReadDirState.is_clone C.DirEntryState.is_default d → IfOk result (λ r. value.root_list (job (S.functions (file_system self.now)) (P.processed (callback self.now)) d self.now) path.now state ≡ reading r) }
+    {
+        let RootItem { item, parent_path } = self.root_item(path)?;
+        let mut state = state;
+        let mut items = Vec::new(self.alloc);
+        items.push(item)?;
+        self.process
+            .process(None, parent_path.as_str(), &mut state, &mut items)?;
+        Ok(ReadDir::new(state, items))
     }
 }

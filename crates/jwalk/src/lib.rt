@@ -8,7 +8,9 @@ pub mod job;
 pub mod process_read_dir;
 pub mod read_children;
 pub mod read_dir;
+pub mod read_dir_iter;
 pub mod read_dir_spec;
+pub mod serial_walk;
 
 pub use client_state::ClientState;
 pub use dir_entry::DirEntry;

@@ -37,7 +37,7 @@ abbrev pub own_parent : List ℕ → List ℕ
 own_parent path = if is_some (file_name path) then unwrap_or (parent path) [] else []
 
 module _ {R E : Type 0} (job : Job R E) where
-  abbrev made_of : ℕ → List ℕ → Bool → List (List ℕ) → Metadata → Entry R E
+  abbrev pub made_of : ℕ → List ℕ → Bool → List (List ℕ) → Metadata → Entry R E
   made_of depth path through ancestors m = record {
       depth = depth;
       file_name = own_name path;

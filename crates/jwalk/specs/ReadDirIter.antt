@@ -1,0 +1,40 @@
+-- What an iterator over readings has still to read.
+use Rattle.std.specs.Prelude.{◌≡◌, ◌≢◌, ℕ, ◌⊎◌, List, [], ◌∷◌, ◌++◌, map, reverse, Option, Some, None, Err}
+use Rattle.walk_model.specs.Error.{memory}
+use Rattle.walk_model.specs.ReadDir.{Spec, Outcome, place, children_of, ReadsFirst}
+use Rattle.walk_model.specs.Preorder.{preorder}
+use Rattle.jwalk.specs.ReadDir.{spec}
+use Rattle.jwalk.specs.declared.job.Job.{Job}
+use Rattle.jwalk.specs.declared.serial_walk.SerialWalk.{SerialWalk}
+use Rattle.jwalk.specs.declared.read_dir_iter.ReadDirIter.{ReadDirIter}
+use Rattle.jwalk.specs.declared.read_dir_iter.ReadDirIter.TheVariants.{Walk}
+
+module _ {C S P A R E : Type 0} where
+  -- the specifications on the stack, the next one first
+  abbrev pub stacked : SerialWalk C S P A R E → List (Spec R)
+  stacked it = map spec (reverse it.specs.items)
+
+  -- what it reads with
+  abbrev pub job_of : ReadDirIter C S P A R E → Job C S P A R E
+  job_of (Walk walk) = walk.job
+
+  -- the specifications whose readings are still to be given, the next one first; those below them aren't among them
+  abbrev pub to_read : ReadDirIter C S P A R E → List (Spec R)
+  to_read (Walk walk) = stacked walk
+
+-- the specifications of an outcome's directories stand in front of the old ones
+pub record StacksChildren {R E : Type 0} (clones_are_equal : Type 0) (old : List (Spec R)) (read : Outcome R E) (new : List (Spec R)) : Type 0 where
+  pub front : List (Spec R)
+  pub left : new ≡ front ++ old
+  pub places : map place front ≡ map place (children_of read)
+  pub children : clones_are_equal → front ≡ children_of read
+
+-- A reading is given: it is that of the first specification, which gives way to its children. It may be the error that tells of want of memory instead; then nothing is left to be read. Nothing is given where nothing is left, and nowhere else.
+abbrev pub GivesFirst : {R E : Type 0} → ℕ → Type 0 → List (Spec R) → Option (Outcome R E) → List (Spec R) → Type 0
+GivesFirst max_depth clones_are_equal old None new = (old ≡ []) × (new ≡ [])
+GivesFirst max_depth clones_are_equal old (Some given) new = ((given ≡ Err memory) × (old ≢ []) × (new ≡ [])) ⊎ ((given ≢ Err memory) × ReadsFirst max_depth clones_are_equal old given new)
+
+-- Readings come in preorder: the first of those still to come is given and the rest is left, or memory ran out and nothing is.
+abbrev pub GivesPreorder : {R E : Type 0} → (Spec R → Outcome R E) → ℕ → List (Spec R) → Option (Outcome R E) → List (Spec R) → Type 0
+GivesPreorder reading max_depth old None new = preorder reading max_depth old ≡ []
+GivesPreorder reading max_depth old (Some given) new = ((given ≡ Err memory) × (new ≡ [])) ⊎ (preorder reading max_depth old ≡ given ∷ preorder reading max_depth new)

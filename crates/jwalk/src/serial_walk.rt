@@ -1,0 +1,78 @@
+//! Readings one after another.
+ghost use Rattle.std.specs.Prelude.{◌≡◌, ◌≢◌, [], IfOk, IfSome, IfNone, OnOk, OnErr};
+ghost use Rattle.walk_model.specs.ReadDir.{ReadsFirst, IsReadingOfFirst};
+ghost use Rattle.walk_model.specs.Job as value;
+ghost use Rattle.jwalk.specs.ReadDir.{outcome};
+ghost use Rattle.jwalk.specs.States.{ClonesAreEqual};
+ghost use Rattle.jwalk.specs.Job.{job, file_system, callback, greatest_depth, IsSteady};
+
+use crate::client_state::ClientState;
+use crate::error::Error;
+use crate::job::Job;
+use crate::process_read_dir::ProcessReadDir;
+use crate::read_dir::ReadDir;
+use crate::read_dir_spec::ReadDirSpec;
+use std::alloc::{AllocError, Allocator, Global};
+use walk_fs::file_system::FileSystem;
+
+/// Reads one directory when it is asked for the next: the stack of those not read yet has the next one last.
+#[derive(Drop)]
+pub struct SerialWalk<
+    C: ClientState,
+    S: FileSystem,
+    P: ProcessReadDir<C, A>,
+    A: Allocator + Copy = Global,
+> {
+    pub(crate) job: Job<C, S, P, A>,
+    pub(crate) specs: Vec<ReadDirSpec<C, A>, A>,
+}
+
+impl<C: ClientState, S: FileSystem, P: ProcessReadDir<C, A>, A: Allocator + Copy>
+    SerialWalk<C, S, P, A>
+{
+    ghost use Rattle.jwalk.specs.ReadDirIter.{stacked, StacksChildren};
+
+    /// The specifications of a reading's directories, put on the stack with the first of them last.
+    fn stack(
+        &mut self,
+        read: &Result<ReadDir<C, A>, Error<A>>,
+    ) -> Result<(), AllocError>
+        ensures job { self.new.job ≡ self.old.job }
+        ensures children { OnOk result (StacksChildren (ClonesAreEqual C.ReadDirState.is_clone) (stacked self.old) (outcome read.now) (stacked self.new)) }
+    {
+        let Ok(reading) = read else {
+            return Ok(());
+        };
+        let mut children = reading.read_children_specs()?;
+        children.reverse();
+        self.specs.append(&mut children)?;
+        Ok(())
+    }
+
+    /// The reading of the next directory, whose own directories are the next ones then.
+    pub(crate) fn read_next(
+        &mut self,
+    ) -> Result<Option<Result<ReadDir<C, A>, Error<A>>>, AllocError>
+        requires { P.IsLawful (callback self.old.job) }
+        ensures job { self.new.job ≡ self.old.job }
+        ensures end { IfOk result (λ o. IfNone o ((stacked self.old ≡ []) × (stacked self.new ≡ []))) }
+        ensures refused { OnErr result (stacked self.old ≢ []) }
+        ensures reads { IfOk result (λ o. IfSome o (λ r. ReadsFirst (greatest_depth self.old.job) (ClonesAreEqual C.ReadDirState.is_clone) (stacked self.old) (outcome r) (stacked self.new))) }
+        ensures value { (d : C.DirEntryState) → IsSteady (S.IsFixed (file_system self.old.job)) (P.IsFixed (callback self.old.job)) C.ReadDirState.is_clone C.DirEntryState.is_default d → IfOk result (λ o. IfSome o (λ r. IsReadingOfFirst (value.reading (job (S.functions (file_system self.old.job)) (P.processed (callback self.old.job)) d self.old.job)) (stacked self.old) (outcome r))) }
+    {
+        let Some(first) = self.specs.pop() else {
+            return Ok(None);
+        };
+        let read = self.job.read_one(&first)?;
+        self.stack(&read)?;
+        Ok(Some(read))
+    }
+
+    /// Forgets what is not read yet.
+    pub(crate) fn stop(&mut self)
+        ensures job { self.new.job ≡ self.old.job }
+        ensures stacked { stacked self.new ≡ [] }
+    {
+        self.specs.clear();
+    }
+}
