@@ -1,0 +1,148 @@
+-- What is added to the table is added to the tree.
+use Rattle.std.proofs.Common.{◌≡◌, ℕ, ◌<◌, true, List, [], ◌∷◌, ◌++◌, length, Option, None, Some, Result, Ok, Err, refl, sym, ap, subst, ◌∙◌}
+use Rattle.std.specs.declared.alloc.AllocError.{AllocError}
+use Rattle.std.specs.Prelude.{◌↔◌, OnOk, OnErr, is_some, option_and_then, if◌then◌else◌}
+use Rattle.std.specs.Option.{option_map}
+use Rattle.std.specs.declared.io.ErrorKind.{ErrorKind}
+use Rattle.walk_model.specs.Paths.{Component, root, here, up, plain, components, last_of, all_but_last, name_of}
+use Rattle.walk_model.specs.Tree.{Place, Tree, Node, directory, file, is_directory, looked_up, Refusal, not_found, already_exists, Spot, spot_in, spot_below, with_child as with_node, add_at, add}
+use Rattle.memory_fs.specs.declared.child.Child.{Child}
+use Rattle.memory_fs.specs.declared.child.Child.TheVariants.{Dir, File}
+use Rattle.memory_fs.specs.declared.add_error.AddError.{AddError}
+use Rattle.memory_fs.specs.declared.add_error.AddError.TheVariants.{NotFound, AlreadyExists, Memory}
+use Rattle.memory_fs.specs.Branch.{Branch, child_named, children_at, child_of, at_end, names_of, node_of, tree_of_table, reached, holder_of, free_in, free_below, free_spot, empty_branch, with_named, IsSound}
+use Rattle.memory_fs.specs.MemoryFs.{IsBuilt}
+use Rattle.memory_fs.proofs.TableLemmas.{at_end-append}
+use Rattle.memory_fs.proofs.LookUpLemmas.{Agrees, along_agrees}
+use Rattle.memory_fs.proofs.GrowthLemmas.{tree-grown, sound-grown}
+use Rattle.memory_fs.proofs.NewChildLemmas.{grows-file, extends-file, grows-directory, extends-directory, with_directory, node-directory}
+
+abbrev spot_at : Place → List ℕ → Spot
+spot_at place name = record { holder = place; name = name }
+
+-- the spot of the tree is the one of the table
+pub record IsSpot (table : List Branch) (answer : Result Tree Refusal) (node : Node) (holder : ℕ) (name : List ℕ) : Type 0 where
+  pub place : Place
+  pub stands : at_end table (Dir 0) place ≡ Some (Dir holder)
+  pub free : child_named (children_at table holder) name ≡ None
+  pub answer_is : answer ≡ Ok (with_node node (record { holder = place; name = name }) (tree_of_table table))
+
+-- both are refused alike, or both found the same spot
+abbrev pub AddsAlike : List Branch → Result Tree Refusal → Node → Result (ℕ × List ℕ) AddError → Type 0
+AddsAlike table answer node (Ok spot) = IsSpot table answer node spot.0 spot.1
+AddsAlike table answer node (Err NotFound) = answer ≡ Err not_found
+AddsAlike table answer node (Err AlreadyExists) = answer ≡ Err already_exists
+AddsAlike table answer node (Err Memory) = ⊥
+
+module _ (table : List Branch) (sound : IsSound table) (node : Node) where
+  in_directory : (place : Place) (name : List ℕ) (holder : ℕ) → at_end table (Dir 0) place ≡ Some (Dir holder)
+      → (o : Option Child) → at_end table (Dir 0) (place ++ name ∷ []) ≡ o → child_named (children_at table holder) name ≡ o
+      → AddsAlike table (add_at (tree_of_table table) node (spot_in (tree_of_table table) name (Ok place))) node (if is_some o then Err AlreadyExists else Ok (holder, name))
+  in_directory place name holder e None q named = record {
+    place = place;
+    stands = e;
+    free = named;
+    answer_is =
+        ap (λ (o : Option Child). add_at (tree_of_table table) node (if is_directory (option_map (node_of table) o) then Some (spot_at place name) else None)) e
+        ∙ ap (λ (o : Option Child). if is_some (option_map (node_of table) o) then Err already_exists else Ok (with_node node (spot_at place name) (tree_of_table table))) q;
+  }
+  in_directory place name holder e (Some x) q named =
+      ap (λ (o : Option Child). add_at (tree_of_table table) node (if is_directory (option_map (node_of table) o) then Some (spot_at place name) else None)) e
+      ∙ ap (λ (o : Option Child). if is_some (option_map (node_of table) o) then Err already_exists else Ok (with_node node (spot_at place name) (tree_of_table table))) q
+
+  in_alike : (name : List ℕ) (r : Result Place ErrorKind) (s : Result Child ErrorKind) → Agrees table r s
+      → AddsAlike table (add_at (tree_of_table table) node (spot_in (tree_of_table table) name r)) node (free_in table name (holder_of s))
+  in_alike name (Ok place) (Ok (Dir i)) e =
+      in_directory place name i e (child_named (children_at table i) name) (at_end-append table (Dir 0) place name ∙ ap (option_and_then (λ x. child_of table x name)) e) refl
+  in_alike name (Ok place) (Ok (File len)) e =
+      ap (λ (o : Option Child). add_at (tree_of_table table) node (if is_directory (option_map (node_of table) o) then Some (spot_at place name) else None)) e
+  in_alike name (Ok place) (Err l) e = absurd e
+  in_alike name (Err k) (Ok c) e = absurd e
+  in_alike name (Err k) (Err l) e = refl
+
+  below_alike : (front : List Component) (last : Option Component)
+      → AddsAlike table (add_at (tree_of_table table) node (spot_below (tree_of_table table) front last)) node (free_below table front (name_of last))
+  below_alike front None = refl
+  below_alike front (Some root) = refl
+  below_alike front (Some here) = refl
+  below_alike front (Some up) = refl
+  below_alike front (Some (plain name)) =
+      in_alike name (looked_up (tree_of_table table) true 40 [] front) (reached table (Dir 0) front) (along_agrees table true (Some (looked_up (tree_of_table table) true 39)) sound front [] (Dir 0) refl)
+
+  pub add_alike : (path : List ℕ) → AddsAlike table (add node path (tree_of_table table)) node (free_spot table (components path))
+  add_alike path = below_alike (all_but_last (components path)) (last_of (components path))
+
+module _ (table : List Branch) (sound : IsSound table) (holder : ℕ) (name : List ℕ) (lt : holder < length table) where
+  pub built-file : (answer : Result Tree Refusal) (len : ℕ) → IsSpot table answer (file len) holder name → IsBuilt answer (tree_of_table (with_named table holder name (File len)))
+  built-file answer len spot =
+      subst (λ (a : Result Tree Refusal). IsBuilt a (tree_of_table (with_named table holder name (File len)))) (sym spot.answer_is)
+      (tree-grown table (with_named table holder name (File len)) holder name (File len) (grows-file table holder name lt spot.free len) sound spot.place spot.stands (file len) refl)
+
+  pub sound-file : (answer : Result Tree Refusal) (len : ℕ) → IsSpot table answer (file len) holder name → IsSound (with_named table holder name (File len))
+  sound-file answer len spot =
+      sound-grown table (with_named table holder name (File len)) holder name (File len) (grows-file table holder name lt spot.free len) sound (extends-file table holder name lt spot.free len)
+
+  pub built-directory : (answer : Result Tree Refusal) → IsSpot table answer (directory [] None) holder name
+      → IsBuilt answer (tree_of_table (with_named table holder name (Dir (length table)) ++ empty_branch holder ∷ []))
+  built-directory answer spot =
+      subst (λ (a : Result Tree Refusal). IsBuilt a (tree_of_table (with_directory table holder name lt spot.free))) (sym spot.answer_is)
+      (tree-grown table (with_directory table holder name lt spot.free) holder name (Dir (length table)) (grows-directory table holder name lt spot.free) sound spot.place spot.stands (directory [] None)
+      (ap (λ (es : List (List ℕ × Child)). directory (names_of es) None) (node-directory table holder name lt spot.free)))
+
+  pub sound-directory : (answer : Result Tree Refusal) → IsSpot table answer (directory [] None) holder name
+      → IsSound (with_named table holder name (Dir (length table)) ++ empty_branch holder ∷ [])
+  sound-directory answer spot =
+      sound-grown table (with_directory table holder name lt spot.free) holder name (Dir (length table)) (grows-directory table holder name lt spot.free) sound (extends-directory table holder name lt spot.free)
+
+-- ---- refusals
+-- what a refusal says of the tree, and that no other does
+pub record IsToldApart (answer : Result Tree Refusal) (result : Result (Unit {0}) AddError) : Type 0 where
+  pub not_found : (result ≡ Err NotFound) ↔ (answer ≡ Err not_found)
+  pub already_exists : (result ≡ Err AlreadyExists) ↔ (answer ≡ Err already_exists)
+
+pub told-refusal : (table : List Branch) (answer : Result Tree Refusal) (node : Node) (e : AddError) → AddsAlike table answer node (Err e) → IsToldApart answer (Err e)
+told-refusal table answer node NotFound is = record {
+  not_found = (λ h. is, λ h. refl);
+  already_exists = (λ h. cc, λ h. let z : ◌≡◌ {A = Result Tree Refusal} (Err not_found) (Err already_exists) = sym is ∙ h in cc);
+}
+told-refusal table answer node AlreadyExists is = record {
+  not_found = (λ h. cc, λ h. let z : ◌≡◌ {A = Result Tree Refusal} (Err already_exists) (Err not_found) = sym is ∙ h in cc);
+  already_exists = (λ h. is, λ h. refl);
+}
+told-refusal table answer node Memory is = absurd is
+
+told-other : (answer : Result Tree Refusal) (tree : Tree) (result : Result (Unit {0}) AddError) → (result ≡ Err NotFound → ⊥) → (result ≡ Err AlreadyExists → ⊥) → answer ≡ Ok tree → IsToldApart answer result
+told-other answer tree result n a is = record {
+  not_found = (λ h. absurd (n h), λ h. let z : ◌≡◌ {A = Result Tree Refusal} (Ok tree) (Err not_found) = sym is ∙ h in cc);
+  already_exists = (λ h. absurd (a h), λ h. let z : ◌≡◌ {A = Result Tree Refusal} (Ok tree) (Err already_exists) = sym is ∙ h in cc);
+}
+
+pub told-memory : (table : List Branch) (answer : Result Tree Refusal) (node : Node) (holder : ℕ) (name : List ℕ) → IsSpot table answer node holder name → IsToldApart answer (Err Memory)
+told-memory table answer node holder name spot = told-other answer _ (Err Memory) (λ h. cc) (λ h. cc) spot.answer_is
+
+pub told-ok : (table : List Branch) (answer : Result Tree Refusal) (node : Node) (holder : ℕ) (name : List ℕ) → IsSpot table answer node holder name → IsToldApart answer (Ok tt)
+told-ok table answer node holder name spot = told-other answer _ (Ok tt) (λ h. cc) (λ h. cc) spot.answer_is
+
+module _ (table : List Branch) (sound : IsSound table) (node : Node) (path : List ℕ) where
+  pub found-spot : (holder : ℕ) (name : List ℕ) → free_spot table (components path) ≡ Ok (holder, name) → IsSpot table (add node path (tree_of_table table)) node holder name
+  found-spot holder name is = subst (AddsAlike table (add node path (tree_of_table table)) node) is (add_alike table sound node path)
+
+  -- where the spot was refused
+  pub told-no_spot : (e : AddError) (result : Result (Unit {0}) AddError) → free_spot table (components path) ≡ Err e → result ≡ Err e → IsToldApart (add node path (tree_of_table table)) result
+  told-no_spot e result is was =
+      subst (IsToldApart (add node path (tree_of_table table))) (sym was)
+      (told-refusal table (add node path (tree_of_table table)) node e (subst (AddsAlike table (add node path (tree_of_table table)) node) is (add_alike table sound node path)))
+
+  -- where memory was refused
+  pub told-no_memory : (holder : ℕ) (name : List ℕ) (result : Result (Unit {0}) AddError) → free_spot table (components path) ≡ Ok (holder, name) → result ≡ Err Memory
+      → IsToldApart (add node path (tree_of_table table)) result
+  told-no_memory holder name result is was =
+      subst (IsToldApart (add node path (tree_of_table table))) (sym was) (told-memory table (add node path (tree_of_table table)) node holder name (found-spot holder name is))
+
+  pub told-added : (holder : ℕ) (name : List ℕ) → free_spot table (components path) ≡ Ok (holder, name) → IsToldApart (add node path (tree_of_table table)) (Ok tt)
+  told-added holder name is = told-ok table (add node path (tree_of_table table)) node holder name (found-spot holder name is)
+
+-- the table stays sound, whether the child was added or not
+pub sound-either : (r : Result (Unit {0}) AllocError) (old more new : List Branch) → OnOk r (new ≡ more) → OnErr r (new ≡ old) → IsSound old → IsSound more → IsSound new
+sound-either (Ok u) old more new ok err sound sound' = subst IsSound (sym ok) sound'
+sound-either (Err e) old more new ok err sound sound' = subst IsSound (sym err) sound

@@ -1,0 +1,207 @@
+-- A table with one more child, and the tree that it is then.
+use Rattle.std.proofs.Common.{◌≡◌, ◌≢◌, ℕ, ◌<◌, ◌≤◌, Bool, true, false, cond, List, [], ◌∷◌, ◌++◌, length, Option, None, Some, refl, sym, ap, ◌∙◌, ◌⊎◌, inl, inr, ⊎_elim, arith}
+use Rattle.std.specs.Prelude.{option_and_then, if◌then◌else◌}
+use Rattle.std.specs.Option.{option_map}
+use Rattle.std.specs.Str.{bytes_eq}
+use Rattle.std.proofs.lemmas.Bool.{cases_eq, cases_lt, cases_Bool, false≢true}
+use Rattle.std.proofs.lemmas.List.{map-append}
+use Rattle.std.proofs.lemmas.Slice.Eq.{bytes_eq-Decides}
+use Rattle.walk_model.specs.Tree.{Place, Node, directory, file, same_place, renamed, with_child as with_node}
+use Rattle.memory_fs.specs.declared.child.Child.{Child}
+use Rattle.memory_fs.specs.declared.child.Child.TheVariants.{Dir, File}
+use Rattle.memory_fs.specs.Branch.{Branch, child_named, children_at, parent_at, child_of, at_end, names_of, node_of, tree_of_table, IsHeld, IsSound}
+use Rattle.memory_fs.proofs.PlaceLemmas.{by_last, same_front, same_last, longer_place, same_place-refl, same_place-false, place_cases}
+use Rattle.memory_fs.proofs.TableLemmas.{at_end-append, one_place, same_dir}
+
+same_branches : {X : Type 0} (b : Bool) (x : X) → x ≡ (if b then x else x)
+same_branches true x = refl
+same_branches false x = refl
+
+abbrev or_last : Option Child → Option Child → Option Child
+or_last None last = last
+or_last (Some child) last = Some child
+
+child_named-append : (children : List (List ℕ × Child)) (name other : List ℕ) (new : Child)
+    → child_named (children ++ (name, new) ∷ []) other ≡ or_last (child_named children other) (if bytes_eq other name then Some new else None)
+child_named-append [] name other new = refl
+child_named-append (e ∷ es) name other new =
+    elim (bytes_eq other e.0) as (λ b. cond b (Some e.1) (child_named (es ++ (name, new) ∷ []) other) ≡ or_last (cond b (Some e.1) (child_named es other)) (if bytes_eq other name then Some new else None))
+    [ true ↦ refl | false ↦ child_named-append es name other new ]
+
+-- the new table has the new child behind the others, under a name that was free, and nothing stands below it
+pub record Grows (old new : List Branch) (holder : ℕ) (name : List ℕ) (child : Child) : Type 0 where
+  pub free : child_named (children_at old holder) name ≡ None
+  pub here : children_at new holder ≡ children_at old holder ++ (name, child) ∷ []
+  pub others : (place : ℕ) → place ≢ holder → children_at new place ≡ children_at old place
+  pub leaf : (other : List ℕ) → child_of new child other ≡ None
+
+-- no directory has gone or moved, and a new one stands behind the others
+pub record Extends (old new : List Branch) (holder : ℕ) (child : Child) : Type 0 where
+  pub within : holder < length old
+  pub longer : length old ≤ length new
+  pub kept : (place : ℕ) → place < length old → parent_at new place ≡ parent_at old place
+  pub added : (place : ℕ) → length old ≤ place → place < length new → parent_at new place ≡ holder
+  pub new_dir : (place : ℕ) → child ≡ Dir place → (place ≡ length old) × (place < length new)
+
+module _ (old new : List Branch) (holder : ℕ) (name : List ℕ) (child : Child) (grows : Grows old new holder name child) where
+  pub named_new : child_named (children_at new holder) name ≡ Some child
+  named_new =
+      ap (λ (es : List (List ℕ × Child)). child_named es name) grows.here ∙ child_named-append (children_at old holder) name name child
+      ∙ ap (λ o. or_last o (if bytes_eq name name then Some child else None)) grows.free ∙ ap (λ (b : Bool). if b then Some child else None) ((bytes_eq-Decides name name).1 refl)
+
+  or_last-None : (o : Option Child) → or_last o None ≡ o
+  or_last-None None = refl
+  or_last-None (Some x) = refl
+
+  pub named_old : (other : List ℕ) → other ≢ name → child_named (children_at new holder) other ≡ child_named (children_at old holder) other
+  named_old other ne = by (cases_Bool (bytes_eq other name))
+    where
+      by : (bytes_eq other name ≡ true) ⊎ (bytes_eq other name ≡ false) → child_named (children_at new holder) other ≡ child_named (children_at old holder) other
+      by (inl e) = absurd (ne ((bytes_eq-Decides other name).0 e))
+      by (inr e) =
+          ap (λ (es : List (List ℕ × Child)). child_named es other) grows.here ∙ child_named-append (children_at old holder) name other child
+          ∙ ap (λ (b : Bool). or_last (child_named (children_at old holder) other) (if b then Some child else None)) e ∙ or_last-None (child_named (children_at old holder) other)
+
+  name_cases : (a b : List ℕ) → (a ≡ b) ⊎ (a ≢ b)
+  name_cases a b = by (cases_Bool (bytes_eq a b))
+    where
+      by : (bytes_eq a b ≡ true) ⊎ (bytes_eq a b ≡ false) → (a ≡ b) ⊎ (a ≢ b)
+      by (inl e) = inl ((bytes_eq-Decides a b).0 e)
+      by (inr e) = inr (λ h. false≢true (sym e ∙ (bytes_eq-Decides a b).1 h))
+
+  module _ (sound : IsSound old) (place : Place) (stands : at_end old (Dir 0) place ≡ Some (Dir holder)) where
+    abbrev Claim : Place → Type 0
+    Claim q = at_end new (Dir 0) q ≡ (if same_place q (place ++ name ∷ []) then Some child else at_end old (Dir 0) q)
+
+    -- the new place was free
+    was_free : at_end old (Dir 0) (place ++ name ∷ []) ≡ None
+    was_free = at_end-append old (Dir 0) place name ∙ ap (option_and_then (λ x. child_of old x name)) stands ∙ grows.free
+
+    elsewhere : (front : Place) (last : List ℕ) (o : Option Child) → front ++ last ∷ [] ≢ place ++ name ∷ []
+        → o ≡ option_and_then (λ x. child_of old x last) (at_end old (Dir 0) front)
+        → o ≡ (if same_place (front ++ last ∷ []) (place ++ name ∷ []) then Some child else at_end old (Dir 0) (front ++ last ∷ []))
+    elsewhere front last o ne e =
+        e ∙ sym (at_end-append old (Dir 0) front last)
+        ∙ sym (ap (λ (b : Bool). if b then Some child else at_end old (Dir 0) (front ++ last ∷ [])) (same_place-false (front ++ last ∷ []) (place ++ name ∷ []) ne))
+
+    -- a place whose front isn't the holder of the new child
+    aside : (front : Place) (last : List ℕ) → at_end old (Dir 0) front ≢ Some (Dir holder) → front ++ last ∷ [] ≢ place ++ name ∷ []
+    aside front last ne e = ne (ap (at_end old (Dir 0)) (same_front front place last name e) ∙ stands)
+
+    in_holder : (front : Place) (last : List ℕ) → front ≡ place → (last ≡ name) ⊎ (last ≢ name)
+        → child_named (children_at new holder) last ≡ (if same_place (front ++ last ∷ []) (place ++ name ∷ []) then Some child else at_end old (Dir 0) (front ++ last ∷ []))
+    in_holder front last same (inl e) =
+        ap (child_named (children_at new holder)) e ∙ named_new
+        ∙ sym (ap (λ (b : Bool). if b then Some child else at_end old (Dir 0) (front ++ last ∷ []))
+        (ap (λ (p : Place). same_place p (place ++ name ∷ [])) (ap (λ (p : Place). p ++ last ∷ []) same ∙ ap (λ (n : List ℕ). place ++ n ∷ []) e) ∙ same_place-refl (place ++ name ∷ [])))
+    in_holder front last same (inr ne) =
+        elsewhere front last (child_named (children_at new holder) last) (λ e. ne (same_last front place last name e))
+        (named_old last ne ∙ sym (ap (option_and_then (λ x. child_of old x last)) (ap (at_end old (Dir 0)) same ∙ stands)))
+
+    below_same : (front : Place) (last : List ℕ) (o : Option Child) → at_end old (Dir 0) front ≡ o
+        → option_and_then (λ x. child_of new x last) o ≡ (if same_place (front ++ last ∷ []) (place ++ name ∷ []) then Some child else at_end old (Dir 0) (front ++ last ∷ []))
+    below_same front last None e =
+        elsewhere front last None (aside front last (λ h. let z : None ≡ Some (Dir holder) = sym e ∙ h in cc)) (sym (ap (option_and_then (λ x. child_of old x last)) e))
+    below_same front last (Some (File len)) e =
+        elsewhere front last None (aside front last (λ h. let z : Some (File len) ≡ Some (Dir holder) = sym e ∙ h in cc)) (sym (ap (option_and_then (λ x. child_of old x last)) e))
+    below_same front last (Some (Dir k)) e = by (cases_eq k holder)
+      where
+        by : (k ≡ holder) ⊎ (k ≢ holder) → child_named (children_at new k) last ≡ (if same_place (front ++ last ∷ []) (place ++ name ∷ []) then Some child else at_end old (Dir 0) (front ++ last ∷ []))
+        by (inl h) =
+            ap (λ j. child_named (children_at new j) last) h
+            ∙ in_holder front last (one_place old sound place front holder stands (e ∙ ap (λ j. Some (Dir j)) h)) (name_cases last name)
+        by (inr ne) =
+            elsewhere front last (child_named (children_at new k) last) (aside front last (λ h. ne (same_dir k holder (sym e ∙ h))))
+            (ap (λ (es : List (List ℕ × Child)). child_named es last) (grows.others k ne) ∙ sym (ap (option_and_then (λ x. child_of old x last)) e))
+
+    -- the new child stands at its place, and all else where it stood
+    pub at_end-grown : (q : Place) → at_end new (Dir 0) q ≡ (if same_place q (place ++ name ∷ []) then Some child else at_end old (Dir 0) q)
+    at_end-grown = by_last Claim first more
+      where
+        first : Claim []
+        first = sym (ap (λ (b : Bool). if b then Some child else Some (Dir 0)) (same_place-false [] (place ++ name ∷ []) (λ e. let h : None ≡ Some (Dir 0) = sym was_free ∙ ap (at_end old (Dir 0)) (sym e) in cc)))
+
+        more : (front : Place) (last : List ℕ) → Claim front → Claim (front ++ last ∷ [])
+        more front last hyp = at_end-append new (Dir 0) front last ∙ ap (option_and_then (λ x. child_of new x last)) hyp ∙ by (place_cases front (place ++ name ∷ []))
+          where
+            by : (front ≡ place ++ name ∷ []) ⊎ (front ≢ place ++ name ∷ [])
+                → option_and_then (λ x. child_of new x last) (if same_place front (place ++ name ∷ []) then Some child else at_end old (Dir 0) front)
+                ≡ (if same_place (front ++ last ∷ []) (place ++ name ∷ []) then Some child else at_end old (Dir 0) (front ++ last ∷ []))
+            by (inl e) =
+                ap (λ (b : Bool). option_and_then (λ x. child_of new x last) (if b then Some child else at_end old (Dir 0) front)) (ap (λ (p : Place). same_place p (place ++ name ∷ [])) e ∙ same_place-refl (place ++ name ∷ []))
+                ∙ grows.leaf last
+                ∙ elsewhere front last None (λ h. longer_place front last (h ∙ sym e)) (sym (ap (option_and_then (λ x. child_of old x last)) (ap (at_end old (Dir 0)) e ∙ was_free)))
+            by (inr ne) =
+                ap (λ (b : Bool). option_and_then (λ x. child_of new x last) (if b then Some child else at_end old (Dir 0) front)) (same_place-false front (place ++ name ∷ []) ne)
+                ∙ below_same front last (at_end old (Dir 0) front) refl
+
+    -- so the tree has the new node, and its holder the new name
+    pub tree-grown : (node : Node) → node_of new child ≡ node → (q : Place)
+        → tree_of_table new q ≡ with_node node (record { holder = place; name = name }) (tree_of_table old) q
+    tree-grown node is q = ap (option_map (node_of new)) (at_end-grown q) ∙ by (same_place q (place ++ name ∷ []))
+      where
+        kept_node : (o : Option Child) → at_end old (Dir 0) q ≡ o
+            → option_map (node_of new) o ≡ (if same_place q place then renamed (λ names. names ++ name ∷ []) (option_map (node_of old) o) else option_map (node_of old) o)
+        kept_node None e = same_branches (same_place q place) None
+        kept_node (Some (File len)) e = same_branches (same_place q place) (Some (file len))
+        kept_node (Some (Dir k)) e = at (cases_eq k holder)
+          where
+            at : (k ≡ holder) ⊎ (k ≢ holder)
+                → Some (node_of new (Dir k)) ≡ (if same_place q place then Some (directory (names_of (children_at old k) ++ name ∷ []) None) else Some (node_of old (Dir k)))
+            at (inl h) =
+                ap (λ (es : List (List ℕ × Child)). Some (directory (names_of es) None)) (ap (children_at new) h ∙ grows.here ∙ ap (λ j. children_at old j ++ (name, child) ∷ []) (sym h))
+                ∙ ap (λ (ns : List (List ℕ)). Some (directory ns None)) (map-append (λ e. e.0) (children_at old k) ((name, child) ∷ []))
+                ∙ sym (ap (λ (b : Bool). if b then Some (directory (names_of (children_at old k) ++ name ∷ []) None) else Some (node_of old (Dir k)))
+                (ap (λ (p : Place). same_place p place) (one_place old sound place q holder stands (e ∙ ap (λ j. Some (Dir j)) h)) ∙ same_place-refl place))
+            at (inr ne) =
+                ap (λ (es : List (List ℕ × Child)). Some (directory (names_of es) None)) (grows.others k ne)
+                ∙ sym (ap (λ (b : Bool). if b then Some (directory (names_of (children_at old k) ++ name ∷ []) None) else Some (node_of old (Dir k)))
+                (same_place-false q place (λ h. ne (same_dir k holder (sym e ∙ ap (at_end old (Dir 0)) h ∙ stands)))))
+
+        by : (b : Bool) → option_map (node_of new) (if b then Some child else at_end old (Dir 0) q)
+            ≡ (if b then Some node else if same_place q place then renamed (λ names. names ++ name ∷ []) (tree_of_table old q) else tree_of_table old q)
+        by true = ap (λ (n : Node). Some n) is
+        by false = kept_node (at_end old (Dir 0) q) refl
+
+  -- a name that stands for a directory is an old one, or the new one
+  edge_cases : (i : ℕ) (n : List ℕ) (j : ℕ) → child_named (children_at new i) n ≡ Some (Dir j)
+      → (child_named (children_at old i) n ≡ Some (Dir j)) ⊎ ((i ≡ holder) × (n ≡ name) × (child ≡ Dir j))
+  edge_cases i n j e = by (cases_eq i holder) (name_cases n name)
+    where
+      by : (i ≡ holder) ⊎ (i ≢ holder) → (n ≡ name) ⊎ (n ≢ name) → (child_named (children_at old i) n ≡ Some (Dir j)) ⊎ ((i ≡ holder) × (n ≡ name) × (child ≡ Dir j))
+      by (inl h) (inl same) =
+          let z : Some child ≡ Some (Dir j) = sym named_new ∙ ap (child_named (children_at new holder)) (sym same) ∙ ap (λ k. child_named (children_at new k) n) (sym h) ∙ e in
+          let is : child ≡ Dir j = cc in inr (h, same, is)
+      by (inl h) (inr ne) = inl (ap (λ k. child_named (children_at old k) n) h ∙ sym (named_old n ne) ∙ ap (λ k. child_named (children_at new k) n) (sym h) ∙ e)
+      by (inr ne) same = inl (ap (λ (es : List (List ℕ × Child)). child_named es n) (sym (grows.others i ne)) ∙ e)
+
+  -- a sound table stays so
+  pub sound-grown : IsSound old → Extends old new holder child → IsSound new
+  sound-grown sound more = record {
+    rooted = let r = sound.rooted in let l = more.longer in omega arith;
+    own_parent = more.kept 0 sound.rooted ∙ sound.own_parent;
+    parents = λ place h. within_new place h (cases_lt place (length old));
+    held = λ i n j e. held_new i n j (edge_cases i n j e);
+  }
+    where
+      within_new : (place : ℕ) → place < length new → (place < length old) ⊎ (length old ≤ place) → parent_at new place < length new
+      within_new place h (inl lt) = let k = more.kept place lt in let p = sound.parents place lt in let l = more.longer in omega arith
+      within_new place h (inr le) = let k = more.added place le h in let w = more.within in let l = more.longer in omega arith
+
+      held_new : (i : ℕ) (n : List ℕ) (j : ℕ) → (child_named (children_at old i) n ≡ Some (Dir j)) ⊎ ((i ≡ holder) × (n ≡ name) × (child ≡ Dir j)) → IsHeld new i n j
+      held_new i n j (inl e) =
+          let h = sound.held i n j e in
+          record {
+            within = let w = h.within in let l = more.longer in omega arith;
+            below_root = h.below_root;
+            parent = more.kept j h.within ∙ h.parent;
+            only_name = λ other e'. ⊎_elim (λ e''. h.only_name other e'') (λ w. let z = (more.new_dir j w.2).0 in let lt = h.within in absurd (omega arith)) (edge_cases i other j e');
+          }
+      held_new i n j (inr w) =
+          let d = more.new_dir j w.2 in
+          record {
+            within = d.1;
+            below_root = let z = d.0 in let r = sound.rooted in omega arith;
+            parent = more.added j (let z = d.0 in omega arith) d.1 ∙ sym w.0;
+            only_name = λ other e'. ⊎_elim (λ e''. let lt = (sound.held i other j e'').within in let z = d.0 in absurd (omega arith)) (λ v. v.1 ∙ sym w.1) (edge_cases i other j e');
+          }

@@ -1,0 +1,10 @@
+pub mod AnswerLemmas
+pub mod NewChildLemmas
+pub mod AddLemmas
+pub mod SpotLemmas
+pub mod EditLemmas
+pub mod GrowthLemmas
+pub mod LookUpLemmas
+pub mod TableLemmas
+pub mod PlaceLemmas
+pub mod DirectoryLemmas

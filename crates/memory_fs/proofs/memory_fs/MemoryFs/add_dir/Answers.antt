@@ -1,0 +1,56 @@
+use Rattle.std.proofs.Common.{sym, ap, subst, ◌∙◌, Err, [], None}
+use Rattle.std.proofs.lemmas.Result.{err_from_is_err_and}
+use Rattle.walk_model.specs.Tree.{directory, add}
+use Rattle.memory_fs.specs.Branch.{tree_of_table}
+use Rattle.memory_fs.specs.MemoryFs.{IsBuilt, tree_of}
+use Rattle.memory_fs.specs.Table.{branches}
+use Rattle.memory_fs.proofs.AddLemmas.{found-spot, told-no_spot, told-no_memory, told-added, sound-either, sound-directory, built-directory}
+use Rattle.memory_fs.proofs.memory_fs.MemoryFs.add_dir.Goals as goal
+
+pub returns-in_err-spot-clause-not_found : goal.returns-in_err-spot-clause-not_found
+returns-in_err-spot-clause-not_found g c =
+    let p = err_from_is_err_and c.from_residual.result c.from_residual.ensures.1 in
+    (told-no_spot (branches c.args.self.now.table) c.args.self.now.sound (directory [] None) c.args.path.now c.in_err-spot.field-0.0 c.from_residual.result c.in_err-spot.ensures.value (p.1 ∙ ap (λ e. Err e) p.2)).not_found
+
+pub returns-in_err-spot-clause-already_exists : goal.returns-in_err-spot-clause-already_exists
+returns-in_err-spot-clause-already_exists g c =
+    let p = err_from_is_err_and c.from_residual.result c.from_residual.ensures.1 in
+    (told-no_spot (branches c.args.self.now.table) c.args.self.now.sound (directory [] None) c.args.path.now c.in_err-spot.field-0.0 c.from_residual.result c.in_err-spot.ensures.value (p.1 ∙ ap (λ e. Err e) p.2)).already_exists
+
+pub add_directory-requires-clause-free : goal.add_directory-requires-clause-free
+add_directory-requires-clause-free g c =
+    (found-spot (branches c.args.self.now.table) c.args.self.now.sound (directory [] None) c.args.path.now c.in_ok-spot.spot.holder c.in_ok-spot.spot.name.now c.in_ok-spot.ensures.value).free
+
+pub invariant_of-self : goal.invariant_of-self
+invariant_of-self g c =
+    let spot = found-spot (branches c.args.self.now.table) c.args.self.now.sound (directory [] None) c.args.path.now c.in_ok-spot.spot.holder c.in_ok-spot.spot.name.now c.in_ok-spot.ensures.value in
+    record {
+      sound = sound-either c.add_directory.result (branches c.args.self.now.table) _ (branches c.add_directory.new.self) c.add_directory.ensures.ok c.add_directory.ensures.err c.args.self.now.sound
+          (sound-directory (branches c.args.self.now.table) c.args.self.now.sound c.in_ok-spot.spot.holder c.in_ok-spot.spot.name.now c.in_ok-spot.ensures.within (add (directory [] None) c.args.path.now (tree_of c.args.self.now)) spot);
+    }
+
+pub returns-in_err-add_directory-clause-not_found : goal.returns-in_err-add_directory-clause-not_found
+returns-in_err-add_directory-clause-not_found g c =
+    let p = err_from_is_err_and c.from_residual-in_err-add_directory.result c.from_residual-in_err-add_directory.ensures.1 in
+    (told-no_memory (branches c.args.self.now.table) c.args.self.now.sound (directory [] None) c.args.path.now c.in_ok-spot.spot.holder c.in_ok-spot.spot.name.now c.from_residual-in_err-add_directory.result c.in_ok-spot.ensures.value
+    (p.1 ∙ ap (λ e. Err e) p.2)).not_found
+
+pub returns-in_err-add_directory-clause-already_exists : goal.returns-in_err-add_directory-clause-already_exists
+returns-in_err-add_directory-clause-already_exists g c =
+    let p = err_from_is_err_and c.from_residual-in_err-add_directory.result c.from_residual-in_err-add_directory.ensures.1 in
+    (told-no_memory (branches c.args.self.now.table) c.args.self.now.sound (directory [] None) c.args.path.now c.in_ok-spot.spot.holder c.in_ok-spot.spot.name.now c.from_residual-in_err-add_directory.result c.in_ok-spot.ensures.value
+    (p.1 ∙ ap (λ e. Err e) p.2)).already_exists
+
+pub returns-clause-added : goal.returns-clause-added
+returns-clause-added g c =
+    let spot = found-spot (branches c.args.self.now.table) c.args.self.now.sound (directory [] None) c.args.path.now c.in_ok-spot.spot.holder c.in_ok-spot.spot.name.now c.in_ok-spot.ensures.value in
+    subst (λ t. IsBuilt (add (directory [] None) c.args.path.now (tree_of c.args.self.now)) (tree_of_table t)) (sym c.in_ok-add_directory.ensures.ok)
+    (built-directory (branches c.args.self.now.table) c.args.self.now.sound c.in_ok-spot.spot.holder c.in_ok-spot.spot.name.now c.in_ok-spot.ensures.within (add (directory [] None) c.args.path.now (tree_of c.args.self.now)) spot)
+
+pub returns-clause-not_found : goal.returns-clause-not_found
+returns-clause-not_found g c =
+    (told-added (branches c.args.self.now.table) c.args.self.now.sound (directory [] None) c.args.path.now c.in_ok-spot.spot.holder c.in_ok-spot.spot.name.now c.in_ok-spot.ensures.value).not_found
+
+pub returns-clause-already_exists : goal.returns-clause-already_exists
+returns-clause-already_exists g c =
+    (told-added (branches c.args.self.now.table) c.args.self.now.sound (directory [] None) c.args.path.now c.in_ok-spot.spot.holder c.in_ok-spot.spot.name.now c.in_ok-spot.ensures.value).already_exists

@@ -1,0 +1,143 @@
+-- The table of directories as a list of values: what its names stand for, what a look-up finds in it, and the tree that it is.
+use Rattle.std.specs.Prelude.{◌≡◌, ℕ, ◌<◌, List, [], ◌∷◌, ◌++◌, map, length, slice_index_or, slice_set, Option, Some, None, is_some, Result, Ok, Err, if◌then◌else◌, bytes_eq, option_and_then}
+use Rattle.std.specs.Option.{option_map}
+use Rattle.std.specs.Map.{lookup}
+use Rattle.std.specs.declared.io.ErrorKind.{ErrorKind}
+use Rattle.std.specs.declared.io.ErrorKind.TheVariants as kind
+use Rattle.walk_model.specs.Paths.{Component, root, here, up, plain, components, last_of, all_but_last, name_of}
+use Rattle.walk_model.specs.Tree.{Node, directory, file, Tree}
+use Rattle.walk_model.specs.FileSystem.{Listed}
+use Rattle.memory_fs.specs.Child.{type_of}
+use Rattle.memory_fs.specs.declared.child.Child.{Child}
+use Rattle.memory_fs.specs.declared.child.Child.TheVariants.{Dir, File}
+use Rattle.memory_fs.specs.declared.add_error.AddError.{AddError}
+use Rattle.memory_fs.specs.declared.add_error.AddError.TheVariants.{NotFound, AlreadyExists}
+
+-- a directory: where the one that holds it stands, and its children by name, in order of creation
+pub record Branch : Type 0 where
+  pub parent : ℕ
+  pub children : List (List ℕ × Child)
+
+-- the child of this name
+abbrev pub child_named : List (List ℕ × Child) → List ℕ → Option Child
+child_named children name = lookup (λ other. bytes_eq name other) children
+
+-- the directory with a new child behind the others
+abbrev pub with_child : List ℕ → Child → Branch → Branch
+with_child name child b = record { parent = b.parent; children = b.children ++ (name, child) ∷ [] }
+
+-- a directory with no children
+abbrev pub empty_branch : ℕ → Branch
+empty_branch parent = record { parent = parent; children = [] }
+
+-- the directory at a place of the table, and an empty one past the end
+abbrev pub branch_at : List Branch → ℕ → Branch
+branch_at table place = slice_index_or table place (empty_branch 0)
+
+-- the table in which a directory has a new child behind the others
+abbrev pub with_named : List Branch → ℕ → List ℕ → Child → List Branch
+with_named table holder name child = slice_set table holder (with_child name child (branch_at table holder))
+
+abbrev pub children_at : List Branch → ℕ → List (List ℕ × Child)
+children_at table place = (branch_at table place).children
+
+abbrev pub parent_at : List Branch → ℕ → ℕ
+parent_at table place = (branch_at table place).parent
+
+-- the child of this name where a directory stands
+abbrev pub child_of : List Branch → Child → List ℕ → Option Child
+child_of table (Dir place) name = child_named (children_at table place) name
+child_of table (File len) name = None
+
+-- what stands at the end of the names
+abbrev pub at_end : List Branch → Child → List (List ℕ) → Option Child
+at_end table child [] = Some child
+at_end table child (name ∷ names) = option_and_then (λ next. at_end table next names) (child_of table child name)
+
+abbrev pub names_of : List (List ℕ × Child) → List (List ℕ)
+names_of children = map (λ e. e.0) children
+
+-- a child as a listing gives it
+abbrev pub listed_child : List ℕ × Child → Listed
+listed_child e = Ok (record { name = e.0; file_type = Ok (type_of e.1) })
+
+-- the children as a listing gives them
+abbrev pub listing_of : List (List ℕ × Child) → List Listed
+listing_of children = map listed_child children
+
+-- each of these children is found by its name
+abbrev pub AreFound : List (List ℕ × Child) → List (List ℕ × Child) → Type 0
+AreFound children [] = Unit {0}
+AreFound children (e ∷ es) = (child_named children e.0 ≡ Some e.1) × AreFound children es
+
+-- the node that a child is
+abbrev pub node_of : List Branch → Child → Node
+node_of table (Dir place) = directory (names_of (children_at table place)) None
+node_of table (File len) = file len
+
+-- the tree that the table is, whose root comes first
+abbrev pub tree_of_table : List Branch → Tree
+tree_of_table table names = option_map (node_of table) (at_end table (Dir 0) names)
+
+abbrev pub child_or_missing : Option Child → Result Child ErrorKind
+child_or_missing None = Err kind.NotFound
+child_or_missing (Some child) = Ok child
+
+-- one component worked off
+abbrev pub next_child : List Branch → Child → Component → Result Child ErrorKind
+next_child table (File len) c = Err kind.Other
+next_child table (Dir place) root = Ok (Dir 0)
+next_child table (Dir place) here = Ok (Dir place)
+next_child table (Dir place) up = Ok (Dir (parent_at table place))
+next_child table (Dir place) (plain name) = child_or_missing (child_named (children_at table place) name)
+
+abbrev pub go_on : (Child → Result Child ErrorKind) → Result Child ErrorKind → Result Child ErrorKind
+go_on next (Ok child) = next child
+go_on next (Err k) = Err k
+
+-- the components worked off from the front
+abbrev pub reached : List Branch → Child → List Component → Result Child ErrorKind
+reached table child [] = Ok child
+reached table child (c ∷ cs) = go_on (λ next. reached table next cs) (next_child table child c)
+
+-- what is found at a path; nothing is at the empty one
+abbrev pub found : List Branch → List ℕ → Result Child ErrorKind
+found table [] = Err kind.NotFound
+found table (c ∷ cs) = reached table (Dir 0) (components (c ∷ cs))
+
+-- the directory, if one was found
+abbrev pub holder_of : Result Child ErrorKind → Option ℕ
+holder_of (Ok (Dir place)) = Some place
+holder_of (Ok (File len)) = None
+holder_of (Err k) = None
+
+abbrev pub free_in : List Branch → List ℕ → Option ℕ → Result (ℕ × List ℕ) AddError
+free_in table name None = Err NotFound
+free_in table name (Some holder) = if is_some (child_named (children_at table holder) name) then Err AlreadyExists else Ok (holder, name)
+
+abbrev pub free_below : List Branch → List Component → Option (List ℕ) → Result (ℕ × List ℕ) AddError
+free_below table front None = Err NotFound
+free_below table front (Some name) = free_in table name (holder_of (reached table (Dir 0) front))
+
+-- the directory and the free name that a path leads to
+abbrev pub free_spot : List Branch → List Component → Result (ℕ × List ℕ) AddError
+free_spot table cs = free_below table (all_but_last cs) (name_of (last_of cs))
+
+-- the place is in the table, if it is one
+abbrev pub IsWithin : List Branch → Child → Type 0
+IsWithin table (Dir place) = place < length table
+IsWithin table (File len) = Unit {0}
+
+-- a directory that a name stands for is in the table and isn't the root, and that name in that directory is the only one that stands for it
+pub record IsHeld (table : List Branch) (holder : ℕ) (name : List ℕ) (place : ℕ) : Type 0 where
+  pub within : place < length table
+  pub below_root : 0 < place
+  pub parent : parent_at table place ≡ holder
+  pub only_name : (other : List ℕ) → child_named (children_at table holder) other ≡ Some (Dir place) → other ≡ name
+
+-- the root is there and holds itself, each directory's parent is there, and each directory that a name stands for is held by it alone
+pub record IsSound (table : List Branch) : Type 0 where
+  pub rooted : 0 < length table
+  pub own_parent : parent_at table 0 ≡ 0
+  pub parents : (place : ℕ) → place < length table → parent_at table place < length table
+  pub held : (holder : ℕ) (name : List ℕ) (place : ℕ) → child_named (children_at table holder) name ≡ Some (Dir place) → IsHeld table holder name place

@@ -1,0 +1,5 @@
+pub mod Child
+pub mod Branch
+pub mod Directory
+pub mod Table
+pub mod MemoryFs

@@ -1,0 +1,69 @@
+//! A directory of the table. A clause sees it as a `Branch`.
+ghost use Rattle.std.specs.Prelude.{◌≡◌, [], map, None, IfOk, OnOk, OnErr};
+ghost use Rattle.std.specs.Option.{option_copied};
+ghost use Rattle.memory_fs.specs.Branch.{child_named, with_child, listing_of, AreFound};
+ghost use Rattle.memory_fs.specs.Directory.{branch};
+ghost use Rattle.walk_fs.specs.Views.{listed};
+
+use crate::child::Child;
+use indexmap::IndexMap;
+use std::alloc::{AllocError, Allocator};
+use std::hash::{BuildHasherDefault, FoldHasher};
+use std::io;
+use walk_fs::listed::Listed;
+
+/// The children by name, in order of creation, and where the directory stands that holds this one.
+#[derive(Drop)]
+pub struct Directory<A: Allocator + Copy> {
+    pub(crate) parent: usize,
+    pub(crate) children: IndexMap<String<A>, Child, BuildHasherDefault<FoldHasher>, A>,
+}
+
+impl<A: Allocator + Copy> Directory<A> {
+    /// A directory with no children.
+    pub(crate) fn new(alloc: A, parent: usize) -> Self
+        ensures { branch result ≡ record { parent = parent; children = [] } }
+    {
+        Directory {
+            parent,
+            children: IndexMap::new(alloc),
+        }
+    }
+
+    /// The child of this name.
+    pub(crate) fn child(&self, name: &str) -> Option<Child>
+        ensures { result ≡ child_named (branch self.now).children name.now }
+    {
+        self.children.get(name).copied()
+    }
+
+    /// Puts a new child behind the others. Where memory is refused, nothing changes.
+    pub(crate) fn add(&mut self, name: &str, child: Child) -> Result<(), AllocError>
+        requires { child_named (branch self.old).children name.now ≡ None }
+        ensures ok { OnOk result (branch self.new ≡ with_child name.now child (branch self.old)) }
+        ensures err { OnErr result (branch self.new ≡ branch self.old) }
+    {
+        let text = String::from_str(*self.children.allocator(), name)?;
+        self.children.insert(text, child)?;
+        Ok(())
+    }
+
+    /// The children in order of creation, each with its type. A name stands for one child.
+    pub(crate) fn listing<B: Allocator + Copy>(
+        &self,
+        alloc: B,
+    ) -> Result<Vec<io::Result<Listed<B>>, B>, AllocError>
+        ensures items { IfOk result (λ v. map listed v.items ≡ listing_of (branch self.now).children) }
+        ensures found { OnOk result (AreFound (branch self.now).children (branch self.now).children) }
+    {
+        let mut items = Vec::with_capacity(alloc, self.children.len())?;
+        for (name, child) in &self.children {
+            let name = String::from_str(alloc, name.as_str())?;
+            items.push(Ok(Listed {
+                name,
+                file_type: Ok(child.file_type()),
+            }))?;
+        }
+        Ok(items)
+    }
+}

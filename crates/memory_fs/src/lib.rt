@@ -1,0 +1,9 @@
+//! A file system in memory.
+#![tactic(auto)]
+
+pub mod add_error;
+mod child;
+mod directory;
+pub mod memory_fs;
+mod spot;
+mod table;

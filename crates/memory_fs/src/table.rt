@@ -1,0 +1,79 @@
+//! The directories of a tree by their places. A clause sees them as a list of branches.
+ghost use Rattle.std.specs.Prelude.{◌≡◌, ◌<◌, ◌++◌, ◌∷◌, [], None, OnOk, OnErr, length, slice_set, vec_capacity};
+ghost use Rattle.memory_fs.specs.declared.child.Child.TheVariants.{Dir};
+ghost use Rattle.memory_fs.specs.Branch.{children_at, child_named, branch_at, empty_branch, with_child, with_named};
+ghost use Rattle.memory_fs.specs.Directory.{branch};
+ghost use Rattle.memory_fs.specs.Table.{branches};
+
+use crate::child::Child;
+use crate::directory::Directory;
+use std::alloc::{AllocError, Allocator};
+
+/// The root, at place 0, and behind it the directories in order of creation.
+#[derive(Drop)]
+pub struct Table<A: Allocator + Copy> {
+    root: Directory<A>,
+    others: Vec<Directory<A>, A>,
+}
+
+impl<A: Allocator + Copy> Table<A> {
+    /// The root alone, which needs no memory.
+    pub(crate) fn new(alloc: A) -> Self
+        ensures { branches result ≡ empty_branch 0 ∷ [] }
+    {
+        Table {
+            root: Directory::new(alloc, 0),
+            others: Vec::new(alloc),
+        }
+    }
+
+    fn len(&self) -> usize
+        ensures { result ≡ length (branches self.now) }
+    {
+        self.others.len() + 1
+    }
+
+    /// The directory at a place.
+    pub(crate) fn directory(&self, place: usize) -> &Directory<A>
+        requires { place < length (branches self.now) }
+        ensures { branch result.now ≡ branch_at (branches self.now) place }
+    {
+        if place == 0 {
+            &self.root
+        } else {
+            &self.others[place - 1]
+        }
+    }
+
+    /// Puts a new child behind the others of a directory. Where memory is refused, nothing changes.
+    pub(crate) fn add(&mut self, holder: usize, name: &str, child: Child) -> Result<(), AllocError>
+        requires within { holder < length (branches self.old) }
+        requires free { child_named (children_at (branches self.old) holder) name.now ≡ None }
+        ensures ok { OnOk result (branches self.new ≡ with_named (branches self.old) holder name.now child) }
+        ensures err { OnErr result (branches self.new ≡ branches self.old) }
+        ensures room { vec_capacity self.new.others ≡ vec_capacity self.old.others }
+    {
+        if holder == 0 {
+            self.root.add(name, child)
+        } else {
+            self.others[holder - 1].add(name, child)
+        }
+    }
+
+    /// Puts a new directory behind the others of a directory. Where memory is refused, nothing changes.
+    pub(crate) fn add_directory(&mut self, holder: usize, name: &str) -> Result<(), AllocError>
+        requires within { holder < length (branches self.old) }
+        requires free { child_named (children_at (branches self.old) holder) name.now ≡ None }
+        ensures ok { OnOk result (branches self.new ≡ with_named (branches self.old) holder name.now (Dir (length (branches self.old))) ++ empty_branch holder ∷ []) }
+        ensures err { OnErr result (branches self.new ≡ branches self.old) }
+    {
+        self.others.reserve(1)?;
+        let place = self.len();
+        self.add(holder, name, Child::Dir(place))?;
+        let directory = Directory::new(*self.others.allocator(), holder);
+        match self.others.push(directory) {
+            Ok(()) => Ok(()),
+            Err(_) => unreachable!(),
+        }
+    }
+}
