@@ -1,3 +1,4 @@
 pub mod Number
 pub mod TreeLine
 pub mod Words
+pub mod Lines

@@ -2,6 +2,7 @@
 #![tactic(auto)]
 
 mod number;
+mod print;
 mod tree_line;
 mod words;
 
