@@ -2,3 +2,4 @@ pub mod Number
 pub mod TreeLine
 pub mod Words
 pub mod Lines
+pub mod Failure

@@ -1,8 +1,11 @@
 //! Walks a tree and prints one line for each answer.
 #![tactic(auto)]
 
+mod answers;
+mod failure;
 mod number;
 mod print;
+mod tree;
 mod tree_line;
 mod words;
 

@@ -1,0 +1,86 @@
+//! The answers of a walk, printed.
+ghost use Rattle.std.specs.Prelude.{◌≤◌};
+ghost use Rattle.std.specs.Iterator.{IsFinite};
+
+use crate::failure::Failure;
+use crate::print::print_answer;
+use jwalk::ClientState;
+use jwalk::DirEntry;
+use jwalk::error::Result as Answer;
+use std::alloc::Allocator;
+use std::io::Write;
+
+/// How many bytes of lines are gathered before they are written.
+const GATHERED: usize = 65536;
+
+/// Writes the lines that were gathered.
+fn write_gathered<W: Write, A: Allocator>(
+    gathered: &mut Vec<u8, A>,
+    out: &mut W,
+) -> Result<(), Failure> {
+    if out.write_all(gathered.as_slice()).is_err() {
+        return Err(Failure::Output);
+    }
+    gathered.clear();
+    Ok(())
+}
+
+/// Prints the line of an answer: it is gathered, and written once there are enough.
+fn gather<W: Write, C: ClientState, A: Allocator + Copy>(
+    answer: &Answer<DirEntry<C, A>, A>,
+    gathered: &mut Vec<u8, A>,
+    out: &mut W,
+) -> Result<(), Failure> {
+    if print_answer(gathered, answer).is_err() {
+        return Err(Failure::Memory);
+    }
+    if gathered.len() < GATHERED {
+        return Ok(());
+    }
+    write_gathered(gathered, out)
+}
+
+/// Prints a line for each answer, and tells whether none was an error.
+fn print_all<I, W: Write, C: ClientState, A: Allocator + Copy>(
+    alloc: A,
+    answers: I,
+    out: &mut W,
+) -> Result<bool, Failure>
+where
+    I: Iterator<Item = Answer<DirEntry<C, A>, A>> + Drop,
+    requires can { I.can_next answers }
+    requires ends { IsFinite (I.remaining answers) }
+{
+    let mut gathered = Vec::with_capacity(alloc, GATHERED)?;
+    let mut clean = true;
+    for answer in answers {
+        clean = clean && answer.is_ok();
+        gather(&answer, &mut gathered, out)?;
+    }
+    write_gathered(&mut gathered, out)?;
+    if out.flush().is_err() {
+        return Err(Failure::Output);
+    }
+    Ok(clean)
+}
+
+/// Prints a line for each answer, and answers the status: 0, or 1 where an answer was an error, where memory was
+/// refused, which standard error tells of, or where standard output can't be written, which ends the walk at once.
+pub fn print_answers<I, W: Write, E: Write, C: ClientState, A: Allocator + Copy>(
+    alloc: A,
+    answers: I,
+    out: &mut W,
+    err: &mut E,
+) -> u8
+where
+    I: Iterator<Item = Answer<DirEntry<C, A>, A>> + Drop,
+    requires can { I.can_next answers }
+    requires ends { IsFinite (I.remaining answers) }
+    ensures { result ≤ 1 }
+{
+    match print_all(alloc, answers, out) {
+        Ok(true) => 0,
+        Ok(false) => 1,
+        Err(failure) => failure.report(err),
+    }
+}
