@@ -3,3 +3,5 @@ pub mod TreeLine
 pub mod Words
 pub mod Lines
 pub mod Failure
+pub mod TextLines
+pub mod NumberedLines

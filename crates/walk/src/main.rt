@@ -3,6 +3,7 @@
 
 mod answers;
 mod failure;
+mod lines;
 mod number;
 mod print;
 mod tree;

@@ -1,5 +1,6 @@
 //! A tree from its lines.
 use crate::failure::Failure;
+use crate::lines::NumberedLines;
 use crate::tree_line::{TreeLine, parse_tree_line};
 use memory_fs::add_error::AddError;
 use memory_fs::memory_fs::MemoryFs;
@@ -33,8 +34,8 @@ fn add_line<A: Allocator + Copy>(
 /// Builds the tree that the lines say, one after another. The last may end without a line feed.
 pub fn build_tree<A: Allocator + Copy>(alloc: A, lines: &[u8]) -> Result<MemoryFs<A>, Failure> {
     let mut fs = MemoryFs::new(alloc);
-    for (i, line) in lines.split(|b| *b == b'\n').enumerate() {
-        add_line(&mut fs, i + 1, line)?;
+    for (number, line) in NumberedLines::new(lines) {
+        add_line(&mut fs, number, line)?;
     }
     Ok(fs)
 }
