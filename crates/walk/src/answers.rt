@@ -1,6 +1,10 @@
 //! The answers of a walk, printed.
-ghost use Rattle.std.specs.Prelude.{◌≤◌};
-ghost use Rattle.std.specs.Iterator.{IsFinite};
+ghost use Rattle.std.specs.Prelude.{◌≡◌, ◌≤◌, [], List, Result, map, IfOk, IfErr, OnOk, IsOk, IsTrue, ◌↔◌, All};
+ghost use Rattle.std.specs.Iterator.{IsFinite, Drains};
+ghost use Rattle.std.specs.Io.KnownBytes.{Appends, append_known};
+ghost use Rattle.jwalk.specs.Entry.{item};
+ghost use Rattle.walk.specs.Lines.{line_of, lines_of};
+ghost use Rattle.walk.specs.Failure.{status_of};
 
 use crate::failure::Failure;
 use crate::print::print_answer;
@@ -17,7 +21,11 @@ const GATHERED: usize = 65536;
 fn write_gathered<W: Write, A: Allocator>(
     gathered: &mut Vec<u8, A>,
     out: &mut W,
-) -> Result<(), Failure> {
+) -> Result<(), Failure>
+    ensures written { OnOk result (Appends (W.contents out.old) (W.contents out.new) gathered.old.items) }
+    ensures empty { OnOk result (gathered.new.items ≡ []) }
+    ensures status { IfErr result (λ failure. status_of failure ≡ 1) }
+{
     if out.write_all(gathered.as_slice()).is_err() {
         return Err(Failure::Output);
     }
@@ -30,7 +38,10 @@ fn gather<W: Write, C: ClientState, A: Allocator + Copy>(
     answer: &Answer<DirEntry<C, A>, A>,
     gathered: &mut Vec<u8, A>,
     out: &mut W,
-) -> Result<(), Failure> {
+) -> Result<(), Failure>
+    ensures printed { OnOk result (Appends (append_known (W.contents out.old) gathered.old.items) (append_known (W.contents out.new) gathered.new.items) (line_of (item answer.now))) }
+    ensures status { IfErr result (λ failure. status_of failure ≡ 1) }
+{
     if print_answer(gathered, answer).is_err() {
         return Err(Failure::Memory);
     }
@@ -50,6 +61,7 @@ where
     I: Iterator<Item = Answer<DirEntry<C, A>, A>> + Drop,
     requires can { I.can_next answers }
     requires ends { IsFinite (I.remaining answers) }
+    ensures status { IfErr result (λ failure. status_of failure ≡ 1) }
 {
     let mut gathered = Vec::with_capacity(alloc, GATHERED)?;
     let mut clean = true;
