@@ -5,3 +5,4 @@ pub mod Lines
 pub mod Failure
 pub mod TextLines
 pub mod NumberedLines
+pub mod Answers

@@ -1,10 +1,11 @@
 //! The answers of a walk, printed.
-ghost use Rattle.std.specs.Prelude.{◌≡◌, ◌≤◌, [], List, Result, map, IfOk, IfErr, OnOk, IsOk, IsTrue, ◌↔◌, All};
-ghost use Rattle.std.specs.Iterator.{IsFinite, Drains};
+ghost use Rattle.std.specs.Prelude.{◌≡◌, ◌≤◌, [], true, is_ok, IfOk, IfErr, OnOk};
+ghost use Rattle.std.specs.Iterator.{IsFinite};
 ghost use Rattle.std.specs.Io.KnownBytes.{Appends, append_known};
 ghost use Rattle.jwalk.specs.Entry.{item};
-ghost use Rattle.walk.specs.Lines.{line_of, lines_of};
+ghost use Rattle.walk.specs.Lines.{line_of};
 ghost use Rattle.walk.specs.Failure.{status_of};
+ghost use Rattle.walk.specs.Answers.{PrintsAll};
 
 use crate::failure::Failure;
 use crate::print::print_answer;
@@ -51,6 +52,20 @@ fn gather<W: Write, C: ClientState, A: Allocator + Copy>(
     write_gathered(gathered, out)
 }
 
+/// Prints the line of an answer, and tells whether it is an entry.
+fn print_one<W: Write, C: ClientState, A: Allocator + Copy>(
+    answer: Answer<DirEntry<C, A>, A>,
+    gathered: &mut Vec<u8, A>,
+    out: &mut W,
+) -> Result<bool, Failure>
+    ensures entry { IfOk result (λ is_entry. is_entry ≡ is_ok answer) }
+    ensures printed { OnOk result (Appends (append_known (W.contents out.old) gathered.old.items) (append_known (W.contents out.new) gathered.new.items) (line_of (item answer))) }
+    ensures status { IfErr result (λ failure. status_of failure ≡ 1) }
+{
+    gather(&answer, gathered, out)?;
+    Ok(answer.is_ok())
+}
+
 /// Prints a line for each answer, and tells whether none was an error.
 fn print_all<I, W: Write, C: ClientState, A: Allocator + Copy>(
     alloc: A,
@@ -61,13 +76,13 @@ where
     I: Iterator<Item = Answer<DirEntry<C, A>, A>> + Drop,
     requires can { I.can_next answers }
     requires ends { IsFinite (I.remaining answers) }
+    ensures printed { IfOk result (PrintsAll I.next_gives answers (W.contents out.old) (W.contents out.new)) }
     ensures status { IfErr result (λ failure. status_of failure ≡ 1) }
 {
     let mut gathered = Vec::with_capacity(alloc, GATHERED)?;
     let mut clean = true;
     for answer in answers {
-        clean = clean && answer.is_ok();
-        gather(&answer, &mut gathered, out)?;
+        clean &= print_one(answer, &mut gathered, out)?;
     }
     write_gathered(&mut gathered, out)?;
     if out.flush().is_err() {
@@ -88,7 +103,8 @@ where
     I: Iterator<Item = Answer<DirEntry<C, A>, A>> + Drop,
     requires can { I.can_next answers }
     requires ends { IsFinite (I.remaining answers) }
-    ensures { result ≤ 1 }
+    ensures status { result ≤ 1 }
+    ensures printed { result ≡ 0 → PrintsAll I.next_gives answers (W.contents out.old) (W.contents out.new) true }
 {
     match print_all(alloc, answers, out) {
         Ok(true) => 0,

@@ -1,0 +1,21 @@
+-- Lines one after another.
+use Rattle.std.proofs.Common.{◌≡◌, ℕ, List, [], ◌∷◌, ◌++◌, Option, Some, None, map, append_assoc, append-nil, sym, ◌∙◌, ap, refl, subst}
+use Rattle.std.specs.Io.KnownBytes.{Appends, append_known}
+use Rattle.walk_model.specs.Entry.{Item}
+use Rattle.walk.specs.Lines.{line_of, lines_of}
+
+-- one text is written and then another
+appends_then : (a b c : Option (List ℕ)) (xs ys : List ℕ) → Appends a b xs → Appends b c ys → Appends a c (xs ++ ys)
+appends_then None b c xs ys first second = tt
+appends_then (Some ws) None c xs ys first second = absurd first
+appends_then (Some ws) (Some vs) None xs ys first second = absurd second
+appends_then (Some ws) (Some vs) (Some us) xs ys first second = second ∙ (ap (λ l. l ++ ys) first ∙ append_assoc ws xs ys)
+
+module _ {R E X : Type 0} (view : X → Item R E) where
+  lines_more : (xs : List X) (x : X) → lines_of (map view (xs ++ x ∷ [])) ≡ lines_of (map view xs) ++ line_of (view x)
+  lines_more [] x = append-nil (line_of (view x))
+  lines_more (y ∷ xs) x = ap (λ l. line_of (view y) ++ l) (lines_more xs x) ∙ sym (append_assoc (line_of (view y)) (lines_of (map view xs)) (line_of (view x)))
+
+  -- a line is written after others
+  pub line_after : (a b c : Option (List ℕ)) (xs : List X) (x : X) → Appends a b (lines_of (map view xs)) → Appends b c (line_of (view x)) → Appends a c (lines_of (map view (xs ++ x ∷ [])))
+  line_after a b c xs x before more = rw lines_more (appends_then a b c (lines_of (map view xs)) (line_of (view x)) before more)
