@@ -1,1 +1,3 @@
+pub mod AnswerFacts
+pub mod GivesFacts
 pub mod ListFacts

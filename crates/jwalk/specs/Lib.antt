@@ -5,3 +5,4 @@ pub mod ReadDir
 pub mod States
 pub mod Job
 pub mod ReadDirIter
+pub mod DirEntryIter

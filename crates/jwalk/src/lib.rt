@@ -3,6 +3,7 @@
 
 pub mod client_state;
 pub mod dir_entry;
+pub mod dir_entry_iter;
 pub mod error;
 pub mod job;
 pub mod process_read_dir;
@@ -14,5 +15,6 @@ pub mod serial_walk;
 
 pub use client_state::ClientState;
 pub use dir_entry::DirEntry;
+pub use dir_entry_iter::DirEntryIter;
 pub use error::Error;
 pub use read_children::ReadChildren;

@@ -1,13 +1,19 @@
 //! Readings in preorder.
-ghost use Rattle.std.specs.Prelude.{◌≡◌};
+ghost use Rattle.std.specs.Prelude.{◌≡◌, ◌<◌, [], IfSome, IsSome, option_map};
+ghost use Rattle.walk_model.specs.Held.{spec_weight};
+ghost use Rattle.walk_model.specs.Job as value;
+ghost use Rattle.jwalk.specs.ReadDir.{outcome};
+ghost use Rattle.jwalk.specs.States.{ClonesAreEqual};
+ghost use Rattle.jwalk.specs.Job.{job, file_system, callback, greatest_depth, IsSteady};
 
 use crate::client_state::ClientState;
+use crate::dir_entry::DirEntry;
 use crate::error::Error;
-use crate::job::Job;
 use crate::process_read_dir::ProcessReadDir;
 use crate::read_dir::ReadDir;
 use crate::serial_walk::SerialWalk;
 use std::alloc::{Allocator, Global};
+use std::convert::Infallible;
 use walk_fs::file_system::FileSystem;
 
 /// An iterator over readings, each before those of its own directories: the one of the first directory not read yet
@@ -23,4 +29,74 @@ pub enum ReadDirIter<
 > {
     /// One directory is read at a time, when its reading is asked for.
     Walk(SerialWalk<C, S, P, A>),
+    /// Directories are read ahead. There is no such walk yet.
+    ParWalk(Infallible),
+}
+
+impl<C: ClientState, S: FileSystem, P: ProcessReadDir<C, A>, A: Allocator + Copy>
+    ReadDirIter<C, S, P, A>
+{
+    ghost use Rattle.jwalk.specs.ReadDirIter.{job_of, to_read, GivesFirst, GivesReading};
+
+    /// The next reading, or the error that tells of want of memory.
+    fn read_next(&mut self) -> Option<Result<ReadDir<C, A>, Error<A>>>
+        requires { P.IsLawful (callback (job_of self.old)) }
+        ensures job { job_of self.new ≡ job_of self.old }
+        ensures first { GivesFirst (greatest_depth (job_of self.old)) (ClonesAreEqual C.ReadDirState.is_clone) (to_read self.old) (option_map outcome result) (to_read self.new) }
+        ensures fewer { IfSome result (λ _. spec_weight (greatest_depth (job_of self.old)) (to_read self.new) < spec_weight (greatest_depth (job_of self.old)) (to_read self.old)) }
+        ensures value { (d : C.DirEntryState) → IsSteady (S.IsFixed (file_system (job_of self.old))) (P.IsFixed (callback (job_of self.old))) C.ReadDirState.is_clone C.DirEntryState.is_default d → GivesReading (value.reading (job (S.functions (file_system (job_of self.old))) (P.processed (callback (job_of self.old))) d (job_of self.old))) (to_read self.old) (option_map outcome result) }
+    {
+        match self {
+            ReadDirIter::Walk(walk) => walk.read_or_stop(),
+            ReadDirIter::ParWalk(never) => match *never {},
+        }
+    }
+
+    /// The reading of an entry's directory: the next one, where the entries are those of the readings so far in the
+    /// walk's order.
+    pub fn next_of(&mut self, entry: &DirEntry<C, A>) -> Option<Result<ReadDir<C, A>, Error<A>>>
+        requires lawful { P.IsLawful (callback (job_of self.old)) }
+        requires has_directory { IsSome entry.now.read_children }
+        ensures job { job_of self.new ≡ job_of self.old }
+        ensures first { GivesFirst (greatest_depth (job_of self.old)) (ClonesAreEqual C.ReadDirState.is_clone) (to_read self.old) (option_map outcome result) (to_read self.new) }
+        ensures fewer { IfSome result (λ _. spec_weight (greatest_depth (job_of self.old)) (to_read self.new) < spec_weight (greatest_depth (job_of self.old)) (to_read self.old)) }
+        ensures value { (d : C.DirEntryState) → IsSteady (S.IsFixed (file_system (job_of self.old))) (P.IsFixed (callback (job_of self.old))) C.ReadDirState.is_clone C.DirEntryState.is_default d → GivesReading (value.reading (job (S.functions (file_system (job_of self.old))) (P.processed (callback (job_of self.old))) d (job_of self.old))) (to_read self.old) (option_map outcome result) }
+    {
+        prove!(entry.read_children.is_some());
+        self.read_next()
+    }
+
+    /// Forgets what is not read yet.
+    pub(crate) fn stop(&mut self)
+        ensures job { job_of self.new ≡ job_of self.old }
+        ensures to_read { to_read self.new ≡ [] }
+    {
+        match self {
+            ReadDirIter::Walk(walk) => walk.stop(),
+            ReadDirIter::ParWalk(never) => match *never {},
+        }
+    }
+}
+
+impl<C: ClientState, S: FileSystem, P: ProcessReadDir<C, A>, A: Allocator + Copy> Iterator
+    for ReadDirIter<C, S, P, A>
+{
+    type Item = Result<ReadDir<C, A>, Error<A>>;
+
+    ghost use Rattle.std.specs.Iterator.{at_most};
+    ghost use Rattle.walk_model.specs.Held.{spec_weight};
+    ghost use Rattle.walk_model.specs.Job as value;
+    ghost use Rattle.jwalk.specs.States.{ClonesAreEqual};
+    ghost use Rattle.jwalk.specs.Job.{job, file_system, callback, greatest_depth, IsSteady};
+    ghost use Rattle.jwalk.specs.ReadDirIter.{job_of, to_read, Gives};
+
+    ghost can_next = { λ s. P.IsLawful (callback (job_of s)) };
+
+    ghost next_gives = { λ s r t. Gives (ClonesAreEqual C.ReadDirState.is_clone) (IsSteady (S.IsFixed (file_system (job_of s))) (P.IsFixed (callback (job_of s))) C.ReadDirState.is_clone C.DirEntryState.is_default) (λ d. value.reading (job (S.functions (file_system (job_of s))) (P.processed (callback (job_of s))) d (job_of s))) s r t };
+
+    ghost remaining = { λ s. at_most (spec_weight (greatest_depth (job_of s)) (to_read s)) };
+
+    fn next(&mut self) -> Option<Result<ReadDir<C, A>, Error<A>>> {
+        self.read_next()
+    }
 }

@@ -1,6 +1,7 @@
 //! Readings one after another.
-ghost use Rattle.std.specs.Prelude.{◌≡◌, ◌≢◌, [], IfOk, IfSome, IfNone, OnOk, OnErr};
-ghost use Rattle.walk_model.specs.ReadDir.{ReadsFirst, IsReadingOfFirst};
+ghost use Rattle.std.specs.Prelude.{◌≡◌, ◌≢◌, ◌<◌, ◌^◌, [], length, option_map, IfOk, IfSome, IfNone, OnOk, OnErr};
+ghost use Rattle.walk_model.specs.ReadDir.{ReadsFirst, IsReadingOfFirst, list_of};
+ghost use Rattle.walk_model.specs.Held.{spec_weight};
 ghost use Rattle.walk_model.specs.Job as value;
 ghost use Rattle.jwalk.specs.ReadDir.{outcome};
 ghost use Rattle.jwalk.specs.States.{ClonesAreEqual};
@@ -30,7 +31,7 @@ pub struct SerialWalk<
 impl<C: ClientState, S: FileSystem, P: ProcessReadDir<C, A>, A: Allocator + Copy>
     SerialWalk<C, S, P, A>
 {
-    ghost use Rattle.jwalk.specs.ReadDirIter.{stacked, StacksChildren};
+    ghost use Rattle.jwalk.specs.ReadDirIter.{stacked, StacksChildren, GivesFirst, GivesReading};
 
     /// The specifications of a reading's directories, put on the stack with the first of them last.
     fn stack(
@@ -38,11 +39,13 @@ impl<C: ClientState, S: FileSystem, P: ProcessReadDir<C, A>, A: Allocator + Copy
         read: &Result<ReadDir<C, A>, Error<A>>,
     ) -> Result<(), AllocError>
         ensures job { self.new.job ≡ self.old.job }
+        ensures few { length (list_of (outcome read.now)) < 2 ^ 64 }
         ensures children { OnOk result (StacksChildren (ClonesAreEqual C.ReadDirState.is_clone) (stacked self.old) (outcome read.now) (stacked self.new)) }
     {
         let Ok(reading) = read else {
             return Ok(());
         };
+        let _count = reading.results_list.len();
         let mut children = reading.read_children_specs()?;
         children.reverse();
         self.specs.append(&mut children)?;
@@ -58,6 +61,7 @@ impl<C: ClientState, S: FileSystem, P: ProcessReadDir<C, A>, A: Allocator + Copy
         ensures end { IfOk result (λ o. IfNone o ((stacked self.old ≡ []) × (stacked self.new ≡ []))) }
         ensures refused { OnErr result (stacked self.old ≢ []) }
         ensures reads { IfOk result (λ o. IfSome o (λ r. ReadsFirst (greatest_depth self.old.job) (ClonesAreEqual C.ReadDirState.is_clone) (stacked self.old) (outcome r) (stacked self.new))) }
+        ensures fewer { IfOk result (λ o. IfSome o (λ _. spec_weight (greatest_depth self.old.job) (stacked self.new) < spec_weight (greatest_depth self.old.job) (stacked self.old))) }
         ensures value { (d : C.DirEntryState) → IsSteady (S.IsFixed (file_system self.old.job)) (P.IsFixed (callback self.old.job)) C.ReadDirState.is_clone C.DirEntryState.is_default d → IfOk result (λ o. IfSome o (λ r. IsReadingOfFirst (value.reading (job (S.functions (file_system self.old.job)) (P.processed (callback self.old.job)) d self.old.job)) (stacked self.old) (outcome r))) }
     {
         let Some(first) = self.specs.pop() else {
@@ -74,5 +78,22 @@ impl<C: ClientState, S: FileSystem, P: ProcessReadDir<C, A>, A: Allocator + Copy
         ensures stacked { stacked self.new ≡ [] }
     {
         self.specs.clear();
+    }
+
+    /// The reading of the next directory; where memory is refused, the error that tells of it, and nothing is left.
+    pub(crate) fn read_or_stop(&mut self) -> Option<Result<ReadDir<C, A>, Error<A>>>
+        requires { P.IsLawful (callback self.old.job) }
+        ensures job { self.new.job ≡ self.old.job }
+        ensures first { GivesFirst (greatest_depth self.old.job) (ClonesAreEqual C.ReadDirState.is_clone) (stacked self.old) (option_map outcome result) (stacked self.new) }
+        ensures fewer { IfSome result (λ _. spec_weight (greatest_depth self.old.job) (stacked self.new) < spec_weight (greatest_depth self.old.job) (stacked self.old)) }
+        ensures value { (d : C.DirEntryState) → IsSteady (S.IsFixed (file_system self.old.job)) (P.IsFixed (callback self.old.job)) C.ReadDirState.is_clone C.DirEntryState.is_default d → GivesReading (value.reading (job (S.functions (file_system self.old.job)) (P.processed (callback self.old.job)) d self.old.job)) (stacked self.old) (option_map outcome result) }
+    {
+        match self.read_next() {
+            Ok(read) => read,
+            Err(_) => {
+                self.stop();
+                Some(Err(Error::memory()))
+            }
+        }
     }
 }

@@ -73,21 +73,23 @@ module _ (table : List Branch) (sound : IsSound table) (node : Node) where
   add_alike path = below_alike (all_but_last (components path)) (last_of (components path))
 
 module _ (table : List Branch) (sound : IsSound table) (holder : ℕ) (name : List ℕ) (lt : holder < length table) where
-  pub built-file : (answer : Result Tree Refusal) (len : ℕ) → IsSpot table answer (file len) holder name → IsBuilt answer (tree_of_table (with_named table holder name (File len)))
-  built-file answer len spot =
-      subst (λ (a : Result Tree Refusal). IsBuilt a (tree_of_table (with_named table holder name (File len)))) (sym spot.answer_is)
-      (tree-grown table (with_named table holder name (File len)) holder name (File len) (grows-file table holder name lt spot.free len) sound spot.place spot.stands (file len) refl)
+  pub built-file : (answer : Result Tree Refusal) (len : ℕ) → IsSpot table answer (file len) holder name → (new : List Branch) → new ≡ with_named table holder name (File len) → IsBuilt answer (tree_of_table new)
+  built-file answer len spot new is =
+      subst (λ (t : List Branch). IsBuilt answer (tree_of_table t)) (sym is)
+      (subst (λ (a : Result Tree Refusal). IsBuilt a (tree_of_table (with_named table holder name (File len)))) (sym spot.answer_is)
+      (tree-grown table (with_named table holder name (File len)) holder name (File len) (grows-file table holder name lt spot.free len) sound spot.place spot.stands (file len) refl))
 
   pub sound-file : (answer : Result Tree Refusal) (len : ℕ) → IsSpot table answer (file len) holder name → IsSound (with_named table holder name (File len))
   sound-file answer len spot =
       sound-grown table (with_named table holder name (File len)) holder name (File len) (grows-file table holder name lt spot.free len) sound (extends-file table holder name lt spot.free len)
 
   pub built-directory : (answer : Result Tree Refusal) → IsSpot table answer (directory [] None) holder name
-      → IsBuilt answer (tree_of_table (with_named table holder name (Dir (length table)) ++ empty_branch holder ∷ []))
-  built-directory answer spot =
-      subst (λ (a : Result Tree Refusal). IsBuilt a (tree_of_table (with_directory table holder name lt spot.free))) (sym spot.answer_is)
+      → (new : List Branch) → new ≡ with_named table holder name (Dir (length table)) ++ empty_branch holder ∷ [] → IsBuilt answer (tree_of_table new)
+  built-directory answer spot new is =
+      subst (λ (t : List Branch). IsBuilt answer (tree_of_table t)) (sym is)
+      (subst (λ (a : Result Tree Refusal). IsBuilt a (tree_of_table (with_directory table holder name lt spot.free))) (sym spot.answer_is)
       (tree-grown table (with_directory table holder name lt spot.free) holder name (Dir (length table)) (grows-directory table holder name lt spot.free) sound spot.place spot.stands (directory [] None)
-      (ap (λ (es : List (List ℕ × Child)). directory (names_of es) None) (node-directory table holder name lt spot.free)))
+      (ap (λ (es : List (List ℕ × Child)). directory (names_of es) None) (node-directory table holder name lt spot.free))))
 
   pub sound-directory : (answer : Result Tree Refusal) → IsSpot table answer (directory [] None) holder name
       → IsSound (with_named table holder name (Dir (length table)) ++ empty_branch holder ∷ [])

@@ -7,3 +7,5 @@ mod directory;
 pub mod memory_fs;
 mod spot;
 mod table;
+#[cfg(test)]
+mod tests;

@@ -46,12 +46,15 @@ impl<A: Allocator + Copy> MemoryFs<A> {
         }
     }
 
-    /// Adds an empty directory. The path's last component has to be a plain name, and the ones before it lead to a
-    /// directory, from the root; else it is `NotFound`.
+    /// Adds an empty directory, the last of its holder's children. `NotFound` where the path's last component is no plain
+    /// name or the ones before it lead to no directory, from the root; `AlreadyExists` where the name is taken; else `Memory`
+    /// where memory is refused. After a refusal the tree is as it was.
     pub fn add_dir(&mut self, path: &str) -> Result<(), AddError>
         ensures added { OnOk result (IsBuilt (add (directory [] None) path.now (tree_of self.old)) (tree_of self.new)) }
-        ensures not_found { (result ≡ Err AddError.NotFound) ↔ (add (directory [] None) path.now (tree_of self.old) ≡ Err not_found) }
-        ensures already_exists { (result ≡ Err AddError.AlreadyExists) ↔ (add (directory [] None) path.now (tree_of self.old) ≡ Err already_exists) }
+        ensures not_found { (result ≡ Err AddError.NotFound)
+            ↔ (add (directory [] None) path.now (tree_of self.old) ≡ Err not_found) }
+        ensures already_exists { (result ≡ Err AddError.AlreadyExists)
+            ↔ (add (directory [] None) path.now (tree_of self.old) ≡ Err already_exists) }
         ensures err { OnErr result (IsSameTree (tree_of self.old) (tree_of self.new)) }
     {
         let spot = self.spot(path)?;
@@ -59,11 +62,13 @@ impl<A: Allocator + Copy> MemoryFs<A> {
         Ok(())
     }
 
-    /// Adds a file of a length in bytes, where `add_dir` would add a directory.
+    /// Adds a file of a length in bytes, where `add_dir` would add a directory, with the same refusals.
     pub fn add_file(&mut self, path: &str, len: u64) -> Result<(), AddError>
         ensures added { OnOk result (IsBuilt (add (file len) path.now (tree_of self.old)) (tree_of self.new)) }
-        ensures not_found { (result ≡ Err AddError.NotFound) ↔ (add (file len) path.now (tree_of self.old) ≡ Err not_found) }
-        ensures already_exists { (result ≡ Err AddError.AlreadyExists) ↔ (add (file len) path.now (tree_of self.old) ≡ Err already_exists) }
+        ensures not_found { (result ≡ Err AddError.NotFound)
+            ↔ (add (file len) path.now (tree_of self.old) ≡ Err not_found) }
+        ensures already_exists { (result ≡ Err AddError.AlreadyExists)
+            ↔ (add (file len) path.now (tree_of self.old) ≡ Err already_exists) }
         ensures err { OnErr result (IsSameTree (tree_of self.old) (tree_of self.new)) }
     {
         let spot = self.spot(path)?;

@@ -1,6 +1,8 @@
 -- Lines one after another.
-use Rattle.std.proofs.Common.{◌≡◌, ℕ, List, [], ◌∷◌, ◌++◌, Option, Some, None, map, append_assoc, append-nil, sym, ◌∙◌, ap, refl, subst}
+use Rattle.std.proofs.Common.{◌≡◌, ℕ, Bool, true, false, ◌&&◌, List, [], ◌∷◌, ◌++◌, Option, Some, None, map, append_assoc, append-nil, sym, ◌∙◌, ap, refl, subst}
 use Rattle.std.specs.Io.KnownBytes.{Appends, append_known}
+use Rattle.std.specs.List.{list_all}
+use Rattle.std.proofs.lemmas.List.Folds.{list_all-append}
 use Rattle.walk_model.specs.Entry.{Item}
 use Rattle.walk.specs.Lines.{line_of, lines_of}
 
@@ -19,3 +21,11 @@ module _ {R E X : Type 0} (view : X → Item R E) where
   -- a line is written after others
   pub line_after : (a b c : Option (List ℕ)) (xs : List X) (x : X) → Appends a b (lines_of (map view xs)) → Appends b c (line_of (view x)) → Appends a c (lines_of (map view (xs ++ x ∷ [])))
   line_after a b c xs x before more = rw lines_more (appends_then a b c (lines_of (map view xs)) (line_of (view x)) before more)
+
+-- one more element is tested
+pub all_after : {X : Type 0} (p : X → Bool) (xs : List X) (x : X) (all one : Bool) → all ≡ list_all p xs → one ≡ p x → (all && one) ≡ list_all p (xs ++ x ∷ [])
+all_after p xs x all one all_is one_is = ap (λ b. b && one) all_is ∙ (ap (λ b. list_all p xs && b) (one_is ∙ and_true (p x)) ∙ sym (list_all-append p xs (x ∷ [])))
+  where
+    and_true : (b : Bool) → b ≡ (b && true)
+    and_true true = refl
+    and_true false = refl

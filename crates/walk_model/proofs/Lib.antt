@@ -6,3 +6,4 @@ pub mod PathNames
 pub mod PathParents
 pub mod PreorderFacts
 pub mod SortingFacts
+pub mod StepFacts

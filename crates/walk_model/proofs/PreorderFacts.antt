@@ -1,10 +1,10 @@
 -- What one reading does to what is still to be read.
-use Rattle.std.proofs.Common.{◌≡◌, ℕ, zero, suc, ◌+◌, ◌-◌, ◌*◌, ◌^◌, ◌<◌, ◌≤◌, List, [], ◌∷◌, ◌++◌, map, length, Option, Some, None, option_to_list, Result, Ok, Err, refl, sym, ap, ◌∙◌, append_assoc, arith}
+use Rattle.std.proofs.Common.{◌≡◌, ◌≢◌, ℕ, zero, suc, ◌+◌, ◌-◌, ◌*◌, ◌^◌, ◌<◌, ◌≤◌, List, [], ◌∷◌, ◌++◌, map, length, Option, Some, None, option_to_list, Result, Ok, Err, refl, sym, ap, ◌∙◌, append_assoc, arith}
 use Rattle.std.proofs.lemmas.Grind.{flat_map-append}
 use Rattle.std.proofs.lemmas.List.{map-append}
 use Rattle.std.specs.Prelude.{flat_map, option_map}
 use Rattle.walk_model.specs.Entry.{Children, Entry, Item, AtDepth}
-use Rattle.walk_model.specs.ReadDir.{Spec, Reading, Outcome, Place, place, spec_of, spec_below, children, children_of, list_of, IsLawful, ReadsFirst}
+use Rattle.walk_model.specs.ReadDir.{Spec, Reading, Outcome, Place, place, spec_of, spec_below, children, children_of, list_of, IsLawful, ReadsFirst, IsReadingOfFirst}
 use Rattle.walk_model.specs.Held.{bound, spec_weight}
 use Rattle.walk_model.specs.Preorder.{readings, preorder}
 use Rattle.walk_model.proofs.HeldFacts.{bound_pos, below_bound}
@@ -90,3 +90,12 @@ module _ {R E : Type 0} where
       let places : map place (reads.front ++ reads.rest) ≡ map place (children_of outcome ++ reads.rest) = map-append place reads.front reads.rest ∙ ap (λ l. l ++ map place reads.rest) reads.places ∙ sym (map-append place (children_of outcome) reads.rest) in
       rw (reads.took, reads.left, same_spec_weight max_depth (reads.front ++ reads.rest) (children_of outcome ++ reads.rest) places, spec_weight-append max_depth (children_of outcome) reads.rest)
       (omega (arith, fewer_at max_depth (max_depth - reads.first.depth) reads.first outcome reads.lawful few refl))
+
+-- the outcome is the reading of the specification that was taken
+pub first_is_read : {R E : Type 0} (reading : Spec R → Outcome R E) (max_depth : ℕ) (clones : Type 0) (old new : List (Spec R)) (outcome : Outcome R E) (reads : ReadsFirst max_depth clones old outcome new) → IsReadingOfFirst reading old outcome → outcome ≡ reading reads.first
+first_is_read reading max_depth clones old new outcome reads h = rw reads.took at h
+
+-- what is still to be read isn't nothing
+pub heavy_specs : {R : Type 0} (max_depth : ℕ) (specs : List (Spec R)) → specs ≢ [] → 0 < spec_weight max_depth specs
+heavy_specs max_depth [] some = absurd (some refl)
+heavy_specs max_depth (s ∷ ss) some = omega (arith, bound_pos (max_depth - s.depth))

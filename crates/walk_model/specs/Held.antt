@@ -1,5 +1,5 @@
 -- What an iterator of a walk has received and not yet passed on.
-use Rattle.std.specs.Prelude.{◌≡◌, ℕ, zero, suc, ◌+◌, ◌-◌, ◌*◌, ◌^◌, Bool, true, false, List, [], ◌∷◌, ◌++◌, Option, Some, None, MatchBool}
+use Rattle.std.specs.Prelude.{◌≡◌, ℕ, zero, suc, ◌+◌, ◌-◌, ◌*◌, ◌^◌, ◌<◌, Bool, true, false, List, [], ◌∷◌, ◌++◌, Option, Some, None, MatchBool}
 use Rattle.walk_model.specs.Entry.{Item, has_directory}
 use Rattle.walk_model.specs.ReadDir.{Spec, Outcome, IsLawful}
 use Rattle.walk_model.specs.Listing.{Pair, Source, nothing, unread, was_read, after_reading, pairs_of, listing, is_answered, answers}
@@ -66,3 +66,20 @@ weight max_depth (p ∷ held) = source_weight max_depth p.source + weight max_de
 abbrev pub spec_weight : {R : Type 0} → ℕ → List (Spec R) → ℕ
 spec_weight max_depth [] = 0
 spec_weight max_depth (spec ∷ specs) = bound (max_depth - spec.depth) + spec_weight max_depth specs
+
+-- where the first pair has no directory to be read, its item is the answer and the rest is held then
+abbrev pub PassesPlainly : {R E : Type 0} → List (Pair R E) → Item R E → List (Pair R E) → Type 0
+PassesPlainly [] answer held = ⊥
+PassesPlainly (p ∷ rest) answer held = MatchBool (is_plain p.source) ((answer ≡ p.item) × (held ≡ rest)) (Unit {0})
+
+-- a directory is to be read below the first item
+abbrev pub IsAtDirectory : {R E : Type 0} → List (Pair R E) → Type 0
+IsAtDirectory [] = ⊥
+IsAtDirectory (p ∷ rest) = is_plain p.source ≡ false
+
+-- All that is said of one pair that is passed. What is listed holds where the walk is steady, with d as the default state of an entry.
+pub record PassesOne {R E : Type 0} (max_depth : ℕ) (clones_are_equal : Type 0) (is_steady : E → Type 0) (reading_by : E → Spec R → Outcome R E) (old : List (Pair R E)) (answer : Item R E) (new : List (Pair R E)) : Type 0 where
+  pub plain : PassesPlainly old answer new
+  pub passes : clones_are_equal → Passes max_depth old answer new
+  pub listed : (d : E) → is_steady d → listing (reading_by d) max_depth old ≡ answer ∷ listing (reading_by d) max_depth new
+  pub lighter : weight max_depth new < weight max_depth old

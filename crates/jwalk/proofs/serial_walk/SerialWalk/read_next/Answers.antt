@@ -1,10 +1,14 @@
 use Rattle.std.proofs.Common.{◌≡◌, ◌∙◌, map, reverse, ap}
-use Rattle.jwalk.specs.ReadDir.{spec}
+use Rattle.walk_model.proofs.PreorderFacts.{fewer_to_read}
+use Rattle.jwalk.specs.ReadDir.{spec, outcome}
+use Rattle.jwalk.specs.States.{ClonesAreEqual}
+use Rattle.jwalk.specs.Job.{greatest_depth}
+use Rattle.jwalk.specs.ReadDirIter.{stacked}
 use Rattle.jwalk.proofs.ListFacts.{reverse-push}
 use Rattle.jwalk.proofs.serial_walk.SerialWalk.read_next.Goals as goal
 
-pub returns-clause-reads : goal.returns-clause-reads
-returns-clause-reads g c =
+the_read : goal.returns-clause-reads
+the_read g c =
     let left = c.pop.new.self.items in
     let stacks = c.in_ok-stack.ensures.children in
     record {
@@ -17,6 +21,12 @@ returns-clause-reads g c =
       places = stacks.places;
       children = stacks.children;
     }
+
+pub returns-clause-reads : goal.returns-clause-reads
+returns-clause-reads g c = the_read g c
+
+pub returns-clause-fewer : goal.returns-clause-fewer
+returns-clause-fewer g c = fewer_to_read (greatest_depth c.args.self.now.job) (ClonesAreEqual g.C.ReadDirState.Clone.is_clone) (stacked c.args.self.now) (stacked c.stack.new.self) (outcome c.in_ok-read.read) c.in_ok-stack.ensures.few (the_read g c)
 
 pub returns-clause-value : goal.returns-clause-value
 returns-clause-value g c = λ d steady.

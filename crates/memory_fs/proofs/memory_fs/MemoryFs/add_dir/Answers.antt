@@ -1,8 +1,7 @@
-use Rattle.std.proofs.Common.{sym, ap, subst, ◌∙◌, Err, [], None}
+use Rattle.std.proofs.Common.{ap, ◌∙◌, Err, [], None}
 use Rattle.std.proofs.lemmas.Result.{err_from_is_err_and}
 use Rattle.walk_model.specs.Tree.{directory, add}
-use Rattle.memory_fs.specs.Branch.{tree_of_table}
-use Rattle.memory_fs.specs.MemoryFs.{IsBuilt, tree_of}
+use Rattle.memory_fs.specs.MemoryFs.{tree_of}
 use Rattle.memory_fs.specs.Table.{branches}
 use Rattle.memory_fs.proofs.AddLemmas.{found-spot, told-no_spot, told-no_memory, told-added, sound-either, sound-directory, built-directory}
 use Rattle.memory_fs.proofs.memory_fs.MemoryFs.add_dir.Goals as goal
@@ -44,8 +43,8 @@ returns-in_err-add_directory-clause-already_exists g c =
 pub returns-clause-added : goal.returns-clause-added
 returns-clause-added g c =
     let spot = found-spot (branches c.args.self.now.table) c.args.self.now.sound (directory [] None) c.args.path.now c.in_ok-spot.spot.holder c.in_ok-spot.spot.name.now c.in_ok-spot.ensures.value in
-    subst (λ t. IsBuilt (add (directory [] None) c.args.path.now (tree_of c.args.self.now)) (tree_of_table t)) (sym c.in_ok-add_directory.ensures.ok)
-    (built-directory (branches c.args.self.now.table) c.args.self.now.sound c.in_ok-spot.spot.holder c.in_ok-spot.spot.name.now c.in_ok-spot.ensures.within (add (directory [] None) c.args.path.now (tree_of c.args.self.now)) spot)
+    built-directory (branches c.args.self.now.table) c.args.self.now.sound c.in_ok-spot.spot.holder c.in_ok-spot.spot.name.now c.in_ok-spot.ensures.within (add (directory [] None) c.args.path.now (tree_of c.args.self.now)) spot
+    (branches c.add_directory.new.self) c.in_ok-add_directory.ensures.ok
 
 pub returns-clause-not_found : goal.returns-clause-not_found
 returns-clause-not_found g c =

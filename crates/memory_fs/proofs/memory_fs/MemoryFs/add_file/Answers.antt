@@ -1,8 +1,7 @@
-use Rattle.std.proofs.Common.{sym, ap, subst, ◌∙◌, Err}
+use Rattle.std.proofs.Common.{ap, ◌∙◌, Err}
 use Rattle.std.proofs.lemmas.Result.{err_from_is_err_and}
 use Rattle.walk_model.specs.Tree.{file, add}
-use Rattle.memory_fs.specs.Branch.{tree_of_table}
-use Rattle.memory_fs.specs.MemoryFs.{IsBuilt, tree_of}
+use Rattle.memory_fs.specs.MemoryFs.{tree_of}
 use Rattle.memory_fs.specs.Table.{branches}
 use Rattle.memory_fs.proofs.AddLemmas.{found-spot, told-no_spot, told-no_memory, told-added, sound-either, sound-file, built-file}
 use Rattle.memory_fs.proofs.memory_fs.MemoryFs.add_file.Goals as goal
@@ -44,8 +43,8 @@ returns-in_err-add-clause-already_exists g c =
 pub returns-clause-added : goal.returns-clause-added
 returns-clause-added g c =
     let spot = found-spot (branches c.args.self.now.table) c.args.self.now.sound (file c.args.len) c.args.path.now c.in_ok-spot.spot.holder c.in_ok-spot.spot.name.now c.in_ok-spot.ensures.value in
-    subst (λ t. IsBuilt (add (file c.args.len) c.args.path.now (tree_of c.args.self.now)) (tree_of_table t)) (sym c.in_ok-add.ensures.ok)
-    (built-file (branches c.args.self.now.table) c.args.self.now.sound c.in_ok-spot.spot.holder c.in_ok-spot.spot.name.now c.in_ok-spot.ensures.within (add (file c.args.len) c.args.path.now (tree_of c.args.self.now)) c.args.len spot)
+    built-file (branches c.args.self.now.table) c.args.self.now.sound c.in_ok-spot.spot.holder c.in_ok-spot.spot.name.now c.in_ok-spot.ensures.within (add (file c.args.len) c.args.path.now (tree_of c.args.self.now)) c.args.len spot
+    (branches c.add.new.self) c.in_ok-add.ensures.ok
 
 pub returns-clause-not_found : goal.returns-clause-not_found
 returns-clause-not_found g c =

@@ -1,0 +1,74 @@
+-- What a walk holds, and what one of its answers does.
+use Rattle.std.specs.Prelude.{◌≡◌, ◌⊎◌, ℕ, Bool, true, false, List, [], ◌∷◌, ◌++◌, map, reverse, Option, Some, None, option_map, Result, Err}
+use Rattle.walk_model.specs.Error.{memory}
+use Rattle.walk_model.specs.Entry.{Item}
+use Rattle.walk_model.specs.ReadDir.{Spec, Outcome}
+use Rattle.walk_model.specs.Listing.{Pair, nothing}
+use Rattle.walk_model.specs.Held as value
+use Rattle.walk_model.specs.Held.{pair_up, Passes, PassesOne, IsAtDirectory, AnswersPlainly}
+use Rattle.jwalk.specs.Entry.{item}
+use Rattle.jwalk.specs.Job.{greatest_depth}
+use Rattle.jwalk.specs.ReadDirIter as readings
+use Rattle.jwalk.specs.ReadDirIter.{to_read}
+use Rattle.jwalk.specs.declared.error.Error.{Error}
+use Rattle.jwalk.specs.declared.dir_entry.DirEntry.{DirEntry}
+use Rattle.jwalk.specs.declared.job.Job.{Job}
+use Rattle.jwalk.specs.declared.dir_entry_iter.DirEntryIter.{DirEntryIter}
+
+-- what stands in front of a walk that was refused at its start: the error that tells of it
+abbrev pub refusal : {R E : Type 0} → Bool → List (Pair R E)
+refusal true = record { item = Err memory; source = nothing } ∷ []
+refusal false = []
+
+module _ {C S P A R E : Type 0} where
+  abbrev pub job_of : DirEntryIter C S P A R E → Job C S P A R E
+  job_of it = readings.job_of it.reads
+
+  -- the directories that aren't read yet
+  abbrev pub unread_of : DirEntryIter C S P A R E → List (Spec R)
+  unread_of it = to_read it.reads
+
+  -- the items that were received and not passed on, the next one first
+  abbrev pub items_of : DirEntryIter C S P A R E → List (Item R E)
+  items_of it = map item (reverse it.items.items)
+
+  -- the items that were received and not passed on, each with the directory below it
+  abbrev pub held : DirEntryIter C S P A R E → List (Pair R E)
+  held it = refusal it.refused ++ pair_up (items_of it) (unread_of it)
+
+  -- one pair is passed; or memory was refused below a directory, and nothing is left
+  abbrev pub PassesOrStops : ℕ → Type 0 → (E → Type 0) → (E → Spec R → Outcome R E) → DirEntryIter C S P A R E → Item R E → DirEntryIter C S P A R E → Type 0
+  PassesOrStops max_depth clones_are_equal is_steady reading_by old answer new =
+      ((answer ≡ Err memory) × (items_of new ≡ []) × (unread_of new ≡ []) × IsAtDirectory (pair_up (items_of old) (unread_of old)))
+      ⊎ PassesOne max_depth clones_are_equal is_steady reading_by (pair_up (items_of old) (unread_of old)) answer (pair_up (items_of new) (unread_of new))
+
+  -- the least depth, which can't be set yet
+  abbrev pub min_depth_of : DirEntryIter C S P A R E → ℕ
+  min_depth_of it = 0
+
+  -- what is still to come, by what each reading gives
+  abbrev pub to_come : (Spec R → Outcome R E) → DirEntryIter C S P A R E → List (Item R E)
+  to_come reading it = value.to_come reading (min_depth_of it) (greatest_depth (job_of it)) (held it)
+
+  -- the answer tells of want of memory, and nothing is held or unread any more
+  pub record Refuses (answer : Item R E) (new : DirEntryIter C S P A R E) : Type 0 where
+    pub tells : answer ≡ Err memory
+    pub nothing_held : held new ≡ []
+    pub nothing_unread : unread_of new ≡ []
+
+  -- The first of what is to come is answered and the rest is left, or memory was refused; there is no answer where nothing is to come.
+  abbrev pub AnswersFirst : (Spec R → Outcome R E) → DirEntryIter C S P A R E → Option (Item R E) → DirEntryIter C S P A R E → Type 0
+  AnswersFirst reading old None new = to_come reading old ≡ []
+  AnswersFirst reading old (Some answer) new = Refuses answer new ⊎ (to_come reading old ≡ answer ∷ to_come reading new)
+
+  -- whatever the file system answers: an item is passed with what its directory's reading gave, or memory was refused
+  abbrev pub PassesFirst : DirEntryIter C S P A R E → Option (Item R E) → DirEntryIter C S P A R E → Type 0
+  PassesFirst old None new = held new ≡ []
+  PassesFirst old (Some answer) new = Refuses answer new ⊎ Passes (greatest_depth (job_of old)) (held old) answer (held new)
+
+  -- One call of a walk's `next`. What is promised of a fixed file system holds with d as the default state of an entry.
+  pub record Answers (clones_are_equal : Type 0) (is_steady : E → Type 0) (reading_by : E → Spec R → Outcome R E) (old : DirEntryIter C S P A R E) (answer : Option (Result (DirEntry C A R E) (Error A))) (new : DirEntryIter C S P A R E) : Type 0 where
+    pub job : job_of new ≡ job_of old
+    pub plain : AnswersPlainly (min_depth_of old) (held old) (option_map item answer) (held new)
+    pub passes : clones_are_equal → PassesFirst old (option_map item answer) new
+    pub coming : (d : E) → is_steady d → AnswersFirst (reading_by d) old (option_map item answer) new

@@ -1,0 +1,151 @@
+//! A walk's answers.
+ghost use Rattle.std.specs.Prelude.{◌≡◌, ◌<◌, [], ◌∷◌, true, Ok, Err, IfOk, IfErr};
+ghost use Rattle.walk_model.specs.Entry.{has_directory};
+ghost use Rattle.walk_model.specs.Error.{memory};
+ghost use Rattle.walk_model.specs.Held.{weight, pair_up};
+ghost use Rattle.walk_model.specs.Listing.{listing};
+ghost use Rattle.walk_model.specs.Job as value;
+ghost use Rattle.jwalk.specs.Entry.{entry, item};
+ghost use Rattle.jwalk.specs.Error.{failure};
+ghost use Rattle.jwalk.specs.States.{ClonesAreEqual};
+ghost use Rattle.jwalk.specs.Job.{job, file_system, callback, greatest_depth, IsSteady};
+
+use crate::client_state::ClientState;
+use crate::dir_entry::DirEntry;
+use crate::error::Error;
+use crate::process_read_dir::ProcessReadDir;
+use crate::read_dir::ReadDir;
+use crate::read_dir_iter::ReadDirIter;
+use std::alloc::{AllocError, Allocator, Global};
+use walk_fs::file_system::FileSystem;
+
+/// A walk under way: an iterator over its entries and errors, in strict depth-first order.
+///
+/// A directory's entry is answered when its directory was read. A directory that could not be read is answered with the
+/// error in its `read_children`. Want of memory is answered by one error whose `is_memory` is true, and then by `None`
+/// for good; so is the end of the walk.
+#[derive(Drop)]
+pub struct DirEntryIter<
+    C: ClientState,
+    S: FileSystem,
+    P: ProcessReadDir<C, A>,
+    A: Allocator + Copy = Global,
+> {
+    pub(crate) reads: ReadDirIter<C, S, P, A>,
+    // What was received and not passed on, the next one last.
+    pub(crate) items: Vec<Result<DirEntry<C, A>, Error<A>>, A>,
+    // Memory was refused at the start, and this was not answered yet.
+    pub(crate) refused: bool,
+}
+
+impl<C: ClientState, S: FileSystem, P: ProcessReadDir<C, A>, A: Allocator + Copy>
+    DirEntryIter<C, S, P, A>
+{
+    ghost use Rattle.std.specs.Prelude.{◌^◌, ◌++◌, length, OnOk, OnErr, IfSome, IfNone};
+    ghost use Rattle.walk_model.specs.Held.{PassesOne, IsAtDirectory};
+    ghost use Rattle.walk_model.specs.ReadDir.{list_of};
+    ghost use Rattle.jwalk.specs.ReadDir.{reading};
+    ghost use Rattle.jwalk.specs.DirEntryIter.{job_of, items_of, unread_of, PassesOrStops};
+
+    /// Puts the items of a reading in front of those that were received before.
+    fn receive(&mut self, read: ReadDir<C, A>) -> Result<(), AllocError>
+        ensures reads { self.new.reads ≡ self.old.reads }
+        ensures refused { self.new.refused ≡ self.old.refused }
+        ensures few { length (reading read).list < 2 ^ 64 }
+        ensures items { OnOk result (items_of self.new ≡ (reading read).list ++ items_of self.old) }
+    {
+        let mut items = read.results_list;
+        let _count = items.len();
+        items.reverse();
+        self.items.append(&mut items)?;
+        Ok(())
+    }
+
+    /// Forgets all that is still to come.
+    fn stop(&mut self)
+        ensures job { job_of self.new ≡ job_of self.old }
+        ensures refused { self.new.refused ≡ self.old.refused }
+        ensures items { items_of self.new ≡ [] }
+        ensures unread { unread_of self.new ≡ [] }
+    {
+        self.items.clear();
+        self.reads.stop();
+    }
+
+    /// The entry once its directory was read, with the items of the directory received; or, where memory was refused,
+    /// the error that tells of it.
+    fn enter(&mut self, found: DirEntry<C, A>) -> Result<DirEntry<C, A>, Error<A>>
+        requires lawful { P.IsLawful (callback (job_of self.old)) }
+        requires has_directory { has_directory (Ok (entry found)) ≡ true }
+        ensures job { job_of self.new ≡ job_of self.old }
+        ensures refused { self.new.refused ≡ self.old.refused }
+        ensures passed { IfOk result (λ e. PassesOne (greatest_depth (job_of self.old)) (ClonesAreEqual C.ReadDirState.is_clone) (IsSteady (S.IsFixed (file_system (job_of self.old))) (P.IsFixed (callback (job_of self.old))) C.ReadDirState.is_clone C.DirEntryState.is_default) (λ d. value.reading (job (S.functions (file_system (job_of self.old))) (P.processed (callback (job_of self.old))) d (job_of self.old))) (pair_up (Ok (entry found) ∷ items_of self.old) (unread_of self.old)) (Ok (entry e)) (pair_up (items_of self.new) (unread_of self.new))) }
+        ensures memory { IfErr result (λ error. failure error ≡ memory) }
+        ensures stopped { OnErr result ((items_of self.new ≡ []) × (unread_of self.new ≡ [])) }
+        ensures entered { OnErr result (IsAtDirectory (pair_up (Ok (entry found) ∷ items_of self.old) (unread_of self.old))) }
+    {
+        match self.reads.next_of(&found) {
+            None => Ok(found),
+            Some(Err(error)) => {
+                if error.is_memory() {
+                    self.stop();
+                    return Err(error);
+                }
+                Ok(found.with_error(error))
+            }
+            Some(Ok(read)) => match self.receive(read) {
+                Ok(()) => Ok(found),
+                Err(_) => {
+                    self.stop();
+                    Err(Error::memory())
+                }
+            },
+        }
+    }
+
+    /// The next item, passed on.
+    fn pass(&mut self) -> Option<Result<DirEntry<C, A>, Error<A>>>
+        requires { P.IsLawful (callback (job_of self.old)) }
+        ensures job { job_of self.new ≡ job_of self.old }
+        ensures refused { self.new.refused ≡ self.old.refused }
+        ensures end { IfNone result ((items_of self.old ≡ []) × (items_of self.new ≡ [])) }
+        ensures passed { IfSome result (λ answer. PassesOrStops (greatest_depth (job_of self.old)) (ClonesAreEqual C.ReadDirState.is_clone) (IsSteady (S.IsFixed (file_system (job_of self.old))) (P.IsFixed (callback (job_of self.old))) C.ReadDirState.is_clone C.DirEntryState.is_default) (λ d. value.reading (job (S.functions (file_system (job_of self.old))) (P.processed (callback (job_of self.old))) d (job_of self.old))) self.old (item answer) self.new) }
+    {
+        match self.items.pop()? {
+            Err(error) => Some(Err(error)),
+            Ok(found) => {
+                if found.read_children.is_none() {
+                    return Some(Ok(found));
+                }
+                Some(self.enter(found))
+            }
+        }
+    }
+}
+
+impl<C: ClientState, S: FileSystem, P: ProcessReadDir<C, A>, A: Allocator + Copy> Iterator
+    for DirEntryIter<C, S, P, A>
+{
+    type Item = Result<DirEntry<C, A>, Error<A>>;
+
+    ghost use Rattle.std.specs.Iterator.{at_most};
+    ghost use Rattle.walk_model.specs.Held.{weight};
+    ghost use Rattle.walk_model.specs.Job as value;
+    ghost use Rattle.jwalk.specs.States.{ClonesAreEqual};
+    ghost use Rattle.jwalk.specs.Job.{job, file_system, callback, greatest_depth, IsSteady};
+    ghost use Rattle.jwalk.specs.DirEntryIter.{job_of, held, Answers};
+
+    ghost can_next = { λ s. P.IsLawful (callback (job_of s)) };
+
+    ghost next_gives = { λ s r t. Answers (ClonesAreEqual C.ReadDirState.is_clone) (IsSteady (S.IsFixed (file_system (job_of s))) (P.IsFixed (callback (job_of s))) C.ReadDirState.is_clone C.DirEntryState.is_default) (λ d. value.reading (job (S.functions (file_system (job_of s))) (P.processed (callback (job_of s))) d (job_of s))) s r t };
+
+    ghost remaining = { λ s. at_most (weight (greatest_depth (job_of s)) (held s)) };
+
+    fn next(&mut self) -> Option<Result<DirEntry<C, A>, Error<A>>> {
+        if self.refused {
+            self.refused = false;
+            return Some(Err(Error::memory()));
+        }
+        self.pass()
+    }
+}

@@ -1,0 +1,75 @@
+//! What a small tree answers.
+use crate::add_error::AddError;
+use crate::memory_fs::MemoryFs;
+use std::alloc::Global;
+use std::io::ErrorKind;
+use std::test::Fail;
+use walk_fs::fault::Fault;
+use walk_fs::file_system::FileSystem;
+use walk_model::file_type::FileType;
+use walk_model::metadata::Metadata;
+
+// A directory that holds a file.
+fn small(alloc: Global) -> Result<MemoryFs, AddError> {
+    let mut fs = MemoryFs::new(alloc);
+    fs.add_dir("/r")?;
+    fs.add_file("/r/f", 7)?;
+    Ok(fs)
+}
+
+fn kind<T: Drop>(answer: Result<T, Fault>) -> Option<ErrorKind> {
+    match answer {
+        Err(Fault::Io(e)) => Some(e.kind()),
+        _ => None,
+    }
+}
+
+#[test]
+fn metadata_of_paths(rt: HostRuntime) -> Result<(), Fail> {
+    let fs = small(rt.alloc())?;
+    let file = Metadata::new(FileType::File, 7);
+    let dir = Metadata::new(FileType::Dir, 0);
+    assert_eq!(rt; fs.metadata("/r/f").ok(), Some(file));
+    assert_eq!(rt; fs.symlink_metadata("/r/f").ok(), Some(file));
+    assert_eq!(rt; fs.metadata("r").ok(), Some(dir));
+    assert_eq!(rt; fs.metadata("/r/../.").ok(), Some(dir));
+    assert_eq!(rt; kind(fs.metadata("")), Some(ErrorKind::NotFound));
+    assert_eq!(rt; kind(fs.metadata("/r/f/x")), Some(ErrorKind::Other));
+    Ok(())
+}
+
+#[test]
+fn a_file_is_no_directory_and_no_link(rt: HostRuntime) -> Result<(), Fail> {
+    let fs = small(rt.alloc())?;
+    let invalid = Some(ErrorKind::InvalidInput);
+    assert_eq!(rt; kind(fs.read_dir(rt.alloc(), "/r/f")), invalid);
+    assert_eq!(rt; kind(fs.read_link(rt.alloc(), "/r/f")), invalid);
+    Ok(())
+}
+
+#[test]
+fn refusals_of_building(rt: HostRuntime) -> Result<(), Fail> {
+    let mut fs = small(rt.alloc())?;
+    assert_eq!(rt; fs.add_file("/r/f", 1), Err(AddError::AlreadyExists));
+    assert_eq!(rt; fs.add_dir("/n/m"), Err(AddError::NotFound));
+    assert_eq!(rt; fs.add_dir("/"), Err(AddError::NotFound));
+    Ok(())
+}
+
+#[test]
+fn children_in_order_of_creation(rt: HostRuntime) -> Result<(), Fail> {
+    let mut fs = small(rt.alloc())?;
+    fs.add_dir("/r/b")?;
+    fs.add_file("/r/a", 0)?;
+    let mut text = String::new(rt.alloc());
+    if let Ok(items) = fs.read_dir(rt.alloc(), "/r") {
+        for item in items {
+            let item = item?;
+            let is_dir = item.file_type?.is_dir();
+            text.push_str(item.name.as_str())?;
+            text.push_str(if is_dir { "/ " } else { " " })?;
+        }
+    }
+    assert_eq!(rt; text.as_str(), "f b/ a ");
+    Ok(())
+}

@@ -1,0 +1,79 @@
+-- One pair of what is held is passed.
+use Rattle.std.proofs.Common.{◌≡◌, ◌≢◌, ℕ, ◌<◌, ◌^◌, Bool, true, false, List, [], ◌∷◌, ◌++◌, length, filter, Option, Some, None, Result, Ok, Err, refl, sym, ap, ◌∙◌, subst, arith}
+use Rattle.std.proofs.lemmas.Bool.Decides.{nat_tests}
+use Rattle.std.specs.Prelude.{nat_le, cond, MatchBool}
+use Rattle.walk_model.specs.Entry.{Entry, Item, has_directory}
+use Rattle.walk_model.specs.ReadDir.{Spec, Outcome, list_of, ReadsFirst, IsReadingOfFirst}
+use Rattle.walk_model.specs.Listing.{Pair, Source, nothing, unread, was_read, after_reading, pairs_of, is_answered, answers, listing}
+use Rattle.walk_model.specs.Held.{first_source, after_first, pair_up, to_come, weight, Passes, PassesPlainly, AnswersPlainly, IsAtDirectory, PassesOne, is_plain}
+use Rattle.walk_model.proofs.HeldFacts.{pair_up-outcome, listed, lighter, alone, unread_none, heavy_source_of}
+use Rattle.walk_model.proofs.PreorderFacts.{first_is_read}
+
+module _ {R E : Type 0} (max_depth : ℕ) (clones : Type 0) (is_steady : E → Type 0) (reading_by : E → Spec R → Outcome R E) where
+  -- an item that has no directory
+  pub one_alone : (x : Item R E) (xs : List (Item R E)) (ss : List (Spec R)) → has_directory x ≡ false → PassesOne max_depth clones is_steady reading_by (pair_up (x ∷ xs) ss) x (pair_up xs ss)
+  one_alone x xs ss h = record {
+      plain = rw h (refl, refl);
+      passes = λ equal. rw h (refl, refl);
+      listed = λ d steady. alone (reading_by d) max_depth x xs ss h;
+      lighter = rw h (omega arith);
+    }
+
+  -- an entry where nothing is left to be read
+  pub one_left : (x : Item R E) (xs : List (Item R E)) (ss ts : List (Spec R)) → has_directory x ≡ true → ss ≡ [] → ts ≡ [] → PassesOne max_depth clones is_steady reading_by (pair_up (x ∷ xs) ss) x (pair_up xs ts)
+  one_left x xs ss ts h none left = record {
+      plain = rw (h, none, left) (refl, refl);
+      passes = λ equal. rw (h, none, left) (refl, refl);
+      listed = λ d steady. rw left (unread_none (reading_by d) max_depth x xs ss none h);
+      lighter = rw (left, none, h) (omega arith);
+    }
+
+  passes_entered : (x : Item R E) (xs : List (Item R E)) (old new : List (Spec R)) (outcome : Outcome R E) → has_directory x ≡ true → ReadsFirst max_depth clones old outcome new → clones → Passes max_depth (pair_up (x ∷ xs) old) (after_reading outcome x) (pair_up (list_of outcome ++ xs) new)
+  passes_entered x xs old new outcome h reads equal =
+      rw (reads.took, h, reads.left, reads.children equal, pair_up-outcome outcome xs reads.rest)
+      (outcome, reads.lawful, refl, refl)
+
+  -- an entry whose directory was read
+  pub one_entered : (e : Entry R E) (xs : List (Item R E)) (old new : List (Spec R)) (outcome : Outcome R E) → has_directory {R = R} (Ok e) ≡ true → length (list_of outcome) < 2 ^ 64 → ReadsFirst max_depth clones old outcome new → ((d : E) → is_steady d → clones × IsReadingOfFirst (reading_by d) old outcome) → PassesOne max_depth clones is_steady reading_by (pair_up (Ok e ∷ xs) old) (after_reading outcome (Ok e)) (pair_up (list_of outcome ++ xs) new)
+  one_entered e xs old new outcome h few reads value = record {
+      plain = rw (reads.took, h) tt;
+      passes = passes_entered (Ok e) xs old new outcome h reads;
+      listed = λ d steady.
+        let v = value d steady in
+        listed (reading_by d) max_depth clones e xs old new outcome h reads v.0 (first_is_read (reading_by d) max_depth clones old new outcome reads v.1);
+      lighter = lighter max_depth clones e xs old new outcome h few reads;
+    }
+
+module _ {R E : Type 0} where
+  -- where something is unread, a directory is to be read below an entry that has one
+  pub at_directory : (x : Item R E) (xs : List (Item R E)) (ss : List (Spec R)) → has_directory x ≡ true → ss ≢ [] → IsAtDirectory (pair_up (x ∷ xs) ss)
+  at_directory x xs [] h some = absurd (some refl)
+  at_directory x xs (s ∷ ss) h some = rw h refl
+
+  -- every item is answered from depth 0 on
+  pub always_answered : (x : Item R E) → is_answered 0 x ≡ true
+  always_answered (Ok e) = grind (arith, nat_tests)
+  always_answered (Err f) = refl
+
+  pub answers-zero : (x : Item R E) (l : List (Item R E)) → answers 0 (x ∷ l) ≡ x ∷ answers 0 l
+  answers-zero x l = rw always_answered refl
+
+  -- one pair that is passed is one answer from depth 0 on
+  pub plainly_one : (old : List (Pair R E)) (answer : Item R E) (new : List (Pair R E)) → PassesPlainly old answer new → AnswersPlainly 0 old (Some answer) new
+  plainly_one [] answer new h = absurd h
+  plainly_one (p ∷ rest) answer new h =
+      rw always_answered
+      (elim (is_plain p.source) as (λ b. MatchBool b ((answer ≡ p.item) × (new ≡ rest)) (Unit {0}) → MatchBool b ((Some answer ≡ Some p.item) × (new ≡ rest)) (Unit {0})) [
+        | true ↦ λ k. (ap Some k.0, k.1)
+        | false ↦ λ k. tt
+      ] h)
+
+  -- at a directory nothing is said of the answer but what its reading tells
+  pub plainly_any : (old : List (Pair R E)) (answer : Option (Item R E)) (new : List (Pair R E)) → IsAtDirectory old → AnswersPlainly 0 old answer new
+  plainly_any [] answer new h = absurd h
+  plainly_any (p ∷ rest) answer new h = rw h tt
+
+  -- what is held at a directory isn't nothing
+  pub heavy_held : (max_depth : ℕ) (held : List (Pair R E)) → IsAtDirectory held → 0 < weight max_depth held
+  heavy_held max_depth [] h = absurd h
+  heavy_held max_depth (p ∷ rest) h = omega (arith, heavy_source_of max_depth p.source)
