@@ -5,6 +5,7 @@ ghost use Rattle.walk.specs.Words.{Ask, AreGood};
 use std::alloc::Allocator;
 
 /// What the words ask for: a walk over a tree that standard input says.
+#[derive(Drop)]
 pub struct Request<'w> {
     /// The path that the walk begins at.
     pub root: &'w str,
