@@ -9,9 +9,8 @@ ghost use Rattle.walk.specs.Answers.{PrintsAll};
 
 use crate::failure::Failure;
 use crate::print::print_answer;
-use jwalk::ClientState;
-use jwalk::DirEntry;
 use jwalk::error::Result as Answer;
+use jwalk::{ClientState, DirEntry};
 use std::alloc::Allocator;
 use std::io::Write;
 

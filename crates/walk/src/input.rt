@@ -6,7 +6,10 @@ use std::alloc::Allocator;
 use std::io::{ErrorKind, Read};
 
 /// Reads the input whole.
-fn read_whole<A: Allocator + Copy, R: Read>(alloc: A, input: &mut R) -> Result<Vec<u8, A>, Failure> {
+fn read_whole<A: Allocator + Copy, R: Read>(
+    alloc: A,
+    input: &mut R,
+) -> Result<Vec<u8, A>, Failure> {
     let mut bytes = Vec::new(alloc);
     match input.read_to_end(&mut bytes) {
         Ok(_) => Ok(bytes),
@@ -16,7 +19,10 @@ fn read_whole<A: Allocator + Copy, R: Read>(alloc: A, input: &mut R) -> Result<V
 }
 
 /// Reads the input whole, and then builds the tree that its lines say.
-pub fn read_tree<A: Allocator + Copy, R: Read>(alloc: A, input: &mut R) -> Result<MemoryFs<A>, Failure> {
+pub fn read_tree<A: Allocator + Copy, R: Read>(
+    alloc: A,
+    input: &mut R,
+) -> Result<MemoryFs<A>, Failure> {
     let bytes = read_whole(alloc, input)?;
     build_tree(alloc, bytes.as_slice())
 }

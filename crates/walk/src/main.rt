@@ -8,16 +8,17 @@ mod lines;
 mod number;
 mod print;
 mod run;
+#[cfg(test)]
+mod tests;
 mod tree;
 mod tree_line;
 mod words;
 
 use crate::failure::Failure;
 use crate::run::run;
-use std::env;
-use std::io;
 use std::io::ErrorKind;
 use std::process::ExitCode;
+use std::{env, io};
 
 /// The words behind the program's name. Words that aren't text are bad ones.
 fn words_of(rt: &HostRuntime) -> Result<Vec<String>, Failure> {
@@ -32,7 +33,13 @@ fn words_of(rt: &HostRuntime) -> Result<Vec<String>, Failure> {
 fn main(rt: HostRuntime) -> ExitCode {
     let mut err = rt.stderr();
     let status = match words_of(&rt) {
-        Ok(words) => run(rt.alloc(), words.as_slice(), &mut rt.reader(), &mut io::writer(&rt), &mut err),
+        Ok(words) => run(
+            rt.alloc(),
+            words.as_slice(),
+            &mut rt.reader(),
+            &mut io::writer(&rt),
+            &mut err,
+        ),
         Err(failure) => failure.report(&mut err),
     };
     ExitCode::from(status)

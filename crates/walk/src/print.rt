@@ -8,10 +8,8 @@ ghost use Rattle.jwalk.specs.Error.{failure};
 ghost use Rattle.walk.specs.Lines.{kind_name, letter_of, failure_name, reading_part, entry_line, failure_line, line_of};
 
 use itoa::Buffer;
-use jwalk::ClientState;
-use jwalk::DirEntry;
-use jwalk::ReadChildren;
 use jwalk::error::{Error, Result};
+use jwalk::{ClientState, DirEntry, ReadChildren};
 use std::alloc::Allocator;
 use std::io;
 use std::io::{ErrorKind, Write};

@@ -6,6 +6,9 @@ use crate::answers::print_answers;
 use crate::failure::Failure;
 use crate::input::read_tree;
 use crate::words::parse_words;
+use jwalk::WalkDirGeneric;
+use jwalk::process_read_dir::NoProcess;
+use memory_fs::memory_fs::MemoryFs;
 use std::alloc::Allocator;
 use std::io::{Read, Write};
 
@@ -26,8 +29,7 @@ fn print_walk<A: Allocator + Copy, R: Read, W: Write, E: Write>(
     };
     let fs = read_tree(alloc, input)?;
     let root = String::from_str(alloc, request.root)?;
-    let _ = (fs, root);
-    let walk = std::iter::empty::<jwalk::error::Result<jwalk::DirEntry<((), ()), A>, A>>();
+    let walk = WalkDirGeneric::<((), ()), MemoryFs<A>, NoProcess, A>::new(fs, root).into_iter();
     Ok(print_answers(alloc, walk, out, err))
 }
 
