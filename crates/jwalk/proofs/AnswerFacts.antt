@@ -1,12 +1,12 @@
 -- One call of a walk's `next`, case by case.
-use Rattle.std.proofs.Common.{◌≡◌, ◌⊎◌, ◌∙◌, ◌<◌, ℕ, Bool, true, false, List, [], ◌∷◌, Option, Some, None, Result, Ok, Err, IfNone, IfSome, OnSome, inl, inr, refl, sym, ap, arith}
+use Rattle.std.proofs.Common.{◌≡◌, ◌⊎◌, ◌∙◌, ◌<◌, ℕ, Bool, true, false, List, [], ◌∷◌, ◌++◌, append-nil, Option, Some, None, Result, Ok, Err, IfNone, IfSome, OnSome, inl, inr, refl, sym, ap, arith}
 use Rattle.std.specs.Prelude.{option_map}
 use Rattle.walk_model.specs.Error.{memory}
 use Rattle.walk_model.specs.Entry.{Item}
-use Rattle.walk_model.specs.ReadDir.{Spec, Outcome}
-use Rattle.walk_model.specs.Listing.{Pair, nothing, answers, listing}
+use Rattle.walk_model.specs.ReadDir.{Spec, Reading, Outcome, children_of}
+use Rattle.walk_model.specs.Listing.{Pair, nothing, paired, answers, listing}
 use Rattle.walk_model.specs.Held.{pair_up, weight, PassesOne}
-use Rattle.walk_model.proofs.HeldFacts.{alone, heavy}
+use Rattle.walk_model.proofs.HeldFacts.{alone, pair_up-outcome}
 use Rattle.walk_model.proofs.StepFacts.{plainly_one, plainly_any, answers-zero, heavy_held}
 use Rattle.jwalk.specs.declared.error.Error.{Error}
 use Rattle.jwalk.specs.declared.dir_entry.DirEntry.{DirEntry}
@@ -14,6 +14,7 @@ use Rattle.jwalk.specs.declared.dir_entry_iter.DirEntryIter.{DirEntryIter}
 use Rattle.jwalk.specs.Error.{failure}
 use Rattle.jwalk.specs.Entry.{item}
 use Rattle.jwalk.specs.Job.{greatest_depth}
+use Rattle.jwalk.specs.ReadDirIter.{StacksChildren}
 use Rattle.jwalk.specs.DirEntryIter.{refusal, job_of, items_of, unread_of, held, to_come, Refuses, Answers, PassesOrStops}
 
 module _ {C S P A R E : Type 0} where
@@ -97,3 +98,12 @@ module _ {C S P A R E : Type 0} (clones : Type 0) (is_steady : E → Type 0) (re
   pub lighter_rest : (r : Option (Result (DirEntry C A R E) (Error A))) (may : Type 0) → may → old.refused ≡ false → new.refused ≡ false → IfSome r (λ x. PassesOrStops (greatest_depth (job_of old)) clones is_steady reading_by old (item x) new) → OnSome r (may × Unit {0} × (weight (greatest_depth (job_of old)) (held new) < weight (greatest_depth (job_of old)) (held old)))
   lighter_rest None may can began started passed = tt
   lighter_rest (Some x) may can began started passed = (can, tt, lighter_passed x began started passed)
+
+-- a walk that took over its root's list holds the pairs of that list
+pub holds_root : {C S P A R E : Type 0} (clones : Type 0) (r : Reading R E) (before after begun : DirEntryIter C S P A R E) → clones → begun.refused ≡ false → items_of begun ≡ items_of after → unread_of begun ≡ unread_of after → items_of before ≡ [] → unread_of before ≡ [] → items_of after ≡ r.list ++ items_of before → StacksChildren clones (unread_of before) (Ok r) (unread_of after) → held begun ≡ paired r
+holds_root clones r before after begun equal started same_items same_unread no_items no_unread items stacks =
+    held_rest begun started
+    ∙ ap (λ l. pair_up l (unread_of begun)) (same_items ∙ items ∙ ap (λ l. r.list ++ l) no_items)
+    ∙ ap (pair_up (r.list ++ [])) (same_unread ∙ stacks.left ∙ ap (λ l. l ++ unread_of before) (stacks.children equal) ∙ ap (λ l. children_of (Ok r) ++ l) no_unread)
+    ∙ pair_up-outcome (Ok r) [] []
+    ∙ append-nil (paired r)

@@ -1,3 +1,4 @@
 pub mod AnswerFacts
+pub mod BeginFacts
 pub mod GivesFacts
 pub mod ListFacts

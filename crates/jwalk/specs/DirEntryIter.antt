@@ -56,6 +56,11 @@ module _ {C S P A R E : Type 0} where
     pub nothing_held : held new ≡ []
     pub nothing_unread : unread_of new ≡ []
 
+  -- a walk whose start was refused: it holds what tells of it, and nothing is unread
+  pub record IsRefused (it : DirEntryIter C S P A R E) : Type 0 where
+    pub tells : held it ≡ record { item = Err memory; source = nothing } ∷ []
+    pub nothing_unread : unread_of it ≡ []
+
   -- The first of what is to come is answered and the rest is left, or memory was refused; there is no answer where nothing is to come.
   abbrev pub AnswersFirst : (Spec R → Outcome R E) → DirEntryIter C S P A R E → Option (Item R E) → DirEntryIter C S P A R E → Type 0
   AnswersFirst reading old None new = to_come reading old ≡ []

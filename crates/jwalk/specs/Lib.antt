@@ -6,3 +6,4 @@ pub mod States
 pub mod Job
 pub mod ReadDirIter
 pub mod DirEntryIter
+pub mod WalkDir

@@ -1,7 +1,8 @@
 //! An entry of a walk.
+pub use crate::read_children::ReadChildren;
+
 use crate::client_state::ClientState;
 use crate::error::Error;
-use crate::read_children::ReadChildren;
 use std::alloc::{AllocError, Allocator, Global};
 use std::sync::Arc;
 use walk_model::file_type::FileType;

@@ -13,6 +13,7 @@ ghost use Rattle.jwalk.specs.Job.{job, file_system, callback, greatest_depth, Is
 use crate::client_state::ClientState;
 use crate::dir_entry::DirEntry;
 use crate::error::Error;
+use crate::job::Job;
 use crate::process_read_dir::ProcessReadDir;
 use crate::read_dir::ReadDir;
 use crate::read_dir_iter::ReadDirIter;
@@ -41,11 +42,57 @@ pub struct DirEntryIter<
 impl<C: ClientState, S: FileSystem, P: ProcessReadDir<C, A>, A: Allocator + Copy>
     DirEntryIter<C, S, P, A>
 {
-    ghost use Rattle.std.specs.Prelude.{◌^◌, ◌++◌, length, OnOk, OnErr, IfSome, IfNone};
+    ghost use Rattle.std.specs.Prelude.{◌^◌, ◌++◌, ◌⊎◌, length, OnOk, OnErr, IfSome, IfNone};
     ghost use Rattle.walk_model.specs.Held.{PassesOne, IsAtDirectory};
     ghost use Rattle.walk_model.specs.ReadDir.{list_of};
     ghost use Rattle.jwalk.specs.ReadDir.{reading};
-    ghost use Rattle.jwalk.specs.DirEntryIter.{job_of, items_of, unread_of, PassesOrStops};
+    ghost use Rattle.jwalk.specs.DirEntryIter.{job_of, items_of, unread_of, held, IsRefused, PassesOrStops};
+    ghost use Rattle.jwalk.specs.ReadDirIter.{StacksChildren};
+    ghost use Rattle.walk_model.specs.Listing.{paired};
+
+    /// A walk whose start was refused, which needs no memory.
+    fn refused(alloc: A, job: Job<C, S, P, A>) -> Self
+        ensures job { job_of result ≡ job }
+        ensures refused { result.refused ≡ true }
+        ensures items { items_of result ≡ [] }
+        ensures unread { unread_of result ≡ [] }
+    {
+        DirEntryIter {
+            reads: ReadDirIter::serial(alloc, job),
+            items: Vec::new(alloc),
+            refused: true,
+        }
+    }
+
+    /// Takes over the root's list.
+    fn begin(&mut self, read: ReadDir<C, A>) -> Result<(), AllocError>
+        ensures job { job_of self.new ≡ job_of self.old }
+        ensures refused { self.new.refused ≡ self.old.refused }
+        ensures items { OnOk result (items_of self.new ≡ (reading read).list ++ items_of self.old) }
+        ensures children { OnOk result (StacksChildren (ClonesAreEqual C.ReadDirState.is_clone) (unread_of self.old) (Ok (reading read)) (unread_of self.new)) }
+    {
+        self.reads.put(&read)?;
+        self.receive(read)?;
+        Ok(())
+    }
+
+    /// The walk that begins with the root's list. Where memory is refused, what it answers is the error that tells of
+    /// it, and nothing else.
+    pub(crate) fn from_root(alloc: A, job: Job<C, S, P, A>, read: Option<ReadDir<C, A>>) -> Self
+        ensures job { job_of result ≡ job }
+        ensures held { ClonesAreEqual C.ReadDirState.is_clone → IsRefused result ⊎ IfSome read (λ r. held result ≡ paired (reading r)) }
+        ensures none { IfNone read (IsRefused result) }
+    {
+        let mut walk = DirEntryIter::refused(alloc, job);
+        let Some(read) = read else {
+            return walk;
+        };
+        match walk.begin(read) {
+            Ok(()) => walk.refused = false,
+            Err(_) => walk.stop(),
+        }
+        walk
+    }
 
     /// Puts the items of a reading in front of those that were received before.
     fn receive(&mut self, read: ReadDir<C, A>) -> Result<(), AllocError>

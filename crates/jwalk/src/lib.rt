@@ -1,20 +1,37 @@
-//! Directory walks in strict depth-first order.
+//! Directory walks in strict depth-first order: a directory first, then everything in it, then its next sibling.
+//!
+//! A walk takes a file system, a root and options, and gives a stream of entries and errors. Its order is one and the
+//! same however it reads. A directory that could not be read is still answered, with its error inside.
+//!
+//! ```text
+//! let mut fs = MemoryFs::new(alloc);
+//! fs.add_dir("/r")?;
+//! fs.add_file("/r/a", 3)?;
+//! for entry in WalkDirGeneric::<((), ()), _, _, _>::new(fs, String::from_str(alloc, "/r")?) {
+//!     println!(rt; "{}", entry?.path()?)?;
+//! }
+//! ```
 #![tactic(auto)]
 
-pub mod client_state;
+mod client_state;
 pub mod dir_entry;
 pub mod dir_entry_iter;
 pub mod error;
-pub mod job;
-pub mod process_read_dir;
-pub mod read_children;
+pub mod file_system;
+mod job;
+mod process_read_dir;
+mod read_children;
 pub mod read_dir;
 pub mod read_dir_iter;
-pub mod read_dir_spec;
-pub mod serial_walk;
+mod read_dir_spec;
+mod serial_walk;
+mod walk_dir;
 
 pub use client_state::ClientState;
 pub use dir_entry::DirEntry;
 pub use dir_entry_iter::DirEntryIter;
-pub use error::Error;
+pub use error::{Error, Result};
+pub use jwalk_order::{index_path, ordered, ordered_queue};
 pub use read_children::ReadChildren;
+pub use walk_dir::WalkDirGeneric;
+pub use walk_paths::path_text;

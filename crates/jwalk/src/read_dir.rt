@@ -5,10 +5,13 @@ ghost use Rattle.jwalk.specs.Entry.{item};
 ghost use Rattle.jwalk.specs.ReadDir.{spec, reading};
 ghost use Rattle.jwalk.specs.States.{ClonesAreEqual};
 
+pub use crate::job::Job;
+pub use crate::process_read_dir::{NoProcess, ProcessReadDir};
+pub use crate::read_dir_spec::ReadDirSpec;
+
 use crate::client_state::ClientState;
 use crate::dir_entry::DirEntry;
 use crate::error::Error;
-use crate::read_dir_spec::ReadDirSpec;
 use std::alloc::{AllocError, Allocator, Global};
 
 /// What a directory's reading gave: its list, and the state that it left.

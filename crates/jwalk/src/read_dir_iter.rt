@@ -1,18 +1,20 @@
 //! Readings in preorder.
-ghost use Rattle.std.specs.Prelude.{◌≡◌, ◌<◌, [], IfSome, IsSome, option_map};
+ghost use Rattle.std.specs.Prelude.{◌≡◌, ◌<◌, [], Ok, OnOk, IfSome, IsSome, option_map};
 ghost use Rattle.walk_model.specs.Held.{spec_weight};
 ghost use Rattle.walk_model.specs.Job as value;
-ghost use Rattle.jwalk.specs.ReadDir.{outcome};
+ghost use Rattle.jwalk.specs.ReadDir.{outcome, reading};
 ghost use Rattle.jwalk.specs.States.{ClonesAreEqual};
 ghost use Rattle.jwalk.specs.Job.{job, file_system, callback, greatest_depth, IsSteady};
+
+pub use crate::serial_walk::SerialWalk;
 
 use crate::client_state::ClientState;
 use crate::dir_entry::DirEntry;
 use crate::error::Error;
+use crate::job::Job;
 use crate::process_read_dir::ProcessReadDir;
 use crate::read_dir::ReadDir;
-use crate::serial_walk::SerialWalk;
-use std::alloc::{Allocator, Global};
+use std::alloc::{AllocError, Allocator, Global};
 use std::convert::Infallible;
 use walk_fs::file_system::FileSystem;
 
@@ -36,7 +38,26 @@ pub enum ReadDirIter<
 impl<C: ClientState, S: FileSystem, P: ProcessReadDir<C, A>, A: Allocator + Copy>
     ReadDirIter<C, S, P, A>
 {
-    ghost use Rattle.jwalk.specs.ReadDirIter.{job_of, to_read, GivesFirst, GivesReading};
+    ghost use Rattle.jwalk.specs.ReadDirIter.{job_of, to_read, StacksChildren, GivesFirst, GivesReading};
+
+    /// Readings in turn, with nothing to read yet.
+    pub(crate) fn serial(alloc: A, job: Job<C, S, P, A>) -> Self
+        ensures job { job_of result ≡ job }
+        ensures to_read { to_read result ≡ [] }
+    {
+        ReadDirIter::Walk(SerialWalk::new(alloc, job))
+    }
+
+    /// Puts the directories of a reading in front of what is to be read.
+    pub(crate) fn put(&mut self, read: &ReadDir<C, A>) -> Result<(), AllocError>
+        ensures job { job_of self.new ≡ job_of self.old }
+        ensures children { OnOk result (StacksChildren (ClonesAreEqual C.ReadDirState.is_clone) (to_read self.old) (Ok (reading read.now)) (to_read self.new)) }
+    {
+        match self {
+            ReadDirIter::Walk(walk) => walk.stack(read),
+            ReadDirIter::ParWalk(never) => match *never {},
+        }
+    }
 
     /// The next reading, or the error that tells of want of memory.
     fn read_next(&mut self) -> Option<Result<ReadDir<C, A>, Error<A>>>

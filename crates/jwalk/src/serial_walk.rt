@@ -1,9 +1,9 @@
 //! Readings one after another.
-ghost use Rattle.std.specs.Prelude.{◌≡◌, ◌≢◌, ◌<◌, ◌^◌, [], length, option_map, IfOk, IfSome, IfNone, OnOk, OnErr};
+ghost use Rattle.std.specs.Prelude.{◌≡◌, ◌≢◌, ◌<◌, ◌^◌, [], length, option_map, Ok, IfOk, IfSome, IfNone, OnOk, OnErr};
 ghost use Rattle.walk_model.specs.ReadDir.{ReadsFirst, IsReadingOfFirst, list_of};
 ghost use Rattle.walk_model.specs.Held.{spec_weight};
 ghost use Rattle.walk_model.specs.Job as value;
-ghost use Rattle.jwalk.specs.ReadDir.{outcome};
+ghost use Rattle.jwalk.specs.ReadDir.{outcome, reading};
 ghost use Rattle.jwalk.specs.States.{ClonesAreEqual};
 ghost use Rattle.jwalk.specs.Job.{job, file_system, callback, greatest_depth, IsSteady};
 
@@ -33,8 +33,32 @@ impl<C: ClientState, S: FileSystem, P: ProcessReadDir<C, A>, A: Allocator + Copy
 {
     ghost use Rattle.jwalk.specs.ReadDirIter.{stacked, StacksChildren, GivesFirst, GivesReading};
 
-    /// The specifications of a reading's directories, put on the stack with the first of them last.
-    fn stack(
+    /// A walk that has nothing to read.
+    pub(crate) fn new(alloc: A, job: Job<C, S, P, A>) -> Self
+        ensures job { result.job ≡ job }
+        ensures stacked { stacked result ≡ [] }
+    {
+        SerialWalk {
+            job,
+            specs: Vec::new(alloc),
+        }
+    }
+
+    /// Puts the directories of a reading on the stack, with the first of them last.
+    pub(crate) fn stack(&mut self, read: &ReadDir<C, A>) -> Result<(), AllocError>
+        ensures job { self.new.job ≡ self.old.job }
+        ensures few { length (list_of (Ok (reading read.now))) < 2 ^ 64 }
+        ensures children { OnOk result (StacksChildren (ClonesAreEqual C.ReadDirState.is_clone) (stacked self.old) (Ok (reading read.now)) (stacked self.new)) }
+    {
+        let _count = read.results_list.len();
+        let mut children = read.read_children_specs()?;
+        children.reverse();
+        self.specs.append(&mut children)?;
+        Ok(())
+    }
+
+    /// The same for an outcome, where an error has no directories.
+    fn stack_outcome(
         &mut self,
         read: &Result<ReadDir<C, A>, Error<A>>,
     ) -> Result<(), AllocError>
@@ -42,14 +66,10 @@ impl<C: ClientState, S: FileSystem, P: ProcessReadDir<C, A>, A: Allocator + Copy
         ensures few { length (list_of (outcome read.now)) < 2 ^ 64 }
         ensures children { OnOk result (StacksChildren (ClonesAreEqual C.ReadDirState.is_clone) (stacked self.old) (outcome read.now) (stacked self.new)) }
     {
-        let Ok(reading) = read else {
-            return Ok(());
-        };
-        let _count = reading.results_list.len();
-        let mut children = reading.read_children_specs()?;
-        children.reverse();
-        self.specs.append(&mut children)?;
-        Ok(())
+        match read {
+            Ok(read) => self.stack(read),
+            Err(_) => Ok(()),
+        }
     }
 
     /// The reading of the next directory, whose own directories are the next ones then.
@@ -68,7 +88,7 @@ impl<C: ClientState, S: FileSystem, P: ProcessReadDir<C, A>, A: Allocator + Copy
             return Ok(None);
         };
         let read = self.job.read_one(&first)?;
-        self.stack(&read)?;
+        self.stack_outcome(&read)?;
         Ok(Some(read))
     }
 

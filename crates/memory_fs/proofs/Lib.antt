@@ -1,10 +1,10 @@
+pub mod DirectoryLemmas
+pub mod PlaceLemmas
+pub mod TableLemmas
+pub mod LookUpLemmas
 pub mod AnswerLemmas
-pub mod NewChildLemmas
-pub mod AddLemmas
-pub mod SpotLemmas
 pub mod EditLemmas
 pub mod GrowthLemmas
-pub mod LookUpLemmas
-pub mod TableLemmas
-pub mod PlaceLemmas
-pub mod DirectoryLemmas
+pub mod NewChildLemmas
+pub mod SpotLemmas
+pub mod AddLemmas

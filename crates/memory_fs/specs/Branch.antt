@@ -38,9 +38,11 @@ branch_at table place = slice_index_or table place (empty_branch 0)
 abbrev pub with_named : List Branch → ℕ → List ℕ → Child → List Branch
 with_named table holder name child = slice_set table holder (with_child name child (branch_at table holder))
 
+-- its children
 abbrev pub children_at : List Branch → ℕ → List (List ℕ × Child)
 children_at table place = (branch_at table place).children
 
+-- where its own holder stands
 abbrev pub parent_at : List Branch → ℕ → ℕ
 parent_at table place = (branch_at table place).parent
 
@@ -54,6 +56,7 @@ abbrev pub at_end : List Branch → Child → List (List ℕ) → Option Child
 at_end table child [] = Some child
 at_end table child (name ∷ names) = option_and_then (λ next. at_end table next names) (child_of table child name)
 
+-- the names of children, in order
 abbrev pub names_of : List (List ℕ × Child) → List (List ℕ)
 names_of children = map (λ e. e.0) children
 
@@ -79,6 +82,7 @@ node_of table (File len) = file len
 abbrev pub tree_of_table : List Branch → Tree
 tree_of_table table names = option_map (node_of table) (at_end table (Dir 0) names)
 
+-- a child that was looked for
 abbrev pub child_or_missing : Option Child → Result Child ErrorKind
 child_or_missing None = Err kind.NotFound
 child_or_missing (Some child) = Ok child
@@ -111,6 +115,7 @@ holder_of (Ok (Dir place)) = Some place
 holder_of (Ok (File len)) = None
 holder_of (Err k) = None
 
+-- the name in the directory that was found for it, unless it is taken
 abbrev pub free_in : List Branch → List ℕ → Option ℕ → Result (ℕ × List ℕ) AddError
 free_in table name None = Err NotFound
 free_in table name (Some holder) = if is_some (child_named (children_at table holder) name) then Err AlreadyExists else Ok (holder, name)

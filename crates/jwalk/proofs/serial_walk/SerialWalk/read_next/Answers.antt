@@ -10,7 +10,7 @@ use Rattle.jwalk.proofs.serial_walk.SerialWalk.read_next.Goals as goal
 the_read : goal.returns-clause-reads
 the_read g c =
     let left = c.pop.new.self.items in
-    let stacks = c.in_ok-stack.ensures.children in
+    let stacks = c.in_ok-stack_outcome.ensures.children in
     record {
       first = spec c.in-Some.first;
       rest = map spec (reverse left);
@@ -26,7 +26,7 @@ pub returns-clause-reads : goal.returns-clause-reads
 returns-clause-reads g c = the_read g c
 
 pub returns-clause-fewer : goal.returns-clause-fewer
-returns-clause-fewer g c = fewer_to_read (greatest_depth c.args.self.now.job) (ClonesAreEqual g.C.ReadDirState.Clone.is_clone) (stacked c.args.self.now) (stacked c.stack.new.self) (outcome c.in_ok-read.read) c.in_ok-stack.ensures.few (the_read g c)
+returns-clause-fewer g c = fewer_to_read (greatest_depth c.args.self.now.job) (ClonesAreEqual g.C.ReadDirState.Clone.is_clone) (stacked c.args.self.now) (stacked c.stack_outcome.new.self) (outcome c.in_ok-read.read) c.in_ok-stack_outcome.ensures.few (the_read g c)
 
 pub returns-clause-value : goal.returns-clause-value
 returns-clause-value g c = λ d steady.

@@ -9,10 +9,9 @@ pub returns-clause-children : goal.returns-clause-children
 returns-clause-children g c =
     let old = c.args.self.now.specs.items in
     let children = c.in_ok-children.children.items in
-    rw c.in-Ok.is
-    (record {
+    record {
       front = map spec children;
       left = ap (λ l. map spec (reverse l)) (c.in_ok-append.ensures.items ∙ ap (λ l. old ++ l) c.reverse.ensures.items) ∙ ap (map spec) (reverse-stacked old children) ∙ map-append spec children (reverse old);
       places = map-map place spec children ∙ c.in_ok-children.ensures.places;
       children = c.in_ok-children.ensures.specs;
-    })
+    }

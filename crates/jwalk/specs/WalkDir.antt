@@ -1,0 +1,38 @@
+-- A walk as its builder describes it.
+use Rattle.std.specs.Prelude.{◌≡◌, ◌⊎◌, ℕ, List, String, string_bytes}
+use Rattle.walk_model.specs.FileSystem.{Functions}
+use Rattle.walk_model.specs.Options.{Options, defaults}
+use Rattle.walk_model.specs.Listing.{paired}
+use Rattle.walk_model.specs.Job as value
+use Rattle.jwalk.specs.Job.{Processing, job}
+use Rattle.jwalk.specs.DirEntryIter.{job_of, held, IsRefused}
+use Rattle.jwalk.specs.declared.walk_dir.WalkDirGeneric.{WalkDirGeneric}
+use Rattle.jwalk.specs.declared.dir_entry_iter.DirEntryIter.{DirEntryIter}
+
+-- what no callback makes of a list
+abbrev pub unprocessed : {R E : Type 0} → Processing R E
+unprocessed depth path state list = record { state = state; list = list }
+
+module _ {C S P A R E : Type 0} where
+  abbrev pub file_system_of : WalkDirGeneric C S P A R E → S
+  file_system_of walk = walk.fs
+
+  abbrev pub callback_of : WalkDirGeneric C S P A R E → P
+  callback_of walk = walk.process
+
+  -- the root's path
+  abbrev pub root_of : WalkDirGeneric C S P A R E → List ℕ
+  root_of walk = string_bytes walk.root
+
+  -- the options, none of which can be set yet
+  abbrev pub options_of : WalkDirGeneric C S P A R E → Options
+  options_of walk = defaults
+
+  -- what its readings are made of
+  abbrev pub job_for : Functions → Processing R E → E → WalkDirGeneric C S P A R E → value.Job R E
+  job_for functions processed d walk = record { fs = functions; options = options_of walk; processed = processed; default = d }
+
+  -- the iterator reads what the builder describes, and holds the root's list; or its start was refused
+  pub record Begins (functions : Functions) (processed : Processing R E) (d : E) (s : R) (walk : WalkDirGeneric C S P A R E) (it : DirEntryIter C S P A R E) : Type 0 where
+    pub reads : job functions processed d (job_of it) ≡ job_for functions processed d walk
+    pub holds : IsRefused it ⊎ (held it ≡ paired (value.root_list (job_for functions processed d walk) (root_of walk) s))

@@ -1,0 +1,8 @@
+//! What a walk goes over: the file system as a trait, its types, and a tree in memory.
+pub use memory_fs::add_error::AddError;
+pub use memory_fs::memory_fs::MemoryFs;
+pub use walk_fs::fault::Fault;
+pub use walk_fs::file_system::FileSystem;
+pub use walk_fs::listed::Listed;
+pub use walk_model::file_type::FileType;
+pub use walk_model::metadata::Metadata;

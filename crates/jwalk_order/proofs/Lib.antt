@@ -1,0 +1,3 @@
+mod Above
+mod Due
+mod Frontiers
