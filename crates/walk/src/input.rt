@@ -1,7 +1,7 @@
 //! The tree that standard input says.
 use crate::failure::Failure;
 use crate::tree::build_tree;
-use memory_fs::memory_fs::MemoryFs;
+use jwalk::file_system::MemoryFs;
 use std::alloc::Allocator;
 use std::io::{ErrorKind, Read};
 

@@ -9,11 +9,11 @@ ghost use Rattle.walk.specs.Lines.{kind_name, letter_of, failure_name, reading_p
 
 use itoa::Buffer;
 use jwalk::error::{Error, Result};
+use jwalk::file_system::FileType;
 use jwalk::{ClientState, DirEntry, ReadChildren};
 use std::alloc::Allocator;
 use std::io;
 use std::io::{ErrorKind, Write};
-use walk_model::file_type::FileType;
 
 /// The name that a kind is printed by.
 fn kind_name(kind: ErrorKind) -> &'static str

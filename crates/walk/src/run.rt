@@ -7,8 +7,8 @@ use crate::failure::Failure;
 use crate::input::read_tree;
 use crate::words::parse_words;
 use jwalk::WalkDirGeneric;
-use jwalk::process_read_dir::NoProcess;
-use memory_fs::memory_fs::MemoryFs;
+use jwalk::file_system::MemoryFs;
+use jwalk::read_dir::NoProcess;
 use std::alloc::Allocator;
 use std::io::{Read, Write};
 

@@ -2,17 +2,13 @@
 use crate::answers::print_answers;
 use crate::run::run;
 use jwalk::WalkDirGeneric;
-use jwalk::process_read_dir::NoProcess;
+use jwalk::file_system::{Fault, FileSystem, FileType, Listed, Metadata};
+use jwalk::read_dir::NoProcess;
 use std::alloc::{AllocError, Allocator, Global};
 use std::io;
 use std::io::{ErrorKind, Read, Write};
 use std::process::Abort;
 use std::test::Fail;
-use walk_fs::fault::Fault;
-use walk_fs::file_system::FileSystem;
-use walk_fs::listed::Listed;
-use walk_model::file_type::FileType;
-use walk_model::metadata::Metadata;
 
 const TREE_A: &str =
     "d /t\nf 1 /t/c.txt\nf 2 /t/a.txt\nd /t/group 2\nf 3 /t/group 2/.hidden_file.txt\nf 4 /t/group 2/e.txt\nd /t/group 1\nf 5 /t/group 1/d.txt\nf 6 /t/b.txt\n";

@@ -2,8 +2,7 @@
 use crate::failure::Failure;
 use crate::lines::NumberedLines;
 use crate::tree_line::{TreeLine, parse_tree_line};
-use memory_fs::add_error::AddError;
-use memory_fs::memory_fs::MemoryFs;
+use jwalk::file_system::{AddError, MemoryFs};
 use std::alloc::Allocator;
 use std::str;
 
