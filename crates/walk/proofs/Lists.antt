@@ -1,5 +1,5 @@
 -- Short lists.
-use Rattle.std.proofs.Common.{◌≡◌, ℕ, List, [], ◌∷◌, length, get_or, map, ap, arith, refl}
+use Rattle.std.proofs.Common.{◌≡◌, List, [], ◌∷◌, length, get_or, map, arith}
 
 -- what a function makes of a list of two elements
 pub map-two : {X Y : Type 0} (f : X → Y) (xs : List X) (a b : X) (c d : Y) → length xs ≡ 2 → a ≡ get_or xs 0 a → b ≡ get_or xs 1 b → f a ≡ c → f b ≡ d → map f xs ≡ c ∷ (d ∷ [])

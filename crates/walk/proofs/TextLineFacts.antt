@@ -1,7 +1,6 @@
 -- The first line and the others.
-use Rattle.std.proofs.Common.{◌≡◌, ◌≢◌, ◌+◌, ◌==◌, ℕ, suc, Bool, true, false, List, [], ◌∷◌, length, take, drop, ap, refl, sym, ◌∙◌, arith}
+use Rattle.std.proofs.Common.{◌≡◌, ◌≢◌, ◌+◌, ◌==◌, ℕ, suc, Bool, true, false, List, [], ◌∷◌, length, ap, refl, ◌∙◌, arith}
 use Rattle.std.specs.List.{before_first, after_first, position_or_len, enumerate_from}
-use Rattle.std.proofs.lemmas.Grind.{common_steps}
 use Rattle.walk.specs.TextLines.{is_line_feed, onto_first, text_lines, numbered_from}
 
 -- a text whose first byte ends a line

@@ -1,5 +1,5 @@
 -- The lines that answers are printed as.
-use Rattle.std.specs.Prelude.{ℕ, ◌-◌, Bool, true, false, ◌||◌, List, [], ◌∷◌, ◌++◌, Option, Some, None, Result, Ok, Err, if◌then◌else◌, codes, decimal, unwrap_or, flat_map}
+use Rattle.std.specs.Prelude.{ℕ, Bool, ◌||◌, List, [], ◌++◌, Option, Some, None, Ok, Err, if◌then◌else◌, codes, decimal, unwrap_or, flat_map}
 use Rattle.std.specs.declared.io.ErrorKind.{ErrorKind}
 use Rattle.std.specs.declared.io.ErrorKind.TheVariants.{NotFound, PermissionDenied, AlreadyExists, InvalidInput, InvalidData, Interrupted, Unsupported}
 use Rattle.walk_model.specs.declared.file_type.FileType.{FileType}

@@ -1,5 +1,4 @@
 use Rattle.std.proofs.Common.{arith, sym, ap, length, ◌∙◌, ◌+◌}
-use Rattle.std.proofs.lemmas.Grind.{common_steps}
 use Rattle.walk.proofs.TextLineFacts.{taken}
 use Rattle.walk.proofs.lines.NumberedLinesIterator.next.Goals as goal
 
