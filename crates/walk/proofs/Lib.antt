@@ -1,0 +1,4 @@
+pub mod Lists
+pub mod Texts
+pub mod TextLineFacts
+pub mod LineFacts

@@ -1,0 +1,15 @@
+-- The answers of a walk, printed.
+use Rattle.std.specs.Prelude.{◌≡◌, ℕ, Bool, List, Option, Result, map, is_ok}
+use Rattle.std.specs.List.{list_all}
+use Rattle.std.specs.Iterator.{Drains}
+use Rattle.std.specs.Io.KnownBytes.{Appends}
+use Rattle.jwalk.specs.declared.dir_entry.DirEntry.{DirEntry}
+use Rattle.jwalk.specs.declared.error.Error.{Error}
+use Rattle.jwalk.specs.Entry.{item}
+use Rattle.walk.specs.Lines.{lines_of}
+
+module _ {S C A R E : Type 0} (steps : S → Option (Result (DirEntry C A R E) (Error A)) → S → Type 0) (answers : S) where
+  -- the iterator was asked until it ended, the line of each answer was written, and it is told whether none was an error
+  abbrev pub PrintsAll : Option (List ℕ) → Option (List ℕ) → Bool → Type 0
+  PrintsAll old new clean =
+      (answered : List (Result (DirEntry C A R E) (Error A))) × Drains steps answers answered × (clean ≡ list_all is_ok answered) × Appends old new (lines_of (map item answered))

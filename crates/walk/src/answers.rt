@@ -1,0 +1,113 @@
+//! The answers of a walk, printed.
+ghost use Rattle.std.specs.Prelude.{◌≡◌, ◌≤◌, [], true, is_ok, IfOk, IfErr, OnOk};
+ghost use Rattle.std.specs.Iterator.{IsFinite};
+ghost use Rattle.std.specs.Io.KnownBytes.{Appends, append_known};
+ghost use Rattle.jwalk.specs.Entry.{item};
+ghost use Rattle.walk.specs.Lines.{line_of};
+ghost use Rattle.walk.specs.Failure.{status_of};
+ghost use Rattle.walk.specs.Answers.{PrintsAll};
+
+use crate::failure::Failure;
+use crate::print::print_answer;
+use jwalk::error::Result as Answer;
+use jwalk::{ClientState, DirEntry};
+use std::alloc::Allocator;
+use std::io::Write;
+
+/// How many bytes of lines are gathered before they are written.
+const GATHERED: usize = 65536;
+
+/// Writes the lines that were gathered.
+fn write_gathered<W: Write, A: Allocator>(
+    gathered: &mut Vec<u8, A>,
+    out: &mut W,
+) -> Result<(), Failure>
+    ensures written { OnOk result (Appends (W.contents out.old) (W.contents out.new) gathered.old.items) }
+    ensures empty { OnOk result (gathered.new.items ≡ []) }
+    ensures status { IfErr result (λ failure. status_of failure ≡ 1) }
+{
+    if out.write_all(gathered.as_slice()).is_err() {
+        return Err(Failure::Output);
+    }
+    gathered.clear();
+    Ok(())
+}
+
+/// Prints the line of an answer: it is gathered, and written once there are enough.
+fn gather<W: Write, C: ClientState, A: Allocator + Copy>(
+    answer: &Answer<DirEntry<C, A>, A>,
+    gathered: &mut Vec<u8, A>,
+    out: &mut W,
+) -> Result<(), Failure>
+    ensures printed { OnOk result (Appends (append_known (W.contents out.old) gathered.old.items) (append_known (W.contents out.new) gathered.new.items) (line_of (item answer.now))) }
+    ensures status { IfErr result (λ failure. status_of failure ≡ 1) }
+{
+    if print_answer(gathered, answer).is_err() {
+        return Err(Failure::Memory);
+    }
+    if gathered.len() < GATHERED {
+        return Ok(());
+    }
+    write_gathered(gathered, out)
+}
+
+/// Prints the line of an answer, and tells whether it is an entry.
+fn print_one<W: Write, C: ClientState, A: Allocator + Copy>(
+    answer: Answer<DirEntry<C, A>, A>,
+    gathered: &mut Vec<u8, A>,
+    out: &mut W,
+) -> Result<bool, Failure>
+    ensures entry { IfOk result (λ is_entry. is_entry ≡ is_ok answer) }
+    ensures printed { OnOk result (Appends (append_known (W.contents out.old) gathered.old.items) (append_known (W.contents out.new) gathered.new.items) (line_of (item answer))) }
+    ensures status { IfErr result (λ failure. status_of failure ≡ 1) }
+{
+    gather(&answer, gathered, out)?;
+    Ok(answer.is_ok())
+}
+
+/// Prints a line for each answer, and tells whether none was an error.
+fn print_all<I, W: Write, C: ClientState, A: Allocator + Copy>(
+    alloc: A,
+    answers: I,
+    out: &mut W,
+) -> Result<bool, Failure>
+where
+    I: Iterator<Item = Answer<DirEntry<C, A>, A>> + Drop,
+    requires can { I.can_next answers }
+    requires ends { IsFinite (I.remaining answers) }
+    ensures printed { IfOk result (PrintsAll I.next_gives answers (W.contents out.old) (W.contents out.new)) }
+    ensures status { IfErr result (λ failure. status_of failure ≡ 1) }
+{
+    let mut gathered = Vec::with_capacity(alloc, GATHERED)?;
+    let mut clean = true;
+    for answer in answers {
+        clean &= print_one(answer, &mut gathered, out)?;
+    }
+    write_gathered(&mut gathered, out)?;
+    if out.flush().is_err() {
+        return Err(Failure::Output);
+    }
+    Ok(clean)
+}
+
+/// Prints a line for each answer, and answers the status: 0, or 1 where an answer was an error, where memory was
+/// refused, which standard error tells of, or where standard output can't be written, which ends the walk at once.
+pub fn print_answers<I, W: Write, E: Write, C: ClientState, A: Allocator + Copy>(
+    alloc: A,
+    answers: I,
+    out: &mut W,
+    err: &mut E,
+) -> u8
+where
+    I: Iterator<Item = Answer<DirEntry<C, A>, A>> + Drop,
+    requires can { I.can_next answers }
+    requires ends { IsFinite (I.remaining answers) }
+    ensures status { result ≤ 1 }
+    ensures printed { result ≡ 0 → PrintsAll I.next_gives answers (W.contents out.old) (W.contents out.new) true }
+{
+    match print_all(alloc, answers, out) {
+        Ok(true) => 0,
+        Ok(false) => 1,
+        Err(failure) => failure.report(err),
+    }
+}

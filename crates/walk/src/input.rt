@@ -1,0 +1,28 @@
+//! The tree that standard input says.
+use crate::failure::Failure;
+use crate::tree::build_tree;
+use jwalk::file_system::MemoryFs;
+use std::alloc::Allocator;
+use std::io::{ErrorKind, Read};
+
+/// Reads the input whole.
+fn read_whole<A: Allocator + Copy, R: Read>(
+    alloc: A,
+    input: &mut R,
+) -> Result<Vec<u8, A>, Failure> {
+    let mut bytes = Vec::new(alloc);
+    match input.read_to_end(&mut bytes) {
+        Ok(_) => Ok(bytes),
+        Err(err) if err.kind() == ErrorKind::OutOfMemory => Err(Failure::Memory),
+        Err(_) => Err(Failure::BadTree(0)),
+    }
+}
+
+/// Reads the input whole, and then builds the tree that its lines say.
+pub fn read_tree<A: Allocator + Copy, R: Read>(
+    alloc: A,
+    input: &mut R,
+) -> Result<MemoryFs<A>, Failure> {
+    let bytes = read_whole(alloc, input)?;
+    build_tree(alloc, bytes.as_slice())
+}

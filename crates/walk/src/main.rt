@@ -1,0 +1,46 @@
+//! Walks a tree and prints one line for each answer: `walk --tree ROOT`, with the lines of the tree on standard input.
+#![tactic(auto)]
+
+mod answers;
+mod failure;
+mod input;
+mod lines;
+mod number;
+mod print;
+mod run;
+#[cfg(test)]
+mod tests;
+mod tree;
+mod tree_line;
+mod words;
+
+use crate::failure::Failure;
+use crate::run::run;
+use std::io::ErrorKind;
+use std::process::ExitCode;
+use std::{env, io};
+
+/// The words behind the program's name. Words that aren't text are bad ones.
+fn words_of(rt: &HostRuntime) -> Result<Vec<String>, Failure> {
+    let words = match env::args(rt) {
+        Ok(words) => words,
+        Err(err) if err.kind() == ErrorKind::OutOfMemory => return Err(Failure::Memory),
+        Err(_) => return Err(Failure::BadWords),
+    };
+    Ok(words.skip(1).collect(rt.alloc())?)
+}
+
+fn main(rt: HostRuntime) -> ExitCode {
+    let mut err = rt.stderr();
+    let status = match words_of(&rt) {
+        Ok(words) => run(
+            rt.alloc(),
+            words.as_slice(),
+            &mut rt.reader(),
+            &mut io::writer(&rt),
+            &mut err,
+        ),
+        Err(failure) => failure.report(&mut err),
+    };
+    ExitCode::from(status)
+}

@@ -1,0 +1,327 @@
+//! Runs of the program over texts, and answers printed one by one.
+use crate::answers::print_answers;
+use crate::run::run;
+use jwalk::WalkDirGeneric;
+use jwalk::file_system::{Fault, FileSystem, FileType, Listed, Metadata};
+use jwalk::read_dir::NoProcess;
+use std::alloc::{AllocError, Allocator, Global};
+use std::io;
+use std::io::{ErrorKind, Read, Write};
+use std::process::Abort;
+use std::test::Fail;
+
+const TREE_A: &str =
+    "d /t\nf 1 /t/c.txt\nf 2 /t/a.txt\nd /t/group 2\nf 3 /t/group 2/.hidden_file.txt\nf 4 /t/group 2/e.txt\nd /t/group 1\nf 5 /t/group 1/d.txt\nf 6 /t/b.txt\n";
+
+const BAD_WORDS: (&str, &str, u8) = ("", "walk: bad words\n", 2);
+
+/// What a run wrote, and its status.
+#[derive(Drop)]
+struct Ran {
+    out: Vec<u8>,
+    err: Vec<u8>,
+    status: u8,
+}
+
+fn texts(alloc: Global, words: &[&str]) -> Result<Vec<String>, AllocError> {
+    let mut texts = Vec::new(alloc);
+    for word in words {
+        texts.push(String::from_str(alloc, word)?)?;
+    }
+    Ok(texts)
+}
+
+fn run_on<R: Read>(alloc: Global, words: &[&str], mut input: R) -> Result<Ran, AllocError>
+where
+    R: Drop,
+{
+    let words = texts(alloc, words)?;
+    let mut out = Vec::new(alloc);
+    let mut err = Vec::new(alloc);
+    let status = run(alloc, words.as_slice(), &mut input, &mut out, &mut err);
+    Ok(Ran { out, err, status })
+}
+
+fn check(rt: &impl Abort, ran: &Ran, want: (&str, &str, u8)) {
+    let (out, err, status) = want;
+    assert!(rt;
+        ran.out.as_slice() == out.as_bytes(),
+        "the output is not {out}"
+    );
+    assert!(rt;
+        ran.err.as_slice() == err.as_bytes(),
+        "the error is not {err}"
+    );
+    assert!(rt; ran.status == status, "the status is not {status}");
+}
+
+#[test]
+fn answers_come_in_order(rt: HostRuntime) -> Result<(), Fail> {
+    let rows = [
+        (
+            "/r",
+            "d /r\nf 3 /r/b\nd /r/s\nf 1 /r/s/x\nf 2 /r/a\n",
+            ("0 d /r\n1 f /r/b\n1 d /r/s\n2 f /r/s/x\n1 f /r/a\n", "", 0),
+        ),
+        (
+            "/t",
+            TREE_A,
+            (
+                "0 d /t\n1 f /t/c.txt\n1 f /t/a.txt\n1 d /t/group 2\n2 f /t/group 2/e.txt\n1 d /t/group 1\n2 f /t/group 1/d.txt\n1 f /t/b.txt\n",
+                "",
+                0,
+            ),
+        ),
+        ("/none", TREE_A, ("! 0 /none NotFound\n", "", 1)),
+        ("", TREE_A, ("! 0  NotFound\n", "", 1)),
+        ("/t/a.txt", TREE_A, ("0 f /t/a.txt\n", "", 0)),
+        ("/e", "d /e\n", ("0 d /e\n", "", 0)),
+        ("/", "", ("0 d /\n", "", 0)),
+        ("--tree", "", ("! 0 --tree NotFound\n", "", 1)),
+        (
+            "/r",
+            "d /r\nf 18446744073709551615 /r/last",
+            ("0 d /r\n1 f /r/last\n", "", 0),
+        ),
+        (
+            "/r",
+            "\n\nd /r\n\nf 00000000000000000007 /r/a b\n\n",
+            ("0 d /r\n1 f /r/a b\n", "", 0),
+        ),
+    ];
+    for (root, input, want) in rows {
+        check(
+            &rt,
+            &run_on(rt.alloc(), &["--tree", root], input.as_bytes())?,
+            want,
+        );
+    }
+    Ok(())
+}
+
+#[test]
+fn other_words_are_bad(rt: HostRuntime) -> Result<(), Fail> {
+    check(&rt, &run_on(rt.alloc(), &[], "".as_bytes())?, BAD_WORDS);
+    for word in ["--tree", "/r"] {
+        check(&rt, &run_on(rt.alloc(), &[word], "".as_bytes())?, BAD_WORDS);
+    }
+    let options = [
+        "--sort", "--hidden", "--follow", "--min", "--max", "--batch", "--crew", "--usage",
+        "--tree", "/r", "",
+    ];
+    for option in options {
+        check(
+            &rt,
+            &run_on(rt.alloc(), &["--tree", option, "/r"], "d /r".as_bytes())?,
+            BAD_WORDS,
+        );
+        check(
+            &rt,
+            &run_on(rt.alloc(), &[option, "/r", "/r"], "d /r".as_bytes())?,
+            BAD_WORDS,
+        );
+    }
+    check(
+        &rt,
+        &run_on(rt.alloc(), &["--sort", "--sort", "/r"], "".as_bytes())?,
+        BAD_WORDS,
+    );
+    check(
+        &rt,
+        &run_on(
+            rt.alloc(),
+            &["--tree", "--min", "1", "/r"],
+            "d /r".as_bytes(),
+        )?,
+        BAD_WORDS,
+    );
+    Ok(())
+}
+
+#[test]
+fn the_first_bad_line_is_named(rt: HostRuntime) -> Result<(), Fail> {
+    let first: [&[u8]; 21] = [
+        b"d",
+        b"d ",
+        b"f",
+        b"f 1",
+        b"f 1 ",
+        b"f  /r",
+        b"f x /r",
+        b"f +1 /r",
+        b"f -1 /r",
+        b"f 1.0 /r",
+        b"f 18446744073709551616 /r",
+        b"f 000000000000000000001 /r",
+        b"l /r\t/s",
+        b"x /r",
+        b"D /r",
+        b" d /r",
+        b"d/r",
+        b"q",
+        b"d /\xff",
+        b"d /n/m\nd /r",
+        b"d /",
+    ];
+    for line in first {
+        check(
+            &rt,
+            &run_on(rt.alloc(), &["--tree", "/r"], line)?,
+            ("", "walk: bad tree, line 1\n", 2),
+        );
+    }
+    let rows = [
+        ("d /r\nd /r\n", "walk: bad tree, line 2\n"),
+        ("d /r\n\nf 1\n", "walk: bad tree, line 3\n"),
+        ("d /r\nf 1 /r/a\nf 1 /r/a/b", "walk: bad tree, line 3\n"),
+    ];
+    for (input, err) in rows {
+        check(
+            &rt,
+            &run_on(rt.alloc(), &["--tree", "/r"], input.as_bytes())?,
+            ("", err, 2),
+        );
+    }
+    Ok(())
+}
+
+/// Neither reads nor writes: each call fails with an error of this kind.
+#[derive(Drop)]
+struct Broken(ErrorKind);
+
+impl Read for Broken {
+    fn read(&mut self, _buf: &mut [u8]) -> io::Result<usize> {
+        Err(io::Error::from(self.0))
+    }
+}
+
+impl Write for Broken {
+    fn write(&mut self, _buf: &[u8]) -> io::Result<usize> {
+        Err(io::Error::from(self.0))
+    }
+
+    fn flush(&mut self) -> io::Result<()> {
+        Err(io::Error::from(self.0))
+    }
+}
+
+#[test]
+fn an_input_that_cannot_be_read_is_told(rt: HostRuntime) -> Result<(), Fail> {
+    let broken = run_on(rt.alloc(), &["--tree", "/r"], Broken(ErrorKind::Other))?;
+    check(&rt, &broken, ("", "walk: bad tree, line 0\n", 2));
+    let refused = run_on(
+        rt.alloc(),
+        &["--tree", "/r"],
+        Broken(ErrorKind::OutOfMemory),
+    )?;
+    check(&rt, &refused, ("", "walk: memory refused\n", 1));
+    let unread = run_on(rt.alloc(), &["/r"], Broken(ErrorKind::Other))?;
+    check(&rt, &unread, BAD_WORDS);
+    Ok(())
+}
+
+#[test]
+fn an_output_that_cannot_be_written_ends_the_walk(rt: HostRuntime) -> Result<(), Fail> {
+    let words = texts(rt.alloc(), &["--tree", "/t"])?;
+    let mut input = TREE_A.as_bytes();
+    let mut err = Vec::new(rt.alloc());
+    let status = run(
+        rt.alloc(),
+        words.as_slice(),
+        &mut input,
+        &mut Broken(ErrorKind::BrokenPipe),
+        &mut err,
+    );
+    assert_eq!(rt; status, 1);
+    assert!(rt; err.is_empty());
+    Ok(())
+}
+
+/// A file system that lists a link, a socket, a directory that can't be read and an item that has no name; below
+/// `/wide` memory is refused.
+#[derive(Drop)]
+struct Odd;
+
+fn listed<A: Allocator + Copy>(
+    alloc: A,
+    name: &str,
+    file_type: FileType,
+) -> Result<Listed<A>, Fault> {
+    match String::from_str(alloc, name) {
+        Ok(name) => Ok(Listed {
+            name,
+            file_type: Ok(file_type),
+        }),
+        Err(_) => Err(Fault::Memory),
+    }
+}
+
+fn pushed<T: Drop, A: Allocator>(items: &mut Vec<T, A>, item: T) -> Result<(), Fault> {
+    items.push(item).map_err(|_| Fault::Memory)
+}
+
+impl FileSystem for Odd {
+    ghost use Rattle.std.specs.Prelude.{Err};
+    ghost use Rattle.std.specs.declared.io.ErrorKind.TheVariants.{Other};
+
+    ghost IsFixed = { λ _. ⊥ };
+
+    ghost functions = { λ _. record { list_of = λ _. Err Other; meta_of = λ _. Err Other; link_meta_of = λ _. Err Other; target_of = λ _. Err Other } };
+
+    fn read_dir<A: Allocator + Copy>(
+        &self,
+        alloc: A,
+        path: &str,
+    ) -> Result<Vec<io::Result<Listed<A>>, A>, Fault> {
+        match path {
+            "/odd" => {}
+            "/wide" => return Err(Fault::Memory),
+            _ => return Err(Fault::Io(io::Error::from(ErrorKind::PermissionDenied))),
+        }
+        let mut items = Vec::new(alloc);
+        pushed(&mut items, Ok(listed(alloc, "link", FileType::Symlink)?))?;
+        pushed(&mut items, Ok(listed(alloc, "socket", FileType::Other)?))?;
+        pushed(&mut items, Ok(listed(alloc, "denied", FileType::Dir)?))?;
+        pushed(&mut items, Err(io::Error::from(ErrorKind::TimedOut)))?;
+        Ok(items)
+    }
+
+    fn metadata(&self, _path: &str) -> Result<Metadata, Fault> {
+        Ok(Metadata::new(FileType::Dir, 0))
+    }
+
+    fn symlink_metadata(&self, _path: &str) -> Result<Metadata, Fault> {
+        Ok(Metadata::new(FileType::Dir, 0))
+    }
+
+    fn read_link<A: Allocator + Copy>(&self, _alloc: A, _path: &str) -> Result<String<A>, Fault> {
+        Err(Fault::Io(io::Error::from(ErrorKind::InvalidInput)))
+    }
+}
+
+fn printed(alloc: Global, root: &str) -> Result<Ran, AllocError> {
+    let root = String::from_str(alloc, root)?;
+    let walk = WalkDirGeneric::<((), ()), Odd, NoProcess, Global>::new(Odd, root).into_iter();
+    let mut out = Vec::new(alloc);
+    let mut err = Vec::new(alloc);
+    let status = print_answers(alloc, walk, &mut out, &mut err);
+    Ok(Ran { out, err, status })
+}
+
+#[test]
+fn each_sort_of_answer_has_its_line(rt: HostRuntime) -> Result<(), Fail> {
+    let odd =
+        "0 d /odd\n1 L /odd/link\n1 o /odd/socket\n1 d /odd/denied ! PermissionDenied\n! 1 - Other\n";
+    check(&rt, &printed(rt.alloc(), "/odd")?, (odd, "", 1));
+    check(
+        &rt,
+        &printed(rt.alloc(), "/denied")?,
+        ("0 d /denied ! PermissionDenied\n", "", 0),
+    );
+    check(
+        &rt,
+        &printed(rt.alloc(), "/wide")?,
+        ("! 0 - memory\n", "", 1),
+    );
+    Ok(())
+}

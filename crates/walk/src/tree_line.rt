@@ -1,0 +1,49 @@
+//! The lines that a tree is built from.
+ghost use Rattle.std.specs.Prelude.{◌≡◌, ◌≢◌, ℕ, List, [], ◌++◌, codes, IfSome, IfNone, MatchOption};
+ghost use Rattle.walk.specs.TreeLine.{Says, HasSizedPath, IsTreeLine};
+
+use crate::number::parse_number;
+
+/// What a line adds to a tree.
+pub enum TreeLine<'a> {
+    /// An empty directory at a path.
+    Dir(&'a str),
+    /// A file of a length in bytes at a path.
+    File(u64, &'a str),
+}
+
+/// What follows a beginning.
+fn rest_after<'a>(text: &'a str, beginning: &str) -> Option<&'a str>
+    ensures { MatchOption result ((rest : List ℕ) → text.now ≢ beginning.now ++ rest) (λ rest. text.now ≡ beginning.now ++ rest.now) }
+{
+    text.strip_prefix(beginning)
+}
+
+/// A path, unless it is empty.
+fn path_in(text: &str) -> Option<&str>
+    ensures { MatchOption result (text.now ≡ []) (λ path. (path.now ≡ text.now) × (path.now ≢ [])) }
+{
+    if text.is_empty() { None } else { Some(text) }
+}
+
+/// Reads what follows the letter of a file.
+fn parse_file(text: &str) -> Option<TreeLine<'_>>
+    ensures some { IfSome result (Says (codes "f " ++ text.now)) }
+    ensures none { IfNone result (¬ (HasSizedPath text.now)) }
+{
+    let (len, path) = text.split_once(' ')?;
+    let len = parse_number(len)?;
+    Some(TreeLine::File(len, path_in(path)?))
+}
+
+/// Reads a line: `d PATH` or `f LEN PATH`, with one space behind the letter and behind the length, and a path that
+/// is the whole rest and isn't empty. None for any other text.
+pub fn parse_tree_line(text: &str) -> Option<TreeLine<'_>>
+    ensures some { IfSome result (Says text.now) }
+    ensures none { IfNone result (¬ (IsTreeLine text.now)) }
+{
+    match rest_after(text, "d ") {
+        Some(path) => Some(TreeLine::Dir(path_in(path)?)),
+        None => parse_file(rest_after(text, "f ")?),
+    }
+}
