@@ -3,10 +3,10 @@ use Rattle.std.proofs.Common.{◌≡◌, ◌∙◌, ◌<◌, true, false, [], �
 use Rattle.walk_model.specs.Error.{memory}
 use Rattle.walk_model.specs.Entry.{Item}
 use Rattle.walk_model.specs.ReadDir.{Spec, Reading, Outcome, children_of}
-use Rattle.walk_model.specs.Listing.{nothing, paired, answers, listing}
+use Rattle.walk_model.specs.Listing.{nothing, paired, is_answered, answers, listing}
 use Rattle.walk_model.specs.Held.{pair_up, weight, kept, ended}
 use Rattle.walk_model.proofs.HeldFacts.{alone, pair_up-outcome}
-use Rattle.walk_model.proofs.StepFacts.{plainly_one, plainly_any, always_answered, answers-zero, heavy_held}
+use Rattle.walk_model.proofs.StepFacts.{LeavesOut, plainly_one, plainly_any, heavy_held}
 use Rattle.jwalk.specs.declared.error.Error.{Error}
 use Rattle.jwalk.specs.declared.dir_entry.DirEntry.{DirEntry}
 use Rattle.jwalk.specs.declared.dir_entry_iter.DirEntryIter.{DirEntryIter}
@@ -14,7 +14,7 @@ use Rattle.jwalk.specs.Error.{failure}
 use Rattle.jwalk.specs.Entry.{item}
 use Rattle.jwalk.specs.Job.{greatest_depth}
 use Rattle.jwalk.specs.ReadDirIter.{StacksChildren}
-use Rattle.jwalk.specs.DirEntryIter.{job_of, items_of, unread_of, held, to_come, Refuses, Answers, PassesOrStops}
+use Rattle.jwalk.specs.DirEntryIter.{job_of, min_depth_of, items_of, unread_of, held, to_come, Refuses, Answers, PassesOrStops}
 
 module _ {C S P A R E : Type 0} where
   held_rest : (it : DirEntryIter C S P A R E) → it.refused ≡ false → held it ≡ pair_up (items_of it) (unread_of it)
@@ -26,25 +26,35 @@ module _ {C S P A R E : Type 0} where
   held_nothing : (it : DirEntryIter C S P A R E) → it.refused ≡ false → items_of it ≡ [] → held it ≡ []
   held_nothing it started none = held_rest it started ∙ ap (λ l. pair_up l (unread_of it)) none
 
-  coming_next : (reading : Spec R → Outcome R E) (old new : DirEntryIter C S P A R E) (answer : Item R E) → job_of new ≡ job_of old → listing reading (greatest_depth (job_of old)) (held old) ≡ answer ∷ listing reading (greatest_depth (job_of old)) (held new) → to_come reading old ≡ answer ∷ to_come reading new
-  coming_next reading old new answer job is = ap (answers 0) is ∙ answers-zero answer (listing reading (greatest_depth (job_of old)) (held new)) ∙ ap (λ j. answer ∷ answers 0 (listing reading (greatest_depth j) (held new))) (sym job)
+  to_come_of : (reading : Spec R → Outcome R E) (old new : DirEntryIter C S P A R E) (answer : Item R E) → job_of new ≡ job_of old → min_depth_of new ≡ min_depth_of old → is_answered (min_depth_of old) answer ≡ true → answers (min_depth_of old) (answer ∷ listing reading (greatest_depth (job_of old)) (held new)) ≡ answer ∷ to_come reading new
+  to_come_of reading old new answer job depth is =
+      rw is (ap (λ l. answer ∷ l) (ap (λ j. answers (min_depth_of old) (listing reading (greatest_depth j) (held new))) (sym job) ∙ ap (λ m. answers m (listing reading (greatest_depth (job_of new)) (held new))) (sym depth)))
 
 module _ {C S P A R E : Type 0} (clones : Type 0) (is_steady : E → Type 0) (reading_by : E → Spec R → Outcome R E) (old new : DirEntryIter C S P A R E) where
   -- a walk that was refused at its start tells of it
-  pub answers_refusal : (error : Error A) → failure error ≡ memory → old.refused ≡ true → new.refused ≡ false → job_of new ≡ job_of old → items_of new ≡ items_of old → unread_of new ≡ unread_of old → Answers clones is_steady reading_by old (Some (Err error)) new
-  answers_refusal error told refused started job items unread =
+  pub answers_refusal : (error : Error A) → failure error ≡ memory → old.refused ≡ true → new.refused ≡ false → job_of new ≡ job_of old → min_depth_of new ≡ min_depth_of old → items_of new ≡ items_of old → unread_of new ≡ unread_of old → Answers clones is_steady reading_by old (Some (Err error)) new
+  answers_refusal error told refused started job depth items unread =
       let front = held_refused old refused in
       let rest = held_rest new started ∙ ap (λ l. pair_up l (unread_of new)) items ∙ ap (pair_up (items_of old)) unread in
+      let one : (d : E) → listing (reading_by d) (greatest_depth (job_of old)) (held old) ≡ Err (failure error) ∷ listing (reading_by d) (greatest_depth (job_of old)) (held new)
+          = λ d. rw (front, rest, told) (alone (reading_by d) (greatest_depth (job_of old)) (Err memory) (items_of old) (unread_of old) refl) in
       record {
         job = job;
+        min_depth = depth;
         plain = rw (front, rest, told) (refl, refl);
-        passes = λ equal. inr (kept (rw (front, rest, told) (refl, refl)) (always_answered {R = R} {E = E} (Err (failure error))));
-        coming = λ d steady. inr (coming_next (reading_by d) old new (Err (failure error)) job (rw (front, rest, told) (alone (reading_by d) (greatest_depth (job_of old)) (Err memory) (items_of old) (unread_of old) refl)));
+        passes = λ equal. inr (kept (rw (front, rest, told) (refl, refl)) refl);
+        coming = λ d steady. inr (ap (answers (min_depth_of old)) (one d) ∙ to_come_of (reading_by d) old new (Err (failure error)) job depth refl);
       }
 
-  -- a pair is passed, or memory was refused below a directory
-  pub answers_passed : (x : Result (DirEntry C A R E) (Error A)) → old.refused ≡ false → new.refused ≡ false → job_of new ≡ job_of old → PassesOrStops (greatest_depth (job_of old)) clones is_steady reading_by old (item x) new → Answers clones is_steady reading_by old (Some x) new
-  answers_passed x began started job passed =
+  -- so it gets lighter
+  pub lighter_refused : old.refused ≡ true → new.refused ≡ false → items_of new ≡ items_of old → unread_of new ≡ unread_of old → weight (greatest_depth (job_of old)) (held new) < weight (greatest_depth (job_of old)) (held old)
+  lighter_refused refused started items unread =
+      rw (held_refused old refused, held_rest new started ∙ ap (λ l. pair_up l (unread_of new)) items ∙ ap (pair_up (items_of old)) unread) (omega arith)
+
+module _ {C S P A R E : Type 0} (clones : Type 0) (is_steady : E → Type 0) (reading_by : E → Spec R → Outcome R E) (old left new : DirEntryIter C S P A R E) where
+  -- items were left out, and then one is passed that is answered, or memory was refused below a directory
+  pub answers_kept : (x : Result (DirEntry C A R E) (Error A)) → old.refused ≡ false → new.refused ≡ false → job_of new ≡ job_of old → min_depth_of new ≡ min_depth_of old → is_answered (min_depth_of old) (item x) ≡ true → LeavesOut (greatest_depth (job_of old)) (min_depth_of old) clones is_steady reading_by (pair_up (items_of old) (unread_of old)) (pair_up (items_of left) (unread_of left)) → PassesOrStops (greatest_depth (job_of old)) clones is_steady reading_by left (item x) new → Answers clones is_steady reading_by old (Some x) new
+  answers_kept x began started job depth answered leaves passed =
       let before = held_rest old began in
       let after = held_rest new started in
       elim passed [
@@ -52,51 +62,43 @@ module _ {C S P A R E : Type 0} (clones : Type 0) (is_steady : E → Type 0) (re
             let refuses : Refuses (item x) new = record { tells = stopped.0; nothing_held = held_nothing new started stopped.1; nothing_unread = stopped.2 } in
             record {
               job = job;
-              plain = rw before (plainly_any (pair_up (items_of old) (unread_of old)) (Some (item x)) (held new) stopped.3);
+              min_depth = depth;
+              plain = rw before (leaves.plain (Some (item x)) (held new) (plainly_any (min_depth_of old) (pair_up (items_of left) (unread_of left)) (Some (item x)) (held new) stopped.3));
               passes = λ equal. inl refuses;
               coming = λ d steady. inl refuses;
             }
         | inr one ↦ record {
           job = job;
-          plain = rw (before, after) (plainly_one (pair_up (items_of old) (unread_of old)) (item x) (pair_up (items_of new) (unread_of new)) one.plain);
-          passes = λ equal. inr (kept (rw (before, after) (one.passes equal)) (always_answered (item x)));
-          coming = λ d steady. inr (coming_next (reading_by d) old new (item x) job (rw (before, after) (one.listed d steady)));
+          min_depth = depth;
+          plain = rw (before, after) (leaves.plain (Some (item x)) (pair_up (items_of new) (unread_of new)) (plainly_one (min_depth_of old) (pair_up (items_of left) (unread_of left)) (item x) (pair_up (items_of new) (unread_of new)) answered one.plain));
+          passes = λ equal. inr (rw (before, after) (leaves.passes equal (Some (item x)) (pair_up (items_of new) (unread_of new)) (kept (one.passes equal) answered)));
+          coming = λ d steady. inr (rw before (leaves.coming d steady ∙ ap (answers (min_depth_of old)) (one.listed d steady)) ∙ ap (λ l. answers (min_depth_of old) (item x ∷ listing (reading_by d) (greatest_depth (job_of old)) l)) (sym after) ∙ to_come_of (reading_by d) old new (item x) job depth answered);
         }
       ]
 
-  -- nothing is held any more
-  pub answers_end : old.refused ≡ false → new.refused ≡ false → job_of new ≡ job_of old → items_of old ≡ [] → items_of new ≡ [] → Answers clones is_steady reading_by old None new
-  answers_end began started job none left =
-      let before = held_nothing old began none in
-      let after = held_nothing new started left in
+  -- all that was held is left out
+  pub answers_end : old.refused ≡ false → new.refused ≡ false → job_of new ≡ job_of old → min_depth_of new ≡ min_depth_of old → LeavesOut (greatest_depth (job_of old)) (min_depth_of old) clones is_steady reading_by (pair_up (items_of old) (unread_of old)) (pair_up (items_of left) (unread_of left)) → items_of left ≡ [] → items_of new ≡ [] → Answers clones is_steady reading_by old None new
+  answers_end began started job depth leaves none rest =
+      let before = held_rest old began in
+      let after = held_nothing new started rest in
+      let nothing_left : pair_up (items_of left) (unread_of left) ≡ [] = ap (λ l. pair_up l (unread_of left)) none in
       record {
         job = job;
-        plain = rw before (refl, after);
-        passes = λ equal. inr (rw (before, after) ended);
-        coming = λ d steady. ap (λ l. answers 0 (listing (reading_by d) (greatest_depth (job_of old)) l)) before;
+        min_depth = depth;
+        plain = rw (before, after) (leaves.plain None [] (rw nothing_left (refl, refl)));
+        passes = λ equal. inr (rw (before, after) (leaves.passes equal None [] (rw nothing_left ended)));
+        coming = λ d steady. rw before (leaves.coming d steady ∙ ap (λ l. answers (min_depth_of old) (listing (reading_by d) (greatest_depth (job_of old)) l)) nothing_left);
       }
 
   -- what is held gets lighter with each answer
-  pub lighter_passed : (x : Result (DirEntry C A R E) (Error A)) → old.refused ≡ false → new.refused ≡ false → PassesOrStops (greatest_depth (job_of old)) clones is_steady reading_by old (item x) new → weight (greatest_depth (job_of old)) (held new) < weight (greatest_depth (job_of old)) (held old)
-  lighter_passed x began started passed =
-      elim passed [
-        | inl stopped ↦ rw (held_rest old began, held_nothing new started stopped.1) (heavy_held (greatest_depth (job_of old)) (pair_up (items_of old) (unread_of old)) stopped.3)
-        | inr one ↦ rw (held_rest old began, held_rest new started) one.lighter
-      ]
-
-  -- so it does with the one that tells of a refused start
-  pub lighter_refused : old.refused ≡ true → new.refused ≡ false → items_of new ≡ items_of old → unread_of new ≡ unread_of old → weight (greatest_depth (job_of old)) (held new) < weight (greatest_depth (job_of old)) (held old)
-  lighter_refused refused started items unread =
-      rw (held_refused old refused, held_rest new started ∙ ap (λ l. pair_up l (unread_of new)) items ∙ ap (pair_up (items_of old)) unread) (omega arith)
-
-  -- what one call answers where the walk's start was not refused
-  pub answers_rest : (r : Option (Result (DirEntry C A R E) (Error A))) → old.refused ≡ false → new.refused ≡ false → job_of new ≡ job_of old → IfNone r ((items_of old ≡ []) × (items_of new ≡ [])) → IfSome r (λ x. PassesOrStops (greatest_depth (job_of old)) clones is_steady reading_by old (item x) new) → Answers clones is_steady reading_by old r new
-  answers_rest None began started job end passed = answers_end began started job end.0 end.1
-  answers_rest (Some x) began started job end passed = answers_passed x began started job passed
-
-  pub lighter_rest : (r : Option (Result (DirEntry C A R E) (Error A))) (may : Type 0) → may → old.refused ≡ false → new.refused ≡ false → IfSome r (λ x. PassesOrStops (greatest_depth (job_of old)) clones is_steady reading_by old (item x) new) → OnSome r (may × Unit {0} × (weight (greatest_depth (job_of old)) (held new) < weight (greatest_depth (job_of old)) (held old)))
-  lighter_rest None may can began started passed = tt
-  lighter_rest (Some x) may can began started passed = (can, tt, lighter_passed x began started passed)
+  pub lighter_kept : (x : Item R E) → old.refused ≡ false → new.refused ≡ false → LeavesOut (greatest_depth (job_of old)) (min_depth_of old) clones is_steady reading_by (pair_up (items_of old) (unread_of old)) (pair_up (items_of left) (unread_of left)) → PassesOrStops (greatest_depth (job_of old)) clones is_steady reading_by left x new → weight (greatest_depth (job_of old)) (held new) < weight (greatest_depth (job_of old)) (held old)
+  lighter_kept x began started leaves passed =
+      let fewer : weight (greatest_depth (job_of old)) (held new) < weight (greatest_depth (job_of old)) (pair_up (items_of left) (unread_of left))
+          = elim passed [
+            | inl stopped ↦ rw (held_nothing new started stopped.1) (heavy_held (greatest_depth (job_of old)) (pair_up (items_of left) (unread_of left)) stopped.3)
+            | inr one ↦ rw (held_rest new started) one.lighter
+          ] in
+      rw (held_rest old began) (omega (arith, fewer, leaves.lighter))
 
 -- a walk that took over its root's list holds the pairs of that list
 pub holds_root : {C S P A R E : Type 0} (clones : Type 0) (r : Reading R E) (before after begun : DirEntryIter C S P A R E) → clones → begun.refused ≡ false → items_of begun ≡ items_of after → unread_of begun ≡ unread_of after → items_of before ≡ [] → unread_of before ≡ [] → items_of after ≡ r.list ++ items_of before → StacksChildren clones (unread_of before) (Ok r) (unread_of after) → held begun ≡ paired r

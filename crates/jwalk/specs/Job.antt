@@ -1,4 +1,4 @@
--- A job seen as a value, and what a walk takes to be given. It can't be told yet to sort or to follow links.
+-- A job seen as a value, and what a walk takes to be given. It can't be told yet to follow links.
 use Rattle.std.specs.Prelude.{ℕ, List, Option}
 use Rattle.walk_model.specs.FileSystem.{Functions}
 use Rattle.walk_model.specs.Entry.{Item}
@@ -26,7 +26,7 @@ module _ {C S P A R E : Type 0} where
   abbrev pub job : Functions → Processing R E → E → Job C S P A R E → value.Job R E
   job functions processed d it = record {
     fs = functions;
-    options = record defaults { skip_hidden = it.skip_hidden; max_depth = it.max_depth };
+    options = record defaults { sort = it.sort; skip_hidden = it.skip_hidden; max_depth = it.max_depth };
     processed = processed;
     default = d;
   }

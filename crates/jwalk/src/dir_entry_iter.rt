@@ -35,6 +35,7 @@ pub struct DirEntryIter<
     pub(crate) reads: ReadDirIter<C, S, P, A>,
     // What was received and not passed on, the next one last.
     pub(crate) items: Vec<Result<DirEntry<C, A>, Error<A>>, A>,
+    pub(crate) min_depth: usize,
     // Memory was refused at the start, and this was not answered yet.
     pub(crate) refused: bool,
 }
@@ -45,17 +46,18 @@ impl<C: ClientState, S: FileSystem, P: ProcessReadDir<C, A>, A: Allocator + Copy
     P,
     A,
 > {
-    ghost use Rattle.std.specs.Prelude.{◌^◌, ◌++◌, ◌⊎◌, length, OnOk, OnErr, IfSome, IfNone};
-    ghost use Rattle.walk_model.specs.Held.{PassesOne, IsAtDirectory};
+    ghost use Rattle.std.specs.Prelude.{◌^◌, ◌++◌, false, length, OnOk, OnErr, IfSome, IfNone, IsSomeAnd};
+    ghost use Rattle.walk_model.specs.Held.{PassesOne, LeavesOne, IsAtDirectory};
     ghost use Rattle.walk_model.specs.ReadDir.{list_of};
     ghost use Rattle.jwalk.specs.ReadDir.{reading};
-    ghost use Rattle.jwalk.specs.DirEntryIter.{job_of, items_of, unread_of, held, IsRefused, PassesOrStops};
+    ghost use Rattle.jwalk.specs.DirEntryIter.{job_of, min_depth_of, items_of, unread_of, held, IsRefused, PassesOrStops, Answers};
     ghost use Rattle.jwalk.specs.ReadDirIter.{StacksChildren};
-    ghost use Rattle.walk_model.specs.Listing.{paired};
+    ghost use Rattle.walk_model.specs.Listing.{paired, is_answered};
 
     /// A walk whose start was refused, which needs no memory.
-    fn refused(alloc: A, job: Job<C, S, P, A>) -> Self
+    fn refused(alloc: A, job: Job<C, S, P, A>, min_depth: usize) -> Self
         ensures job { job_of result ≡ job }
+        ensures min_depth { min_depth_of result ≡ min_depth }
         ensures refused { result.refused ≡ true }
         ensures items { items_of result ≡ [] }
         ensures unread { unread_of result ≡ [] }
@@ -63,6 +65,7 @@ impl<C: ClientState, S: FileSystem, P: ProcessReadDir<C, A>, A: Allocator + Copy
         DirEntryIter {
             reads: ReadDirIter::serial(alloc, job),
             items: Vec::new(alloc),
+            min_depth,
             refused: true,
         }
     }
@@ -70,6 +73,7 @@ impl<C: ClientState, S: FileSystem, P: ProcessReadDir<C, A>, A: Allocator + Copy
     /// Takes over the root's list.
     fn begin(&mut self, read: ReadDir<C, A>) -> Result<(), AllocError>
         ensures job { job_of self.new ≡ job_of self.old }
+        ensures min_depth { min_depth_of self.new ≡ min_depth_of self.old }
         ensures refused { self.new.refused ≡ self.old.refused }
         ensures items { OnOk result (items_of self.new ≡ (reading read).list ++ items_of self.old) }
         ensures children { OnOk result (StacksChildren (ClonesAreEqual C.ReadDirState.is_clone) (unread_of self.old) (Ok (reading read)) (unread_of self.new)) }
@@ -81,12 +85,18 @@ impl<C: ClientState, S: FileSystem, P: ProcessReadDir<C, A>, A: Allocator + Copy
 
     /// The walk that begins with the root's list. Where memory is refused, what it answers is the error that tells of
     /// it, and nothing else.
-    pub(crate) fn from_root(alloc: A, job: Job<C, S, P, A>, read: Option<ReadDir<C, A>>) -> Self
+    pub(crate) fn from_root(
+        alloc: A,
+        job: Job<C, S, P, A>,
+        min_depth: usize,
+        read: Option<ReadDir<C, A>>,
+    ) -> Self
         ensures job { job_of result ≡ job }
-        ensures held { ClonesAreEqual C.ReadDirState.is_clone → IsRefused result ⊎ IfSome read (λ r. held result ≡ paired (reading r)) }
-        ensures none { IfNone read (IsRefused result) }
+        ensures min_depth { min_depth_of result ≡ min_depth }
+        ensures refused { result.refused ≡ true → IsRefused result }
+        ensures held { ClonesAreEqual C.ReadDirState.is_clone → result.refused ≡ false → IsSomeAnd read (λ r. held result ≡ paired (reading r)) }
     {
-        let mut walk = DirEntryIter::refused(alloc, job);
+        let mut walk = DirEntryIter::refused(alloc, job, min_depth);
         let Some(read) = read else {
             return walk;
         };
@@ -100,6 +110,7 @@ impl<C: ClientState, S: FileSystem, P: ProcessReadDir<C, A>, A: Allocator + Copy
     /// Puts the items of a reading in front of those that were received before.
     fn receive(&mut self, read: ReadDir<C, A>) -> Result<(), AllocError>
         ensures reads { self.new.reads ≡ self.old.reads }
+        ensures min_depth { min_depth_of self.new ≡ min_depth_of self.old }
         ensures refused { self.new.refused ≡ self.old.refused }
         ensures few { length (reading read).list < 2 ^ 64 }
         ensures items { OnOk result (items_of self.new ≡ (reading read).list ++ items_of self.old) }
@@ -118,6 +129,7 @@ impl<C: ClientState, S: FileSystem, P: ProcessReadDir<C, A>, A: Allocator + Copy
     /// Forgets all that is still to come.
     fn stop(&mut self)
         ensures job { job_of self.new ≡ job_of self.old }
+        ensures min_depth { min_depth_of self.new ≡ min_depth_of self.old }
         ensures refused { self.new.refused ≡ self.old.refused }
         ensures items { items_of self.new ≡ [] }
         ensures unread { unread_of self.new ≡ [] }
@@ -132,6 +144,7 @@ impl<C: ClientState, S: FileSystem, P: ProcessReadDir<C, A>, A: Allocator + Copy
         requires lawful { P.IsLawful (callback (job_of self.old)) }
         requires has_directory { has_directory (Ok (entry found)) ≡ true }
         ensures job { job_of self.new ≡ job_of self.old }
+        ensures min_depth { min_depth_of self.new ≡ min_depth_of self.old }
         ensures refused { self.new.refused ≡ self.old.refused }
         ensures passed { IfOk result (λ e. PassesOne (greatest_depth (job_of self.old)) (ClonesAreEqual C.ReadDirState.is_clone) (IsSteady (S.IsFixed (file_system (job_of self.old))) (P.IsFixed (callback (job_of self.old))) C.ReadDirState.is_clone C.DirEntryState.is_default) (λ d. value.reading (job (S.functions (file_system (job_of self.old))) (P.processed (callback (job_of self.old))) d (job_of self.old))) (pair_up (Ok (entry found) ∷ items_of self.old) (unread_of self.old)) (Ok (entry e)) (pair_up (items_of self.new) (unread_of self.new))) }
         ensures memory { IfErr result (λ error. failure error ≡ memory) }
@@ -161,6 +174,7 @@ impl<C: ClientState, S: FileSystem, P: ProcessReadDir<C, A>, A: Allocator + Copy
     fn pass(&mut self) -> Option<Result<DirEntry<C, A>, Error<A>>>
         requires { P.IsLawful (callback (job_of self.old)) }
         ensures job { job_of self.new ≡ job_of self.old }
+        ensures min_depth { min_depth_of self.new ≡ min_depth_of self.old }
         ensures refused { self.new.refused ≡ self.old.refused }
         ensures end { IfNone result ((items_of self.old ≡ []) × (items_of self.new ≡ [])) }
         ensures passed { IfSome result (λ answer. PassesOrStops (greatest_depth (job_of self.old)) (ClonesAreEqual C.ReadDirState.is_clone) (IsSteady (S.IsFixed (file_system (job_of self.old))) (P.IsFixed (callback (job_of self.old))) C.ReadDirState.is_clone C.DirEntryState.is_default) (λ d. value.reading (job (S.functions (file_system (job_of self.old))) (P.processed (callback (job_of self.old))) d (job_of self.old))) self.old (item answer) self.new) }
@@ -174,6 +188,49 @@ impl<C: ClientState, S: FileSystem, P: ProcessReadDir<C, A>, A: Allocator + Copy
                 Some(self.enter(found))
             }
         }
+    }
+
+    /// Whether an item is answered: an entry from the least depth on, and every error.
+    fn keeps(&self, passed: &Result<DirEntry<C, A>, Error<A>>) -> bool
+        ensures { result ≡ is_answered (min_depth_of self.now) (item passed.now) }
+    {
+        match passed {
+            Ok(entry) => entry.depth >= self.min_depth,
+            Err(_) => true,
+        }
+    }
+
+    /// The next item, passed on: `None` in its place where the least depth leaves it out.
+    fn pass_kept(&mut self) -> Option<Option<Result<DirEntry<C, A>, Error<A>>>>
+        requires { P.IsLawful (callback (job_of self.old)) }
+        ensures job { job_of self.new ≡ job_of self.old }
+        ensures min_depth { min_depth_of self.new ≡ min_depth_of self.old }
+        ensures refused { self.new.refused ≡ self.old.refused }
+        ensures end { IfNone result ((items_of self.old ≡ []) × (items_of self.new ≡ [])) }
+        ensures kept { IfSome result (λ passed. IfSome passed (λ answer. is_answered (min_depth_of self.old) (item answer) ≡ true)) }
+        ensures answered { IfSome result (λ passed. IfSome passed (λ answer. PassesOrStops (greatest_depth (job_of self.old)) (ClonesAreEqual C.ReadDirState.is_clone) (IsSteady (S.IsFixed (file_system (job_of self.old))) (P.IsFixed (callback (job_of self.old))) C.ReadDirState.is_clone C.DirEntryState.is_default) (λ d. value.reading (job (S.functions (file_system (job_of self.old))) (P.processed (callback (job_of self.old))) d (job_of self.old))) self.old (item answer) self.new)) }
+        ensures left_out { IfSome result (λ passed. IfNone passed (LeavesOne (greatest_depth (job_of self.old)) (min_depth_of self.old) (ClonesAreEqual C.ReadDirState.is_clone) (IsSteady (S.IsFixed (file_system (job_of self.old))) (P.IsFixed (callback (job_of self.old))) C.ReadDirState.is_clone C.DirEntryState.is_default) (λ d. value.reading (job (S.functions (file_system (job_of self.old))) (P.processed (callback (job_of self.old))) d (job_of self.old))) (pair_up (items_of self.old) (unread_of self.old)) (pair_up (items_of self.new) (unread_of self.new)))) }
+    {
+        let passed = self.pass()?;
+        if self.keeps(&passed) {
+            return Some(Some(passed));
+        }
+        Some(None)
+    }
+
+    /// The next item that is answered.
+    fn next_kept(&mut self) -> Option<Result<DirEntry<C, A>, Error<A>>>
+        requires lawful { P.IsLawful (callback (job_of self.old)) }
+        requires begun { self.old.refused ≡ false }
+        ensures answers { Answers (ClonesAreEqual C.ReadDirState.is_clone) (IsSteady (S.IsFixed (file_system (job_of self.old))) (P.IsFixed (callback (job_of self.old))) C.ReadDirState.is_clone C.DirEntryState.is_default) (λ d. value.reading (job (S.functions (file_system (job_of self.old))) (P.processed (callback (job_of self.old))) d (job_of self.old))) self.old result self.new }
+        ensures lighter { IfSome result (λ _. weight (greatest_depth (job_of self.old)) (held self.new) < weight (greatest_depth (job_of self.old)) (held self.old)) }
+    {
+        while let Some(passed) = self.pass_kept() {
+            if let Some(answer) = passed {
+                return Some(answer);
+            }
+        }
+        None
     }
 }
 
@@ -199,6 +256,6 @@ impl<C: ClientState, S: FileSystem, P: ProcessReadDir<C, A>, A: Allocator + Copy
             self.refused = false;
             return Some(Err(Error::memory()));
         }
-        self.pass()
+        self.next_kept()
     }
 }

@@ -19,6 +19,7 @@ use crate::process_read_dir::ProcessReadDir;
 use crate::read_children::ReadChildren;
 use crate::read_dir::ReadDir;
 use crate::read_dir_spec::ReadDirSpec;
+use crate::sorting::in_order;
 use std::alloc::{AllocError, Allocator, Global};
 use std::io;
 use std::marker::PhantomData;
@@ -40,6 +41,7 @@ pub struct Job<
 > {
     fs: S,
     process: P,
+    sort: bool,
     skip_hidden: bool,
     max_depth: usize,
     alloc: A,
@@ -84,17 +86,26 @@ struct RootItem<C: ClientState, A: Allocator + Copy> {
 }
 
 impl<C: ClientState, S: FileSystem, P: ProcessReadDir<C, A>, A: Allocator + Copy> Job<C, S, P, A> {
-    /// A job over a file system and a callback. It leaves out hidden names where `skip_hidden` says so, and reads no
-    /// directory whose depth is `max_depth` or more.
-    pub fn new(alloc: A, fs: S, process: P, skip_hidden: bool, max_depth: usize) -> Self
+    /// A job over a file system and a callback. It puts each list in order by name where `sort` says so, leaves out
+    /// hidden names where `skip_hidden` does, and reads no directory whose depth is `max_depth` or more.
+    pub fn new(
+        alloc: A,
+        fs: S,
+        process: P,
+        sort: bool,
+        skip_hidden: bool,
+        max_depth: usize,
+    ) -> Self
         ensures file_system { file_system result ≡ fs }
         ensures callback { callback result ≡ process }
+        ensures sort { result.sort ≡ sort }
         ensures skip_hidden { result.skip_hidden ≡ skip_hidden }
         ensures max_depth { greatest_depth result ≡ max_depth }
     {
         Job {
             fs,
             process,
+            sort,
             skip_hidden,
             max_depth,
             alloc,
@@ -226,6 +237,20 @@ impl<C: ClientState, S: FileSystem, P: ProcessReadDir<C, A>, A: Allocator + Copy
         Ok(items)
     }
 
+    /// The items of a listing in the order that is asked for.
+    fn ordered(
+        &self,
+        of: &ReadDirSpec<C, A>,
+        listing: Vec<io::Result<Listed<A>>, A>,
+    ) -> Result<Vec<Result<DirEntry<C, A>, Error<A>>, A>, AllocError>
+        requires { of.now.depth + 1 < 2 ^ 64 }
+        ensures depth { IfOk result (λ v. AtDepth (of.now.depth + 1) (map item v.items)) }
+        ensures value { (d : C.DirEntryState) → DefaultIs C.DirEntryState.is_default d → IfOk result (λ v. map item v.items ≡ value.ordered (job (S.functions (file_system self.now)) (P.processed (callback self.now)) d self.now) (spec of.now) (map listed listing.items)) }
+    {
+        let items = self.raw(of, listing)?;
+        Ok(in_order(self.sort, items)?)
+    }
+
     /// The list of a directory that could be listed, after the callback.
     fn processed(
         &self,
@@ -237,7 +262,7 @@ impl<C: ClientState, S: FileSystem, P: ProcessReadDir<C, A>, A: Allocator + Copy
         ensures depth { IfOk result (λ r. AtDepth (of.now.depth + 1) (map item r.results_list.items)) }
         ensures value { (d : C.DirEntryState) → IsSteady (S.IsFixed (file_system self.now)) (P.IsFixed (callback self.now)) C.ReadDirState.is_clone C.DirEntryState.is_default d → IfOk result (λ r. P.processed (callback self.now) (Some of.now.depth) (text of.now.path) of.now.client_read_state (value.ordered (job (S.functions (file_system self.now)) (P.processed (callback self.now)) d self.now) (spec of.now) (map listed listing.items)) ≡ reading r) }
     {
-        let mut items = self.raw(of, listing)?;
+        let mut items = self.ordered(of, listing)?;
         let mut state = of.client_read_state.clone()?;
         self.process
             .process(Some(of.depth), of.path.as_str(), &mut state, &mut items)?;

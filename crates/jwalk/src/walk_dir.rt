@@ -80,9 +80,9 @@ impl<C: ClientState, S: FileSystem, P: ProcessReadDir<C, A>, A: Allocator + Copy
             of: _,
         } = self;
         let alloc = *root.allocator();
-        let job = Job::new(alloc, fs, process, true, usize::MAX);
+        let job = Job::new(alloc, fs, process, false, true, usize::MAX);
         let read = job.root_list(root.as_str(), C::ReadDirState::default());
-        DirEntryIter::from_root(alloc, job, read.ok())
+        DirEntryIter::from_root(alloc, job, 0, read.ok())
     }
 }
 

@@ -1,3 +1,4 @@
+pub mod DepthFacts
 pub mod HeldFacts
 pub mod PathEnds
 pub mod PathFacts

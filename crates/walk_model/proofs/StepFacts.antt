@@ -1,11 +1,11 @@
 -- One pair of what is held is passed.
-use Rattle.std.proofs.Common.{◌≡◌, ◌≢◌, ℕ, ◌<◌, ◌^◌, true, false, List, [], ◌∷◌, ◌++◌, length, Option, Some, Ok, Err, refl, ap, arith}
+use Rattle.std.proofs.Common.{◌≡◌, ◌≢◌, ℕ, ◌<◌, ◌≤◌, ◌^◌, true, false, List, [], ◌∷◌, ◌++◌, length, Option, Some, Ok, Err, refl, sym, ap, ◌∙◌, subst, arith}
 use Rattle.std.proofs.lemmas.Bool.Decides.{nat_tests}
 use Rattle.std.specs.Prelude.{MatchBool}
 use Rattle.walk_model.specs.Entry.{Entry, Item, has_directory}
 use Rattle.walk_model.specs.ReadDir.{Spec, Outcome, list_of, ReadsFirst, IsReadingOfFirst}
 use Rattle.walk_model.specs.Listing.{Pair, after_reading, is_answered, answers}
-use Rattle.walk_model.specs.Held.{pair_up, weight, Passes, PassesPlainly, AnswersPlainly, IsAtDirectory, PassesOne, is_plain}
+use Rattle.walk_model.specs.Held.{pair_up, to_come, weight, Passes, PassesTo, left_out, PassesPlainly, AnswersPlainly, IsAtDirectory, PassesOne, is_plain}
 use Rattle.walk_model.proofs.HeldFacts.{pair_up-outcome, listed, lighter, alone, unread_none, heavy_source_of}
 use Rattle.walk_model.proofs.PreorderFacts.{first_is_read}
 
@@ -50,30 +50,54 @@ module _ {R E : Type 0} where
   at_directory x xs [] h some = absurd (some refl)
   at_directory x xs (s ∷ ss) h some = rw h refl
 
-  -- every item is answered from depth 0 on
-  pub always_answered : (x : Item R E) → is_answered 0 x ≡ true
-  always_answered (Ok e) = grind (arith, nat_tests)
-  always_answered (Err f) = refl
-
-  pub answers-zero : (x : Item R E) (l : List (Item R E)) → answers 0 (x ∷ l) ≡ x ∷ answers 0 l
-  answers-zero x l = rw always_answered refl
-
-  -- one pair that is passed is one answer from depth 0 on
-  pub plainly_one : (old : List (Pair R E)) (answer : Item R E) (new : List (Pair R E)) → PassesPlainly old answer new → AnswersPlainly 0 old (Some answer) new
-  plainly_one [] answer new h = absurd h
-  plainly_one (p ∷ rest) answer new h =
-      rw always_answered
-      (elim (is_plain p.source) as (λ b. MatchBool b ((answer ≡ p.item) × (new ≡ rest)) (Unit {0}) → MatchBool b ((Some answer ≡ Some p.item) × (new ≡ rest)) (Unit {0})) [
-        | true ↦ λ k. (ap Some k.0, k.1)
+  -- one pair that is passed is one answer, where the least depth keeps it
+  pub plainly_one : (min_depth : ℕ) (old : List (Pair R E)) (answer : Item R E) (new : List (Pair R E)) → is_answered min_depth answer ≡ true → PassesPlainly old answer new → AnswersPlainly min_depth old (Some answer) new
+  plainly_one min_depth [] answer new kept h = absurd h
+  plainly_one min_depth (p ∷ rest) answer new kept h =
+      elim (is_plain p.source) as (λ b. MatchBool b ((answer ≡ p.item) × (new ≡ rest)) (Unit {0}) → MatchBool b (MatchBool (is_answered min_depth p.item) ((Some answer ≡ Some p.item) × (new ≡ rest)) (AnswersPlainly min_depth rest (Some answer) new)) (Unit {0})) [
+        | true ↦ λ k. rw (ap (is_answered min_depth) (sym k.0) ∙ kept) (ap Some k.0, k.1)
         | false ↦ λ k. tt
-      ] h)
+      ] h
 
   -- at a directory nothing is said of the answer but what its reading tells
-  pub plainly_any : (old : List (Pair R E)) (answer : Option (Item R E)) (new : List (Pair R E)) → IsAtDirectory old → AnswersPlainly 0 old answer new
-  plainly_any [] answer new h = absurd h
-  plainly_any (p ∷ rest) answer new h = rw h tt
+  pub plainly_any : (min_depth : ℕ) (old : List (Pair R E)) (answer : Option (Item R E)) (new : List (Pair R E)) → IsAtDirectory old → AnswersPlainly min_depth old answer new
+  plainly_any min_depth [] answer new h = absurd h
+  plainly_any min_depth (p ∷ rest) answer new h = rw h tt
 
   -- what is held at a directory isn't nothing
   pub heavy_held : (max_depth : ℕ) (held : List (Pair R E)) → IsAtDirectory held → 0 < weight max_depth held
   heavy_held max_depth [] h = absurd h
   heavy_held max_depth (p ∷ rest) h = omega (arith, heavy_source_of max_depth p.source)
+
+-- what was passed over is left out: what holds of the rest from a least depth on holds of the whole
+pub record LeavesOut {R E : Type 0} (max_depth min_depth : ℕ) (clones : Type 0) (is_steady : E → Type 0) (reading_by : E → Spec R → Outcome R E) (old left : List (Pair R E)) : Type 0 where
+  pub plain : (answer : Option (Item R E)) (new : List (Pair R E)) → AnswersPlainly min_depth left answer new → AnswersPlainly min_depth old answer new
+  pub passes : clones → (answer : Option (Item R E)) (new : List (Pair R E)) → PassesTo max_depth min_depth left answer new → PassesTo max_depth min_depth old answer new
+  pub coming : (d : E) → is_steady d → to_come (reading_by d) min_depth max_depth old ≡ to_come (reading_by d) min_depth max_depth left
+  pub lighter : weight max_depth left ≤ weight max_depth old
+
+module _ {R E : Type 0} (max_depth min_depth : ℕ) (clones : Type 0) (is_steady : E → Type 0) (reading_by : E → Spec R → Outcome R E) where
+  pub none_left_out : (held : List (Pair R E)) → LeavesOut max_depth min_depth clones is_steady reading_by held held
+  none_left_out held = record {
+      plain = λ answer new h. h;
+      passes = λ equal answer new h. h;
+      coming = λ d steady. refl;
+      lighter = omega arith;
+    }
+
+  plain_left_out : (old : List (Pair R E)) (passed : Item R E) (left : List (Pair R E)) → PassesPlainly old passed left → is_answered min_depth passed ≡ false → (answer : Option (Item R E)) (new : List (Pair R E)) → AnswersPlainly min_depth left answer new → AnswersPlainly min_depth old answer new
+  plain_left_out [] passed left h out answer new k = absurd h
+  plain_left_out (p ∷ rest) passed left h out answer new k =
+      elim (is_plain p.source) as (λ b. MatchBool b ((passed ≡ p.item) × (left ≡ rest)) (Unit {0}) → MatchBool b (MatchBool (is_answered min_depth p.item) ((answer ≡ Some p.item) × (new ≡ rest)) (AnswersPlainly min_depth rest answer new)) (Unit {0})) [
+        | true ↦ λ same. rw (ap (is_answered min_depth) (sym same.0) ∙ out) (subst (λ l. AnswersPlainly min_depth l answer new) same.1 k)
+        | false ↦ λ any. tt
+      ] h
+
+  -- one more item that the least depth leaves out
+  pub one_left_out : (old between : List (Pair R E)) (passed : Item R E) (left : List (Pair R E)) → LeavesOut max_depth min_depth clones is_steady reading_by old between → PassesOne max_depth clones is_steady reading_by between passed left → is_answered min_depth passed ≡ false → LeavesOut max_depth min_depth clones is_steady reading_by old left
+  one_left_out old between passed left before one out = record {
+      plain = λ answer new h. before.plain answer new (plain_left_out between passed left one.plain out answer new h);
+      passes = λ equal answer new h. before.passes equal answer new (left_out passed left (one.passes equal) out h);
+      coming = λ d steady. before.coming d steady ∙ ap (answers min_depth) (one.listed d steady) ∙ rw out refl;
+      lighter = omega (arith, one.lighter, before.lighter);
+    }

@@ -89,3 +89,9 @@ pub record PassesOne {R E : Type 0} (max_depth : ℕ) (clones_are_equal : Type 0
   pub passes : clones_are_equal → Passes max_depth old answer new
   pub listed : (d : E) → is_steady d → listing (reading_by d) max_depth old ≡ answer ∷ listing (reading_by d) max_depth new
   pub lighter : weight max_depth new < weight max_depth old
+
+-- one pair is passed whose item the least depth leaves out
+pub record LeavesOne {R E : Type 0} (max_depth min_depth : ℕ) (clones_are_equal : Type 0) (is_steady : E → Type 0) (reading_by : E → Spec R → Outcome R E) (old new : List (Pair R E)) : Type 0 where
+  pub passed : Item R E
+  pub left_out : is_answered min_depth passed ≡ false
+  pub one : PassesOne max_depth clones_are_equal is_steady reading_by old passed new
