@@ -1,5 +1,5 @@
 -- Trees built from lines.
-use Rattle.std.specs.Prelude.{◌≡◌, ◌≢◌, ℕ, List, [], ◌∷◌, ◌⊎◌, None, Result, IsErr, IsUtf8}
+use Rattle.std.specs.Prelude.{◌≡◌, ℕ, List, [], ◌∷◌, ◌⊎◌, None, Result, IsErr, IsUtf8}
 use Rattle.walk_model.specs.Tree.{Tree, Refusal, directory, file, add, only_root}
 use Rattle.memory_fs.specs.MemoryFs.{IsSameTree, IsBuilt}
 use Rattle.walk.specs.declared.tree_line.TreeLine.{TreeLine}
