@@ -37,6 +37,7 @@ module _ {C S P A R E : Type 0} (clones : Type 0) (is_steady : E → Type 0) (re
       let rest = held_rest new started ∙ ap (λ l. pair_up l (unread_of new)) items ∙ ap (pair_up (items_of old)) unread in
       record {
         job = job;
+        min_depth = refl;
         plain = rw (front, rest, told) (refl, refl);
         passes = λ equal. inr (kept (rw (front, rest, told) (refl, refl)) (always_answered {R = R} {E = E} (Err (failure error))));
         coming = λ d steady. inr (coming_next (reading_by d) old new (Err (failure error)) job (rw (front, rest, told) (alone (reading_by d) (greatest_depth (job_of old)) (Err memory) (items_of old) (unread_of old) refl)));
@@ -52,12 +53,14 @@ module _ {C S P A R E : Type 0} (clones : Type 0) (is_steady : E → Type 0) (re
             let refuses : Refuses (item x) new = record { tells = stopped.0; nothing_held = held_nothing new started stopped.1; nothing_unread = stopped.2 } in
             record {
               job = job;
+              min_depth = refl;
               plain = rw before (plainly_any (pair_up (items_of old) (unread_of old)) (Some (item x)) (held new) stopped.3);
               passes = λ equal. inl refuses;
               coming = λ d steady. inl refuses;
             }
         | inr one ↦ record {
           job = job;
+          min_depth = refl;
           plain = rw (before, after) (plainly_one (pair_up (items_of old) (unread_of old)) (item x) (pair_up (items_of new) (unread_of new)) one.plain);
           passes = λ equal. inr (kept (rw (before, after) (one.passes equal)) (always_answered (item x)));
           coming = λ d steady. inr (coming_next (reading_by d) old new (item x) job (rw (before, after) (one.listed d steady)));
@@ -71,6 +74,7 @@ module _ {C S P A R E : Type 0} (clones : Type 0) (is_steady : E → Type 0) (re
       let after = held_nothing new started left in
       record {
         job = job;
+        min_depth = refl;
         plain = rw before (refl, after);
         passes = λ equal. inr (rw (before, after) ended);
         coming = λ d steady. ap (λ l. answers 0 (listing (reading_by d) (greatest_depth (job_of old)) l)) before;

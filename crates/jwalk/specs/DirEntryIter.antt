@@ -73,6 +73,7 @@ module _ {C S P A R E : Type 0} where
   -- One call of a walk's `next`. What is promised of a fixed file system holds with d as the default state of an entry.
   pub record Answers (clones_are_equal : Type 0) (is_steady : E → Type 0) (reading_by : E → Spec R → Outcome R E) (old : DirEntryIter C S P A R E) (answer : Option (Result (DirEntry C A R E) (Error A))) (new : DirEntryIter C S P A R E) : Type 0 where
     pub job : job_of new ≡ job_of old
+    pub min_depth : min_depth_of new ≡ min_depth_of old
     pub plain : AnswersPlainly (min_depth_of old) (held old) (option_map item answer) (held new)
     pub passes : clones_are_equal → PassesItems old (option_map item answer) new
     pub coming : (d : E) → is_steady d → AnswersFirst (reading_by d) old (option_map item answer) new

@@ -3,9 +3,10 @@ use Rattle.std.specs.Prelude.{◌≡◌, ◌⊎◌, ℕ, List, string_bytes}
 use Rattle.walk_model.specs.FileSystem.{Functions}
 use Rattle.walk_model.specs.Options.{Options, defaults}
 use Rattle.walk_model.specs.Listing.{paired}
-use Rattle.walk_model.specs.Job as value
-use Rattle.jwalk.specs.Job.{Processing, job}
-use Rattle.jwalk.specs.DirEntryIter.{job_of, held, IsRefused}
+use Rattle.walk_model.specs.ReadDir.{Spec}
+use Rattle.walk_model.specs.Job.{Job, reading, root_list}
+use Rattle.jwalk.specs.Job.{Processing, job, greatest_depth}
+use Rattle.jwalk.specs.DirEntryIter.{job_of, min_depth_of, held, IsRefused}
 use Rattle.jwalk.specs.declared.walk_dir.WalkDirGeneric.{WalkDirGeneric}
 use Rattle.jwalk.specs.declared.dir_entry_iter.DirEntryIter.{DirEntryIter}
 
@@ -29,10 +30,12 @@ module _ {C S P A R E : Type 0} where
   options_of walk = defaults
 
   -- what its readings are made of
-  abbrev pub job_for : Functions → Processing R E → E → WalkDirGeneric C S P A R E → value.Job R E
+  abbrev pub job_for : Functions → Processing R E → E → WalkDirGeneric C S P A R E → Job R E
   job_for functions processed d walk = record { fs = functions; options = options_of walk; processed = processed; default = d }
 
-  -- the iterator reads what the builder describes, and holds the root's list; or its start was refused
+  -- The iterator reads what the builder describes, from the least to the greatest depth, and holds the root's list; or its start was refused.
   pub record Begins (functions : Functions) (processed : Processing R E) (d : E) (s : R) (walk : WalkDirGeneric C S P A R E) (it : DirEntryIter C S P A R E) : Type 0 where
-    pub reads : job functions processed d (job_of it) ≡ job_for functions processed d walk
-    pub holds : IsRefused it ⊎ (held it ≡ paired (value.root_list (job_for functions processed d walk) (root_of walk) s))
+    pub reads : (spec : Spec R) → reading (job functions processed d (job_of it)) spec ≡ reading (job_for functions processed d walk) spec
+    pub min_depth : min_depth_of it ≡ (options_of walk).min_depth
+    pub max_depth : greatest_depth (job_of it) ≡ (options_of walk).max_depth
+    pub holds : IsRefused it ⊎ (held it ≡ paired (root_list (job_for functions processed d walk) (root_of walk) s))

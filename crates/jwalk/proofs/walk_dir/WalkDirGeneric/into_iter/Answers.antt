@@ -1,7 +1,7 @@
-use Rattle.std.proofs.Common.{◌≡◌, ◌∙◌, sym, ap}
+use Rattle.std.proofs.Common.{◌≡◌, ◌∙◌, refl, sym, ap}
 use Rattle.walk_model.specs.Job as value
 use Rattle.jwalk.specs.ReadDir.{reading}
-use Rattle.jwalk.specs.Job.{job, file_system, callback}
+use Rattle.jwalk.specs.Job.{job, file_system, callback, greatest_depth}
 use Rattle.jwalk.specs.DirEntryIter.{held, IsRefused}
 use Rattle.jwalk.specs.WalkDir.{job_for, file_system_of, callback_of, root_of}
 use Rattle.jwalk.proofs.BeginFacts.{same_job, begun, if_ok_at}
@@ -24,7 +24,9 @@ returns-clause-begins g c = λ d s default steady.
     ∙ ap (λ p. value.root_list (job_for (functions (file_system_of walk)) (processed (callback_of walk)) d walk) p c.default.result) c.as_str.ensures.value
     ∙ ap (value.root_list (job_for (functions (file_system_of walk)) (processed (callback_of walk)) d walk) (root_of walk)) (default c.default.result c.default.ensures) in
     record {
-      reads = ap (job (functions (file_system_of walk)) (processed (callback_of walk)) d) c.from_root.ensures.job
-          ∙ same_job (functions (file_system_of walk)) (processed (callback_of walk)) d j walk jobs.skip_hidden jobs.max_depth;
+      reads = λ spec. ap (λ k. value.reading k spec) (ap (job (functions (file_system_of walk)) (processed (callback_of walk)) d) c.from_root.ensures.job
+          ∙ same_job (functions (file_system_of walk)) (processed (callback_of walk)) d j walk jobs.skip_hidden jobs.max_depth);
+      min_depth = refl;
+      max_depth = ap greatest_depth c.from_root.ensures.job ∙ jobs.max_depth;
       holds = begun reading (value.root_list (job_for (functions (file_system_of walk)) (processed (callback_of walk)) d walk) (root_of walk) s) (IsRefused c.from_root.result) (held c.from_root.result) c.root_list-read.result c.ok.result c.ok.ensures.value (c.from_root.ensures.held steady.clones) c.from_root.ensures.none (if_ok_at c.root_list-read.result reading (value.root_list (job (functions (file_system j)) (processed (callback j)) d j) c.as_str.result.now c.default.result) (value.root_list (job_for (functions (file_system_of walk)) (processed (callback_of walk)) d walk) (root_of walk) s) (sym rooted) listed);
     }
