@@ -6,4 +6,5 @@ pub mod States
 pub mod Job
 pub mod ReadDirIter
 pub mod DirEntryIter
+pub mod Depths
 pub mod WalkDir

@@ -3,10 +3,11 @@ use Rattle.std.specs.Prelude.{◌≡◌, ◌⊎◌, ℕ, false, List, string_byt
 use Rattle.walk_model.specs.FileSystem.{Functions}
 use Rattle.walk_model.specs.Options as value
 use Rattle.walk_model.specs.Options.{Options}
-use Rattle.walk_model.specs.ReadDir.{Reading}
+use Rattle.walk_model.specs.ReadDir.{Spec}
 use Rattle.walk_model.specs.Listing.{paired}
-use Rattle.walk_model.specs.Job.{Job, root_list}
-use Rattle.jwalk.specs.Job.{Processing, job}
+use Rattle.walk_model.specs.Job.{Job, reading, root_list}
+use Rattle.jwalk.specs.Depths.{least_of, greatest_of}
+use Rattle.jwalk.specs.Job.{Processing, job, greatest_depth}
 use Rattle.jwalk.specs.DirEntryIter.{job_of, min_depth_of, held, IsRefused}
 use Rattle.jwalk.specs.declared.parallelism.Parallelism.{Parallelism}
 use Rattle.jwalk.specs.declared.parallelism.Parallelism.TheVariants.{Serial}
@@ -18,8 +19,8 @@ abbrev pub unprocessed : {R E : Type 0} → Processing R E
 unprocessed depth path state list = record { state = state; list = list }
 
 -- how directories are read, as a value
-abbrev pub parallelism : Parallelism → value.Parallelism
-parallelism Serial = value.serial
+abbrev pub parallelism_value : Parallelism → value.Parallelism
+parallelism_value Serial = value.serial
 
 module _ {C S P A R E : Type 0} where
   abbrev pub file_system_of : WalkDirGeneric C S P A R E → S
@@ -38,14 +39,14 @@ module _ {C S P A R E : Type 0} where
     sort = walk.sort;
     skip_hidden = walk.skip_hidden;
     follow_links = false;
-    min_depth = walk.min_depth;
-    max_depth = walk.max_depth;
+    min_depth = least_of walk.depths;
+    max_depth = greatest_of walk.depths;
     parallelism = value.serial;
   }
 
   -- One call of the builder: it changes the options alone.
-  pub record Sets (options : Options) (old new : WalkDirGeneric C S P A R E) : Type 0 where
-    pub options : options_of new ≡ options
+  pub record Sets (set : Options) (old new : WalkDirGeneric C S P A R E) : Type 0 where
+    pub options : options_of new ≡ set
     pub file_system : file_system_of new ≡ file_system_of old
     pub callback : callback_of new ≡ callback_of old
     pub root : root_of new ≡ root_of old
@@ -54,6 +55,9 @@ module _ {C S P A R E : Type 0} where
   abbrev pub job_for : Functions → Processing R E → E → WalkDirGeneric C S P A R E → Job R E
   job_for functions processed d walk = record { fs = functions; options = options_of walk; processed = processed; default = d }
 
-  -- what its readings give, by the options that a reading goes by
-  abbrev pub root_pairs : Functions → Processing R E → E → R → WalkDirGeneric C S P A R E → Reading R E
-  root_pairs functions processed d s walk = root_list (job_for functions processed d walk) (root_of walk) s
+  -- The iterator reads what the builder describes, from the least to the greatest depth, and holds the root's list; or its start was refused.
+  pub record Begins (functions : Functions) (processed : Processing R E) (d : E) (s : R) (walk : WalkDirGeneric C S P A R E) (it : DirEntryIter C S P A R E) : Type 0 where
+    pub reads : (spec : Spec R) → reading (job functions processed d (job_of it)) spec ≡ reading (job_for functions processed d walk) spec
+    pub min_depth : min_depth_of it ≡ (options_of walk).min_depth
+    pub max_depth : greatest_depth (job_of it) ≡ (options_of walk).max_depth
+    pub holds : IsRefused it ⊎ (held it ≡ paired (root_list (job_for functions processed d walk) (root_of walk) s))

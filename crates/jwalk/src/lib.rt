@@ -14,6 +14,7 @@
 #![tactic(auto)]
 
 mod client_state;
+mod depths;
 pub mod dir_entry;
 pub mod dir_entry_iter;
 pub mod error;

@@ -5,19 +5,20 @@ ghost use Rattle.jwalk.specs.Job.{file_system, callback, IsSteady};
 ghost use Rattle.jwalk.specs.DirEntryIter.{job_of};
 
 use crate::client_state::ClientState;
+use crate::depths::Depths;
 use crate::dir_entry::DirEntry;
 use crate::dir_entry_iter::DirEntryIter;
 use crate::error::Error;
 use crate::job::Job;
+use crate::parallelism::Parallelism;
 use crate::process_read_dir::{NoProcess, ProcessReadDir};
 use std::alloc::{Allocator, Global};
 use std::marker::PhantomData;
 use walk_fs::file_system::FileSystem;
 
-/// A walk that is yet to begin: a root in a file system, and what is done on the way.
+/// A walk that is yet to begin: a root in a file system, and options.
 ///
-/// Hidden names, which start with a dot, are left out; links are not followed; a directory's entries come in the file
-/// system's order.
+/// Links are not followed.
 #[derive(Drop)]
 pub struct WalkDirGeneric<
     C: ClientState,
@@ -28,40 +29,90 @@ pub struct WalkDirGeneric<
     fs: S,
     root: String<A>,
     process: P,
+    sort: bool,
+    skip_hidden: bool,
+    depths: Depths,
     of: PhantomData<C>,
 }
 
 impl<C: ClientState, S: FileSystem, A: Allocator + Copy> WalkDirGeneric<C, S, NoProcess, A> {
-    ghost use Rattle.jwalk.specs.WalkDir.{file_system_of, root_of};
+    ghost use Rattle.walk_model.specs.Options.{defaults};
+    ghost use Rattle.jwalk.specs.WalkDir.{file_system_of, root_of, options_of};
 
     /// A walk over a file system from a root, whose text is kept as it stands. All that the walk needs comes from the
     /// root's allocator.
     pub fn new(fs: S, root: String<A>) -> Self
         ensures file_system { file_system_of result ≡ fs }
         ensures root { root_of result ≡ string_bytes root }
+        ensures options { options_of result ≡ defaults }
     {
         WalkDirGeneric {
             fs,
             root,
             process: NoProcess,
+            sort: false,
+            skip_hidden: true,
+            depths: Depths::all(),
             of: PhantomData,
         }
     }
 }
 
-impl<C: ClientState, S: FileSystem, P: ProcessReadDir<C, A>, A: Allocator + Copy> WalkDirGeneric<
-    C,
-    S,
-    P,
-    A,
-> {
-    ghost use Rattle.jwalk.specs.WalkDir.{file_system_of, callback_of, root_of, Begins};
+impl<C: ClientState, S: FileSystem, P: ProcessReadDir<C, A>, A: Allocator + Copy>
+    WalkDirGeneric<C, S, P, A>
+{
+    ghost use Rattle.walk_model.specs.Options.{with_sort, with_skip_hidden, with_min_depth, with_max_depth, with_parallelism};
+    ghost use Rattle.jwalk.specs.WalkDir.{parallelism_value, file_system_of, callback_of, root_of, options_of, Sets, Begins};
 
     /// The root's path as it was given.
     pub fn root(&self) -> &str
         ensures { result.now ≡ root_of self.now }
     {
         self.root.as_str()
+    }
+
+    /// Whether the entries of a directory come by the bytes of their names, with its errors last. Off by default: they
+    /// come in the file system's order then.
+    pub fn sort(mut self, sort: bool) -> Self
+        ensures { Sets (with_sort sort (options_of self)) self result }
+    {
+        self.sort = sort;
+        self
+    }
+
+    /// Whether names that start with a dot are left out. On by default. The root is never left out.
+    pub fn skip_hidden(mut self, skip_hidden: bool) -> Self
+        ensures { Sets (with_skip_hidden skip_hidden (options_of self)) self result }
+    {
+        self.skip_hidden = skip_hidden;
+        self
+    }
+
+    /// The least depth of the entries that are answered, 0 by default; it is lowered to the greatest depth where it is
+    /// above that. Directories above it are read all the same, and errors are answered whatever their depth.
+    pub fn min_depth(mut self, depth: usize) -> Self
+        ensures { Sets (with_min_depth depth (options_of self)) self result }
+    {
+        self.depths = self.depths.with_least(depth);
+        self
+    }
+
+    /// The greatest depth of the entries that are answered, the greatest `usize` by default; it is raised to the least
+    /// depth where it is below that. A directory at this depth is answered and not read. Below 2 it makes the walk
+    /// serial; a later `parallelism` overrides that.
+    pub fn max_depth(mut self, depth: usize) -> Self
+        ensures { Sets (with_max_depth depth (options_of self)) self result }
+    {
+        self.depths = self.depths.with_greatest(depth);
+        self
+    }
+
+    /// How directories are read.
+    pub fn parallelism(self, parallelism: Parallelism) -> Self
+        ensures { Sets (with_parallelism (parallelism_value parallelism) (options_of self)) self result }
+    {
+        let Parallelism::Serial = parallelism;
+        self
     }
 
     /// The walk begun: its root's list is made, and no directory is read yet.
@@ -73,16 +124,19 @@ impl<C: ClientState, S: FileSystem, P: ProcessReadDir<C, A>, A: Allocator + Copy
         ensures callback { callback (job_of result) ≡ callback_of self }
         ensures begins { (d : C.DirEntryState) → (s : C.ReadDirState) → DefaultIs C.ReadDirState.is_default s → IsSteady (S.IsFixed (file_system_of self)) (P.IsFixed (callback_of self)) C.ReadDirState.is_clone C.DirEntryState.is_default d → Begins (S.functions (file_system_of self)) (P.processed (callback_of self)) d s self result }
     {
+        let alloc = *self.root.allocator();
         let WalkDirGeneric {
             fs,
             root,
             process,
+            sort,
+            skip_hidden,
+            depths,
             of: _,
         } = self;
-        let alloc = *root.allocator();
-        let job = Job::new(alloc, fs, process, false, true, usize::MAX);
+        let job = Job::new(alloc, fs, process, sort, skip_hidden, depths.greatest());
         let read = job.root_list(root.as_str(), C::ReadDirState::default());
-        DirEntryIter::from_root(alloc, job, 0, read.ok())
+        DirEntryIter::from_root(alloc, job, depths.least(), read.ok())
     }
 }
 

@@ -2,3 +2,4 @@ pub mod Lists
 pub mod Texts
 pub mod TextLineFacts
 pub mod LineFacts
+pub mod BuiltFacts

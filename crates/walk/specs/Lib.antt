@@ -6,3 +6,4 @@ pub mod Failure
 pub mod TextLines
 pub mod NumberedLines
 pub mod Answers
+pub mod Built

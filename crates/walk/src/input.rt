@@ -1,4 +1,9 @@
 //! The tree that standard input says.
+ghost use Rattle.std.specs.Prelude.{◌≡◌, IfOk, IfSome};
+ghost use Rattle.memory_fs.specs.MemoryFs.{tree_of};
+ghost use Rattle.walk.specs.TextLines.{text_lines};
+ghost use Rattle.walk.specs.Built.{Builds};
+
 use crate::failure::Failure;
 use crate::tree::build_tree;
 use jwalk::file_system::MemoryFs;
@@ -6,10 +11,9 @@ use std::alloc::Allocator;
 use std::io::{ErrorKind, Read};
 
 /// Reads the input whole.
-fn read_whole<A: Allocator + Copy, R: Read>(
-    alloc: A,
-    input: &mut R,
-) -> Result<Vec<u8, A>, Failure> {
+fn read_whole<A: Allocator + Copy, R: Read>(alloc: A, input: &mut R) -> Result<Vec<u8, A>, Failure>
+    ensures { IfOk result (λ read. IfSome (R.remaining input.old) (λ bytes. read.items ≡ bytes)) }
+{
     let mut bytes = Vec::new(alloc);
     match input.read_to_end(&mut bytes) {
         Ok(_) => Ok(bytes),
@@ -22,7 +26,9 @@ fn read_whole<A: Allocator + Copy, R: Read>(
 pub fn read_tree<A: Allocator + Copy, R: Read>(
     alloc: A,
     input: &mut R,
-) -> Result<MemoryFs<A>, Failure> {
+) -> Result<MemoryFs<A>, Failure>
+    ensures { IfOk result (λ fs. IfSome (R.remaining input.old) (λ bytes. Builds (text_lines bytes) (tree_of fs))) }
+{
     let bytes = read_whole(alloc, input)?;
     build_tree(alloc, bytes.as_slice())
 }

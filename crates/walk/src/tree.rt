@@ -1,4 +1,9 @@
 //! A tree from its lines.
+ghost use Rattle.std.specs.Prelude.{◌≡◌, ◌≢◌, OnOk, IfOk, IfErr, IsErr};
+ghost use Rattle.memory_fs.specs.MemoryFs.{tree_of, IsBuilt};
+ghost use Rattle.walk.specs.TextLines.{text_lines};
+ghost use Rattle.walk.specs.Built.{added, Adds, Builds, CannotAdd};
+
 use crate::failure::Failure;
 use crate::lines::NumberedLines;
 use crate::tree_line::{TreeLine, parse_tree_line};
@@ -6,32 +11,47 @@ use jwalk::file_system::{AddError, MemoryFs};
 use std::alloc::Allocator;
 use std::str;
 
+/// Adds to a tree what a line says.
+fn add<A: Allocator + Copy>(fs: &mut MemoryFs<A>, line: TreeLine<'_>) -> Result<(), AddError>
+    ensures ok { OnOk result (IsBuilt (added line.entry (tree_of fs.old)) (tree_of fs.new)) }
+    ensures err { IfErr result (λ e. e ≢ AddError.Memory → IsErr (added line.entry (tree_of fs.old))) }
+{
+    match line {
+        TreeLine::Dir(path) => fs.add_dir(path),
+        TreeLine::File(len, path) => fs.add_file(path, len),
+    }
+}
+
 /// Adds to a tree what the line of this number says. An empty line adds nothing.
 fn add_line<A: Allocator + Copy>(
     fs: &mut MemoryFs<A>,
     number: usize,
     line: &[u8],
-) -> Result<(), Failure> {
+) -> Result<(), Failure>
+    ensures ok { OnOk result (Adds line.now (tree_of fs.old) (tree_of fs.new)) }
+    ensures bad { IfErr result (λ failure. failure ≢ Failure.Memory → (failure ≡ Failure.BadTree number) × CannotAdd line.now (tree_of fs.old)) }
+{
     if line.is_empty() {
         return Ok(());
     }
     let Ok(text) = str::from_utf8(line) else {
         return Err(Failure::BadTree(number));
     };
-    let added = match parse_tree_line(text) {
-        Some(TreeLine::Dir(path)) => fs.add_dir(path),
-        Some(TreeLine::File(len, path)) => fs.add_file(path, len),
-        None => return Err(Failure::BadTree(number)),
+    let Some(said) = parse_tree_line(text) else {
+        return Err(Failure::BadTree(number));
     };
-    match added {
+    match add(fs, said) {
         Ok(()) => Ok(()),
         Err(AddError::Memory) => Err(Failure::Memory),
         Err(_) => Err(Failure::BadTree(number)),
     }
 }
 
-/// Builds the tree that the lines say, one after another. The last may end without a line feed.
-pub fn build_tree<A: Allocator + Copy>(alloc: A, lines: &[u8]) -> Result<MemoryFs<A>, Failure> {
+/// Builds the tree that the lines say, one after another. The last may end without a line feed. The first bad line is
+/// named.
+pub fn build_tree<A: Allocator + Copy>(alloc: A, lines: &[u8]) -> Result<MemoryFs<A>, Failure>
+    ensures built { IfOk result (λ fs. Builds (text_lines lines.now) (tree_of fs)) }
+{
     let mut fs = MemoryFs::new(alloc);
     for (number, line) in NumberedLines::new(lines) {
         add_line(&mut fs, number, line)?;
