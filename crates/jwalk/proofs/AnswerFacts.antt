@@ -100,6 +100,11 @@ module _ {C S P A R E : Type 0} (clones : Type 0) (is_steady : E → Type 0) (re
           ] in
       rw (held_rest old began) (omega (arith, fewer, leaves.lighter))
 
+-- an iterator that gets lighter with each answer may be asked again
+pub goes_on : {T : Type 0} {may : Type 0} (r : Option T) (fewer : Type 0) → may → IfSome r (λ x. fewer) → OnSome r (may × Unit {0} × fewer)
+goes_on None fewer can less = tt
+goes_on (Some x) fewer can less = (can, tt, less)
+
 -- a walk that took over its root's list holds the pairs of that list
 pub holds_root : {C S P A R E : Type 0} (clones : Type 0) (r : Reading R E) (before after begun : DirEntryIter C S P A R E) → clones → begun.refused ≡ false → items_of begun ≡ items_of after → unread_of begun ≡ unread_of after → items_of before ≡ [] → unread_of before ≡ [] → items_of after ≡ r.list ++ items_of before → StacksChildren clones (unread_of before) (Ok r) (unread_of after) → held begun ≡ paired r
 holds_root clones r before after begun equal started same_items same_unread no_items no_unread items stacks =
