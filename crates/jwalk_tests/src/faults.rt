@@ -46,8 +46,8 @@ fn odd_names_are_joined_as_texts(rt: HostRuntime) -> Result<(), Fail> {
 
 #[test]
 fn a_directory_that_can_not_be_listed_is_still_answered(rt: HostRuntime) -> Result<(), Fail> {
-    let failing = Failing::List(ErrorKind::PermissionDenied);
-    let fs = Watched::new(small_tree(rt.alloc())?, "/r/s", failing);
+    let failing = Failing::List("/r/s", ErrorKind::PermissionDenied);
+    let fs = Watched::new(small_tree(rt.alloc())?, failing);
     let mut walk = walk(rt.alloc(), fs, "/r")?;
     let _root = next_entry(&mut walk).ok_or("no root")?;
     let _file = next_entry(&mut walk).ok_or("no file")?;
@@ -70,39 +70,39 @@ fn a_directory_that_can_not_be_listed_is_still_answered(rt: HostRuntime) -> Resu
 #[test]
 fn want_of_memory_ends_a_walk(rt: HostRuntime) -> Result<(), Fail> {
     let rows = [
-        ("/t/group 1", Failing::ListForMemory, 5),
-        ("/t/group 2", Failing::ListForMemory, 3),
-        ("/t", Failing::ListForMemory, 0),
-        ("/t", Failing::MetadataForMemory, 0),
+        (Failing::ListForMemory("/t/group 1"), 5),
+        (Failing::ListForMemory("/t/group 2"), 3),
+        (Failing::ListForMemory("/t"), 0),
+        (Failing::MetadataForMemory("/t"), 0),
     ];
-    for (path, failing, entries) in rows {
-        let fs = Watched::new(grouped_tree(rt.alloc())?, path, failing);
+    for (failing, entries) in rows {
+        let fs = Watched::new(grouped_tree(rt.alloc())?, failing);
         let mut walk = walk(rt.alloc(), fs, "/t")?;
         for _ in 0..entries {
             let _entry = next_entry(&mut walk).ok_or("no entry")?;
         }
         let error = next_error(&mut walk).ok_or("no error")?;
-        assert!(rt; error.is_memory(), "at {path}");
-        assert_eq!(rt; error.depth(), 0, "at {path}");
-        assert_eq!(rt; error.path(), None, "at {path}");
-        assert!(rt; error.io_error().is_none(), "at {path}");
-        assert!(rt; is_over(&mut walk), "at {path}");
+        assert!(rt; error.is_memory(), "{failing:?}");
+        assert_eq!(rt; error.depth(), 0, "{failing:?}");
+        assert_eq!(rt; error.path(), None, "{failing:?}");
+        assert!(rt; error.io_error().is_none(), "{failing:?}");
+        assert!(rt; is_over(&mut walk), "{failing:?}");
     }
     Ok(())
 }
 
 #[test]
 fn one_listing_for_each_directory_entered(rt: HostRuntime) -> Result<(), Fail> {
-    let fs = Watched::new(grouped_tree(rt.alloc())?, "", Failing::ListForMemory);
+    let fs = Watched::new(grouped_tree(rt.alloc())?, Failing::Never);
     let fs = Arc::new(rt.alloc(), fs)?;
     let mut walk = walk(rt.alloc(), fs.clone()?, "/t")?;
-    assert_eq!(rt; fs.lists.get(), 0);
+    assert_eq!(rt; fs.lists(), 0);
     for lists in [1, 1, 1, 2, 2, 3, 3, 3] {
         let entry = next_entry(&mut walk).ok_or("no entry")?;
         let path = entry.path()?;
-        assert_eq!(rt; fs.lists.get(), lists, "at {path}");
+        assert_eq!(rt; fs.lists(), lists, "at {path}");
     }
     assert!(rt; is_over(&mut walk));
-    assert_eq!(rt; fs.lists.get(), 3);
+    assert_eq!(rt; fs.lists(), 3);
     Ok(())
 }

@@ -7,7 +7,7 @@ use std::io;
 use std::io::ErrorKind;
 
 /// An item of the listing.
-#[derive(Clone, Copy, Debug)]
+#[derive(Clone, Copy)]
 pub enum Item {
     Typed(&'static str, FileType),
     /// A name whose type could not be told.

@@ -1,6 +1,4 @@
 //! Readings of one directory, without a walk.
-ghost use Rattle.walk_model.specs.ReadDir.{Reading};
-
 use crate::trees::grouped_tree;
 use crate::watched::{Failing, Watched};
 use jwalk::read_dir::{Job, NoProcess, ProcessReadDir};
@@ -67,13 +65,13 @@ fn a_reading_has_its_items_and_directories_in_order(rt: HostRuntime) -> Result<(
 
 #[test]
 fn nothing_is_read_at_the_greatest_depth(rt: HostRuntime) -> Result<(), Fail> {
-    let fs = Watched::new(grouped_tree(rt.alloc())?, "", Failing::ListForMemory);
+    let fs = Watched::new(grouped_tree(rt.alloc())?, Failing::Never);
     let fs = Arc::new(rt.alloc(), fs)?;
     let job = Job::<((), ()), _, _>::new(rt.alloc(), fs.clone()?, NoProcess, true, 0);
     let roots = job.root_list("/t", ())?.read_children_specs()?;
     let root = roots.first().ok_or("no root")?;
     let read = job.read_one(root)?.ok().ok_or("not read")?;
     assert_eq!(rt; read.read_children_specs()?.len(), 0);
-    assert_eq!(rt; fs.lists.get(), 0);
+    assert_eq!(rt; fs.lists(), 0);
     Ok(())
 }

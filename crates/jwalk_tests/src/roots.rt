@@ -62,17 +62,24 @@ fn a_root_that_ends_with_a_slash(rt: HostRuntime) -> Result<(), Fail> {
     Ok(())
 }
 
-#[test]
-fn a_root_that_is_a_link_to_a_directory(rt: HostRuntime) -> Result<(), Fail> {
-    let items = [Item::Typed("zzz", FileType::File)];
-    let fs = ListedDirectory {
+// A link to a directory that holds these items.
+fn link_to<'a>(items: &'a [Item]) -> ListedDirectory<'a> {
+    ListedDirectory {
         path: "/r/a-link",
         file_type: FileType::Symlink,
         target: Some(FileType::Dir),
-        items: &items,
-    };
-    let found = answers(rt.alloc(), fs, "/r/a-link")?;
-    assert_eq!(rt; found.as_str(), "0 L /r/a-link; 1 f /r/a-link/zzz");
+        items,
+    }
+}
+
+#[test]
+fn a_root_that_is_a_link_to_a_directory(rt: HostRuntime) -> Result<(), Fail> {
+    let items = [Item::Typed("zzz", FileType::File)];
+    let wanted = "0 L /r/a-link; 1 f /r/a-link/zzz";
+    let found = answers(rt.alloc(), link_to(&items), "/r/a-link")?;
+    assert_eq!(rt; found.as_str(), wanted);
+    let found = answers(rt.alloc(), link_to(&items), "/r/a-link/")?;
+    assert_eq!(rt; found.as_str(), wanted, "with a slash at the end");
     Ok(())
 }
 

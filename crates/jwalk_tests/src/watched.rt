@@ -1,4 +1,4 @@
-//! A tree that counts how often it is listed, and that fails at a path.
+//! A tree in memory that counts how often it is listed, and that may fail at a path.
 ghost use Rattle.walk_model.specs.Tree.{functions_of, only_root};
 
 use jwalk::file_system::{Fault, FileSystem, Listed, MemoryFs, Metadata};
@@ -7,45 +7,44 @@ use std::cell::Cell;
 use std::io;
 use std::io::ErrorKind;
 
-/// What a watched tree answers at the path where it fails.
+/// At which path a tree fails, and how.
 #[derive(Clone, Copy, Debug)]
 pub enum Failing {
-    /// No listing, but this kind of error.
-    List(ErrorKind),
+    Never,
+    /// This kind of error in place of a listing.
+    List(&'static str, ErrorKind),
     /// Want of memory in place of a listing.
-    ListForMemory,
+    ListForMemory(&'static str),
     /// Want of memory in place of metadata.
-    MetadataForMemory,
+    MetadataForMemory(&'static str),
 }
 
 #[derive(Drop)]
 pub struct Watched {
-    pub fs: MemoryFs,
-    pub path: &'static str,
-    pub failing: Failing,
-    /// How often a listing was asked for.
-    pub lists: Cell<usize>,
+    fs: MemoryFs,
+    failing: Failing,
+    lists: Cell<usize>,
 }
 
 impl Watched {
-    /// The tree, with no listing asked for yet.
-    pub fn new(fs: MemoryFs, path: &'static str, failing: Failing) -> Self {
+    pub fn new(fs: MemoryFs, failing: Failing) -> Self {
         Watched {
             fs,
-            path,
             failing,
             lists: Cell::new(0),
         }
     }
 
+    /// How often a listing was asked for.
+    pub fn lists(&self) -> usize {
+        self.lists.get()
+    }
+
     fn list_fault(&self, path: &str) -> Option<Fault> {
-        if path != self.path {
-            return None;
-        }
         match self.failing {
-            Failing::List(kind) => Some(Fault::Io(io::Error::from(kind))),
-            Failing::ListForMemory => Some(Fault::Memory),
-            Failing::MetadataForMemory => None,
+            Failing::List(at, kind) if at == path => Some(Fault::Io(io::Error::from(kind))),
+            Failing::ListForMemory(at) if at == path => Some(Fault::Memory),
+            _ => None,
         }
     }
 }
@@ -73,7 +72,7 @@ impl FileSystem for Watched {
 
     fn symlink_metadata(&self, path: &str) -> Result<Metadata, Fault> {
         match self.failing {
-            Failing::MetadataForMemory if path == self.path => Err(Fault::Memory),
+            Failing::MetadataForMemory(at) if at == path => Err(Fault::Memory),
             _ => self.fs.symlink_metadata(path),
         }
     }
