@@ -1,0 +1,19 @@
+//! What walks answer, by worked examples.
+#![tactic(auto)]
+
+#[cfg(test)]
+mod faults;
+#[cfg(test)]
+mod lines;
+#[cfg(test)]
+mod listed_directory;
+#[cfg(test)]
+mod readings;
+#[cfg(test)]
+mod roots;
+#[cfg(test)]
+mod trees;
+#[cfg(test)]
+mod walks;
+#[cfg(test)]
+mod watched;

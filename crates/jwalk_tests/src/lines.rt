@@ -1,0 +1,95 @@
+//! A walk's answers as one text, to be compared with the text that is wanted.
+//!
+//! An entry is `DEPTH LETTER PATH`, followed by ` ! KIND` where its directory could not be read. An error is
+//! `! DEPTH PATH KIND`, where the path is `-` if there is none and the kind `memory` for want of memory.
+use jwalk::file_system::{FileSystem, FileType};
+use jwalk::read_dir::NoProcess;
+use jwalk::{DirEntry, DirEntryIter, Error, WalkDirGeneric};
+use std::alloc::{AllocError, Global};
+
+pub type Entry = DirEntry<((), ())>;
+
+pub type Walk<S> = DirEntryIter<((), ()), S, NoProcess>;
+
+/// A walk begun.
+pub fn walk<S: FileSystem>(alloc: Global, fs: S, root: &str) -> Result<Walk<S>, AllocError> {
+    let root = String::from_str(alloc, root)?;
+    Ok(WalkDirGeneric::<((), ()), S, NoProcess>::new(fs, root).into_iter())
+}
+
+/// The next answer, if it is an entry.
+pub fn next_entry<S: FileSystem>(walk: &mut Walk<S>) -> Option<Entry> {
+    walk.next()?.ok()
+}
+
+/// The next answer, if it is an error.
+pub fn next_error<S: FileSystem>(walk: &mut Walk<S>) -> Option<Error> {
+    walk.next()?.err()
+}
+
+/// The next two answers are none.
+pub fn is_over<S: FileSystem>(walk: &mut Walk<S>) -> bool {
+    let first = walk.next().is_none();
+    walk.next().is_none() && first
+}
+
+fn letter(file_type: FileType) -> &'static str {
+    match file_type {
+        FileType::Dir => "d",
+        FileType::File => "f",
+        FileType::Symlink => "L",
+        FileType::Other => "o",
+    }
+}
+
+fn kind(alloc: Global, error: &Error) -> Result<String, AllocError> {
+    match error.io_error() {
+        Some(err) => {
+            let kind = err.kind();
+            format!(in alloc; "{kind:?}")
+        }
+        None => String::from_str(alloc, "memory"),
+    }
+}
+
+fn error_line(alloc: Global, error: &Error) -> Result<String, AllocError> {
+    let depth = error.depth();
+    let path = error.path().unwrap_or("-");
+    let kind = kind(alloc, error)?;
+    format!(in alloc; "! {depth} {path} {kind}")
+}
+
+fn entry_line(alloc: Global, entry: &Entry) -> Result<String, AllocError> {
+    let depth = entry.depth();
+    let letter = letter(entry.file_type());
+    let path = entry.path()?;
+    let Some(error) = entry.read_children.as_ref().and_then(|c| c.error()) else {
+        return format!(in alloc; "{depth} {letter} {path}");
+    };
+    let kind = kind(alloc, error)?;
+    format!(in alloc; "{depth} {letter} {path} ! {kind}")
+}
+
+/// One answer.
+pub fn line(alloc: Global, answer: &Result<Entry, Error>) -> Result<String, AllocError> {
+    match answer {
+        Ok(entry) => entry_line(alloc, entry),
+        Err(error) => error_line(alloc, error),
+    }
+}
+
+/// All answers of a walk, parted by `; `, once it was seen that `None` stays.
+pub fn answers<S: FileSystem>(alloc: Global, fs: S, root: &str) -> Result<String, AllocError> {
+    let mut walk = walk(alloc, fs, root)?;
+    let mut text = String::new(alloc);
+    for answer in walk.by_ref() {
+        if !text.is_empty() {
+            text.push_str("; ")?;
+        }
+        text.push_str(line(alloc, &answer)?.as_str())?;
+    }
+    if !is_over(&mut walk) {
+        text.push_str("; not over")?;
+    }
+    Ok(text)
+}

@@ -1,0 +1,77 @@
+//! Readings of one directory, without a walk.
+use crate::trees::grouped_tree;
+use crate::watched::{Failing, Watched};
+use jwalk::read_dir::{Job, NoProcess, ProcessReadDir};
+use jwalk::{DirEntry, Error};
+use std::alloc::{AllocError, Global};
+use std::sync::Arc;
+use std::test::Fail;
+
+/// A state that is a text.
+type Noted = (Option<String>, ());
+
+type Items = Vec<Result<DirEntry<Noted>, Error>>;
+
+/// Leaves the names of each list in the state.
+#[derive(Drop)]
+struct NotesNames;
+
+fn names(list: &Items) -> Result<String, AllocError> {
+    let mut text = String::new(*list.allocator());
+    for item in list {
+        if let Ok(entry) = item {
+            text.push_str(entry.file_name())?;
+            text.push_str(";")?;
+        }
+    }
+    Ok(text)
+}
+
+impl ProcessReadDir<Noted, Global> for NotesNames {
+    ghost IsLawful = { λ _. Unit {0} };
+
+    ghost IsFixed = { λ _. ⊥ };
+
+    ghost processed = { λ _ depth path state list. record { state = state; list = list } };
+
+    fn process(
+        &self,
+        _depth: Option<usize>,
+        _path: &str,
+        state: &mut Option<String>,
+        list: &mut Items,
+    ) -> Result<(), AllocError> {
+        *state = Some(names(list)?);
+        Ok(())
+    }
+}
+
+#[test]
+fn a_reading_has_its_items_and_directories_in_order(rt: HostRuntime) -> Result<(), Fail> {
+    let fs = grouped_tree(rt.alloc())?;
+    let job = Job::<Noted, _, _>::new(rt.alloc(), fs, NotesNames, true, usize::MAX);
+    let roots = job.root_list("/t", None)?.read_children_specs()?;
+    let root = roots.first().ok_or("no root")?;
+    assert_eq!(rt; root.path.as_str(), "/t");
+    let read = job.read_one(root)?.ok().ok_or("not read")?;
+    let specs = read.read_children_specs()?;
+    assert_eq!(rt; specs.len(), 2);
+    assert_eq!(rt; specs[0].path.as_str(), "/t/group 2");
+    assert_eq!(rt; specs[1].path.as_str(), "/t/group 1");
+    let noted = specs[0].client_read_state.as_ref().ok_or("no state")?;
+    assert_eq!(rt; noted.as_str(), "c.txt;a.txt;group 2;group 1;b.txt;");
+    Ok(())
+}
+
+#[test]
+fn nothing_is_read_at_the_greatest_depth(rt: HostRuntime) -> Result<(), Fail> {
+    let fs = Watched::new(grouped_tree(rt.alloc())?, Failing::Never);
+    let fs = Arc::new(rt.alloc(), fs)?;
+    let job = Job::<((), ()), _, _>::new(rt.alloc(), fs.clone()?, NoProcess, true, 0);
+    let roots = job.root_list("/t", ())?.read_children_specs()?;
+    let root = roots.first().ok_or("no root")?;
+    let read = job.read_one(root)?.ok().ok_or("not read")?;
+    assert_eq!(rt; read.read_children_specs()?.len(), 0);
+    assert_eq!(rt; fs.lists(), 0);
+    Ok(())
+}
