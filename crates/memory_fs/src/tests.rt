@@ -1,5 +1,5 @@
 //! What a small tree answers.
-use crate::add_error::AddError;
+use crate::build_error::BuildError;
 use crate::memory_fs::MemoryFs;
 use std::alloc::Global;
 use std::io::ErrorKind;
@@ -10,7 +10,7 @@ use walk_model::file_type::FileType;
 use walk_model::metadata::Metadata;
 
 // A directory that holds a file.
-fn small(alloc: Global) -> Result<MemoryFs, AddError> {
+fn small(alloc: Global) -> Result<MemoryFs, BuildError> {
     let mut fs = MemoryFs::new(alloc);
     fs.add_dir("/r")?;
     fs.add_file("/r/f", 7)?;
@@ -50,9 +50,9 @@ fn a_file_is_no_directory_and_no_link(rt: HostRuntime) -> Result<(), Fail> {
 #[test]
 fn refusals_of_building(rt: HostRuntime) -> Result<(), Fail> {
     let mut fs = small(rt.alloc())?;
-    assert_eq!(rt; fs.add_file("/r/f", 1), Err(AddError::AlreadyExists));
-    assert_eq!(rt; fs.add_dir("/n/m"), Err(AddError::NotFound));
-    assert_eq!(rt; fs.add_dir("/"), Err(AddError::NotFound));
+    assert_eq!(rt; fs.add_file("/r/f", 1), Err(BuildError::AlreadyExists));
+    assert_eq!(rt; fs.add_dir("/n/m"), Err(BuildError::NotFound));
+    assert_eq!(rt; fs.add_dir("/"), Err(BuildError::NotFound));
     Ok(())
 }
 

@@ -2,7 +2,7 @@
 use crate::failure::Failure;
 use crate::lines::NumberedLines;
 use crate::tree_line::{TreeLine, parse_tree_line};
-use jwalk::file_system::{AddError, MemoryFs};
+use jwalk::file_system::{BuildError, MemoryFs};
 use std::alloc::Allocator;
 use std::str;
 
@@ -25,7 +25,7 @@ fn add_line<A: Allocator + Copy>(
     };
     match added {
         Ok(()) => Ok(()),
-        Err(AddError::Memory) => Err(Failure::Memory),
+        Err(BuildError::Memory) => Err(Failure::Memory),
         Err(_) => Err(Failure::BadTree(number)),
     }
 }
