@@ -1,4 +1,4 @@
-use Rattle.std.proofs.Common.{◌≡◌, ◌∙◌, sym, subst}
+use Rattle.std.proofs.Common.{◌∙◌, sym, subst}
 use Rattle.memory_fs.specs.Branch.{IsSound}
 use Rattle.memory_fs.specs.Table.{branches}
 use Rattle.memory_fs.proofs.DenyLemmas.{built-denied, sound-denied, told-refused, told-denied}

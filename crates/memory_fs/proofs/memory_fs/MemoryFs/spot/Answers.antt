@@ -1,4 +1,4 @@
-use Rattle.std.proofs.Common.{◌≡◌, ℕ, List, Option, Some, map, ◌∙◌, sym, ap}
+use Rattle.std.proofs.Common.{ℕ, List, Option, map, ◌∙◌, sym, ap}
 use Rattle.std.specs.Option.{option_copied, option_map}
 use Rattle.std.specs.Path.{path_components, components_remaining}
 use Rattle.walk_model.specs.Paths.{components}
