@@ -1,5 +1,5 @@
 //! What a walk goes over: the file system as a trait, its types, and a tree in memory.
-pub use memory_fs::add_error::AddError;
+pub use memory_fs::build_error::BuildError;
 pub use memory_fs::memory_fs::MemoryFs;
 pub use walk_fs::fault::Fault;
 pub use walk_fs::file_system::FileSystem;

@@ -1,5 +1,5 @@
 -- What a directory's map of children says of its branch.
-use Rattle.std.proofs.Common.{◌≡◌, ℕ, Bool, true, false, cond, List, [], ◌∷◌, ◌++◌, map, None, Some, refl, sym, ap, ◌∙◌, String, string_bytes}
+use Rattle.std.proofs.Common.{◌≡◌, ℕ, Bool, true, false, cond, List, [], ◌∷◌, ◌++◌, map, Option, None, Some, refl, sym, ap, ◌∙◌, String, string_bytes}
 use Rattle.std.specs.String.{string_eq}
 use Rattle.std.specs.Str.{bytes_eq}
 use Rattle.std.specs.List.{AllByRecursion, IsDistinct}
@@ -10,14 +10,15 @@ use Rattle.std.proofs.lemmas.Slice.Eq.{bytes_eq-Decides}
 use Rattle.std.proofs.lemmas.List.{map-append}
 use Rattle.indexmap.specs.IndexMap.{IndexMap, insert_entry, get}
 use Rattle.indexmap.proofs.CallerLemmas.{insert_entry-new}
+use Rattle.std.specs.declared.io.ErrorKind.{ErrorKind}
 use Rattle.memory_fs.specs.declared.child.Child.{Child}
 use Rattle.memory_fs.specs.Branch.{Branch, child_named, AreFound}
 
 abbrev pub named : {A : Type 0} → List (String A × Child) → List (List ℕ × Child)
 named es = map (λ e. (string_bytes e.0, e.1)) es
 
-abbrev pub made : ℕ → List (List ℕ × Child) → Branch
-made parent children = record { parent = parent; children = children }
+abbrev pub made : ℕ → Option ErrorKind → List (List ℕ × Child) → Branch
+made parent denied children = record { parent = parent; children = children; denied = denied }
 
 -- the child of a name is what the map has at it
 pub child_named-named : {A : Type 0} (name : List ℕ) (es : List (String A × Child)) → child_named (named es) name ≡ lookup (λ k. bytes_eq name (string_bytes k)) es
@@ -25,13 +26,13 @@ child_named-named name [] = refl
 child_named-named name (e ∷ es) = ap (λ r. cond (bytes_eq name (string_bytes e.0)) (Some e.1) r) (child_named-named name es)
 
 -- a new name goes behind the others
-pub named-insert : {A S : Type 0} (m n : IndexMap (String A) Child S) (text : String A) (name : List ℕ) (child : Child) (parent : ℕ)
+pub named-insert : {A S : Type 0} (m n : IndexMap (String A) Child S) (text : String A) (name : List ℕ) (child : Child) (parent : ℕ) (denied : Option ErrorKind)
     → string_bytes text ≡ name → child_named (named m.entries) name ≡ None → n.entries ≡ insert_entry string_eq m.entries text child
-    → made parent (named n.entries) ≡ made parent (named m.entries ++ (name, child) ∷ [])
-named-insert m n text name child parent is absent entries =
+    → made parent denied (named n.entries) ≡ made parent denied (named m.entries ++ (name, child) ∷ [])
+named-insert m n text name child parent denied is absent entries =
     let none : get string_eq m text ≡ None = sym (child_named-named (string_bytes text) m.entries) ∙ ap (λ bs. child_named (named m.entries) bs) is ∙ absent in
-    ap (λ es. made parent (named es)) (entries ∙ insert_entry-new string_eq m text child none)
-    ∙ ap (made parent) (map-append (λ e. (string_bytes e.0, e.1)) m.entries ((text, child) ∷ []) ∙ ap (λ bs. named m.entries ++ (bs, child) ∷ []) is)
+    ap (λ es. made parent denied (named es)) (entries ∙ insert_entry-new string_eq m text child none)
+    ∙ ap (made parent denied) (map-append (λ e. (string_bytes e.0, e.1)) m.entries ((text, child) ∷ []) ∙ ap (λ bs. named m.entries ++ (bs, child) ∷ []) is)
 
 -- ---- names that differ
 apart : (a b : List ℕ) → bytes_eq a b ≡ false → bytes_eq b a ≡ false

@@ -3,13 +3,14 @@ use Rattle.std.proofs.Common.{◌≡◌, ◌≢◌, ℕ, ◌<◌, ◌≤◌, Boo
 use Rattle.std.specs.Prelude.{option_and_then, if◌then◌else◌}
 use Rattle.std.specs.Option.{option_map}
 use Rattle.std.specs.Str.{bytes_eq}
+use Rattle.std.specs.declared.io.ErrorKind.{ErrorKind}
 use Rattle.std.proofs.lemmas.Bool.{cases_eq, cases_lt, cases_Bool, false≢true}
 use Rattle.std.proofs.lemmas.List.{map-append}
 use Rattle.std.proofs.lemmas.Slice.Eq.{bytes_eq-Decides}
 use Rattle.walk_model.specs.Tree.{Place, Node, directory, file, same_place, renamed, with_child as with_node}
 use Rattle.memory_fs.specs.declared.child.Child.{Child}
 use Rattle.memory_fs.specs.declared.child.Child.TheVariants.{Dir, File}
-use Rattle.memory_fs.specs.Branch.{Branch, child_named, children_at, parent_at, child_of, at_end, names_of, node_of, tree_of_table, IsHeld, IsSound}
+use Rattle.memory_fs.specs.Branch.{Branch, child_named, children_at, parent_at, denied_at, child_of, at_end, names_of, node_of, tree_of_table, IsHeld, IsSound}
 use Rattle.memory_fs.proofs.PlaceLemmas.{by_last, same_front, same_last, longer_place, same_place-refl, same_place-false, place_cases}
 use Rattle.memory_fs.proofs.TableLemmas.{at_end-append, one_place, same_dir}
 
@@ -28,11 +29,12 @@ child_named-append (e ∷ es) name other new =
     elim (bytes_eq other e.0) as (λ b. cond b (Some e.1) (child_named (es ++ (name, new) ∷ []) other) ≡ or_last (cond b (Some e.1) (child_named es other)) (if bytes_eq other name then Some new else None))
     [ true ↦ refl | false ↦ child_named-append es name other new ]
 
--- the new table has the new child behind the others, under a name that was free, and nothing stands below it
+-- the new table has the new child behind the others, under a name that was free, nothing stands below it, and no directory is denied that wasn't
 pub record Grows (old new : List Branch) (holder : ℕ) (name : List ℕ) (child : Child) : Type 0 where
   pub free : child_named (children_at old holder) name ≡ None
   pub here : children_at new holder ≡ children_at old holder ++ (name, child) ∷ []
   pub others : (place : ℕ) → place ≢ holder → children_at new place ≡ children_at old place
+  pub denials : (place : ℕ) → denied_at new place ≡ denied_at old place
   pub leaf : (other : List ℕ) → child_of new child other ≡ None
 
 -- no directory has gone or moved, and a new one stands behind the others
@@ -147,15 +149,17 @@ module _ (old new : List Branch) (holder : ℕ) (name : List ℕ) (child : Child
         kept_node (Some (Dir k)) e = at (cases_eq k holder)
           where
             at : (k ≡ holder) ⊎ (k ≢ holder)
-                → Some (node_of new (Dir k)) ≡ (if same_place q place then Some (directory (names_of (children_at old k) ++ name ∷ []) None) else Some (node_of old (Dir k)))
+                → Some (node_of new (Dir k)) ≡ (if same_place q place then Some (directory (names_of (children_at old k) ++ name ∷ []) (denied_at old k)) else Some (node_of old (Dir k)))
             at (inl h) =
-                ap (λ (es : List (List ℕ × Child)). Some (directory (names_of es) None)) (ap (children_at new) h ∙ grows.here ∙ ap (λ j. children_at old j ++ (name, child) ∷ []) (sym h))
-                ∙ ap (λ (ns : List (List ℕ)). Some (directory ns None)) (map-append (λ e. e.0) (children_at old k) ((name, child) ∷ []))
-                ∙ sym (ap (λ (b : Bool). if b then Some (directory (names_of (children_at old k) ++ name ∷ []) None) else Some (node_of old (Dir k)))
+                ap (λ (d : Option ErrorKind). Some (directory (names_of (children_at new k)) d)) (grows.denials k)
+                ∙ ap (λ (es : List (List ℕ × Child)). Some (directory (names_of es) (denied_at old k))) (ap (children_at new) h ∙ grows.here ∙ ap (λ j. children_at old j ++ (name, child) ∷ []) (sym h))
+                ∙ ap (λ (ns : List (List ℕ)). Some (directory ns (denied_at old k))) (map-append (λ e. e.0) (children_at old k) ((name, child) ∷ []))
+                ∙ sym (ap (λ (b : Bool). if b then Some (directory (names_of (children_at old k) ++ name ∷ []) (denied_at old k)) else Some (node_of old (Dir k)))
                 (ap (λ (p : Place). same_place p place) (one_place old sound place q holder stands (e ∙ ap (λ j. Some (Dir j)) h)) ∙ same_place-refl place))
             at (inr ne) =
-                ap (λ (es : List (List ℕ × Child)). Some (directory (names_of es) None)) (grows.others k ne)
-                ∙ sym (ap (λ (b : Bool). if b then Some (directory (names_of (children_at old k) ++ name ∷ []) None) else Some (node_of old (Dir k)))
+                ap (λ (d : Option ErrorKind). Some (directory (names_of (children_at new k)) d)) (grows.denials k)
+                ∙ ap (λ (es : List (List ℕ × Child)). Some (directory (names_of es) (denied_at old k))) (grows.others k ne)
+                ∙ sym (ap (λ (b : Bool). if b then Some (directory (names_of (children_at old k) ++ name ∷ []) (denied_at old k)) else Some (node_of old (Dir k)))
                 (same_place-false q place (λ h. ne (same_dir k holder (sym e ∙ ap (at_end old (Dir 0)) h ∙ stands)))))
 
         by : (b : Bool) → option_map (node_of new) (if b then Some child else at_end old (Dir 0) q)

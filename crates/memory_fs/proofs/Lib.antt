@@ -8,3 +8,4 @@ pub mod GrowthLemmas
 pub mod NewChildLemmas
 pub mod SpotLemmas
 pub mod AddLemmas
+pub mod DenyLemmas

@@ -1,36 +1,38 @@
 -- The table with a new file, and with a new directory.
-use Rattle.std.proofs.Common.{◌≡◌, ◌≢◌, ℕ, zero, suc, ◌+◌, ◌<◌, ◌≤◌, List, [], ◌∷◌, ◌++◌, length, None, refl, sym, ap, ◌∙◌, ◌⊎◌, inl, inr, arith}
-use Rattle.std.proofs.lemmas.Bool.{cases_eq}
-use Rattle.std.proofs.lemmas.List.{get_or-set_same, get_or-set_other, length-set, length-append, get_or_past}
+use Rattle.std.proofs.Common.{◌≡◌, ◌≢◌, ℕ, zero, suc, ◌+◌, ◌<◌, ◌≤◌, List, [], ◌∷◌, ◌++◌, length, Option, None, refl, sym, ap, ◌∙◌, arith}
+use Rattle.std.specs.declared.io.ErrorKind.{ErrorKind}
+use Rattle.std.proofs.lemmas.List.{length-append, get_or_past}
+use Rattle.walk_model.specs.Tree.{directory}
 use Rattle.memory_fs.specs.declared.child.Child.{Child}
 use Rattle.memory_fs.specs.declared.child.Child.TheVariants.{Dir, File}
-use Rattle.memory_fs.specs.Branch.{Branch, child_named, branch_at, children_at, parent_at, empty_branch, with_child, with_named}
+use Rattle.memory_fs.specs.Branch.{Branch, child_named, branch_at, children_at, parent_at, denied_at, empty_branch, names_of, node_of, with_child, with_named}
+use Rattle.memory_fs.proofs.EditLemmas.{at_edited, at_other, length-edited, kept-edited}
 use Rattle.memory_fs.proofs.GrowthLemmas.{Grows, Extends}
 
 module _ (table : List Branch) (holder : ℕ) (name : List ℕ) (child : Child) (lt : holder < length table) where
-  at_holder : branch_at (with_named table holder name child) holder ≡ with_child name child (branch_at table holder)
-  at_holder = get_or-set_same table holder (with_child name child (branch_at table holder)) (empty_branch 0) lt
-
-  at_other : (place : ℕ) → place ≢ holder → branch_at (with_named table holder name child) place ≡ branch_at table place
-  at_other place ne = get_or-set_other table holder place (with_child name child (branch_at table holder)) (empty_branch 0) ne
-
   parent-named : (place : ℕ) → parent_at (with_named table holder name child) place ≡ parent_at table place
-  parent-named place = by (cases_eq place holder)
-    where
-      by : (place ≡ holder) ⊎ (place ≢ holder) → parent_at (with_named table holder name child) place ≡ parent_at table place
-      by (inl e) = ap (parent_at (with_named table holder name child)) e ∙ ap (λ (b : Branch). b.parent) at_holder ∙ ap (parent_at table) (sym e)
-      by (inr ne) = ap (λ (b : Branch). b.parent) (at_other place ne)
+  parent-named = kept-edited (with_child name child) table holder (λ (b : Branch). b.parent) (λ b. refl) lt
+
+  denied-named : (place : ℕ) → denied_at (with_named table holder name child) place ≡ denied_at table place
+  denied-named = kept-edited (with_child name child) table holder (λ (b : Branch). b.denied) (λ b. refl) lt
+
+  children-named : children_at (with_named table holder name child) holder ≡ children_at table holder ++ (name, child) ∷ []
+  children-named = ap (λ (b : Branch). b.children) (at_edited (with_child name child) table holder lt)
+
+  children-other : (place : ℕ) → place ≢ holder → children_at (with_named table holder name child) place ≡ children_at table place
+  children-other place ne = ap (λ (b : Branch). b.children) (at_other (with_child name child) table holder place ne)
 
   length-named : length (with_named table holder name child) ≡ length table
-  length-named = length-set table holder (with_child name child (branch_at table holder))
+  length-named = length-edited (with_child name child) table holder
 
 module _ (table : List Branch) (holder : ℕ) (name : List ℕ) (lt : holder < length table) (free : child_named (children_at table holder) name ≡ None) where
   -- ---- a file
   pub grows-file : (len : ℕ) → Grows table (with_named table holder name (File len)) holder name (File len)
   grows-file len = record {
     free = free;
-    here = ap (λ (b : Branch). b.children) (at_holder table holder name (File len) lt);
-    others = λ place ne. ap (λ (b : Branch). b.children) (at_other table holder name (File len) lt place ne);
+    here = children-named table holder name (File len) lt;
+    others = children-other table holder name (File len) lt;
+    denials = denied-named table holder name (File len) lt;
     leaf = λ other. refl;
   }
 
@@ -46,11 +48,13 @@ module _ (table : List Branch) (holder : ℕ) (name : List ℕ) (lt : holder < l
       }
 
 -- ---- an empty directory behind the others
-children-pushed : (table : List Branch) (parent place : ℕ) → children_at (table ++ empty_branch parent ∷ []) place ≡ children_at table place
-children-pushed [] parent zero = refl
-children-pushed [] parent (suc k) = refl
-children-pushed (b ∷ bs) parent zero = refl
-children-pushed (b ∷ bs) parent (suc k) = children-pushed bs parent k
+module _ {X : Type 0} (part : Branch → X) (empty : (parent : ℕ) → part (empty_branch parent) ≡ part (empty_branch 0)) where
+  -- what all empty directories have alike is seen past the end too
+  pushed : (table : List Branch) (parent place : ℕ) → part (branch_at (table ++ empty_branch parent ∷ []) place) ≡ part (branch_at table place)
+  pushed [] parent zero = empty parent
+  pushed [] parent (suc k) = refl
+  pushed (b ∷ bs) parent zero = refl
+  pushed (b ∷ bs) parent (suc k) = pushed bs parent k
 
 parent-pushed : (table : List Branch) (parent place : ℕ) → place < length table → parent_at (table ++ empty_branch parent ∷ []) place ≡ parent_at table place
 parent-pushed [] parent place h = absurd (omega arith)
@@ -69,19 +73,25 @@ module _ (table : List Branch) (holder : ℕ) (name : List ℕ) (lt : holder < l
   with_directory = with_named table holder name (Dir (length table)) ++ empty_branch holder ∷ []
 
   children_here : (place : ℕ) → children_at with_directory place ≡ children_at (with_named table holder name (Dir (length table))) place
-  children_here place = children-pushed (with_named table holder name (Dir (length table))) holder place
+  children_here = pushed (λ (b : Branch). b.children) (λ parent. refl) (with_named table holder name (Dir (length table))) holder
+
+  denied_here : (place : ℕ) → denied_at with_directory place ≡ denied_at table place
+  denied_here place = pushed (λ (b : Branch). b.denied) (λ parent. refl) (with_named table holder name (Dir (length table))) holder place ∙ denied-named table holder name (Dir (length table)) lt place
+
+  past : branch_at table (length table) ≡ empty_branch 0
+  past = get_or_past table (length table) (empty_branch 0) (omega arith)
 
   none_past : children_at with_directory (length table) ≡ []
   none_past =
-      children_here (length table)
-      ∙ ap (λ (b : Branch). b.children) (at_other table holder name (Dir (length table)) lt (length table) (λ e. omega arith))
-      ∙ ap (λ (b : Branch). b.children) (get_or_past table (length table) (empty_branch 0) (omega arith))
+      children_here (length table) ∙ children-other table holder name (Dir (length table)) lt (length table) (λ e. omega arith)
+      ∙ ap (λ (b : Branch). b.children) past
 
   pub grows-directory : Grows table with_directory holder name (Dir (length table))
   grows-directory = record {
     free = free;
-    here = children_here holder ∙ ap (λ (b : Branch). b.children) (at_holder table holder name (Dir (length table)) lt);
-    others = λ place ne. children_here place ∙ ap (λ (b : Branch). b.children) (at_other table holder name (Dir (length table)) lt place ne);
+    here = children_here holder ∙ children-named table holder name (Dir (length table)) lt;
+    others = λ place ne. children_here place ∙ children-other table holder name (Dir (length table)) lt place ne;
+    denials = denied_here;
     leaf = λ other. ap (λ (es : List (List ℕ × Child)). child_named es other) none_past;
   }
 
@@ -107,6 +117,8 @@ module _ (table : List Branch) (holder : ℕ) (name : List ℕ) (lt : holder < l
         new_dir = λ place e. let same : length table ≡ place = cc in (sym same, omega arith);
       }
 
-  -- nothing is in it
-  pub node-directory : children_at with_directory (length table) ≡ []
-  node-directory = none_past
+  -- nothing is in it, and it may be read
+  pub node-directory : node_of with_directory (Dir (length table)) ≡ directory [] None
+  node-directory =
+      ap (λ (es : List (List ℕ × Child)). directory (names_of es) (denied_at with_directory (length table))) none_past
+      ∙ ap (λ (d : Option ErrorKind). directory [] d) (denied_here (length table) ∙ ap (λ (b : Branch). b.denied) past)

@@ -1,15 +1,18 @@
 -- Where a path that is built on leads, in the table and in the tree.
-use Rattle.std.proofs.Common.{◌≡◌, ℕ, Bool, List, [], ◌∷◌, ◌++◌, map, Option, None, Some, Ok, Err, refl, sym, ap, ◌∙◌}
-use Rattle.std.specs.Prelude.{is_some, if◌then◌else◌}
+use Rattle.std.proofs.Common.{◌≡◌, ℕ, true, List, [], ◌∷◌, ◌++◌, map, Option, None, Some, Result, Ok, Err, refl, sym, ap, subst, ◌∙◌}
+use Rattle.std.specs.Prelude.{if◌then◌else◌}
 use Rattle.std.specs.Option.{option_map}
 use Rattle.std.specs.Path.{IsLastComponent}
+use Rattle.std.specs.declared.io.ErrorKind.{ErrorKind}
 use Rattle.std.specs.declared.path.components.Component.{Component as StdComponent}
-use Rattle.walk_model.specs.Paths.{Component, last_of, all_but_last, name_of}
+use Rattle.walk_model.specs.Paths.{Component, root, here, up, plain, components, last_of, all_but_last, name_of}
 use Rattle.walk_model.specs.PathTexts.{component_read, component_seen}
+use Rattle.walk_model.specs.Tree.{Place, is_directory, looked_up, Spot, spot_in, spot_below, spot_of}
 use Rattle.walk_model.proofs.PathFacts.{last_read}
 use Rattle.memory_fs.specs.declared.child.Child.{Child}
-use Rattle.memory_fs.specs.declared.add_error.AddError.TheVariants.{AlreadyExists}
-use Rattle.memory_fs.specs.Branch.{Branch, branch_at, child_named, free_in, free_below, free_spot}
+use Rattle.memory_fs.specs.declared.child.Child.TheVariants.{Dir, File}
+use Rattle.memory_fs.specs.Branch.{Branch, at_end, node_of, tree_of_table, reached, holder_of, named_below, named_spot, IsSound}
+use Rattle.memory_fs.proofs.LookUpLemmas.{Agrees, along_agrees}
 
 last_of-append : (front : List Component) (c : Component) → last_of (front ++ c ∷ []) ≡ Some c
 last_of-append [] c = refl
@@ -31,17 +34,43 @@ last_split cs before after (Some d) h e =
     let whole = sym e ∙ last_read before after (Some d) h in
     (ap last_of whole ∙ last_of-append (map component_read after) (component_seen d), ap all_but_last whole ∙ all_but_last-append (map component_read after) (component_seen d))
 
-pub free_spot-split : (table : List Branch) (cs : List Component) (before after : List (List ℕ)) (r : Option StdComponent) (name : Option (List ℕ))
+pub named_spot-split : (table : List Branch) (cs : List Component) (before after : List (List ℕ)) (r : Option StdComponent) (name : Option (List ℕ))
     → IsLastComponent before r after → map component_read before ≡ cs → name ≡ name_of (option_map component_seen r)
-    → free_spot table cs ≡ free_below table (map component_read after) name
-free_spot-split table cs before after r name h e is =
+    → named_spot table cs ≡ named_below table (map component_read after) name
+named_spot-split table cs before after r name h e is =
     let both = last_split cs before after r h e in
-    ap (λ (front : List Component). free_below table front (name_of (last_of cs))) both.1
-    ∙ ap (free_below table (map component_read after)) (ap name_of both.0 ∙ sym is)
+    ap (λ (front : List Component). named_below table front (name_of (last_of cs))) both.1
+    ∙ ap (named_below table (map component_read after)) (ap name_of both.0 ∙ sym is)
 
--- the name is looked up in the directory that was found
-pub free_in-found : (table : List Branch) (name : List ℕ) (holder : ℕ) (b : Branch) (o : Option Child) (taken : Bool)
-    → b ≡ branch_at table holder → o ≡ child_named b.children name → taken ≡ is_some o
-    → free_in table name (Some holder) ≡ (if taken then Err AlreadyExists else Ok (holder, name))
-free_in-found table name holder b o taken at is some =
-    ap (λ (t : Bool). if t then Err AlreadyExists else Ok (holder, name)) (sym (some ∙ ap is_some (is ∙ ap (λ (d : Branch). child_named d.children name) at)))
+-- both are nothing, or the same name in the same directory
+abbrev pub SpotsAgree : List Branch → Option Spot → Option (ℕ × List ℕ) → Type 0
+SpotsAgree table None None = Unit {0}
+SpotsAgree table None (Some t) = ⊥
+SpotsAgree table (Some s) None = ⊥
+SpotsAgree table (Some s) (Some t) = (at_end table (Dir 0) s.holder ≡ Some (Dir t.0)) × (s.name ≡ t.1)
+
+abbrev spot_at : Place → List ℕ → Spot
+spot_at place name = record { holder = place; name = name }
+
+module _ (table : List Branch) (sound : IsSound table) where
+  agree_in : (name : List ℕ) (r : Result Place ErrorKind) (s : Result Child ErrorKind) → Agrees table r s
+      → SpotsAgree table (spot_in (tree_of_table table) name r) (option_map (λ holder. (holder, name)) (holder_of s))
+  agree_in name (Ok place) (Ok (Dir i)) e =
+      subst (λ (o : Option Child). SpotsAgree table (if is_directory (option_map (node_of table) o) then Some (spot_at place name) else None) (Some (i, name))) (sym e) (e, refl)
+  agree_in name (Ok place) (Ok (File len)) e =
+      subst (λ (o : Option Child). SpotsAgree table (if is_directory (option_map (node_of table) o) then Some (spot_at place name) else None) None) (sym e) tt
+  agree_in name (Ok place) (Err l) e = absurd e
+  agree_in name (Err k) (Ok c) e = absurd e
+  agree_in name (Err k) (Err l) e = tt
+
+  agree_below : (front : List Component) (last : Option Component) → SpotsAgree table (spot_below (tree_of_table table) front last) (named_below table front (name_of last))
+  agree_below front None = tt
+  agree_below front (Some root) = tt
+  agree_below front (Some here) = tt
+  agree_below front (Some up) = tt
+  agree_below front (Some (plain name)) =
+      agree_in name (looked_up (tree_of_table table) true 40 [] front) (reached table (Dir 0) front) (along_agrees table true (Some (looked_up (tree_of_table table) true 39)) sound front [] (Dir 0) refl)
+
+  -- the tree's spot is the table's
+  pub spots_agree : (path : List ℕ) → SpotsAgree table (spot_of (tree_of_table table) path) (named_spot table (components path))
+  spots_agree path = agree_below (all_but_last (components path)) (last_of (components path))

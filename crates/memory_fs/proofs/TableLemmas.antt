@@ -5,7 +5,7 @@ use Rattle.std.specs.declared.io.ErrorKind.{ErrorKind}
 use Rattle.walk_model.specs.Tree.{Place, above, only_root}
 use Rattle.memory_fs.specs.declared.child.Child.{Child}
 use Rattle.memory_fs.specs.declared.child.Child.TheVariants.{Dir, File}
-use Rattle.memory_fs.specs.Branch.{Branch, child_named, children_at, parent_at, child_of, at_end, empty_branch, tree_of_table, IsSound, IsWithin}
+use Rattle.memory_fs.specs.Branch.{Branch, child_named, branch_at, children_at, parent_at, child_of, at_end, empty_branch, tree_of_table, IsSound, IsWithin}
 use Rattle.memory_fs.proofs.PlaceLemmas.{by_last, above-append}
 
 and_then-Some : {X : Type 0} (o : Option X) → option_and_then (λ x. Some x) o ≡ o
@@ -80,6 +80,11 @@ tree-root [] = refl
 tree-root (n ∷ ns) = refl
 
 -- ---- what is found is within the table
+pub within_directory : (table : List Branch) → IsSound table → (holder : ℕ) (name : List ℕ) (b : Branch) (o : Option Child) (c : Child) (place : ℕ)
+    → b ≡ branch_at table holder → o ≡ child_named b.children name → o ≡ Some c → c ≡ Dir place → place < length table
+within_directory table sound holder name b o c place at is some dir =
+    (sound.held holder name place (ap (λ (d : Branch). child_named d.children name) (sym at) ∙ sym is ∙ some ∙ ap (λ (d : Child). Some d) dir)).within
+
 pub within_named : (table : List Branch) → IsSound table → (place : ℕ) (name : List ℕ) (o : Option Child) (k : ErrorKind) → o ≡ child_named (children_at table place) name → IfOk (ok_or o k) (IsWithin table)
 within_named table sound place name None k e = tt
 within_named table sound place name (Some (Dir j)) k e = (sound.held place name j (sym e)).within

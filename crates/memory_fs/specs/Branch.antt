@@ -10,13 +10,14 @@ use Rattle.walk_model.specs.FileSystem.{Listed}
 use Rattle.memory_fs.specs.Child.{type_of}
 use Rattle.memory_fs.specs.declared.child.Child.{Child}
 use Rattle.memory_fs.specs.declared.child.Child.TheVariants.{Dir, File}
-use Rattle.memory_fs.specs.declared.add_error.AddError.{AddError}
-use Rattle.memory_fs.specs.declared.add_error.AddError.TheVariants.{NotFound, AlreadyExists}
+use Rattle.memory_fs.specs.declared.build_error.BuildError.{BuildError}
+use Rattle.memory_fs.specs.declared.build_error.BuildError.TheVariants.{NotFound, AlreadyExists}
 
--- a directory: where the one that holds it stands, and its children by name, in order of creation
+-- a directory: where the one that holds it stands, its children by name, in order of creation, and the kind that reading it fails with, if it was denied
 pub record Branch : Type 0 where
   pub parent : ℕ
   pub children : List (List ℕ × Child)
+  pub denied : Option ErrorKind
 
 -- the child of this name
 abbrev pub child_named : List (List ℕ × Child) → List ℕ → Option Child
@@ -24,11 +25,15 @@ child_named children name = lookup (λ other. bytes_eq name other) children
 
 -- the directory with a new child behind the others
 abbrev pub with_child : List ℕ → Child → Branch → Branch
-with_child name child b = record { parent = b.parent; children = b.children ++ (name, child) ∷ [] }
+with_child name child b = record { parent = b.parent; children = b.children ++ (name, child) ∷ []; denied = b.denied }
+
+-- the directory denied
+abbrev pub with_denied : ErrorKind → Branch → Branch
+with_denied k b = record { parent = b.parent; children = b.children; denied = Some k }
 
 -- a directory with no children
 abbrev pub empty_branch : ℕ → Branch
-empty_branch parent = record { parent = parent; children = [] }
+empty_branch parent = record { parent = parent; children = []; denied = None }
 
 -- the directory at a place of the table, and an empty one past the end
 abbrev pub branch_at : List Branch → ℕ → Branch
@@ -38,6 +43,10 @@ branch_at table place = slice_index_or table place (empty_branch 0)
 abbrev pub with_named : List Branch → ℕ → List ℕ → Child → List Branch
 with_named table holder name child = slice_set table holder (with_child name child (branch_at table holder))
 
+-- the table in which a directory is denied
+abbrev pub with_denial : List Branch → ℕ → ErrorKind → List Branch
+with_denial table place k = slice_set table place (with_denied k (branch_at table place))
+
 -- its children
 abbrev pub children_at : List Branch → ℕ → List (List ℕ × Child)
 children_at table place = (branch_at table place).children
@@ -45,6 +54,10 @@ children_at table place = (branch_at table place).children
 -- where its own holder stands
 abbrev pub parent_at : List Branch → ℕ → ℕ
 parent_at table place = (branch_at table place).parent
+
+-- the kind that reading it fails with
+abbrev pub denied_at : List Branch → ℕ → Option ErrorKind
+denied_at table place = (branch_at table place).denied
 
 -- the child of this name where a directory stands
 abbrev pub child_of : List Branch → Child → List ℕ → Option Child
@@ -75,7 +88,7 @@ AreFound children (e ∷ es) = (child_named children e.0 ≡ Some e.1) × AreFou
 
 -- the node that a child is
 abbrev pub node_of : List Branch → Child → Node
-node_of table (Dir place) = directory (names_of (children_at table place)) None
+node_of table (Dir place) = directory (names_of (children_at table place)) (denied_at table place)
 node_of table (File len) = file len
 
 -- the tree that the table is, whose root comes first
@@ -115,18 +128,33 @@ holder_of (Ok (Dir place)) = Some place
 holder_of (Ok (File len)) = None
 holder_of (Err k) = None
 
--- the name in the directory that was found for it, unless it is taken
-abbrev pub free_in : List Branch → List ℕ → Option ℕ → Result (ℕ × List ℕ) AddError
-free_in table name None = Err NotFound
-free_in table name (Some holder) = if is_some (child_named (children_at table holder) name) then Err AlreadyExists else Ok (holder, name)
+-- the directory that the components lead to, and the name that comes behind them
+abbrev pub named_below : List Branch → List Component → Option (List ℕ) → Option (ℕ × List ℕ)
+named_below table front None = None
+named_below table front (Some name) = option_map (λ holder. (holder, name)) (holder_of (reached table (Dir 0) front))
 
-abbrev pub free_below : List Branch → List Component → Option (List ℕ) → Result (ℕ × List ℕ) AddError
-free_below table front None = Err NotFound
-free_below table front (Some name) = free_in table name (holder_of (reached table (Dir 0) front))
+-- the directory and the name in it that a path leads to
+abbrev pub named_spot : List Branch → List Component → Option (ℕ × List ℕ)
+named_spot table cs = named_below table (all_but_last cs) (name_of (last_of cs))
+
+-- the name is there and isn't taken
+abbrev pub if_free : List Branch → Option (ℕ × List ℕ) → Result (ℕ × List ℕ) BuildError
+if_free table None = Err NotFound
+if_free table (Some s) = if is_some (child_named (children_at table s.0) s.1) then Err AlreadyExists else Ok s
 
 -- the directory and the free name that a path leads to
-abbrev pub free_spot : List Branch → List Component → Result (ℕ × List ℕ) AddError
-free_spot table cs = free_below table (all_but_last cs) (name_of (last_of cs))
+abbrev pub free_spot : List Branch → List Component → Result (ℕ × List ℕ) BuildError
+free_spot table cs = if_free table (named_spot table cs)
+
+-- the directory, if the child is one
+abbrev pub place_of_child : Option Child → Option ℕ
+place_of_child None = None
+place_of_child (Some (Dir place)) = Some place
+place_of_child (Some (File len)) = None
+
+-- the directory that a path leads to by its last name
+abbrev pub directory_spot : List Branch → List Component → Option ℕ
+directory_spot table cs = option_and_then (λ s. place_of_child (child_named (children_at table s.0) s.1)) (named_spot table cs)
 
 -- the place is in the table, if it is one
 abbrev pub IsWithin : List Branch → Child → Type 0

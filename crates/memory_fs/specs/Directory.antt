@@ -4,4 +4,4 @@ use Rattle.memory_fs.specs.declared.directory.Directory.{Directory}
 use Rattle.memory_fs.specs.Branch.{Branch}
 
 abbrev pub branch : {A : Type 0} → Directory A → Branch
-branch d = record { parent = d.parent; children = map (λ e. (string_bytes e.0, e.1)) d.children.entries }
+branch d = record { parent = d.parent; children = map (λ e. (string_bytes e.0, e.1)) d.children.entries; denied = d.denied }

@@ -1,7 +1,7 @@
 //! A directory of the table. A clause sees it as a `Branch`.
 ghost use Rattle.std.specs.Prelude.{◌≡◌, [], map, None, IfOk, OnOk, OnErr};
 ghost use Rattle.std.specs.Option.{option_copied};
-ghost use Rattle.memory_fs.specs.Branch.{child_named, with_child, listing_of, AreFound};
+ghost use Rattle.memory_fs.specs.Branch.{child_named, with_child, with_denied, listing_of, AreFound};
 ghost use Rattle.memory_fs.specs.Directory.{branch};
 ghost use Rattle.walk_fs.specs.Views.{listed};
 
@@ -10,23 +10,27 @@ use indexmap::IndexMap;
 use std::alloc::{AllocError, Allocator};
 use std::hash::{BuildHasherDefault, FoldHasher};
 use std::io;
+use std::io::ErrorKind;
 use walk_fs::listed::Listed;
 
-/// The children by name, in order of creation, and where the directory stands that holds this one.
+/// The children by name, in order of creation, where the directory stands that holds this one, and the error kind that
+/// reading this one fails with, if it was denied.
 #[derive(Drop)]
 pub struct Directory<A: Allocator + Copy> {
     pub(crate) parent: usize,
     pub(crate) children: IndexMap<String<A>, Child, BuildHasherDefault<FoldHasher>, A>,
+    pub(crate) denied: Option<ErrorKind>,
 }
 
 impl<A: Allocator + Copy> Directory<A> {
-    /// A directory with no children.
+    /// A directory with no children, which may be read.
     pub(crate) fn new(alloc: A, parent: usize) -> Self
-        ensures { branch result ≡ record { parent = parent; children = [] } }
+        ensures { branch result ≡ record { parent = parent; children = []; denied = None } }
     {
         Directory {
             parent,
             children: IndexMap::new(alloc),
+            denied: None,
         }
     }
 
@@ -46,6 +50,13 @@ impl<A: Allocator + Copy> Directory<A> {
         let text = String::from_str(*self.children.allocator(), name)?;
         self.children.insert(text, child)?;
         Ok(())
+    }
+
+    /// Reading the directory fails with this kind from now on.
+    pub(crate) fn deny(&mut self, kind: ErrorKind)
+        ensures { branch self.new ≡ with_denied kind (branch self.old) }
+    {
+        self.denied = Some(kind);
     }
 
     /// The children in order of creation, each with its type. A name stands for one child.

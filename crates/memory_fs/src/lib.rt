@@ -1,7 +1,7 @@
 //! A file system in memory.
 #![tactic(auto)]
 
-pub mod add_error;
+pub mod build_error;
 mod child;
 mod directory;
 pub mod memory_fs;

@@ -7,7 +7,7 @@ ghost use Rattle.walk_model.specs.PathTexts.{component_seen};
 ghost use Rattle.memory_fs.specs.Branch.{IsSound};
 ghost use Rattle.memory_fs.specs.Table.{branches};
 
-use crate::add_error::AddError;
+use crate::build_error::BuildError;
 use crate::child::Child;
 use crate::spot::Spot;
 use crate::table::Table;
@@ -28,13 +28,13 @@ pub struct MemoryFs<A: Allocator + Copy = Global> {
 }
 
 impl<A: Allocator + Copy> MemoryFs<A> {
-    ghost use Rattle.std.specs.Prelude.{◌≡◌, ◌<◌, ◌↔◌, ℕ, [], length, None, IfSome, IfOk, OnOk, OnErr, MatchResult, Ok, Err};
+    ghost use Rattle.std.specs.Prelude.{◌≡◌, ◌<◌, ◌↔◌, ℕ, [], length, None, IfSome, IfOk, IfErr, OnOk, OnErr, MatchOption, MatchResult, Some, Ok, Err};
     ghost use Rattle.walk_model.specs.Paths.{components};
     ghost use Rattle.walk_model.specs.PathTexts.{components_left, component_seen};
-    ghost use Rattle.walk_model.specs.Tree.{Place, only_root, directory, file, add, not_found, already_exists};
+    ghost use Rattle.walk_model.specs.Tree.{Place, only_root, directory, file, add, deny, not_found, already_exists};
     ghost use Rattle.memory_fs.specs.declared.child.Child.{Child};
     ghost use Rattle.memory_fs.specs.declared.child.Child.TheVariants.{Dir};
-    ghost use Rattle.memory_fs.specs.Branch.{next_child, reached, found, holder_of, free_spot, IsWithin};
+    ghost use Rattle.memory_fs.specs.Branch.{next_child, reached, found, holder_of, named_spot, free_spot, directory_spot, IsWithin};
     ghost use Rattle.memory_fs.specs.MemoryFs.{tree_of, IsSameTree, IsBuilt};
 
     /// The tree with nothing below its root, which needs no memory. The allocator serves all that is added.
@@ -49,30 +49,47 @@ impl<A: Allocator + Copy> MemoryFs<A> {
     /// Adds an empty directory, the last of its holder's children. `NotFound` where the path's last component is no plain
     /// name or the ones before it lead to no directory, from the root; `AlreadyExists` where the name is taken; else `Memory`
     /// where memory is refused. After a refusal the tree is as it was.
-    pub fn add_dir(&mut self, path: &str) -> Result<(), AddError>
+    pub fn add_dir(&mut self, path: &str) -> Result<(), BuildError>
         ensures added { OnOk result (IsBuilt (add (directory [] None) path.now (tree_of self.old)) (tree_of self.new)) }
-        ensures not_found { (result ≡ Err AddError.NotFound)
+        ensures not_found { (result ≡ Err BuildError.NotFound)
             ↔ (add (directory [] None) path.now (tree_of self.old) ≡ Err not_found) }
-        ensures already_exists { (result ≡ Err AddError.AlreadyExists)
+        ensures already_exists { (result ≡ Err BuildError.AlreadyExists)
             ↔ (add (directory [] None) path.now (tree_of self.old) ≡ Err already_exists) }
         ensures err { OnErr result (IsSameTree (tree_of self.old) (tree_of self.new)) }
     {
-        let spot = self.spot(path)?;
+        let spot = self.free_spot(path)?;
         self.table.add_directory(spot.holder, spot.name)?;
         Ok(())
     }
 
     /// Adds a file of a length in bytes, where `add_dir` would add a directory, with the same refusals.
-    pub fn add_file(&mut self, path: &str, len: u64) -> Result<(), AddError>
+    pub fn add_file(&mut self, path: &str, len: u64) -> Result<(), BuildError>
         ensures added { OnOk result (IsBuilt (add (file len) path.now (tree_of self.old)) (tree_of self.new)) }
-        ensures not_found { (result ≡ Err AddError.NotFound)
+        ensures not_found { (result ≡ Err BuildError.NotFound)
             ↔ (add (file len) path.now (tree_of self.old) ≡ Err not_found) }
-        ensures already_exists { (result ≡ Err AddError.AlreadyExists)
+        ensures already_exists { (result ≡ Err BuildError.AlreadyExists)
             ↔ (add (file len) path.now (tree_of self.old) ≡ Err already_exists) }
         ensures err { OnErr result (IsSameTree (tree_of self.old) (tree_of self.new)) }
     {
-        let spot = self.spot(path)?;
+        let spot = self.free_spot(path)?;
         self.table.add(spot.holder, spot.name, Child::File(len))?;
+        Ok(())
+    }
+
+    /// Reading the directory at the path fails with this kind from now on; a later kind replaces it, and nothing else is
+    /// touched. `NotFound` where `add_dir` answers it, and where no directory has that name. It needs no memory. After a
+    /// refusal the tree is as it was.
+    pub fn deny(&mut self, path: &str, kind: ErrorKind) -> Result<(), BuildError>
+        ensures denied { OnOk result (IsBuilt (deny kind path.now (tree_of self.old)) (tree_of self.new)) }
+        ensures not_found { (result ≡ Err BuildError.NotFound)
+            ↔ (deny kind path.now (tree_of self.old) ≡ Err not_found) }
+        ensures only_not_found { IfErr result (λ e. e ≡ BuildError.NotFound) }
+        ensures err { OnErr result (IsSameTree (tree_of self.old) (tree_of self.new)) }
+    {
+        let Some(place) = self.directory(path) else {
+            return Err(BuildError::NotFound);
+        };
+        self.table.deny(place, kind);
         Ok(())
     }
 
@@ -133,21 +150,41 @@ impl<A: Allocator + Copy> MemoryFs<A> {
     }
 
     // Where a path that is built on leads.
-    fn spot<'p>(&self, path: &'p str) -> Result<Spot<'p>, AddError>
+    fn spot<'p>(&self, path: &'p str) -> Option<Spot<'p>>
+        ensures value { MatchOption result (named_spot (branches self.now.table) (components path.now) ≡ None) (λ s. named_spot (branches self.now.table) (components path.now) ≡ Some (s.holder, s.name.now)) }
+        ensures within { IfSome result (λ s. s.holder < length (branches self.now.table)) }
+    {
+        let mut front = Path::new(path).components();
+        let name = plain_name(front.next_back())?;
+        let holder = self.holder(front)?;
+        Some(Spot { holder, name })
+    }
+
+    // The same for a new child.
+    fn free_spot<'p>(&self, path: &'p str) -> Result<Spot<'p>, BuildError>
         ensures value { MatchResult result (λ s. free_spot (branches self.now.table) (components path.now) ≡ Ok (s.holder, s.name.now)) (λ e. free_spot (branches self.now.table) (components path.now) ≡ Err e) }
         ensures within { IfOk result (λ s. s.holder < length (branches self.now.table)) }
     {
-        let mut front = Path::new(path).components();
-        let Some(name) = plain_name(front.next_back()) else {
-            return Err(AddError::NotFound);
+        let Some(spot) = self.spot(path) else {
+            return Err(BuildError::NotFound);
         };
-        let Some(holder) = self.holder(front) else {
-            return Err(AddError::NotFound);
-        };
-        if self.table.directory(holder).child(name).is_some() {
-            return Err(AddError::AlreadyExists);
+        if self.table.directory(spot.holder).child(spot.name).is_some() {
+            return Err(BuildError::AlreadyExists);
         }
-        Ok(Spot { holder, name })
+        Ok(spot)
+    }
+
+    // The directory there.
+    fn directory(&self, path: &str) -> Option<usize>
+        ensures value { result ≡ directory_spot (branches self.now.table) (components path.now) }
+        ensures within { IfSome result (λ place. place < length (branches self.now.table)) }
+    {
+        let spot = self.spot(path)?;
+        match self.table.directory(spot.holder).child(spot.name) {
+            Some(Child::Dir(place)) => Some(place),
+            Some(Child::File(_)) => None,
+            None => None,
+        }
     }
 }
 
@@ -165,10 +202,16 @@ impl<A: Allocator + Copy> FileSystem for MemoryFs<A> {
         path: &str,
     ) -> Result<Vec<io::Result<Listed<B>>, B>, Fault> {
         match self.look_up(path) {
-            Ok(Child::Dir(place)) => match self.table.directory(place).listing(alloc) {
-                Ok(items) => Ok(items),
-                Err(_) => Err(Fault::Memory),
-            },
+            Ok(Child::Dir(place)) => {
+                let directory = self.table.directory(place);
+                if let Some(kind) = directory.denied {
+                    return Err(Fault::Io(io::Error::from(kind)));
+                }
+                match directory.listing(alloc) {
+                    Ok(items) => Ok(items),
+                    Err(_) => Err(Fault::Memory),
+                }
+            }
             Ok(Child::File(_)) => Err(Fault::Io(io::Error::from(ErrorKind::InvalidInput))),
             Err(kind) => Err(Fault::Io(io::Error::from(kind))),
         }

@@ -1,6 +1,6 @@
-//! A place for a new child.
+//! What a path that is built on leads to.
 
-/// A name that is free in a directory, which is named by its place in the table.
+/// A name in a directory, which is named by its place in the table. It may stand for a child or be free.
 #[derive(Clone, Copy)]
 pub(crate) struct Spot<'p> {
     pub(crate) holder: usize,

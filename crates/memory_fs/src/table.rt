@@ -1,13 +1,14 @@
 //! The directories of a tree by their places. A clause sees them as a list of branches.
 ghost use Rattle.std.specs.Prelude.{◌≡◌, ◌<◌, ◌++◌, ◌∷◌, [], None, OnOk, OnErr, length, slice_set, vec_capacity};
 ghost use Rattle.memory_fs.specs.declared.child.Child.TheVariants.{Dir};
-ghost use Rattle.memory_fs.specs.Branch.{children_at, child_named, branch_at, empty_branch, with_child, with_named};
+ghost use Rattle.memory_fs.specs.Branch.{children_at, child_named, branch_at, empty_branch, with_child, with_named, with_denial};
 ghost use Rattle.memory_fs.specs.Directory.{branch};
 ghost use Rattle.memory_fs.specs.Table.{branches};
 
 use crate::child::Child;
 use crate::directory::Directory;
 use std::alloc::{AllocError, Allocator};
+use std::io::ErrorKind;
 
 /// The root, at place 0, and behind it the directories in order of creation.
 #[derive(Drop)]
@@ -74,6 +75,18 @@ impl<A: Allocator + Copy> Table<A> {
         match self.others.push(directory) {
             Ok(()) => Ok(()),
             Err(_) => unreachable!(),
+        }
+    }
+
+    /// Reading a directory fails with this kind from now on.
+    pub(crate) fn deny(&mut self, place: usize, kind: ErrorKind)
+        requires { place < length (branches self.old) }
+        ensures { branches self.new ≡ with_denial (branches self.old) place kind }
+    {
+        if place == 0 {
+            self.root.deny(kind);
+        } else {
+            self.others[place - 1].deny(kind);
         }
     }
 }

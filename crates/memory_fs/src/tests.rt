@@ -1,5 +1,5 @@
 //! What a small tree answers.
-use crate::add_error::AddError;
+use crate::build_error::BuildError;
 use crate::memory_fs::MemoryFs;
 use std::alloc::Global;
 use std::io::ErrorKind;
@@ -10,7 +10,7 @@ use walk_model::file_type::FileType;
 use walk_model::metadata::Metadata;
 
 // A directory that holds a file.
-fn small(alloc: Global) -> Result<MemoryFs, AddError> {
+fn small(alloc: Global) -> Result<MemoryFs, BuildError> {
     let mut fs = MemoryFs::new(alloc);
     fs.add_dir("/r")?;
     fs.add_file("/r/f", 7)?;
@@ -50,9 +50,60 @@ fn a_file_is_no_directory_and_no_link(rt: HostRuntime) -> Result<(), Fail> {
 #[test]
 fn refusals_of_building(rt: HostRuntime) -> Result<(), Fail> {
     let mut fs = small(rt.alloc())?;
-    assert_eq!(rt; fs.add_file("/r/f", 1), Err(AddError::AlreadyExists));
-    assert_eq!(rt; fs.add_dir("/n/m"), Err(AddError::NotFound));
-    assert_eq!(rt; fs.add_dir("/"), Err(AddError::NotFound));
+    assert_eq!(rt; fs.add_file("/r/f", 1), Err(BuildError::AlreadyExists));
+    assert_eq!(rt; fs.add_dir("/n/m"), Err(BuildError::NotFound));
+    assert_eq!(rt; fs.add_dir("/"), Err(BuildError::NotFound));
+    Ok(())
+}
+
+// A directory with two others and files on two levels.
+fn grouped(alloc: Global) -> Result<MemoryFs, BuildError> {
+    let mut fs = MemoryFs::new(alloc);
+    fs.add_dir("/t")?;
+    fs.add_file("/t/c.txt", 1)?;
+    fs.add_file("/t/a.txt", 2)?;
+    fs.add_dir("/t/group 2")?;
+    fs.add_file("/t/group 2/.hidden_file.txt", 3)?;
+    fs.add_file("/t/group 2/e.txt", 4)?;
+    fs.add_dir("/t/group 1")?;
+    fs.add_file("/t/group 1/d.txt", 5)?;
+    fs.add_file("/t/b.txt", 6)?;
+    Ok(fs)
+}
+
+#[test]
+fn denied_directory_is_not_listed(rt: HostRuntime) -> Result<(), Fail> {
+    let mut fs = grouped(rt.alloc())?;
+    let denied = Some(ErrorKind::PermissionDenied);
+    assert_eq!(rt; fs.deny("/t/group 2", ErrorKind::PermissionDenied), Ok(()));
+    assert_eq!(rt; kind(fs.read_dir(rt.alloc(), "/t/group 2")), denied);
+    assert_eq!(rt; kind(fs.read_dir(rt.alloc(), "/t/group 1")), None);
+    let dir = Metadata::new(FileType::Dir, 0);
+    assert_eq!(rt; fs.metadata("/t/group 2").ok(), Some(dir));
+    let file = Metadata::new(FileType::File, 4);
+    assert_eq!(rt; fs.metadata("/t/group 2/e.txt").ok(), Some(file));
+    Ok(())
+}
+
+#[test]
+fn later_kind_replaces_the_first(rt: HostRuntime) -> Result<(), Fail> {
+    let mut fs = small(rt.alloc())?;
+    let other = Some(ErrorKind::Other);
+    assert_eq!(rt; fs.deny("/r", ErrorKind::PermissionDenied), Ok(()));
+    assert_eq!(rt; fs.deny("r/.", ErrorKind::Other), Ok(()));
+    assert_eq!(rt; kind(fs.read_dir(rt.alloc(), "/r")), other);
+    Ok(())
+}
+
+#[test]
+fn refusals_of_denying(rt: HostRuntime) -> Result<(), Fail> {
+    let mut fs = small(rt.alloc())?;
+    let kind = ErrorKind::PermissionDenied;
+    let not_found = Err(BuildError::NotFound);
+    assert_eq!(rt; fs.deny("/r/f", kind), not_found);
+    assert_eq!(rt; fs.deny("/n", kind), not_found);
+    assert_eq!(rt; fs.deny("/", kind), not_found);
+    assert_eq!(rt; fs.deny("", kind), not_found);
     Ok(())
 }
 

@@ -7,7 +7,7 @@ ghost use Rattle.walk.specs.Built.{added, Adds, Builds, CannotAdd};
 use crate::failure::Failure;
 use crate::lines::NumberedLines;
 use crate::tree_line::{TreeLine, parse_tree_line};
-use jwalk::file_system::{AddError, MemoryFs};
+use jwalk::file_system::{BuildError, MemoryFs};
 use std::alloc::Allocator;
 use std::str;
 
@@ -42,7 +42,7 @@ fn add_line<A: Allocator + Copy>(
     };
     match add(fs, said) {
         Ok(()) => Ok(()),
-        Err(AddError::Memory) => Err(Failure::Memory),
+        Err(BuildError::Memory) => Err(Failure::Memory),
         Err(_) => Err(Failure::BadTree(number)),
     }
 }

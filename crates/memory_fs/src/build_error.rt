@@ -1,0 +1,40 @@
+//! Why a tree can't be built on.
+ghost use Rattle.std.specs.Prelude.{◌≡◌};
+
+use std::alloc::AllocError;
+use std::error::Error;
+use std::fmt;
+
+/// Why a step of building was refused. The tree is then as it was.
+#[derive(Clone, Copy, Debug, PartialEq, Eq)]
+pub enum BuildError {
+    /// The path's last component is no plain name, or the ones before it lead to no directory; or the step needs a
+    /// directory there and there is none.
+    NotFound,
+    /// The name for a new child is taken.
+    AlreadyExists,
+    /// Memory was refused.
+    Memory,
+}
+
+impl fmt::Display for BuildError {
+    fn fmt<W: fmt::Write>(&self, f: &mut fmt::Formatter<W>) -> fmt::Result {
+        f.write_str(match self {
+            BuildError::NotFound => "no such directory",
+            BuildError::AlreadyExists => "the name is taken",
+            BuildError::Memory => "memory refused",
+        })
+    }
+}
+
+impl Error for BuildError {}
+
+impl From<AllocError> for BuildError {
+    ghost use Rattle.memory_fs.specs.declared.build_error.BuildError.TheVariants.{Memory};
+
+    ghost from_gives = { λ _ e. e ≡ Memory };
+
+    fn from(_error: AllocError) -> Self {
+        BuildError::Memory
+    }
+}
