@@ -8,6 +8,8 @@ mod lines;
 #[cfg(test)]
 mod listed_directory;
 #[cfg(test)]
+mod options;
+#[cfg(test)]
 mod readings;
 #[cfg(test)]
 mod roots;

@@ -11,10 +11,18 @@ pub type Entry = DirEntry<((), ())>;
 
 pub type Walk<S> = DirEntryIter<((), ()), S, NoProcess>;
 
+/// A walk yet to begin.
+pub type Builder<S> = WalkDirGeneric<((), ()), S, NoProcess>;
+
+/// A walk that is yet to begin, with the options as they are.
+pub fn builder<S: FileSystem>(alloc: Global, fs: S, root: &str) -> Result<Builder<S>, AllocError> {
+    let root = String::from_str(alloc, root)?;
+    Ok(WalkDirGeneric::new(fs, root))
+}
+
 /// A walk begun.
 pub fn walk<S: FileSystem>(alloc: Global, fs: S, root: &str) -> Result<Walk<S>, AllocError> {
-    let root = String::from_str(alloc, root)?;
-    Ok(WalkDirGeneric::<((), ()), S, NoProcess>::new(fs, root).into_iter())
+    Ok(builder(alloc, fs, root)?.into_iter())
 }
 
 /// The next answer, if it is an entry.
@@ -80,7 +88,12 @@ pub fn line(alloc: Global, answer: &Result<Entry, Error>) -> Result<String, Allo
 
 /// All answers of a walk, parted by `; `, once it was seen that `None` stays.
 pub fn answers<S: FileSystem>(alloc: Global, fs: S, root: &str) -> Result<String, AllocError> {
-    let mut walk = walk(alloc, fs, root)?;
+    answers_of(alloc, builder(alloc, fs, root)?)
+}
+
+/// All answers of a walk that is yet to begin.
+pub fn answers_of<S: FileSystem>(alloc: Global, walk: Builder<S>) -> Result<String, AllocError> {
+    let mut walk = walk.into_iter();
     let mut text = String::new(alloc);
     for answer in walk.by_ref() {
         if !text.is_empty() {

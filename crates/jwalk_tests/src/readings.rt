@@ -49,7 +49,7 @@ impl ProcessReadDir<Noted, Global> for NotesNames {
 #[test]
 fn a_reading_has_its_items_and_directories_in_order(rt: HostRuntime) -> Result<(), Fail> {
     let fs = grouped_tree(rt.alloc())?;
-    let job = Job::<Noted, _, _>::new(rt.alloc(), fs, NotesNames, true, usize::MAX);
+    let job = Job::<Noted, _, _>::new(rt.alloc(), fs, NotesNames, false, true, usize::MAX);
     let roots = job.root_list("/t", None)?.read_children_specs()?;
     let root = roots.first().ok_or("no root")?;
     assert_eq!(rt; root.path.as_str(), "/t");
@@ -67,7 +67,7 @@ fn a_reading_has_its_items_and_directories_in_order(rt: HostRuntime) -> Result<(
 fn nothing_is_read_at_the_greatest_depth(rt: HostRuntime) -> Result<(), Fail> {
     let fs = Watched::new(grouped_tree(rt.alloc())?, Failing::Never);
     let fs = Arc::new(rt.alloc(), fs)?;
-    let job = Job::<((), ()), _, _>::new(rt.alloc(), fs.clone()?, NoProcess, true, 0);
+    let job = Job::<((), ()), _, _>::new(rt.alloc(), fs.clone()?, NoProcess, false, true, 0);
     let roots = job.root_list("/t", ())?.read_children_specs()?;
     let root = roots.first().ok_or("no root")?;
     let read = job.read_one(root)?.ok().ok_or("not read")?;

@@ -1,9 +1,10 @@
 //! Trees to walk over.
-use jwalk::file_system::{AddError, MemoryFs};
+use jwalk::file_system::{BuildError, MemoryFs};
 use std::alloc::Global;
+use std::io::ErrorKind;
 
 /// A directory with two files and a directory between them.
-pub fn small_tree(alloc: Global) -> Result<MemoryFs, AddError> {
+pub fn small_tree(alloc: Global) -> Result<MemoryFs, BuildError> {
     let mut fs = MemoryFs::new(alloc);
     fs.add_dir("/r")?;
     fs.add_file("/r/b", 3)?;
@@ -14,7 +15,7 @@ pub fn small_tree(alloc: Global) -> Result<MemoryFs, AddError> {
 }
 
 /// Files and two groups of files, one of which has a hidden name.
-pub fn grouped_tree(alloc: Global) -> Result<MemoryFs, AddError> {
+pub fn grouped_tree(alloc: Global) -> Result<MemoryFs, BuildError> {
     let mut fs = MemoryFs::new(alloc);
     fs.add_dir("/t")?;
     fs.add_file("/t/c.txt", 1)?;
@@ -28,8 +29,15 @@ pub fn grouped_tree(alloc: Global) -> Result<MemoryFs, AddError> {
     Ok(fs)
 }
 
+/// The same tree, where one group may not be listed.
+pub fn denied_tree(alloc: Global) -> Result<MemoryFs, BuildError> {
+    let mut fs = grouped_tree(alloc)?;
+    fs.deny("/t/group 2", ErrorKind::PermissionDenied)?;
+    Ok(fs)
+}
+
 /// One directory that is empty.
-pub fn empty_directory(alloc: Global, path: &str) -> Result<MemoryFs, AddError> {
+pub fn empty_directory(alloc: Global, path: &str) -> Result<MemoryFs, BuildError> {
     let mut fs = MemoryFs::new(alloc);
     fs.add_dir(path)?;
     Ok(fs)

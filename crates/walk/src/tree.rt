@@ -12,9 +12,9 @@ use std::alloc::Allocator;
 use std::str;
 
 /// Adds to a tree what a line says.
-fn add<A: Allocator + Copy>(fs: &mut MemoryFs<A>, line: TreeLine<'_>) -> Result<(), AddError>
+fn add<A: Allocator + Copy>(fs: &mut MemoryFs<A>, line: TreeLine<'_>) -> Result<(), BuildError>
     ensures ok { OnOk result (IsBuilt (added line.entry (tree_of fs.old)) (tree_of fs.new)) }
-    ensures err { IfErr result (λ e. e ≢ AddError.Memory → IsErr (added line.entry (tree_of fs.old))) }
+    ensures err { IfErr result (λ e. e ≢ BuildError.Memory → IsErr (added line.entry (tree_of fs.old))) }
 {
     match line {
         TreeLine::Dir(path) => fs.add_dir(path),

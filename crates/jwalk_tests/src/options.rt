@@ -1,0 +1,126 @@
+//! Walks with options.
+use crate::lines::{answers_of, builder, is_over};
+use crate::listed_directory::{Item, ListedDirectory};
+use crate::trees::{denied_tree, grouped_tree};
+use crate::watched::{Failing, Watched};
+use jwalk::Parallelism;
+use jwalk::file_system::FileType;
+use std::io::ErrorKind;
+use std::sync::Arc;
+use std::test::Fail;
+
+#[test]
+fn names_in_order(rt: HostRuntime) -> Result<(), Fail> {
+    let walk = builder(rt.alloc(), grouped_tree(rt.alloc())?, "/t")?.sort(true);
+    let found = answers_of(rt.alloc(), walk.parallelism(Parallelism::Serial))?;
+    let wanted = "0 d /t; 1 f /t/a.txt; 1 f /t/b.txt; 1 f /t/c.txt; 1 d /t/group 1; \
+                  2 f /t/group 1/d.txt; 1 d /t/group 2; 2 f /t/group 2/e.txt";
+    assert_eq!(rt; found.as_str(), wanted);
+    Ok(())
+}
+
+#[test]
+fn hidden_names_too(rt: HostRuntime) -> Result<(), Fail> {
+    let walk = builder(rt.alloc(), grouped_tree(rt.alloc())?, "/t")?.sort(true);
+    let found = answers_of(rt.alloc(), walk.skip_hidden(false))?;
+    let wanted = "0 d /t; 1 f /t/a.txt; 1 f /t/b.txt; 1 f /t/c.txt; 1 d /t/group 1; \
+                  2 f /t/group 1/d.txt; 1 d /t/group 2; 2 f /t/group 2/.hidden_file.txt; \
+                  2 f /t/group 2/e.txt";
+    assert_eq!(rt; found.as_str(), wanted);
+    Ok(())
+}
+
+#[test]
+fn the_root_alone_at_greatest_depth_0(rt: HostRuntime) -> Result<(), Fail> {
+    let walk = builder(rt.alloc(), grouped_tree(rt.alloc())?, "/t")?.max_depth(0);
+    assert_eq!(rt; answers_of(rt.alloc(), walk)?.as_str(), "0 d /t");
+    Ok(())
+}
+
+#[test]
+fn a_denied_directory(rt: HostRuntime) -> Result<(), Fail> {
+    let walk = builder(rt.alloc(), denied_tree(rt.alloc())?, "/t")?.sort(true);
+    let found = answers_of(rt.alloc(), walk)?;
+    let wanted = "0 d /t; 1 f /t/a.txt; 1 f /t/b.txt; 1 f /t/c.txt; 1 d /t/group 1; \
+                  2 f /t/group 1/d.txt; 1 d /t/group 2 ! PermissionDenied";
+    assert_eq!(rt; found.as_str(), wanted);
+    Ok(())
+}
+
+#[test]
+fn the_error_of_a_denied_directory(rt: HostRuntime) -> Result<(), Fail> {
+    let walk = builder(rt.alloc(), denied_tree(rt.alloc())?, "/t")?.sort(true);
+    let denied = walk.into_iter().last().ok_or("nothing")?.ok().ok_or("an error")?;
+    let children = denied.read_children.as_ref().ok_or("no directory")?;
+    let error = children.error().ok_or("no error")?;
+    assert_eq!(rt; error.depth(), 1);
+    assert_eq!(rt; error.path(), Some("/t/group 2"));
+    Ok(())
+}
+
+#[test]
+fn a_denied_directory_at_the_greatest_depth_is_not_read(rt: HostRuntime) -> Result<(), Fail> {
+    let walk = builder(rt.alloc(), denied_tree(rt.alloc())?, "/t")?.sort(true);
+    let found = answers_of(rt.alloc(), walk.max_depth(1))?;
+    let wanted = "0 d /t; 1 f /t/a.txt; 1 f /t/b.txt; 1 f /t/c.txt; 1 d /t/group 1; \
+                  1 d /t/group 2";
+    assert_eq!(rt; found.as_str(), wanted);
+    Ok(())
+}
+
+#[test]
+fn a_denied_directory_above_the_least_depth(rt: HostRuntime) -> Result<(), Fail> {
+    let walk = builder(rt.alloc(), denied_tree(rt.alloc())?, "/t")?.sort(true);
+    let found = answers_of(rt.alloc(), walk.min_depth(2))?;
+    assert_eq!(rt; found.as_str(), "2 f /t/group 1/d.txt");
+    Ok(())
+}
+
+#[test]
+fn the_later_depth_gives_way(rt: HostRuntime) -> Result<(), Fail> {
+    let walk = builder(rt.alloc(), grouped_tree(rt.alloc())?, "/t")?.sort(true);
+    let mut raised = walk.min_depth(5).max_depth(2).into_iter();
+    assert!(rt; is_over(&mut raised));
+    let walk = builder(rt.alloc(), grouped_tree(rt.alloc())?, "/t")?.sort(true);
+    let lowered = answers_of(rt.alloc(), walk.max_depth(2).min_depth(5))?;
+    assert_eq!(rt; lowered.as_str(), "2 f /t/group 1/d.txt; 2 f /t/group 2/e.txt");
+    Ok(())
+}
+
+fn faulty_directory<'a>(items: &'a [Item]) -> ListedDirectory<'a> {
+    ListedDirectory {
+        path: "/d",
+        file_type: FileType::Dir,
+        target: Some(FileType::Dir),
+        items,
+    }
+}
+
+#[test]
+fn errors_after_entries_and_whatever_their_depth(rt: HostRuntime) -> Result<(), Fail> {
+    let items = [
+        Item::Untyped(".x", ErrorKind::PermissionDenied),
+        Item::Unread(ErrorKind::InvalidData),
+        Item::Typed("b", FileType::File),
+        Item::Typed("a", FileType::File),
+    ];
+    let walk = builder(rt.alloc(), faulty_directory(&items), "/d")?.sort(true);
+    let sorted = answers_of(rt.alloc(), walk)?;
+    let wanted = "0 d /d; 1 f /d/a; 1 f /d/b; ! 1 /d/.x PermissionDenied; ! 1 - InvalidData";
+    assert_eq!(rt; sorted.as_str(), wanted);
+    let walk = builder(rt.alloc(), faulty_directory(&items), "/d")?.sort(true);
+    let deep = answers_of(rt.alloc(), walk.min_depth(5).max_depth(5))?;
+    assert_eq!(rt; deep.as_str(), "! 1 /d/.x PermissionDenied; ! 1 - InvalidData");
+    Ok(())
+}
+
+#[test]
+fn nothing_below_the_greatest_depth_is_listed(rt: HostRuntime) -> Result<(), Fail> {
+    let fs = Watched::new(grouped_tree(rt.alloc())?, Failing::Never);
+    let fs = Arc::new(rt.alloc(), fs)?;
+    let found = answers_of(rt.alloc(), builder(rt.alloc(), fs.clone()?, "/t")?.max_depth(1))?;
+    let wanted = "0 d /t; 1 f /t/c.txt; 1 f /t/a.txt; 1 d /t/group 2; 1 d /t/group 1; 1 f /t/b.txt";
+    assert_eq!(rt; found.as_str(), wanted);
+    assert_eq!(rt; fs.lists(), 1);
+    Ok(())
+}
