@@ -1,9 +1,10 @@
 //! Walks over file systems that fail, or whose listings are odd.
-use crate::lines::{answers, is_over, next_entry, next_error, walk};
+use crate::lines::{answers, is_over, next_entry, walk};
 use crate::listed_directory::{Item, ListedDirectory};
 use crate::trees::{grouped_tree, small_tree};
 use crate::watched::{Failing, Watched};
-use jwalk::file_system::FileType;
+use jwalk::file_system::{AddError, FileType};
+use std::alloc::Global;
 use std::io::ErrorKind;
 use std::sync::Arc;
 use std::test::Fail;
@@ -48,46 +49,28 @@ fn odd_names_are_joined_as_texts(rt: HostRuntime) -> Result<(), Fail> {
 fn a_directory_that_can_not_be_listed_is_still_answered(rt: HostRuntime) -> Result<(), Fail> {
     let failing = Failing::List("/r/s", ErrorKind::PermissionDenied);
     let fs = Watched::new(small_tree(rt.alloc())?, failing);
-    let mut walk = walk(rt.alloc(), fs, "/r")?;
-    let _root = next_entry(&mut walk).ok_or("no root")?;
-    let _file = next_entry(&mut walk).ok_or("no file")?;
-    let unread = next_entry(&mut walk).ok_or("no directory")?;
-    assert_eq!(rt; unread.path()?.as_str(), "/r/s");
-    let children = unread.read_children.as_ref().ok_or("no children")?;
-    let error = children.error().ok_or("no error")?;
-    assert_eq!(rt; error.depth(), 1);
-    assert_eq!(rt; error.path(), Some("/r/s"));
-    assert_eq!(rt;
-        error.io_error().map(|e| e.kind()),
-        Some(ErrorKind::PermissionDenied)
-    );
-    let sibling = next_entry(&mut walk).ok_or("no sibling")?;
-    assert_eq!(rt; sibling.path()?.as_str(), "/r/a");
-    assert!(rt; is_over(&mut walk));
+    let found = answers(rt.alloc(), fs, "/r")?;
+    let wanted = "0 d /r; 1 f /r/b; 1 d /r/s ! 1 /r/s PermissionDenied; 1 f /r/a";
+    assert_eq!(rt; found.as_str(), wanted);
     Ok(())
+}
+
+fn until(alloc: Global, failing: Failing) -> Result<String, AddError> {
+    let found = answers(alloc, Watched::new(grouped_tree(alloc)?, failing), "/t")?;
+    Ok(found)
 }
 
 #[test]
 fn want_of_memory_ends_a_walk(rt: HostRuntime) -> Result<(), Fail> {
-    let rows = [
-        (Failing::ListForMemory("/t/group 1"), 5),
-        (Failing::ListForMemory("/t/group 2"), 3),
-        (Failing::ListForMemory("/t"), 0),
-        (Failing::MetadataForMemory("/t"), 0),
-    ];
-    for (failing, entries) in rows {
-        let fs = Watched::new(grouped_tree(rt.alloc())?, failing);
-        let mut walk = walk(rt.alloc(), fs, "/t")?;
-        for _ in 0..entries {
-            let _entry = next_entry(&mut walk).ok_or("no entry")?;
-        }
-        let error = next_error(&mut walk).ok_or("no error")?;
-        assert!(rt; error.is_memory(), "{failing:?}");
-        assert_eq!(rt; error.depth(), 0, "{failing:?}");
-        assert_eq!(rt; error.path(), None, "{failing:?}");
-        assert!(rt; error.io_error().is_none(), "{failing:?}");
-        assert!(rt; is_over(&mut walk), "{failing:?}");
-    }
+    let found = until(rt.alloc(), Failing::ListForMemory("/t/group 2"))?;
+    assert_eq!(rt;
+        found.as_str(),
+        "0 d /t; 1 f /t/c.txt; 1 f /t/a.txt; ! 0 - memory"
+    );
+    let found = until(rt.alloc(), Failing::ListForMemory("/t"))?;
+    assert_eq!(rt; found.as_str(), "! 0 - memory", "no listing of the root");
+    let found = until(rt.alloc(), Failing::MetadataForMemory("/t"))?;
+    assert_eq!(rt; found.as_str(), "! 0 - memory", "no metadata of the root");
     Ok(())
 }
 

@@ -1,11 +1,13 @@
 //! A walk's answers as one text, to be compared with the text that is wanted.
 //!
-//! An entry is `DEPTH LETTER PATH`, followed by ` ! KIND` where its directory could not be read. An error is
-//! `! DEPTH PATH KIND`, where the path is `-` if there is none and the kind `memory` for want of memory.
+//! An error is `! DEPTH PATH KIND`, where the path is `-` if there is none and the kind `memory` for want of memory. An
+//! entry is `DEPTH LETTER PATH`, followed by the error of its directory where that could not be read.
 use jwalk::file_system::{FileSystem, FileType};
 use jwalk::read_dir::NoProcess;
 use jwalk::{DirEntry, DirEntryIter, Error, WalkDirGeneric};
 use std::alloc::{AllocError, Global};
+use std::process::Abort;
+use std::test::Fail;
 
 pub type Entry = DirEntry<((), ())>;
 
@@ -30,9 +32,26 @@ pub fn next_entry<S: FileSystem>(walk: &mut Walk<S>) -> Option<Entry> {
     walk.next()?.ok()
 }
 
-/// The next answer, if it is an error.
-pub fn next_error<S: FileSystem>(walk: &mut Walk<S>) -> Option<Error> {
-    walk.next()?.err()
+/// The next answer is an entry, and this is what its getters answer.
+pub fn next_is<S: FileSystem>(
+    rt: &impl Abort,
+    walk: &mut Walk<S>,
+    depth: usize,
+    name: &str,
+    parent: &str,
+    file_type: FileType,
+) -> Result<(), Fail> {
+    let entry = next_entry(walk).ok_or("no entry")?;
+    assert_eq!(rt; entry.depth(), depth, "at {name}");
+    assert_eq!(rt; entry.file_name(), name);
+    assert_eq!(rt; entry.parent_path(), parent, "at {name}");
+    assert_eq!(rt; entry.file_type(), file_type, "at {name}");
+    assert_eq!(rt;
+        entry.read_children.is_some(),
+        file_type.is_dir(),
+        "at {name}"
+    );
+    Ok(())
 }
 
 /// The next two answers are none.
@@ -51,12 +70,15 @@ fn letter(file_type: FileType) -> &'static str {
 }
 
 fn kind(alloc: Global, error: &Error) -> Result<String, AllocError> {
+    if error.is_memory() {
+        return String::from_str(alloc, "memory");
+    }
     match error.io_error() {
         Some(err) => {
             let kind = err.kind();
             format!(in alloc; "{kind:?}")
         }
-        None => String::from_str(alloc, "memory"),
+        None => String::from_str(alloc, "none"),
     }
 }
 
@@ -74,8 +96,8 @@ fn entry_line(alloc: Global, entry: &Entry) -> Result<String, AllocError> {
     let Some(error) = entry.read_children.as_ref().and_then(|c| c.error()) else {
         return format!(in alloc; "{depth} {letter} {path}");
     };
-    let kind = kind(alloc, error)?;
-    format!(in alloc; "{depth} {letter} {path} ! {kind}")
+    let error = error_line(alloc, error)?;
+    format!(in alloc; "{depth} {letter} {path} {error}")
 }
 
 /// One answer.

@@ -1,64 +1,52 @@
 //! Walks from roots that need care.
-use crate::lines::{answers, is_over, next_entry, next_error, walk};
+use crate::lines::{answers, next_is, walk};
 use crate::listed_directory::{Item, ListedDirectory};
 use crate::trees::{empty_directory, grouped_tree};
-use jwalk::file_system::{FileType, MemoryFs};
-use std::io::ErrorKind;
+use jwalk::file_system::{AddError, FileType, MemoryFs};
+use std::alloc::Global;
 use std::process::Abort;
 use std::test::Fail;
 
 #[test]
 fn a_root_that_is_missing(rt: HostRuntime) -> Result<(), Fail> {
-    let mut walk = walk(rt.alloc(), grouped_tree(rt.alloc())?, "/none")?;
-    let error = next_error(&mut walk).ok_or("no error")?;
-    assert_eq!(rt; error.depth(), 0);
-    assert_eq!(rt; error.path(), Some("/none"));
-    assert_eq!(rt;
-        error.io_error().map(|e| e.kind()),
-        Some(ErrorKind::NotFound)
-    );
-    assert!(rt; !error.is_memory());
-    assert!(rt; is_over(&mut walk));
+    let found = answers(rt.alloc(), grouped_tree(rt.alloc())?, "/none")?;
+    assert_eq!(rt; found.as_str(), "! 0 /none NotFound");
     Ok(())
 }
 
-// The root's name is its whole path, and the child's path begins with it.
-fn stands_alone(rt: &(impl Abort + AllocGlobal), root: &str, path: &str) -> Result<(), Fail> {
+// The root's name is its whole path, and its parent is empty.
+fn stands_alone(rt: &(impl Abort + AllocGlobal), root: &str, wanted: &str) -> Result<(), Fail> {
+    let found = answers(rt.alloc(), empty_directory(rt.alloc(), "/r")?, root)?;
+    assert_eq!(rt; found.as_str(), wanted);
     let mut walk = walk(rt.alloc(), empty_directory(rt.alloc(), "/r")?, root)?;
-    let first = next_entry(&mut walk).ok_or("no root")?;
-    assert_eq!(rt; first.file_name(), root);
-    assert_eq!(rt; first.parent_path(), "", "at {root}");
-    assert_eq!(rt; first.path()?.as_str(), root);
-    let below = next_entry(&mut walk).ok_or("nothing below")?;
-    assert_eq!(rt; below.parent_path(), root);
-    assert_eq!(rt; below.path()?.as_str(), path);
-    assert!(rt; is_over(&mut walk), "at {root}");
+    next_is(rt, &mut walk, 0, root, "", FileType::Dir)?;
+    next_is(rt, &mut walk, 1, "r", root, FileType::Dir)?;
     Ok(())
 }
 
 #[test]
 fn roots_that_have_no_file_name(rt: HostRuntime) -> Result<(), Fail> {
-    stands_alone(&rt, ".", "./r")?;
-    stands_alone(&rt, "..", "../r")?;
-    stands_alone(&rt, "../..", "../../r")?;
-    stands_alone(&rt, "/", "/r")?;
+    stands_alone(&rt, ".", "0 d .; 1 d ./r")?;
+    stands_alone(&rt, "..", "0 d ..; 1 d ../r")?;
+    stands_alone(&rt, "../..", "0 d ../..; 1 d ../../r")?;
+    stands_alone(&rt, "/", "0 d /; 1 d /r")?;
     Ok(())
+}
+
+fn file_in_directory(alloc: Global) -> Result<MemoryFs, AddError> {
+    let mut fs = MemoryFs::new(alloc);
+    fs.add_dir("/a")?;
+    fs.add_file("/a/x", 1)?;
+    Ok(fs)
 }
 
 #[test]
 fn a_root_that_ends_with_a_slash(rt: HostRuntime) -> Result<(), Fail> {
-    let mut fs = MemoryFs::new(rt.alloc());
-    fs.add_dir("/a")?;
-    fs.add_file("/a/x", 1)?;
-    let mut walk = walk(rt.alloc(), fs, "a/")?;
-    let root = next_entry(&mut walk).ok_or("no root")?;
-    assert_eq!(rt; root.file_name(), "a");
-    assert_eq!(rt; root.parent_path(), "");
-    assert_eq!(rt; root.path()?.as_str(), "a");
-    let item = next_entry(&mut walk).ok_or("no item")?;
-    assert_eq!(rt; item.parent_path(), "a/");
-    assert_eq!(rt; item.path()?.as_str(), "a/x");
-    assert!(rt; is_over(&mut walk));
+    let found = answers(rt.alloc(), file_in_directory(rt.alloc())?, "a/")?;
+    assert_eq!(rt; found.as_str(), "0 d a; 1 f a/x");
+    let mut walk = walk(rt.alloc(), file_in_directory(rt.alloc())?, "a/")?;
+    next_is(&rt, &mut walk, 0, "a", "", FileType::Dir)?;
+    next_is(&rt, &mut walk, 1, "x", "a/", FileType::File)?;
     Ok(())
 }
 

@@ -1,32 +1,10 @@
 //! Walks over trees in memory.
-use crate::lines::{Walk, answers, is_over, line, next_entry, walk};
+use crate::lines::{answers, is_over, line, next_is, walk};
 use crate::trees::{empty_directory, grouped_tree, small_tree};
-use jwalk::file_system::{FileSystem, FileType};
+use jwalk::file_system::FileType;
 use jwalk::{WalkDirGeneric, path_text};
-use std::process::Abort;
 use std::sync::Arc;
 use std::test::Fail;
-
-fn next_is<S: FileSystem>(
-    rt: &impl Abort,
-    walk: &mut Walk<S>,
-    depth: usize,
-    name: &str,
-    parent: &str,
-    file_type: FileType,
-) -> Result<(), Fail> {
-    let entry = next_entry(walk).ok_or("no entry")?;
-    assert_eq!(rt; entry.depth(), depth, "at {name}");
-    assert_eq!(rt; entry.file_name(), name);
-    assert_eq!(rt; entry.parent_path(), parent, "at {name}");
-    assert_eq!(rt; entry.file_type(), file_type, "at {name}");
-    assert_eq!(rt;
-        entry.read_children.is_some(),
-        file_type.is_dir(),
-        "at {name}"
-    );
-    Ok(())
-}
 
 #[test]
 fn each_getter_of_each_entry(rt: HostRuntime) -> Result<(), Fail> {

@@ -8,7 +8,7 @@ use std::io;
 use std::io::ErrorKind;
 
 /// At which path a tree fails, and how.
-#[derive(Clone, Copy, Debug)]
+#[derive(Clone, Copy)]
 pub enum Failing {
     Never,
     /// This kind of error in place of a listing.
