@@ -7,8 +7,10 @@
 //! let mut fs = MemoryFs::new(alloc);
 //! fs.add_dir("/r")?;
 //! fs.add_file("/r/a", 3)?;
-//! for entry in WalkDirGeneric::<((), ()), _, _, _>::new(fs, String::from_str(alloc, "/r")?) {
-//!     println!(rt; "{}", entry?.path()?)?;
+//! for answer in WalkDirGeneric::<((), ()), _, _, _>::new(fs, String::from_str(alloc, "/r")?) {
+//!     if let Ok(entry) = answer {
+//!         println!(rt; "{}", entry.path()?)?;
+//!     }
 //! }
 //! ```
 #![tactic(auto)]

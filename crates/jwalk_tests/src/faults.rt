@@ -3,7 +3,7 @@ use crate::lines::{answers, is_over, next_entry, walk};
 use crate::listed_directory::{Item, ListedDirectory};
 use crate::trees::{grouped_tree, small_tree};
 use crate::watched::{Failing, Watched};
-use jwalk::file_system::{AddError, FileType};
+use jwalk::file_system::{BuildError, FileType};
 use std::alloc::Global;
 use std::io::ErrorKind;
 use std::sync::Arc;
@@ -55,7 +55,7 @@ fn a_directory_that_can_not_be_listed_is_still_answered(rt: HostRuntime) -> Resu
     Ok(())
 }
 
-fn until(alloc: Global, failing: Failing) -> Result<String, AddError> {
+fn until(alloc: Global, failing: Failing) -> Result<String, BuildError> {
     let found = answers(alloc, Watched::new(grouped_tree(alloc)?, failing), "/t")?;
     Ok(found)
 }

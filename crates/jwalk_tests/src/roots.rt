@@ -2,7 +2,7 @@
 use crate::lines::{answers, next_is, walk};
 use crate::listed_directory::{Item, ListedDirectory};
 use crate::trees::{empty_directory, grouped_tree};
-use jwalk::file_system::{AddError, FileType, MemoryFs};
+use jwalk::file_system::{BuildError, FileType, MemoryFs};
 use std::alloc::Global;
 use std::process::Abort;
 use std::test::Fail;
@@ -33,7 +33,7 @@ fn roots_that_have_no_file_name(rt: HostRuntime) -> Result<(), Fail> {
     Ok(())
 }
 
-fn file_in_directory(alloc: Global) -> Result<MemoryFs, AddError> {
+fn file_in_directory(alloc: Global) -> Result<MemoryFs, BuildError> {
     let mut fs = MemoryFs::new(alloc);
     fs.add_dir("/a")?;
     fs.add_file("/a/x", 1)?;
