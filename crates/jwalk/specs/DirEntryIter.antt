@@ -1,5 +1,6 @@
 -- What a walk holds, and what one of its answers does.
-use Rattle.std.specs.Prelude.{◌≡◌, ◌⊎◌, ℕ, Bool, true, false, List, [], ◌∷◌, ◌++◌, map, reverse, Option, Some, None, IsSomeAnd, option_map, Result, Err}
+use Rattle.std.specs.Prelude.{◌≡◌, ◌-◌, ◌^◌, ◌⊎◌, ℕ, min, Bool, true, false, List, [], ◌∷◌, ◌++◌, length, map, reverse, Option, Some, None, IsSomeAnd, option_map, Result, Err}
+use Rattle.std.specs.Iterator.{Drains}
 use Rattle.walk_model.specs.Error.{memory}
 use Rattle.walk_model.specs.Entry.{Item}
 use Rattle.walk_model.specs.ReadDir.{Spec, Outcome}
@@ -77,3 +78,8 @@ module _ {C S P A R E : Type 0} where
     pub plain : AnswersPlainly (min_depth_of old) (held old) (option_map item answer) (held new)
     pub passes : clones_are_equal → PassesItems old (option_map item answer) new
     pub coming : (d : E) → is_steady d → AnswersFirst (reading_by d) old (option_map item answer) new
+
+  -- Calls from here on answer items until `None`, and n is their number, or the greatest `usize` where there are more.
+  abbrev pub Counts : (DirEntryIter C S P A R E → Option (Result (DirEntry C A R E) (Error A)) → DirEntryIter C S P A R E → Type 0) → DirEntryIter C S P A R E → ℕ → Type 0
+  Counts steps start n =
+      (answered : List (Result (DirEntry C A R E) (Error A))) × Drains steps start answered × (n ≡ min (length answered) (2 ^ 64 - 1))

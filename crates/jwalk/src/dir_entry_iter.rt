@@ -50,7 +50,7 @@ impl<C: ClientState, S: FileSystem, P: ProcessReadDir<C, A>, A: Allocator + Copy
     ghost use Rattle.walk_model.specs.Held.{PassesOne, LeavesOne, IsAtDirectory};
     ghost use Rattle.walk_model.specs.ReadDir.{list_of};
     ghost use Rattle.jwalk.specs.ReadDir.{reading};
-    ghost use Rattle.jwalk.specs.DirEntryIter.{job_of, min_depth_of, items_of, unread_of, held, IsRefused, PassesOrStops, Answers};
+    ghost use Rattle.jwalk.specs.DirEntryIter.{job_of, min_depth_of, items_of, unread_of, held, IsRefused, PassesOrStops, Answers, Counts};
     ghost use Rattle.jwalk.specs.ReadDirIter.{StacksChildren};
     ghost use Rattle.walk_model.specs.Listing.{paired, is_answered};
 
@@ -231,6 +231,19 @@ impl<C: ClientState, S: FileSystem, P: ProcessReadDir<C, A>, A: Allocator + Copy
             }
         }
         None
+    }
+
+    /// The number of answers that are still to come, or the greatest `usize` where there are more. Unlike
+    /// `Iterator::count`, it asks for no bound of them.
+    pub fn count(self) -> usize
+        requires { P.IsLawful (callback (job_of self)) }
+        ensures { Counts (λ s r t. Answers (ClonesAreEqual C.ReadDirState.is_clone) (IsSteady (S.IsFixed (file_system (job_of s))) (P.IsFixed (callback (job_of s))) C.ReadDirState.is_clone C.DirEntryState.is_default) (λ d. value.reading (job (S.functions (file_system (job_of s))) (P.processed (callback (job_of s))) d (job_of s))) s r t) self result }
+    {
+        let mut count: usize = 0;
+        for _ in self {
+            count = count.saturating_add(1);
+        }
+        count
     }
 }
 

@@ -62,7 +62,7 @@ fn a_shared_tree_walked_twice(rt: HostRuntime) -> Result<(), Fail> {
 #[test]
 fn a_walk_counted(rt: HostRuntime) -> Result<(), Fail> {
     let walk = walk(rt.alloc(), small_tree(rt.alloc())?, "/r")?;
-    assert_eq!(rt; walk.take(100).count(), 5);
+    assert_eq!(rt; walk.count(), 5);
     Ok(())
 }
 
