@@ -36,6 +36,7 @@ pub use client_state::ClientState;
 pub use dir_entry::DirEntry;
 pub use dir_entry_iter::DirEntryIter;
 pub use error::{Error, Result};
+pub use jwalk_board::board;
 pub use jwalk_order::{index_path, ordered, ordered_queue};
 pub use parallelism::Parallelism;
 pub use read_children::ReadChildren;

@@ -1,0 +1,11 @@
+pub mod Children
+pub mod Follow
+pub mod Hands
+pub mod Keys
+pub mod Left
+pub mod Opens
+pub mod Plays
+pub mod Preorders
+pub mod Sets
+pub mod Steps
+pub mod Tops

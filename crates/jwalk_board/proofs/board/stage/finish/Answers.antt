@@ -1,0 +1,43 @@
+use Rattle.std.proofs.Common.{◌≡◌, ◌<◌, Some, None, length, map, set, refl, ap, sym, ◌∙◌, arith, subst}
+use Rattle.std.proofs.lemmas.Option.{slice_get-map}
+use Rattle.std.specs.List.{slice_get}
+use Rattle.std.specs.Option.{option_map}
+use Rattle.jwalk_order.specs.IndexPath.{address}
+use Rattle.jwalk_board.specs.Rehearsal.{Follows}
+use Rattle.jwalk_board.specs.Run.{finish_by}
+use Rattle.jwalk_board.specs.Seen.{seen_item}
+use Rattle.jwalk_board.specs.Stage.{stage_of}
+use Rattle.jwalk_board.proofs.Follow.{free_finish}
+use Rattle.jwalk_board.proofs.Plays.{stage_as, played_finish, get_read, set_same}
+use Rattle.jwalk_board.proofs.board.stage.finish.Goals as goal
+
+pub returns-in_default : goal.returns-in_default
+returns-in_default g c = λ fixed roots r f.
+    let v = g.P.Plan.spec_value in
+    let w = g.P.Plan.reading_value in
+    let t = g.P.Plan.tree c.args.plan.now in
+    let falls = g.met.P.Plan.falls c.args.plan.now fixed in
+    let hands = c.args.stage.now.hands in
+    let done = c.args.stage.now.done in
+    let k = c.args.worker in
+    let there : k < length hands.items = omega (arith, hands.ok.0, c.len.ensures) in
+    let free = get_read hands.items k c.index_mut.result.now there c.index_mut.ensures.value ∙ ap Some (sym c.take.ensures.value ∙ c.in_default.is) in
+    let e = slice_get-map (option_map (seen_item v)) hands.items k ∙ ap (option_map (option_map (seen_item v))) free in
+    let same : set hands.items k c.take.new.self ≡ hands.items = ap (set hands.items k) c.take.ensures.after ∙ set_same hands.items k None free in
+    stage_as t roots (finish_by r k (slice_get r.hands k)) _ _ _ _ _ _ _ _ (ap (map (option_map (seen_item v))) same) refl refl refl
+    (subst (λ z. Follows t roots z (stage_of v w c.args.stage.now)) (sym (free_finish t falls roots r _ f k e)) f)
+
+pub returns-in-Ok : goal.returns-in-Ok
+returns-in-Ok g c = λ fixed roots r f.
+    let v = g.P.Plan.spec_value in
+    let w = g.P.Plan.reading_value in
+    let t = g.P.Plan.tree c.args.plan.now in
+    let falls = g.met.P.Plan.falls c.args.plan.now fixed in
+    let hands = c.args.stage.now.hands in
+    let done = c.args.stage.now.done in
+    let k = c.args.worker in
+    let there : k < length hands.items = omega (arith, hands.ok.0, c.len.ensures) in
+    let holds = get_read hands.items k c.index_mut.result.now there c.index_mut.ensures.value ∙ ap Some (sym c.take.ensures.value ∙ c.in-Some.is) in
+    stage_as t roots (finish_by r k (slice_get r.hands k)) _ _ _ _ _ _ _ _ (ap (λ z. map (option_map (seen_item v)) (set hands.items k z)) c.take.ensures.after) refl refl refl
+    (played_finish v w t falls roots r hands.items (map (seen_item w) done.handed_out.items) (map address done.taken.items) done.board c.finish.new.self k c.in-Some.item
+    c.in_ok-reading.reading c.in_ok-reading.children.items f holds (c.in_ok-reading.ensures.reading fixed) (c.in_ok-reading.ensures.children fixed) c.in-Ok.ensures.finished)

@@ -1,0 +1,26 @@
+use Rattle.std.proofs.Common.{sym, subst}
+use Rattle.std.specs.Result.{OnOk}
+use Rattle.jwalk_board.specs.Placed.{places}
+use Rattle.jwalk_board.specs.Plan.{specs_in_preorder}
+use Rattle.jwalk_board.specs.Rehearsal.{Follows}
+use Rattle.jwalk_board.specs.Run.{move}
+use Rattle.jwalk_board.specs.Stage.{stage_of}
+use Rattle.jwalk_board.proofs.board.stage.play.Goals as goal
+
+pub returns-in-Take : goal.returns-in-Take
+returns-in-Take g c = λ fixed roots r f.
+    let t = g.P.Plan.tree c.args.plan.now in
+    subst (λ m. OnOk c.take.result (Follows t roots (move (places (specs_in_preorder t roots)) r m) (stage_of g.P.Plan.spec_value g.P.Plan.reading_value c.take.new.stage))) (sym c.in-Take.is)
+    (c.take.ensures t roots r (g.met.P.Plan.falls c.args.plan.now fixed) f)
+
+pub returns-in-Finish : goal.returns-in-Finish
+returns-in-Finish g c = λ fixed roots r f.
+    let t = g.P.Plan.tree c.args.plan.now in
+    subst (λ m. OnOk c.finish.result (Follows t roots (move (places (specs_in_preorder t roots)) r m) (stage_of g.P.Plan.spec_value g.P.Plan.reading_value c.finish.new.stage))) (sym c.in-Finish.is)
+    (c.finish.ensures fixed roots r f)
+
+pub returns-in-HandOut : goal.returns-in-HandOut
+returns-in-HandOut g c = λ fixed roots r f.
+    let t = g.P.Plan.tree c.args.plan.now in
+    subst (λ m. OnOk c.hand_out.result (Follows t roots (move (places (specs_in_preorder t roots)) r m) (stage_of g.P.Plan.spec_value g.P.Plan.reading_value c.hand_out.new.stage))) (sym c.in-HandOut.is)
+    (c.hand_out.ensures t roots r (g.met.P.Plan.falls c.args.plan.now fixed) f)

@@ -1,0 +1,55 @@
+use Rattle.std.proofs.Common.{◌<◌, ◌∷◌, [], Some, length, map, refl, ap, sym, ◌∙◌, arith, subst}
+use Rattle.std.proofs.lemmas.Bool.{false≢true}
+use Rattle.std.proofs.lemmas.List.{map-append}
+use Rattle.std.proofs.lemmas.Option.{slice_get-map}
+use Rattle.std.specs.List.{slice_get}
+use Rattle.std.specs.Option.{option_map}
+use Rattle.jwalk_order.specs.IndexPath.{address}
+use Rattle.jwalk_board.specs.Placed.{places}
+use Rattle.jwalk_board.specs.Plan.{specs_in_preorder}
+use Rattle.jwalk_board.specs.Rehearsal.{Follows}
+use Rattle.jwalk_board.specs.Run.{take_by}
+use Rattle.jwalk_board.specs.Seen.{seen_item, seen_board}
+use Rattle.jwalk_board.specs.Stage.{stage_of}
+use Rattle.jwalk_board.proofs.Follow.{busy_take}
+use Rattle.jwalk_board.proofs.Plays.{stage_as, take_refused, played_take, get_read, none_is, some_is}
+use Rattle.jwalk_board.proofs.board.stage.take.Goals as goal
+
+pub returns-then-is_some : goal.returns-then-is_some
+returns-then-is_some g c = λ t roots r falls f.
+    let v = g.P.Plan.spec_value in
+    let w = g.P.Plan.reading_value in
+    let hands = c.args.stage.now.hands in
+    let k = c.args.worker in
+    let there : k < length hands.items = omega (arith, hands.ok.0, c.len.ensures) in
+    let x = some_is c.index.result.now (sym c.is_some.ensures ∙ c.if-is_some.true) in
+    let held = get_read hands.items k c.index.result.now there c.index.ensures ∙ ap Some x.1 in
+    let e = slice_get-map (option_map (seen_item v)) hands.items k ∙ ap (option_map (option_map (seen_item v))) held in
+    subst (λ z. Follows t roots z (stage_of v w c.args.stage.now)) (sym (busy_take t falls roots r _ f k (seen_item v x.0) e)) f
+
+pub returns-in_ok-push-in-Ok : goal.returns-in_ok-push-in-Ok
+returns-in_ok-push-in-Ok g c = λ t roots r falls f.
+    let v = g.P.Plan.spec_value in
+    let w = g.P.Plan.reading_value in
+    let done = c.args.stage.now.done in
+    let k = c.args.worker in
+    let hands = c.args.stage.now.hands in
+    let there : k < length hands.items = omega (arith, hands.ok.0, c.len.ensures) in
+    let free = get_read hands.items k c.index.result.now there c.index.ensures ∙ ap Some (none_is c.index.result.now (sym c.is_some.ensures ∙ c.if-is_some.false)) in
+    stage_as t roots (take_by (places (specs_in_preorder t roots)) r k (slice_get r.hands k)) _ _ _ _ _ _ _ _ refl refl
+    (ap (map address) c.in_ok-push-in-Ok.ensures.items ∙ map-append address done.taken.items (c.in_ok-try_clone-in-Ok.field-0 ∷ [])) refl
+    (played_take v w t falls roots r c.args.stage.now.hands.items (map (seen_item w) done.handed_out.items) (map address done.taken.items) done.board c.take.new.self k c.in-Ok.item
+    (address c.in_ok-try_clone-in-Ok.field-0) f free c.in-Ok.ensures.taken c.in_ok-try_clone-in-Ok.ensures)
+
+pub returns-in-Err-2 : goal.returns-in-Err-2
+returns-in-Err-2 g c = λ t roots r falls f.
+    let v = g.P.Plan.spec_value in
+    let w = g.P.Plan.reading_value in
+    let hands = c.args.stage.now.hands in
+    let k = c.args.worker in
+    let there : k < length hands.items = omega (arith, hands.ok.0, c.len.ensures) in
+    let free = get_read hands.items k c.index.result.now there c.index.ensures ∙ ap Some (none_is c.index.result.now (sym c.is_some.ensures ∙ c.if-is_some.false)) in
+    let e = slice_get-map (option_map (seen_item v)) hands.items k ∙ ap (option_map (option_map (seen_item v))) free in
+    let same = take_refused v w t falls roots r _ _ _ _ k c.in-Err.refusal f e c.in-Err.ensures.refused (λ q. false≢true (sym c.if-is_memory.false ∙ c.is_memory.ensures.1 q)) in
+    stage_as t roots (take_by (places (specs_in_preorder t roots)) r k (slice_get r.hands k)) _ _ _ _ _ _ _ _ refl refl refl (ap (seen_board v w) c.in-Err.ensures.unchanged)
+    (subst (λ z. Follows t roots z (stage_of v w c.args.stage.now)) (sym same) f)

@@ -1,0 +1,12 @@
+pub mod Addresses
+pub mod Board
+pub mod Heap
+pub mod Left
+pub mod Placed
+pub mod Plan
+pub mod Refusal
+pub mod Rehearsal
+pub mod Rows
+pub mod Run
+pub mod Seen
+pub mod Stage

@@ -1,0 +1,257 @@
+//! Work and results of a tree, by address.
+ghost use Rattle.std.specs.Prelude.{◌≡◌, ◌+◌, ◌↔◌, length, true, IfErr, IfOk, IsTrue, OnErr, OnOk};
+ghost use Rattle.jwalk_order.specs.IndexPath.{address as indices_of};
+ghost use Rattle.jwalk_board.specs.Board.{Finishes, HandsOut, HoldsOpen, IsNew, IsWhole, Takes};
+ghost use Rattle.jwalk_board.specs.Refusal.{RefusesFinish, RefusesHandOut, RefusesTake};
+
+use address_heap::AddressHeap;
+use address_set::AddressSet;
+use jwalk_order::index_path::IndexPath;
+use jwalk_order::ordered::Ordered;
+use jwalk_order::ordered_queue::OrderedMatcher;
+use room::{child_paths, make_room, queue_all};
+use std::alloc::{Allocator, Global};
+use std::marker::Model;
+
+mod address_heap;
+mod address_set;
+mod moves;
+mod plan;
+mod refusal;
+mod rehearsal;
+mod room;
+mod stage;
+
+pub use moves::Move;
+pub use plan::{Plan, Refused};
+pub use refusal::{FinishFault, FinishRefusal, HandOutRefusal, TakeRefusal};
+pub use rehearsal::{Rehearsal, rehearse};
+
+/// Specifications to be read, by address, and the readings that were made of them. A specification is queued until it
+/// is taken, then in hand until its reading comes with its children, and the reading is then ready until it is handed
+/// out. Readings are handed out a parent first, then its children in order, each with all that lies below it.
+#[derive(Drop)]
+pub struct Board<T, R, A: Allocator + Copy = Global> {
+    queued: AddressHeap<T, A>,
+    in_hand: AddressSet<A>,
+    ready: AddressHeap<R, A>,
+    matcher: OrderedMatcher<A>,
+    stopped: bool,
+}
+
+impl<T, R, A: Allocator + Copy> Model for Board<T, R, A> {
+    ghost use Rattle.jwalk_board.specs.Board.{Board as State, IsWhole};
+
+    ghost Value = { State T R };
+
+    ghost view = { λ b. record {
+      queued = b.queued.items;
+      in_hand = b.in_hand;
+      ready = b.ready.items;
+      frontier = b.matcher;
+      stopped = b.stopped;
+    } };
+
+    ghost invariant = { λ b. IsWhole {T = T} {R = R} (record {
+      queued = b.queued.items;
+      in_hand = b.in_hand;
+      ready = b.ready.items;
+      frontier = b.matcher;
+      stopped = b.stopped;
+    }) };
+}
+
+impl<T: Drop, R: Drop, A: Allocator + Copy> Board<T, R, A> {
+    /// A board on which these are queued as the roots, at `[0]`, `[1]` and so on, and nothing is in hand or ready.
+    ///
+    /// # Errors
+    ///
+    /// If memory runs out. The roots then come back.
+    pub fn new(roots: Vec<T, A>) -> Result<Self, Vec<T, A>>
+        ensures made { IfOk result (IsNew roots.items) }
+        ensures handed_back { IfErr result (λ refused. refused ≡ roots) }
+    {
+        let alloc = *roots.allocator();
+        let count = roots.len();
+        let mut queued = AddressHeap::new(alloc);
+        let (Ok(()), Ok(paths), Ok(matcher)) = (
+            queued.reserve(count),
+            child_paths(&IndexPath::new(Vec::new(alloc)), count),
+            OrderedMatcher::with_roots(alloc, count),
+        ) else {
+            return Err(roots);
+        };
+        queue_all(&mut queued, roots, paths);
+        Ok(Board {
+            queued,
+            in_hand: AddressSet::new(alloc),
+            ready: AddressHeap::new(alloc),
+            matcher,
+            stopped: false,
+        })
+    }
+
+    /// Takes the specification at the least queued address, with child count 0. The address is then in hand.
+    ///
+    /// # Errors
+    ///
+    /// `Stopped` if the board is stopped. Otherwise `Empty` if nothing is queued and something is in hand, and `Done` if
+    /// there is neither. Otherwise `Memory`, if memory runs out. The board is then unchanged.
+    pub fn take(&mut self) -> Result<Ordered<T, A>, TakeRefusal>
+        ensures taken { IfOk result (λ item. Takes item self.old self.new) }
+        ensures refused { IfErr result (RefusesTake self.old) }
+        ensures unchanged { OnErr result (self.new ≡ self.old) }
+    {
+        if self.stopped {
+            return Err(TakeRefusal::Stopped);
+        }
+        let Some(least) = self.queued.peek() else {
+            return Err(if self.in_hand.len() == 0 {
+                TakeRefusal::Done
+            } else {
+                TakeRefusal::Empty
+            });
+        };
+        let Ok(path) = least.index_path.try_clone() else {
+            return Err(TakeRefusal::Memory);
+        };
+        let Ok(()) = self.in_hand.insert(path) else {
+            return Err(TakeRefusal::Memory);
+        };
+        match self.queued.pop() {
+            Some(item) => Ok(item),
+            None => unreachable!(),
+        }
+    }
+
+    /// Puts the reading of an address that is in hand among the ready ones, and queues its children, child `i` at the
+    /// address followed by `i`.
+    ///
+    /// # Errors
+    ///
+    /// `Stopped` if the board is stopped. Otherwise `NotInHand` if the address is not in hand. Otherwise `Memory`, if
+    /// memory runs out. The board is then unchanged, and the arguments come back.
+    pub fn finish(
+        &mut self,
+        address: IndexPath<A>,
+        reading: R,
+        children: Vec<T, A>,
+    ) -> Result<(), FinishFault<T, R, A>>
+        ensures finished { OnOk result (Finishes (indices_of address) reading children.items self.old self.new) }
+        ensures refused { IfErr result (λ fault. RefusesFinish self.old (indices_of address) fault.cause) }
+        ensures address_back { IfErr result (λ fault. fault.address ≡ address) }
+        ensures reading_back { IfErr result (λ fault. fault.reading ≡ reading) }
+        ensures children_back { IfErr result (λ fault. fault.children ≡ children) }
+        ensures unchanged { OnErr result (self.new ≡ self.old) }
+    {
+        if self.stopped {
+            return Err(FinishFault {
+                cause: FinishRefusal::Stopped,
+                address,
+                reading,
+                children,
+            });
+        }
+        if !self.in_hand.contains(&address) {
+            return Err(FinishFault {
+                cause: FinishRefusal::NotInHand,
+                address,
+                reading,
+                children,
+            });
+        }
+        let count = children.len();
+        let Ok(paths) = make_room(&mut self.queued, &mut self.ready, &address, count) else {
+            return Err(FinishFault {
+                cause: FinishRefusal::Memory,
+                address,
+                reading,
+                children,
+            });
+        };
+        self.in_hand.remove(&address);
+        self.ready
+            .push_reserved(Ordered::new(reading, address, count));
+        queue_all(&mut self.queued, children, paths);
+        Ok(())
+    }
+
+    /// Hands out the reading at the next address, with the count of its children. The address after it is then next.
+    ///
+    /// # Errors
+    ///
+    /// `Stopped` if the board is stopped. Otherwise `Done` if all was handed out, and `NotReady` if the next address is
+    /// queued or in hand. Otherwise `Memory`, if memory runs out. The board is then unchanged.
+    pub fn hand_out(&mut self) -> Result<Ordered<R, A>, HandOutRefusal>
+        ensures handed_out { IfOk result (λ item. HandsOut item self.old self.new) }
+        ensures refused { IfErr result (RefusesHandOut self.old) }
+        ensures unchanged { OnErr result (self.new ≡ self.old) }
+    {
+        if self.stopped {
+            return Err(HandOutRefusal::Stopped);
+        }
+        if self.matcher.is_none() {
+            return Err(HandOutRefusal::Done);
+        }
+        let Some(least) = self.ready.peek() else {
+            return Err(HandOutRefusal::NotReady);
+        };
+        if least.index_path != *self.matcher.looking_for() {
+            return Err(HandOutRefusal::NotReady);
+        }
+        let Ok(()) = self.matcher.advance_past(least) else {
+            return Err(HandOutRefusal::Memory);
+        };
+        match self.ready.pop() {
+            Some(item) => Ok(item),
+            None => unreachable!(),
+        }
+    }
+
+    /// Marks the board as stopped: every later step is refused.
+    pub fn stop(&mut self)
+        ensures { self.new ≡ record self.old { stopped = true } }
+    {
+        self.stopped = true;
+    }
+
+    /// Whether the board is stopped.
+    pub fn is_stopped(&self) -> bool
+        ensures { result ≡ self.now.stopped }
+    {
+        self.stopped
+    }
+
+    /// How many specifications are queued.
+    pub fn queued(&self) -> usize
+        ensures { result ≡ length self.now.queued }
+    {
+        self.queued.len()
+    }
+
+    /// How many addresses are in hand.
+    pub fn in_hand(&self) -> usize
+        ensures { result ≡ length self.now.in_hand }
+    {
+        self.in_hand.len()
+    }
+
+    /// How many readings are ready.
+    pub fn ready(&self) -> usize
+        ensures { result ≡ length self.now.ready }
+    {
+        self.ready.len()
+    }
+
+    /// How many addresses are queued or in hand.
+    pub fn pending(&self) -> usize
+        ensures sum { result ≡ length self.now.queued + length self.now.in_hand }
+        ensures holds_open { HoldsOpen self.now }
+        ensures whole { IsWhole self.now }
+    {
+        self.queued.len() + self.in_hand.len()
+    }
+}
+
+#[cfg(test)]
+mod tests;

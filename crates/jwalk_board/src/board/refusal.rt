@@ -1,0 +1,67 @@
+//! Why a board refuses.
+ghost use Rattle.std.specs.Prelude.{◌≡◌, ◌↔◌, IsTrue};
+
+use jwalk_order::index_path::IndexPath;
+use std::alloc::{Allocator, Global};
+
+/// Why nothing was taken.
+#[derive(Clone, Copy, Debug, PartialEq, Eq)]
+pub enum TakeRefusal {
+    /// The board is stopped.
+    Stopped,
+    /// Nothing is queued, and something is in hand.
+    Empty,
+    /// Nothing is queued or in hand.
+    Done,
+    /// Memory runs out.
+    Memory,
+}
+
+impl TakeRefusal {
+    pub(super) fn is_memory(self) -> bool
+        ensures { IsTrue result ↔ (self ≡ TakeRefusal.Memory) }
+    {
+        matches!(self, TakeRefusal::Memory)
+    }
+}
+
+/// Why an address was not finished.
+#[derive(Clone, Copy, Debug, PartialEq, Eq)]
+pub enum FinishRefusal {
+    /// The board is stopped.
+    Stopped,
+    /// The address is not in hand.
+    NotInHand,
+    /// Memory runs out.
+    Memory,
+}
+
+/// Why nothing was handed out.
+#[derive(Clone, Copy, Debug, PartialEq, Eq)]
+pub enum HandOutRefusal {
+    /// The board is stopped.
+    Stopped,
+    /// All was handed out.
+    Done,
+    /// The next address is queued or in hand.
+    NotReady,
+    /// Memory runs out.
+    Memory,
+}
+
+impl HandOutRefusal {
+    pub(super) fn is_memory(self) -> bool
+        ensures { IsTrue result ↔ (self ≡ HandOutRefusal.Memory) }
+    {
+        matches!(self, HandOutRefusal::Memory)
+    }
+}
+
+/// A refusal to finish, with what was to be finished.
+#[derive(Debug, Drop)]
+pub struct FinishFault<T, R, A: Allocator + Copy = Global> {
+    pub cause: FinishRefusal,
+    pub address: IndexPath<A>,
+    pub reading: R,
+    pub children: Vec<T, A>,
+}

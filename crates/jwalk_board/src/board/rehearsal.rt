@@ -1,0 +1,78 @@
+//! Moves played on a board.
+ghost use Rattle.std.specs.Prelude.{◌≡◌, map, IfOk, replicate};
+ghost use Rattle.jwalk_board.specs.Placed.{places};
+ghost use Rattle.jwalk_board.specs.Plan.{preorder, specs_in_preorder};
+ghost use Rattle.jwalk_board.specs.Rehearsal.{Answers, IsInOrder};
+ghost use Rattle.jwalk_board.specs.Run.{run_of_moves};
+ghost use Rattle.jwalk_board.specs.Stage.{made_of};
+
+use super::Board;
+use super::moves::Move;
+use super::plan::{Plan, Refused};
+use super::stage::{Stage, play};
+use jwalk_order::index_path::IndexPath;
+use jwalk_order::ordered::Ordered;
+use std::alloc::{AllocError, Allocator, Global};
+
+/// What a list of moves did.
+#[derive(Drop)]
+pub struct Rehearsal<T, R, A: Allocator + Copy = Global> {
+    /// The readings that were handed out, in order.
+    pub handed_out: Vec<Ordered<R, A>, A>,
+    /// The addresses that were taken, in order.
+    pub taken: Vec<IndexPath<A>, A>,
+    /// The board as the moves left it.
+    pub board: Board<T, R, A>,
+}
+
+/// Plays the moves of so many workers, one after another, on a new board with these roots. What is taken is read by the
+/// plan. Worker numbers are below `workers`. A take by a worker who holds something, a finish by one who holds nothing,
+/// and a number out of range are skipped, and a step that the board refuses otherwise than for memory changes nothing.
+///
+/// # Errors
+///
+/// If memory runs out.
+pub fn rehearse<P: Plan<A>, A: Allocator + Copy>(
+    alloc: A,
+    plan: &P,
+    roots: Vec<P::Spec, A>,
+    workers: usize,
+    moves: &[Move],
+) -> Result<Rehearsal<P::Spec, P::Reading, A>, Refused>
+    ensures answers { P.IsFixed plan.now → IfOk result (λ made. let roots = map P.spec_value roots.items in
+        Answers (P.tree plan.now) roots (run_of_moves (places (specs_in_preorder (P.tree plan.now) roots)) workers moves.now) (made_of P.spec_value P.reading_value made)) }
+    ensures in_order { P.IsFixed plan.now → IfOk result (λ made.
+        IsInOrder (preorder (P.tree plan.now) (map P.spec_value roots.items)) (made_of P.spec_value P.reading_value made)) }
+{
+    let hands = empty_hands(alloc, workers)?;
+    let Ok(board) = Board::new(roots) else {
+        return Err(AllocError);
+    };
+    let done = Rehearsal {
+        handed_out: Vec::new(alloc),
+        taken: Vec::new(alloc),
+        board,
+    };
+    let mut stage = Stage { hands, done };
+    for next in moves {
+        play(&mut stage, alloc, plan, *next)?;
+    }
+    let Stage { hands: _, done } = stage;
+    Ok(done)
+}
+
+fn empty_hands<T, A: Allocator + Copy>(
+    alloc: A,
+    workers: usize,
+) -> Result<Vec<Option<Ordered<T, A>>, A>, Refused>
+    ensures { IfOk result (λ hands. hands.items ≡ replicate workers None) }
+{
+    let mut hands = Vec::with_capacity(alloc, workers)?;
+    for _worker in 0..workers {
+        hands.push_reserved(None);
+    }
+    Ok(hands)
+}
+
+#[cfg(test)]
+mod tests;

@@ -1,0 +1,96 @@
+// A rehearsal under way.
+ghost use Rattle.std.specs.Prelude.{List, OnOk};
+ghost use Rattle.jwalk_board.specs.Placed.{places};
+ghost use Rattle.jwalk_board.specs.Plan.{Falls, Tree, specs_in_preorder};
+ghost use Rattle.jwalk_board.specs.Rehearsal.{Follows};
+ghost use Rattle.jwalk_board.specs.Run.{Run, move};
+ghost use Rattle.jwalk_board.specs.Stage.{stage_of};
+
+use super::moves::Move;
+use super::plan::{Plan, Refused};
+use super::rehearsal::Rehearsal;
+use jwalk_order::ordered::Ordered;
+use std::alloc::{AllocError, Allocator};
+
+// What was done so far, and what each worker holds.
+#[derive(Drop)]
+pub(super) struct Stage<T, R, A: Allocator + Copy> {
+    pub(super) hands: Vec<Option<Ordered<T, A>>, A>,
+    pub(super) done: Rehearsal<T, R, A>,
+}
+
+fn take<P: Plan<A>, A: Allocator + Copy>(
+    stage: &mut Stage<P::Spec, P::Reading, A>,
+    worker: usize,
+) -> Result<(), Refused>
+    ensures { (t : Tree P.SpecValue P.ReadingValue) (roots : List P.SpecValue) (r : Run) → Falls t → Follows t roots r (stage_of P.spec_value P.reading_value stage.old)
+        → OnOk result (Follows t roots (move (places (specs_in_preorder t roots)) r (Move.Take worker)) (stage_of P.spec_value P.reading_value stage.new)) }
+{
+    if worker >= stage.hands.len() {
+        return Ok(());
+    }
+    if stage.hands[worker].is_some() {
+        return Ok(());
+    }
+    match stage.done.board.take() {
+        Ok(item) => {
+            stage.done.taken.push(item.index_path.try_clone()?)?;
+            stage.hands[worker] = Some(item);
+            Ok(())
+        }
+        Err(refusal) if refusal.is_memory() => Err(AllocError),
+        Err(_) => Ok(()),
+    }
+}
+
+fn hand_out<P: Plan<A>, A: Allocator + Copy>(
+    stage: &mut Stage<P::Spec, P::Reading, A>,
+) -> Result<(), Refused>
+    ensures { (t : Tree P.SpecValue P.ReadingValue) (roots : List P.SpecValue) (r : Run) → Falls t → Follows t roots r (stage_of P.spec_value P.reading_value stage.old)
+        → OnOk result (Follows t roots (move (places (specs_in_preorder t roots)) r Move.HandOut) (stage_of P.spec_value P.reading_value stage.new)) }
+{
+    match stage.done.board.hand_out() {
+        Ok(item) => Ok(stage.done.handed_out.push(item)?),
+        Err(refusal) if refusal.is_memory() => Err(AllocError),
+        Err(_) => Ok(()),
+    }
+}
+
+fn finish<P: Plan<A>, A: Allocator + Copy>(
+    stage: &mut Stage<P::Spec, P::Reading, A>,
+    alloc: A,
+    plan: &P,
+    worker: usize,
+) -> Result<(), Refused>
+    ensures { P.IsFixed plan.now → (roots : List P.SpecValue) (r : Run) → Follows (P.tree plan.now) roots r (stage_of P.spec_value P.reading_value stage.old)
+        → OnOk result (Follows (P.tree plan.now) roots (move (places (specs_in_preorder (P.tree plan.now) roots)) r (Move.Finish worker)) (stage_of P.spec_value P.reading_value stage.new)) }
+{
+    if worker >= stage.hands.len() {
+        return Ok(());
+    }
+    let Some(item) = stage.hands[worker].take() else {
+        return Ok(());
+    };
+    let (reading, children) = plan.read(alloc, &item.value)?;
+    match stage.done.board.finish(item.index_path, reading, children) {
+        Ok(()) => Ok(()),
+        // What is held is in hand, so only memory is wanting.
+        Err(_) => Err(AllocError),
+    }
+}
+
+pub(super) fn play<P: Plan<A>, A: Allocator + Copy>(
+    stage: &mut Stage<P::Spec, P::Reading, A>,
+    alloc: A,
+    plan: &P,
+    next: Move,
+) -> Result<(), Refused>
+    ensures { P.IsFixed plan.now → (roots : List P.SpecValue) (r : Run) → Follows (P.tree plan.now) roots r (stage_of P.spec_value P.reading_value stage.old)
+        → OnOk result (Follows (P.tree plan.now) roots (move (places (specs_in_preorder (P.tree plan.now) roots)) r next) (stage_of P.spec_value P.reading_value stage.new)) }
+{
+    match next {
+        Move::Take(worker) => take::<P, A>(stage, worker),
+        Move::Finish(worker) => finish(stage, alloc, plan, worker),
+        Move::HandOut => hand_out::<P, A>(stage),
+    }
+}

@@ -1,0 +1,4 @@
+//! Work and results of a tree, by address.
+#![tactic(auto)]
+
+pub mod board;
