@@ -1,5 +1,5 @@
 -- One call of a walk's `next`, case by case.
-use Rattle.std.proofs.Common.{◌≡◌, ◌∙◌, ◌<◌, true, false, [], ◌∷◌, ◌++◌, append-nil, Option, Some, None, Result, Ok, Err, IfNone, IfSome, OnSome, inl, inr, refl, sym, ap, arith}
+use Rattle.std.proofs.Common.{◌≡◌, ◌∙◌, ◌<◌, true, false, [], ◌∷◌, ◌++◌, append-nil, Option, Some, None, Result, Ok, Err, IfSome, OnSome, inl, inr, refl, sym, ap, arith}
 use Rattle.walk_model.specs.Error.{memory}
 use Rattle.walk_model.specs.Entry.{Item}
 use Rattle.walk_model.specs.ReadDir.{Spec, Reading, Outcome, children_of}
@@ -37,7 +37,7 @@ module _ {C S P A R E : Type 0} (clones : Type 0) (is_steady : E → Type 0) (re
       let front = held_refused old refused in
       let rest = held_rest new started ∙ ap (λ l. pair_up l (unread_of new)) items ∙ ap (pair_up (items_of old)) unread in
       let one : (d : E) → listing (reading_by d) (greatest_depth (job_of old)) (held old) ≡ Err (failure error) ∷ listing (reading_by d) (greatest_depth (job_of old)) (held new)
-          = λ d. rw (front, rest, told) (alone (reading_by d) (greatest_depth (job_of old)) (Err memory) (items_of old) (unread_of old) refl) in
+      = λ d. rw (front, rest, told) (alone (reading_by d) (greatest_depth (job_of old)) (Err memory) (items_of old) (unread_of old) refl) in
       record {
         job = job;
         min_depth = depth;
@@ -94,10 +94,10 @@ module _ {C S P A R E : Type 0} (clones : Type 0) (is_steady : E → Type 0) (re
   pub lighter_kept : (x : Item R E) → old.refused ≡ false → new.refused ≡ false → LeavesOut (greatest_depth (job_of old)) (min_depth_of old) clones is_steady reading_by (pair_up (items_of old) (unread_of old)) (pair_up (items_of left) (unread_of left)) → PassesOrStops (greatest_depth (job_of old)) clones is_steady reading_by left x new → weight (greatest_depth (job_of old)) (held new) < weight (greatest_depth (job_of old)) (held old)
   lighter_kept x began started leaves passed =
       let fewer : weight (greatest_depth (job_of old)) (held new) < weight (greatest_depth (job_of old)) (pair_up (items_of left) (unread_of left))
-          = elim passed [
-            | inl stopped ↦ rw (held_nothing new started stopped.1) (heavy_held (greatest_depth (job_of old)) (pair_up (items_of left) (unread_of left)) stopped.3)
-            | inr one ↦ rw (held_rest new started) one.lighter
-          ] in
+      = elim passed [
+        | inl stopped ↦ rw (held_nothing new started stopped.1) (heavy_held (greatest_depth (job_of old)) (pair_up (items_of left) (unread_of left)) stopped.3)
+        | inr one ↦ rw (held_rest new started) one.lighter
+      ] in
       rw (held_rest old began) (omega (arith, fewer, leaves.lighter))
 
 -- an iterator that gets lighter with each answer may be asked again

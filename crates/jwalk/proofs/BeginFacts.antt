@@ -1,5 +1,5 @@
 -- How a walk begins.
-use Rattle.std.proofs.Common.{◌≡◌, ◌⊎◌, ◌∙◌, ◌-◌, ◌^◌, ℕ, Bool, true, false, List, Option, Result, Ok, Err, IfOk, IsSomeAnd, inl, inr, refl, sym, ap}
+use Rattle.std.proofs.Common.{◌≡◌, ◌⊎◌, ◌∙◌, ℕ, Bool, true, false, List, Option, Result, Ok, Err, IfOk, IsSomeAnd, inl, inr, refl, sym, ap}
 use Rattle.std.specs.Result.{result_ok}
 use Rattle.walk_model.specs.FileSystem.{Functions}
 use Rattle.walk_model.specs.Options.{defaults}

@@ -88,14 +88,7 @@ struct RootItem<C: ClientState, A: Allocator + Copy> {
 impl<C: ClientState, S: FileSystem, P: ProcessReadDir<C, A>, A: Allocator + Copy> Job<C, S, P, A> {
     /// A job over a file system and a callback. It puts each list in order by name where `sort` says so, leaves out
     /// hidden names where `skip_hidden` does, and reads no directory whose depth is `max_depth` or more.
-    pub fn new(
-        alloc: A,
-        fs: S,
-        process: P,
-        sort: bool,
-        skip_hidden: bool,
-        max_depth: usize,
-    ) -> Self
+    pub fn new(alloc: A, fs: S, process: P, sort: bool, skip_hidden: bool, max_depth: usize) -> Self
         ensures file_system { file_system result ≡ fs }
         ensures callback { callback result ≡ process }
         ensures sort { result.sort ≡ sort }

@@ -58,9 +58,12 @@ impl<C: ClientState, S: FileSystem, A: Allocator + Copy> WalkDirGeneric<C, S, No
     }
 }
 
-impl<C: ClientState, S: FileSystem, P: ProcessReadDir<C, A>, A: Allocator + Copy>
-    WalkDirGeneric<C, S, P, A>
-{
+impl<C: ClientState, S: FileSystem, P: ProcessReadDir<C, A>, A: Allocator + Copy> WalkDirGeneric<
+    C,
+    S,
+    P,
+    A,
+> {
     ghost use Rattle.walk_model.specs.Options.{with_sort, with_skip_hidden, with_min_depth, with_max_depth, with_parallelism};
     ghost use Rattle.jwalk.specs.WalkDir.{parallelism_value, file_system_of, callback_of, root_of, options_of, Sets, Begins};
 

@@ -1,4 +1,4 @@
-use Rattle.std.proofs.Common.{◌≡◌, ◌∙◌, true, ap, subst}
+use Rattle.std.proofs.Common.{◌≡◌, ◌∙◌, true, subst}
 use Rattle.walk_model.specs.Held.{pair_up, LeavesOne}
 use Rattle.walk_model.specs.Listing.{is_answered}
 use Rattle.walk_model.specs.Job as value
@@ -35,7 +35,7 @@ loop-passed-preserved g c =
     let sofar = c.loop-passed.invariant in
     let at_left = rw c.in_default-passed.is at c.in-Some.ensures.left_out in
     let leaves = subst (λ m. LeavesOne (greatest_depth (job_of old)) m (ClonesAreEqual g.C.ReadDirState.Clone.is_clone) (IsSteady (g.S.FileSystem.IsFixed (file_system (job_of old))) (g.P.ProcessReadDir.IsFixed (callback (job_of old))) g.C.ReadDirState.Clone.is_clone g.C.DirEntryState.Default.is_default) (λ d. value.reading (job (g.S.FileSystem.functions (file_system (job_of old))) (g.P.ProcessReadDir.processed (callback (job_of old))) d (job_of old))) (pair_up (items_of left) (unread_of left)) (pair_up (items_of new) (unread_of new))) sofar.same_depth
-        (subst (λ j. LeavesOne (greatest_depth j) (min_depth_of left) (ClonesAreEqual g.C.ReadDirState.Clone.is_clone) (IsSteady (g.S.FileSystem.IsFixed (file_system j)) (g.P.ProcessReadDir.IsFixed (callback j)) g.C.ReadDirState.Clone.is_clone g.C.DirEntryState.Default.is_default) (λ d. value.reading (job (g.S.FileSystem.functions (file_system j)) (g.P.ProcessReadDir.processed (callback j)) d j)) (pair_up (items_of left) (unread_of left)) (pair_up (items_of new) (unread_of new))) sofar.same_job at_left) in
+    (subst (λ j. LeavesOne (greatest_depth j) (min_depth_of left) (ClonesAreEqual g.C.ReadDirState.Clone.is_clone) (IsSteady (g.S.FileSystem.IsFixed (file_system j)) (g.P.ProcessReadDir.IsFixed (callback j)) g.C.ReadDirState.Clone.is_clone g.C.DirEntryState.Default.is_default) (λ d. value.reading (job (g.S.FileSystem.functions (file_system j)) (g.P.ProcessReadDir.processed (callback j)) d j)) (pair_up (items_of left) (unread_of left)) (pair_up (items_of new) (unread_of new))) sofar.same_job at_left) in
     record {
       same_job = c.in-Some.ensures.job ∙ sofar.same_job;
       same_depth = c.in-Some.ensures.min_depth ∙ sofar.same_depth;

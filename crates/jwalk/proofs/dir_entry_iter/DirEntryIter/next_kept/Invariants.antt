@@ -4,7 +4,7 @@ use Rattle.walk_model.specs.Job as value
 use Rattle.walk_model.proofs.StepFacts.{LeavesOut}
 use Rattle.jwalk.specs.States.{ClonesAreEqual}
 use Rattle.jwalk.specs.Job.{job, file_system, callback, greatest_depth, IsSteady}
-use Rattle.jwalk.specs.DirEntryIter.{job_of, min_depth_of, items_of, unread_of, held}
+use Rattle.jwalk.specs.DirEntryIter.{job_of, min_depth_of, items_of, unread_of}
 use Rattle.jwalk.proofs.dir_entry_iter.DirEntryIter.next_kept.Given as goal
 
 -- what was passed over is left out

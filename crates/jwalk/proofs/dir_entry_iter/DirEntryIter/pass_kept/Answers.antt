@@ -1,4 +1,4 @@
-use Rattle.std.proofs.Common.{◌≡◌, ◌⊎◌, ◌∙◌, ℕ, true, false, List, Err, inl, inr, sym, ap}
+use Rattle.std.proofs.Common.{◌≡◌, ◌⊎◌, ◌∙◌, ℕ, true, false, Err, inl, inr, sym, ap}
 use Rattle.walk_model.specs.Error.{memory}
 use Rattle.walk_model.specs.Entry.{Item}
 use Rattle.walk_model.specs.Listing.{is_answered}
@@ -9,9 +9,9 @@ use Rattle.jwalk.proofs.dir_entry_iter.DirEntryIter.pass_kept.Goals as goal
 -- what tells of want of memory is kept
 not_stopped : {R E Held Unread Stop One : Type 0} (min_depth : ℕ) (answer : Item R E) → is_answered min_depth answer ≡ false → ((answer ≡ Err memory) × Held × Unread × Stop) ⊎ One → One
 not_stopped min_depth answer out passed = elim passed [
-    | inl stopped ↦ let kept : is_answered min_depth answer ≡ true = ap (is_answered min_depth) stopped.0 in absurd cc
-    | inr one ↦ one
-  ]
+  | inl stopped ↦ let kept : is_answered min_depth answer ≡ true = ap (is_answered min_depth) stopped.0 in absurd cc
+  | inr one ↦ one
+]
 
 pub returns-clause-left_out : goal.returns-clause-left_out
 returns-clause-left_out g c =

@@ -1,4 +1,4 @@
-use Rattle.std.proofs.Common.{◌≡◌, ◌∙◌, ◌++◌, ℕ, [], List, length, map, reverse, ap, sym, append-nil, eqb-true}
+use Rattle.std.proofs.Common.{◌≡◌, ◌∙◌, ◌++◌, [], map, reverse, ap, sym, append-nil, eqb-true}
 use Rattle.std.proofs.lemmas.List.{nil_from_length, reverse-reverse}
 use Rattle.jwalk.specs.Entry.{item}
 use Rattle.jwalk.proofs.dir_entry_iter.DirEntryIter.receive.Goals as goal

@@ -1,4 +1,4 @@
-use Rattle.std.proofs.Common.{◌∙◌, false, refl, rules}
+use Rattle.std.proofs.Common.{false, refl, rules}
 use Rattle.walk_model.specs.Job as value
 use Rattle.jwalk.specs.States.{ClonesAreEqual}
 use Rattle.jwalk.specs.Job.{job, file_system, callback, IsSteady}

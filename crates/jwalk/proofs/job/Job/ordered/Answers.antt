@@ -1,4 +1,4 @@
-use Rattle.std.proofs.Common.{◌≡◌, ◌+◌, ◌∙◌, map, ap, cond}
+use Rattle.std.proofs.Common.{◌+◌, ◌∙◌, map, ap, cond}
 use Rattle.walk_model.specs.Sorting.{arranged}
 use Rattle.walk_model.proofs.DepthFacts.{AtDepth-in_order}
 use Rattle.jwalk.specs.Entry.{item}
