@@ -72,7 +72,10 @@ fn the_later_depth_gives_way(rt: HostRuntime) -> Result<(), Fail> {
     assert!(rt; is_over(&mut raised));
     let walk = builder(rt.alloc(), grouped_tree(rt.alloc())?, "/t")?.sort(true);
     let lowered = answers_of(rt.alloc(), walk.max_depth(2).min_depth(5))?;
-    assert_eq!(rt; lowered.as_str(), "2 f /t/group 1/d.txt; 2 f /t/group 2/e.txt");
+    assert_eq!(rt;
+        lowered.as_str(),
+        "2 f /t/group 1/d.txt; 2 f /t/group 2/e.txt"
+    );
     Ok(())
 }
 
@@ -99,7 +102,10 @@ fn errors_after_entries_and_whatever_their_depth(rt: HostRuntime) -> Result<(), 
     assert_eq!(rt; sorted.as_str(), wanted);
     let walk = builder(rt.alloc(), faulty_directory(&items), "/d")?.sort(true);
     let deep = answers_of(rt.alloc(), walk.min_depth(5).max_depth(5))?;
-    assert_eq!(rt; deep.as_str(), "! 1 /d/.x PermissionDenied; ! 1 - InvalidData");
+    assert_eq!(rt;
+        deep.as_str(),
+        "! 1 /d/.x PermissionDenied; ! 1 - InvalidData"
+    );
     Ok(())
 }
 
@@ -107,7 +113,10 @@ fn errors_after_entries_and_whatever_their_depth(rt: HostRuntime) -> Result<(), 
 fn nothing_below_the_greatest_depth_is_listed(rt: HostRuntime) -> Result<(), Fail> {
     let fs = Watched::new(grouped_tree(rt.alloc())?, Failing::Never);
     let fs = Arc::new(rt.alloc(), fs)?;
-    let found = answers_of(rt.alloc(), builder(rt.alloc(), fs.clone()?, "/t")?.max_depth(1))?;
+    let found = answers_of(
+        rt.alloc(),
+        builder(rt.alloc(), fs.clone()?, "/t")?.max_depth(1),
+    )?;
     let wanted = "0 d /t; 1 f /t/c.txt; 1 f /t/a.txt; 1 d /t/group 2; 1 d /t/group 1; 1 f /t/b.txt";
     assert_eq!(rt; found.as_str(), wanted);
     assert_eq!(rt; fs.lists(), 1);
