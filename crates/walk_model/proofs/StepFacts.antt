@@ -79,11 +79,11 @@ pub record LeavesOut {R E : Type 0} (max_depth min_depth : ℕ) (clones : Type 0
 module _ {R E : Type 0} (max_depth min_depth : ℕ) (clones : Type 0) (is_steady : E → Type 0) (reading_by : E → Spec R → Outcome R E) where
   pub none_left_out : (held : List (Pair R E)) → LeavesOut max_depth min_depth clones is_steady reading_by held held
   none_left_out held = record {
-      plain = λ answer new h. h;
-      passes = λ equal answer new h. h;
-      coming = λ d steady. refl;
-      lighter = omega arith;
-    }
+    plain = λ answer new h. h;
+    passes = λ equal answer new h. h;
+    coming = λ d steady. refl;
+    lighter = omega arith;
+  }
 
   plain_left_out : (old : List (Pair R E)) (passed : Item R E) (left : List (Pair R E)) → PassesPlainly old passed left → is_answered min_depth passed ≡ false → (answer : Option (Item R E)) (new : List (Pair R E)) → AnswersPlainly min_depth left answer new → AnswersPlainly min_depth old answer new
   plain_left_out [] passed left h out answer new k = absurd h
@@ -96,8 +96,8 @@ module _ {R E : Type 0} (max_depth min_depth : ℕ) (clones : Type 0) (is_steady
   -- one more item that the least depth leaves out
   pub one_left_out : (old between : List (Pair R E)) (passed : Item R E) (left : List (Pair R E)) → LeavesOut max_depth min_depth clones is_steady reading_by old between → PassesOne max_depth clones is_steady reading_by between passed left → is_answered min_depth passed ≡ false → LeavesOut max_depth min_depth clones is_steady reading_by old left
   one_left_out old between passed left before one out = record {
-      plain = λ answer new h. before.plain answer new (plain_left_out between passed left one.plain out answer new h);
-      passes = λ equal answer new h. before.passes equal answer new (left_out passed left (one.passes equal) out h);
-      coming = λ d steady. before.coming d steady ∙ ap (answers min_depth) (one.listed d steady) ∙ rw out refl;
-      lighter = omega (arith, one.lighter, before.lighter);
-    }
+    plain = λ answer new h. before.plain answer new (plain_left_out between passed left one.plain out answer new h);
+    passes = λ equal answer new h. before.passes equal answer new (left_out passed left (one.passes equal) out h);
+    coming = λ d steady. before.coming d steady ∙ ap (answers min_depth) (one.listed d steady) ∙ rw out refl;
+    lighter = omega (arith, one.lighter, before.lighter);
+  }
