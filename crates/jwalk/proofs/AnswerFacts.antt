@@ -1,10 +1,11 @@
 -- One call of a walk's `next`, case by case.
-use Rattle.std.proofs.Common.{◌≡◌, ◌∙◌, ◌<◌, true, false, [], ◌∷◌, ◌++◌, append-nil, Option, Some, None, Result, Ok, Err, IfSome, OnSome, inl, inr, refl, sym, ap, arith}
+use Rattle.std.proofs.Common.{◌≡◌, ◌∙◌, ◌<◌, ℕ, true, false, [], ◌∷◌, ◌++◌, append-nil, Option, Some, None, Result, Ok, Err, IfSome, OnSome, inl, inr, refl, sym, ap, arith}
 use Rattle.walk_model.specs.Error.{memory}
-use Rattle.walk_model.specs.Entry.{Item}
+use Rattle.walk_model.specs.Entry.{Item, IsBetween}
 use Rattle.walk_model.specs.ReadDir.{Spec, Reading, Outcome, children_of}
 use Rattle.walk_model.specs.Listing.{nothing, paired, is_answered, answers, listing}
-use Rattle.walk_model.specs.Held.{pair_up, weight, kept, ended}
+use Rattle.walk_model.specs.Held.{pair_up, weight, kept, ended, ReadsUpTo, answers_next, ends}
+use Rattle.walk_model.proofs.WithinFacts.{reads_between}
 use Rattle.walk_model.proofs.HeldFacts.{alone, pair_up-outcome}
 use Rattle.walk_model.proofs.StepFacts.{LeavesOut, plainly_one, plainly_any, heavy_held}
 use Rattle.jwalk.specs.declared.error.Error.{Error}
@@ -14,7 +15,11 @@ use Rattle.jwalk.specs.Error.{failure}
 use Rattle.jwalk.specs.Entry.{item}
 use Rattle.jwalk.specs.Job.{greatest_depth}
 use Rattle.jwalk.specs.ReadDirIter.{StacksChildren}
-use Rattle.jwalk.specs.DirEntryIter.{job_of, min_depth_of, items_of, unread_of, held, to_come, Refuses, Answers, PassesOrStops}
+use Rattle.jwalk.specs.DirEntryIter.{job_of, min_depth_of, items_of, unread_of, held, to_come, IsWithin, Refuses, Answers, PassesOrStops}
+
+-- a refusal is at no depth
+refused_between : {R E : Type 0} (least greatest : ℕ) (x : Item R E) → x ≡ Err memory → IsBetween least greatest x
+refused_between least greatest x is = rw is tt
 
 module _ {C S P A R E : Type 0} where
   held_rest : (it : DirEntryIter C S P A R E) → it.refused ≡ false → held it ≡ pair_up (items_of it) (unread_of it)
@@ -30,6 +35,16 @@ module _ {C S P A R E : Type 0} where
   to_come_of reading old new answer job depth is =
       rw is (ap (λ l. answer ∷ l) (ap (λ j. answers (min_depth_of old) (listing reading (greatest_depth j) (held new))) (sym job) ∙ ap (λ m. answers m (listing reading (greatest_depth (job_of new)) (held new))) (sym depth)))
 
+  -- where nothing is left, nothing is too deep
+  within_nothing : (it : DirEntryIter C S P A R E) → items_of it ≡ [] → IsWithin it
+  within_nothing it none = rw none tt
+
+  -- what was read up to an answer is within the depths
+  within_read : (clones : Type 0) (old new : DirEntryIter C S P A R E) (answer : Option (Item R E)) → job_of new ≡ job_of old → ReadsUpTo (greatest_depth (job_of old)) (min_depth_of old) clones (items_of old) (unread_of old) answer (items_of new) (unread_of new) → IsWithin old → IfSome answer (IsBetween (min_depth_of old) (greatest_depth (job_of old))) × IsWithin new
+  within_read clones old new answer job reads within =
+      let all = reads_between (greatest_depth (job_of old)) (min_depth_of old) clones reads within in
+      (all.0, rw job all.1)
+
 module _ {C S P A R E : Type 0} (clones : Type 0) (is_steady : E → Type 0) (reading_by : E → Spec R → Outcome R E) (old new : DirEntryIter C S P A R E) where
   -- a walk that was refused at its start tells of it
   pub answers_refusal : (error : Error A) → failure error ≡ memory → old.refused ≡ true → new.refused ≡ false → job_of new ≡ job_of old → min_depth_of new ≡ min_depth_of old → items_of new ≡ items_of old → unread_of new ≡ unread_of old → Answers clones is_steady reading_by old (Some (Err error)) new
@@ -41,6 +56,9 @@ module _ {C S P A R E : Type 0} (clones : Type 0) (is_steady : E → Type 0) (re
       record {
         job = job;
         min_depth = depth;
+        depths = λ within. (tt, rw (job, items) within);
+        ended = tt;
+        reads = rw refused unread;
         plain = rw (front, rest, told) (refl, refl);
         passes = λ equal. inr (kept (rw (front, rest, told) (refl, refl)) refl);
         coming = λ d steady. inr (ap (answers (min_depth_of old)) (one d) ∙ to_come_of (reading_by d) old new (Err (failure error)) job depth refl);
@@ -53,7 +71,7 @@ module _ {C S P A R E : Type 0} (clones : Type 0) (is_steady : E → Type 0) (re
 
 module _ {C S P A R E : Type 0} (clones : Type 0) (is_steady : E → Type 0) (reading_by : E → Spec R → Outcome R E) (old left new : DirEntryIter C S P A R E) where
   -- items were left out, and then one is passed that is answered, or memory was refused below a directory
-  pub answers_kept : (x : Result (DirEntry C A R E) (Error A)) → old.refused ≡ false → new.refused ≡ false → job_of new ≡ job_of old → min_depth_of new ≡ min_depth_of old → is_answered (min_depth_of old) (item x) ≡ true → LeavesOut (greatest_depth (job_of old)) (min_depth_of old) clones is_steady reading_by (pair_up (items_of old) (unread_of old)) (pair_up (items_of left) (unread_of left)) → PassesOrStops (greatest_depth (job_of old)) clones is_steady reading_by left (item x) new → Answers clones is_steady reading_by old (Some x) new
+  pub answers_kept : (x : Result (DirEntry C A R E) (Error A)) → old.refused ≡ false → new.refused ≡ false → job_of new ≡ job_of old → min_depth_of new ≡ min_depth_of old → is_answered (min_depth_of old) (item x) ≡ true → LeavesOut (greatest_depth (job_of old)) (min_depth_of old) clones is_steady reading_by (items_of old) (unread_of old) (items_of left) (unread_of left) → PassesOrStops (greatest_depth (job_of old)) clones is_steady reading_by left (item x) new → Answers clones is_steady reading_by old (Some x) new
   answers_kept x began started job depth answered leaves passed =
       let before = held_rest old began in
       let after = held_rest new started in
@@ -63,13 +81,21 @@ module _ {C S P A R E : Type 0} (clones : Type 0) (is_steady : E → Type 0) (re
             record {
               job = job;
               min_depth = depth;
+              depths = λ within. (refused_between (min_depth_of old) (greatest_depth (job_of old)) (item x) stopped.0, within_nothing new stopped.1);
+              ended = tt;
+              reads = rw began (inl refuses);
               plain = rw before (leaves.plain (Some (item x)) (held new) (plainly_any (min_depth_of old) (pair_up (items_of left) (unread_of left)) (Some (item x)) (held new) stopped.3));
               passes = λ equal. inl refuses;
               coming = λ d steady. inl refuses;
             }
-        | inr one ↦ record {
+        | inr one ↦
+            let read = leaves.reads (Some (item x)) (items_of new) (unread_of new) (answers_next one.next answered) in
+            record {
           job = job;
           min_depth = depth;
+          depths = within_read clones old new (Some (item x)) job read;
+          ended = tt;
+          reads = rw began (inr read);
           plain = rw (before, after) (leaves.plain (Some (item x)) (pair_up (items_of new) (unread_of new)) (plainly_one (min_depth_of old) (pair_up (items_of left) (unread_of left)) (item x) (pair_up (items_of new) (unread_of new)) answered one.plain));
           passes = λ equal. inr (rw (before, after) (leaves.passes equal (Some (item x)) (pair_up (items_of new) (unread_of new)) (kept (one.passes equal) answered)));
           coming = λ d steady. inr (rw before (leaves.coming d steady ∙ ap (answers (min_depth_of old)) (one.listed d steady)) ∙ ap (λ l. answers (min_depth_of old) (item x ∷ listing (reading_by d) (greatest_depth (job_of old)) l)) (sym after) ∙ to_come_of (reading_by d) old new (item x) job depth answered);
@@ -77,21 +103,25 @@ module _ {C S P A R E : Type 0} (clones : Type 0) (is_steady : E → Type 0) (re
       ]
 
   -- all that was held is left out
-  pub answers_end : old.refused ≡ false → new.refused ≡ false → job_of new ≡ job_of old → min_depth_of new ≡ min_depth_of old → LeavesOut (greatest_depth (job_of old)) (min_depth_of old) clones is_steady reading_by (pair_up (items_of old) (unread_of old)) (pair_up (items_of left) (unread_of left)) → items_of left ≡ [] → items_of new ≡ [] → Answers clones is_steady reading_by old None new
-  answers_end began started job depth leaves none rest =
+  pub answers_end : old.refused ≡ false → new.refused ≡ false → job_of new ≡ job_of old → min_depth_of new ≡ min_depth_of old → LeavesOut (greatest_depth (job_of old)) (min_depth_of old) clones is_steady reading_by (items_of old) (unread_of old) (items_of left) (unread_of left) → items_of left ≡ [] → items_of new ≡ [] → unread_of new ≡ unread_of left → Answers clones is_steady reading_by old None new
+  answers_end began started job depth leaves none rest same_unread =
       let before = held_rest old began in
       let after = held_nothing new started rest in
+      let read = leaves.reads None (items_of new) (unread_of new) (rw (none, rest, same_unread) ends) in
       let nothing_left : pair_up (items_of left) (unread_of left) ≡ [] = ap (λ l. pair_up l (unread_of left)) none in
       record {
         job = job;
         min_depth = depth;
+        depths = within_read clones old new None job read;
+        ended = after;
+        reads = rw began (inr read);
         plain = rw (before, after) (leaves.plain None [] (rw nothing_left (refl, refl)));
         passes = λ equal. inr (rw (before, after) (leaves.passes equal None [] (rw nothing_left ended)));
         coming = λ d steady. rw before (leaves.coming d steady ∙ ap (λ l. answers (min_depth_of old) (listing (reading_by d) (greatest_depth (job_of old)) l)) nothing_left);
       }
 
   -- what is held gets lighter with each answer
-  pub lighter_kept : (x : Item R E) → old.refused ≡ false → new.refused ≡ false → LeavesOut (greatest_depth (job_of old)) (min_depth_of old) clones is_steady reading_by (pair_up (items_of old) (unread_of old)) (pair_up (items_of left) (unread_of left)) → PassesOrStops (greatest_depth (job_of old)) clones is_steady reading_by left x new → weight (greatest_depth (job_of old)) (held new) < weight (greatest_depth (job_of old)) (held old)
+  pub lighter_kept : (x : Item R E) → old.refused ≡ false → new.refused ≡ false → LeavesOut (greatest_depth (job_of old)) (min_depth_of old) clones is_steady reading_by (items_of old) (unread_of old) (items_of left) (unread_of left) → PassesOrStops (greatest_depth (job_of old)) clones is_steady reading_by left x new → weight (greatest_depth (job_of old)) (held new) < weight (greatest_depth (job_of old)) (held old)
   lighter_kept x began started leaves passed =
       let fewer : weight (greatest_depth (job_of old)) (held new) < weight (greatest_depth (job_of old)) (pair_up (items_of left) (unread_of left))
       = elim passed [

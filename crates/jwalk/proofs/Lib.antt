@@ -1,4 +1,5 @@
 pub mod AnswerFacts
 pub mod BeginFacts
+pub mod FillFacts
 pub mod GivesFacts
 pub mod ListFacts

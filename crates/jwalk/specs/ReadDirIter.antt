@@ -27,6 +27,11 @@ module _ {C S P A R E : Type 0} where
   to_read (Walk walk) = stacked walk
   to_read (ParWalk never) = elim never [ ]
 
+  -- the addresses of the readings that were made and not handed on: a serial walk hands each on at once
+  abbrev pub early_of : ReadDirIter C S P A R E → List (List ℕ)
+  early_of (Walk walk) = []
+  early_of (ParWalk never) = elim never [ ]
+
 -- the specifications of an outcome's directories stand in front of the old ones
 pub record StacksChildren {R E : Type 0} (clones_are_equal : Type 0) (old : List (Spec R)) (read : Outcome R E) (new : List (Spec R)) : Type 0 where
   pub front : List (Spec R)

@@ -50,7 +50,7 @@ impl<C: ClientState, S: FileSystem, P: ProcessReadDir<C, A>, A: Allocator + Copy
     ghost use Rattle.walk_model.specs.Held.{PassesOne, LeavesOne, IsAtDirectory};
     ghost use Rattle.walk_model.specs.ReadDir.{list_of};
     ghost use Rattle.jwalk.specs.ReadDir.{reading};
-    ghost use Rattle.jwalk.specs.DirEntryIter.{job_of, min_depth_of, items_of, unread_of, held, IsRefused, PassesOrStops, Answers, Counts};
+    ghost use Rattle.jwalk.specs.DirEntryIter.{job_of, min_depth_of, items_of, unread_of, early_of, held, IsWithin, IsRefused, PassesOrStops, Answers, Fills, Counts};
     ghost use Rattle.jwalk.specs.ReadDirIter.{StacksChildren};
     ghost use Rattle.walk_model.specs.Listing.{paired, is_answered};
 
@@ -146,7 +146,7 @@ impl<C: ClientState, S: FileSystem, P: ProcessReadDir<C, A>, A: Allocator + Copy
         ensures job { job_of self.new ≡ job_of self.old }
         ensures min_depth { min_depth_of self.new ≡ min_depth_of self.old }
         ensures refused { self.new.refused ≡ self.old.refused }
-        ensures passed { IfOk result (λ e. PassesOne (greatest_depth (job_of self.old)) (ClonesAreEqual C.ReadDirState.is_clone) (IsSteady (S.IsFixed (file_system (job_of self.old))) (P.IsFixed (callback (job_of self.old))) C.ReadDirState.is_clone C.DirEntryState.is_default) (λ d. value.reading (job (S.functions (file_system (job_of self.old))) (P.processed (callback (job_of self.old))) d (job_of self.old))) (pair_up (Ok (entry found) ∷ items_of self.old) (unread_of self.old)) (Ok (entry e)) (pair_up (items_of self.new) (unread_of self.new))) }
+        ensures passed { IfOk result (λ e. PassesOne (greatest_depth (job_of self.old)) (ClonesAreEqual C.ReadDirState.is_clone) (IsSteady (S.IsFixed (file_system (job_of self.old))) (P.IsFixed (callback (job_of self.old))) C.ReadDirState.is_clone C.DirEntryState.is_default) (λ d. value.reading (job (S.functions (file_system (job_of self.old))) (P.processed (callback (job_of self.old))) d (job_of self.old))) (Ok (entry found) ∷ items_of self.old) (unread_of self.old) (Ok (entry e)) (items_of self.new) (unread_of self.new)) }
         ensures memory { IfErr result (λ error. failure error ≡ memory) }
         ensures stopped { OnErr result ((items_of self.new ≡ []) × (unread_of self.new ≡ [])) }
         ensures entered { OnErr result (IsAtDirectory (pair_up (Ok (entry found) ∷ items_of self.old) (unread_of self.old))) }
@@ -176,7 +176,7 @@ impl<C: ClientState, S: FileSystem, P: ProcessReadDir<C, A>, A: Allocator + Copy
         ensures job { job_of self.new ≡ job_of self.old }
         ensures min_depth { min_depth_of self.new ≡ min_depth_of self.old }
         ensures refused { self.new.refused ≡ self.old.refused }
-        ensures end { IfNone result ((items_of self.old ≡ []) × (items_of self.new ≡ [])) }
+        ensures end { IfNone result ((items_of self.old ≡ []) × (items_of self.new ≡ []) × (unread_of self.new ≡ unread_of self.old)) }
         ensures passed { IfSome result (λ answer. PassesOrStops (greatest_depth (job_of self.old)) (ClonesAreEqual C.ReadDirState.is_clone) (IsSteady (S.IsFixed (file_system (job_of self.old))) (P.IsFixed (callback (job_of self.old))) C.ReadDirState.is_clone C.DirEntryState.is_default) (λ d. value.reading (job (S.functions (file_system (job_of self.old))) (P.processed (callback (job_of self.old))) d (job_of self.old))) self.old (item answer) self.new) }
     {
         match self.items.pop()? {
@@ -206,10 +206,10 @@ impl<C: ClientState, S: FileSystem, P: ProcessReadDir<C, A>, A: Allocator + Copy
         ensures job { job_of self.new ≡ job_of self.old }
         ensures min_depth { min_depth_of self.new ≡ min_depth_of self.old }
         ensures refused { self.new.refused ≡ self.old.refused }
-        ensures end { IfNone result ((items_of self.old ≡ []) × (items_of self.new ≡ [])) }
+        ensures end { IfNone result ((items_of self.old ≡ []) × (items_of self.new ≡ []) × (unread_of self.new ≡ unread_of self.old)) }
         ensures kept { IfSome result (λ passed. IfSome passed (λ answer. is_answered (min_depth_of self.old) (item answer) ≡ true)) }
         ensures answered { IfSome result (λ passed. IfSome passed (λ answer. PassesOrStops (greatest_depth (job_of self.old)) (ClonesAreEqual C.ReadDirState.is_clone) (IsSteady (S.IsFixed (file_system (job_of self.old))) (P.IsFixed (callback (job_of self.old))) C.ReadDirState.is_clone C.DirEntryState.is_default) (λ d. value.reading (job (S.functions (file_system (job_of self.old))) (P.processed (callback (job_of self.old))) d (job_of self.old))) self.old (item answer) self.new)) }
-        ensures left_out { IfSome result (λ passed. IfNone passed (LeavesOne (greatest_depth (job_of self.old)) (min_depth_of self.old) (ClonesAreEqual C.ReadDirState.is_clone) (IsSteady (S.IsFixed (file_system (job_of self.old))) (P.IsFixed (callback (job_of self.old))) C.ReadDirState.is_clone C.DirEntryState.is_default) (λ d. value.reading (job (S.functions (file_system (job_of self.old))) (P.processed (callback (job_of self.old))) d (job_of self.old))) (pair_up (items_of self.old) (unread_of self.old)) (pair_up (items_of self.new) (unread_of self.new)))) }
+        ensures left_out { IfSome result (λ passed. IfNone passed (LeavesOne (greatest_depth (job_of self.old)) (min_depth_of self.old) (ClonesAreEqual C.ReadDirState.is_clone) (IsSteady (S.IsFixed (file_system (job_of self.old))) (P.IsFixed (callback (job_of self.old))) C.ReadDirState.is_clone C.DirEntryState.is_default) (λ d. value.reading (job (S.functions (file_system (job_of self.old))) (P.processed (callback (job_of self.old))) d (job_of self.old))) (items_of self.old) (unread_of self.old) (items_of self.new) (unread_of self.new))) }
     {
         let passed = self.pass()?;
         if self.keeps(&passed) {
@@ -231,6 +231,37 @@ impl<C: ClientState, S: FileSystem, P: ProcessReadDir<C, A>, A: Allocator + Copy
             }
         }
         None
+    }
+
+    /// How many directories were read whose readings are not handed on yet. A serial walk reads none ahead.
+    pub fn ahead(&self) -> usize
+        ensures { result ≡ length (early_of self.now) }
+    {
+        self.reads.ahead()
+    }
+
+    /// Appends answers to `out` until they are `n` or the walk ends, and answers how many.
+    ///
+    /// Room is made before each answer is asked for: where that is refused, `out` holds all that was answered, and
+    /// the walk goes on from there. Want of memory within the walk is an answer like any other.
+    pub fn fill(
+        &mut self,
+        n: usize,
+        out: &mut Vec<Result<DirEntry<C, A>, Error<A>>, A>,
+    ) -> Result<usize, AllocError>
+        requires { P.IsLawful (callback (job_of self.old)) }
+        ensures { Fills (λ s r t. Answers (ClonesAreEqual C.ReadDirState.is_clone) (IsSteady (S.IsFixed (file_system (job_of s))) (P.IsFixed (callback (job_of s))) C.ReadDirState.is_clone C.DirEntryState.is_default) (λ d. value.reading (job (S.functions (file_system (job_of s))) (P.processed (callback (job_of s))) d (job_of s))) s r t) (IsSteady (S.IsFixed (file_system (job_of self.old))) (P.IsFixed (callback (job_of self.old))) C.ReadDirState.is_clone C.DirEntryState.is_default) (λ d. value.reading (job (S.functions (file_system (job_of self.old))) (P.processed (callback (job_of self.old))) d (job_of self.old))) n self.old out.old.items result out.new.items self.new }
+    {
+        let mut filled = 0;
+        while filled < n {
+            out.reserve(1)?;
+            let Some(answer) = self.next() else {
+                return Ok(filled);
+            };
+            out.push_reserved(answer);
+            filled += 1;
+        }
+        Ok(filled)
     }
 
     /// The number of answers that are still to come, or the greatest `usize` where there are more. Unlike

@@ -1,5 +1,5 @@
 //! Readings in preorder.
-ghost use Rattle.std.specs.Prelude.{◌≡◌, ◌<◌, [], Ok, OnOk, IfSome, IsSome, option_map};
+ghost use Rattle.std.specs.Prelude.{◌≡◌, ◌<◌, [], length, Ok, OnOk, IfSome, IsSome, option_map};
 ghost use Rattle.walk_model.specs.Held.{spec_weight};
 ghost use Rattle.walk_model.specs.Job as value;
 ghost use Rattle.jwalk.specs.ReadDir.{outcome, reading};
@@ -40,7 +40,7 @@ impl<C: ClientState, S: FileSystem, P: ProcessReadDir<C, A>, A: Allocator + Copy
     P,
     A,
 > {
-    ghost use Rattle.jwalk.specs.ReadDirIter.{job_of, to_read, StacksChildren, GivesFirst, GivesReading};
+    ghost use Rattle.jwalk.specs.ReadDirIter.{job_of, to_read, early_of, StacksChildren, GivesFirst, GivesReading};
 
     /// Readings in turn, with nothing to read yet.
     pub(crate) fn serial(alloc: A, job: Job<C, S, P, A>) -> Self
@@ -87,6 +87,16 @@ impl<C: ClientState, S: FileSystem, P: ProcessReadDir<C, A>, A: Allocator + Copy
     {
         prove!(entry.read_children.is_some());
         self.read_next()
+    }
+
+    /// How many readings were made and not handed on.
+    pub(crate) fn ahead(&self) -> usize
+        ensures { result ≡ length (early_of self.now) }
+    {
+        match self {
+            ReadDirIter::Walk(_) => 0,
+            ReadDirIter::ParWalk(never) => match *never {},
+        }
     }
 
     /// Forgets what is not read yet.

@@ -1,13 +1,14 @@
 -- What one step of a walk does to what is held.
-use Rattle.std.proofs.Common.{◌≡◌, ℕ, zero, suc, ◌+◌, ◌-◌, ◌*◌, ◌^◌, ◌<◌, ◌≤◌, Bool, true, false, is_some, List, [], ◌∷◌, ◌++◌, map, length, Some, None, option_to_list, Ok, Err, refl, sym, ap, ◌∙◌, arith}
+use Rattle.std.proofs.Common.{◌≡◌, if◌then◌else◌, ℕ, zero, suc, ◌+◌, ◌-◌, ◌*◌, ◌^◌, ◌<◌, ◌≤◌, Bool, true, false, is_some, List, [], ◌∷◌, ◌++◌, map, length, Some, None, option_to_list, Ok, Err, refl, sym, ap, ◌∙◌, arith}
 use Rattle.std.proofs.Math.Nat.{mul-le-mul_right}
 use Rattle.std.proofs.lemmas.Grind.{flat_map-append}
 use Rattle.std.proofs.lemmas.List.{map-append}
+use lib.ListN.{length-map}
 use Rattle.std.specs.Prelude.{flat_map, option_map}
 use Rattle.walk_model.specs.Entry.{Entry, Item, has_directory, AtDepth}
 use Rattle.walk_model.specs.ReadDir.{Spec, Outcome, Place, place, spec_of, spec_below, children_of, list_of, IsLawful, ReadsFirst}
 use Rattle.walk_model.specs.Listing.{Pair, Source, nothing, unread, was_read, source_of, pair, paired, pairs_of, after_reading, levels_of, stands, below, listing}
-use Rattle.walk_model.specs.Held.{first_source, after_first, pair_up, bound, source_weight, weight}
+use Rattle.walk_model.specs.Held.{first_source, after_first, pair_up, bound, source_weight, weight, sources}
 
 module _ {R E : Type 0} where
   -- a list that was read stands in front of the rest as its pairs
@@ -158,3 +159,39 @@ pub AtDepth-append : {R E : Type 0} (depth : ℕ) (l m : List (Item R E)) → At
 AtDepth-append depth [] m a b = b
 AtDepth-append depth (Ok e ∷ l) m a b = (a.0, AtDepth-append depth l m a.1 b)
 AtDepth-append depth (Err f ∷ l) m a b = AtDepth-append depth l m a b
+
+module _ {R E : Type 0} where
+  -- how many items of a list have a directory
+  abbrev directories : List (Item R E) → ℕ
+  directories [] = 0
+  directories (x ∷ xs) = (if has_directory x then 1 else 0) + directories xs
+
+  as_many : (state : R) (l : List (Item R E)) → length (flat_map (λ item. option_to_list (spec_of state item)) l) ≡ directories l
+  as_many state [] = refl
+  as_many state (Err f ∷ l) = as_many state l ∙ omega arith
+  as_many state (Ok e ∷ l) =
+      let tail : List (Spec R) = flat_map (λ item. option_to_list (spec_of state item)) l in
+      elim e.read_children as (λ o. length (option_to_list (option_map (spec_below state e) o) ++ tail) ≡ (if is_some o then 1 else 0) + directories l) [
+        | None ↦ as_many state l ∙ omega arith
+        | Some c ↦ omega (arith, as_many state l)
+      ]
+
+  all_sources : (xs : List (Item R E)) (ss : List (Spec R)) → length ss ≡ directories xs → sources (pair_up xs ss) ≡ ss
+  all_sources [] [] h = refl
+  all_sources [] (s ∷ ss) h = absurd (omega (arith, h))
+  all_sources (x ∷ xs) [] h =
+      elim (has_directory x) as (λ b. 0 ≡ (if b then 1 else 0) + directories xs → sources (record { item = x; source = first_source {R = R} {E = E} b [] } ∷ pair_up xs (after_first b [])) ≡ []) [
+        | false ↦ λ same. all_sources xs [] (omega (arith, same))
+        | true ↦ λ same. absurd (omega (arith, same))
+      ] h
+  all_sources (x ∷ xs) (s ∷ ss) h =
+      elim (has_directory x) as (λ b. length (s ∷ ss) ≡ (if b then 1 else 0) + directories xs → sources (record { item = x; source = first_source {R = R} {E = E} b (s ∷ ss) } ∷ pair_up xs (after_first b (s ∷ ss))) ≡ s ∷ ss) [
+        | false ↦ λ same. all_sources xs (s ∷ ss) (omega (arith, same))
+        | true ↦ λ same. ap (λ l. s ∷ l) (all_sources xs ss (omega (arith, same)))
+      ] h
+
+  -- where the specifications are in the places of a list's directories, they are the sources of its items
+  pub sources_of_list : (state : R) (l : List (Item R E)) (ss : List (Spec R)) → map place ss ≡ map place (flat_map (λ item. option_to_list (spec_of state item)) l) → sources (pair_up l ss) ≡ ss
+  sources_of_list state l ss places =
+      let listed : List (Spec R) = flat_map (λ item. option_to_list (spec_of state item)) l in
+      all_sources l ss (sym (length-map ss place) ∙ ap length places ∙ length-map listed place ∙ as_many state l)

@@ -8,3 +8,4 @@ pub mod PathParents
 pub mod PreorderFacts
 pub mod SortingFacts
 pub mod StepFacts
+pub mod WithinFacts

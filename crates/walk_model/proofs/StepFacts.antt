@@ -5,14 +5,15 @@ use Rattle.std.specs.Prelude.{MatchBool}
 use Rattle.walk_model.specs.Entry.{Entry, Item, has_directory}
 use Rattle.walk_model.specs.ReadDir.{Spec, Outcome, list_of, ReadsFirst, IsReadingOfFirst}
 use Rattle.walk_model.specs.Listing.{Pair, after_reading, is_answered, answers}
-use Rattle.walk_model.specs.Held.{pair_up, to_come, weight, Passes, PassesTo, left_out, PassesPlainly, AnswersPlainly, IsAtDirectory, PassesOne, is_plain}
+use Rattle.walk_model.specs.Held.{pair_up, to_come, weight, Passes, PassesTo, left_out, PassesPlainly, AnswersPlainly, IsAtDirectory, PassesOne, PassesNext, passed_plainly, passed_entering, ReadsUpTo, leaves_out, is_plain, first_source}
 use Rattle.walk_model.proofs.HeldFacts.{pair_up-outcome, listed, lighter, alone, unread_none, heavy_source_of}
 use Rattle.walk_model.proofs.PreorderFacts.{first_is_read}
 
 module _ {R E : Type 0} (max_depth : ℕ) (clones : Type 0) (is_steady : E → Type 0) (reading_by : E → Spec R → Outcome R E) where
   -- an item that has no directory
-  pub one_alone : (x : Item R E) (xs : List (Item R E)) (ss : List (Spec R)) → has_directory x ≡ false → PassesOne max_depth clones is_steady reading_by (pair_up (x ∷ xs) ss) x (pair_up xs ss)
+  pub one_alone : (x : Item R E) (xs : List (Item R E)) (ss : List (Spec R)) → has_directory x ≡ false → PassesOne max_depth clones is_steady reading_by (x ∷ xs) ss x xs ss
   one_alone x xs ss h = record {
+    next = passed_plainly (rw h refl);
     plain = rw h (refl, refl);
     passes = λ equal. rw h (refl, refl);
     listed = λ d steady. alone (reading_by d) max_depth x xs ss h;
@@ -20,8 +21,9 @@ module _ {R E : Type 0} (max_depth : ℕ) (clones : Type 0) (is_steady : E → T
   }
 
   -- an entry where nothing is left to be read
-  pub one_left : (x : Item R E) (xs : List (Item R E)) (ss ts : List (Spec R)) → has_directory x ≡ true → ss ≡ [] → ts ≡ [] → PassesOne max_depth clones is_steady reading_by (pair_up (x ∷ xs) ss) x (pair_up xs ts)
+  pub one_left : (x : Item R E) (xs : List (Item R E)) (ss ts : List (Spec R)) → has_directory x ≡ true → ss ≡ [] → ts ≡ [] → PassesOne max_depth clones is_steady reading_by (x ∷ xs) ss x xs ts
   one_left x xs ss ts h none left = record {
+    next = rw (none, left) (passed_plainly {x = x} {specs = []} (rw h refl));
     plain = rw (h, none, left) (refl, refl);
     passes = λ equal. rw (h, none, left) (refl, refl);
     listed = λ d steady. rw left (unread_none (reading_by d) max_depth x xs ss none h);
@@ -34,8 +36,9 @@ module _ {R E : Type 0} (max_depth : ℕ) (clones : Type 0) (is_steady : E → T
       (outcome, reads.lawful, refl, refl)
 
   -- an entry whose directory was read
-  pub one_entered : (e : Entry R E) (xs : List (Item R E)) (old new : List (Spec R)) (outcome : Outcome R E) → has_directory {R = R} (Ok e) ≡ true → length (list_of outcome) < 2 ^ 64 → ReadsFirst max_depth clones old outcome new → ((d : E) → is_steady d → clones × IsReadingOfFirst (reading_by d) old outcome) → PassesOne max_depth clones is_steady reading_by (pair_up (Ok e ∷ xs) old) (after_reading outcome (Ok e)) (pair_up (list_of outcome ++ xs) new)
+  pub one_entered : (e : Entry R E) (xs : List (Item R E)) (old new : List (Spec R)) (outcome : Outcome R E) → has_directory {R = R} (Ok e) ≡ true → length (list_of outcome) < 2 ^ 64 → ReadsFirst max_depth clones old outcome new → ((d : E) → is_steady d → clones × IsReadingOfFirst (reading_by d) old outcome) → PassesOne max_depth clones is_steady reading_by (Ok e ∷ xs) old (after_reading outcome (Ok e)) (list_of outcome ++ xs) new
   one_entered e xs old new outcome h few reads value = record {
+    next = passed_entering h reads;
     plain = rw (reads.took, h) tt;
     passes = passes_entered (Ok e) xs old new outcome h reads;
     listed = λ d steady.
@@ -70,15 +73,17 @@ module _ {R E : Type 0} where
   heavy_held max_depth (p ∷ rest) h = omega (arith, heavy_source_of max_depth p.source)
 
 -- what was passed over is left out: what holds of the rest from a least depth on holds of the whole
-pub record LeavesOut {R E : Type 0} (max_depth min_depth : ℕ) (clones : Type 0) (is_steady : E → Type 0) (reading_by : E → Spec R → Outcome R E) (old left : List (Pair R E)) : Type 0 where
-  pub plain : (answer : Option (Item R E)) (new : List (Pair R E)) → AnswersPlainly min_depth left answer new → AnswersPlainly min_depth old answer new
-  pub passes : clones → (answer : Option (Item R E)) (new : List (Pair R E)) → PassesTo max_depth min_depth left answer new → PassesTo max_depth min_depth old answer new
-  pub coming : (d : E) → is_steady d → to_come (reading_by d) min_depth max_depth old ≡ to_come (reading_by d) min_depth max_depth left
-  pub lighter : weight max_depth left ≤ weight max_depth old
+pub record LeavesOut {R E : Type 0} (max_depth min_depth : ℕ) (clones : Type 0) (is_steady : E → Type 0) (reading_by : E → Spec R → Outcome R E) (items : List (Item R E)) (specs : List (Spec R)) (items' : List (Item R E)) (specs' : List (Spec R)) : Type 0 where
+  pub reads : (answer : Option (Item R E)) (left : List (Item R E)) (unread : List (Spec R)) → ReadsUpTo max_depth min_depth clones items' specs' answer left unread → ReadsUpTo max_depth min_depth clones items specs answer left unread
+  pub plain : (answer : Option (Item R E)) (new : List (Pair R E)) → AnswersPlainly min_depth (pair_up items' specs') answer new → AnswersPlainly min_depth (pair_up items specs) answer new
+  pub passes : clones → (answer : Option (Item R E)) (new : List (Pair R E)) → PassesTo max_depth min_depth (pair_up items' specs') answer new → PassesTo max_depth min_depth (pair_up items specs) answer new
+  pub coming : (d : E) → is_steady d → to_come (reading_by d) min_depth max_depth (pair_up items specs) ≡ to_come (reading_by d) min_depth max_depth (pair_up items' specs')
+  pub lighter : weight max_depth (pair_up items' specs') ≤ weight max_depth (pair_up items specs)
 
 module _ {R E : Type 0} (max_depth min_depth : ℕ) (clones : Type 0) (is_steady : E → Type 0) (reading_by : E → Spec R → Outcome R E) where
-  pub none_left_out : (held : List (Pair R E)) → LeavesOut max_depth min_depth clones is_steady reading_by held held
-  none_left_out held = record {
+  pub none_left_out : (items : List (Item R E)) (specs : List (Spec R)) → LeavesOut max_depth min_depth clones is_steady reading_by items specs items specs
+  none_left_out items specs = record {
+    reads = λ answer left unread h. h;
     plain = λ answer new h. h;
     passes = λ equal answer new h. h;
     coming = λ d steady. refl;
@@ -94,10 +99,11 @@ module _ {R E : Type 0} (max_depth min_depth : ℕ) (clones : Type 0) (is_steady
       ] h
 
   -- one more item that the least depth leaves out
-  pub one_left_out : (old between : List (Pair R E)) (passed : Item R E) (left : List (Pair R E)) → LeavesOut max_depth min_depth clones is_steady reading_by old between → PassesOne max_depth clones is_steady reading_by between passed left → is_answered min_depth passed ≡ false → LeavesOut max_depth min_depth clones is_steady reading_by old left
-  one_left_out old between passed left before one out = record {
-    plain = λ answer new h. before.plain answer new (plain_left_out between passed left one.plain out answer new h);
-    passes = λ equal answer new h. before.passes equal answer new (left_out passed left (one.passes equal) out h);
+  pub one_left_out : (items between : List (Item R E)) (specs unread : List (Spec R)) (passed : Item R E) (items' : List (Item R E)) (specs' : List (Spec R)) → LeavesOut max_depth min_depth clones is_steady reading_by items specs between unread → PassesOne max_depth clones is_steady reading_by between unread passed items' specs' → is_answered min_depth passed ≡ false → LeavesOut max_depth min_depth clones is_steady reading_by items specs items' specs'
+  one_left_out items between specs unread passed items' specs' before one out = record {
+    reads = λ answer left others h. before.reads answer left others (leaves_out passed items' specs' one.next out h);
+    plain = λ answer new h. before.plain answer new (plain_left_out (pair_up between unread) passed (pair_up items' specs') one.plain out answer new h);
+    passes = λ equal answer new h. before.passes equal answer new (left_out passed (pair_up items' specs') (one.passes equal) out h);
     coming = λ d steady. before.coming d steady ∙ ap (answers min_depth) (one.listed d steady) ∙ rw out refl;
     lighter = omega (arith, one.lighter, before.lighter);
   }

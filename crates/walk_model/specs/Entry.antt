@@ -1,5 +1,5 @@
 -- Entries as values. R is the type of a directory's client state, E that of an entry's.
-use Rattle.std.specs.Prelude.{◌≡◌, ℕ, Bool, false, List, [], ◌∷◌, Option, Some, None, Result, Ok, Err, if◌then◌else◌, option_map, is_some, ◌==◌}
+use Rattle.std.specs.Prelude.{◌≡◌, ◌≤◌, ℕ, Bool, false, List, [], ◌∷◌, Option, Some, None, Result, Ok, Err, if◌then◌else◌, option_map, is_some, ◌==◌}
 use Rattle.walk_model.specs.declared.file_type.FileType.{FileType}
 use Rattle.walk_model.specs.Error.{Failure}
 use Rattle.walk_model.specs.Paths.{join}
@@ -58,3 +58,19 @@ module _ {R E : Type 0} where
   AtDepth depth [] = Unit {0}
   AtDepth depth (Ok e ∷ items) = (e.depth ≡ depth) × AtDepth depth items
   AtDepth depth (Err f ∷ items) = AtDepth depth items
+
+  -- no entry of the list is deeper than this
+  abbrev pub NoDeeper : ℕ → List (Item R E) → Type 0
+  NoDeeper depth [] = Unit {0}
+  NoDeeper depth (Ok e ∷ items) = (e.depth ≤ depth) × NoDeeper depth items
+  NoDeeper depth (Err f ∷ items) = NoDeeper depth items
+
+  -- an entry's depth is from the least to the greatest
+  abbrev pub IsBetween : ℕ → ℕ → Item R E → Type 0
+  IsBetween least greatest (Ok e) = (least ≤ e.depth) × (e.depth ≤ greatest)
+  IsBetween least greatest (Err f) = Unit {0}
+
+  -- every entry's is
+  abbrev pub AllBetween : ℕ → ℕ → List (Item R E) → Type 0
+  AllBetween least greatest [] = Unit {0}
+  AllBetween least greatest (x ∷ items) = IsBetween least greatest x × AllBetween least greatest items

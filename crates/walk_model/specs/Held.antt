@@ -1,7 +1,7 @@
 -- What an iterator of a walk has received and not yet passed on.
-use Rattle.std.specs.Prelude.{◌≡◌, ℕ, zero, suc, ◌+◌, ◌-◌, ◌*◌, ◌^◌, ◌<◌, Bool, true, false, List, [], ◌∷◌, ◌++◌, Option, Some, None, MatchBool}
+use Rattle.std.specs.Prelude.{◌≡◌, ℕ, zero, suc, ◌+◌, ◌-◌, ◌*◌, ◌^◌, ◌<◌, Bool, true, false, List, [], ◌∷◌, ◌++◌, flat_map, Option, Some, None, MatchBool}
 use Rattle.walk_model.specs.Entry.{Item, has_directory}
-use Rattle.walk_model.specs.ReadDir.{Spec, Outcome, IsLawful}
+use Rattle.walk_model.specs.ReadDir.{Spec, Outcome, list_of, IsLawful, ReadsFirst}
 use Rattle.walk_model.specs.Listing.{Pair, Source, nothing, unread, was_read, after_reading, pairs_of, listing, is_answered, answers}
 
 abbrev pub first_source : {R E : Type 0} → Bool → List (Spec R) → Source R E
@@ -45,6 +45,12 @@ is_plain nothing = true
 is_plain (unread spec) = false
 is_plain (was_read spec outcome) = false
 
+-- the specification of a source that is unread
+abbrev unread_in : {R E : Type 0} → Source R E → List (Spec R)
+unread_in nothing = []
+unread_in (unread spec) = spec ∷ []
+unread_in (was_read spec outcome) = []
+
 -- Where no directory stands before the first item that the least depth keeps, that item is the answer and what follows it is held then; where none is kept and no directory is there, there is no answer and nothing is held.
 abbrev pub AnswersPlainly : {R E : Type 0} → ℕ → List (Pair R E) → Option (Item R E) → List (Pair R E) → Type 0
 AnswersPlainly min_depth [] answer held = (answer ≡ None) × (held ≡ [])
@@ -83,15 +89,31 @@ abbrev pub IsAtDirectory : {R E : Type 0} → List (Pair R E) → Type 0
 IsAtDirectory [] = ⊥
 IsAtDirectory (p ∷ rest) = is_plain p.source ≡ false
 
--- All that is said of one pair that is passed. What is listed holds where the walk is steady, with d as the default state of an entry.
-pub record PassesOne {R E : Type 0} (max_depth : ℕ) (clones_are_equal : Type 0) (is_steady : E → Type 0) (reading_by : E → Spec R → Outcome R E) (old : List (Pair R E)) (answer : Item R E) (new : List (Pair R E)) : Type 0 where
-  pub plain : PassesPlainly old answer new
-  pub passes : clones_are_equal → Passes max_depth old answer new
-  pub listed : (d : E) → is_steady d → listing (reading_by d) max_depth old ≡ answer ∷ listing (reading_by d) max_depth new
-  pub lighter : weight max_depth new < weight max_depth old
+-- The next item is passed, of the items that a serial walk holds with the specifications that are unread. A directory takes the first of those, which alone is read: its children stand in front of the others then, as the items of its reading do. Any other item leaves them as they are.
+pub data PassesNext {R E : Type 0} (max_depth : ℕ) (clones_are_equal : Type 0) : List (Item R E) → List (Spec R) → Item R E → List (Item R E) → List (Spec R) → Type 0 where
+  passed_plainly : {x : Item R E} {items : List (Item R E)} {specs : List (Spec R)} → is_plain (first_source {R = R} {E = E} (has_directory x) specs) ≡ true → PassesNext max_depth clones_are_equal (x ∷ items) specs x items specs
+  passed_entering : {x : Item R E} {items : List (Item R E)} {specs left : List (Spec R)} {outcome : Outcome R E} → has_directory x ≡ true → ReadsFirst max_depth clones_are_equal specs outcome left → PassesNext max_depth clones_are_equal (x ∷ items) specs (after_reading outcome x) (list_of outcome ++ items) left
 
--- one pair is passed whose item the least depth leaves out
-pub record LeavesOne {R E : Type 0} (max_depth min_depth : ℕ) (clones_are_equal : Type 0) (is_steady : E → Type 0) (reading_by : E → Spec R → Outcome R E) (old new : List (Pair R E)) : Type 0 where
+-- Items are passed one after another up to the first whose answer the least depth keeps, or up to the end.
+pub data ReadsUpTo {R E : Type 0} (max_depth min_depth : ℕ) (clones_are_equal : Type 0) : List (Item R E) → List (Spec R) → Option (Item R E) → List (Item R E) → List (Spec R) → Type 0 where
+  answers_next : {items : List (Item R E)} {specs : List (Spec R)} {answer : Item R E} {items' : List (Item R E)} {specs' : List (Spec R)} → PassesNext max_depth clones_are_equal items specs answer items' specs' → is_answered min_depth answer ≡ true → ReadsUpTo max_depth min_depth clones_are_equal items specs (Some answer) items' specs'
+  leaves_out : {items : List (Item R E)} {specs : List (Spec R)} (passed : Item R E) (between : List (Item R E)) (unread : List (Spec R)) {answer : Option (Item R E)} {items' : List (Item R E)} {specs' : List (Spec R)} → PassesNext max_depth clones_are_equal items specs passed between unread → is_answered min_depth passed ≡ false → ReadsUpTo max_depth min_depth clones_are_equal between unread answer items' specs' → ReadsUpTo max_depth min_depth clones_are_equal items specs answer items' specs'
+  ends : {specs : List (Spec R)} → ReadsUpTo max_depth min_depth clones_are_equal [] specs None [] specs
+
+-- the specifications of what is held that are unread
+abbrev pub sources : {R E : Type 0} → List (Pair R E) → List (Spec R)
+sources = flat_map (λ p. unread_in p.source)
+
+-- All that is said of one item that is passed. What is listed holds where the walk is steady, with d as the default state of an entry.
+pub record PassesOne {R E : Type 0} (max_depth : ℕ) (clones_are_equal : Type 0) (is_steady : E → Type 0) (reading_by : E → Spec R → Outcome R E) (items : List (Item R E)) (specs : List (Spec R)) (answer : Item R E) (items' : List (Item R E)) (specs' : List (Spec R)) : Type 0 where
+  pub next : PassesNext max_depth clones_are_equal items specs answer items' specs'
+  pub plain : PassesPlainly (pair_up items specs) answer (pair_up items' specs')
+  pub passes : clones_are_equal → Passes max_depth (pair_up items specs) answer (pair_up items' specs')
+  pub listed : (d : E) → is_steady d → listing (reading_by d) max_depth (pair_up items specs) ≡ answer ∷ listing (reading_by d) max_depth (pair_up items' specs')
+  pub lighter : weight max_depth (pair_up items' specs') < weight max_depth (pair_up items specs)
+
+-- one item is passed that the least depth leaves out
+pub record LeavesOne {R E : Type 0} (max_depth min_depth : ℕ) (clones_are_equal : Type 0) (is_steady : E → Type 0) (reading_by : E → Spec R → Outcome R E) (items : List (Item R E)) (specs : List (Spec R)) (items' : List (Item R E)) (specs' : List (Spec R)) : Type 0 where
   pub passed : Item R E
   pub left_out : is_answered min_depth passed ≡ false
-  pub one : PassesOne max_depth clones_are_equal is_steady reading_by old passed new
+  pub one : PassesOne max_depth clones_are_equal is_steady reading_by items specs passed items' specs'

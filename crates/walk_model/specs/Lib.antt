@@ -15,4 +15,5 @@ pub mod Job
 pub mod Listing
 pub mod Held
 pub mod Preorder
+pub mod Walk
 pub mod WalkRows

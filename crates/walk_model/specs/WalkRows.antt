@@ -11,9 +11,9 @@ use Rattle.walk_model.specs.TreeRows.{Step, d, f, l, x, built}
 use Rattle.walk_model.specs.Error.{Failure, io, looped, busy, memory, lost}
 use Rattle.walk_model.specs.Entry.{Children, Item, path_of}
 use Rattle.walk_model.specs.Options.{Options, defaults, with_sort, with_skip_hidden, with_follow_links, with_min_depth, with_max_depth}
-use Rattle.walk_model.specs.Job.{Job, reading, root_list}
-use Rattle.walk_model.specs.Listing.{paired, below}
-use Rattle.walk_model.specs.Held.{to_come}
+use Rattle.walk_model.specs.Job.{Job}
+use Rattle.walk_model.specs.Listing.{below}
+use Rattle.walk_model.specs.Walk.{whole_walk}
 
 -- states that say nothing
 abbrev pub Nothing : Type 0
@@ -80,7 +80,7 @@ job fs options = record {
 
 -- what a walk from this root answers
 abbrev walked : Functions → Options → List ℕ → List (List ℕ)
-walked fs o root = map line (to_come (reading (job fs o)) o.min_depth o.max_depth (paired (root_list (job fs o) root tt)))
+walked fs o root = map line (whole_walk (job fs o) root tt)
 
 abbrev over : List Step → Options → List ℕ → List (List ℕ)
 over steps = walked (functions_of (built only_root steps))

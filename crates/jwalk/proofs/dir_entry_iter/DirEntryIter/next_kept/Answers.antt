@@ -1,5 +1,5 @@
 use Rattle.std.proofs.Common.{◌≡◌, ◌∙◌, true, subst}
-use Rattle.walk_model.specs.Held.{pair_up, LeavesOne}
+use Rattle.walk_model.specs.Held.{LeavesOne}
 use Rattle.walk_model.specs.Listing.{is_answered}
 use Rattle.walk_model.specs.Job as value
 use Rattle.walk_model.proofs.StepFacts.{one_left_out}
@@ -34,13 +34,13 @@ loop-passed-preserved g c =
     let new = c.pass_kept.new.self in
     let sofar = c.loop-passed.invariant in
     let at_left = rw c.in_default-passed.is at c.in-Some.ensures.left_out in
-    let leaves = subst (λ m. LeavesOne (greatest_depth (job_of old)) m (ClonesAreEqual g.C.ReadDirState.Clone.is_clone) (IsSteady (g.S.FileSystem.IsFixed (file_system (job_of old))) (g.P.ProcessReadDir.IsFixed (callback (job_of old))) g.C.ReadDirState.Clone.is_clone g.C.DirEntryState.Default.is_default) (λ d. value.reading (job (g.S.FileSystem.functions (file_system (job_of old))) (g.P.ProcessReadDir.processed (callback (job_of old))) d (job_of old))) (pair_up (items_of left) (unread_of left)) (pair_up (items_of new) (unread_of new))) sofar.same_depth
-    (subst (λ j. LeavesOne (greatest_depth j) (min_depth_of left) (ClonesAreEqual g.C.ReadDirState.Clone.is_clone) (IsSteady (g.S.FileSystem.IsFixed (file_system j)) (g.P.ProcessReadDir.IsFixed (callback j)) g.C.ReadDirState.Clone.is_clone g.C.DirEntryState.Default.is_default) (λ d. value.reading (job (g.S.FileSystem.functions (file_system j)) (g.P.ProcessReadDir.processed (callback j)) d j)) (pair_up (items_of left) (unread_of left)) (pair_up (items_of new) (unread_of new))) sofar.same_job at_left) in
+    let leaves = subst (λ m. LeavesOne (greatest_depth (job_of old)) m (ClonesAreEqual g.C.ReadDirState.Clone.is_clone) (IsSteady (g.S.FileSystem.IsFixed (file_system (job_of old))) (g.P.ProcessReadDir.IsFixed (callback (job_of old))) g.C.ReadDirState.Clone.is_clone g.C.DirEntryState.Default.is_default) (λ d. value.reading (job (g.S.FileSystem.functions (file_system (job_of old))) (g.P.ProcessReadDir.processed (callback (job_of old))) d (job_of old))) (items_of left) (unread_of left) (items_of new) (unread_of new)) sofar.same_depth
+    (subst (λ j. LeavesOne (greatest_depth j) (min_depth_of left) (ClonesAreEqual g.C.ReadDirState.Clone.is_clone) (IsSteady (g.S.FileSystem.IsFixed (file_system j)) (g.P.ProcessReadDir.IsFixed (callback j)) g.C.ReadDirState.Clone.is_clone g.C.DirEntryState.Default.is_default) (λ d. value.reading (job (g.S.FileSystem.functions (file_system j)) (g.P.ProcessReadDir.processed (callback j)) d j)) (items_of left) (unread_of left) (items_of new) (unread_of new)) sofar.same_job at_left) in
     record {
       same_job = c.in-Some.ensures.job ∙ sofar.same_job;
       same_depth = c.in-Some.ensures.min_depth ∙ sofar.same_depth;
       begun = c.in-Some.ensures.refused ∙ sofar.begun;
-      leaves = one_left_out (greatest_depth (job_of old)) (min_depth_of old) (ClonesAreEqual g.C.ReadDirState.Clone.is_clone) (IsSteady (g.S.FileSystem.IsFixed (file_system (job_of old))) (g.P.ProcessReadDir.IsFixed (callback (job_of old))) g.C.ReadDirState.Clone.is_clone g.C.DirEntryState.Default.is_default) (λ d. value.reading (job (g.S.FileSystem.functions (file_system (job_of old))) (g.P.ProcessReadDir.processed (callback (job_of old))) d (job_of old))) (pair_up (items_of old) (unread_of old)) (pair_up (items_of left) (unread_of left)) leaves.passed (pair_up (items_of new) (unread_of new)) sofar.leaves leaves.one leaves.left_out;
+      leaves = one_left_out (greatest_depth (job_of old)) (min_depth_of old) (ClonesAreEqual g.C.ReadDirState.Clone.is_clone) (IsSteady (g.S.FileSystem.IsFixed (file_system (job_of old))) (g.P.ProcessReadDir.IsFixed (callback (job_of old))) g.C.ReadDirState.Clone.is_clone g.C.DirEntryState.Default.is_default) (λ d. value.reading (job (g.S.FileSystem.functions (file_system (job_of old))) (g.P.ProcessReadDir.processed (callback (job_of old))) d (job_of old))) (items_of old) (items_of left) (unread_of old) (unread_of left) leaves.passed (items_of new) (unread_of new) sofar.leaves leaves.one leaves.left_out;
     }
 
 pub returns-clause-answers : goal.returns-clause-answers
@@ -48,4 +48,4 @@ returns-clause-answers g c =
     let old = c.args.self.now in
     let left = c.loop-passed.self in
     let sofar = c.loop-passed.invariant in
-    answers_end (ClonesAreEqual g.C.ReadDirState.Clone.is_clone) (IsSteady (g.S.FileSystem.IsFixed (file_system (job_of old))) (g.P.ProcessReadDir.IsFixed (callback (job_of old))) g.C.ReadDirState.Clone.is_clone g.C.DirEntryState.Default.is_default) (λ d. value.reading (job (g.S.FileSystem.functions (file_system (job_of old))) (g.P.ProcessReadDir.processed (callback (job_of old))) d (job_of old))) old left c.pass_kept.new.self c.requires.begun (c.pass_kept.ensures.refused ∙ sofar.begun) (c.pass_kept.ensures.job ∙ sofar.same_job) (c.pass_kept.ensures.min_depth ∙ sofar.same_depth) sofar.leaves c.in_default.ensures.end.0 c.in_default.ensures.end.1
+    answers_end (ClonesAreEqual g.C.ReadDirState.Clone.is_clone) (IsSteady (g.S.FileSystem.IsFixed (file_system (job_of old))) (g.P.ProcessReadDir.IsFixed (callback (job_of old))) g.C.ReadDirState.Clone.is_clone g.C.DirEntryState.Default.is_default) (λ d. value.reading (job (g.S.FileSystem.functions (file_system (job_of old))) (g.P.ProcessReadDir.processed (callback (job_of old))) d (job_of old))) old left c.pass_kept.new.self c.requires.begun (c.pass_kept.ensures.refused ∙ sofar.begun) (c.pass_kept.ensures.job ∙ sofar.same_job) (c.pass_kept.ensures.min_depth ∙ sofar.same_depth) sofar.leaves c.in_default.ensures.end.0 c.in_default.ensures.end.1 c.in_default.ensures.end.2

@@ -15,7 +15,7 @@ invariant-loop-passed g l =
       same_job : job_of l.self ≡ job_of old;
       same_depth : min_depth_of l.self ≡ min_depth_of old;
       begun : l.self.refused ≡ false;
-      leaves : LeavesOut (greatest_depth (job_of old)) (min_depth_of old) (ClonesAreEqual g.C.ReadDirState.Clone.is_clone) (IsSteady (g.S.FileSystem.IsFixed (file_system (job_of old))) (g.P.ProcessReadDir.IsFixed (callback (job_of old))) g.C.ReadDirState.Clone.is_clone g.C.DirEntryState.Default.is_default) (λ d. value.reading (job (g.S.FileSystem.functions (file_system (job_of old))) (g.P.ProcessReadDir.processed (callback (job_of old))) d (job_of old))) (pair_up (items_of old) (unread_of old)) (pair_up (items_of l.self) (unread_of l.self));
+      leaves : LeavesOut (greatest_depth (job_of old)) (min_depth_of old) (ClonesAreEqual g.C.ReadDirState.Clone.is_clone) (IsSteady (g.S.FileSystem.IsFixed (file_system (job_of old))) (g.P.ProcessReadDir.IsFixed (callback (job_of old))) g.C.ReadDirState.Clone.is_clone g.C.DirEntryState.Default.is_default) (λ d. value.reading (job (g.S.FileSystem.functions (file_system (job_of old))) (g.P.ProcessReadDir.processed (callback (job_of old))) d (job_of old))) (items_of old) (unread_of old) (items_of l.self) (unread_of l.self);
     }
 
 abbrev pub decreases-loop-passed : goal.decreases-loop-passed

@@ -2,7 +2,7 @@ use Rattle.std.proofs.Common.{◌≡◌, ◌⊎◌, ◌∙◌, ◌∷◌, inl, i
 use Rattle.walk_model.specs.Error.{memory}
 use Rattle.walk_model.specs.Entry.{Item}
 use Rattle.walk_model.specs.Job as value
-use Rattle.walk_model.specs.Held.{PassesOne, pair_up}
+use Rattle.walk_model.specs.Held.{PassesOne}
 use Rattle.walk_model.proofs.StepFacts.{one_alone}
 use Rattle.jwalk.specs.declared.dir_entry.DirEntry.{DirEntry}
 use Rattle.jwalk.specs.declared.error.Error.{Error}
@@ -35,4 +35,4 @@ pub returns-else-is_none-clause-passed : goal.returns-else-is_none-clause-passed
 returns-else-is_none-clause-passed g c =
     let old = c.args.self.now in
     let items = ap (λ l. map item (reverse l)) (rw c.in-Ok.is at c.in_ok-error.ensures.items) ∙ ap (map item) (reverse-push c.pop.new.self.items (Ok c.in-Ok.found)) in
-    rw items (by_case (λ answer. PassesOne (greatest_depth (job_of old)) (ClonesAreEqual g.C.ReadDirState.Clone.is_clone) (IsSteady (g.S.FileSystem.IsFixed (file_system (job_of old))) (g.P.ProcessReadDir.IsFixed (callback (job_of old))) g.C.ReadDirState.Clone.is_clone g.C.DirEntryState.Default.is_default) (λ d. value.reading (job (g.S.FileSystem.functions (file_system (job_of old))) (g.P.ProcessReadDir.processed (callback (job_of old))) d (job_of old))) (pair_up (Ok (entry c.in-Ok.found) ∷ map item (reverse c.pop.new.self.items)) (unread_of old)) answer (pair_up (items_of c.enter.new.self) (unread_of c.enter.new.self))) c.enter.result c.enter.ensures.passed c.enter.ensures.memory c.enter.ensures.stopped c.enter.ensures.entered)
+    rw items (by_case (λ answer. PassesOne (greatest_depth (job_of old)) (ClonesAreEqual g.C.ReadDirState.Clone.is_clone) (IsSteady (g.S.FileSystem.IsFixed (file_system (job_of old))) (g.P.ProcessReadDir.IsFixed (callback (job_of old))) g.C.ReadDirState.Clone.is_clone g.C.DirEntryState.Default.is_default) (λ d. value.reading (job (g.S.FileSystem.functions (file_system (job_of old))) (g.P.ProcessReadDir.processed (callback (job_of old))) d (job_of old))) (Ok (entry c.in-Ok.found) ∷ map item (reverse c.pop.new.self.items)) (unread_of old) answer (items_of c.enter.new.self) (unread_of c.enter.new.self)) c.enter.result c.enter.ensures.passed c.enter.ensures.memory c.enter.ensures.stopped c.enter.ensures.entered)

@@ -1,0 +1,61 @@
+-- Depths of what is held and of what is answered.
+use Rattle.std.proofs.Common.{◌≡◌, ℕ, ◌+◌, ◌≤◌, ◌<◌, Bool, true, false, List, [], ◌∷◌, ◌++◌, Option, Some, None, IfSome, Ok, Err, inl, inr, arith, sym, ◌∙◌}
+use Rattle.std.proofs.lemmas.Bool.Decides.{leb_tells}
+use Rattle.walk_model.specs.Error.{Failure}
+use Rattle.walk_model.specs.Entry.{Entry, Item, AtDepth, NoDeeper, IsBetween}
+use Rattle.walk_model.specs.ReadDir.{Spec, Outcome, list_of, IsLawful, ReadsFirst}
+use Rattle.walk_model.specs.Listing.{after_reading, is_answered}
+use Rattle.walk_model.specs.Held.{PassesNext, passed_plainly, passed_entering, ReadsUpTo, answers_next, leaves_out, ends}
+
+module _ {R E : Type 0} where
+  pub NoDeeper-append : (depth : ℕ) (l m : List (Item R E)) → NoDeeper depth l → NoDeeper depth m → NoDeeper depth (l ++ m)
+  NoDeeper-append depth [] m a b = b
+  NoDeeper-append depth (Ok e ∷ l) m a b = (a.0, NoDeeper-append depth l m a.1 b)
+  NoDeeper-append depth (Err f ∷ l) m a b = NoDeeper-append depth l m a b
+
+  -- a list of one depth
+  pub at_depth : (depth greatest : ℕ) (l : List (Item R E)) → depth ≤ greatest → AtDepth depth l → NoDeeper greatest l
+  at_depth depth greatest [] few a = tt
+  at_depth depth greatest (Ok e ∷ l) few a = (rw a.0 few, at_depth depth greatest l few a.1)
+  at_depth depth greatest (Err f ∷ l) few a = at_depth depth greatest l few a
+
+  -- no reading goes below the greatest depth
+  of_list : (max_depth : ℕ) (s : Spec R) (l : List (Item R E)) → AtDepth (s.depth + 1) l → (max_depth ≤ s.depth → l ≡ []) → NoDeeper max_depth l
+  of_list max_depth s l depth none =
+      elim (leb_tells max_depth s.depth) [
+        | inl deep ↦ rw (none deep.1) tt
+        | inr higher ↦ at_depth (s.depth + 1) max_depth l (omega (arith, higher.1)) depth
+      ]
+
+  of_reading : (max_depth : ℕ) (s : Spec R) (outcome : Outcome R E) → IsLawful max_depth s outcome → NoDeeper max_depth (list_of outcome)
+  of_reading max_depth s (Err f) lawful = tt
+  of_reading max_depth s (Ok r) lawful = of_list max_depth s r.list lawful.0 lawful.1
+
+  -- a reading's error doesn't change an item's depth
+  after : (greatest : ℕ) (outcome : Outcome R E) (x : Item R E) → NoDeeper greatest (x ∷ []) → NoDeeper greatest (after_reading outcome x ∷ [])
+  after greatest (Ok r) x h = h
+  after greatest (Err f) (Ok e) h = h
+  after greatest (Err f) (Err g) h = h
+
+  first_of : (greatest : ℕ) (x : Item R E) (l : List (Item R E)) → NoDeeper greatest (x ∷ l) → NoDeeper greatest (x ∷ []) × NoDeeper greatest l
+  first_of greatest (Ok e) l h = ((h.0, tt), h.1)
+  first_of greatest (Err f) l h = (tt, h)
+
+  -- one item is passed
+  next : (max_depth : ℕ) (clones : Type 0) {items : List (Item R E)} {specs : List (Spec R)} {answer : Item R E} {items' : List (Item R E)} {specs' : List (Spec R)} → PassesNext max_depth clones items specs answer items' specs' → NoDeeper max_depth items → NoDeeper max_depth (answer ∷ []) × NoDeeper max_depth items'
+  next max_depth clones (passed_plainly {x} {items} plain) h = first_of max_depth x items h
+  next max_depth clones (passed_entering {x} {items} {outcome = outcome} dir reads) h =
+      let parts = first_of max_depth x items h in
+      (after max_depth outcome x parts.0, NoDeeper-append max_depth (list_of outcome) items (of_reading max_depth reads.first outcome reads.lawful) parts.1)
+
+  is_between : (min_depth max_depth : ℕ) (x : Item R E) → is_answered min_depth x ≡ true → NoDeeper max_depth (x ∷ []) → IsBetween min_depth max_depth x
+  is_between min_depth max_depth (Ok e) kept h = (elim (leb_tells min_depth e.depth) [ inl deep ↦ deep.1 | inr higher ↦ let no : true ≡ false = sym kept ∙ higher.0 in cc ], h.0)
+  is_between min_depth max_depth (Err f) kept h = tt
+
+  -- what is answered is between the least and the greatest depth, and what is held stays so
+  pub reads_between : (max_depth min_depth : ℕ) (clones : Type 0) {items : List (Item R E)} {specs : List (Spec R)} {answer : Option (Item R E)} {items' : List (Item R E)} {specs' : List (Spec R)} → ReadsUpTo max_depth min_depth clones items specs answer items' specs' → NoDeeper max_depth items → IfSome answer (IsBetween min_depth max_depth) × NoDeeper max_depth items'
+  reads_between max_depth min_depth clones (answers_next {answer = answer} passes kept) h =
+      let parts = next max_depth clones passes h in
+      (is_between min_depth max_depth answer kept parts.0, parts.1)
+  reads_between max_depth min_depth clones (leaves_out passed between unread passes out rest) h = reads_between max_depth min_depth clones rest (next max_depth clones passes h).1
+  reads_between max_depth min_depth clones ends h = (tt, tt)
