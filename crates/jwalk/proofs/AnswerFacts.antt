@@ -1,12 +1,12 @@
 -- One call of a walk's `next`, case by case.
-use Rattle.std.proofs.Common.{◌≡◌, ◌∙◌, ◌<◌, ℕ, true, false, [], ◌∷◌, ◌++◌, append-nil, Option, Some, None, Result, Ok, Err, IfSome, OnSome, inl, inr, refl, sym, ap, arith}
+use Rattle.std.proofs.Common.{◌≡◌, ◌∙◌, ◌<◌, ℕ, true, false, List, [], ◌∷◌, ◌++◌, map, append-nil, Option, Some, None, Result, Ok, Err, IfSome, OnSome, inl, inr, refl, sym, ap, arith}
 use Rattle.walk_model.specs.Error.{memory}
-use Rattle.walk_model.specs.Entry.{Item, IsBetween}
-use Rattle.walk_model.specs.ReadDir.{Spec, Reading, Outcome, children_of}
+use Rattle.walk_model.specs.Entry.{Item, AtDepth, NoDeeper, IsBetween}
+use Rattle.walk_model.specs.ReadDir.{Spec, Reading, Outcome, place, children_of}
 use Rattle.walk_model.specs.Listing.{nothing, paired, is_answered, answers, listing}
-use Rattle.walk_model.specs.Held.{pair_up, weight, kept, ended, ReadsUpTo, answers_next, ends}
-use Rattle.walk_model.proofs.WithinFacts.{reads_between}
-use Rattle.walk_model.proofs.HeldFacts.{alone, pair_up-outcome}
+use Rattle.walk_model.specs.Held.{pair_up, weight, sources, kept, ended, ReadsUpTo, answers_next, ends}
+use Rattle.walk_model.proofs.WithinFacts.{reads_between, at_depth}
+use Rattle.walk_model.proofs.HeldFacts.{alone, pair_up-outcome, sources_of_list}
 use Rattle.walk_model.proofs.StepFacts.{LeavesOut, plainly_one, plainly_any, heavy_held}
 use Rattle.jwalk.specs.declared.error.Error.{Error}
 use Rattle.jwalk.specs.declared.dir_entry.DirEntry.{DirEntry}
@@ -143,3 +143,13 @@ holds_root clones r before after begun equal started same_items same_unread no_i
     ∙ ap (pair_up (r.list ++ [])) (same_unread ∙ stacks.left ∙ ap (λ l. l ++ unread_of before) (stacks.children equal) ∙ ap (λ l. children_of (Ok r) ++ l) no_unread)
     ∙ pair_up-outcome (Ok r) [] []
     ∙ append-nil (paired r)
+
+-- a walk that holds its root's list alone holds nothing too deep
+pub within_root : {R E : Type 0} (greatest : ℕ) (l items before : List (Item R E)) → items ≡ l ++ before → before ≡ [] → AtDepth 0 l → NoDeeper greatest items
+within_root greatest l items before all none depth = rw (all, none, append-nil l) (at_depth 0 greatest l (omega arith) depth)
+
+-- and its directories alone are to be read
+pub root_sources : {R E : Type 0} (clones : Type 0) (r : Reading R E) (items before : List (Item R E)) (old new : List (Spec R)) → items ≡ r.list ++ before → before ≡ [] → old ≡ [] → StacksChildren clones old (Ok r) new → new ≡ sources (pair_up items new)
+root_sources clones r items before old new all none no_unread stacks =
+    rw (all, none, append-nil r.list)
+    (sym (sources_of_list r.state r.list new (ap (map place) (stacks.left ∙ ap (λ l. stacks.front ++ l) no_unread ∙ append-nil stacks.front) ∙ stacks.places)))

@@ -47,7 +47,8 @@ impl<C: ClientState, S: FileSystem, P: ProcessReadDir<C, A>, A: Allocator + Copy
     A,
 > {
     ghost use Rattle.std.specs.Prelude.{◌^◌, ◌++◌, false, length, OnOk, OnErr, IfSome, IfNone, IsSomeAnd};
-    ghost use Rattle.walk_model.specs.Held.{PassesOne, LeavesOne, IsAtDirectory};
+    ghost use Rattle.walk_model.specs.Entry.{AtDepth};
+    ghost use Rattle.walk_model.specs.Held.{PassesOne, LeavesOne, IsAtDirectory, sources};
     ghost use Rattle.walk_model.specs.ReadDir.{list_of};
     ghost use Rattle.jwalk.specs.ReadDir.{reading};
     ghost use Rattle.jwalk.specs.DirEntryIter.{job_of, min_depth_of, items_of, unread_of, early_of, held, IsWithin, IsRefused, PassesOrStops, Answers, Fills, Counts};
@@ -91,9 +92,12 @@ impl<C: ClientState, S: FileSystem, P: ProcessReadDir<C, A>, A: Allocator + Copy
         min_depth: usize,
         read: Option<ReadDir<C, A>>,
     ) -> Self
+        requires { IfSome read (λ r. AtDepth 0 (reading r).list) }
         ensures job { job_of result ≡ job }
         ensures min_depth { min_depth_of result ≡ min_depth }
         ensures refused { result.refused ≡ true → IsRefused result }
+        ensures within { IsWithin result }
+        ensures unread { unread_of result ≡ sources (held result) }
         ensures held { ClonesAreEqual C.ReadDirState.is_clone → result.refused ≡ false → IsSomeAnd read (λ r. held result ≡ paired (reading r)) }
     {
         let mut walk = DirEntryIter::refused(alloc, job, min_depth);
@@ -231,6 +235,13 @@ impl<C: ClientState, S: FileSystem, P: ProcessReadDir<C, A>, A: Allocator + Copy
             }
         }
         None
+    }
+
+    /// Whether memory was refused at the start, and the error that tells of it was not answered yet.
+    pub(crate) fn is_refused(&self) -> bool
+        ensures { result ≡ self.now.refused }
+    {
+        self.refused
     }
 
     /// How many directories were read whose readings are not handed on yet. A serial walk reads none ahead.

@@ -1,5 +1,7 @@
 //! The builder of a walk.
-ghost use Rattle.std.specs.Prelude.{◌≡◌, string_bytes};
+ghost use Rattle.std.specs.Prelude.{◌≡◌, true, false, string_bytes, IfOk, IfErr};
+ghost use Rattle.walk_model.specs.Error.{memory};
+ghost use Rattle.jwalk.specs.Error.{failure};
 ghost use Rattle.jwalk.specs.States.{ClonesAreEqual, DefaultIs};
 ghost use Rattle.jwalk.specs.Job.{file_system, callback, IsSteady};
 ghost use Rattle.jwalk.specs.DirEntryIter.{job_of};
@@ -65,7 +67,10 @@ impl<C: ClientState, S: FileSystem, P: ProcessReadDir<C, A>, A: Allocator + Copy
     A,
 > {
     ghost use Rattle.walk_model.specs.Options.{with_sort, with_skip_hidden, with_min_depth, with_max_depth, with_parallelism};
-    ghost use Rattle.jwalk.specs.WalkDir.{parallelism_value, file_system_of, callback_of, root_of, options_of, Sets, Begins};
+    ghost use Rattle.jwalk.specs.WalkDir.{parallelism_value, file_system_of, callback_of, root_of, options_of, Sets, Starts, Holds, Begins, job_for};
+    ghost use Rattle.walk_model.specs.Listing.{paired};
+    ghost use Rattle.walk_model.specs.Job.{root_list};
+    ghost use Rattle.jwalk.specs.DirEntryIter.{held, IsRefused};
 
     /// The root's path as it was given.
     pub fn root(&self) -> &str
@@ -118,14 +123,12 @@ impl<C: ClientState, S: FileSystem, P: ProcessReadDir<C, A>, A: Allocator + Copy
         self
     }
 
-    /// The walk begun: its root's list is made, and no directory is read yet.
-    ///
-    /// Where memory is refused, the iterator's only answer is the error that tells of it.
-    pub fn into_iter(self) -> DirEntryIter<C, S, P, A>
+    /// The walk begun, whether memory was refused or not.
+    fn begin(self) -> DirEntryIter<C, S, P, A>
         requires { P.IsLawful (callback_of self) }
-        ensures file_system { file_system (job_of result) ≡ file_system_of self }
-        ensures callback { callback (job_of result) ≡ callback_of self }
-        ensures begins { (d : C.DirEntryState) → (s : C.ReadDirState) → DefaultIs C.ReadDirState.is_default s → IsSteady (S.IsFixed (file_system_of self)) (P.IsFixed (callback_of self)) C.ReadDirState.is_clone C.DirEntryState.is_default d → Begins (S.functions (file_system_of self)) (P.processed (callback_of self)) d s self result }
+        ensures starts { Starts self result }
+        ensures refused { result.refused ≡ true → IsRefused result }
+        ensures holds { (d : C.DirEntryState) → (s : C.ReadDirState) → DefaultIs C.ReadDirState.is_default s → IsSteady (S.IsFixed (file_system_of self)) (P.IsFixed (callback_of self)) C.ReadDirState.is_clone C.DirEntryState.is_default d → result.refused ≡ false → held result ≡ paired (root_list (job_for (S.functions (file_system_of self)) (P.processed (callback_of self)) d self) (root_of self) s) }
     {
         let alloc = *self.root.allocator();
         let WalkDirGeneric {
@@ -141,6 +144,33 @@ impl<C: ClientState, S: FileSystem, P: ProcessReadDir<C, A>, A: Allocator + Copy
         let read = job.root_list(root.as_str(), C::ReadDirState::default());
         DirEntryIter::from_root(alloc, job, depths.least(), read.ok())
     }
+
+    /// The walk begun: its root's list is made, and no directory is read yet.
+    ///
+    /// Fails only for want of memory.
+    pub fn try_into_iter(self) -> Result<DirEntryIter<C, S, P, A>, Error<A>>
+        requires { P.IsLawful (callback_of self) }
+        ensures starts { IfOk result (λ it. Starts self it) }
+        ensures holds { (d : C.DirEntryState) → (s : C.ReadDirState) → DefaultIs C.ReadDirState.is_default s → IsSteady (S.IsFixed (file_system_of self)) (P.IsFixed (callback_of self)) C.ReadDirState.is_clone C.DirEntryState.is_default d → IfOk result (λ it. Holds (S.functions (file_system_of self)) (P.processed (callback_of self)) d s self it) }
+        ensures memory { IfErr result (λ error. failure error ≡ memory) }
+    {
+        let walk = self.begin();
+        if walk.is_refused() {
+            return Err(Error::memory());
+        }
+        Ok(walk)
+    }
+
+    /// The walk begun: its root's list is made, and no directory is read yet.
+    ///
+    /// Where memory is refused, the iterator's only answer is the error that tells of it.
+    pub fn into_iter(self) -> DirEntryIter<C, S, P, A>
+        requires { P.IsLawful (callback_of self) }
+        ensures starts { Starts self result }
+        ensures begins { (d : C.DirEntryState) → (s : C.ReadDirState) → DefaultIs C.ReadDirState.is_default s → IsSteady (S.IsFixed (file_system_of self)) (P.IsFixed (callback_of self)) C.ReadDirState.is_clone C.DirEntryState.is_default d → Begins (S.functions (file_system_of self)) (P.processed (callback_of self)) d s self result }
+    {
+        self.begin()
+    }
 }
 
 impl<C: ClientState, S: FileSystem, A: Allocator + Copy> IntoIterator
@@ -151,9 +181,9 @@ impl<C: ClientState, S: FileSystem, A: Allocator + Copy> IntoIterator
 
     ghost use Rattle.jwalk.specs.States.{DefaultIs};
     ghost use Rattle.jwalk.specs.Job.{IsSteady};
-    ghost use Rattle.jwalk.specs.WalkDir.{file_system_of, unprocessed, Begins};
+    ghost use Rattle.jwalk.specs.WalkDir.{file_system_of, unprocessed, Starts, Begins};
 
-    ghost into_iter_gives = { λ walk it. (d : C.DirEntryState) → (s : C.ReadDirState) → DefaultIs C.ReadDirState.is_default s → IsSteady (S.IsFixed (file_system_of walk)) (Unit {0}) C.ReadDirState.is_clone C.DirEntryState.is_default d → Begins (S.functions (file_system_of walk)) unprocessed d s walk it };
+    ghost into_iter_gives = { λ walk it. Starts walk it × ((d : C.DirEntryState) → (s : C.ReadDirState) → DefaultIs C.ReadDirState.is_default s → IsSteady (S.IsFixed (file_system_of walk)) (Unit {0}) C.ReadDirState.is_clone C.DirEntryState.is_default d → Begins (S.functions (file_system_of walk)) unprocessed d s walk it) };
 
     fn into_iter(self) -> DirEntryIter<C, S, NoProcess, A> {
         WalkDirGeneric::into_iter(self)

@@ -113,15 +113,28 @@ pub fn answers<S: FileSystem>(alloc: Global, fs: S, root: &str) -> Result<String
     answers_of(alloc, builder(alloc, fs, root)?)
 }
 
+/// Answers parted by `; `.
+pub fn lines_of(alloc: Global, answers: &[Result<Entry, Error>]) -> Result<String, AllocError> {
+    let mut text = String::new(alloc);
+    for answer in answers {
+        push_line(&mut text, answer)?;
+    }
+    Ok(text)
+}
+
+fn push_line(text: &mut String, answer: &Result<Entry, Error>) -> Result<(), AllocError> {
+    if !text.is_empty() {
+        text.push_str("; ")?;
+    }
+    text.push_str(line(*text.allocator(), answer)?.as_str())
+}
+
 /// All answers of a walk that is yet to begin.
 pub fn answers_of<S: FileSystem>(alloc: Global, walk: Builder<S>) -> Result<String, AllocError> {
     let mut walk = walk.into_iter();
     let mut text = String::new(alloc);
     for answer in walk.by_ref() {
-        if !text.is_empty() {
-            text.push_str("; ")?;
-        }
-        text.push_str(line(alloc, &answer)?.as_str())?;
+        push_line(&mut text, &answer)?;
     }
     if !is_over(&mut walk) {
         text.push_str("; not over")?;

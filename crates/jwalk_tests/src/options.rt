@@ -1,7 +1,7 @@
 //! Walks with options.
-use crate::lines::{answers_of, builder, is_over};
+use crate::lines::{answers_of, builder, is_over, lines_of, next_entry};
 use crate::listed_directory::{Item, ListedDirectory};
-use crate::trees::{denied_tree, grouped_tree};
+use crate::trees::{denied_tree, forked_tree, grouped_tree};
 use crate::watched::{Failing, Watched};
 use jwalk::Parallelism;
 use jwalk::file_system::FileType;
@@ -120,5 +120,37 @@ fn nothing_below_the_greatest_depth_is_listed(rt: HostRuntime) -> Result<(), Fai
     let wanted = "0 d /t; 1 f /t/c.txt; 1 f /t/a.txt; 1 d /t/group 2; 1 d /t/group 1; 1 f /t/b.txt";
     assert_eq!(rt; found.as_str(), wanted);
     assert_eq!(rt; fs.lists(), 1);
+    Ok(())
+}
+
+#[test]
+fn a_serial_walk_reads_one_directory_at_a_time(rt: HostRuntime) -> Result<(), Fail> {
+    let fs = Watched::new(forked_tree(rt.alloc())?, Failing::Never);
+    let fs = Arc::new(rt.alloc(), fs)?;
+    let walk = builder(rt.alloc(), fs.clone()?, "/r")?;
+    let mut walk = walk.parallelism(Parallelism::Serial).into_iter();
+    for read in 1..8 {
+        assert!(rt; next_entry(&mut walk).is_some());
+        assert_eq!(rt; walk.ahead(), 0);
+        assert_eq!(rt; fs.lists(), read);
+    }
+    assert!(rt; is_over(&mut walk));
+    Ok(())
+}
+
+#[test]
+fn answers_in_three_parts(rt: HostRuntime) -> Result<(), Fail> {
+    let walk = builder(rt.alloc(), grouped_tree(rt.alloc())?, "/t")?.sort(true);
+    let mut walk = walk.try_into_iter().ok().ok_or("refused")?;
+    let mut found = Vec::new(rt.alloc());
+    assert_eq!(rt; walk.fill(3, &mut found)?, 3);
+    let first = lines_of(rt.alloc(), found.as_slice())?;
+    assert_eq!(rt; first.as_str(), "0 d /t; 1 f /t/a.txt; 1 f /t/b.txt");
+    assert_eq!(rt; walk.fill(100, &mut found)?, 5);
+    assert_eq!(rt; walk.fill(100, &mut found)?, 0);
+    let all = lines_of(rt.alloc(), found.as_slice())?;
+    let wanted = "0 d /t; 1 f /t/a.txt; 1 f /t/b.txt; 1 f /t/c.txt; 1 d /t/group 1; \
+                  2 f /t/group 1/d.txt; 1 d /t/group 2; 2 f /t/group 2/e.txt";
+    assert_eq!(rt; all.as_str(), wanted);
     Ok(())
 }

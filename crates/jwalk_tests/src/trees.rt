@@ -36,6 +36,19 @@ pub fn denied_tree(alloc: Global) -> Result<MemoryFs, BuildError> {
     Ok(fs)
 }
 
+/// A directory with three directories, each with one more.
+pub fn forked_tree(alloc: Global) -> Result<MemoryFs, BuildError> {
+    let mut fs = MemoryFs::new(alloc);
+    fs.add_dir("/r")?;
+    fs.add_dir("/r/a")?;
+    fs.add_dir("/r/a/x")?;
+    fs.add_dir("/r/b")?;
+    fs.add_dir("/r/b/x")?;
+    fs.add_dir("/r/c")?;
+    fs.add_dir("/r/c/x")?;
+    Ok(fs)
+}
+
 /// One directory that is empty.
 pub fn empty_directory(alloc: Global, path: &str) -> Result<MemoryFs, BuildError> {
     let mut fs = MemoryFs::new(alloc);

@@ -1,33 +1,20 @@
-use Rattle.std.proofs.Common.{◌≡◌, ◌∙◌, sym, ap}
-use Rattle.walk_model.specs.Job as value
-use Rattle.jwalk.specs.ReadDir.{reading}
-use Rattle.jwalk.specs.Job.{job, file_system, callback, greatest_depth}
-use Rattle.jwalk.specs.DirEntryIter.{held, IsRefused}
-use Rattle.jwalk.specs.Depths.{greatest_of}
-use Rattle.jwalk.specs.WalkDir.{job_for, file_system_of, callback_of, root_of}
-use Rattle.jwalk.proofs.BeginFacts.{job_by, same_job, begun, if_ok_at}
+use Rattle.std.proofs.Common.{ap}
+use Rattle.jwalk.specs.WalkDir.{file_system_of, callback_of}
+use Rattle.jwalk.proofs.BeginFacts.{by_flag, comes_whole}
 use Rattle.jwalk.proofs.walk_dir.WalkDirGeneric.into_iter.Goals as goal
 
 pub returns-clause-begins : goal.returns-clause-begins
 returns-clause-begins g c = λ d s default steady.
     let walk = c.args.self in
-    let functions = g.S.FileSystem.functions in
-    let processed = g.P.ProcessReadDir.processed in
-    let j = c.new-job.result in
-    let jobs = c.new-job.ensures in
-    let same : job (functions (file_system j)) (processed (callback j)) d j ≡ job_by (functions (file_system_of walk)) (processed (callback_of walk)) d walk.sort walk.skip_hidden (greatest_of walk.depths)
-    = ap (λ fs. job (functions fs) (processed (callback j)) d j) jobs.file_system
-    ∙ ap (λ p. job (functions (file_system_of walk)) (processed p) d j) jobs.callback
-    ∙ same_job (functions (file_system_of walk)) (processed (callback_of walk)) d j walk jobs.sort jobs.skip_hidden (jobs.max_depth ∙ c.greatest.ensures.value) in
-    let listed = c.root_list-read.ensures.value d (rw (jobs.file_system, jobs.callback) (record { file_system = steady.file_system; callback = steady.callback; clones = steady.clones; default = steady.default })) in
-    let rooted : value.root_list (job (functions (file_system j)) (processed (callback j)) d j) c.as_str.result.now c.default.result ≡ value.root_list (job_for (functions (file_system_of walk)) (processed (callback_of walk)) d walk) (root_of walk) s
-    = ap (λ k. value.root_list k c.as_str.result.now c.default.result) same
-    ∙ ap (λ p. value.root_list (job_for (functions (file_system_of walk)) (processed (callback_of walk)) d walk) p c.default.result) c.as_str.ensures.value
-    ∙ ap (value.root_list (job_for (functions (file_system_of walk)) (processed (callback_of walk)) d walk) (root_of walk)) (default c.default.result c.default.ensures) in
+    let it = c.begin.result in
+    let functions = g.S.FileSystem.functions (file_system_of walk) in
+    let processed = g.P.ProcessReadDir.processed (callback_of walk) in
+    let starts = c.begin.ensures.starts in
+    let holds = c.begin.ensures.holds d s default steady in
     record {
-      reads = λ spec. ap (λ k. value.reading k spec) (ap (job (functions (file_system_of walk)) (processed (callback_of walk)) d) c.from_root.ensures.job
-          ∙ same_job (functions (file_system_of walk)) (processed (callback_of walk)) d j walk jobs.sort jobs.skip_hidden (jobs.max_depth ∙ c.greatest.ensures.value));
-      min_depth = c.from_root.ensures.min_depth ∙ c.least.ensures.value;
-      max_depth = ap greatest_depth c.from_root.ensures.job ∙ jobs.max_depth ∙ c.greatest.ensures.value;
-      holds = begun reading (value.root_list (job_for (functions (file_system_of walk)) (processed (callback_of walk)) d walk) (root_of walk) s) (IsRefused c.from_root.result) (held c.from_root.result) c.root_list-read.result c.ok.result c.ok.ensures.value c.from_root.result.refused c.from_root.ensures.refused (c.from_root.ensures.held steady.clones) (if_ok_at c.root_list-read.result reading (value.root_list (job (functions (file_system j)) (processed (callback j)) d j) c.as_str.result.now c.default.result) (value.root_list (job_for (functions (file_system_of walk)) (processed (callback_of walk)) d walk) (root_of walk) s) (sym rooted) listed);
+      reads = λ spec. ap (λ f. f spec) (starts.reads functions processed d);
+      min_depth = starts.min_depth;
+      max_depth = starts.max_depth;
+      holds = by_flag it.refused c.begin.ensures.refused holds;
+      comes = by_flag it.refused c.begin.ensures.refused (λ started. comes_whole functions processed d s walk it starts (holds started));
     }
