@@ -7,7 +7,7 @@ use Rattle.walk_model.specs.ReadDir.{Spec}
 use Rattle.walk_model.specs.Listing.{paired}
 use Rattle.walk_model.specs.Job.{Job, reading, root_list}
 use Rattle.jwalk.specs.Depths.{least_of, greatest_of}
-use Rattle.jwalk.specs.Job.{Processing, job, greatest_depth}
+use Rattle.jwalk_read.specs.Job.{Processing, job, greatest_depth}
 use Rattle.jwalk.specs.DirEntryIter.{job_of, min_depth_of, held, IsRefused}
 use Rattle.jwalk.specs.declared.parallelism.Parallelism.{Parallelism}
 use Rattle.jwalk.specs.declared.parallelism.Parallelism.TheVariants.{Serial}

@@ -1,6 +1,6 @@
 use Rattle.std.proofs.Common.{false, refl}
-use Rattle.jwalk.specs.ReadDir.{reading}
-use Rattle.jwalk.specs.States.{ClonesAreEqual}
+use Rattle.jwalk_read.specs.ReadDir.{reading}
+use Rattle.jwalk_read.specs.States.{ClonesAreEqual}
 use Rattle.jwalk.proofs.AnswerFacts.{holds_root}
 use Rattle.jwalk.proofs.dir_entry_iter.DirEntryIter.from_root.Goals as goal
 
