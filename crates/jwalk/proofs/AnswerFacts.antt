@@ -8,12 +8,12 @@ use Rattle.walk_model.specs.Held.{pair_up, weight, sources, kept, ended, ReadsUp
 use Rattle.walk_model.proofs.WithinFacts.{reads_between, at_depth}
 use Rattle.walk_model.proofs.HeldFacts.{alone, pair_up-outcome, sources_of_list}
 use Rattle.walk_model.proofs.StepFacts.{LeavesOut, plainly_one, plainly_any, heavy_held}
-use Rattle.jwalk.specs.declared.error.Error.{Error}
-use Rattle.jwalk.specs.declared.dir_entry.DirEntry.{DirEntry}
+use Rattle.jwalk_read.specs.declared.error.Error.{Error}
+use Rattle.jwalk_read.specs.declared.dir_entry.DirEntry.{DirEntry}
 use Rattle.jwalk.specs.declared.dir_entry_iter.DirEntryIter.{DirEntryIter}
-use Rattle.jwalk.specs.Error.{failure}
-use Rattle.jwalk.specs.Entry.{item}
-use Rattle.jwalk.specs.Job.{greatest_depth}
+use Rattle.jwalk_read.specs.Error.{failure}
+use Rattle.jwalk_read.specs.Entry.{item}
+use Rattle.jwalk_read.specs.Job.{greatest_depth}
 use Rattle.jwalk.specs.ReadDirIter.{StacksChildren}
 use Rattle.jwalk.specs.DirEntryIter.{job_of, min_depth_of, items_of, unread_of, held, to_come, IsWithin, Refuses, Answers, PassesOrStops}
 

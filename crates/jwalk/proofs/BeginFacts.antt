@@ -8,10 +8,10 @@ use Rattle.walk_model.specs.Listing.{Pair, paired}
 use Rattle.walk_model.specs.Held as held_value
 use Rattle.walk_model.specs.Job as value
 use Rattle.walk_model.specs.Walk.{whole_walk}
-use Rattle.jwalk.specs.declared.job.Job.{Job}
+use Rattle.jwalk_read.specs.declared.job.Job.{Job}
 use Rattle.jwalk.specs.declared.walk_dir.WalkDirGeneric.{WalkDirGeneric}
 use Rattle.jwalk.specs.declared.dir_entry_iter.DirEntryIter.{DirEntryIter}
-use Rattle.jwalk.specs.Job.{Processing, job, greatest_depth}
+use Rattle.jwalk_read.specs.Job.{Processing, job, greatest_depth}
 use Rattle.jwalk.specs.DirEntryIter.{job_of, min_depth_of, held, to_come}
 use Rattle.jwalk.specs.WalkDir.{Starts, job_for, options_of, root_of}
 use Rattle.jwalk.specs.Depths.{greatest_of}
@@ -20,8 +20,8 @@ abbrev pub job_by : {R E : Type 0} → Functions → Processing R E → E → Bo
 job_by functions processed d sort skip_hidden max_depth = record { fs = functions; options = record defaults { sort = sort; skip_hidden = skip_hidden; max_depth = max_depth }; processed = processed; default = d }
 
 -- a job with the builder's options
-pub same_job : {C S P A R E : Type 0} (functions : Functions) (processed : Processing R E) (d : E) (j : Job C S P A R E) (walk : WalkDirGeneric C S P A R E) → j.sort ≡ walk.sort → j.skip_hidden ≡ walk.skip_hidden → j.max_depth ≡ greatest_of walk.depths → job functions processed d j ≡ job_by functions processed d walk.sort walk.skip_hidden (greatest_of walk.depths)
-same_job functions processed d j walk sort skip depth = ap (λ b. job_by functions processed d b j.skip_hidden j.max_depth) sort ∙ ap (λ b. job_by functions processed d walk.sort b j.max_depth) skip ∙ ap (job_by functions processed d walk.sort walk.skip_hidden) depth
+pub same_job : {C S P A R E : Type 0} (functions : Functions) (processed : Processing R E) (d : E) (j : Job C S P A R E) (walk : WalkDirGeneric C S P A R E) → sorts j ≡ walk.sort → skips_hidden j ≡ walk.skip_hidden → greatest_depth j ≡ greatest_of walk.depths → job functions processed d j ≡ job_by functions processed d walk.sort walk.skip_hidden (greatest_of walk.depths)
+same_job functions processed d j walk sort skip depth = ap (λ b. job_by functions processed d b (skips_hidden j) (greatest_depth j)) sort ∙ ap (λ b. job_by functions processed d walk.sort b (greatest_depth j)) skip ∙ ap (job_by functions processed d walk.sort walk.skip_hidden) depth
 
 -- a root's list that was made is held, unless memory was refused
 pub held_view : {X F R E : Type 0} (view : X → Reading R E) (v : Reading R E) (held : List (Pair R E)) (read : Result X F) (given : Option X) → given ≡ result_ok read → IsSomeAnd given (λ r. held ≡ paired (view r)) → IfOk read (λ r. v ≡ view r) → held ≡ paired v

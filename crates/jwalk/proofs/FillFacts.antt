@@ -10,12 +10,12 @@ use Rattle.walk_model.specs.ReadDir.{Spec, Outcome}
 use Rattle.walk_model.specs.Listing.{Pair}
 use Rattle.walk_model.specs.Held as value
 use Rattle.walk_model.specs.Held.{AnswersPlainly}
-use Rattle.jwalk.specs.declared.error.Error.{Error}
-use Rattle.jwalk.specs.declared.dir_entry.DirEntry.{DirEntry}
-use Rattle.jwalk.specs.declared.job.Job.{Job}
+use Rattle.jwalk_read.specs.declared.error.Error.{Error}
+use Rattle.jwalk_read.specs.declared.dir_entry.DirEntry.{DirEntry}
+use Rattle.jwalk_read.specs.declared.job.Job.{Job}
 use Rattle.jwalk.specs.declared.dir_entry_iter.DirEntryIter.{DirEntryIter}
-use Rattle.jwalk.specs.Entry.{item}
-use Rattle.jwalk.specs.Job.{greatest_depth}
+use Rattle.jwalk_read.specs.Entry.{item}
+use Rattle.jwalk_read.specs.Job.{greatest_depth}
 use Rattle.jwalk.specs.DirEntryIter.{job_of, min_depth_of, held, to_come, IsWithin, Refuses, Answers, ComesFirst, EndsRefused, Fills}
 
 -- where nothing is held, nothing is answered

@@ -8,13 +8,13 @@ use Rattle.walk_model.specs.ReadDir.{Spec, Outcome}
 use Rattle.walk_model.specs.Listing.{Pair, nothing}
 use Rattle.walk_model.specs.Held as value
 use Rattle.walk_model.specs.Held.{pair_up, PassesTo, PassesOne, ReadsUpTo, IsAtDirectory, AnswersPlainly}
-use Rattle.jwalk.specs.Entry.{item}
-use Rattle.jwalk.specs.Job.{greatest_depth}
+use Rattle.jwalk_read.specs.Entry.{item}
+use Rattle.jwalk_read.specs.Job.{greatest_depth}
 use Rattle.jwalk.specs.ReadDirIter as readings
 use Rattle.jwalk.specs.ReadDirIter.{to_read}
-use Rattle.jwalk.specs.declared.error.Error.{Error}
-use Rattle.jwalk.specs.declared.dir_entry.DirEntry.{DirEntry}
-use Rattle.jwalk.specs.declared.job.Job.{Job}
+use Rattle.jwalk_read.specs.declared.error.Error.{Error}
+use Rattle.jwalk_read.specs.declared.dir_entry.DirEntry.{DirEntry}
+use Rattle.jwalk_read.specs.declared.job.Job.{Job}
 use Rattle.jwalk.specs.declared.dir_entry_iter.DirEntryIter.{DirEntryIter}
 
 -- what stands in front of a walk that was refused at its start: the error that tells of it

@@ -1,9 +1,3 @@
-pub mod Text
-pub mod Error
-pub mod Entry
-pub mod ReadDir
-pub mod States
-pub mod Job
 pub mod ReadDirIter
 pub mod DirEntryIter
 pub mod Depths

@@ -3,11 +3,11 @@ use Rattle.std.specs.Prelude.{◌≡◌, ◌≢◌, ℕ, ◌⊎◌, List, [], �
 use Rattle.walk_model.specs.Error.{memory}
 use Rattle.walk_model.specs.ReadDir.{Spec, Outcome, place, children_of, ReadsFirst, IsReadingOfFirst}
 use Rattle.walk_model.specs.Preorder.{preorder}
-use Rattle.jwalk.specs.ReadDir.{spec, outcome}
-use Rattle.jwalk.specs.Job.{greatest_depth}
-use Rattle.jwalk.specs.declared.error.Error.{Error}
-use Rattle.jwalk.specs.declared.read_dir.ReadDir.{ReadDir}
-use Rattle.jwalk.specs.declared.job.Job.{Job}
+use Rattle.jwalk_read.specs.ReadDir.{spec, outcome}
+use Rattle.jwalk_read.specs.Job.{greatest_depth}
+use Rattle.jwalk_read.specs.declared.error.Error.{Error}
+use Rattle.jwalk_read.specs.declared.read_dir.ReadDir.{ReadDir}
+use Rattle.jwalk_read.specs.declared.job.Job.{Job}
 use Rattle.jwalk.specs.declared.serial_walk.SerialWalk.{SerialWalk}
 use Rattle.jwalk.specs.declared.read_dir_iter.ReadDirIter.{ReadDirIter}
 use Rattle.jwalk.specs.declared.read_dir_iter.ReadDirIter.TheVariants.{Walk, ParWalk}

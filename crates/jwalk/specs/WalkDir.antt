@@ -9,7 +9,7 @@ use Rattle.walk_model.specs.Held.{sources}
 use Rattle.walk_model.specs.Walk.{whole_walk}
 use Rattle.walk_model.specs.Job.{Job, reading, root_list}
 use Rattle.jwalk.specs.Depths.{least_of, greatest_of}
-use Rattle.jwalk.specs.Job.{Processing, job, file_system, callback, greatest_depth}
+use Rattle.jwalk_read.specs.Job.{Processing, job, file_system, callback, greatest_depth}
 use Rattle.jwalk.specs.DirEntryIter.{job_of, min_depth_of, unread_of, held, to_come, IsWithin, IsRefused}
 use Rattle.jwalk.specs.declared.parallelism.Parallelism.{Parallelism}
 use Rattle.jwalk.specs.declared.parallelism.Parallelism.TheVariants.{Serial}

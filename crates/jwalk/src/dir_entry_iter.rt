@@ -5,18 +5,18 @@ ghost use Rattle.walk_model.specs.Error.{memory};
 ghost use Rattle.walk_model.specs.Held.{weight, pair_up};
 ghost use Rattle.walk_model.specs.Listing.{listing};
 ghost use Rattle.walk_model.specs.Job as value;
-ghost use Rattle.jwalk.specs.Entry.{entry, item};
-ghost use Rattle.jwalk.specs.Error.{failure};
-ghost use Rattle.jwalk.specs.States.{ClonesAreEqual};
-ghost use Rattle.jwalk.specs.Job.{job, file_system, callback, greatest_depth, IsSteady};
+ghost use Rattle.jwalk_read.specs.Entry.{entry, item};
+ghost use Rattle.jwalk_read.specs.Error.{failure};
+ghost use Rattle.jwalk_read.specs.States.{ClonesAreEqual};
+ghost use Rattle.jwalk_read.specs.Job.{job, file_system, callback, greatest_depth, IsSteady};
 
-use crate::client_state::ClientState;
-use crate::dir_entry::DirEntry;
-use crate::error::Error;
-use crate::job::Job;
-use crate::process_read_dir::ProcessReadDir;
-use crate::read_dir::ReadDir;
 use crate::read_dir_iter::ReadDirIter;
+use jwalk_read::client_state::ClientState;
+use jwalk_read::dir_entry::DirEntry;
+use jwalk_read::error::Error;
+use jwalk_read::job::Job;
+use jwalk_read::process_read_dir::ProcessReadDir;
+use jwalk_read::read_dir::ReadDir;
 use std::alloc::{AllocError, Allocator, Global};
 use walk_fs::file_system::FileSystem;
 
@@ -50,7 +50,7 @@ impl<C: ClientState, S: FileSystem, P: ProcessReadDir<C, A>, A: Allocator + Copy
     ghost use Rattle.walk_model.specs.Entry.{AtDepth};
     ghost use Rattle.walk_model.specs.Held.{PassesOne, LeavesOne, IsAtDirectory, sources};
     ghost use Rattle.walk_model.specs.ReadDir.{list_of};
-    ghost use Rattle.jwalk.specs.ReadDir.{reading};
+    ghost use Rattle.jwalk_read.specs.ReadDir.{reading};
     ghost use Rattle.jwalk.specs.DirEntryIter.{job_of, min_depth_of, items_of, unread_of, early_of, held, IsWithin, IsRefused, PassesOrStops, Answers, Fills, Counts};
     ghost use Rattle.jwalk.specs.ReadDirIter.{StacksChildren};
     ghost use Rattle.walk_model.specs.Listing.{paired, is_answered};
@@ -119,7 +119,7 @@ impl<C: ClientState, S: FileSystem, P: ProcessReadDir<C, A>, A: Allocator + Copy
         ensures few { length (reading read).list < 2 ^ 64 }
         ensures items { OnOk result (items_of self.new ≡ (reading read).list ++ items_of self.old) }
     {
-        let mut items = read.results_list;
+        let mut items = read.into_results_list();
         let _count = items.len();
         items.reverse();
         if self.items.is_empty() {
@@ -296,8 +296,8 @@ impl<C: ClientState, S: FileSystem, P: ProcessReadDir<C, A>, A: Allocator + Copy
     ghost use Rattle.std.specs.Iterator.{at_most};
     ghost use Rattle.walk_model.specs.Held.{weight};
     ghost use Rattle.walk_model.specs.Job as value;
-    ghost use Rattle.jwalk.specs.States.{ClonesAreEqual};
-    ghost use Rattle.jwalk.specs.Job.{job, file_system, callback, greatest_depth, IsSteady};
+    ghost use Rattle.jwalk_read.specs.States.{ClonesAreEqual};
+    ghost use Rattle.jwalk_read.specs.Job.{job, file_system, callback, greatest_depth, IsSteady};
     ghost use Rattle.jwalk.specs.DirEntryIter.{job_of, held, Answers};
 
     ghost can_next = { λ s. P.IsLawful (callback (job_of s)) };

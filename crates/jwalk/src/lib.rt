@@ -15,30 +15,21 @@
 //! ```
 #![tactic(auto)]
 
-mod client_state;
 mod depths;
-pub mod dir_entry;
 pub mod dir_entry_iter;
-pub mod error;
 pub mod file_system;
-mod job;
 mod parallelism;
-mod process_read_dir;
-mod read_children;
-pub mod read_dir;
 pub mod read_dir_iter;
-mod read_dir_spec;
 mod serial_walk;
-mod sorting;
 mod walk_dir;
 
-pub use client_state::ClientState;
-pub use dir_entry::DirEntry;
 pub use dir_entry_iter::DirEntryIter;
-pub use error::{Error, Result};
 pub use jwalk_board::board;
 pub use jwalk_order::{index_path, ordered, ordered_queue};
+pub use jwalk_read::client_state::ClientState;
+pub use jwalk_read::dir_entry::{DirEntry, ReadChildren};
+pub use jwalk_read::error::{Error, Result};
+pub use jwalk_read::{dir_entry, error, read_dir};
 pub use parallelism::Parallelism;
-pub use read_children::ReadChildren;
 pub use walk_dir::WalkDirGeneric;
 pub use walk_paths::path_text;

@@ -2,17 +2,17 @@
 ghost use Rattle.std.specs.Prelude.{◌≡◌, ◌<◌, [], length, Ok, OnOk, IfSome, IsSome, option_map};
 ghost use Rattle.walk_model.specs.Held.{spec_weight};
 ghost use Rattle.walk_model.specs.Job as value;
-ghost use Rattle.jwalk.specs.ReadDir.{outcome, reading};
-ghost use Rattle.jwalk.specs.States.{ClonesAreEqual};
-ghost use Rattle.jwalk.specs.Job.{job, file_system, callback, greatest_depth, IsSteady};
+ghost use Rattle.jwalk_read.specs.ReadDir.{outcome, reading};
+ghost use Rattle.jwalk_read.specs.States.{ClonesAreEqual};
+ghost use Rattle.jwalk_read.specs.Job.{job, file_system, callback, greatest_depth, IsSteady};
 
-use crate::client_state::ClientState;
-use crate::dir_entry::DirEntry;
-use crate::error::Error;
-use crate::job::Job;
-use crate::process_read_dir::ProcessReadDir;
-use crate::read_dir::ReadDir;
 pub use crate::serial_walk::SerialWalk;
+use jwalk_read::client_state::ClientState;
+use jwalk_read::dir_entry::DirEntry;
+use jwalk_read::error::Error;
+use jwalk_read::job::Job;
+use jwalk_read::process_read_dir::ProcessReadDir;
+use jwalk_read::read_dir::ReadDir;
 use std::alloc::{AllocError, Allocator, Global};
 use std::convert::Infallible;
 use walk_fs::file_system::FileSystem;
@@ -118,8 +118,8 @@ impl<C: ClientState, S: FileSystem, P: ProcessReadDir<C, A>, A: Allocator + Copy
     ghost use Rattle.std.specs.Iterator.{at_most};
     ghost use Rattle.walk_model.specs.Held.{spec_weight};
     ghost use Rattle.walk_model.specs.Job as value;
-    ghost use Rattle.jwalk.specs.States.{ClonesAreEqual};
-    ghost use Rattle.jwalk.specs.Job.{job, file_system, callback, greatest_depth, IsSteady};
+    ghost use Rattle.jwalk_read.specs.States.{ClonesAreEqual};
+    ghost use Rattle.jwalk_read.specs.Job.{job, file_system, callback, greatest_depth, IsSteady};
     ghost use Rattle.jwalk.specs.ReadDirIter.{job_of, to_read, Gives};
 
     ghost can_next = { λ s. P.IsLawful (callback (job_of s)) };

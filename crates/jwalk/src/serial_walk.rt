@@ -3,16 +3,16 @@ ghost use Rattle.std.specs.Prelude.{◌≡◌, ◌≢◌, ◌<◌, ◌^◌, [], 
 ghost use Rattle.walk_model.specs.ReadDir.{ReadsFirst, IsReadingOfFirst, list_of};
 ghost use Rattle.walk_model.specs.Held.{spec_weight};
 ghost use Rattle.walk_model.specs.Job as value;
-ghost use Rattle.jwalk.specs.ReadDir.{outcome, reading};
-ghost use Rattle.jwalk.specs.States.{ClonesAreEqual};
-ghost use Rattle.jwalk.specs.Job.{job, file_system, callback, greatest_depth, IsSteady};
+ghost use Rattle.jwalk_read.specs.ReadDir.{outcome, reading};
+ghost use Rattle.jwalk_read.specs.States.{ClonesAreEqual};
+ghost use Rattle.jwalk_read.specs.Job.{job, file_system, callback, greatest_depth, IsSteady};
 
-use crate::client_state::ClientState;
-use crate::error::Error;
-use crate::job::Job;
-use crate::process_read_dir::ProcessReadDir;
-use crate::read_dir::ReadDir;
-use crate::read_dir_spec::ReadDirSpec;
+use jwalk_read::client_state::ClientState;
+use jwalk_read::error::Error;
+use jwalk_read::job::Job;
+use jwalk_read::process_read_dir::ProcessReadDir;
+use jwalk_read::read_dir::ReadDir;
+use jwalk_read::read_dir_spec::ReadDirSpec;
 use std::alloc::{AllocError, Allocator, Global};
 use walk_fs::file_system::FileSystem;
 
@@ -53,7 +53,7 @@ impl<C: ClientState, S: FileSystem, P: ProcessReadDir<C, A>, A: Allocator + Copy
         ensures few { length (list_of (Ok (reading read.now))) < 2 ^ 64 }
         ensures children { OnOk result (StacksChildren (ClonesAreEqual C.ReadDirState.is_clone) (stacked self.old) (Ok (reading read.now)) (stacked self.new)) }
     {
-        let _count = read.results_list.len();
+        let _count = read.results_list().len();
         let mut children = read.read_children_specs()?;
         children.reverse();
         self.specs.append(&mut children)?;

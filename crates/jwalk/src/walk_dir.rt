@@ -1,19 +1,19 @@
 //! The builder of a walk.
 ghost use Rattle.std.specs.Prelude.{◌≡◌, true, false, string_bytes, IfOk, IfErr};
 ghost use Rattle.walk_model.specs.Error.{memory};
-ghost use Rattle.jwalk.specs.Error.{failure};
-ghost use Rattle.jwalk.specs.States.{ClonesAreEqual, DefaultIs};
-ghost use Rattle.jwalk.specs.Job.{file_system, callback, IsSteady};
+ghost use Rattle.jwalk_read.specs.Error.{failure};
+ghost use Rattle.jwalk_read.specs.States.{ClonesAreEqual, DefaultIs};
+ghost use Rattle.jwalk_read.specs.Job.{file_system, callback, IsSteady};
 ghost use Rattle.jwalk.specs.DirEntryIter.{job_of};
 
-use crate::client_state::ClientState;
 use crate::depths::Depths;
-use crate::dir_entry::DirEntry;
 use crate::dir_entry_iter::DirEntryIter;
-use crate::error::Error;
-use crate::job::Job;
 use crate::parallelism::Parallelism;
-use crate::process_read_dir::{NoProcess, ProcessReadDir};
+use jwalk_read::client_state::ClientState;
+use jwalk_read::dir_entry::DirEntry;
+use jwalk_read::error::Error;
+use jwalk_read::job::Job;
+use jwalk_read::process_read_dir::{NoProcess, ProcessReadDir};
 use std::alloc::{Allocator, Global};
 use std::marker::PhantomData;
 use walk_fs::file_system::FileSystem;
@@ -179,8 +179,8 @@ impl<C: ClientState, S: FileSystem, A: Allocator + Copy> IntoIterator
 
     type IntoIter = DirEntryIter<C, S, NoProcess, A>;
 
-    ghost use Rattle.jwalk.specs.States.{DefaultIs};
-    ghost use Rattle.jwalk.specs.Job.{IsSteady};
+    ghost use Rattle.jwalk_read.specs.States.{DefaultIs};
+    ghost use Rattle.jwalk_read.specs.Job.{IsSteady};
     ghost use Rattle.jwalk.specs.WalkDir.{file_system_of, unprocessed, Starts, Begins};
 
     ghost into_iter_gives = { λ walk it. Starts walk it × ((d : C.DirEntryState) → (s : C.ReadDirState) → DefaultIs C.ReadDirState.is_default s → IsSteady (S.IsFixed (file_system_of walk)) (Unit {0}) C.ReadDirState.is_clone C.DirEntryState.is_default d → Begins (S.functions (file_system_of walk)) unprocessed d s walk it) };

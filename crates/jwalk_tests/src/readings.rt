@@ -75,3 +75,35 @@ fn nothing_is_read_at_the_greatest_depth(rt: HostRuntime) -> Result<(), Fail> {
     assert_eq!(rt; fs.lists(), 0);
     Ok(())
 }
+
+/// The entry of the root of the grouped tree.
+fn root_of_the_grouped_tree(alloc: Global) -> Result<DirEntry<((), ())>, Fail> {
+    let fs = grouped_tree(alloc)?;
+    let job = Job::<((), ()), _, _>::new(alloc, fs, NoProcess, false, true, usize::MAX);
+    let read = job.root_list("/t", ())?;
+    if read.results_list().len() != 1 {
+        return Err("not one root".into());
+    }
+    let mut list = read.into_results_list();
+    let root = list.pop().ok_or("no root")?;
+    Ok(root.ok().ok_or("an error")?)
+}
+
+#[test]
+fn a_reading_gives_its_list_out(rt: HostRuntime) -> Result<(), Fail> {
+    let root = root_of_the_grouped_tree(rt.alloc())?;
+    assert_eq!(rt; root.path()?.as_str(), "/t");
+    Ok(())
+}
+
+#[test]
+fn an_entry_holds_the_error_of_its_directory(rt: HostRuntime) -> Result<(), Fail> {
+    let root = root_of_the_grouped_tree(rt.alloc())?;
+    let failed = root.with_error(Error::memory());
+    let children = failed.read_children.as_ref().ok_or("no directory")?;
+    let error = children.error().ok_or("no error")?;
+    assert!(rt; error.is_memory());
+    assert_eq!(rt; error.depth(), 0);
+    assert!(rt; error.path().is_none());
+    Ok(())
+}

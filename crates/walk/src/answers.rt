@@ -2,7 +2,7 @@
 ghost use Rattle.std.specs.Prelude.{◌≡◌, ◌≤◌, [], true, is_ok, IfOk, IfErr, OnOk};
 ghost use Rattle.std.specs.Iterator.{IsFinite};
 ghost use Rattle.std.specs.Io.KnownBytes.{Appends, append_known};
-ghost use Rattle.jwalk.specs.Entry.{item};
+ghost use Rattle.jwalk_read.specs.Entry.{item};
 ghost use Rattle.walk.specs.Lines.{line_of};
 ghost use Rattle.walk.specs.Failure.{status_of};
 ghost use Rattle.walk.specs.Answers.{PrintsAll};

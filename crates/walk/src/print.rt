@@ -3,8 +3,8 @@ ghost use Rattle.std.specs.Prelude.{◌≡◌, ◌++◌, codes, decimal, IfOk, O
 ghost use Rattle.std.specs.Io.KnownBytes.{Appends};
 ghost use Rattle.walk_model.specs.Paths.{join, with_slash, starts_with_slash};
 ghost use Rattle.walk_model.specs.Entry.{path_of};
-ghost use Rattle.jwalk.specs.Entry.{children, entry, item};
-ghost use Rattle.jwalk.specs.Error.{failure};
+ghost use Rattle.jwalk_read.specs.Entry.{children, entry, item};
+ghost use Rattle.jwalk_read.specs.Error.{failure};
 ghost use Rattle.walk.specs.Lines.{kind_name, letter_of, failure_name, reading_part, entry_line, failure_line, line_of};
 
 use itoa::Buffer;

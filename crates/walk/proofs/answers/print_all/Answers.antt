@@ -1,6 +1,6 @@
 use Rattle.std.proofs.Common.{is_ok}
 use Rattle.std.specs.Io.KnownBytes.{append_known}
-use Rattle.jwalk.specs.Entry.{item}
+use Rattle.jwalk_read.specs.Entry.{item}
 use Rattle.walk.proofs.LineFacts.{all_after, line_after}
 use Rattle.walk.proofs.answers.print_all.Goals as goal
 

@@ -3,11 +3,11 @@ use Rattle.walk_model.specs.Error.{memory}
 use Rattle.walk_model.specs.Job as value
 use Rattle.walk_model.specs.ReadDir.{Outcome}
 use Rattle.walk_model.proofs.StepFacts.{one_left, one_entered, at_directory}
-use Rattle.jwalk.specs.Error.{failure}
-use Rattle.jwalk.specs.Entry.{entry}
-use Rattle.jwalk.specs.ReadDir.{reading}
-use Rattle.jwalk.specs.States.{ClonesAreEqual}
-use Rattle.jwalk.specs.Job.{job, file_system, callback, greatest_depth, IsSteady}
+use Rattle.jwalk_read.specs.Error.{failure}
+use Rattle.jwalk_read.specs.Entry.{entry}
+use Rattle.jwalk_read.specs.ReadDir.{reading}
+use Rattle.jwalk_read.specs.States.{ClonesAreEqual}
+use Rattle.jwalk_read.specs.Job.{job, file_system, callback, greatest_depth, IsSteady}
 use Rattle.jwalk.specs.ReadDirIter.{to_read}
 use Rattle.jwalk.specs.DirEntryIter.{job_of, items_of, unread_of}
 use Rattle.jwalk.proofs.GivesFacts.{refusal_given, reading_given, not_refused}

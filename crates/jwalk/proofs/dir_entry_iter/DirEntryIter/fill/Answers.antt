@@ -1,7 +1,7 @@
 use Rattle.std.proofs.Common.{◌≡◌, ◌++◌, ◌∷◌, [], ◌<◌, ◌≤◌, sym, subst, arith, rules}
 use Rattle.walk_model.specs.Job as value
-use Rattle.jwalk.specs.States.{ClonesAreEqual}
-use Rattle.jwalk.specs.Job.{job, file_system, callback, IsSteady}
+use Rattle.jwalk_read.specs.States.{ClonesAreEqual}
+use Rattle.jwalk_read.specs.Job.{job, file_system, callback, IsSteady}
 use Rattle.jwalk.specs.DirEntryIter.{job_of, Answers}
 use Rattle.jwalk.proofs.FillFacts.{Filled, one_filled, fills_up, fills_in_part, fills_all}
 use Rattle.jwalk.proofs.dir_entry_iter.DirEntryIter.fill.Goals as goal

@@ -1,8 +1,8 @@
 use Rattle.std.proofs.Common.{false, refl}
-use Rattle.jwalk.specs.Job.{greatest_depth}
+use Rattle.jwalk_read.specs.Job.{greatest_depth}
 use Rattle.jwalk.specs.DirEntryIter.{job_of, items_of, unread_of}
-use Rattle.jwalk.specs.ReadDir.{reading}
-use Rattle.jwalk.specs.States.{ClonesAreEqual}
+use Rattle.jwalk_read.specs.ReadDir.{reading}
+use Rattle.jwalk_read.specs.States.{ClonesAreEqual}
 use Rattle.jwalk.proofs.AnswerFacts.{holds_root, within_root, root_sources}
 use Rattle.jwalk.proofs.dir_entry_iter.DirEntryIter.from_root.Goals as goal
 

@@ -3,9 +3,9 @@ use Rattle.walk_model.specs.Held.{LeavesOne}
 use Rattle.walk_model.specs.Listing.{is_answered}
 use Rattle.walk_model.specs.Job as value
 use Rattle.walk_model.proofs.StepFacts.{one_left_out}
-use Rattle.jwalk.specs.Entry.{item}
-use Rattle.jwalk.specs.States.{ClonesAreEqual}
-use Rattle.jwalk.specs.Job.{job, file_system, callback, greatest_depth, IsSteady}
+use Rattle.jwalk_read.specs.Entry.{item}
+use Rattle.jwalk_read.specs.States.{ClonesAreEqual}
+use Rattle.jwalk_read.specs.Job.{job, file_system, callback, greatest_depth, IsSteady}
 use Rattle.jwalk.specs.DirEntryIter.{job_of, min_depth_of, items_of, unread_of, PassesOrStops}
 use Rattle.jwalk.proofs.AnswerFacts.{answers_kept, answers_end, lighter_kept}
 use Rattle.jwalk.proofs.dir_entry_iter.DirEntryIter.next_kept.Goals as goal

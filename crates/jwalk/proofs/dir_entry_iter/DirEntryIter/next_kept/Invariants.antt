@@ -2,8 +2,8 @@ use Rattle.std.proofs.Common.{◌≡◌, false}
 use Rattle.walk_model.specs.Held.{pair_up, weight}
 use Rattle.walk_model.specs.Job as value
 use Rattle.walk_model.proofs.StepFacts.{LeavesOut}
-use Rattle.jwalk.specs.States.{ClonesAreEqual}
-use Rattle.jwalk.specs.Job.{job, file_system, callback, greatest_depth, IsSteady}
+use Rattle.jwalk_read.specs.States.{ClonesAreEqual}
+use Rattle.jwalk_read.specs.Job.{job, file_system, callback, greatest_depth, IsSteady}
 use Rattle.jwalk.specs.DirEntryIter.{job_of, min_depth_of, items_of, unread_of}
 use Rattle.jwalk.proofs.dir_entry_iter.DirEntryIter.next_kept.Given as goal
 

@@ -4,12 +4,12 @@ use Rattle.walk_model.specs.Entry.{Item}
 use Rattle.walk_model.specs.Job as value
 use Rattle.walk_model.specs.Held.{PassesOne}
 use Rattle.walk_model.proofs.StepFacts.{one_alone}
-use Rattle.jwalk.specs.declared.dir_entry.DirEntry.{DirEntry}
-use Rattle.jwalk.specs.declared.error.Error.{Error}
-use Rattle.jwalk.specs.Error.{failure}
-use Rattle.jwalk.specs.Entry.{entry, item, children}
-use Rattle.jwalk.specs.States.{ClonesAreEqual}
-use Rattle.jwalk.specs.Job.{job, file_system, callback, greatest_depth, IsSteady}
+use Rattle.jwalk_read.specs.declared.dir_entry.DirEntry.{DirEntry}
+use Rattle.jwalk_read.specs.declared.error.Error.{Error}
+use Rattle.jwalk_read.specs.Error.{failure}
+use Rattle.jwalk_read.specs.Entry.{entry, item, children}
+use Rattle.jwalk_read.specs.States.{ClonesAreEqual}
+use Rattle.jwalk_read.specs.Job.{job, file_system, callback, greatest_depth, IsSteady}
 use Rattle.jwalk.specs.DirEntryIter.{job_of, items_of, unread_of}
 use Rattle.jwalk.proofs.ListFacts.{reverse-push, is_some-map}
 use Rattle.jwalk.proofs.dir_entry_iter.DirEntryIter.pass.Goals as goal

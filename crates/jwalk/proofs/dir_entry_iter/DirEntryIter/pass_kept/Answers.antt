@@ -2,7 +2,7 @@ use Rattle.std.proofs.Common.{◌≡◌, ◌⊎◌, ◌∙◌, ℕ, true, false,
 use Rattle.walk_model.specs.Error.{memory}
 use Rattle.walk_model.specs.Entry.{Item}
 use Rattle.walk_model.specs.Listing.{is_answered}
-use Rattle.jwalk.specs.Entry.{item}
+use Rattle.jwalk_read.specs.Entry.{item}
 use Rattle.jwalk.specs.DirEntryIter.{min_depth_of}
 use Rattle.jwalk.proofs.dir_entry_iter.DirEntryIter.pass_kept.Goals as goal
 

@@ -1,7 +1,7 @@
 use Rattle.std.proofs.Common.{false, refl, rules}
 use Rattle.walk_model.specs.Job as value
-use Rattle.jwalk.specs.States.{ClonesAreEqual}
-use Rattle.jwalk.specs.Job.{job, file_system, callback, IsSteady}
+use Rattle.jwalk_read.specs.States.{ClonesAreEqual}
+use Rattle.jwalk_read.specs.Job.{job, file_system, callback, IsSteady}
 use Rattle.jwalk.specs.DirEntryIter.{job_of}
 use Rattle.jwalk.proofs.AnswerFacts.{answers_refusal, goes_on}
 use Rattle.jwalk.proofs.dir_entry_iter.DirEntryIterIterator.next.Goals as goal

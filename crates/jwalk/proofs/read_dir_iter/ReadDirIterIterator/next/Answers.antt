@@ -1,9 +1,9 @@
 use Rattle.std.proofs.Common.{rules}
 use Rattle.std.specs.Prelude.{option_map}
 use Rattle.walk_model.specs.Job as value
-use Rattle.jwalk.specs.ReadDir.{outcome}
-use Rattle.jwalk.specs.States.{ClonesAreEqual}
-use Rattle.jwalk.specs.Job.{job, file_system, callback, greatest_depth}
+use Rattle.jwalk_read.specs.ReadDir.{outcome}
+use Rattle.jwalk_read.specs.States.{ClonesAreEqual}
+use Rattle.jwalk_read.specs.Job.{job, file_system, callback, greatest_depth}
 use Rattle.jwalk.specs.ReadDirIter.{job_of, to_read}
 use Rattle.jwalk.proofs.GivesFacts.{given_in_preorder}
 use Rattle.jwalk.proofs.read_dir_iter.ReadDirIterIterator.next.Goals as goal

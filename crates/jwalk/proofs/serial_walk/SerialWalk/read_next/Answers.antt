@@ -1,8 +1,8 @@
 use Rattle.std.proofs.Common.{◌∙◌, map, reverse, ap}
 use Rattle.walk_model.proofs.PreorderFacts.{fewer_to_read}
-use Rattle.jwalk.specs.ReadDir.{spec, outcome}
-use Rattle.jwalk.specs.States.{ClonesAreEqual}
-use Rattle.jwalk.specs.Job.{greatest_depth}
+use Rattle.jwalk_read.specs.ReadDir.{spec, outcome}
+use Rattle.jwalk_read.specs.States.{ClonesAreEqual}
+use Rattle.jwalk_read.specs.Job.{greatest_depth}
 use Rattle.jwalk.specs.ReadDirIter.{stacked}
 use Rattle.jwalk.proofs.ListFacts.{reverse-push}
 use Rattle.jwalk.proofs.serial_walk.SerialWalk.read_next.Goals as goal

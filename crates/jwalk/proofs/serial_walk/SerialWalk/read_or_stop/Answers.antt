@@ -2,9 +2,9 @@ use Rattle.std.proofs.Common.{List, Option, Some, None, IfSome}
 use Rattle.std.specs.Prelude.{option_map}
 use Rattle.walk_model.specs.ReadDir.{Spec, Outcome, IsReadingOfFirst}
 use Rattle.walk_model.specs.Job as value
-use Rattle.jwalk.specs.ReadDir.{outcome}
+use Rattle.jwalk_read.specs.ReadDir.{outcome}
 use Rattle.walk_model.proofs.PreorderFacts.{heavy_specs}
-use Rattle.jwalk.specs.Job.{job, file_system, callback, greatest_depth}
+use Rattle.jwalk_read.specs.Job.{job, file_system, callback, greatest_depth}
 use Rattle.jwalk.specs.ReadDirIter.{stacked, GivesReading}
 use Rattle.jwalk.proofs.serial_walk.SerialWalk.read_or_stop.Goals as goal
 

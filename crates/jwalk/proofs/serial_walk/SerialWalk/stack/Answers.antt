@@ -1,7 +1,7 @@
 use Rattle.std.proofs.Common.{◌∙◌, ◌++◌, map, reverse, ap}
 use Rattle.std.proofs.lemmas.List.{map-append}
 use Rattle.walk_model.specs.ReadDir.{place}
-use Rattle.jwalk.specs.ReadDir.{spec}
+use Rattle.jwalk_read.specs.ReadDir.{spec}
 use Rattle.jwalk.proofs.ListFacts.{map-map, reverse-stacked}
 use Rattle.jwalk.proofs.serial_walk.SerialWalk.stack.Goals as goal
 

@@ -1,8 +1,8 @@
 use Rattle.std.proofs.Common.{◌≡◌, ◌∙◌, sym, ap}
 use Rattle.walk_model.specs.Job as value
 use Rattle.walk_model.specs.Entry.{AtDepth}
-use Rattle.jwalk.specs.ReadDir.{reading}
-use Rattle.jwalk.specs.Job.{job, file_system, callback, greatest_depth}
+use Rattle.jwalk_read.specs.ReadDir.{reading}
+use Rattle.jwalk_read.specs.Job.{job, file_system, callback, greatest_depth}
 use Rattle.jwalk.specs.DirEntryIter.{held}
 use Rattle.jwalk.specs.Depths.{greatest_of}
 use Rattle.jwalk.specs.WalkDir.{job_for, file_system_of, callback_of, root_of}

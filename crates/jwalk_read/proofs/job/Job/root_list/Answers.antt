@@ -1,0 +1,25 @@
+use Rattle.std.proofs.Common.{◌≡◌, ◌∙◌, ◌∷◌, ◌++◌, [], List, None, map, ap, sym}
+use Rattle.std.specs.Prelude.{string_bytes}
+use Rattle.walk_model.specs.ReadDir.{Reading}
+use Rattle.jwalk_read.specs.Entry.{item}
+use Rattle.jwalk_read.specs.Job.{callback}
+use Rattle.jwalk_read.proofs.ListFacts.{same_call}
+use Rattle.jwalk_read.proofs.job.Job.root_list.Goals as goal
+
+-- the list that the callback is given
+one_item : {X Y : Type 0} (view : X → Y) (made : X) (start list : List X) → start ≡ [] → list ≡ start ++ made ∷ [] → map view list ≡ view made ∷ []
+one_item view made start list none added = ap (map view) (added ∙ ap (λ l. l ++ made ∷ []) none)
+
+pub returns-clause-depth : goal.returns-clause-depth
+returns-clause-depth g c =
+    let items = one_item item c.in_ok-item.field-0.item c.new-items.result.items c.push.new.self.items c.new-items.ensures.items c.in_ok-push.ensures.items in
+    let before = rw (← items) at c.in_ok-item.ensures.depth in
+    let after = c.in_ok-process.ensures.depths before in
+    rw (ap (λ (r : Reading g.row.C-ReadDirState.Denot g.row.C-DirEntryState.Denot). r.list) c.new.ensures) after
+
+pub returns-clause-value : goal.returns-clause-value
+returns-clause-value g c = λ d steady.
+    let path = c.as_str.ensures.value ∙ ap string_bytes c.deref.ensures ∙ c.in_ok-item.ensures.parent d steady.file_system steady.default in
+    let items = one_item item c.in_ok-item.field-0.item c.new-items.result.items c.push.new.self.items c.new-items.ensures.items c.in_ok-push.ensures.items ∙ ap (λ i. i ∷ []) (c.in_ok-item.ensures.value d steady.file_system steady.default) in
+    same_call (λ p l. g.P.ProcessReadDir.processed (callback c.args.self.now) None p c.args.state l) path items (c.in_ok-process.ensures.fixed steady.callback)
+    ∙ sym c.new.ensures

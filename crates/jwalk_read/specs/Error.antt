@@ -1,0 +1,42 @@
+-- Errors seen as values: an `io::Error` counts by its kind alone.
+use Rattle.std.specs.Prelude.{ℕ, List, Option, Some, None, option_map}
+use Rattle.std.specs.IoError.{error_kind}
+use Rattle.std.specs.declared.io.ErrorKind.{ErrorKind}
+use Rattle.walk_model.specs.Error as value
+use Rattle.walk_model.specs.Error.{Failure}
+use Rattle.jwalk_read.specs.declared.error.Error.{Error}
+use Rattle.jwalk_read.specs.declared.error.ErrorInner.{ErrorInner}
+use Rattle.jwalk_read.specs.declared.error.ErrorInner.TheVariants.{Io, Memory}
+use Rattle.jwalk_read.specs.Text.{text}
+
+abbrev inner_failure : {A : Type 0} → ℕ → ErrorInner A → Failure
+inner_failure depth (Io path err) = value.io depth (option_map text path) (error_kind err)
+inner_failure depth Memory = value.memory
+
+-- the error as a value
+abbrev pub failure : {A : Type 0} → Error A → Failure
+failure e = inner_failure e.depth e.inner
+
+-- the depth of an error: 0 where it has none
+abbrev pub depth_of : Failure → ℕ
+depth_of (value.io depth path kind) = depth
+depth_of (value.looped depth ancestor child) = depth
+depth_of value.busy = 0
+depth_of value.memory = 0
+depth_of value.lost = 0
+
+-- its path: of a loop that of the link
+abbrev pub path_of : Failure → Option (List ℕ)
+path_of (value.io depth path kind) = path
+path_of (value.looped depth ancestor child) = Some child
+path_of value.busy = None
+path_of value.memory = None
+path_of value.lost = None
+
+-- the kind of its `io::Error`
+abbrev pub kind_of : Failure → Option ErrorKind
+kind_of (value.io depth path kind) = Some kind
+kind_of (value.looped depth ancestor child) = None
+kind_of value.busy = None
+kind_of value.memory = None
+kind_of value.lost = None

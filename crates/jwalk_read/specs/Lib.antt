@@ -1,0 +1,6 @@
+pub mod Text
+pub mod Error
+pub mod Entry
+pub mod ReadDir
+pub mod States
+pub mod Job

@@ -1,0 +1,94 @@
+//! An entry of a walk.
+use crate::client_state::ClientState;
+use crate::error::Error;
+pub use crate::read_children::ReadChildren;
+use std::alloc::{AllocError, Allocator, Global};
+use std::sync::Arc;
+use walk_model::file_type::FileType;
+use walk_model::metadata::Metadata;
+use walk_paths::path_text;
+
+/// A file, a directory, a link or anything else that a walk came to.
+#[derive(Drop)]
+pub struct DirEntry<C: ClientState, A: Allocator + Copy = Global> {
+    /// The depth below the root, which has depth 0.
+    pub depth: usize,
+    /// The last part of the path. A root that has no file name, as `..`, has its whole path here.
+    pub file_name: String<A>,
+    /// The type of what stands at the path.
+    pub file_type: FileType,
+    /// What a callback keeps with the entry.
+    pub client_state: C::DirEntryState,
+    /// The path of the directory that the entry was listed in.
+    pub parent_path: Arc<String<A>, A>,
+    /// The directory to be read below the entry: set where it is one, unless a callback took it away.
+    pub read_children: Option<ReadChildren<C, A>>,
+}
+
+impl<C: ClientState, A: Allocator + Copy> DirEntry<C, A> {
+    ghost use Rattle.std.specs.Prelude.{◌≡◌, true, Ok, IfOk, string_bytes, if◌then◌else◌};
+    ghost use Rattle.walk_model.specs.Entry.{path_of, with_error, children_at};
+    ghost use Rattle.walk_model.specs.FileType.{is_dir};
+    ghost use Rattle.walk_model.specs.Metadata.{type_of};
+    ghost use Rattle.jwalk_read.specs.Text.{text};
+    ghost use Rattle.jwalk_read.specs.Error.{failure};
+    ghost use Rattle.jwalk_read.specs.Entry.{entry};
+
+    /// The depth below the root, which has depth 0.
+    pub fn depth(&self) -> usize
+        ensures { result ≡ (entry self.now).depth }
+    {
+        self.depth
+    }
+
+    /// The last part of the path.
+    pub fn file_name(&self) -> &str
+        ensures { result.now ≡ (entry self.now).file_name }
+    {
+        self.file_name.as_str()
+    }
+
+    /// The type of what stands at the path.
+    pub fn file_type(&self) -> FileType
+        ensures { result ≡ (entry self.now).file_type }
+    {
+        self.file_type
+    }
+
+    /// The path of the directory that the entry was listed in.
+    pub fn parent_path(&self) -> &str
+        ensures { result.now ≡ (entry self.now).parent_path }
+    {
+        self.parent_path.as_str()
+    }
+
+    /// The path of the entry: its `file_name` below its `parent_path`.
+    ///
+    /// Fails only for want of memory.
+    pub fn path(&self) -> Result<String<A>, AllocError>
+        ensures { IfOk result (λ path. string_bytes path ≡ path_of (entry self.now)) }
+    {
+        let alloc = *self.file_name.allocator();
+        path_text::join(alloc, self.parent_path.as_str(), self.file_name.as_str())
+    }
+
+    /// The entry of a link, where the directory at its path is to be read, if it leads to one.
+    pub(crate) fn with_directory(mut self, path: Arc<String<A>, A>, target: Metadata) -> Self
+        ensures { entry result ≡ (if is_dir (type_of target) then record (entry self) { read_children = children_at true (text path) } else entry self) }
+    {
+        if target.is_dir() {
+            self.read_children = Some(ReadChildren::new(path));
+        }
+        self
+    }
+
+    /// The entry with the error that reading its directory ended in. One without a directory stays as it is.
+    pub fn with_error(mut self, error: Error<A>) -> Self
+        ensures { Ok (entry result) ≡ with_error (failure error) (Ok (entry self)) }
+    {
+        if let Some(children) = &mut self.read_children {
+            children.error = Some(error);
+        }
+        self
+    }
+}

@@ -1,0 +1,105 @@
+//! The errors of a walk.
+use std::alloc::{Allocator, Global};
+use std::io;
+use std::sync::Arc;
+
+#[derive(Drop)]
+pub(crate) enum ErrorInner<A: Allocator + Copy> {
+    Io {
+        path: Option<Arc<String<A>, A>>,
+        err: io::Error,
+    },
+    Memory,
+}
+
+/// An error met on a walk: an `io::Error` with the depth at which it came and, mostly, a path; or want of memory.
+#[derive(Drop)]
+pub struct Error<A: Allocator + Copy = Global> {
+    depth: usize,
+    inner: ErrorInner<A>,
+}
+
+/// What a walk answers.
+pub type Result<T, A = Global> = std::result::Result<T, Error<A>>;
+
+impl<A: Allocator + Copy> Error<A> {
+    ghost use Rattle.std.specs.Prelude.{◌≡◌, ◌↔◌, Some, None, option_map, IsTrue, string_bytes};
+    ghost use Rattle.std.specs.Option.{option_copied};
+    ghost use Rattle.std.specs.IoError.{error_kind};
+    ghost use Rattle.walk_model.specs.Error.{io, memory};
+    ghost use Rattle.jwalk_read.specs.Text.{text};
+    ghost use Rattle.jwalk_read.specs.Error.{failure, depth_of, path_of, kind_of};
+
+    /// An error of the file system at a depth, with the path that it was asked for.
+    pub(crate) fn from_path(depth: usize, path: Arc<String<A>, A>, err: io::Error) -> Self
+        ensures { failure result ≡ io depth (Some (text path)) (error_kind err) }
+    {
+        Error {
+            depth,
+            inner: ErrorInner::Io {
+                path: Some(path),
+                err,
+            },
+        }
+    }
+
+    /// An error of the file system at a depth, with no path.
+    pub(crate) fn from_io(depth: usize, err: io::Error) -> Self
+        ensures { failure result ≡ io depth None (error_kind err) }
+    {
+        Error {
+            depth,
+            inner: ErrorInner::Io { path: None, err },
+        }
+    }
+
+    /// The error that tells of want of memory.
+    pub fn memory() -> Self
+        ensures { failure result ≡ memory }
+    {
+        Error {
+            depth: 0,
+            inner: ErrorInner::Memory,
+        }
+    }
+
+    /// The path that the error came with: none for want of memory, and where an item of a listing had no name.
+    pub fn path(&self) -> Option<&str>
+        ensures { option_copied result ≡ path_of (failure self.now) }
+    {
+        match &self.inner {
+            ErrorInner::Io {
+                path: Some(path),
+                ..
+            } => Some(path.as_str()),
+            _ => None,
+        }
+    }
+
+    /// The depth at which the error came: 0 for the root, and for want of memory.
+    pub fn depth(&self) -> usize
+        ensures { result ≡ depth_of (failure self.now) }
+    {
+        match &self.inner {
+            ErrorInner::Io { .. } => self.depth,
+            ErrorInner::Memory => 0,
+        }
+    }
+
+    /// The `io::Error`, if it is one.
+    pub fn io_error(&self) -> Option<&io::Error>
+        ensures { option_map error_kind (option_copied result) ≡ kind_of (failure self.now) }
+    {
+        match &self.inner {
+            ErrorInner::Io { err, .. } => Some(err),
+            ErrorInner::Memory => None,
+        }
+    }
+
+    /// Whether it is want of memory.
+    pub fn is_memory(&self) -> bool
+        ensures { IsTrue result ↔ (failure self.now ≡ memory) }
+    {
+        matches!(self.inner, ErrorInner::Memory)
+    }
+}

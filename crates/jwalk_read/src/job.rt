@@ -1,0 +1,386 @@
+//! One reading of a directory.
+ghost use Rattle.std.specs.Prelude.{◌≡◌, ◌+◌, ◌<◌, ◌^◌, ◌&&◌, ◌++◌, [], ◌∷◌, false, Some, Ok, IfOk, OnOk, map, option_map, option_to_list, string_bytes};
+ghost use Rattle.walk_fs.specs.Views.{listed, named};
+ghost use Rattle.walk_model.specs.Entry.{AtDepth, is_hidden, children_at};
+ghost use Rattle.walk_model.specs.FileType.{is_dir};
+ghost use Rattle.walk_model.specs.Paths.{join};
+ghost use Rattle.walk_model.specs.ReadDir.{IsLawful};
+ghost use Rattle.walk_model.specs.Job as value;
+ghost use Rattle.jwalk_read.specs.Text.{text};
+ghost use Rattle.jwalk_read.specs.Entry.{entry, item, children};
+ghost use Rattle.jwalk_read.specs.ReadDir.{spec, outcome, reading};
+ghost use Rattle.jwalk_read.specs.States.{DefaultIs};
+ghost use Rattle.jwalk_read.specs.Job.{job, file_system, callback, greatest_depth, sorts, skips_hidden, IsSteady};
+
+use crate::client_state::ClientState;
+use crate::dir_entry::DirEntry;
+use crate::error::Error;
+use crate::process_read_dir::ProcessReadDir;
+use crate::read_children::ReadChildren;
+use crate::read_dir::ReadDir;
+use crate::read_dir_spec::ReadDirSpec;
+use crate::sorting::in_order;
+use std::alloc::{AllocError, Allocator, Global};
+use std::io;
+use std::marker::PhantomData;
+use std::sync::Arc;
+use walk_fs::fault::Fault;
+use walk_fs::file_system::FileSystem;
+use walk_fs::listed::Listed;
+use walk_model::file_type::FileType;
+use walk_model::metadata::Metadata;
+use walk_paths::path_text;
+
+/// What reads one directory: a file system, a callback, and the options that a reading goes by.
+#[derive(Drop)]
+pub struct Job<
+    C: ClientState,
+    S: FileSystem,
+    P: ProcessReadDir<C, A>,
+    A: Allocator + Copy = Global,
+> {
+    fs: S,
+    process: P,
+    sort: bool,
+    skip_hidden: bool,
+    max_depth: usize,
+    alloc: A,
+    of: PhantomData<C>,
+}
+
+/// Whether a name starts with a dot.
+fn is_hidden(name: &str) -> bool
+    ensures { result ≡ is_hidden name.now }
+{
+    matches!(name.as_bytes(), [b'.', ..])
+}
+
+/// The name of a root: its file name, or its whole path where it has none.
+fn own_name(path: &str) -> &str
+    ensures { result.now ≡ value.own_name path.now }
+{
+    match path_text::file_name(path) {
+        Some(name) => name,
+        None => path,
+    }
+}
+
+/// The parent of a root: nothing where it has no file name.
+fn own_parent(path: &str) -> &str
+    ensures { result.now ≡ value.own_parent path.now }
+{
+    if path_text::file_name(path).is_none() {
+        return "";
+    }
+    match path_text::parent(path) {
+        Some(parent) => parent,
+        None => "",
+    }
+}
+
+/// The item of a root before the callback, and the path that the callback is given with it.
+#[derive(Drop)]
+struct RootItem<C: ClientState, A: Allocator + Copy> {
+    item: Result<DirEntry<C, A>, Error<A>>,
+    parent_path: Arc<String<A>, A>,
+}
+
+impl<C: ClientState, S: FileSystem, P: ProcessReadDir<C, A>, A: Allocator + Copy> Job<C, S, P, A> {
+    /// A job over a file system and a callback. It puts each list in order by name where `sort` says so, leaves out
+    /// hidden names where `skip_hidden` does, and reads no directory whose depth is `max_depth` or more.
+    pub fn new(alloc: A, fs: S, process: P, sort: bool, skip_hidden: bool, max_depth: usize) -> Self
+        ensures file_system { file_system result ≡ fs }
+        ensures callback { callback result ≡ process }
+        ensures sort { sorts result ≡ sort }
+        ensures skip_hidden { skips_hidden result ≡ skip_hidden }
+        ensures max_depth { greatest_depth result ≡ max_depth }
+    {
+        Job {
+            fs,
+            process,
+            sort,
+            skip_hidden,
+            max_depth,
+            alloc,
+            of: PhantomData,
+        }
+    }
+
+    /// The directory that an entry of this type is to be read from.
+    fn children_in(
+        &self,
+        of: &ReadDirSpec<C, A>,
+        name: &str,
+        file_type: FileType,
+    ) -> Result<Option<ReadChildren<C, A>>, AllocError>
+        ensures { IfOk result (λ o. option_map children o ≡ children_at (is_dir file_type) (join (text of.now.path) name.now)) }
+    {
+        if !file_type.is_dir() {
+            return Ok(None);
+        }
+        let joined = path_text::join(self.alloc, of.path.as_str(), name)?;
+        Ok(Some(ReadChildren::new(Arc::new(self.alloc, joined)?)))
+    }
+
+    /// The entry of a name in a directory.
+    fn entry_in(
+        &self,
+        of: &ReadDirSpec<C, A>,
+        name: String<A>,
+        file_type: FileType,
+    ) -> Result<DirEntry<C, A>, AllocError>
+        requires { of.now.depth + 1 < 2 ^ 64 }
+        ensures depth { IfOk result (λ e. e.depth ≡ of.now.depth + 1) }
+        ensures value { (d : C.DirEntryState) → DefaultIs C.DirEntryState.is_default d → IfOk result (λ e. entry e ≡ value.entry_in (job (S.functions (file_system self.now)) (P.processed (callback self.now)) d self.now) (spec of.now) (string_bytes name) file_type) }
+    {
+        let read_children = self.children_in(of, name.as_str(), file_type)?;
+        Ok(DirEntry {
+            depth: of.depth + 1,
+            file_name: name,
+            file_type,
+            client_state: C::DirEntryState::default(),
+            parent_path: of.path.clone()?,
+            read_children,
+        })
+    }
+
+    /// Whether an item of this name is left out.
+    fn skips(&self, name: &str) -> bool
+        ensures { result ≡ self.now.skip_hidden && is_hidden name.now }
+    {
+        self.skip_hidden && is_hidden(name)
+    }
+
+    /// What an item of a listing that has a name gives: nothing where it is hidden and skipped.
+    fn named(
+        &self,
+        of: &ReadDirSpec<C, A>,
+        found: Listed<A>,
+    ) -> Result<Option<Result<DirEntry<C, A>, Error<A>>>, AllocError>
+        requires { of.now.depth + 1 < 2 ^ 64 }
+        ensures depth { IfOk result (λ o. AtDepth (of.now.depth + 1) (map item (option_to_list o))) }
+        ensures value { (d : C.DirEntryState) → DefaultIs C.DirEntryState.is_default d → IfOk result (λ o. map item (option_to_list o) ≡ value.named (job (S.functions (file_system self.now)) (P.processed (callback self.now)) d self.now) (spec of.now) (named found)) }
+    {
+        let Listed { name, file_type } = found;
+        match file_type {
+            Err(err) => {
+                let joined = path_text::join(self.alloc, of.path.as_str(), name.as_str())?;
+                let path = Arc::new(self.alloc, joined)?;
+                Ok(Some(Err(Error::from_path(of.depth + 1, path, err))))
+            }
+            Ok(file_type) => {
+                if self.skips(name.as_str()) {
+                    return Ok(None);
+                }
+                Ok(Some(Ok(self.entry_in(of, name, file_type)?)))
+            }
+        }
+    }
+
+    /// What one item of a listing gives.
+    fn item_of(
+        &self,
+        of: &ReadDirSpec<C, A>,
+        found: io::Result<Listed<A>>,
+    ) -> Result<Option<Result<DirEntry<C, A>, Error<A>>>, AllocError>
+        requires { of.now.depth + 1 < 2 ^ 64 }
+        ensures depth { IfOk result (λ o. AtDepth (of.now.depth + 1) (map item (option_to_list o))) }
+        ensures value { (d : C.DirEntryState) → DefaultIs C.DirEntryState.is_default d → IfOk result (λ o. map item (option_to_list o) ≡ value.item_of (job (S.functions (file_system self.now)) (P.processed (callback self.now)) d self.now) (spec of.now) (listed found)) }
+    {
+        match found {
+            Err(err) => Ok(Some(Err(Error::from_io(of.depth + 1, err)))),
+            Ok(found) => self.named(of, found),
+        }
+    }
+
+    /// Adds what one item of a listing gives.
+    fn push_item(
+        &self,
+        items: &mut Vec<Result<DirEntry<C, A>, Error<A>>, A>,
+        of: &ReadDirSpec<C, A>,
+        found: io::Result<Listed<A>>,
+    ) -> Result<(), AllocError>
+        requires { of.now.depth + 1 < 2 ^ 64 }
+        ensures depth { AtDepth (of.now.depth + 1) (map item items.old.items) → OnOk result (AtDepth (of.now.depth + 1) (map item items.new.items)) }
+        ensures value { (d : C.DirEntryState) → DefaultIs C.DirEntryState.is_default d → OnOk result (map item items.new.items ≡ map item items.old.items ++ value.item_of (job (S.functions (file_system self.now)) (P.processed (callback self.now)) d self.now) (spec of.now) (listed found)) }
+    {
+        match self.item_of(of, found)? {
+            Some(item) => {
+                items.push(item)?;
+                Ok(())
+            }
+            None => Ok(()),
+        }
+    }
+
+    /// The items of a listing in its order.
+    fn raw(
+        &self,
+        of: &ReadDirSpec<C, A>,
+        listing: Vec<io::Result<Listed<A>>, A>,
+    ) -> Result<Vec<Result<DirEntry<C, A>, Error<A>>, A>, AllocError>
+        requires { of.now.depth + 1 < 2 ^ 64 }
+        ensures depth { IfOk result (λ v. AtDepth (of.now.depth + 1) (map item v.items)) }
+        ensures value { (d : C.DirEntryState) → DefaultIs C.DirEntryState.is_default d → IfOk result (λ v. map item v.items ≡ value.raw (job (S.functions (file_system self.now)) (P.processed (callback self.now)) d self.now) (spec of.now) (map listed listing.items)) }
+    {
+        let mut items = Vec::with_capacity(self.alloc, listing.len())?;
+        for found in listing {
+            self.push_item(&mut items, of, found)?;
+        }
+        Ok(items)
+    }
+
+    /// The items of a listing in the order that is asked for.
+    fn ordered(
+        &self,
+        of: &ReadDirSpec<C, A>,
+        listing: Vec<io::Result<Listed<A>>, A>,
+    ) -> Result<Vec<Result<DirEntry<C, A>, Error<A>>, A>, AllocError>
+        requires { of.now.depth + 1 < 2 ^ 64 }
+        ensures depth { IfOk result (λ v. AtDepth (of.now.depth + 1) (map item v.items)) }
+        ensures value { (d : C.DirEntryState) → DefaultIs C.DirEntryState.is_default d → IfOk result (λ v. map item v.items ≡ value.ordered (job (S.functions (file_system self.now)) (P.processed (callback self.now)) d self.now) (spec of.now) (map listed listing.items)) }
+    {
+        let items = self.raw(of, listing)?;
+        Ok(in_order(self.sort, items)?)
+    }
+
+    /// The list of a directory that could be listed, after the callback.
+    fn processed(
+        &self,
+        of: &ReadDirSpec<C, A>,
+        listing: Vec<io::Result<Listed<A>>, A>,
+    ) -> Result<ReadDir<C, A>, AllocError>
+        requires lawful { P.IsLawful (callback self.now) }
+        requires fits { of.now.depth + 1 < 2 ^ 64 }
+        ensures depth { IfOk result (λ r. AtDepth (of.now.depth + 1) (map item r.results_list.items)) }
+        ensures value { (d : C.DirEntryState) → IsSteady (S.IsFixed (file_system self.now)) (P.IsFixed (callback self.now)) C.ReadDirState.is_clone C.DirEntryState.is_default d → IfOk result (λ r. P.processed (callback self.now) (Some of.now.depth) (text of.now.path) of.now.client_read_state (value.ordered (job (S.functions (file_system self.now)) (P.processed (callback self.now)) d self.now) (spec of.now) (map listed listing.items)) ≡ reading r) }
+    {
+        let mut items = self.ordered(of, listing)?;
+        let mut state = of.client_read_state.clone()?;
+        self.process
+            .process(Some(of.depth), of.path.as_str(), &mut state, &mut items)?;
+        Ok(ReadDir::new(state, items))
+    }
+
+    /// Reads one directory: its list, or the error that listing it ended in, which has the directory's depth and path.
+    /// A directory whose depth is the greatest or more isn't read: its list is empty, and neither the file system nor
+    /// the callback is called.
+    ///
+    /// Fails only for want of memory: of the walk's own, of the file system's or of the callback's, or where the clone
+    /// of the state is refused.
+    pub fn read_one(
+        &self,
+        of: &ReadDirSpec<C, A>,
+    ) -> Result<Result<ReadDir<C, A>, Error<A>>, AllocError>
+        requires { P.IsLawful (callback self.now) }
+        ensures lawful { IfOk result (λ o. IsLawful (greatest_depth self.now) (spec of.now) (outcome o)) }
+        ensures value { (d : C.DirEntryState) → IsSteady (S.IsFixed (file_system self.now)) (P.IsFixed (callback self.now)) C.ReadDirState.is_clone C.DirEntryState.is_default d → IfOk result (λ o. outcome o ≡ value.reading (job (S.functions (file_system self.now)) (P.processed (callback self.now)) d self.now) (spec of.now)) }
+    {
+        if of.depth >= self.max_depth {
+            let state = of.client_read_state.clone()?;
+            return Ok(Ok(ReadDir::new(state, Vec::new(self.alloc))));
+        }
+        match self.fs.read_dir(self.alloc, of.path.as_str()) {
+            Ok(listing) => Ok(Ok(self.processed(of, listing)?)),
+            Err(Fault::Io(err)) => Ok(Err(Error::from_path(of.depth, of.path.clone()?, err))),
+            Err(Fault::Memory) => Err(AllocError),
+        }
+    }
+
+    /// The root's entry with this metadata.
+    fn root_entry(
+        &self,
+        path: Arc<String<A>, A>,
+        metadata: Metadata,
+    ) -> Result<DirEntry<C, A>, AllocError>
+        ensures depth { IfOk result (λ e. e.depth ≡ 0) }
+        ensures value { (d : C.DirEntryState) → DefaultIs C.DirEntryState.is_default d → IfOk result (λ e. entry e ≡ value.made_of (job (S.functions (file_system self.now)) (P.processed (callback self.now)) d self.now) 0 (text path) false [] metadata) }
+    {
+        let file_type = metadata.file_type();
+        let file_name = String::from_str(self.alloc, own_name(path.as_str()))?;
+        let parent_path = String::from_str(self.alloc, own_parent(path.as_str()))?;
+        let read_children = if file_type.is_dir() {
+            Some(ReadChildren::new(path))
+        } else {
+            None
+        };
+        Ok(DirEntry {
+            depth: 0,
+            file_name,
+            file_type,
+            client_state: C::DirEntryState::default(),
+            parent_path: Arc::new(self.alloc, parent_path)?,
+            read_children,
+        })
+    }
+
+    /// The root's entry, or the error with its path.
+    fn made(&self, path: &str) -> Result<Result<DirEntry<C, A>, Error<A>>, AllocError>
+        ensures depth { IfOk result (λ r. AtDepth 0 (item r ∷ [])) }
+        ensures value { (d : C.DirEntryState) → S.IsFixed (file_system self.now) → DefaultIs C.DirEntryState.is_default d → IfOk result (λ r. item r ≡ value.made (job (S.functions (file_system self.now)) (P.processed (callback self.now)) d self.now) 0 path.now false []) }
+    {
+        let shared = Arc::new(self.alloc, String::from_str(self.alloc, path)?)?;
+        match self.fs.symlink_metadata(path) {
+            Ok(metadata) => Ok(Ok(self.root_entry(shared, metadata)?)),
+            Err(Fault::Io(err)) => Ok(Err(Error::from_path(0, shared, err))),
+            Err(Fault::Memory) => Err(AllocError),
+        }
+    }
+
+    /// A root's entry with what stands behind it, if it is a link: a directory there is to be read.
+    fn with_target(
+        &self,
+        found: DirEntry<C, A>,
+    ) -> Result<Result<DirEntry<C, A>, Error<A>>, AllocError>
+        ensures depth { AtDepth 0 (Ok (entry found) ∷ []) → IfOk result (λ r. AtDepth 0 (item r ∷ [])) }
+        ensures value { (d : C.DirEntryState) → S.IsFixed (file_system self.now) → IfOk result (λ r. item r ≡ value.with_target (job (S.functions (file_system self.now)) (P.processed (callback self.now)) d self.now) (entry found)) }
+    {
+        if !found.file_type.is_symlink() {
+            return Ok(Ok(found));
+        }
+        let path = Arc::new(self.alloc, found.path()?)?;
+        match self.fs.metadata(path.as_str()) {
+            Ok(metadata) => Ok(Ok(found.with_directory(path, metadata))),
+            Err(Fault::Io(err)) => Ok(Err(Error::from_path(0, path, err))),
+            Err(Fault::Memory) => Err(AllocError),
+        }
+    }
+
+    /// The root's item before the callback, with the path that the callback is given beside it.
+    fn root_item(&self, path: &str) -> Result<RootItem<C, A>, AllocError>
+        ensures depth { IfOk result (λ r. AtDepth 0 (item r.item ∷ [])) }
+        ensures value { (d : C.DirEntryState) → S.IsFixed (file_system self.now) → DefaultIs C.DirEntryState.is_default d → IfOk result (λ r. item r.item ≡ value.root_item (job (S.functions (file_system self.now)) (P.processed (callback self.now)) d self.now) path.now) }
+        ensures parent { (d : C.DirEntryState) → S.IsFixed (file_system self.now) → DefaultIs C.DirEntryState.is_default d → IfOk result (λ r. text r.parent_path ≡ value.root_parent (job (S.functions (file_system self.now)) (P.processed (callback self.now)) d self.now) path.now) }
+    {
+        match self.made(path)? {
+            Ok(found) => {
+                let parent_path = found.parent_path.clone()?;
+                let item = self.with_target(found)?;
+                Ok(RootItem { item, parent_path })
+            }
+            Err(error) => Ok(RootItem {
+                item: Err(error),
+                parent_path: Arc::new(self.alloc, String::new(self.alloc))?,
+            }),
+        }
+    }
+
+    /// The list that a walk begins with: the root's entry, or the error met when it was asked for, after the callback,
+    /// which is given no depth, the root's parent path and this state. A root that is a link to a directory stays a
+    /// link, and the directory is read below it; a root that is a broken link is an error with its path.
+    ///
+    /// Fails only for want of memory: of the walk's own, of the file system's or of the callback's.
+    pub fn root_list(&self, path: &str, state: C::ReadDirState) -> Result<ReadDir<C, A>, AllocError>
+        requires { P.IsLawful (callback self.now) }
+        ensures depth { IfOk result (λ r. AtDepth 0 (reading r).list) }
+        ensures value { (d : C.DirEntryState) → IsSteady (S.IsFixed (file_system self.now)) (P.IsFixed (callback self.now)) C.ReadDirState.is_clone C.DirEntryState.is_default d → IfOk result (λ r. value.root_list (job (S.functions (file_system self.now)) (P.processed (callback self.now)) d self.now) path.now state ≡ reading r) }
+    {
+        let RootItem { item, parent_path } = self.root_item(path)?;
+        let mut state = state;
+        let mut items = Vec::new(self.alloc);
+        items.push(item)?;
+        self.process
+            .process(None, parent_path.as_str(), &mut state, &mut items)?;
+        Ok(ReadDir::new(state, items))
+    }
+}

@@ -1,0 +1,83 @@
+//! A directory that was read.
+ghost use Rattle.std.specs.Prelude.{◌≡◌, ◌++◌, IfOk, OnOk, map, option_to_list};
+ghost use Rattle.walk_model.specs.ReadDir.{place, spec_of, children};
+ghost use Rattle.jwalk_read.specs.Entry.{item};
+ghost use Rattle.jwalk_read.specs.ReadDir.{spec, reading};
+ghost use Rattle.jwalk_read.specs.States.{ClonesAreEqual};
+
+use crate::client_state::ClientState;
+use crate::dir_entry::DirEntry;
+use crate::error::Error;
+pub use crate::job::Job;
+pub use crate::process_read_dir::{NoProcess, ProcessReadDir};
+pub use crate::read_dir_spec::ReadDirSpec;
+use std::alloc::{AllocError, Allocator, Global};
+
+/// What a directory's reading gave: its list, and the state that it left.
+#[derive(Drop)]
+pub struct ReadDir<C: ClientState, A: Allocator + Copy = Global> {
+    pub(crate) read_dir_state: C::ReadDirState,
+    pub(crate) results_list: Vec<Result<DirEntry<C, A>, Error<A>>, A>,
+}
+
+/// Adds the specification of an item's directory, if it has one.
+fn push_spec<C: ClientState, A: Allocator + Copy>(
+    specs: &mut Vec<ReadDirSpec<C, A>, A>,
+    state: &C::ReadDirState,
+    found: &Result<DirEntry<C, A>, Error<A>>,
+) -> Result<(), AllocError>
+    ensures places { OnOk result (map (λ s. place (spec s)) specs.new.items ≡ map (λ s. place (spec s)) specs.old.items ++ map place (option_to_list (spec_of state.now (item found.now)))) }
+    ensures specs { ClonesAreEqual C.ReadDirState.is_clone → OnOk result (map spec specs.new.items ≡ map spec specs.old.items ++ option_to_list (spec_of state.now (item found.now))) }
+{
+    match ReadDirSpec::of_item(state, found)? {
+        Some(spec) => {
+            specs.push(spec)?;
+            Ok(())
+        }
+        None => Ok(()),
+    }
+}
+
+impl<C: ClientState, A: Allocator + Copy> ReadDir<C, A> {
+    /// The reading that left this state and this list.
+    pub fn new(
+        read_dir_state: C::ReadDirState,
+        results_list: Vec<Result<DirEntry<C, A>, Error<A>>, A>,
+    ) -> Self
+        ensures { reading result ≡ record { state = read_dir_state; list = map item results_list.items } }
+    {
+        ReadDir {
+            read_dir_state,
+            results_list,
+        }
+    }
+
+    /// The list, in its order.
+    pub fn results_list(&self) -> &[Result<DirEntry<C, A>, Error<A>>]
+        ensures { map item result.now ≡ (reading self.now).list }
+    {
+        &self.results_list
+    }
+
+    /// The list, in its order, taken out of the reading.
+    pub fn into_results_list(self) -> Vec<Result<DirEntry<C, A>, Error<A>>, A>
+        ensures { map item result.items ≡ (reading self).list }
+    {
+        self.results_list
+    }
+
+    /// The directories to be read below the entries of the list, in its order: one for each entry that has
+    /// `read_children`, beginning with the state named there or with a clone of the one that this reading left.
+    ///
+    /// Fails only for want of memory, met by the list or by the clone of a state.
+    pub fn read_children_specs(&self) -> Result<Vec<ReadDirSpec<C, A>, A>, AllocError>
+        ensures places { IfOk result (λ v. map (λ s. place (spec s)) v.items ≡ map place (children (reading self.now))) }
+        ensures specs { ClonesAreEqual C.ReadDirState.is_clone → IfOk result (λ v. map spec v.items ≡ children (reading self.now)) }
+    {
+        let mut specs = Vec::new(*self.results_list.allocator());
+        for found in &self.results_list {
+            push_spec(&mut specs, &self.read_dir_state, found)?;
+        }
+        Ok(specs)
+    }
+}

@@ -1,0 +1,58 @@
+//! A directory to be read.
+ghost use Rattle.std.specs.Prelude.{◌≡◌, IfOk, map, unwrap_or, option_to_list};
+ghost use Rattle.walk_model.specs.ReadDir.{place, spec_of};
+ghost use Rattle.jwalk_read.specs.Entry.{item};
+ghost use Rattle.jwalk_read.specs.ReadDir.{spec};
+ghost use Rattle.jwalk_read.specs.States.{ClonesAreEqual};
+
+use crate::client_state::ClientState;
+use crate::dir_entry::DirEntry;
+use crate::error::Error;
+use std::alloc::{AllocError, Allocator, Global};
+use std::sync::Arc;
+
+/// Which directory to read, and with which state to begin.
+#[derive(Drop)]
+pub struct ReadDirSpec<C: ClientState, A: Allocator + Copy = Global> {
+    pub(crate) depth: usize,
+    /// The path of the directory.
+    pub path: Arc<String<A>, A>,
+    /// The state that its reading begins with.
+    pub client_read_state: C::ReadDirState,
+}
+
+/// The state that a directory begins with: its own if it was given one, else that of its parent's reading.
+fn first_state<C: ClientState>(
+    own: &Option<C::ReadDirState>,
+    parent: &C::ReadDirState,
+) -> Result<C::ReadDirState, AllocError>
+    ensures { ClonesAreEqual C.ReadDirState.is_clone → IfOk result (λ s. s ≡ unwrap_or own.now parent.now) }
+{
+    match own {
+        Some(own) => Ok(own.clone()?),
+        None => Ok(parent.clone()?),
+    }
+}
+
+impl<C: ClientState, A: Allocator + Copy> ReadDirSpec<C, A> {
+    /// The specification of an item's directory, if it has one, where the reading of its list left `state`.
+    pub(crate) fn of_item(
+        state: &C::ReadDirState,
+        found: &Result<DirEntry<C, A>, Error<A>>,
+    ) -> Result<Option<Self>, AllocError>
+        ensures places { IfOk result (λ o. map (λ s. place (spec s)) (option_to_list o) ≡ map place (option_to_list (spec_of state.now (item found.now)))) }
+        ensures specs { ClonesAreEqual C.ReadDirState.is_clone → IfOk result (λ o. map spec (option_to_list o) ≡ option_to_list (spec_of state.now (item found.now))) }
+    {
+        let Ok(entry) = found else {
+            return Ok(None);
+        };
+        let Some(children) = &entry.read_children else {
+            return Ok(None);
+        };
+        Ok(Some(ReadDirSpec {
+            depth: entry.depth,
+            path: children.path.clone()?,
+            client_read_state: first_state::<C>(&children.client_read_state, state)?,
+        }))
+    }
+}
