@@ -91,15 +91,15 @@ module _ {C S P A R E : Type 0} (clones : Type 0) (is_steady : E → Type 0) (re
         | inr one ↦
             let read = leaves.reads (Some (item x)) (items_of new) (unread_of new) (answers_next one.next answered) in
             record {
-          job = job;
-          min_depth = depth;
-          depths = within_read clones old new (Some (item x)) job read;
-          ended = tt;
-          reads = rw began (inr read);
-          plain = rw (before, after) (leaves.plain (Some (item x)) (pair_up (items_of new) (unread_of new)) (plainly_one (min_depth_of old) (pair_up (items_of left) (unread_of left)) (item x) (pair_up (items_of new) (unread_of new)) answered one.plain));
-          passes = λ equal. inr (rw (before, after) (leaves.passes equal (Some (item x)) (pair_up (items_of new) (unread_of new)) (kept (one.passes equal) answered)));
-          coming = λ d steady. inr (rw before (leaves.coming d steady ∙ ap (answers (min_depth_of old)) (one.listed d steady)) ∙ ap (λ l. answers (min_depth_of old) (item x ∷ listing (reading_by d) (greatest_depth (job_of old)) l)) (sym after) ∙ to_come_of (reading_by d) old new (item x) job depth answered);
-        }
+              job = job;
+              min_depth = depth;
+              depths = within_read clones old new (Some (item x)) job read;
+              ended = tt;
+              reads = rw began (inr read);
+              plain = rw (before, after) (leaves.plain (Some (item x)) (pair_up (items_of new) (unread_of new)) (plainly_one (min_depth_of old) (pair_up (items_of left) (unread_of left)) (item x) (pair_up (items_of new) (unread_of new)) answered one.plain));
+              passes = λ equal. inr (rw (before, after) (leaves.passes equal (Some (item x)) (pair_up (items_of new) (unread_of new)) (kept (one.passes equal) answered)));
+              coming = λ d steady. inr (rw before (leaves.coming d steady ∙ ap (answers (min_depth_of old)) (one.listed d steady)) ∙ ap (λ l. answers (min_depth_of old) (item x ∷ listing (reading_by d) (greatest_depth (job_of old)) l)) (sym after) ∙ to_come_of (reading_by d) old new (item x) job depth answered);
+            }
       ]
 
   -- all that was held is left out

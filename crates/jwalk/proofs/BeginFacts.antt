@@ -11,7 +11,7 @@ use Rattle.walk_model.specs.Walk.{whole_walk}
 use Rattle.jwalk_read.specs.declared.job.Job.{Job}
 use Rattle.jwalk.specs.declared.walk_dir.WalkDirGeneric.{WalkDirGeneric}
 use Rattle.jwalk.specs.declared.dir_entry_iter.DirEntryIter.{DirEntryIter}
-use Rattle.jwalk_read.specs.Job.{Processing, job, greatest_depth}
+use Rattle.jwalk_read.specs.Job.{Processing, job, greatest_depth, sorts, skips_hidden}
 use Rattle.jwalk.specs.DirEntryIter.{job_of, min_depth_of, held, to_come}
 use Rattle.jwalk.specs.WalkDir.{Starts, job_for, options_of, root_of}
 use Rattle.jwalk.specs.Depths.{greatest_of}

@@ -4,7 +4,6 @@ use Rattle.std.specs.declared.alloc.AllocError.{AllocError}
 use lib.ListN.{length-append}
 use Rattle.std.specs.Prelude.{IsErr}
 use Rattle.std.specs.Iterator.{Yields}
-use Rattle.walk_model.specs.Error.{memory}
 use Rattle.walk_model.specs.Entry.{Item, AllBetween}
 use Rattle.walk_model.specs.ReadDir.{Spec, Outcome}
 use Rattle.walk_model.specs.Listing.{Pair}

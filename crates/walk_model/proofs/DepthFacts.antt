@@ -1,6 +1,6 @@
 -- The depths of a list that is put in order.
 use Rattle.std.proofs.Common.{◌≡◌, ℕ, Bool, true, false, List, [], ◌∷◌, Ok, Err, cond}
-use Rattle.walk_model.specs.Entry.{Entry, Item, AtDepth}
+use Rattle.walk_model.specs.Entry.{Item, AtDepth}
 use Rattle.walk_model.specs.Sorting.{stands_before, put, arranged}
 
 module _ {R E : Type 0} (depth : ℕ) where

@@ -1,11 +1,10 @@
 -- One pair of what is held is passed.
-use Rattle.std.proofs.Common.{◌≡◌, ◌≢◌, ℕ, ◌<◌, ◌≤◌, ◌^◌, true, false, List, [], ◌∷◌, ◌++◌, length, Option, Some, Ok, Err, refl, sym, ap, ◌∙◌, subst, arith}
-use Rattle.std.proofs.lemmas.Bool.Decides.{nat_tests}
+use Rattle.std.proofs.Common.{◌≡◌, ◌≢◌, ℕ, ◌<◌, ◌≤◌, ◌^◌, true, false, List, [], ◌∷◌, ◌++◌, length, Option, Some, Ok, refl, sym, ap, ◌∙◌, subst, arith}
 use Rattle.std.specs.Prelude.{MatchBool}
 use Rattle.walk_model.specs.Entry.{Entry, Item, has_directory}
 use Rattle.walk_model.specs.ReadDir.{Spec, Outcome, list_of, ReadsFirst, IsReadingOfFirst}
 use Rattle.walk_model.specs.Listing.{Pair, after_reading, is_answered, answers}
-use Rattle.walk_model.specs.Held.{pair_up, to_come, weight, Passes, PassesTo, left_out, PassesPlainly, AnswersPlainly, IsAtDirectory, PassesOne, PassesNext, passed_plainly, passed_entering, ReadsUpTo, leaves_out, is_plain, first_source}
+use Rattle.walk_model.specs.Held.{pair_up, to_come, weight, Passes, PassesTo, left_out, PassesPlainly, AnswersPlainly, IsAtDirectory, PassesOne, passed_plainly, passed_entering, ReadsUpTo, leaves_out, is_plain}
 use Rattle.walk_model.proofs.HeldFacts.{pair_up-outcome, listed, lighter, alone, unread_none, heavy_source_of}
 use Rattle.walk_model.proofs.PreorderFacts.{first_is_read}
 

@@ -1,9 +1,8 @@
 -- Depths of what is held and of what is answered.
-use Rattle.std.proofs.Common.{◌≡◌, ℕ, ◌+◌, ◌≤◌, ◌<◌, Bool, true, false, List, [], ◌∷◌, ◌++◌, Option, Some, None, IfSome, Ok, Err, inl, inr, arith, sym, ◌∙◌}
+use Rattle.std.proofs.Common.{◌≡◌, ℕ, ◌+◌, ◌≤◌, true, false, List, [], ◌∷◌, ◌++◌, Option, IfSome, Ok, Err, inl, inr, arith, sym, ◌∙◌}
 use Rattle.std.proofs.lemmas.Bool.Decides.{leb_tells}
-use Rattle.walk_model.specs.Error.{Failure}
-use Rattle.walk_model.specs.Entry.{Entry, Item, AtDepth, NoDeeper, IsBetween}
-use Rattle.walk_model.specs.ReadDir.{Spec, Outcome, list_of, IsLawful, ReadsFirst}
+use Rattle.walk_model.specs.Entry.{Item, AtDepth, NoDeeper, IsBetween}
+use Rattle.walk_model.specs.ReadDir.{Spec, Outcome, list_of, IsLawful}
 use Rattle.walk_model.specs.Listing.{after_reading, is_answered}
 use Rattle.walk_model.specs.Held.{PassesNext, passed_plainly, passed_entering, ReadsUpTo, answers_next, leaves_out, ends}
 

@@ -1,4 +1,4 @@
-use Rattle.std.proofs.Common.{◌≡◌, ◌++◌, ◌∷◌, [], ◌<◌, ◌≤◌, sym, subst, arith, rules}
+use Rattle.std.proofs.Common.{sym, subst, arith}
 use Rattle.walk_model.specs.Job as value
 use Rattle.jwalk_read.specs.States.{ClonesAreEqual}
 use Rattle.jwalk_read.specs.Job.{job, file_system, callback, IsSteady}
