@@ -240,6 +240,52 @@ fn entries_come_by_name_where_that_is_asked(rt: HostRuntime) -> Result<(), Fail>
 }
 
 #[test]
+fn a_denied_directory_is_answered_with_its_error(rt: HostRuntime) -> Result<(), Fail> {
+    let mut denied = String::from_str(rt.alloc(), TREE_A)?;
+    denied.push_str("x /t/group 2\n")?;
+    let all =
+        "0 d /t\n1 f /t/a.txt\n1 f /t/b.txt\n1 f /t/c.txt\n1 d /t/group 1\n2 f /t/group 1/d.txt\n1 d /t/group 2 ! PermissionDenied\n";
+    let unread =
+        "0 d /t\n1 f /t/a.txt\n1 f /t/b.txt\n1 f /t/c.txt\n1 d /t/group 1\n1 d /t/group 2\n";
+    let rows: [(&[&str], &str); 3] = [
+        (&["--tree", "--sort", "/t"], all),
+        (&["--tree", "--sort", "--max", "1", "/t"], unread),
+        (
+            &["--tree", "--sort", "--min", "2", "/t"],
+            "2 f /t/group 1/d.txt\n",
+        ),
+    ];
+    for (words, out) in rows {
+        check(
+            &rt,
+            &run_on(rt.alloc(), words, denied.as_bytes())?,
+            (out, "", 0),
+        );
+    }
+    let rows = [
+        (
+            "/r",
+            "d /r\nx /r\nf 1 /r/a\nx /r\n",
+            "0 d /r ! PermissionDenied\n",
+        ),
+        ("/r/a", "d /r\nx /r\nf 1 /r/a\n", "0 f /r/a\n"),
+        (
+            "/",
+            "d /r\nd /x y\nx /x y",
+            "0 d /\n1 d /r\n1 d /x y ! PermissionDenied\n",
+        ),
+    ];
+    for (root, input, out) in rows {
+        check(
+            &rt,
+            &run_on(rt.alloc(), &["--tree", root], input.as_bytes())?,
+            (out, "", 0),
+        );
+    }
+    Ok(())
+}
+
+#[test]
 fn the_least_depth_is_set_before_the_greatest(rt: HostRuntime) -> Result<(), Fail> {
     let rows: [&[&str]; 2] = [
         &["--tree", "--sort", "--min", "5", "--max", "2", "/t"],
@@ -257,7 +303,7 @@ fn the_least_depth_is_set_before_the_greatest(rt: HostRuntime) -> Result<(), Fai
 
 #[test]
 fn the_first_bad_line_is_named(rt: HostRuntime) -> Result<(), Fail> {
-    let first: [&[u8]; 21] = [
+    let first: [&[u8]; 25] = [
         b"d",
         b"d ",
         b"f",
@@ -272,6 +318,10 @@ fn the_first_bad_line_is_named(rt: HostRuntime) -> Result<(), Fail> {
         b"f 000000000000000000001 /r",
         b"l /r\t/s",
         b"x /r",
+        b"x",
+        b"x ",
+        b"x/r",
+        b"x /",
         b"D /r",
         b" d /r",
         b"d/r",
@@ -291,6 +341,9 @@ fn the_first_bad_line_is_named(rt: HostRuntime) -> Result<(), Fail> {
         ("d /r\nd /r\n", "walk: bad tree, line 2\n"),
         ("d /r\n\nf 1\n", "walk: bad tree, line 3\n"),
         ("d /r\nf 1 /r/a\nf 1 /r/a/b", "walk: bad tree, line 3\n"),
+        ("d /r\nf 1 /r/a\nx /r/a", "walk: bad tree, line 3\n"),
+        ("d /r\n\nx /n\nx /r\n", "walk: bad tree, line 3\n"),
+        ("d /r\nx /r\nd /r\nx /n", "walk: bad tree, line 3\n"),
     ];
     for (input, err) in rows {
         check(
