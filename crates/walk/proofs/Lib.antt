@@ -3,3 +3,4 @@ pub mod Texts
 pub mod TextLineFacts
 pub mod LineFacts
 pub mod BuiltFacts
+pub mod WordFacts

@@ -1,9 +1,11 @@
--- Short lists.
-use Rattle.std.proofs.Common.{◌≡◌, List, [], ◌∷◌, length, get_or, map, arith}
+-- What a function makes of a list, empty or not.
+use Rattle.std.proofs.Common.{◌≡◌, ◌≢◌, List, [], ◌∷◌, ◌==◌, true, false, length, map, refl, arith}
+use Rattle.std.proofs.lemmas.Bool.{eqb-true}
 
--- what a function makes of a list of two elements
-pub map-two : {X Y : Type 0} (f : X → Y) (xs : List X) (a b : X) (c d : Y) → length xs ≡ 2 → a ≡ get_or xs 0 a → b ≡ get_or xs 1 b → f a ≡ c → f b ≡ d → map f xs ≡ c ∷ (d ∷ [])
-map-two f [] a b c d len first second first_is second_is = absurd (omega arith)
-map-two f (x ∷ []) a b c d len first second first_is second_is = absurd (omega arith)
-map-two f (x ∷ y ∷ []) a b c d len first second first_is second_is = cc
-map-two f (x ∷ y ∷ z ∷ zs) a b c d len first second first_is second_is = absurd (omega arith)
+pub map-none : {X Y : Type 0} (f : X → Y) (xs : List X) → (length xs == 0) ≡ true → map f xs ≡ []
+map-none f [] none = refl
+map-none f (x ∷ xs) none = absurd (omega (arith, eqb-true (length (x ∷ xs)) 0 none))
+
+pub map-some : {X Y : Type 0} (f : X → Y) (xs : List X) → (length xs == 0) ≡ false → map f xs ≢ []
+map-some f [] some = λ _. cc
+map-some f (x ∷ xs) some = λ e. cc

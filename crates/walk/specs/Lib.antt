@@ -1,5 +1,6 @@
 pub mod Number
 pub mod TreeLine
+pub mod Asked
 pub mod Words
 pub mod Lines
 pub mod Failure

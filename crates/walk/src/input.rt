@@ -1,8 +1,8 @@
 //! The tree that standard input says.
-ghost use Rattle.std.specs.Prelude.{◌≡◌, IfOk, IfSome};
+ghost use Rattle.std.specs.Prelude.{◌≡◌, ◌⊎◌, IfOk, IfErr, IfSome};
 ghost use Rattle.memory_fs.specs.MemoryFs.{tree_of};
 ghost use Rattle.walk.specs.TextLines.{text_lines};
-ghost use Rattle.walk.specs.Built.{Builds};
+ghost use Rattle.walk.specs.Built.{Builds, TellsOfInput};
 
 use crate::failure::Failure;
 use crate::tree::build_tree;
@@ -12,7 +12,8 @@ use std::io::{ErrorKind, Read};
 
 /// Reads the input whole.
 fn read_whole<A: Allocator + Copy, R: Read>(alloc: A, input: &mut R) -> Result<Vec<u8, A>, Failure>
-    ensures { IfOk result (λ read. IfSome (R.remaining input.old) (λ bytes. read.items ≡ bytes)) }
+    ensures ok { IfOk result (λ read. IfSome (R.remaining input.old) (λ bytes. read.items ≡ bytes)) }
+    ensures err { IfErr result (λ failure. (failure ≡ Failure.Memory) ⊎ (failure ≡ Failure.BadTree 0)) }
 {
     let mut bytes = Vec::new(alloc);
     match input.read_to_end(&mut bytes) {
@@ -22,12 +23,14 @@ fn read_whole<A: Allocator + Copy, R: Read>(alloc: A, input: &mut R) -> Result<V
     }
 }
 
-/// Reads the input whole, and then builds the tree that its lines say.
+/// Reads the input whole, and then builds the tree that its lines say. The first bad line is named; its number is 0 where
+/// the input can't be read.
 pub fn read_tree<A: Allocator + Copy, R: Read>(
     alloc: A,
     input: &mut R,
 ) -> Result<MemoryFs<A>, Failure>
-    ensures { IfOk result (λ fs. IfSome (R.remaining input.old) (λ bytes. Builds (text_lines bytes) (tree_of fs))) }
+    ensures built { IfOk result (λ fs. IfSome (R.remaining input.old) (λ bytes. Builds (text_lines bytes) (tree_of fs))) }
+    ensures bad { IfErr result (TellsOfInput (R.remaining input.old)) }
 {
     let bytes = read_whole(alloc, input)?;
     build_tree(alloc, bytes.as_slice())

@@ -1,16 +1,42 @@
 //! A call of the program.
 ghost use Rattle.std.specs.Prelude.{◌≡◌, ◌≤◌, Err, map, string_bytes, IfOk, OnOk};
+ghost use Rattle.jwalk.specs.WalkDir.{file_system_of, root_of, options_of};
 ghost use Rattle.walk.specs.Words.{AreGood};
+ghost use Rattle.walk.specs.Asked.{options_for};
 
 use crate::answers::print_answers;
+use crate::asked::Asked;
 use crate::failure::Failure;
 use crate::input::read_tree;
 use crate::words::parse_words;
 use jwalk::WalkDirGeneric;
-use jwalk::file_system::MemoryFs;
+use jwalk::file_system::FileSystem;
 use jwalk::read_dir::NoProcess;
 use std::alloc::Allocator;
 use std::io::{Read, Write};
+
+/// The walk that is asked for. Its options are set one after another: the order, hidden names, the least depth and then
+/// the greatest.
+fn walk_of<S: FileSystem, A: Allocator + Copy>(
+    fs: S,
+    root: String<A>,
+    asked: Asked,
+) -> WalkDirGeneric<((), ()), S, NoProcess, A>
+    ensures file_system { file_system_of result ≡ fs }
+    ensures root { root_of result ≡ string_bytes root }
+    ensures options { options_of result ≡ options_for asked }
+{
+    let mut walk = WalkDirGeneric::new(fs, root)
+        .sort(asked.sort)
+        .skip_hidden(!asked.hidden);
+    if let Some(least) = asked.min {
+        walk = walk.min_depth(least);
+    }
+    if let Some(greatest) = asked.max {
+        walk = walk.max_depth(greatest);
+    }
+    walk
+}
 
 /// Walks as the words ask, and prints one line for each answer.
 fn print_walk<A: Allocator + Copy, R: Read, W: Write, E: Write>(
@@ -29,7 +55,7 @@ fn print_walk<A: Allocator + Copy, R: Read, W: Write, E: Write>(
     };
     let fs = read_tree(alloc, input)?;
     let root = String::from_str(alloc, request.root)?;
-    let walk = WalkDirGeneric::<((), ()), MemoryFs<A>, NoProcess, A>::new(fs, root).into_iter();
+    let walk = walk_of(fs, root, request.asked).into_iter();
     Ok(print_answers(alloc, walk, out, err))
 }
 

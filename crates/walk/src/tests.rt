@@ -99,48 +99,211 @@ fn answers_come_in_order(rt: HostRuntime) -> Result<(), Fail> {
     Ok(())
 }
 
+/// The words whose option N is this number.
+fn with_number<'w>(option: &'w str, number: &'w str) -> [&'w str; 4] {
+    [option, number, "--tree", "/t"]
+}
+
 #[test]
 fn other_words_are_bad(rt: HostRuntime) -> Result<(), Fail> {
-    check(&rt, &run_on(rt.alloc(), &[], "".as_bytes())?, BAD_WORDS);
-    for word in ["--tree", "/r"] {
-        check(&rt, &run_on(rt.alloc(), &[word], "".as_bytes())?, BAD_WORDS);
-    }
-    let options = [
-        "--sort", "--hidden", "--follow", "--min", "--max", "--batch", "--crew", "--usage",
-        "--tree", "/r", "",
+    let rows: [&[&str]; 22] = [
+        &[],
+        &["/r"],
+        &["--tree"],
+        &["--sort", "/r"],
+        &["--sort", "--sort", "/r"],
+        &["--tree", "--tree", "/r"],
+        &["--tree", "--sort", "--hidden", "--sort", "/r"],
+        &["--tree", "--min", "1", "--min", "2", "/r"],
+        &["--tree", "--max", "1", "--sort", "--max", "1", "/r"],
+        &["--min", "x", "/r"],
+        &["--tree", "--min", "x", "/r"],
+        &["--min", "3"],
+        &["--tree", "--min", "3"],
+        &["--min", "--tree"],
+        &["--tree", "--max", "--sort", "/r"],
+        &["--tree", "/r", "/r"],
+        &["--tree", "", "/r"],
+        &["--tree", "/r", "--sort", "/r"],
+        &["--tree", "--sorted", "/r"],
+        &["--tree", "--follow", "/r"],
+        &["--tree", "--batch", "2", "/r"],
+        &["--tree", "--usage", "/r"],
     ];
-    for option in options {
+    for words in rows {
         check(
             &rt,
-            &run_on(rt.alloc(), &["--tree", option, "/r"], "d /r".as_bytes())?,
-            BAD_WORDS,
-        );
-        check(
-            &rt,
-            &run_on(rt.alloc(), &[option, "/r", "/r"], "d /r".as_bytes())?,
+            &run_on(rt.alloc(), words, "d /r".as_bytes())?,
             BAD_WORDS,
         );
     }
-    check(
-        &rt,
-        &run_on(rt.alloc(), &["--sort", "--sort", "/r"], "".as_bytes())?,
-        BAD_WORDS,
-    );
-    check(
-        &rt,
-        &run_on(
-            rt.alloc(),
-            &["--tree", "--min", "1", "/r"],
-            "d /r".as_bytes(),
-        )?,
-        BAD_WORDS,
-    );
+    Ok(())
+}
+
+#[test]
+fn numbers_have_up_to_20_digits_and_fit(rt: HostRuntime) -> Result<(), Fail> {
+    let bad = [
+        "",
+        "+1",
+        "-1",
+        " 1",
+        "1.0",
+        "1x",
+        "000000000000000000001",
+        "18446744073709551616",
+        "99999999999999999999",
+    ];
+    for number in bad {
+        for option in ["--min", "--max"] {
+            let words = with_number(option, number);
+            check(
+                &rt,
+                &run_on(rt.alloc(), &words, TREE_A.as_bytes())?,
+                BAD_WORDS,
+            );
+        }
+    }
+    let good = [
+        ("--max", "0", "0 d /t\n"),
+        ("--max", "00000000000000000000", "0 d /t\n"),
+        (
+            "--min",
+            "00000000000000000002",
+            "2 f /t/group 2/e.txt\n2 f /t/group 1/d.txt\n",
+        ),
+        ("--min", "18446744073709551615", ""),
+    ];
+    for (option, number, out) in good {
+        let words = with_number(option, number);
+        check(
+            &rt,
+            &run_on(rt.alloc(), &words, TREE_A.as_bytes())?,
+            (out, "", 0),
+        );
+    }
+    Ok(())
+}
+
+#[test]
+fn options_come_in_any_order_and_the_root_last(rt: HostRuntime) -> Result<(), Fail> {
+    let rows: [&[&str]; 6] = [
+        &["--tree", "--sort", "--max", "1", "--min", "1", "/r"],
+        &["--sort", "--tree", "--min", "1", "--max", "1", "/r"],
+        &["--min", "1", "--max", "1", "--sort", "--tree", "/r"],
+        &["--max", "1", "--tree", "--min", "1", "--sort", "/r"],
+        &["--min", "01", "--tree", "--sort", "/r"],
+        &["--sort", "--min", "1", "--tree", "--hidden", "/r"],
+    ];
+    for words in rows {
+        let ran = run_on(rt.alloc(), words, "d /r\nf 1 /r/b\nf 1 /r/a\n".as_bytes())?;
+        check(&rt, &ran, ("1 f /r/a\n1 f /r/b\n", "", 0));
+    }
+    let roots: [(&str, &str); 3] = [
+        ("--tree", "! 0 --tree NotFound\n"),
+        ("--min", "! 0 --min NotFound\n"),
+        ("3", "! 0 3 NotFound\n"),
+    ];
+    for (root, out) in roots {
+        check(
+            &rt,
+            &run_on(rt.alloc(), &["--tree", root], "".as_bytes())?,
+            (out, "", 1),
+        );
+        check(
+            &rt,
+            &run_on(rt.alloc(), &["--sort", "--tree", root], "".as_bytes())?,
+            (out, "", 1),
+        );
+    }
+    Ok(())
+}
+
+#[test]
+fn entries_come_by_name_where_that_is_asked(rt: HostRuntime) -> Result<(), Fail> {
+    let sorted =
+        "0 d /t\n1 f /t/a.txt\n1 f /t/b.txt\n1 f /t/c.txt\n1 d /t/group 1\n2 f /t/group 1/d.txt\n1 d /t/group 2\n2 f /t/group 2/e.txt\n";
+    let hidden =
+        "0 d /t\n1 f /t/a.txt\n1 f /t/b.txt\n1 f /t/c.txt\n1 d /t/group 1\n2 f /t/group 1/d.txt\n1 d /t/group 2\n2 f /t/group 2/.hidden_file.txt\n2 f /t/group 2/e.txt\n";
+    let rows: [(&[&str], &str); 3] = [
+        (&["--tree", "--sort", "/t"], sorted),
+        (&["--tree", "--sort", "--hidden", "/t"], hidden),
+        (&["--tree", "--sort", "--max", "0", "/t"], "0 d /t\n"),
+    ];
+    for (words, out) in rows {
+        check(
+            &rt,
+            &run_on(rt.alloc(), words, TREE_A.as_bytes())?,
+            (out, "", 0),
+        );
+    }
+    Ok(())
+}
+
+#[test]
+fn a_denied_directory_is_answered_with_its_error(rt: HostRuntime) -> Result<(), Fail> {
+    let mut denied = String::from_str(rt.alloc(), TREE_A)?;
+    denied.push_str("x /t/group 2\n")?;
+    let all =
+        "0 d /t\n1 f /t/a.txt\n1 f /t/b.txt\n1 f /t/c.txt\n1 d /t/group 1\n2 f /t/group 1/d.txt\n1 d /t/group 2 ! PermissionDenied\n";
+    let unread =
+        "0 d /t\n1 f /t/a.txt\n1 f /t/b.txt\n1 f /t/c.txt\n1 d /t/group 1\n1 d /t/group 2\n";
+    let rows: [(&[&str], &str); 3] = [
+        (&["--tree", "--sort", "/t"], all),
+        (&["--tree", "--sort", "--max", "1", "/t"], unread),
+        (
+            &["--tree", "--sort", "--min", "2", "/t"],
+            "2 f /t/group 1/d.txt\n",
+        ),
+    ];
+    for (words, out) in rows {
+        check(
+            &rt,
+            &run_on(rt.alloc(), words, denied.as_bytes())?,
+            (out, "", 0),
+        );
+    }
+    let rows = [
+        (
+            "/r",
+            "d /r\nx /r\nf 1 /r/a\nx /r\n",
+            "0 d /r ! PermissionDenied\n",
+        ),
+        ("/r/a", "d /r\nx /r\nf 1 /r/a\n", "0 f /r/a\n"),
+        (
+            "/",
+            "d /r\nd /x y\nx /x y",
+            "0 d /\n1 d /r\n1 d /x y ! PermissionDenied\n",
+        ),
+    ];
+    for (root, input, out) in rows {
+        check(
+            &rt,
+            &run_on(rt.alloc(), &["--tree", root], input.as_bytes())?,
+            (out, "", 0),
+        );
+    }
+    Ok(())
+}
+
+#[test]
+fn the_least_depth_is_set_before_the_greatest(rt: HostRuntime) -> Result<(), Fail> {
+    let rows: [&[&str]; 2] = [
+        &["--tree", "--sort", "--min", "5", "--max", "2", "/t"],
+        &["--tree", "--sort", "--max", "2", "--min", "5", "/t"],
+    ];
+    for words in rows {
+        check(
+            &rt,
+            &run_on(rt.alloc(), words, TREE_A.as_bytes())?,
+            ("", "", 0),
+        );
+    }
     Ok(())
 }
 
 #[test]
 fn the_first_bad_line_is_named(rt: HostRuntime) -> Result<(), Fail> {
-    let first: [&[u8]; 21] = [
+    let first: [&[u8]; 25] = [
         b"d",
         b"d ",
         b"f",
@@ -155,6 +318,10 @@ fn the_first_bad_line_is_named(rt: HostRuntime) -> Result<(), Fail> {
         b"f 000000000000000000001 /r",
         b"l /r\t/s",
         b"x /r",
+        b"x",
+        b"x ",
+        b"x/r",
+        b"x /",
         b"D /r",
         b" d /r",
         b"d/r",
@@ -174,6 +341,9 @@ fn the_first_bad_line_is_named(rt: HostRuntime) -> Result<(), Fail> {
         ("d /r\nd /r\n", "walk: bad tree, line 2\n"),
         ("d /r\n\nf 1\n", "walk: bad tree, line 3\n"),
         ("d /r\nf 1 /r/a\nf 1 /r/a/b", "walk: bad tree, line 3\n"),
+        ("d /r\nf 1 /r/a\nx /r/a", "walk: bad tree, line 3\n"),
+        ("d /r\n\nx /n\nx /r\n", "walk: bad tree, line 3\n"),
+        ("d /r\nx /r\nd /r\nx /n", "walk: bad tree, line 3\n"),
     ];
     for (input, err) in rows {
         check(

@@ -2,16 +2,17 @@
 ghost use Rattle.std.specs.Prelude.{◌≡◌, ◌≢◌, OnOk, IfOk, IfErr, IsErr};
 ghost use Rattle.memory_fs.specs.MemoryFs.{tree_of, IsBuilt};
 ghost use Rattle.walk.specs.TextLines.{text_lines};
-ghost use Rattle.walk.specs.Built.{added, Adds, Builds, CannotAdd};
+ghost use Rattle.walk.specs.Built.{added, Adds, Builds, CannotAdd, TellsOf};
 
 use crate::failure::Failure;
 use crate::lines::NumberedLines;
 use crate::tree_line::{TreeLine, parse_tree_line};
 use jwalk::file_system::{BuildError, MemoryFs};
 use std::alloc::Allocator;
+use std::io::ErrorKind;
 use std::str;
 
-/// Adds to a tree what a line says.
+/// Does to a tree what a line says.
 fn add<A: Allocator + Copy>(fs: &mut MemoryFs<A>, line: TreeLine<'_>) -> Result<(), BuildError>
     ensures ok { OnOk result (IsBuilt (added line.entry (tree_of fs.old)) (tree_of fs.new)) }
     ensures err { IfErr result (λ e. e ≢ BuildError.Memory → IsErr (added line.entry (tree_of fs.old))) }
@@ -19,10 +20,11 @@ fn add<A: Allocator + Copy>(fs: &mut MemoryFs<A>, line: TreeLine<'_>) -> Result<
     match line {
         TreeLine::Dir(path) => fs.add_dir(path),
         TreeLine::File(len, path) => fs.add_file(path, len),
+        TreeLine::Deny(path) => fs.deny(path, ErrorKind::PermissionDenied),
     }
 }
 
-/// Adds to a tree what the line of this number says. An empty line adds nothing.
+/// Does to a tree what the line of this number says. An empty line does nothing.
 fn add_line<A: Allocator + Copy>(
     fs: &mut MemoryFs<A>,
     number: usize,
@@ -48,9 +50,10 @@ fn add_line<A: Allocator + Copy>(
 }
 
 /// Builds the tree that the lines say, one after another. The last may end without a line feed. The first bad line is
-/// named.
+/// named by its number, counted from 1; empty lines count.
 pub fn build_tree<A: Allocator + Copy>(alloc: A, lines: &[u8]) -> Result<MemoryFs<A>, Failure>
     ensures built { IfOk result (λ fs. Builds (text_lines lines.now) (tree_of fs)) }
+    ensures bad { IfErr result (TellsOf (text_lines lines.now)) }
 {
     let mut fs = MemoryFs::new(alloc);
     for (number, line) in NumberedLines::new(lines) {

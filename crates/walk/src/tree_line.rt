@@ -10,6 +10,8 @@ pub enum TreeLine<'a> {
     Dir(&'a str),
     /// A file of a length in bytes at a path.
     File(u64, &'a str),
+    /// The directory at a path can't be read: permission is denied.
+    Deny(&'a str),
 }
 
 /// What follows a beginning.
@@ -36,14 +38,17 @@ fn parse_file(text: &str) -> Option<TreeLine<'_>>
     Some(TreeLine::File(len, path_in(path)?))
 }
 
-/// Reads a line: `d PATH` or `f LEN PATH`, with one space behind the letter and behind the length, and a path that
-/// is the whole rest and isn't empty. None for any other text.
+/// Reads a line: `d PATH`, `f LEN PATH` or `x PATH`, with one space behind the letter and behind the length, and a path
+/// that is the whole rest and isn't empty. None for any other text.
 pub fn parse_tree_line(text: &str) -> Option<TreeLine<'_>>
     ensures some { IfSome result (Says text.now) }
     ensures none { IfNone result (¬ (IsTreeLine text.now)) }
 {
-    match rest_after(text, "d ") {
-        Some(path) => Some(TreeLine::Dir(path_in(path)?)),
-        None => parse_file(rest_after(text, "f ")?),
+    if let Some(path) = rest_after(text, "d ") {
+        return Some(TreeLine::Dir(path_in(path)?));
     }
+    if let Some(path) = rest_after(text, "x ") {
+        return Some(TreeLine::Deny(path_in(path)?));
+    }
+    parse_file(rest_after(text, "f ")?)
 }

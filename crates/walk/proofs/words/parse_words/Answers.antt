@@ -1,11 +1,34 @@
-use Rattle.std.proofs.Common.{◌≡◌, codes, length, string_bytes, arith, sym, ◌∙◌}
-use Rattle.std.specs.Cmp.Lexicographic.{same_text}
-use Rattle.walk.proofs.Lists.{map-two}
+use Rattle.std.proofs.Common.{◌≡◌, [], ◌∷◌, ◌++◌, map, string_bytes, ap, sym, ◌∙◌}
+use Rattle.std.proofs.lemmas.List.{map-append}
+use Rattle.walk.proofs.Texts.{on_none}
+use Rattle.walk.proofs.WordFacts.{bad_options, no_tree, asks, asks_one}
 use Rattle.walk.proofs.words.parse_words.Goals as goal
 
-pub returns-in-len2-clause-some : goal.returns-in-len2-clause-some
-returns-in-len2-clause-some g c =
-    let len : length c.args.words.now ≡ 2 = omega arith in
-    let option : c.as_str.result.now ≡ codes "--tree" = same_text c.as_str.result.now (codes "--tree") (sym c.if-eq.true ∙ c.eq.ensures) in
-    map-two string_bytes c.args.words.now c.option-item.result c.root-item.result (codes "--tree") c.as_str-in-len2.result.now len c.option-item.is c.root-item.is
-    (sym c.as_str.ensures.value ∙ option) (sym c.as_str-in-len2.ensures.value)
+pub returns-in_err-asked-clause-none : goal.returns-in_err-asked-clause-none
+returns-in_err-asked-clause-none g c =
+    let options = c.in_ok-root.options.now in
+    let last = c.in_ok-root.root.now in
+    let is = ap (map string_bytes) c.in_ok-root.ensures.cases.0 ∙ map-append string_bytes options (last ∷ []) in
+    on_none _ (bad_options (map string_bytes c.args.words.now) (map string_bytes options) (string_bytes last) is c.in_err-asked.ensures.none)
+
+pub returns-then-not-asked-clause-none : goal.returns-then-not-asked-clause-none
+returns-then-not-asked-clause-none g c =
+    let options = c.in_ok-root.options.now in
+    let last = c.in_ok-root.root.now in
+    let is = ap (map string_bytes) c.in_ok-root.ensures.cases.0 ∙ map-append string_bytes options (last ∷ []) in
+    no_tree (map string_bytes c.args.words.now) (map string_bytes options) (string_bytes last) is c.in_ok-asked.asked c.in_ok-asked.ensures.only c.if-not-asked.true
+
+pub returns-clause-some : goal.returns-clause-some
+returns-clause-some g c =
+    let options = c.in_ok-root.options.now in
+    let last = c.in_ok-root.root.now in
+    let is = ap (map string_bytes) c.in_ok-root.ensures.cases.0 ∙ (map-append string_bytes options (last ∷ []) ∙ ap (λ l. map string_bytes options ++ l ∷ []) (sym c.as_str.ensures.value)) in
+    asks (map string_bytes c.args.words.now) (map string_bytes options) c.as_str.result.now is c.in_ok-asked.asked c.in_ok-asked.ensures.some c.if-not-asked.false
+
+pub returns-clause-only : goal.returns-clause-only
+returns-clause-only g c = λ asked root ask.
+    let options = c.in_ok-root.options.now in
+    let last = c.in_ok-root.root.now in
+    let is = ap (map string_bytes) c.in_ok-root.ensures.cases.0 ∙ map-append string_bytes options (last ∷ []) in
+    let one = asks_one (map string_bytes c.args.words.now) (map string_bytes options) (string_bytes last) is c.in_ok-asked.asked c.in_ok-asked.ensures.only asked root ask in
+    (one.0, one.1 ∙ sym c.as_str.ensures.value)
