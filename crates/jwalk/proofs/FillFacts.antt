@@ -22,7 +22,7 @@ nothing_answered : {R E : Type 0} (min_depth : ℕ) (old : List (Pair R E)) (x :
 nothing_answered min_depth old x new none plain = let no = rw none at plain in absurd (let is : Some x ≡ None = no.0 in cc)
 
 module _ {C S P A R E : Type 0} (clones : Type 0) (steady_by : Job C S P A R E → E → Type 0) (reading_by : Job C S P A R E → E → Spec R → Outcome R E) where
-  abbrev Steps : DirEntryIter C S P A R E → Option (Result (DirEntry C A R E) (Error A)) → DirEntryIter C S P A R E → Type 0
+  abbrev pub Steps : DirEntryIter C S P A R E → Option (Result (DirEntry C A R E) (Error A)) → DirEntryIter C S P A R E → Type 0
   Steps s r t = Answers clones (steady_by (job_of s)) (reading_by (job_of s)) s r t
 
   -- calls change neither job nor least depth

@@ -3,3 +3,4 @@ pub mod BeginFacts
 pub mod FillFacts
 pub mod GivesFacts
 pub mod ListFacts
+pub mod WholeFacts
