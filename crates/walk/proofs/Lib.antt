@@ -4,3 +4,4 @@ pub mod TextLineFacts
 pub mod LineFacts
 pub mod BuiltFacts
 pub mod WordFacts
+pub mod RunFacts

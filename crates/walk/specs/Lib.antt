@@ -8,3 +8,4 @@ pub mod TextLines
 pub mod NumberedLines
 pub mod Answers
 pub mod Built
+pub mod Run

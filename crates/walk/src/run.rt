@@ -3,6 +3,7 @@ ghost use Rattle.std.specs.Prelude.{◌≡◌, ◌≤◌, Err, map, string_bytes
 ghost use Rattle.jwalk.specs.WalkDir.{file_system_of, root_of, options_of};
 ghost use Rattle.walk.specs.Words.{AreGood};
 ghost use Rattle.walk.specs.Asked.{options_for};
+ghost use Rattle.walk.specs.Run.{PrintsWalk};
 
 use crate::answers::print_answers;
 use crate::asked::Asked;
@@ -49,6 +50,7 @@ fn print_walk<A: Allocator + Copy, R: Read, W: Write, E: Write>(
     ensures status { IfOk result (λ status. status ≤ 1) }
     ensures good { OnOk result (AreGood (map string_bytes words.now)) }
     ensures bad_words { ¬ (AreGood (map string_bytes words.now)) → result ≡ Err Failure.BadWords }
+    ensures printed { IfOk result (λ status. status ≡ 0 → PrintsWalk (map string_bytes words.now) (R.remaining input.old) (W.contents out.old) (W.contents out.new)) }
 {
     let Some(request) = parse_words(words) else {
         return Err(Failure::BadWords);
@@ -71,6 +73,7 @@ pub fn run<A: Allocator + Copy, R: Read, W: Write, E: Write>(
 ) -> u8
     ensures status { result ≤ 2 }
     ensures bad_words { ¬ (AreGood (map string_bytes words.now)) → result ≡ 2 }
+    ensures printed { result ≡ 0 → PrintsWalk (map string_bytes words.now) (R.remaining input.old) (W.contents out.old) (W.contents out.new) }
 {
     match print_walk(alloc, words, input, out, err) {
         Ok(status) => status,

@@ -1,0 +1,19 @@
+-- The walk that the words ask for.
+use Rattle.std.proofs.Common.{◌≡◌, ◌∙◌, ℕ, List, ap}
+use Rattle.walk_model.specs.FileSystem.{Functions}
+use Rattle.walk_model.specs.Entry.{Item}
+use Rattle.walk_model.specs.Options.{Options}
+use Rattle.walk_model.specs.Job.{Job}
+use Rattle.walk_model.specs.Walk.{whole_walk}
+use Rattle.jwalk.specs.WalkDir.{unprocessed}
+
+abbrev pub job_at : Functions → Options → Job (Unit {0}) (Unit {0})
+job_at fs options = record { fs = fs; options = options; processed = unprocessed; default = tt }
+
+-- a whole walk, where file system, options and root are the same
+pub same_walk : (items : List (Item (Unit {0}) (Unit {0}))) (fs fs' : Functions) (options options' : Options) (root root' : List ℕ) → fs ≡ fs' → options ≡ options' → root ≡ root' → items ≡ whole_walk (job_at fs options) root tt → items ≡ whole_walk (job_at fs' options') root' tt
+same_walk items fs fs' options options' root root' p q r is =
+    is
+    ∙ ap (λ x. whole_walk (job_at x options) root tt) p
+    ∙ ap (λ x. whole_walk (job_at fs' x) root tt) q
+    ∙ ap (λ x. whole_walk (job_at fs' options') x tt) r
