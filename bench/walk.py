@@ -1,13 +1,15 @@
 #!/usr/bin/env python3
-"""Times `walk --tree` on trees in memory, beside `cat` of the same input and `find` over the same tree on disk.
+"""Times `walk --tree` on trees in memory, beside `cat` of the same input and `find` over the same tree on disk, and a
+walk by name beside one in the order of creation.
 
     python3 bench/walk.py [FOLDER]
 
 Build the program first: (cd crates/walk && rt run). FOLDER holds the inputs and the trees on disk (a temporary folder
 where none is given). Each time is the best of three warm runs with the output in a file, and the peak memory is that
-of the last one.
+of the last one. The two walks of the sorting take turns, and their times are the best of nine.
 """
 import os
+import random
 import subprocess
 import sys
 import tempfile
@@ -54,6 +56,20 @@ TREES = [
 ]
 
 
+def scrambled(count):
+    """The wide tree, its names in an order that is random and always the same."""
+    entries = list(wide(count))
+    files = entries[1:]
+    random.Random(1).shuffle(files)
+    return entries[:1] + files
+
+
+def write_tree(path, entries):
+    with open(path, "w") as file:
+        for letter, name in entries:
+            file.write(f"d {name}\n" if letter == "d" else f"f 1 {name}\n")
+
+
 def run(words, input_path, output_path):
     """The seconds and the peak memory in KiB of one run."""
     with open(input_path, "rb") as source, open(output_path, "wb") as out:
@@ -69,6 +85,22 @@ def run(words, input_path, output_path):
 def best(words, input_path, output_path):
     runs = [run(words, input_path, output_path) for _ in range(4)][1:]
     return min(seconds for seconds, _ in runs), runs[-1][1]
+
+
+def sorting(folder, output, count=200_000):
+    """A walk by name of a wide tree with its names in random order, beside a walk of the same tree as it is."""
+    listed = os.path.join(folder, f"scrambled-{count}.txt")
+    write_tree(listed, scrambled(count))
+    plain, by_name = [], []
+    for _ in range(10):
+        plain.append(run([PROGRAM, "--tree", "/r"], listed, output)[0])
+        by_name.append(run([PROGRAM, "--tree", "--sort", "/r"], listed, output)[0])
+    with open(output) as file:
+        lines = file.read().splitlines()
+    if lines != ["0 d /r"] + [f"1 f {path}" for _, path in list(wide(count))[1:]]:
+        sys.exit("the sorted walk isn't sorted")
+    plain, by_name = min(plain[1:]), min(by_name[1:])
+    print(f"scrambled {count}: {plain * 1e3:.1f} ms, with --sort {by_name * 1e3:.1f} ms, {by_name / plain:.2f} times")
 
 
 def on_disk(folder, entries):
@@ -87,9 +119,7 @@ def main():
     before = {}
     for name, count, entries, root in TREES:
         listed = os.path.join(folder, f"{name}-{count}.txt")
-        with open(listed, "w") as file:
-            for letter, path in entries(count):
-                file.write(f"d {path}\n" if letter == "d" else f"f 1 {path}\n")
+        write_tree(listed, entries(count))
         disk = os.path.join(folder, f"{name}-{count}")
         if not os.path.isdir(disk):
             os.mkdir(disk)
@@ -106,6 +136,7 @@ def main():
             smaller, faster = before[name]
             print(f"    {count // smaller} times the lines take {seconds / faster:.1f} times the time")
         before[name] = (count, seconds)
+    sorting(folder, output)
     if len(sys.argv) < 2:
         subprocess.run(["rm", "-rf", folder], check=True)
 

@@ -1,7 +1,7 @@
 //! Answers as lines.
-ghost use Rattle.std.specs.Prelude.{◌≡◌, ◌++◌, codes, decimal, IfOk, OnOk, option_map, false};
+ghost use Rattle.std.specs.Prelude.{◌≡◌, codes, decimal, IfOk, OnOk, option_map, false};
 ghost use Rattle.std.specs.Io.KnownBytes.{Appends};
-ghost use Rattle.walk_model.specs.Paths.{join, with_slash, starts_with_slash};
+ghost use Rattle.walk_model.specs.Paths.{join};
 ghost use Rattle.walk_model.specs.Entry.{path_of};
 ghost use Rattle.jwalk_read.specs.Entry.{children, entry, item};
 ghost use Rattle.jwalk_read.specs.Error.{failure};
@@ -10,6 +10,7 @@ ghost use Rattle.walk.specs.Lines.{kind_name, letter_of, failure_name, reading_p
 use itoa::Buffer;
 use jwalk::error::{Error, Result};
 use jwalk::file_system::FileType;
+use jwalk::path_text::join_parts;
 use jwalk::{ClientState, DirEntry, ReadChildren};
 use std::alloc::Allocator;
 use std::io;
@@ -43,25 +44,6 @@ fn letter(file_type: FileType) -> &'static str
     }
 }
 
-/// Whether a name stands for itself below any path.
-fn is_absolute(name: &str) -> bool
-    ensures { result ≡ starts_with_slash name.now }
-{
-    matches!(name.as_bytes(), [b'/', ..])
-}
-
-/// What stands between a path and a name below it.
-#[tactic(auto, using(walk_model::proofs::PathJoins::with_slash_kept, walk_model::proofs::PathJoins::with_slash_added))]
-fn separator(path: &str) -> &'static str
-    ensures { path.now ++ result.now ≡ with_slash path.now }
-{
-    match path.as_bytes() {
-        [] => "",
-        [.., b'/'] => "",
-        _ => "/",
-    }
-}
-
 /// Writes a number in decimal digits.
 fn write_number<W: Write>(out: &mut W, n: usize) -> io::Result<()>
     ensures { OnOk result (Appends (W.contents out.old) (W.contents out.new) (decimal n)) }
@@ -73,10 +55,9 @@ fn write_number<W: Write>(out: &mut W, n: usize) -> io::Result<()>
 fn write_path<W: Write>(out: &mut W, parent: &str, name: &str) -> io::Result<()>
     ensures { OnOk result (Appends (W.contents out.old) (W.contents out.new) (join parent.now name.now)) }
 {
-    if !is_absolute(name) {
-        out.write_all(parent.as_bytes())?;
-        out.write_all(separator(parent).as_bytes())?;
-    }
+    let (front, slash, name) = join_parts(parent, name);
+    out.write_all(front.as_bytes())?;
+    out.write_all(slash.as_bytes())?;
     out.write_all(name.as_bytes())
 }
 

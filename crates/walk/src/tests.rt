@@ -407,8 +407,8 @@ fn an_output_that_cannot_be_written_ends_the_walk(rt: HostRuntime) -> Result<(),
     Ok(())
 }
 
-/// A file system that lists a link, a socket, a directory that can't be read and an item that has no name; below
-/// `/wide` memory is refused.
+/// A file system of directories. `/odd` lists a link, a socket, a directory that can't be read and an item that has no
+/// name; `/d` lists a hidden name without a type, an item that has no name, and two files; at `/wide` memory is refused.
 #[derive(Drop)]
 struct Odd;
 
@@ -430,6 +430,26 @@ fn pushed<T: Drop, A: Allocator>(items: &mut Vec<T, A>, item: T) -> Result<(), F
     items.push(item).map_err(|_| Fault::Memory)
 }
 
+fn odd_items<A: Allocator + Copy>(alloc: A) -> Result<Vec<io::Result<Listed<A>>, A>, Fault> {
+    let mut items = Vec::new(alloc);
+    pushed(&mut items, Ok(listed(alloc, "link", FileType::Symlink)?))?;
+    pushed(&mut items, Ok(listed(alloc, "socket", FileType::Other)?))?;
+    pushed(&mut items, Ok(listed(alloc, "denied", FileType::Dir)?))?;
+    pushed(&mut items, Err(io::Error::from(ErrorKind::TimedOut)))?;
+    Ok(items)
+}
+
+fn faulty_items<A: Allocator + Copy>(alloc: A) -> Result<Vec<io::Result<Listed<A>>, A>, Fault> {
+    let mut hidden = listed(alloc, ".x", FileType::File)?;
+    hidden.file_type = Err(io::Error::from(ErrorKind::PermissionDenied));
+    let mut items = Vec::new(alloc);
+    pushed(&mut items, Ok(hidden))?;
+    pushed(&mut items, Err(io::Error::from(ErrorKind::InvalidData)))?;
+    pushed(&mut items, Ok(listed(alloc, "b", FileType::File)?))?;
+    pushed(&mut items, Ok(listed(alloc, "a", FileType::File)?))?;
+    Ok(items)
+}
+
 impl FileSystem for Odd {
     ghost use Rattle.std.specs.Prelude.{Err};
     ghost use Rattle.std.specs.declared.io.ErrorKind.TheVariants.{Other};
@@ -444,16 +464,11 @@ impl FileSystem for Odd {
         path: &str,
     ) -> Result<Vec<io::Result<Listed<A>>, A>, Fault> {
         match path {
-            "/odd" => {}
-            "/wide" => return Err(Fault::Memory),
-            _ => return Err(Fault::Io(io::Error::from(ErrorKind::PermissionDenied))),
+            "/odd" => odd_items(alloc),
+            "/d" => faulty_items(alloc),
+            "/wide" => Err(Fault::Memory),
+            _ => Err(Fault::Io(io::Error::from(ErrorKind::PermissionDenied))),
         }
-        let mut items = Vec::new(alloc);
-        pushed(&mut items, Ok(listed(alloc, "link", FileType::Symlink)?))?;
-        pushed(&mut items, Ok(listed(alloc, "socket", FileType::Other)?))?;
-        pushed(&mut items, Ok(listed(alloc, "denied", FileType::Dir)?))?;
-        pushed(&mut items, Err(io::Error::from(ErrorKind::TimedOut)))?;
-        Ok(items)
     }
 
     fn metadata(&self, _path: &str) -> Result<Metadata, Fault> {
@@ -469,29 +484,51 @@ impl FileSystem for Odd {
     }
 }
 
-fn printed(alloc: Global, root: &str) -> Result<Ran, AllocError> {
-    let root = String::from_str(alloc, root)?;
-    let walk = WalkDirGeneric::<((), ()), Odd, NoProcess, Global>::new(Odd, root).into_iter();
+type OddWalk = WalkDirGeneric<((), ()), Odd, NoProcess, Global>;
+
+fn odd_walk(alloc: Global, root: &str) -> Result<OddWalk, AllocError> {
+    Ok(WalkDirGeneric::new(Odd, String::from_str(alloc, root)?))
+}
+
+fn printed(alloc: Global, walk: OddWalk) -> Ran {
     let mut out = Vec::new(alloc);
     let mut err = Vec::new(alloc);
-    let status = print_answers(alloc, walk, &mut out, &mut err);
-    Ok(Ran { out, err, status })
+    let status = print_answers(alloc, walk.into_iter(), &mut out, &mut err);
+    Ran { out, err, status }
 }
 
 #[test]
 fn each_sort_of_answer_has_its_line(rt: HostRuntime) -> Result<(), Fail> {
     let odd =
         "0 d /odd\n1 L /odd/link\n1 o /odd/socket\n1 d /odd/denied ! PermissionDenied\n! 1 - Other\n";
-    check(&rt, &printed(rt.alloc(), "/odd")?, (odd, "", 1));
     check(
         &rt,
-        &printed(rt.alloc(), "/denied")?,
+        &printed(rt.alloc(), odd_walk(rt.alloc(), "/odd")?),
+        (odd, "", 1),
+    );
+    check(
+        &rt,
+        &printed(rt.alloc(), odd_walk(rt.alloc(), "/denied")?),
         ("0 d /denied ! PermissionDenied\n", "", 0),
     );
     check(
         &rt,
-        &printed(rt.alloc(), "/wide")?,
+        &printed(rt.alloc(), odd_walk(rt.alloc(), "/wide")?),
         ("! 0 - memory\n", "", 1),
     );
+    Ok(())
+}
+
+#[test]
+fn errors_come_last_and_whatever_their_depth(rt: HostRuntime) -> Result<(), Fail> {
+    let all = "0 d /d\n1 f /d/a\n1 f /d/b\n! 1 /d/.x PermissionDenied\n! 1 - InvalidData\n";
+    let walk = odd_walk(rt.alloc(), "/d")?.sort(true);
+    check(&rt, &printed(rt.alloc(), walk), (all, "", 1));
+    let errors = "! 1 /d/.x PermissionDenied\n! 1 - InvalidData\n";
+    let walk = odd_walk(rt.alloc(), "/d")?
+        .sort(true)
+        .min_depth(5)
+        .max_depth(5);
+    check(&rt, &printed(rt.alloc(), walk), (errors, "", 1));
     Ok(())
 }

@@ -11,7 +11,7 @@ fn is_absolute(path: &str) -> bool
     matches!(path.as_bytes(), [b'/', ..])
 }
 
-// What stands between a path and a name below it.
+/// What stands between a path and a name below it.
 #[tactic(auto, using(walk_model::proofs::PathJoins::with_slash_kept, walk_model::proofs::PathJoins::with_slash_added))]
 fn separator(path: &str) -> &'static str
     ensures text { path.now ++ result.now ≡ with_slash path.now }
@@ -21,6 +21,22 @@ fn separator(path: &str) -> &'static str
         [] => "",
         [.., b'/'] => "",
         _ => "/",
+    }
+}
+
+/// What `join` puts together: `a`, what stands between, and `b`. The first two are empty where `b` starts with `/`, and
+/// the one between is a slash or empty.
+///
+/// With these a joined path is written without memory. Of `a` and `b` they are `a`, `/` and `b`; of `a/` and `b` they
+/// are `a/`, an empty text and `b`; of `a` and `/b`, two empty texts and `/b`.
+pub fn join_parts<'p>(a: &'p str, b: &'p str) -> (&'p str, &'static str, &'p str)
+    ensures text { result.0.now ++ (result.1.now ++ result.2.now) ≡ join a.now b.now }
+    ensures short { length result.1.now ≤ 1 }
+{
+    if is_absolute(b) {
+        ("", "", b)
+    } else {
+        (a, separator(a), b)
     }
 }
 
@@ -34,14 +50,11 @@ fn separator(path: &str) -> &'static str
 pub fn join<A: Allocator + Copy>(alloc: A, a: &str, b: &str) -> Result<String<A>, AllocError>
     ensures { IfOk result (λ path. string_bytes path ≡ join a.now b.now) }
 {
-    if is_absolute(b) {
-        return String::from_str(alloc, b);
-    }
-    let slash = separator(a);
-    let mut path = String::with_capacity(alloc, a.len() + b.len() + slash.len())?;
-    path.push_str(a)?;
+    let (front, slash, name) = join_parts(a, b);
+    let mut path = String::with_capacity(alloc, front.len() + slash.len() + name.len())?;
+    path.push_str(front)?;
     path.push_str(slash)?;
-    path.push_str(b)?;
+    path.push_str(name)?;
     Ok(path)
 }
 
@@ -97,6 +110,24 @@ mod tests {
         for (text, name, above) in rows {
             assert_eq!(rt; file_name(text), name, "at {text}");
             assert_eq!(rt; parent(text), above, "at {text}");
+        }
+    }
+
+    #[test]
+    fn parts_of_joined_texts(rt: HostRuntime) {
+        let rows = [
+            ("a", "b", ("a", "/", "b")),
+            ("a/", "b", ("a/", "", "b")),
+            ("", "b", ("", "", "b")),
+            ("/", "b", ("/", "", "b")),
+            ("a", "/b", ("", "", "/b")),
+            ("a", "", ("a", "/", "")),
+        ];
+        for (a, b, parts) in rows {
+            let (front, slash, name) = join_parts(a, b);
+            assert_eq!(rt; front, parts.0, "at {a} and {b}");
+            assert_eq!(rt; slash, parts.1, "at {a} and {b}");
+            assert_eq!(rt; name, parts.2, "at {a} and {b}");
         }
     }
 

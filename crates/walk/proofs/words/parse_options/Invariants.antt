@@ -1,5 +1,4 @@
 use Rattle.std.proofs.Common.{map, string_bytes, length}
-use Rattle.walk.specs.declared.asked.Asked.{Asked}
 use Rattle.walk.proofs.WordFacts.{AsksAlike}
 use Rattle.walk.specs.Asked.{nothing}
 use Rattle.walk.proofs.words.parse_options.Given as goal
