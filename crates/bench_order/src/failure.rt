@@ -1,0 +1,53 @@
+//! What stands in the way of a run.
+use std::alloc::{AllocError, AllocFailed};
+use std::fmt;
+use std::io;
+
+/// Why there is no digest.
+#[derive(Clone, Copy, Debug, PartialEq, Eq)]
+pub enum Failure {
+    /// The words ask for nothing.
+    BadWords,
+    /// Memory was refused, or a step of the board was.
+    Refused,
+    /// Standard output can't be written.
+    Output,
+}
+
+impl Failure {
+    /// The status that the program ends with.
+    pub fn status(self) -> u8 {
+        match self {
+            Failure::BadWords => 2,
+            Failure::Refused | Failure::Output => 1,
+        }
+    }
+}
+
+impl fmt::Display for Failure {
+    fn fmt<W: fmt::Write>(&self, f: &mut fmt::Formatter<W>) -> fmt::Result {
+        f.write_str(match self {
+            Failure::BadWords => "bad words",
+            Failure::Refused => "refused",
+            Failure::Output => "output can't be written",
+        })
+    }
+}
+
+impl From<AllocError> for Failure {
+    fn from(_refused: AllocError) -> Failure {
+        Failure::Refused
+    }
+}
+
+impl<T: Drop> From<AllocFailed<T>> for Failure {
+    fn from(_refused: AllocFailed<T>) -> Failure {
+        Failure::Refused
+    }
+}
+
+impl From<io::Error> for Failure {
+    fn from(_err: io::Error) -> Failure {
+        Failure::Output
+    }
+}
