@@ -1,14 +1,13 @@
-//! What stands in the way of a run.
+//! What stands in the way of a job.
 use std::alloc::{AllocError, AllocFailed};
-use std::fmt;
-use std::io;
+use std::{fmt, io};
 
-/// Why there is no digest.
+/// Why a job has no line.
 #[derive(Clone, Copy, Debug, PartialEq, Eq)]
 pub enum Failure {
-    /// The words ask for nothing.
+    /// The words are no job.
     BadWords,
-    /// Memory was refused, or a step of the board was.
+    /// Memory was refused, or a step gave nothing.
     Refused,
     /// Standard output can't be written.
     Output,

@@ -16,7 +16,7 @@ pub fn run_heap(alloc: Global, addresses: Vec<Vec<usize>>) -> Result<Digest, Fai
     let mut digest = Digest::new();
     for _address in 0..count {
         let Some(Reverse(indices)) = heap.pop() else {
-            break;
+            return Err(Failure::Refused);
         };
         digest.add(indices.as_slice());
     }
@@ -40,7 +40,7 @@ pub fn run_tree_heap(alloc: Global, tree: &Tree) -> Result<Digest, Failure> {
     let mut digest = Digest::new();
     for count in tree.child_counts.iter() {
         let Some(Reverse(indices)) = heap.pop() else {
-            break;
+            return Err(Failure::Refused);
         };
         digest.add(indices.as_slice());
         for i in 0..*count {

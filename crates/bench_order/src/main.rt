@@ -1,5 +1,6 @@
-//! Work to be timed, beside the same work on the standard library's heap alone: `bench_order PART SHAPE COUNT ..`. It
-//! prints a line for each three words: the words, and a digest of the addresses in the order in which they came.
+//! The ordered queue and the board at work, and the same work on the standard library's heap alone, to be timed from
+//! outside: `bench_order PART SHAPE COUNT ..`. Each three words are a job, and it prints a line for each: the words, and
+//! a digest of the addresses in the order in which they came.
 #![tactic(auto)]
 
 mod board_run;
@@ -18,44 +19,57 @@ use crate::heap_run::{run_heap, run_tree_heap};
 use crate::queue_run::run_queue;
 use crate::scrambled::scrambled_addresses;
 use crate::tree::Tree;
-use crate::words::{Job, Part, Shape, parse_job};
+use crate::words::{Part, Shape, TreeShape, parse_job};
 use std::alloc::Global;
-use std::process::ExitCode;
 use std::env;
+use std::process::ExitCode;
 
-/// Does what a job asks for.
-fn run_job(alloc: Global, job: &Job) -> Result<Digest, Failure> {
-    if job.shape == Shape::Scrambled {
-        let addresses = scrambled_addresses(alloc, job.count)?;
-        return match job.part {
-            Part::Input => Ok(Digest::new()),
-            Part::Heap => run_heap(alloc, addresses),
-            Part::Jwalk => run_queue(alloc, addresses),
-        };
+/// A job on scrambled addresses.
+fn run_scrambled(alloc: Global, part: Part, count: usize) -> Result<Digest, Failure> {
+    let addresses = scrambled_addresses(alloc, count)?;
+    match part {
+        Part::Input => Ok(Digest::new()),
+        Part::Heap => run_heap(alloc, addresses),
+        Part::Jwalk => run_queue(alloc, addresses),
     }
-    let tree = Tree::new(alloc, job.shape, job.count)?;
-    match job.part {
+}
+
+/// A job on a tree.
+fn run_tree(alloc: Global, part: Part, shape: TreeShape, count: usize) -> Result<Digest, Failure> {
+    let tree = Tree::new(alloc, shape, count)?;
+    match part {
         Part::Input => Ok(Digest::new()),
         Part::Heap => run_tree_heap(alloc, &tree),
         Part::Jwalk => run_board(alloc, &tree),
     }
 }
 
-/// Does the jobs that the words ask for, and prints a line for each.
+/// Does the job that three words ask for.
+fn run_job(alloc: Global, words: &[String]) -> Result<Digest, Failure> {
+    let [part, shape, count] = words else {
+        return Err(Failure::BadWords);
+    };
+    let Some(job) = parse_job(part.as_str(), shape.as_str(), count.as_str()) else {
+        return Err(Failure::BadWords);
+    };
+    match job.shape {
+        Shape::Scrambled => run_scrambled(alloc, job.part, job.count),
+        Shape::Tree(shape) => run_tree(alloc, job.part, shape, job.count),
+    }
+}
+
+/// Does the jobs one after another, and prints a line for each.
 fn run(rt: &HostRuntime) -> Result<(), Failure> {
     let Ok(args) = env::args(rt) else {
         return Err(Failure::BadWords);
     };
     let words: Vec<String> = args.skip(1).collect(rt.alloc())?;
-    for group in words.chunks(3) {
-        let [part, shape, count] = group else {
-            return Err(Failure::BadWords);
-        };
-        let Some(job) = parse_job(part.as_str(), shape.as_str(), count.as_str()) else {
-            return Err(Failure::BadWords);
-        };
-        let digest = run_job(rt.alloc(), &job)?;
-        println!(rt; "{part} {shape} {count} {}", digest.value())?;
+    for job in words.chunks(3) {
+        let digest = run_job(rt.alloc(), job)?;
+        for word in job {
+            print!(rt; "{word} ")?;
+        }
+        println!(rt; "{}", digest.value())?;
     }
     Ok(())
 }

@@ -23,7 +23,7 @@ pub fn run_queue(alloc: Global, addresses: Vec<Vec<usize>>) -> Result<Digest, Fa
     let mut digest = Digest::new();
     for _address in 0..count {
         let Step::Item(item) = queue.iter().step()? else {
-            break;
+            return Err(Failure::Refused);
         };
         digest.add(item.index_path.indices.as_slice());
     }

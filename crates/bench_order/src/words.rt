@@ -1,4 +1,6 @@
 //! The words of a job.
+ghost use Rattle.std.specs.Prelude.{◌≡◌, IfNone, IfSome};
+ghost use Rattle.bench_order.specs.Words.{IsCount, part_name, shape_name};
 
 /// What is done.
 #[derive(Clone, Copy, Debug, PartialEq, Eq)]
@@ -14,17 +16,24 @@ pub enum Part {
 /// What it is done with.
 #[derive(Clone, Copy, Debug, PartialEq, Eq)]
 pub enum Shape {
-    /// Addresses in an order that looks random, all pushed and then all taken: the ordered queue.
+    /// Addresses in an order that looks random, for the queue.
     Scrambled,
-    /// One directory with all others in it: the board, as below.
+    /// The directories of a tree, for the board.
+    Tree(TreeShape),
+}
+
+/// Where the directories of a tree lie.
+#[derive(Clone, Copy, Debug, PartialEq, Eq)]
+pub enum TreeShape {
+    /// One directory with all others in it.
     Wide,
-    /// Directories with up to ten others each.
+    /// Ten directories in each, as long as there are as many.
     Bushy,
-    /// Directories in one another, in chains of a hundred.
+    /// A hundred in one another, so often as there are as many.
     Chains,
 }
 
-/// A part, a shape, and how many addresses there are.
+/// What is done, with what, and with how many addresses.
 #[derive(Clone, Copy, Debug)]
 pub struct Job {
     pub part: Part,
@@ -32,7 +41,10 @@ pub struct Job {
     pub count: usize,
 }
 
-fn parse_part(word: &str) -> Option<Part> {
+fn parse_part(word: &str) -> Option<Part>
+    ensures some { IfSome result (λ part. word.now ≡ part_name part) }
+    ensures none { IfNone result ((part : Part) → ¬ (word.now ≡ part_name part)) }
+{
     match word {
         "input" => Some(Part::Input),
         "heap" => Some(Part::Heap),
@@ -41,18 +53,25 @@ fn parse_part(word: &str) -> Option<Part> {
     }
 }
 
-fn parse_shape(word: &str) -> Option<Shape> {
+fn parse_shape(word: &str) -> Option<Shape>
+    ensures some { IfSome result (λ shape. word.now ≡ shape_name shape) }
+    ensures none { IfNone result ((shape : Shape) → ¬ (word.now ≡ shape_name shape)) }
+{
     match word {
         "scrambled" => Some(Shape::Scrambled),
-        "wide" => Some(Shape::Wide),
-        "bushy" => Some(Shape::Bushy),
-        "chains" => Some(Shape::Chains),
+        "wide" => Some(Shape::Tree(TreeShape::Wide)),
+        "bushy" => Some(Shape::Tree(TreeShape::Bushy)),
+        "chains" => Some(Shape::Tree(TreeShape::Chains)),
         _ => None,
     }
 }
 
-/// The job that three words ask for.
-pub fn parse_job(part: &str, shape: &str, count: &str) -> Option<Job> {
+/// The job that three words ask for: the part, the shape and the count, which has at most 32 bits.
+pub fn parse_job(part: &str, shape: &str, count: &str) -> Option<Job>
+    ensures part { IfSome result (λ job. part.now ≡ part_name job.part) }
+    ensures shape { IfSome result (λ job. shape.now ≡ shape_name job.shape) }
+    ensures count { IfSome result (λ job. IsCount count.now job.count) }
+{
     let part = parse_part(part)?;
     let shape = parse_shape(shape)?;
     let count = count.parse::<u32>().ok()? as usize;

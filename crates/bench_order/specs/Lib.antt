@@ -1,0 +1,2 @@
+pub mod Digest
+pub mod Words
