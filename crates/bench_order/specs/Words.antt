@@ -1,6 +1,7 @@
 -- The words of a job.
-use Rattle.std.specs.Prelude.{ℕ, List, Ok, codes}
+use Rattle.std.specs.Prelude.{◌≡◌, ℕ, List, Ok, codes}
 use Rattle.std.specs.Str.Parse.{ParsesUnsigned}
+use Rattle.bench_order.specs.declared.words.Job.{Job}
 use Rattle.bench_order.specs.declared.words.Part.{Part}
 use Rattle.bench_order.specs.declared.words.Part.TheVariants.{Input, Heap, Jwalk}
 use Rattle.bench_order.specs.declared.words.Shape.{Shape}
@@ -20,6 +21,8 @@ shape_name (Tree Wide) = codes "wide"
 shape_name (Tree Bushy) = codes "bushy"
 shape_name (Tree Chains) = codes "chains"
 
--- The text stands for the number, which has at most 32 bits.
-abbrev pub IsCount : List ℕ → ℕ → Type 0
-IsCount text count = ParsesUnsigned {E = Unit {0}} 32 10 text (Ok count)
+-- These three words ask for the job. The count is a number of at most 32 bits.
+pub record AskFor (part shape count : List ℕ) (job : Job) : Type 0 where
+  pub part_is : part ≡ part_name job.part
+  pub shape_is : shape ≡ shape_name job.shape
+  pub count_is : ParsesUnsigned {E = Unit {0}} 32 10 count (Ok job.count)

@@ -1,4 +1,6 @@
 //! What stands in the way of a job.
+ghost use Rattle.std.specs.Prelude.{◌≡◌};
+
 use std::alloc::{AllocError, AllocFailed};
 use std::{fmt, io};
 
@@ -14,8 +16,12 @@ pub enum Failure {
 }
 
 impl Failure {
+    ghost use Rattle.bench_order.specs.Failure.{status_of};
+
     /// The status that the program ends with.
-    pub fn status(self) -> u8 {
+    pub fn status(self) -> u8
+        ensures { result ≡ status_of self }
+    {
         match self {
             Failure::BadWords => 2,
             Failure::Refused | Failure::Output => 1,
@@ -34,18 +40,30 @@ impl fmt::Display for Failure {
 }
 
 impl From<AllocError> for Failure {
+    ghost use Rattle.bench_order.specs.declared.failure.Failure.TheVariants.{Refused};
+
+    ghost from_gives = { λ _ e. e ≡ Refused };
+
     fn from(_refused: AllocError) -> Failure {
         Failure::Refused
     }
 }
 
 impl<T: Drop> From<AllocFailed<T>> for Failure {
+    ghost use Rattle.bench_order.specs.declared.failure.Failure.TheVariants.{Refused};
+
+    ghost from_gives = { λ _ e. e ≡ Refused };
+
     fn from(_refused: AllocFailed<T>) -> Failure {
         Failure::Refused
     }
 }
 
 impl From<io::Error> for Failure {
+    ghost use Rattle.bench_order.specs.declared.failure.Failure.TheVariants.{Output};
+
+    ghost from_gives = { λ _ e. e ≡ Output };
+
     fn from(_err: io::Error) -> Failure {
         Failure::Output
     }

@@ -1,4 +1,6 @@
 //! The standard library's heap alone.
+ghost use Rattle.std.specs.Prelude.{◌≡◌, ◌++◌, ◌∷◌, [], IfOk};
+
 use crate::digest::Digest;
 use crate::failure::Failure;
 use crate::tree::Tree;
@@ -24,7 +26,9 @@ pub fn run_heap(alloc: Global, addresses: Vec<Vec<usize>>) -> Result<Digest, Fai
 }
 
 /// The address of a child.
-fn child(alloc: Global, parent: &[usize], index: usize) -> Result<Vec<usize>, AllocError> {
+fn child(alloc: Global, parent: &[usize], index: usize) -> Result<Vec<usize>, AllocError>
+    ensures { IfOk result (λ indices. indices.items ≡ parent.now ++ index ∷ []) }
+{
     let mut indices = Vec::with_capacity(alloc, parent.len() + 1)?;
     indices.extend_from_slice(parent)?;
     indices.push(index)?;

@@ -1,6 +1,6 @@
 //! The words of a job.
 ghost use Rattle.std.specs.Prelude.{◌≡◌, IfNone, IfSome};
-ghost use Rattle.bench_order.specs.Words.{IsCount, part_name, shape_name};
+ghost use Rattle.bench_order.specs.Words.{AskFor, part_name, shape_name};
 
 /// What is done.
 #[derive(Clone, Copy, Debug, PartialEq, Eq)]
@@ -68,9 +68,8 @@ fn parse_shape(word: &str) -> Option<Shape>
 
 /// The job that three words ask for: the part, the shape and the count, which has at most 32 bits.
 pub fn parse_job(part: &str, shape: &str, count: &str) -> Option<Job>
-    ensures part { IfSome result (λ job. part.now ≡ part_name job.part) }
-    ensures shape { IfSome result (λ job. shape.now ≡ shape_name job.shape) }
-    ensures count { IfSome result (λ job. IsCount count.now job.count) }
+    ensures some { IfSome result (AskFor part.now shape.now count.now) }
+    ensures none { IfNone result ((job : Job) → ¬ AskFor part.now shape.now count.now job) }
 {
     let part = parse_part(part)?;
     let shape = parse_shape(shape)?;
