@@ -9,3 +9,4 @@ pub mod Preorders
 pub mod Sets
 pub mod Steps
 pub mod Tops
+pub mod UnderWay

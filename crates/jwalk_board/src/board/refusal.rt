@@ -36,6 +36,14 @@ pub enum FinishRefusal {
     Memory,
 }
 
+impl FinishRefusal {
+    pub(super) fn is_memory(self) -> bool
+        ensures { IsTrue result ↔ (self ≡ FinishRefusal.Memory) }
+    {
+        matches!(self, FinishRefusal::Memory)
+    }
+}
+
 /// Why nothing was handed out.
 #[derive(Clone, Copy, Debug, PartialEq, Eq)]
 pub enum HandOutRefusal {

@@ -1,5 +1,5 @@
 //! Moves played on a board.
-ghost use Rattle.std.specs.Prelude.{◌≡◌, map, IfOk, replicate};
+ghost use Rattle.std.specs.Prelude.{◌≡◌, false, map, IfOk, replicate};
 ghost use Rattle.jwalk_board.specs.Placed.{places};
 ghost use Rattle.jwalk_board.specs.Plan.{preorder, specs_in_preorder};
 ghost use Rattle.jwalk_board.specs.Rehearsal.{Answers, IsInOrder};
@@ -31,7 +31,8 @@ pub struct Rehearsal<T, R, A: Allocator + Copy = Global> {
 ///
 /// # Errors
 ///
-/// If memory runs out.
+/// If memory runs out, and for nothing else, whatever the plan answers: what a worker holds is in hand, and nothing stops
+/// the board.
 pub fn rehearse<P: Plan<A>, A: Allocator + Copy>(
     alloc: A,
     plan: &P,
@@ -43,6 +44,7 @@ pub fn rehearse<P: Plan<A>, A: Allocator + Copy>(
         Answers (P.tree plan.now) roots (run_of_moves (places (specs_in_preorder (P.tree plan.now) roots)) workers moves.now) (made_of P.spec_value P.reading_value made)) }
     ensures in_order { P.IsFixed plan.now → IfOk result (λ made.
         IsInOrder (preorder (P.tree plan.now) (map P.spec_value roots.items)) (made_of P.spec_value P.reading_value made)) }
+    ensures running { IfOk result (λ made. made.board.stopped ≡ false) }
 {
     let hands = empty_hands(alloc, workers)?;
     let Ok(board) = Board::new(roots) else {

@@ -4,7 +4,7 @@ ghost use Rattle.jwalk_board.specs.Placed.{places};
 ghost use Rattle.jwalk_board.specs.Plan.{Falls, Tree, specs_in_preorder};
 ghost use Rattle.jwalk_board.specs.Rehearsal.{Follows};
 ghost use Rattle.jwalk_board.specs.Run.{Run, move};
-ghost use Rattle.jwalk_board.specs.Stage.{stage_of};
+ghost use Rattle.jwalk_board.specs.Stage.{stage_of, IsUnderWay};
 
 use super::moves::Move;
 use super::plan::{Plan, Refused};
@@ -23,7 +23,9 @@ fn take<P: Plan<A>, A: Allocator + Copy>(
     stage: &mut Stage<P::Spec, P::Reading, A>,
     worker: usize,
 ) -> Result<(), Refused>
-    ensures { (t : Tree P.SpecValue P.ReadingValue) (roots : List P.SpecValue) (r : Run) → Falls t → Follows t roots r (stage_of P.spec_value P.reading_value stage.old)
+    requires { IsUnderWay stage.old.hands.items stage.old.done.board }
+    ensures kept { OnOk result (IsUnderWay stage.new.hands.items stage.new.done.board) }
+    ensures follows { (t : Tree P.SpecValue P.ReadingValue) (roots : List P.SpecValue) (r : Run) → Falls t → Follows t roots r (stage_of P.spec_value P.reading_value stage.old)
         → OnOk result (Follows t roots (move (places (specs_in_preorder t roots)) r (Move.Take worker)) (stage_of P.spec_value P.reading_value stage.new)) }
 {
     if worker >= stage.hands.len() {
@@ -46,7 +48,9 @@ fn take<P: Plan<A>, A: Allocator + Copy>(
 fn hand_out<P: Plan<A>, A: Allocator + Copy>(
     stage: &mut Stage<P::Spec, P::Reading, A>,
 ) -> Result<(), Refused>
-    ensures { (t : Tree P.SpecValue P.ReadingValue) (roots : List P.SpecValue) (r : Run) → Falls t → Follows t roots r (stage_of P.spec_value P.reading_value stage.old)
+    requires { IsUnderWay stage.old.hands.items stage.old.done.board }
+    ensures kept { OnOk result (IsUnderWay stage.new.hands.items stage.new.done.board) }
+    ensures follows { (t : Tree P.SpecValue P.ReadingValue) (roots : List P.SpecValue) (r : Run) → Falls t → Follows t roots r (stage_of P.spec_value P.reading_value stage.old)
         → OnOk result (Follows t roots (move (places (specs_in_preorder t roots)) r Move.HandOut) (stage_of P.spec_value P.reading_value stage.new)) }
 {
     match stage.done.board.hand_out() {
@@ -62,7 +66,9 @@ fn finish<P: Plan<A>, A: Allocator + Copy>(
     plan: &P,
     worker: usize,
 ) -> Result<(), Refused>
-    ensures { P.IsFixed plan.now → (roots : List P.SpecValue) (r : Run) → Follows (P.tree plan.now) roots r (stage_of P.spec_value P.reading_value stage.old)
+    requires { IsUnderWay stage.old.hands.items stage.old.done.board }
+    ensures kept { OnOk result (IsUnderWay stage.new.hands.items stage.new.done.board) }
+    ensures follows { P.IsFixed plan.now → (roots : List P.SpecValue) (r : Run) → Follows (P.tree plan.now) roots r (stage_of P.spec_value P.reading_value stage.old)
         → OnOk result (Follows (P.tree plan.now) roots (move (places (specs_in_preorder (P.tree plan.now) roots)) r (Move.Finish worker)) (stage_of P.spec_value P.reading_value stage.new)) }
 {
     if worker >= stage.hands.len() {
@@ -74,8 +80,9 @@ fn finish<P: Plan<A>, A: Allocator + Copy>(
     let (reading, children) = plan.read(alloc, &item.value)?;
     match stage.done.board.finish(item.index_path, reading, children) {
         Ok(()) => Ok(()),
-        // What is held is in hand, so only memory is wanting.
-        Err(_) => Err(AllocError),
+        Err(fault) if fault.cause.is_memory() => Err(AllocError),
+        // What a worker holds is in hand, and nothing stops the board.
+        Err(_) => unreachable!(),
     }
 }
 
@@ -85,7 +92,9 @@ pub(super) fn play<P: Plan<A>, A: Allocator + Copy>(
     plan: &P,
     next: Move,
 ) -> Result<(), Refused>
-    ensures { P.IsFixed plan.now → (roots : List P.SpecValue) (r : Run) → Follows (P.tree plan.now) roots r (stage_of P.spec_value P.reading_value stage.old)
+    requires { IsUnderWay stage.old.hands.items stage.old.done.board }
+    ensures kept { OnOk result (IsUnderWay stage.new.hands.items stage.new.done.board) }
+    ensures follows { P.IsFixed plan.now → (roots : List P.SpecValue) (r : Run) → Follows (P.tree plan.now) roots r (stage_of P.spec_value P.reading_value stage.old)
         → OnOk result (Follows (P.tree plan.now) roots (move (places (specs_in_preorder (P.tree plan.now) roots)) r next) (stage_of P.spec_value P.reading_value stage.new)) }
 {
     match next {

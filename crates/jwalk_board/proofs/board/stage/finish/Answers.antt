@@ -1,4 +1,5 @@
 use Rattle.std.proofs.Common.{◌≡◌, ◌<◌, Some, None, length, map, set, refl, ap, sym, ◌∙◌, arith, subst}
+use Rattle.std.proofs.lemmas.Bool.{false≢true}
 use Rattle.std.proofs.lemmas.Option.{slice_get-map}
 use Rattle.std.specs.List.{slice_get}
 use Rattle.std.specs.Option.{option_map}
@@ -6,13 +7,31 @@ use Rattle.jwalk_order.specs.IndexPath.{address}
 use Rattle.jwalk_board.specs.Rehearsal.{Follows}
 use Rattle.jwalk_board.specs.Run.{finish_by}
 use Rattle.jwalk_board.specs.Seen.{seen_item}
-use Rattle.jwalk_board.specs.Stage.{stage_of}
+use Rattle.jwalk_board.specs.Stage.{stage_of, IsUnderWay}
 use Rattle.jwalk_board.proofs.Follow.{free_finish}
 use Rattle.jwalk_board.proofs.Plays.{stage_as, played_finish, get_read, set_same}
+use Rattle.jwalk_board.proofs.UnderWay.{finished, only_memory}
 use Rattle.jwalk_board.proofs.board.stage.finish.Goals as goal
 
-pub returns-in_default : goal.returns-in_default
-returns-in_default g c = λ fixed roots r f.
+pub unreachable-requires : goal.unreachable-requires
+unreachable-requires g c =
+    let hands = c.args.stage.now.hands in
+    let there : c.args.worker < length hands.items = omega (arith, hands.ok.0, c.len.ensures) in
+    let holds = get_read hands.items c.args.worker c.index_mut.result.now there c.index_mut.ensures.value ∙ ap Some (sym c.take.ensures.value ∙ c.in-Some.is) in
+    let wanting = only_memory hands.items c.args.stage.now.done.board c.requires c.args.worker c.in-Some.item holds c.in-Err.fault.cause c.in-Err.ensures.refused in
+    false≢true (sym c.if-is_memory.false ∙ c.is_memory.ensures.1 wanting)
+
+pub returns-in-Ok-clause-kept : goal.returns-in-Ok-clause-kept
+returns-in-Ok-clause-kept g c =
+    let hands = c.args.stage.now.hands in
+    let board = c.args.stage.now.done.board in
+    let there : c.args.worker < length hands.items = omega (arith, hands.ok.0, c.len.ensures) in
+    let holds = get_read hands.items c.args.worker c.index_mut.result.now there c.index_mut.ensures.value ∙ ap Some (sym c.take.ensures.value ∙ c.in-Some.is) in
+    subst (λ z. IsUnderWay (set hands.items c.args.worker z) c.finish.new.self) (sym c.take.ensures.after)
+    (finished hands.items board c.finish.new.self c.requires c.args.worker c.in-Some.item c.in_ok-reading.reading c.in_ok-reading.children.items holds c.in-Ok.ensures.finished)
+
+pub returns-in_default-clause-follows : goal.returns-in_default-clause-follows
+returns-in_default-clause-follows g c = λ fixed roots r f.
     let v = g.P.Plan.spec_value in
     let w = g.P.Plan.reading_value in
     let t = g.P.Plan.tree c.args.plan.now in
@@ -27,8 +46,8 @@ returns-in_default g c = λ fixed roots r f.
     stage_as t roots (finish_by r k (slice_get r.hands k)) _ _ _ _ _ _ _ _ (ap (map (option_map (seen_item v))) same) refl refl refl
     (subst (λ z. Follows t roots z (stage_of v w c.args.stage.now)) (sym (free_finish t falls roots r _ f k e)) f)
 
-pub returns-in-Ok : goal.returns-in-Ok
-returns-in-Ok g c = λ fixed roots r f.
+pub returns-in-Ok-clause-follows : goal.returns-in-Ok-clause-follows
+returns-in-Ok-clause-follows g c = λ fixed roots r f.
     let v = g.P.Plan.spec_value in
     let w = g.P.Plan.reading_value in
     let t = g.P.Plan.tree c.args.plan.now in

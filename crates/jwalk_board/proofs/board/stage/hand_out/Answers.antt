@@ -13,8 +13,8 @@ use Rattle.jwalk_board.specs.Stage.{stage_of}
 use Rattle.jwalk_board.proofs.Plays.{stage_as, hand_out_refused, played_hand_out}
 use Rattle.jwalk_board.proofs.board.stage.hand_out.Goals as goal
 
-pub returns-in_ok-push-in-Ok : goal.returns-in_ok-push-in-Ok
-returns-in_ok-push-in-Ok g c = λ t roots r falls f.
+pub returns-in_ok-push-in-Ok-clause-follows : goal.returns-in_ok-push-in-Ok-clause-follows
+returns-in_ok-push-in-Ok-clause-follows g c = λ t roots r falls f.
     let v = g.P.Plan.spec_value in
     let w = g.P.Plan.reading_value in
     let done = c.args.stage.now.done in
@@ -22,8 +22,8 @@ returns-in_ok-push-in-Ok g c = λ t roots r falls f.
     (ap (map (seen_item w)) c.in_ok-push-in-Ok.ensures.items ∙ map-append (seen_item w) done.handed_out.items (c.in-Ok.item ∷ [])) refl refl
     (played_hand_out v w t falls roots r (map (option_map (seen_item v)) c.args.stage.now.hands.items) (map (seen_item w) done.handed_out.items) (map address done.taken.items) done.board c.hand_out.new.self c.in-Ok.item f c.in-Ok.ensures.handed_out)
 
-pub returns-in-Err-2 : goal.returns-in-Err-2
-returns-in-Err-2 g c = λ t roots r falls f.
+pub returns-in-Err-2-clause-follows : goal.returns-in-Err-2-clause-follows
+returns-in-Err-2-clause-follows g c = λ t roots r falls f.
     let v = g.P.Plan.spec_value in
     let w = g.P.Plan.reading_value in
     let same = hand_out_refused v w t falls roots r _ _ _ _ c.in-Err.refusal f c.in-Err.ensures.refused (λ q. false≢true (sym c.if-is_memory.false ∙ c.is_memory.ensures.1 q)) in

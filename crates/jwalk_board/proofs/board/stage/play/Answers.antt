@@ -7,20 +7,20 @@ use Rattle.jwalk_board.specs.Run.{move}
 use Rattle.jwalk_board.specs.Stage.{stage_of}
 use Rattle.jwalk_board.proofs.board.stage.play.Goals as goal
 
-pub returns-in-Take : goal.returns-in-Take
-returns-in-Take g c = λ fixed roots r f.
+pub returns-in-Take-clause-follows : goal.returns-in-Take-clause-follows
+returns-in-Take-clause-follows g c = λ fixed roots r f.
     let t = g.P.Plan.tree c.args.plan.now in
     subst (λ m. OnOk c.take.result (Follows t roots (move (places (specs_in_preorder t roots)) r m) (stage_of g.P.Plan.spec_value g.P.Plan.reading_value c.take.new.stage))) (sym c.in-Take.is)
-    (c.take.ensures t roots r (g.met.P.Plan.falls c.args.plan.now fixed) f)
+    (c.take.ensures.follows t roots r (g.met.P.Plan.falls c.args.plan.now fixed) f)
 
-pub returns-in-Finish : goal.returns-in-Finish
-returns-in-Finish g c = λ fixed roots r f.
+pub returns-in-Finish-clause-follows : goal.returns-in-Finish-clause-follows
+returns-in-Finish-clause-follows g c = λ fixed roots r f.
     let t = g.P.Plan.tree c.args.plan.now in
     subst (λ m. OnOk c.finish.result (Follows t roots (move (places (specs_in_preorder t roots)) r m) (stage_of g.P.Plan.spec_value g.P.Plan.reading_value c.finish.new.stage))) (sym c.in-Finish.is)
-    (c.finish.ensures fixed roots r f)
+    (c.finish.ensures.follows fixed roots r f)
 
-pub returns-in-HandOut : goal.returns-in-HandOut
-returns-in-HandOut g c = λ fixed roots r f.
+pub returns-in-HandOut-clause-follows : goal.returns-in-HandOut-clause-follows
+returns-in-HandOut-clause-follows g c = λ fixed roots r f.
     let t = g.P.Plan.tree c.args.plan.now in
     subst (λ m. OnOk c.hand_out.result (Follows t roots (move (places (specs_in_preorder t roots)) r m) (stage_of g.P.Plan.spec_value g.P.Plan.reading_value c.hand_out.new.stage))) (sym c.in-HandOut.is)
-    (c.hand_out.ensures t roots r (g.met.P.Plan.falls c.args.plan.now fixed) f)
+    (c.hand_out.ensures.follows t roots r (g.met.P.Plan.falls c.args.plan.now fixed) f)

@@ -13,10 +13,18 @@ use Rattle.jwalk_board.specs.Seen.{seen_item, seen_board}
 use Rattle.jwalk_board.specs.Stage.{stage_of}
 use Rattle.jwalk_board.proofs.Follow.{busy_take}
 use Rattle.jwalk_board.proofs.Plays.{stage_as, take_refused, played_take, get_read, none_is, some_is}
+use Rattle.jwalk_board.proofs.UnderWay.{taken}
 use Rattle.jwalk_board.proofs.board.stage.take.Goals as goal
 
-pub returns-then-is_some : goal.returns-then-is_some
-returns-then-is_some g c = λ t roots r falls f.
+pub returns-in_ok-push-in-Ok-clause-kept : goal.returns-in_ok-push-in-Ok-clause-kept
+returns-in_ok-push-in-Ok-clause-kept g c =
+    let hands = c.args.stage.now.hands in
+    let there : c.args.worker < length hands.items = omega (arith, hands.ok.0, c.len.ensures) in
+    let free = get_read hands.items c.args.worker c.index.result.now there c.index.ensures ∙ ap Some (none_is c.index.result.now (sym c.is_some.ensures ∙ c.if-is_some.false)) in
+    taken hands.items c.args.stage.now.done.board c.take.new.self c.requires c.args.worker c.in-Ok.item free c.in-Ok.ensures.taken
+
+pub returns-then-is_some-clause-follows : goal.returns-then-is_some-clause-follows
+returns-then-is_some-clause-follows g c = λ t roots r falls f.
     let v = g.P.Plan.spec_value in
     let w = g.P.Plan.reading_value in
     let hands = c.args.stage.now.hands in
@@ -27,8 +35,8 @@ returns-then-is_some g c = λ t roots r falls f.
     let e = slice_get-map (option_map (seen_item v)) hands.items k ∙ ap (option_map (option_map (seen_item v))) held in
     subst (λ z. Follows t roots z (stage_of v w c.args.stage.now)) (sym (busy_take t falls roots r _ f k (seen_item v x.0) e)) f
 
-pub returns-in_ok-push-in-Ok : goal.returns-in_ok-push-in-Ok
-returns-in_ok-push-in-Ok g c = λ t roots r falls f.
+pub returns-in_ok-push-in-Ok-clause-follows : goal.returns-in_ok-push-in-Ok-clause-follows
+returns-in_ok-push-in-Ok-clause-follows g c = λ t roots r falls f.
     let v = g.P.Plan.spec_value in
     let w = g.P.Plan.reading_value in
     let done = c.args.stage.now.done in
@@ -41,8 +49,8 @@ returns-in_ok-push-in-Ok g c = λ t roots r falls f.
     (played_take v w t falls roots r c.args.stage.now.hands.items (map (seen_item w) done.handed_out.items) (map address done.taken.items) done.board c.take.new.self k c.in-Ok.item
     (address c.in_ok-try_clone-in-Ok.field-0) f free c.in-Ok.ensures.taken c.in_ok-try_clone-in-Ok.ensures)
 
-pub returns-in-Err-2 : goal.returns-in-Err-2
-returns-in-Err-2 g c = λ t roots r falls f.
+pub returns-in-Err-2-clause-follows : goal.returns-in-Err-2-clause-follows
+returns-in-Err-2-clause-follows g c = λ t roots r falls f.
     let v = g.P.Plan.spec_value in
     let w = g.P.Plan.reading_value in
     let hands = c.args.stage.now.hands in

@@ -1,0 +1,3 @@
+pub mod Digest
+pub mod Failure
+pub mod Words
