@@ -48,8 +48,8 @@ module _ {C S P A R E : Type 0} (clones : Type 0) (steady_by : Job C S P A R E �
       elim (come clones steady_by reading_by d xs s t steady calls) [
         | inl comes ↦
             inl (comes
-                ∙ ap (λ l. map item xs ++ l) (subst (λ k. to_come (reading_by k d) t ≡ []) same (last.coming d (subst (λ k. steady_by k d) (sym same) steady)))
-                ∙ append-nil (map item xs))
+            ∙ ap (λ l. map item xs ++ l) (subst (λ k. to_come (reading_by k d) t ≡ []) same (last.coming d (subst (λ k. steady_by k d) (sym same) steady)))
+            ∙ append-nil (map item xs))
         | inr ends ↦ inr (t, ends)
       ]
 
