@@ -1,5 +1,5 @@
 -- What a walk answers from its beginning to its end.
-use Rattle.std.proofs.Common.{◌≡◌, ◌⊎◌, ◌∙◌, true, false, List, [], ◌∷◌, ◌++◌, map, append-nil, None, Result, Ok, Err, is_ok, inl, inr, refl, sym, ap, subst}
+use Rattle.std.proofs.Common.{◌≡◌, ◌⊎◌, ◌∙◌, true, false, List, [], ◌∷◌, ◌++◌, map, append-nil, Result, Ok, Err, is_ok, inl, inr, refl, sym, ap, subst}
 use Rattle.std.specs.Iterator.{Drains}
 use Rattle.std.specs.List.{list_all}
 use Rattle.walk_model.specs.Error.{memory}
@@ -18,7 +18,7 @@ use Rattle.jwalk_read.specs.Entry.{item}
 use Rattle.jwalk_read.specs.Job.{Processing, job, file_system, callback, greatest_depth, IsSteady}
 use Rattle.jwalk.specs.declared.dir_entry_iter.DirEntryIter.{DirEntryIter}
 use Rattle.jwalk.specs.declared.walk_dir.WalkDirGeneric.{WalkDirGeneric}
-use Rattle.jwalk.specs.DirEntryIter.{job_of, min_depth_of, held, to_come, IsRefused, Answers, EndsRefused}
+use Rattle.jwalk.specs.DirEntryIter.{job_of, min_depth_of, to_come, IsRefused, Answers, EndsRefused}
 use Rattle.jwalk.specs.WalkDir.{file_system_of, callback_of, root_of, job_for, Starts, Begins}
 use Rattle.jwalk.proofs.FillFacts.{Steps, same_walk, come}
 

@@ -1,6 +1,5 @@
 use Rattle.std.proofs.Common.{◌∙◌, refl, sym, ap, subst, map}
 use Rattle.std.specs.Io.KnownBytes.{Appends}
-use Rattle.std.specs.Prelude.{string_bytes}
 use Rattle.walk_model.specs.Tree.{functions_of}
 use Rattle.memory_fs.specs.MemoryFs.{tree_of}
 use Rattle.jwalk_read.specs.Entry.{item}
