@@ -240,8 +240,8 @@ impl<C: ClientState, S: FileSystem, P: ProcessReadDir<C, A>, A: Allocator + Copy
         ensures depth { IfOk result (λ v. AtDepth (of.now.depth + 1) (map item v.items)) }
         ensures value { (d : C.DirEntryState) → DefaultIs C.DirEntryState.is_default d → IfOk result (λ v. map item v.items ≡ value.ordered (job (S.functions (file_system self.now)) (P.processed (callback self.now)) d self.now) (spec of.now) (map listed listing.items)) }
     {
-        let items = self.raw(of, listing)?;
-        Ok(in_order(self.sort, items)?)
+        let listing = in_order(self.sort, listing)?;
+        self.raw(of, listing)
     }
 
     /// The list of a directory that could be listed, after the callback.

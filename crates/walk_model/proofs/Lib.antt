@@ -1,5 +1,6 @@
 pub mod DepthFacts
 pub mod HeldFacts
+pub mod ListingFacts
 pub mod PathEnds
 pub mod PathFacts
 pub mod PathJoins

@@ -14,11 +14,11 @@ use Rattle.walk_model.specs.Entry.{Entry, Item}
 use Rattle.walk_model.specs.Sorting.{stands_before, IsSorted, arranged, OrdersAreArranged}
 use Rattle.std.proofs.lemmas.List.Sorted.{ranks_by, answers_always, sorted_far, IsPermutation-refl, IsPermutation-cons, IsPermutation-middle, IsPermutation-sym, IsPermutation-trans}
 
-first_false : (a b : Bool) → (not a && not b) ≡ true → a ≡ false
+pub first_false : (a b : Bool) → (not a && not b) ≡ true → a ≡ false
 first_false false b h = refl
 first_false true b h = cc
 
-second_false : (a b : Bool) → (not a && not b) ≡ true → b ≡ false
+pub second_false : (a b : Bool) → (not a && not b) ≡ true → b ≡ false
 second_false false false h = refl
 second_false false true h = cc
 second_false true b h = cc
@@ -32,7 +32,7 @@ exchanged x y us vs false false h e = e
 
 module _ {X : Type 0} (lt : X → X → Bool) where
   -- no element has to stand before an earlier one
-  abbrev Ascends : List X → Type 0
+  abbrev pub Ascends : List X → Type 0
   Ascends [] = Unit {0}
   Ascends (x ∷ xs) = AllByRecursion (λ y. lt y x ≡ false) xs × Ascends xs
 
@@ -84,7 +84,7 @@ module _ {X : Type 0} (lt : X → X → Bool) where
 
     -- ---- the sort ascends
 
-    rests : (x y : X) (ys : List X) → lt y x ≡ false → AllByRecursion (λ z. lt z y ≡ false) ys → AllByRecursion (λ z. lt z x ≡ false) ys
+    pub rests : (x y : X) (ys : List X) → lt y x ≡ false → AllByRecursion (λ z. lt z y ≡ false) ys → AllByRecursion (λ z. lt z x ≡ false) ys
     rests x y [] e h = tt
     rests x y (z ∷ zs) e h = (o.chain z y x h.0 e, rests x y zs e h.1)
 
@@ -104,7 +104,7 @@ module _ {X : Type 0} (lt : X → X → Bool) where
     still_ascends x [] h = (tt, tt)
     still_ascends x (y ∷ ys) h = still_ascends_by x y ys (lt y x) refl h (still_ascends x ys h.1)
 
-    ascends_sorted : (xs : List X) → Ascends (insertion_sorted xs)
+    pub ascends_sorted : (xs : List X) → Ascends (insertion_sorted xs)
     ascends_sorted [] = tt
     ascends_sorted (x ∷ xs) = still_ascends x (insertion_sorted xs) (ascends_sorted xs)
 
@@ -136,7 +136,7 @@ module _ {X : Type 0} (lt : X → X → Bool) where
     itself x true e = o.one_way x x e
     itself x false e = e
 
-    ties_itself : (x : X) → ties lt x x ≡ true
+    pub ties_itself : (x : X) → ties lt x x ≡ true
     ties_itself x = rw (itself x (lt x x) refl) refl
 
     not_tied_by : (x y z : X) (b : Bool) → ties lt x z ≡ b → lt x y ≡ true → lt z y ≡ false → b ≡ false
@@ -196,7 +196,7 @@ pub map-insertion_sorted : {X Y : Type 0} (lt : X → X → Bool) (f : Y → X) 
 map-insertion_sorted lt f [] = refl
 map-insertion_sorted lt f (y ∷ ys) = map_inserted lt f y (insertion_sorted (λ a b. lt (f a) (f b)) ys) ∙ ap (inserted lt (f y)) (map-insertion_sorted lt f ys)
 
-IsStrictWeakOrder-through : {X Y : Type 0} (lt : X → X → Bool) → IsStrictWeakOrder lt → (f : Y → X) → IsStrictWeakOrder (λ a b. lt (f a) (f b))
+pub IsStrictWeakOrder-through : {X Y : Type 0} (lt : X → X → Bool) → IsStrictWeakOrder lt → (f : Y → X) → IsStrictWeakOrder (λ a b. lt (f a) (f b))
 IsStrictWeakOrder-through lt o f = record { one_way = λ x y. o.one_way (f x) (f y); chain = λ x y z. o.chain (f x) (f y) (f z) }
 
 -- ---- the order of items

@@ -1,9 +1,10 @@
 -- The stable order of a list: entries by the bytes of their names, then the errors, and what ties as it stood.
-use Rattle.std.specs.Prelude.{◌≡◌, ◌↔◌, Bool, true, false, List, [], ◌∷◌, Ok, Err, if◌then◌else◌, IsPermutation}
+use Rattle.std.specs.Prelude.{◌≡◌, ◌↔◌, ℕ, Bool, true, false, List, [], ◌∷◌, Option, Some, None, Ok, Err, is_ok, if◌then◌else◌, IsPermutation}
 use Rattle.std.specs.Ordering.{nat_cmp, is_lt}
 use Rattle.std.specs.Cmp.Lexicographic.{slice_cmp}
 use Rattle.std.specs.List.Sorted.{IsSortedBy, IsStableBy}
 use Rattle.walk_model.specs.Entry.{Item}
+use Rattle.walk_model.specs.FileSystem.{Listed}
 
 module _ {R E : Type 0} where
   -- whether x has to stand before y: an entry before an error, and entries by the bytes of their names
@@ -31,3 +32,18 @@ module _ {R E : Type 0} where
 -- a list's one stable order is the arranged list
 abbrev pub OrdersAreArranged : Type 0 → Type 0 → Type 0
 OrdersAreArranged R E = (l m : List (Item R E)) → IsSorted l m ↔ (m ≡ arranged l)
+
+-- the name that an item of a listing is put in order by: none where it is an error
+abbrev pub sorting_name : Listed → Option (List ℕ)
+sorting_name (Ok n) = if is_ok n.file_type then Some n.name else None
+sorting_name (Err kind) = None
+
+-- whether one such name has to stand before another: by their bytes, and a name before none
+abbrev pub name_before : Option (List ℕ) → Option (List ℕ) → Bool
+name_before (Some a) (Some b) = is_lt (slice_cmp nat_cmp a b)
+name_before (Some a) None = true
+name_before None b = false
+
+-- whether x has to stand before y in a listing that is put in order
+abbrev pub listed_before : Listed → Listed → Bool
+listed_before x y = name_before (sorting_name x) (sorting_name y)

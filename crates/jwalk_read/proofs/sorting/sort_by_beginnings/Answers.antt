@@ -1,0 +1,16 @@
+use Rattle.std.proofs.Common.{◌≡◌, rules}
+use Rattle.std.proofs.lemmas.Fn.{always_returns_same}
+use Rattle.std.proofs.lemmas.Result.{on_ok_weaker}
+use Rattle.walk_fs.specs.Views.{listed}
+use Rattle.walk_model.specs.Sorting.{sorting_name}
+use Rattle.walk_model.proofs.ListingFacts.{alike_kept}
+use Rattle.jwalk_read.specs.Sorting.{key_of}
+use Rattle.jwalk_read.proofs.sorting.sort_by_beginnings.Goals as goal
+
+pub returns : goal.returns
+returns g c =
+    let from = c.shared_length-from.result in
+    on_ok_weaker c.sort_by_cached_key.result
+        (λ up. alike_kept (key_of from) listed _ _
+            (c.sort_by_cached_key.ensures.stable (λ x. key_of from (sorting_name (listed x))) (always_returns_same _ (λ a r. r ≡ key_of from (sorting_name (listed a.0.now))) _ (λ a r q k. search rules))))
+        c.sort_by_cached_key.ensures.sorted
