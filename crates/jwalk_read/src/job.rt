@@ -6,11 +6,16 @@ ghost use Rattle.walk_model.specs.FileType.{is_dir};
 ghost use Rattle.walk_model.specs.Paths.{join};
 ghost use Rattle.walk_model.specs.ReadDir.{IsLawful};
 ghost use Rattle.walk_model.specs.Job as value;
+ghost use Rattle.std.specs.IoError.{error_kind};
+ghost use Rattle.walk_model.specs.Error.{io};
 ghost use Rattle.jwalk_read.specs.Text.{text};
+ghost use Rattle.jwalk_read.specs.Error.{failure};
 ghost use Rattle.jwalk_read.specs.Entry.{entry, item, children};
 ghost use Rattle.jwalk_read.specs.ReadDir.{spec, outcome, reading};
 ghost use Rattle.jwalk_read.specs.States.{DefaultIs};
 ghost use Rattle.jwalk_read.specs.Job.{job, file_system, callback, greatest_depth, sorts, skips_hidden, IsSteady};
+
+mod by_name;
 
 use crate::client_state::ClientState;
 use crate::dir_entry::DirEntry;
@@ -19,7 +24,6 @@ use crate::process_read_dir::ProcessReadDir;
 use crate::read_children::ReadChildren;
 use crate::read_dir::ReadDir;
 use crate::read_dir_spec::ReadDirSpec;
-use crate::sorting::in_order;
 use std::alloc::{AllocError, Allocator, Global};
 use std::io;
 use std::marker::PhantomData;
@@ -151,6 +155,21 @@ impl<C: ClientState, S: FileSystem, P: ProcessReadDir<C, A>, A: Allocator + Copy
         self.skip_hidden && is_hidden(name)
     }
 
+    /// The error of a name whose type could not be told.
+    fn untyped(
+        &self,
+        of: &ReadDirSpec<C, A>,
+        name: &str,
+        err: io::Error,
+    ) -> Result<Error<A>, AllocError>
+        requires { of.now.depth + 1 < 2 ^ 64 }
+        ensures { IfOk result (λ e. failure e ≡ io (of.now.depth + 1) (Some (join (text of.now.path) name.now)) (error_kind err)) }
+    {
+        let joined = path_text::join(self.alloc, of.path.as_str(), name)?;
+        let path = Arc::new(self.alloc, joined)?;
+        Ok(Error::from_path(of.depth + 1, path, err))
+    }
+
     /// What an item of a listing that has a name gives: nothing where it is hidden and skipped.
     fn named(
         &self,
@@ -163,11 +182,7 @@ impl<C: ClientState, S: FileSystem, P: ProcessReadDir<C, A>, A: Allocator + Copy
     {
         let Listed { name, file_type } = found;
         match file_type {
-            Err(err) => {
-                let joined = path_text::join(self.alloc, of.path.as_str(), name.as_str())?;
-                let path = Arc::new(self.alloc, joined)?;
-                Ok(Some(Err(Error::from_path(of.depth + 1, path, err))))
-            }
+            Err(err) => Ok(Some(Err(self.untyped(of, name.as_str(), err)?))),
             Ok(file_type) => {
                 if self.skips(name.as_str()) {
                     return Ok(None);
@@ -240,7 +255,9 @@ impl<C: ClientState, S: FileSystem, P: ProcessReadDir<C, A>, A: Allocator + Copy
         ensures depth { IfOk result (λ v. AtDepth (of.now.depth + 1) (map item v.items)) }
         ensures value { (d : C.DirEntryState) → DefaultIs C.DirEntryState.is_default d → IfOk result (λ v. map item v.items ≡ value.ordered (job (S.functions (file_system self.now)) (P.processed (callback self.now)) d self.now) (spec of.now) (map listed listing.items)) }
     {
-        let listing = in_order(self.sort, listing)?;
+        if self.sort {
+            return self.by_name(of, listing);
+        }
         self.raw(of, listing)
     }
 

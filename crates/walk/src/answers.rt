@@ -14,8 +14,9 @@ use jwalk::{ClientState, DirEntry};
 use std::alloc::Allocator;
 use std::io::Write;
 
-/// How many bytes of lines are gathered before they are written.
-const GATHERED: usize = 65536;
+/// How many bytes of lines are gathered before they are written. A buffer of twice the length takes the last line too,
+/// and stays below the 64 KiB at which a free makes the C library's allocator put all its small pieces together.
+const GATHERED: usize = 16384;
 
 /// Writes the lines that were gathered.
 fn write_gathered<W: Write, A: Allocator>(
@@ -78,7 +79,7 @@ where
     ensures printed { IfOk result (PrintsAll I.next_gives answers (W.contents out.old) (W.contents out.new)) }
     ensures status { IfErr result (λ failure. status_of failure ≡ 1) }
 {
-    let mut gathered = Vec::with_capacity(alloc, GATHERED)?;
+    let mut gathered = Vec::with_capacity(alloc, 2 * GATHERED)?;
     let mut clean = true;
     for answer in answers {
         clean &= print_one(answer, &mut gathered, out)?;

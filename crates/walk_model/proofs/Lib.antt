@@ -1,3 +1,4 @@
+pub mod ByteNumbers
 pub mod DepthFacts
 pub mod HeldFacts
 pub mod ListingFacts

@@ -1,197 +1,97 @@
--- A listing that is put in order before its items are made gives the items in their order, where no links are followed.
-use Rattle.std.proofs.Common.{◌≡◌, ℕ, ◌+◌, ◌≤◌, Bool, true, false, cond, ◌&&◌, List, [], ◌∷◌, ◌++◌, map, length, Option, Some, None, Ok, Err, refl, sym, ap, subst, ◌∙◌, arith}
-use Rattle.std.specs.Prelude.{flat_map, is_ok, if◌then◌else◌}
-use Rattle.walk_model.specs.declared.file_type.FileType.{FileType}
-use Rattle.std.specs.List.{AllByRecursion, filter}
-use Rattle.std.specs.declared.cmp.Ordering.{Ordering}
-use Rattle.std.specs.declared.cmp.Ordering.TheVariants.{Less, Equal, Greater}
-use Rattle.std.specs.FinMap.{nat_cmp-IsAntisymmetric, slice_cmp-IsAntisymmetric}
-use Rattle.std.specs.List.Sorted.{IsSortedBy, IsStableBy, IsStableByKey, ties}
+-- A list by name is the entries of a listing's names in their order and then the listing's errors, where no links are followed.
+use Rattle.std.proofs.Common.{◌≡◌, ℕ, ◌+◌, Bool, true, false, cond, ◌&&◌, List, [], ◌∷◌, ◌++◌, map, Some, None, Result, Ok, Err, refl, sym, ap, ◌∙◌}
+use Rattle.std.specs.Prelude.{flat_map}
+use Rattle.std.specs.List.Sorted.{IsSortedBy, IsStableBy}
 use Rattle.std.specs.Cmp.{IsStrictWeakOrder}
-use Rattle.std.specs.Cmp.Lexicographic.{slice_cmp}
-use Rattle.std.specs.Ordering.{nat_cmp, is_lt}
-use Rattle.std.proofs.lemmas.Cmp.{nat_cmp_total, nat_list_cmp_total}
+use Rattle.std.specs.declared.io.ErrorKind.{ErrorKind}
+use Rattle.std.proofs.lemmas.Cmp.{nat_list_cmp_total}
 use Rattle.std.proofs.lemmas.List.Sorted.{ranks_by}
+use Rattle.walk_model.specs.declared.file_type.FileType.{FileType}
+use Rattle.walk_model.specs.Error.{Failure, io}
+use Rattle.walk_model.specs.Paths.{join}
+use Rattle.walk_model.specs.FileType.{is_symlink}
 use Rattle.walk_model.specs.FileSystem.{Named, Listed}
 use Rattle.walk_model.specs.Entry.{Item, is_hidden}
 use Rattle.walk_model.specs.ReadDir.{Spec}
-use Rattle.walk_model.specs.Sorting.{stands_before, arranged, sorting_name, name_before, listed_before}
+use Rattle.walk_model.specs.Sorting.{put, arranged, Typed, name_before, shown, errors_of}
 use Rattle.walk_model.specs.Job as value
 use Rattle.walk_model.specs.Job.{Job}
-use Rattle.std.proofs.Common.{Result}
-use Rattle.std.specs.declared.io.ErrorKind.{ErrorKind}
-use Rattle.walk_model.specs.Error.{io}
-use Rattle.walk_model.specs.Paths.{join}
-use Rattle.walk_model.proofs.SortingFacts.{first_false, second_false, ties_itself, map-insertion_sorted, Ascends, inserted, insertion_sorted, insertion_sorted-unique, ascends_sorted, rests, IsStrictWeakOrder-through}
+use Rattle.walk_model.proofs.SortingFacts.{inserted, insertion_sorted, insertion_sorted-unique, map-insertion_sorted, IsStrictWeakOrder-through}
 
--- ---- what gives at most one element each, in the order of what it gives
+name_before-order : IsStrictWeakOrder name_before
+name_before-order = ranks_by nat_list_cmp_total (λ (a : Typed). a.name)
 
-module _ {Y : Type 0} (mt : Y → Y → Bool) where
-  -- two lists of at most one element: where both have one, the first has to stand before the second just where b says so
-  abbrev AreAlike : List Y → List Y → Bool → Type 0
-  AreAlike (y ∷ []) (z ∷ []) b = mt y z ≡ b
-  AreAlike (y ∷ []) [] b = Unit {0}
-  AreAlike [] (z ∷ []) b = Unit {0}
-  AreAlike [] [] b = Unit {0}
-  AreAlike (y ∷ y2 ∷ ys) zs b = ⊥
-  AreAlike [] (z ∷ z2 ∷ zs) b = ⊥
-  AreAlike (y ∷ []) (z ∷ z2 ∷ zs) b = ⊥
+-- the order of what can be seen as names
+pub name_before-through : {T : Type 0} (view : T → Typed) → IsStrictWeakOrder (λ a b. name_before (view a) (view b))
+name_before-through view = IsStrictWeakOrder-through name_before name_before-order view
 
-module _ {X Y : Type 0} (lt : X → X → Bool) (mt : Y → Y → Bool) (f : X → List Y) (o : IsStrictWeakOrder lt) (alike : (x z : X) → AreAlike mt (f x) (f z) (lt x z)) where
-  -- what one element gives, put in its place
-  abbrev placed : List Y → List Y → List Y
-  placed [] l = l
-  placed (y ∷ ys) l = inserted mt y l
+unless_both : {X : Type 0} (a b : Bool) (x y : X) → a ≡ false → cond (a && b) x y ≡ y
+unless_both true b x y e = cc
+unless_both false b x y e = refl
 
-  first_by : (y : Y) (z : X) (rest : List Y) (gives : List Y) → AreAlike mt gives (y ∷ []) false → inserted mt y rest ≡ y ∷ rest → inserted mt y (gives ++ rest) ≡ y ∷ (gives ++ rest)
-  first_by y z rest [] a e = e
-  first_by y z rest (w ∷ []) a e = rw a refl
-  first_by y z rest (w ∷ w2 ∷ ws) a e = absurd a
+module _ {R E : Type 0} (job : Job R E) (spec : Spec R) where
+  abbrev entry_of : Typed → Item R E
+  entry_of = value.entry_of job spec
 
-  -- no element of vs has to stand before x
-  first : (x : X) (y : Y) (vs : List X) → f x ≡ y ∷ [] → AllByRecursion (λ v. lt v x ≡ false) vs → inserted mt y (flat_map f vs) ≡ y ∷ flat_map f vs
-  first x y [] e h = refl
-  first x y (v ∷ vs) e h = first_by y v (flat_map f vs) (f v) (rw (e, h.0) at (alike v x)) (first x y vs e h.1)
+  put_entry_by : (n m : Typed) (ms : List Typed) (fs : List Failure) (l : List (Item R E)) (b : Bool)
+      → l ≡ map entry_of (inserted name_before n ms) ++ map Err fs
+      → cond b (entry_of m ∷ l) (entry_of n ∷ entry_of m ∷ map entry_of ms ++ map Err fs) ≡ map entry_of (cond b (m ∷ inserted name_before n ms) (n ∷ m ∷ ms)) ++ map Err fs
+  put_entry_by n m ms fs l true e = ap (λ k. entry_of m ∷ k) e
+  put_entry_by n m ms fs l false e = refl
 
-  past_by : (gives : List Y) (y : Y) (rest : List Y) → AreAlike mt gives (y ∷ []) true → gives ++ inserted mt y rest ≡ inserted mt y (gives ++ rest)
-  past_by [] y rest a = refl
-  past_by (w ∷ []) y rest a = rw a refl
-  past_by (w ∷ w2 ∷ ws) y rest a = absurd a
+  put_entry : (n : Typed) (ms : List Typed) (fs : List Failure) → put (entry_of n) (map entry_of ms ++ map Err fs) ≡ map entry_of (inserted name_before n ms) ++ map Err fs
+  put_entry n [] [] = refl
+  put_entry n [] (f ∷ fs) = refl
+  put_entry n (m ∷ ms) fs = put_entry_by n m ms fs (put (entry_of n) (map entry_of ms ++ map Err fs)) (name_before m n) (put_entry n ms fs)
 
-  past : (x z : X) (rest : List Y) (given : List Y) → f x ≡ given → lt z x ≡ true → f z ++ placed given rest ≡ placed given (f z ++ rest)
-  past x z rest [] e h = refl
-  past x z rest (y ∷ []) e h = past_by (f z) y rest (rw (e, h) at (alike z x))
-  past x z rest (y ∷ y2 ∷ ys) e h = absurd (rw e at (alike x x))
+  put_error : (f : Failure) (ms : List Typed) (fs : List Failure) → put (Err f) (map entry_of ms ++ map Err fs) ≡ map entry_of ms ++ Err f ∷ map Err fs
+  put_error f [] [] = refl
+  put_error f [] (g ∷ gs) = refl
+  put_error f (m ∷ ms) fs = ap (λ k. entry_of m ∷ k) (put_error f ms fs)
 
-  front : (x : X) (vs : List X) (given : List Y) → f x ≡ given → AllByRecursion (λ v. lt v x ≡ false) vs → given ++ flat_map f vs ≡ placed given (flat_map f vs)
-  front x vs [] e h = refl
-  front x vs (y ∷ []) e h = sym (first x y vs e h)
-  front x vs (y ∷ y2 ∷ ys) e h = absurd (rw e at (alike x x))
+  module _ (no_links : job.options.follow_links ≡ false) where
+    -- the shown names, and the errors
+    abbrev names : List Listed → List Typed
+    names = flat_map (shown job.options.skip_hidden)
 
-  one_by : (x z : X) (zs : List X) (b : Bool) → lt z x ≡ b → Ascends lt (z ∷ zs) → flat_map f (inserted lt x zs) ≡ placed (f x) (flat_map f zs) → flat_map f (cond b (z ∷ inserted lt x zs) (x ∷ z ∷ zs)) ≡ placed (f x) (flat_map f (z ∷ zs))
-  one_by x z zs true e h k = ap (λ l. f z ++ l) k ∙ past x z (flat_map f zs) (f x) refl e
-  one_by x z zs false e h k = front x (z ∷ zs) (f x) refl (e, rests lt o x z zs e h.0)
+    abbrev errors : List Listed → List Failure
+    errors = flat_map (errors_of spec)
 
-  one : (x : X) (zs : List X) → Ascends lt zs → flat_map f (inserted lt x zs) ≡ placed (f x) (flat_map f zs)
-  one x [] h = front x [] (f x) refl tt
-  one x (z ∷ zs) h = one_by x z zs (lt z x) refl h (one x zs h.1)
+    abbrev Holds : List Listed → Type 0
+    Holds l = arranged (value.raw job spec l) ≡ map entry_of (insertion_sorted name_before (names l)) ++ map Err (errors l)
 
-  begun : (given : List Y) (x : X) (l : List Y) → f x ≡ given → placed given (insertion_sorted mt l) ≡ insertion_sorted mt (given ++ l)
-  begun [] x l e = refl
-  begun (y ∷ []) x l e = refl
-  begun (y ∷ y2 ∷ ys) x l e = absurd (rw e at (alike x x))
+    unfollowed : (n : List ℕ) (t : FileType) → value.followed job (value.entry_in job spec n t) ≡ entry_of (record { name = n; file_type = t })
+    unfollowed n t = unless_both job.options.follow_links (is_symlink t) _ _ no_links
 
-  pub flat_map-insertion_sorted : (l : List X) → flat_map f (insertion_sorted lt l) ≡ insertion_sorted mt (flat_map f l)
-  flat_map-insertion_sorted [] = refl
-  flat_map-insertion_sorted (x ∷ xs) =
-      one x (insertion_sorted lt xs) (ascends_sorted lt o xs)
-      ∙ ap (placed (f x)) (flat_map-insertion_sorted xs)
-      ∙ begun (f x) x (flat_map f xs) refl
+    by_entry : (n : Typed) (x : Item R E) (l : List Listed) → x ≡ entry_of n → Holds l → arranged (x ∷ value.raw job spec l) ≡ map entry_of (insertion_sorted name_before (n ∷ names l)) ++ map Err (errors l)
+    by_entry n x l e h =
+        ap (λ y. put y (arranged (value.raw job spec l))) e
+        ∙ ap (put (entry_of n)) h
+        ∙ put_entry n (insertion_sorted name_before (names l)) (errors l)
 
--- ---- the order of listings
+    by_error : (f : Failure) (l : List Listed) → Holds l → arranged (Err f ∷ value.raw job spec l) ≡ map entry_of (insertion_sorted name_before (names l)) ++ Err f ∷ map Err (errors l)
+    by_error f l h = ap (put (Err f)) h ∙ put_error f (insertion_sorted name_before (names l)) (errors l)
 
-by_bytes : IsStrictWeakOrder (λ (a b : List ℕ). is_lt (slice_cmp nat_cmp a b))
-by_bytes = ranks_by nat_list_cmp_total (λ (a : List ℕ). a)
+    by_hidden : (n : List ℕ) (t : FileType) (l : List Listed) (b : Bool) → Holds l
+        → arranged (cond b [] (value.followed job (value.entry_in job spec n t) ∷ []) ++ value.raw job spec l)
+        ≡ map entry_of (insertion_sorted name_before (cond b [] (record { name = n; file_type = t } ∷ []) ++ names l)) ++ map Err (errors l)
+    by_hidden n t l true h = h
+    by_hidden n t l false h = by_entry (record { name = n; file_type = t }) _ l (unfollowed n t) h
 
-one_way : (a b : Option (List ℕ)) → name_before a b ≡ true → name_before b a ≡ false
-one_way (Some a) (Some b) e = by_bytes.one_way a b e
-one_way (Some a) None e = refl
-one_way None b e = cc
+    by_type : (n : Named) (type : Result FileType ErrorKind) (l : List Listed) → n.file_type ≡ type → Holds l → Holds (Ok n ∷ l)
+    by_type n (Ok t) l e h = rw e (by_hidden n.name t l (job.options.skip_hidden && is_hidden n.name) h)
+    by_type n (Err kind) l e h = rw e (by_error (io (spec.depth + 1) (Some (join spec.path n.name)) kind) l h)
 
-chain : (a b c : Option (List ℕ)) → name_before a b ≡ false → name_before b c ≡ false → name_before a c ≡ false
-chain (Some a) (Some b) (Some c) e f = by_bytes.chain a b c e f
-chain (Some a) (Some b) None e f = f
-chain (Some a) None c e f = cc
-chain None b c e f = refl
+    arranged-listing : (l : List Listed) → Holds l
+    arranged-listing [] = refl
+    arranged-listing (Ok n ∷ l) = by_type n n.file_type l refl (arranged-listing l)
+    arranged-listing (Err kind ∷ l) = by_error (io (spec.depth + 1) None kind) l (arranged-listing l)
 
-pub name_before-order : IsStrictWeakOrder name_before
-name_before-order = record { one_way = one_way; chain = chain }
-
--- the order of what can be seen as a listing
-pub listed_before-through : {T : Type 0} (view : T → Listed) → IsStrictWeakOrder (λ a b. listed_before (view a) (view b))
-listed_before-through view = IsStrictWeakOrder-through name_before name_before-order (λ x. sorting_name (view x))
-
--- ---- names that are alike
-
-same_bytes : (a b : List ℕ) (o : Ordering) → slice_cmp nat_cmp a b ≡ o → is_lt o ≡ false → is_lt (slice_cmp nat_cmp b a) ≡ false → a ≡ b
-same_bytes a b Less e h k = cc
-same_bytes a b Equal e h k = slice_cmp-IsAntisymmetric nat_cmp-IsAntisymmetric a b e
-same_bytes a b Greater e h k = let f = nat_list_cmp_total.antisymm b a in cc
-
--- neither has to stand before the other
-same_name : (a b : Option (List ℕ)) → ties name_before a b ≡ true → a ≡ b
-same_name (Some a) (Some b) h =
-    let before = is_lt (slice_cmp nat_cmp a b) in
-    let after = is_lt (slice_cmp nat_cmp b a) in
-    ap Some (same_bytes a b (slice_cmp nat_cmp a b) refl (first_false before after h) (second_false before after h))
-same_name (Some a) None h = cc
-same_name None (Some b) h = cc
-same_name None None h = refl
-
-module _ {X : Type 0} (p q : X → Bool) (within : (x : X) → p x ≡ true → q x ≡ true) where
-  within_by : (x : X) (us vs : List X) (a b : Bool) → p x ≡ a → q x ≡ b → filter p us ≡ vs → filter p (cond b (x ∷ us) us) ≡ cond a (x ∷ vs) vs
-  within_by x us vs a true e h k = rw (e, k) refl
-  within_by x us vs true false e h k = let f = within x e in cc
-  within_by x us vs false false e h k = k
-
-  filter_within : (l : List X) → filter p (filter q l) ≡ filter p l
-  filter_within [] = refl
-  filter_within (x ∷ xs) = within_by x (filter q xs) (filter p xs) (p x) (q x) refl refl (filter_within xs)
-
-module _ (key : Option (List ℕ) → ℕ) where
-  abbrev key_before : Option (List ℕ) → Option (List ℕ) → Bool
-  key_before a b = is_lt (nat_cmp (key a) (key b))
-
-  tied_keys : (a b : Option (List ℕ)) → ties name_before a b ≡ true → ties key_before a b ≡ true
-  tied_keys a b h = subst (λ c. ties key_before a c ≡ true) (same_name a b h) (ties_itself key_before (ranks_by nat_cmp_total key) a)
-
-  -- a sort by a number of each name that is stable keeps the order of names that are alike
-  pub alike_kept : {T : Type 0} (view : T → Listed) (l m : List T) → IsStableByKey (λ x. key (sorting_name (view x))) nat_cmp l m → IsStableBy (λ a b. listed_before (view a) (view b)) l m
-  alike_kept {T = T} view l m h x =
-      let p : T → Bool = ties (λ a b. listed_before (view a) (view b)) x in
-      let q : T → Bool = ties (λ a b. key_before (sorting_name (view a)) (sorting_name (view b))) x in
-      let within : (y : T) → p y ≡ true → q y ≡ true = λ y. tied_keys (sorting_name (view x)) (sorting_name (view y)) in
-      sym (filter_within p q within m) ∙ ap (filter p) (h x) ∙ filter_within p q within l
-
--- ---- readings that follow no links
-
-module _ {R E : Type 0} where
-  -- a list of at most one item: an entry of this name, or an error where there is none
-  abbrev IsNamed : List (Item R E) → Option (List ℕ) → Type 0
-  IsNamed [] name = Unit {0}
-  IsNamed (Ok e ∷ []) name = name ≡ Some e.file_name
-  IsNamed (Err f ∷ []) name = name ≡ None
-  IsNamed (x ∷ y ∷ ys) name = ⊥
-
-  are_alike : (us vs : List (Item R E)) (a b : Option (List ℕ)) → IsNamed us a → IsNamed vs b → AreAlike stands_before us vs (name_before a b)
-  are_alike [] [] a b h k = tt
-  are_alike [] (y ∷ []) a b h k = tt
-  are_alike (x ∷ []) [] a b h k = tt
-  are_alike (Ok d ∷ []) (Ok e ∷ []) a b h k = rw (h, k) refl
-  are_alike (Ok d ∷ []) (Err g ∷ []) a b h k = rw (h, k) refl
-  are_alike (Err f ∷ []) (y ∷ []) a b h k = rw h refl
-  are_alike (x ∷ x2 ∷ xs) vs a b h k = absurd h
-  are_alike us (y ∷ y2 ∷ ys) a b h k = absurd k
-
-  module _ (job : Job R E) (spec : Spec R) (no_links : job.options.follow_links ≡ false) where
-    shown_by : (n : List ℕ) (t : FileType) (b : Bool) → IsNamed (if b then [] else value.followed job (value.entry_in job spec n t) ∷ []) (Some n)
-    shown_by n t true = tt
-    shown_by n t false = rw no_links refl
-
-    named_by : (n : List ℕ) (type : Result FileType ErrorKind) → IsNamed (value.either (value.shown job spec n) (λ kind. Err (io (spec.depth + 1) (Some (join spec.path n)) kind) ∷ []) type) (if is_ok type then Some n else None)
-    named_by n (Ok t) = shown_by n t (job.options.skip_hidden && is_hidden n)
-    named_by n (Err kind) = refl
-
-    is_named : (x : Listed) → IsNamed (value.item_of job spec x) (sorting_name x)
-    is_named (Ok n) = named_by n.name n.file_type
-    is_named (Err kind) = refl
-
-    alike : (x z : Listed) → AreAlike stands_before (value.item_of job spec x) (value.item_of job spec z) (listed_before x z)
-    alike x z = are_alike (value.item_of job spec x) (value.item_of job spec z) (sorting_name x) (sorting_name z) (is_named x) (is_named z)
-
-    -- m is a stable sort of l by what is seen of its items
-    pub arranged-raw : {T : Type 0} (view : T → Listed) (l m : List T) → IsSortedBy (λ a b. listed_before (view a) (view b)) m → IsStableBy (λ a b. listed_before (view a) (view b)) l m → value.raw job spec (map view m) ≡ arranged (value.raw job spec (map view l))
-    arranged-raw view l m sorted stable =
-        ap (λ k. value.raw job spec (map view k)) (insertion_sorted-unique (λ a b. listed_before (view a) (view b)) (listed_before-through view) l m sorted stable)
-        ∙ ap (value.raw job spec) (map-insertion_sorted listed_before view l)
-        ∙ flat_map-insertion_sorted listed_before stands_before (value.item_of job spec) (listed_before-through (λ x. x)) alike (map view l)
+    -- m is a stable sort of what shows the names of the listing l
+    pub arranged-names : {T : Type 0} (view : T → Typed) (l : List Listed) (shows m : List T) → map view shows ≡ names l
+        → IsSortedBy (λ a b. name_before (view a) (view b)) m → IsStableBy (λ a b. name_before (view a) (view b)) shows m
+        → map entry_of (map view m) ++ map Err (errors l) ≡ arranged (value.raw job spec l)
+    arranged-names view l shows m e sorted stable =
+        ap (λ k. map entry_of (map view k) ++ map Err (errors l)) (insertion_sorted-unique (λ a b. name_before (view a) (view b)) (name_before-through view) shows m sorted stable)
+        ∙ ap (λ k. map entry_of k ++ map Err (errors l)) (map-insertion_sorted name_before view shows ∙ ap (insertion_sorted name_before) e)
+        ∙ sym (arranged-listing l)
