@@ -2,6 +2,7 @@ use crate::board::{Move, Plan, Refused, Rehearsal, rehearse};
 use jwalk_order::index_path::IndexPath;
 use jwalk_order::ordered::Ordered;
 use std::alloc::Global;
+use std::process::Abort;
 use std::test::Fail;
 
 // A root 0 with the children 1 and 2, and 1 with the one child 3. A reading is the number.
@@ -59,6 +60,22 @@ const MOVES: [Move; 16] = [
     Move::HandOut,
 ];
 
+// It promises nothing: what comes back is compared, and no test carries the contract of a rehearsal to its end.
+fn played(
+    alloc: Global,
+    roots: &[u8],
+    workers: usize,
+    moves: &[Move],
+) -> Result<Rehearsal<u8, u8>, Refused> {
+    rehearse(
+        alloc,
+        &Family,
+        Vec::from_slice(alloc, roots)?,
+        workers,
+        moves,
+    )
+}
+
 fn counts(made: &Rehearsal<u8, u8>) -> [usize; 4] {
     let board = &made.board;
     [
@@ -85,8 +102,7 @@ fn is(item: &Ordered<u8>, indices: &[usize], value: u8, child_count: usize) -> b
 
 #[test]
 fn a_rehearsal_plays_every_move(rt: HostRuntime) -> Result<(), Fail> {
-    let alloc = rt.alloc();
-    let made = rehearse(alloc, &Family, vec![in alloc; 0]?, 2, MOVES.as_slice())?;
+    let made = played(rt.alloc(), &[0], 2, MOVES.as_slice())?;
     let items = made.handed_out.as_slice();
     assert_eq!(rt; items.len(), 4);
     assert!(rt; is(&items[0], &[0], 0, 2));
@@ -100,8 +116,7 @@ fn a_rehearsal_plays_every_move(rt: HostRuntime) -> Result<(), Fail> {
 
 #[test]
 fn a_rehearsal_leaves_the_board_as_the_moves_did(rt: HostRuntime) -> Result<(), Fail> {
-    let alloc = rt.alloc();
-    let made = rehearse(alloc, &Family, vec![in alloc; 0]?, 2, &MOVES[..9])?;
+    let made = played(rt.alloc(), &[0], 2, &MOVES[..9])?;
     let items = made.handed_out.as_slice();
     assert_eq!(rt; items.len(), 1);
     assert!(rt; is(&items[0], &[0], 0, 2));
@@ -110,22 +125,27 @@ fn a_rehearsal_leaves_the_board_as_the_moves_did(rt: HostRuntime) -> Result<(), 
     Ok(())
 }
 
-#[test]
-fn without_workers_or_roots_nothing_moves(rt: HostRuntime) -> Result<(), Fail> {
-    let alloc = rt.alloc();
+fn nothing_moves(
+    rt: &(impl Abort + AllocGlobal),
+    roots: &[u8],
+    workers: usize,
+    left: [usize; 4],
+) -> Result<(), Fail> {
     let moves = [Move::Take(0), Move::HandOut];
-    let idle = rehearse(alloc, &Family, vec![in alloc; 0]?, 0, moves.as_slice())?;
-    assert!(rt; idle.handed_out.is_empty() && idle.taken.is_empty());
-    assert_eq!(rt; counts(&idle), [1, 0, 0, 1]);
-    let bare = rehearse(alloc, &Family, Vec::new(alloc), 2, moves.as_slice())?;
-    assert!(rt; bare.handed_out.is_empty() && bare.taken.is_empty());
-    assert_eq!(rt; counts(&bare), [0, 0, 0, 0]);
+    let made = played(rt.alloc(), roots, workers, moves.as_slice())?;
+    assert!(rt; made.handed_out.is_empty() && made.taken.is_empty());
+    assert_eq!(rt; counts(&made), left);
     Ok(())
 }
 
 #[test]
+fn without_workers_or_roots_nothing_moves(rt: HostRuntime) -> Result<(), Fail> {
+    nothing_moves(&rt, &[0], 0, [1, 0, 0, 1])?;
+    nothing_moves(&rt, &[], 2, [0, 0, 0, 0])
+}
+
+#[test]
 fn a_worker_may_finish_out_of_turn(rt: HostRuntime) -> Result<(), Fail> {
-    let alloc = rt.alloc();
     let moves = [
         Move::Take(0),
         Move::Finish(0),
@@ -135,7 +155,7 @@ fn a_worker_may_finish_out_of_turn(rt: HostRuntime) -> Result<(), Fail> {
         Move::HandOut,
         Move::HandOut,
     ];
-    let made = rehearse(alloc, &Family, vec![in alloc; 0]?, 2, moves.as_slice())?;
+    let made = played(rt.alloc(), &[0], 2, moves.as_slice())?;
     assert_eq!(rt; made.handed_out.len(), 1);
     assert!(rt; is(&made.handed_out[0], &[0], 0, 2));
     assert!(rt; are_taken(made.taken.as_slice(), &[&[0], &[0, 0], &[0, 1]]));
