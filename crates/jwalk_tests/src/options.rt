@@ -109,6 +109,53 @@ fn errors_after_entries_and_whatever_their_depth(rt: HostRuntime) -> Result<(), 
     Ok(())
 }
 
+/// A long listing of names that begin alike, with two of one name and two errors.
+fn chapters() -> [Item; 22] {
+    [
+        Item::Typed("log-2026-11-chapter-9", FileType::File),
+        Item::Typed("log-2026-11-b", FileType::Other),
+        Item::Typed("log-2026-11-chapter-12", FileType::File),
+        Item::Typed("log-2026-11-chapter-3", FileType::File),
+        Item::Unread(ErrorKind::InvalidData),
+        Item::Typed("log-2026-11-chapter-10", FileType::File),
+        Item::Typed("log-2026-11-z", FileType::File),
+        Item::Typed("log-2026-11-chapter-7", FileType::File),
+        Item::Typed("log-2026-11-chapter-1", FileType::File),
+        Item::Typed("log-2026-11-chapter-15", FileType::File),
+        Item::Typed("log-2026-11-a", FileType::File),
+        Item::Typed("log-2026-11-chapter-5", FileType::File),
+        Item::Untyped("log-2026-11-0", ErrorKind::PermissionDenied),
+        Item::Typed("log-2026-11-chapter-13", FileType::File),
+        Item::Typed("log-2026-11-chapter-2", FileType::File),
+        Item::Typed("log-2026-11-b", FileType::File),
+        Item::Typed("log-2026-11-chapter-8", FileType::File),
+        Item::Typed("log-2026-11-chapter-14", FileType::File),
+        Item::Typed("log-2026-11-", FileType::File),
+        Item::Typed("log-2026-11-chapter-6", FileType::File),
+        Item::Typed("log-2026-11-chapter-11", FileType::File),
+        Item::Typed("log-2026-11-chapter-4", FileType::File),
+    ]
+}
+
+#[test]
+fn a_long_listing_of_names_that_begin_alike(rt: HostRuntime) -> Result<(), Fail> {
+    let items = chapters();
+    let walk = builder(rt.alloc(), faulty_directory(&items), "/d")?.sort(true);
+    let found = answers_of(rt.alloc(), walk)?;
+    let wanted = "0 d /d; 1 f /d/log-2026-11-; 1 f /d/log-2026-11-a; 1 o /d/log-2026-11-b; \
+                  1 f /d/log-2026-11-b; 1 f /d/log-2026-11-chapter-1; \
+                  1 f /d/log-2026-11-chapter-10; 1 f /d/log-2026-11-chapter-11; \
+                  1 f /d/log-2026-11-chapter-12; 1 f /d/log-2026-11-chapter-13; \
+                  1 f /d/log-2026-11-chapter-14; 1 f /d/log-2026-11-chapter-15; \
+                  1 f /d/log-2026-11-chapter-2; 1 f /d/log-2026-11-chapter-3; \
+                  1 f /d/log-2026-11-chapter-4; 1 f /d/log-2026-11-chapter-5; \
+                  1 f /d/log-2026-11-chapter-6; 1 f /d/log-2026-11-chapter-7; \
+                  1 f /d/log-2026-11-chapter-8; 1 f /d/log-2026-11-chapter-9; \
+                  1 f /d/log-2026-11-z; ! 1 - InvalidData; ! 1 /d/log-2026-11-0 PermissionDenied";
+    assert_eq!(rt; found.as_str(), wanted);
+    Ok(())
+}
+
 #[test]
 fn nothing_below_the_greatest_depth_is_listed(rt: HostRuntime) -> Result<(), Fail> {
     let fs = Watched::new(grouped_tree(rt.alloc())?, Failing::Never);
