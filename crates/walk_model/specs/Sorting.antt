@@ -48,10 +48,12 @@ pub record Typed : Type 0 where
 abbrev pub name_before : Typed → Typed → Bool
 name_before a b = is_lt (slice_cmp nat_cmp a.name b.name)
 
+-- a name of this type, unless it is hidden and skipped
 abbrev typed : Bool → List ℕ → Result FileType ErrorKind → List Typed
 typed skip name (Ok type) = if skip && is_hidden name then [] else record { name = name; file_type = type } ∷ []
 typed skip name (Err kind) = []
 
+-- the error of a name whose type is one
 abbrev untyped : {R : Type 0} → Spec R → List ℕ → Result FileType ErrorKind → List Failure
 untyped spec name (Ok type) = []
 untyped spec name (Err kind) = io (spec.depth + 1) (Some (join spec.path name)) kind ∷ []
