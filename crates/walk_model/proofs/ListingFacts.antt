@@ -13,7 +13,7 @@ use Rattle.walk_model.specs.FileType.{is_symlink}
 use Rattle.walk_model.specs.FileSystem.{Named, Listed}
 use Rattle.walk_model.specs.Entry.{Item, is_hidden}
 use Rattle.walk_model.specs.ReadDir.{Spec}
-use Rattle.walk_model.specs.Sorting.{put, arranged, Typed, name_before, shown, errors_of}
+use Rattle.walk_model.specs.Sorting.{put, arranged, Typed, name_before, names_of, errors_of}
 use Rattle.walk_model.specs.Job as value
 use Rattle.walk_model.specs.Job.{Job}
 use Rattle.walk_model.proofs.SortingFacts.{inserted, insertion_sorted, insertion_sorted-unique, map-insertion_sorted, IsStrictWeakOrder-through}
@@ -52,7 +52,7 @@ module _ {R E : Type 0} (job : Job R E) (spec : Spec R) where
   module _ (no_links : job.options.follow_links ≡ false) where
     -- the shown names, and the errors
     abbrev names : List Listed → List Typed
-    names = flat_map (shown job.options.skip_hidden)
+    names = flat_map (names_of job.options.skip_hidden)
 
     abbrev errors : List Listed → List Failure
     errors = flat_map (errors_of spec)

@@ -59,9 +59,9 @@ untyped spec name (Ok type) = []
 untyped spec name (Err kind) = io (spec.depth + 1) (Some (join spec.path name)) kind ∷ []
 
 -- the name that an item of a listing shows: none where it is hidden and skipped, and where it is an error
-abbrev pub shown : Bool → Listed → List Typed
-shown skip (Ok n) = typed skip n.name n.file_type
-shown skip (Err kind) = []
+abbrev pub names_of : Bool → Listed → List Typed
+names_of skip (Ok n) = typed skip n.name n.file_type
+names_of skip (Err kind) = []
 
 -- the error that it is, in the directory of this specification
 abbrev pub errors_of : {R : Type 0} → Spec R → Listed → List Failure

@@ -2,7 +2,7 @@
 ghost use Rattle.std.specs.Prelude.{◌≡◌, ◌+◌, ◌<◌, ◌^◌, ◌++◌, IfOk, OnOk, flat_map, map, string_bytes};
 ghost use Rattle.walk_fs.specs.Views.{listed};
 ghost use Rattle.walk_model.specs.Entry.{AtDepth};
-ghost use Rattle.walk_model.specs.Sorting.{arranged, shown, errors_of};
+ghost use Rattle.walk_model.specs.Sorting.{arranged, names_of, errors_of};
 ghost use Rattle.walk_model.specs.Job as value;
 ghost use Rattle.jwalk_read.specs.Entry.{item};
 ghost use Rattle.jwalk_read.specs.Error.{failure};
@@ -52,7 +52,7 @@ impl<C: ClientState, S: FileSystem, P: ProcessReadDir<C, A>, A: Allocator + Copy
         found: io::Result<Listed<A>>,
     ) -> Result<(), AllocError>
         requires { of.now.depth + 1 < 2 ^ 64 }
-        ensures names { OnOk result (map typed parts.new.names.items ≡ map typed parts.old.names.items ++ shown (skips_hidden self.now) (listed found)) }
+        ensures names { OnOk result (map typed parts.new.names.items ≡ map typed parts.old.names.items ++ names_of (skips_hidden self.now) (listed found)) }
         ensures errors { OnOk result (map failure parts.new.errors.items ≡ map failure parts.old.errors.items ++ errors_of (spec of.now) (listed found)) }
     {
         match found {
@@ -82,7 +82,7 @@ impl<C: ClientState, S: FileSystem, P: ProcessReadDir<C, A>, A: Allocator + Copy
         listing: Vec<io::Result<Listed<A>>, A>,
     ) -> Result<Parts<A>, AllocError>
         requires { of.now.depth + 1 < 2 ^ 64 }
-        ensures names { IfOk result (λ parts. map typed parts.names.items ≡ flat_map (shown (skips_hidden self.now)) (map listed listing.items)) }
+        ensures names { IfOk result (λ parts. map typed parts.names.items ≡ flat_map (names_of (skips_hidden self.now)) (map listed listing.items)) }
         ensures errors { IfOk result (λ parts. map failure parts.errors.items ≡ flat_map (errors_of (spec of.now)) (map listed listing.items)) }
     {
         let mut parts = Parts {
