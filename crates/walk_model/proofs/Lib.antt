@@ -7,6 +7,7 @@ pub mod PathFacts
 pub mod PathJoins
 pub mod PathNames
 pub mod PathParents
+pub mod PlacedSort
 pub mod PreorderFacts
 pub mod SortingFacts
 pub mod StepFacts

@@ -28,7 +28,7 @@ exchanged x y us vs false false h e = e
 
 module _ {X : Type 0} (lt : X → X → Bool) where
   -- no element has to stand before an earlier one
-  abbrev Ascends : List X → Type 0
+  abbrev pub Ascends : List X → Type 0
   Ascends [] = Unit {0}
   Ascends (x ∷ xs) = AllByRecursion (λ y. lt y x ≡ false) xs × Ascends xs
 

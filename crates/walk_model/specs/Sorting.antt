@@ -1,5 +1,5 @@
 -- The stable order of a list: entries by the bytes of their names, then the errors, and what ties as it stood.
-use Rattle.std.specs.Prelude.{◌≡◌, ◌↔◌, ◌+◌, ◌-◌, ◌++◌, length, take, replicate, ℕ, Bool, true, false, ◌&&◌, List, [], ◌∷◌, Some, None, Result, Ok, Err, if◌then◌else◌, IsPermutation}
+use Rattle.std.specs.Prelude.{◌≡◌, ◌↔◌, ◌+◌, ◌-◌, ◌++◌, length, take, replicate, ℕ, Bool, true, false, not, ◌&&◌, ◌||◌, nat_lt, List, [], ◌∷◌, Some, None, Result, Ok, Err, if◌then◌else◌, IsPermutation}
 use Rattle.std.specs.Int.{from_be_bytes, w128}
 use Rattle.std.specs.Ordering.{nat_cmp, is_lt}
 use Rattle.std.specs.Cmp.Lexicographic.{slice_cmp}
@@ -67,6 +67,10 @@ names_of skip (Err kind) = []
 abbrev pub errors_of : {R : Type 0} → Spec R → Listed → List Failure
 errors_of spec (Ok n) = untyped spec n.name n.file_type
 errors_of spec (Err kind) = io (spec.depth + 1) None kind ∷ []
+
+-- whether x has to stand before y: by an order, and where they tie by their places
+abbrev pub placed_before : {X : Type 0} → (X → X → Bool) → (X → ℕ) → X → X → Bool
+placed_before lt place x y = lt x y || (not (lt y x) && nat_lt (place x) (place y))
 
 -- the first sixteen bytes as a number, the missing ones zero
 abbrev pub beginning : List ℕ → ℕ

@@ -6,7 +6,7 @@ ghost use Rattle.walk_model.specs.Sorting.{arranged, names_of, errors_of};
 ghost use Rattle.walk_model.specs.Job as value;
 ghost use Rattle.jwalk_read.specs.Entry.{item};
 ghost use Rattle.jwalk_read.specs.Error.{failure};
-ghost use Rattle.jwalk_read.specs.KeyedName.{typed};
+ghost use Rattle.jwalk_read.specs.KeyedName.{typed, HavePlaces};
 ghost use Rattle.jwalk_read.specs.ReadDir.{spec};
 ghost use Rattle.jwalk_read.specs.States.{DefaultIs};
 ghost use Rattle.jwalk_read.specs.Job.{job, file_system, callback, skips_hidden};
@@ -53,6 +53,7 @@ impl<C: ClientState, S: FileSystem, P: ProcessReadDir<C, A>, A: Allocator + Copy
     ) -> Result<(), AllocError>
         requires { of.now.depth + 1 < 2 ^ 64 }
         ensures names { OnOk result (map typed parts.new.names.items ≡ map typed parts.old.names.items ++ names_of (skips_hidden self.now) (listed found)) }
+        ensures places { HavePlaces parts.old.names.items → OnOk result (HavePlaces parts.new.names.items) }
         ensures errors { OnOk result (map failure parts.new.errors.items ≡ map failure parts.old.errors.items ++ errors_of (spec of.now) (listed found)) }
     {
         match found {
@@ -67,7 +68,8 @@ impl<C: ClientState, S: FileSystem, P: ProcessReadDir<C, A>, A: Allocator + Copy
                 }
                 Ok(file_type) => {
                     if !self.skips(name.as_str()) {
-                        parts.names.push(KeyedName::new(name, file_type))?;
+                        let before = parts.names.len();
+                        parts.names.push(KeyedName::new(name, file_type, before))?;
                     }
                     Ok(())
                 }
@@ -83,6 +85,7 @@ impl<C: ClientState, S: FileSystem, P: ProcessReadDir<C, A>, A: Allocator + Copy
     ) -> Result<Parts<A>, AllocError>
         requires { of.now.depth + 1 < 2 ^ 64 }
         ensures names { IfOk result (λ parts. map typed parts.names.items ≡ flat_map (names_of (skips_hidden self.now)) (map listed listing.items)) }
+        ensures places { IfOk result (λ parts. HavePlaces parts.names.items) }
         ensures errors { IfOk result (λ parts. map failure parts.errors.items ≡ flat_map (errors_of (spec of.now)) (map listed listing.items)) }
     {
         let mut parts = Parts {

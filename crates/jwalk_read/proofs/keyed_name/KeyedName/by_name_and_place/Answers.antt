@@ -1,0 +1,28 @@
+use Rattle.std.proofs.Common.{◌≡◌, ◌∙◌, sym, ap, refl, nat_cmp, is_lt, string_bytes}
+use Rattle.std.specs.Ordering.{ordering_then}
+use Rattle.std.specs.Cmp.Lexicographic.{slice_cmp}
+use Rattle.std.specs.declared.cmp.Ordering.{Ordering}
+use Rattle.std.specs.declared.cmp.Ordering.TheVariants.{Less, Equal, Greater}
+use Rattle.walk_model.specs.Sorting.{beginning}
+use Rattle.walk_model.proofs.ByteNumbers.{then_by_beginning, string_byte}
+use Rattle.walk_model.proofs.ListingFacts.{then_place}
+use Rattle.jwalk_read.proofs.keyed_name.KeyedName.by_name_and_place.Goals as goal
+
+apart_then : (r s : Ordering) → (r ≡ Equal → ⊥) → r ≡ ordering_then r s
+apart_then Less s h = refl
+apart_then Equal s h = absurd (h refl)
+apart_then Greater s h = refl
+
+pub returns-in_default : goal.returns-in_default
+returns-in_default g c =
+    let a = c.args.self.now in
+    let b = c.args.other.now in
+    let names = slice_cmp nat_cmp (string_bytes a.name) (string_bytes b.name) in
+    let keys : nat_cmp a.key b.key ≡ nat_cmp (beginning (string_bytes a.name)) (beginning (string_bytes b.name)) =
+    ap (λ k. nat_cmp k b.key) a.begins ∙ ap (nat_cmp (beginning (string_bytes a.name))) b.begins in
+    let same : c.cmp.result ≡ names =
+    apart_then c.cmp.result names c.in_default.not-Equal
+    ∙ ap (λ o. ordering_then o names) (c.cmp.ensures ∙ keys)
+    ∙ then_by_beginning (string_bytes a.name) (string_bytes b.name) (string_byte a.name) (string_byte b.name) in
+    ap is_lt (apart_then c.cmp.result (nat_cmp a.place b.place) c.in_default.not-Equal)
+    ∙ then_place (string_bytes a.name) (string_bytes b.name) a.place b.place c.cmp.result (sym same)

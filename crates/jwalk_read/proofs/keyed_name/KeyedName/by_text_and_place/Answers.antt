@@ -1,0 +1,25 @@
+use Rattle.std.proofs.Common.{◌≡◌, ◌∙◌, sym, ap, refl, nat_cmp, is_lt, string_bytes}
+use Rattle.std.specs.Ordering.{ordering_then}
+use Rattle.std.specs.declared.cmp.Ordering.{Ordering}
+use Rattle.std.specs.declared.cmp.Ordering.TheVariants.{Less, Equal, Greater}
+use Rattle.walk_model.proofs.ListingFacts.{then_place}
+use Rattle.jwalk_read.proofs.keyed_name.KeyedName.by_text_and_place.Goals as goal
+
+apart_then : (r s : Ordering) → (r ≡ Equal → ⊥) → r ≡ ordering_then r s
+apart_then Less s h = refl
+apart_then Equal s h = absurd (h refl)
+apart_then Greater s h = refl
+
+pub returns-in-Equal : goal.returns-in-Equal
+returns-in-Equal g c =
+    let a = c.args.self.now in
+    let b = c.args.other.now in
+    ap is_lt c.cmp-in-Equal.ensures
+    ∙ then_place (string_bytes a.name) (string_bytes b.name) a.place b.place Equal (sym c.cmp.ensures ∙ c.in-Equal.is)
+
+pub returns-in_default : goal.returns-in_default
+returns-in_default g c =
+    let a = c.args.self.now in
+    let b = c.args.other.now in
+    ap is_lt (apart_then c.cmp.result (nat_cmp a.place b.place) c.in_default.not-Equal)
+    ∙ then_place (string_bytes a.name) (string_bytes b.name) a.place b.place c.cmp.result (sym c.cmp.ensures)
