@@ -31,6 +31,12 @@ name_before-order = ranks_by nat_list_cmp_total (λ (a : Typed). a.name)
 pub name_before-through : {T : Type 0} (view : T → Typed) → IsStrictWeakOrder (λ a b. name_before (view a) (view b))
 name_before-through view = IsStrictWeakOrder-through name_before name_before-order view
 
+-- what comes behind a comparison that told two apart doesn't matter
+pub apart_then : (r s : Ordering) → (r ≡ Equal → ⊥) → r ≡ ordering_then r s
+apart_then Less s h = refl
+apart_then Equal s h = absurd (h refl)
+apart_then Greater s h = refl
+
 picked : (b c : Bool) → is_lt (cond b Less (cond c Equal Greater)) ≡ b
 picked true c = refl
 picked false true = refl

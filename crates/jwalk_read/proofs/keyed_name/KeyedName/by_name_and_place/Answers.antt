@@ -5,13 +5,8 @@ use Rattle.std.specs.declared.cmp.Ordering.{Ordering}
 use Rattle.std.specs.declared.cmp.Ordering.TheVariants.{Less, Equal, Greater}
 use Rattle.walk_model.specs.Sorting.{beginning}
 use Rattle.walk_model.proofs.ByteNumbers.{then_by_beginning, string_byte}
-use Rattle.walk_model.proofs.ListingFacts.{then_place}
+use Rattle.walk_model.proofs.ListingFacts.{apart_then, then_place}
 use Rattle.jwalk_read.proofs.keyed_name.KeyedName.by_name_and_place.Goals as goal
-
-apart_then : (r s : Ordering) → (r ≡ Equal → ⊥) → r ≡ ordering_then r s
-apart_then Less s h = refl
-apart_then Equal s h = absurd (h refl)
-apart_then Greater s h = refl
 
 pub returns-in_default : goal.returns-in_default
 returns-in_default g c =

@@ -2,13 +2,8 @@ use Rattle.std.proofs.Common.{◌≡◌, ◌∙◌, sym, ap, refl, nat_cmp, is_l
 use Rattle.std.specs.Ordering.{ordering_then}
 use Rattle.std.specs.declared.cmp.Ordering.{Ordering}
 use Rattle.std.specs.declared.cmp.Ordering.TheVariants.{Less, Equal, Greater}
-use Rattle.walk_model.proofs.ListingFacts.{then_place}
+use Rattle.walk_model.proofs.ListingFacts.{apart_then, then_place}
 use Rattle.jwalk_read.proofs.keyed_name.KeyedName.by_text_and_place.Goals as goal
-
-apart_then : (r s : Ordering) → (r ≡ Equal → ⊥) → r ≡ ordering_then r s
-apart_then Less s h = refl
-apart_then Equal s h = absurd (h refl)
-apart_then Greater s h = refl
 
 pub returns-in-Equal : goal.returns-in-Equal
 returns-in-Equal g c =
