@@ -3,7 +3,7 @@ use Rattle.std.proofs.Common.{◌≡◌, ◌≢◌, ℕ, List, [], ◌∷◌, �
 use Rattle.std.proofs.lemmas.List.{same_from_push}
 use Rattle.walk.specs.Number.{value_of}
 use Rattle.walk.specs.Asked.{nothing, also}
-use Rattle.walk.specs.Words.{BeginWithNumber, BeginWithBoth, Begin, AddAll, Add, Ask, AreGood}
+use Rattle.walk.specs.Words.{BeginWithNumber, BeginWithNamedNumber, Begin, AddAll, Add, Ask, AreGood}
 use Rattle.walk.specs.declared.asked.Asked.{Asked}
 use Rattle.walk.specs.declared.asked.Choice.{Choice}
 use Rattle.walk.specs.declared.asked.Choice.TheVariants.{Tree, Sort, Hidden, Min, Max}
@@ -55,7 +55,7 @@ pub one_option : (words : List (List ℕ)) (a b : Choice) (xs ys : List (List �
 one_option words a b xs ys first second = same_parts a b xs ys (sym (split_is words a xs first) ∙ split_is words b ys second)
 
 -- Words that begin with an option's name begin with no option where no number follows.
-lacks_number : (option : ℕ → Choice) (name : List ℕ) (behind : List (List ℕ)) → split (name ∷ behind) ≡ numbered option behind → ((words : List (List ℕ)) (n : ℕ) (others : List (List ℕ)) → Begin words (option n) others → BeginWithBoth name words n others) → ((n : ℕ) (others : List (List ℕ)) → ¬ (BeginWithNumber behind n others)) → (choice : Choice) (others : List (List ℕ)) → ¬ (Begin (name ∷ behind) choice others)
+lacks_number : (option : ℕ → Choice) (name : List ℕ) (behind : List (List ℕ)) → split (name ∷ behind) ≡ numbered option behind → ((words : List (List ℕ)) (n : ℕ) (others : List (List ℕ)) → Begin words (option n) others → BeginWithNamedNumber name words n others) → ((n : ℕ) (others : List (List ℕ)) → ¬ (BeginWithNumber behind n others)) → (choice : Choice) (others : List (List ℕ)) → ¬ (Begin (name ∷ behind) choice others)
 unfolding numbered
 lacks_number option name [] by_name begins none choice others begin =
     let differ : None ≡ split_as choice others = sym by_name ∙ split_is (name ∷ []) choice others begin in
@@ -63,9 +63,9 @@ lacks_number option name [] by_name begins none choice others begin =
 lacks_number option name (digits ∷ behind) by_name begins none choice others begin =
     let same = same_parts (option (value_of digits)) choice behind others (sym by_name ∙ split_is (name ∷ digits ∷ behind) choice others begin) in
     let number : Begin (name ∷ digits ∷ behind) (option (value_of digits)) others = subst (λ c. Begin (name ∷ digits ∷ behind) c others) (sym same.0) begin in
-    let both : BeginWithBoth name (name ∷ digits ∷ behind) (value_of digits) others = begins (name ∷ digits ∷ behind) (value_of digits) others number in
-    let e : both.0 ≡ digits ∷ behind = cc (both.1) in
-    none (value_of digits) others (subst (λ ws. BeginWithNumber ws (value_of digits) others) e both.2)
+    let named : BeginWithNamedNumber name (name ∷ digits ∷ behind) (value_of digits) others = begins (name ∷ digits ∷ behind) (value_of digits) others number in
+    let e : named.0 ≡ digits ∷ behind = cc (named.1) in
+    none (value_of digits) others (subst (λ ws. BeginWithNumber ws (value_of digits) others) e named.2)
 
 pub lacks_min : (behind : List (List ℕ)) → ((n : ℕ) (others : List (List ℕ)) → ¬ (BeginWithNumber behind n others)) → (choice : Choice) (others : List (List ℕ)) → ¬ (Begin (codes "--min" ∷ behind) choice others)
 unfolding split named

@@ -11,16 +11,16 @@ abbrev pub BeginWithNumber : List (List ℕ) → ℕ → List (List ℕ) → Typ
 BeginWithNumber words n others = (digits : List ℕ) × (words ≡ digits ∷ others) × IsNumber digits × (value_of digits ≡ n)
 
 -- the words begin with a name and a number
-abbrev pub BeginWithBoth : List ℕ → List (List ℕ) → ℕ → List (List ℕ) → Type 0
-BeginWithBoth name words n others = (behind : List (List ℕ)) × (words ≡ name ∷ behind) × BeginWithNumber behind n others
+abbrev pub BeginWithNamedNumber : List ℕ → List (List ℕ) → ℕ → List (List ℕ) → Type 0
+BeginWithNamedNumber name words n others = (behind : List (List ℕ)) × (words ≡ name ∷ behind) × BeginWithNumber behind n others
 
 -- the words begin with an option, and these stand behind it
 abbrev pub Begin : List (List ℕ) → Choice → List (List ℕ) → Type 0
 Begin words Tree others = words ≡ codes "--tree" ∷ others
 Begin words Sort others = words ≡ codes "--sort" ∷ others
 Begin words Hidden others = words ≡ codes "--hidden" ∷ others
-Begin words (Min depth) others = BeginWithBoth (codes "--min") words depth others
-Begin words (Max depth) others = BeginWithBoth (codes "--max") words depth others
+Begin words (Min depth) others = BeginWithNamedNumber (codes "--min") words depth others
+Begin words (Max depth) others = BeginWithNamedNumber (codes "--max") words depth others
 
 -- the words are these options, one after another, and add what they ask for to what was asked for before
 abbrev pub AddAll : List Choice → List (List ℕ) → Asked → Asked → Type 0

@@ -2,6 +2,7 @@ pub mod ByteNumbers
 pub mod DepthFacts
 pub mod HeldFacts
 pub mod ListingFacts
+pub mod NameOrders
 pub mod PathEnds
 pub mod PathFacts
 pub mod PathJoins

@@ -1,11 +1,9 @@
-use Rattle.std.proofs.Common.{◌≡◌, ◌∙◌, ap, refl, nat_cmp, is_lt, string_bytes}
+use Rattle.std.proofs.Common.{◌≡◌, ◌∙◌, ap, nat_cmp, is_lt, string_bytes}
 use Rattle.std.specs.Ordering.{ordering_then}
 use Rattle.std.specs.Cmp.Lexicographic.{slice_cmp}
-use Rattle.std.specs.declared.cmp.Ordering.{Ordering}
-use Rattle.std.specs.declared.cmp.Ordering.TheVariants.{Less, Equal, Greater}
 use Rattle.walk_model.specs.Sorting.{beginning}
 use Rattle.walk_model.proofs.ByteNumbers.{by_beginning, string_byte}
-use Rattle.walk_model.proofs.ListingFacts.{apart_then}
+use Rattle.walk_model.proofs.NameOrders.{apart_then}
 use Rattle.jwalk_read.proofs.keyed_name.KeyedName.by_name.Goals as goal
 
 pub returns-in_default : goal.returns-in_default

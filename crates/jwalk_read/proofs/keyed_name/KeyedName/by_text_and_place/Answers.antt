@@ -1,8 +1,6 @@
-use Rattle.std.proofs.Common.{◌≡◌, ◌∙◌, sym, ap, refl, nat_cmp, is_lt, string_bytes}
-use Rattle.std.specs.Ordering.{ordering_then}
-use Rattle.std.specs.declared.cmp.Ordering.{Ordering}
-use Rattle.std.specs.declared.cmp.Ordering.TheVariants.{Less, Equal, Greater}
-use Rattle.walk_model.proofs.ListingFacts.{apart_then, then_place}
+use Rattle.std.proofs.Common.{◌∙◌, sym, ap, nat_cmp, is_lt, string_bytes}
+use Rattle.std.specs.declared.cmp.Ordering.TheVariants.{Equal}
+use Rattle.walk_model.proofs.NameOrders.{apart_then, then_place}
 use Rattle.jwalk_read.proofs.keyed_name.KeyedName.by_text_and_place.Goals as goal
 
 pub returns-in-Equal : goal.returns-in-Equal

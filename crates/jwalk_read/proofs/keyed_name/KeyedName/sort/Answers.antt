@@ -5,7 +5,7 @@ use Rattle.std.proofs.lemmas.Result.{on_ok_weaker}
 use Rattle.walk_model.specs.Sorting.{placed_before}
 use Rattle.walk_model.proofs.SortingFacts.{IsSortedBy-insertion_sorted, IsStableBy-insertion_sorted}
 use Rattle.walk_model.proofs.PlacedSort.{placed_before-order, Rises-by_index, insertion_sorted-places}
-use Rattle.walk_model.proofs.ListingFacts.{name_before-through}
+use Rattle.walk_model.proofs.NameOrders.{name_before-through}
 use Rattle.jwalk_read.specs.KeyedName.{typed, place_of, comes_before}
 use Rattle.jwalk_read.proofs.keyed_name.KeyedName.sort.Goals as goal
 
