@@ -6,7 +6,8 @@ walk by name beside one in the order of creation.
 
 Build the program first: (cd crates/walk && rt run). FOLDER holds the inputs and the trees on disk (a temporary folder
 where none is given). Each time is the best of three warm runs with the output in a file, and the peak memory is that
-of the last one. The two walks of the sorting take turns, and their times are the best of nine.
+of the last one. The two walks of the sorting take turns: their times are the medians of 25 turns, and so is the ratio
+of the two of a turn, which a machine that is slow for a while leaves as it is.
 """
 import os
 import random
@@ -14,6 +15,7 @@ import subprocess
 import sys
 import tempfile
 import time
+from statistics import median
 
 PROGRAM = os.path.join(os.path.dirname(os.path.abspath(__file__)), "..", "crates", "walk", "out", "walk")
 
@@ -92,15 +94,15 @@ def sorting(folder, output, count=200_000):
     listed = os.path.join(folder, f"scrambled-{count}.txt")
     write_tree(listed, scrambled(count))
     plain, by_name = [], []
-    for _ in range(10):
+    for _ in range(26):
         plain.append(run([PROGRAM, "--tree", "/r"], listed, output)[0])
         by_name.append(run([PROGRAM, "--tree", "--sort", "/r"], listed, output)[0])
     with open(output) as file:
         lines = file.read().splitlines()
     if lines != ["0 d /r"] + [f"1 f {path}" for _, path in list(wide(count))[1:]]:
         sys.exit("the sorted walk isn't sorted")
-    plain, by_name = min(plain[1:]), min(by_name[1:])
-    print(f"scrambled {count}: {plain * 1e3:.1f} ms, with --sort {by_name * 1e3:.1f} ms, {by_name / plain:.2f} times")
+    ratio = median(b / a for a, b in zip(plain[1:], by_name[1:]))
+    print(f"scrambled {count}: {median(plain[1:]) * 1e3:.1f} ms, with --sort {median(by_name[1:]) * 1e3:.1f} ms, {ratio:.2f} times")
 
 
 def on_disk(folder, entries):
