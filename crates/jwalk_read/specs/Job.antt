@@ -1,47 +1,58 @@
--- A job seen as a value, and what a walk takes to be given. It can't be told yet to follow links.
-use Rattle.std.specs.Prelude.{ℕ, Bool, List, Option}
+-- A job seen as a value, and what its readings are.
+use Rattle.std.specs.Prelude.{◌≡◌, ◌<◌, ◌^◌, ℕ, List, length}
+use Rattle.std.specs.declared.clone.Clone as Clone
+use Rattle.std.specs.declared.default.Default as Default
 use Rattle.walk_model.specs.FileSystem.{Functions}
-use Rattle.walk_model.specs.Entry.{Item}
-use Rattle.walk_model.specs.Options.{defaults}
-use Rattle.walk_model.specs.ReadDir.{Reading}
+use Rattle.walk_model.specs.Options as value_options
+use Rattle.walk_model.specs.ReadDir.{Spec, Outcome, IsLawful, list_of}
+use Rattle.walk_model.specs.Counted.{Worth}
 use Rattle.walk_model.specs.Job as value
+use Rattle.walk_fs.specs.declared.file_system.FileSystem as FileSystem
+use Rattle.jwalk_read.specs.declared.process_read_dir.ProcessReadDir as ProcessReadDir
 use Rattle.jwalk_read.specs.declared.job.Job.{Job}
-use Rattle.jwalk_read.specs.States.{ClonesAreEqual, DefaultIs}
-
--- what a callback makes of a list: of a directory at a depth or of the root, with its path, its state and the list
-abbrev pub Processing : Type 0 → Type 0 → Type 0
-Processing R E = Option ℕ → List ℕ → R → List (Item R E) → Reading R E
+use Rattle.jwalk_read.specs.Options.{options}
+use Rattle.jwalk_read.specs.Given.{Given, counted_spec, counted_outcome}
 
 module _ {C S P A R E : Type 0} where
   abbrev pub file_system : Job C S P A R E → S
-  file_system it = it.fs
+  file_system job = job.fs
 
   abbrev pub callback : Job C S P A R E → P
-  callback it = it.process
+  callback job = job.process
+
+  abbrev pub options_of : Job C S P A R E → value_options.Options
+  options_of job = options job.options
 
   abbrev pub greatest_depth : Job C S P A R E → ℕ
-  greatest_depth it = it.max_depth
+  greatest_depth job = (options_of job).max_depth
 
-  -- whether it puts lists in order by name
-  abbrev pub sorts : Job C S P A R E → Bool
-  sorts it = it.sort
+-- a clone counts as what it was made of
+abbrev pub ClonesCount : {R E : Type 0} → Clone.Ghosts R → Given R E → Type 0
+ClonesCount {R} clone given = (x y : R) → clone.is_clone x y → given.read_dir_state y ≡ given.read_dir_state x
 
-  -- whether it leaves out hidden names
-  abbrev pub skips_hidden : Job C S P A R E → Bool
-  skips_hidden it = it.skip_hidden
+-- a default counts as the state of a new entry
+abbrev pub DefaultsCount : {R E : Type 0} → Default.Ghosts E → Given R E → Type 0
+DefaultsCount {E = E} default given = (x : E) → default.is_default x → given.dir_entry_state x ≡ given.new_entry
 
-  -- the job over what its file system answers, what its callback makes of lists, and the default state of an entry
-  abbrev pub job : Functions → Processing R E → E → Job C S P A R E → value.Job R E
-  job functions processed d it = record {
-    fs = functions;
-    options = record defaults { sort = sorts it; skip_hidden = skips_hidden it; max_depth = greatest_depth it };
-    processed = processed;
-    default = d;
-  }
+-- the job over a fixed file system and what is given
+abbrev pub job_by : {C S P A R E : Type 0} → FileSystem.Ghosts S → Given R E → Job C S P A R E → value.Job Worth Worth
+job_by files given job = record {
+  fs = files.functions (file_system job);
+  options = options_of job;
+  processed = given.processed;
+  default = given.new_entry;
+}
 
--- What the promises on values take to be given: the file system and the callback are fixed, a clone equals what it was made of, and a default is one value.
-pub record IsSteady {R E : Type 0} (fs_fixed callback_fixed : Type 0) (is_clone : R → R → Type 0) (is_default : E → Type 0) (d : E) : Type 0 where
-  pub file_system : fs_fixed
-  pub callback : callback_fixed
-  pub clones : ClonesAreEqual is_clone
-  pub default : DefaultIs is_default d
+module _ {C S P A R E : Type 0} (files : FileSystem.Ghosts S) (process : ProcessReadDir.Ghosts P C A R E) (clone : Clone.Ghosts R) (default : Default.Ghosts E) where
+  -- What the job works with is as it is given: its file system is fixed, its callback makes of lists what is said, and clones and defaults count so.
+  pub record IsSteady (job : Job C S P A R E) (given : Given R E) : Type 0 where
+    pub file_system : files.IsFixed (file_system job)
+    pub callback : process.Makes (callback job) given
+    pub clones : ClonesCount clone given
+    pub default : DefaultsCount default given
+
+  -- The outcome is a reading of the directory: lawful whatever the file system answers, a list that fits in memory, and over a steady job the reading of the definition.
+  pub record IsReadingOf (job : Job C S P A R E) (spec : Spec R) (outcome : Outcome R E) : Type 0 where
+    pub lawful : IsLawful (greatest_depth job) spec outcome
+    pub few : length (list_of outcome) < 2 ^ 64
+    pub value : (given : Given R E) → IsSteady job given → counted_outcome given outcome ≡ value.reading (job_by files given job) (counted_spec given spec)

@@ -2,6 +2,6 @@ pub mod Text
 pub mod Error
 pub mod Entry
 pub mod ReadDir
-pub mod KeyedName
-pub mod States
+pub mod Options
+pub mod Given
 pub mod Job

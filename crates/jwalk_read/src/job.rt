@@ -1,29 +1,29 @@
 //! One reading of a directory.
-ghost use Rattle.std.specs.Prelude.{◌≡◌, ◌+◌, ◌<◌, ◌^◌, ◌&&◌, ◌++◌, [], ◌∷◌, false, Some, Ok, IfOk, OnOk, map, option_map, option_to_list, string_bytes};
-ghost use Rattle.walk_fs.specs.Views.{listed, named};
+ghost use Rattle.std.specs.Prelude.{◌≡◌, ◌+◌, ◌<◌, ◌^◌, ◌&&◌, ◌++◌, [], ◌∷◌, Some, Ok, IfOk, OnOk, map, option_map, option_to_list, string_bytes};
+ghost use Rattle.std.specs.IoError.{error_kind};
+ghost use Rattle.walk_model.specs.Error.{io};
 ghost use Rattle.walk_model.specs.Entry.{AtDepth, is_hidden, children_at};
 ghost use Rattle.walk_model.specs.FileType.{is_dir};
 ghost use Rattle.walk_model.specs.Paths.{join};
-ghost use Rattle.walk_model.specs.ReadDir.{IsLawful};
 ghost use Rattle.walk_model.specs.Job as value;
-ghost use Rattle.std.specs.IoError.{error_kind};
-ghost use Rattle.walk_model.specs.Error.{io};
+ghost use Rattle.walk_fs.specs.Views.{listed, named};
 ghost use Rattle.jwalk_read.specs.Text.{text};
 ghost use Rattle.jwalk_read.specs.Error.{failure};
 ghost use Rattle.jwalk_read.specs.Entry.{entry, item, children};
 ghost use Rattle.jwalk_read.specs.ReadDir.{spec, outcome, reading};
-ghost use Rattle.jwalk_read.specs.States.{DefaultIs};
-ghost use Rattle.jwalk_read.specs.Job.{job, file_system, callback, greatest_depth, sorts, skips_hidden, IsSteady};
-
-mod by_name;
+ghost use Rattle.jwalk_read.specs.Options.{options, reads_by};
+ghost use Rattle.jwalk_read.specs.Given.{Given, counted_spec, counted_item, counted_reading, counted_list, counted_entry};
+ghost use Rattle.jwalk_read.specs.Job.{file_system, callback, options_of, DefaultsCount, job_by, IsSteady, IsReadingOf};
 
 use crate::client_state::ClientState;
 use crate::dir_entry::DirEntry;
 use crate::error::Error;
+use crate::options::Options;
 use crate::process_read_dir::ProcessReadDir;
 use crate::read_children::ReadChildren;
 use crate::read_dir::ReadDir;
 use crate::read_dir_spec::ReadDirSpec;
+use crate::sorting::sort_by_name;
 use std::alloc::{AllocError, Allocator, Global};
 use std::io;
 use std::marker::PhantomData;
@@ -45,9 +45,7 @@ pub struct Job<
 > {
     fs: S,
     process: P,
-    sort: bool,
-    skip_hidden: bool,
-    max_depth: usize,
+    options: Options,
     alloc: A,
     of: PhantomData<C>,
 }
@@ -95,19 +93,31 @@ impl<C: ClientState, S: FileSystem, P: ProcessReadDir<C, A>, A: Allocator + Copy
     pub fn new(alloc: A, fs: S, process: P, sort: bool, skip_hidden: bool, max_depth: usize) -> Self
         ensures file_system { file_system result ≡ fs }
         ensures callback { callback result ≡ process }
-        ensures sort { sorts result ≡ sort }
-        ensures skip_hidden { skips_hidden result ≡ skip_hidden }
-        ensures max_depth { greatest_depth result ≡ max_depth }
+        ensures options { options_of result ≡ reads_by sort skip_hidden max_depth }
+    {
+        Job::with_options(alloc, fs, process, Options::for_readings(sort, skip_hidden, max_depth))
+    }
+
+    /// A job over a file system and a callback, by the options of a walk.
+    pub fn with_options(alloc: A, fs: S, process: P, options: Options) -> Self
+        ensures file_system { file_system result ≡ fs }
+        ensures callback { callback result ≡ process }
+        ensures options { options_of result ≡ options options }
     {
         Job {
             fs,
             process,
-            sort,
-            skip_hidden,
-            max_depth,
+            options,
             alloc,
             of: PhantomData,
         }
+    }
+
+    /// The options that it goes by.
+    pub fn options(&self) -> Options
+        ensures { options result ≡ options_of self.now }
+    {
+        self.options
     }
 
     /// The directory that an entry of this type is to be read from.
@@ -135,7 +145,8 @@ impl<C: ClientState, S: FileSystem, P: ProcessReadDir<C, A>, A: Allocator + Copy
     ) -> Result<DirEntry<C, A>, AllocError>
         requires { of.now.depth + 1 < 2 ^ 64 }
         ensures depth { IfOk result (λ e. e.depth ≡ of.now.depth + 1) }
-        ensures value { (d : C.DirEntryState) → DefaultIs C.DirEntryState.is_default d → IfOk result (λ e. entry e ≡ value.entry_in (job (S.functions (file_system self.now)) (P.processed (callback self.now)) d self.now) (spec of.now) (string_bytes name) file_type) }
+        ensures value { (g : _) → DefaultsCount C.DirEntryState.Default g
+            → IfOk result (λ e. counted_entry g (entry e) ≡ value.entry_in (job_by S.FileSystem g self.now) (counted_spec g (spec of.now)) (string_bytes name) file_type) }
     {
         let read_children = self.children_in(of, name.as_str(), file_type)?;
         Ok(DirEntry {
@@ -150,9 +161,9 @@ impl<C: ClientState, S: FileSystem, P: ProcessReadDir<C, A>, A: Allocator + Copy
 
     /// Whether an item of this name is left out.
     fn skips(&self, name: &str) -> bool
-        ensures { result ≡ self.now.skip_hidden && is_hidden name.now }
+        ensures { result ≡ (options_of self.now).skip_hidden && is_hidden name.now }
     {
-        self.skip_hidden && is_hidden(name)
+        self.options.skip_hidden && is_hidden(name)
     }
 
     /// The error of a name whose type could not be told.
@@ -178,7 +189,8 @@ impl<C: ClientState, S: FileSystem, P: ProcessReadDir<C, A>, A: Allocator + Copy
     ) -> Result<Option<Result<DirEntry<C, A>, Error<A>>>, AllocError>
         requires { of.now.depth + 1 < 2 ^ 64 }
         ensures depth { IfOk result (λ o. AtDepth (of.now.depth + 1) (map item (option_to_list o))) }
-        ensures value { (d : C.DirEntryState) → DefaultIs C.DirEntryState.is_default d → IfOk result (λ o. map item (option_to_list o) ≡ value.named (job (S.functions (file_system self.now)) (P.processed (callback self.now)) d self.now) (spec of.now) (named found)) }
+        ensures value { (g : _) → DefaultsCount C.DirEntryState.Default g
+            → IfOk result (λ o. counted_list g (option_to_list o) ≡ value.named (job_by S.FileSystem g self.now) (counted_spec g (spec of.now)) (named found)) }
     {
         let Listed { name, file_type } = found;
         match file_type {
@@ -200,7 +212,8 @@ impl<C: ClientState, S: FileSystem, P: ProcessReadDir<C, A>, A: Allocator + Copy
     ) -> Result<Option<Result<DirEntry<C, A>, Error<A>>>, AllocError>
         requires { of.now.depth + 1 < 2 ^ 64 }
         ensures depth { IfOk result (λ o. AtDepth (of.now.depth + 1) (map item (option_to_list o))) }
-        ensures value { (d : C.DirEntryState) → DefaultIs C.DirEntryState.is_default d → IfOk result (λ o. map item (option_to_list o) ≡ value.item_of (job (S.functions (file_system self.now)) (P.processed (callback self.now)) d self.now) (spec of.now) (listed found)) }
+        ensures value { (g : _) → DefaultsCount C.DirEntryState.Default g
+            → IfOk result (λ o. counted_list g (option_to_list o) ≡ value.item_of (job_by S.FileSystem g self.now) (counted_spec g (spec of.now)) (listed found)) }
     {
         match found {
             Err(err) => Ok(Some(Err(Error::from_io(of.depth + 1, err)))),
@@ -217,7 +230,8 @@ impl<C: ClientState, S: FileSystem, P: ProcessReadDir<C, A>, A: Allocator + Copy
     ) -> Result<(), AllocError>
         requires { of.now.depth + 1 < 2 ^ 64 }
         ensures depth { AtDepth (of.now.depth + 1) (map item items.old.items) → OnOk result (AtDepth (of.now.depth + 1) (map item items.new.items)) }
-        ensures value { (d : C.DirEntryState) → DefaultIs C.DirEntryState.is_default d → OnOk result (map item items.new.items ≡ map item items.old.items ++ value.item_of (job (S.functions (file_system self.now)) (P.processed (callback self.now)) d self.now) (spec of.now) (listed found)) }
+        ensures value { (g : _) → DefaultsCount C.DirEntryState.Default g
+            → OnOk result (counted_list g items.new.items ≡ counted_list g items.old.items ++ value.item_of (job_by S.FileSystem g self.now) (counted_spec g (spec of.now)) (listed found)) }
     {
         match self.item_of(of, found)? {
             Some(item) => {
@@ -236,7 +250,8 @@ impl<C: ClientState, S: FileSystem, P: ProcessReadDir<C, A>, A: Allocator + Copy
     ) -> Result<Vec<Result<DirEntry<C, A>, Error<A>>, A>, AllocError>
         requires { of.now.depth + 1 < 2 ^ 64 }
         ensures depth { IfOk result (λ v. AtDepth (of.now.depth + 1) (map item v.items)) }
-        ensures value { (d : C.DirEntryState) → DefaultIs C.DirEntryState.is_default d → IfOk result (λ v. map item v.items ≡ value.raw (job (S.functions (file_system self.now)) (P.processed (callback self.now)) d self.now) (spec of.now) (map listed listing.items)) }
+        ensures value { (g : _) → DefaultsCount C.DirEntryState.Default g
+            → IfOk result (λ v. counted_list g v.items ≡ value.raw (job_by S.FileSystem g self.now) (counted_spec g (spec of.now)) (map listed listing.items)) }
     {
         let mut items = Vec::with_capacity(self.alloc, listing.len())?;
         for found in listing {
@@ -253,12 +268,14 @@ impl<C: ClientState, S: FileSystem, P: ProcessReadDir<C, A>, A: Allocator + Copy
     ) -> Result<Vec<Result<DirEntry<C, A>, Error<A>>, A>, AllocError>
         requires { of.now.depth + 1 < 2 ^ 64 }
         ensures depth { IfOk result (λ v. AtDepth (of.now.depth + 1) (map item v.items)) }
-        ensures value { (d : C.DirEntryState) → DefaultIs C.DirEntryState.is_default d → IfOk result (λ v. map item v.items ≡ value.ordered (job (S.functions (file_system self.now)) (P.processed (callback self.now)) d self.now) (spec of.now) (map listed listing.items)) }
+        ensures value { (g : _) → DefaultsCount C.DirEntryState.Default g
+            → IfOk result (λ v. counted_list g v.items ≡ value.ordered (job_by S.FileSystem g self.now) (counted_spec g (spec of.now)) (map listed listing.items)) }
     {
-        if self.sort {
-            return self.by_name(of, listing);
+        let mut items = self.raw(of, listing)?;
+        if self.options.sort {
+            sort_by_name(&mut items)?;
         }
-        self.raw(of, listing)
+        Ok(items)
     }
 
     /// The list of a directory that could be listed, after the callback.
@@ -270,7 +287,8 @@ impl<C: ClientState, S: FileSystem, P: ProcessReadDir<C, A>, A: Allocator + Copy
         requires lawful { P.IsLawful (callback self.now) }
         requires fits { of.now.depth + 1 < 2 ^ 64 }
         ensures depth { IfOk result (λ r. AtDepth (of.now.depth + 1) (map item r.results_list.items)) }
-        ensures value { (d : C.DirEntryState) → IsSteady (S.IsFixed (file_system self.now)) (P.IsFixed (callback self.now)) C.ReadDirState.is_clone C.DirEntryState.is_default d → IfOk result (λ r. P.processed (callback self.now) (Some of.now.depth) (text of.now.path) of.now.client_read_state (value.ordered (job (S.functions (file_system self.now)) (P.processed (callback self.now)) d self.now) (spec of.now) (map listed listing.items)) ≡ reading r) }
+        ensures value { (g : _) → IsSteady S.FileSystem P.ProcessReadDir C.ReadDirState.Clone C.DirEntryState.Default self.now g
+            → IfOk result (λ r. g.processed (Some of.now.depth) (text of.now.path) (g.read_dir_state of.now.client_read_state) (value.ordered (job_by S.FileSystem g self.now) (counted_spec g (spec of.now)) (map listed listing.items)) ≡ counted_reading g (reading r)) }
     {
         let mut items = self.ordered(of, listing)?;
         let mut state = of.client_read_state.clone()?;
@@ -290,10 +308,10 @@ impl<C: ClientState, S: FileSystem, P: ProcessReadDir<C, A>, A: Allocator + Copy
         of: &ReadDirSpec<C, A>,
     ) -> Result<Result<ReadDir<C, A>, Error<A>>, AllocError>
         requires { P.IsLawful (callback self.now) }
-        ensures lawful { IfOk result (λ o. IsLawful (greatest_depth self.now) (spec of.now) (outcome o)) }
-        ensures value { (d : C.DirEntryState) → IsSteady (S.IsFixed (file_system self.now)) (P.IsFixed (callback self.now)) C.ReadDirState.is_clone C.DirEntryState.is_default d → IfOk result (λ o. outcome o ≡ value.reading (job (S.functions (file_system self.now)) (P.processed (callback self.now)) d self.now) (spec of.now)) }
+        ensures { IfOk result (λ o. IsReadingOf S.FileSystem P.ProcessReadDir C.ReadDirState.Clone C.DirEntryState.Default
+            self.now (spec of.now) (outcome o)) }
     {
-        if of.depth >= self.max_depth {
+        if of.depth >= self.options.max_depth {
             let state = of.client_read_state.clone()?;
             return Ok(Ok(ReadDir::new(state, Vec::new(self.alloc))));
         }
@@ -311,7 +329,8 @@ impl<C: ClientState, S: FileSystem, P: ProcessReadDir<C, A>, A: Allocator + Copy
         metadata: Metadata,
     ) -> Result<DirEntry<C, A>, AllocError>
         ensures depth { IfOk result (λ e. e.depth ≡ 0) }
-        ensures value { (d : C.DirEntryState) → DefaultIs C.DirEntryState.is_default d → IfOk result (λ e. entry e ≡ value.made_of (job (S.functions (file_system self.now)) (P.processed (callback self.now)) d self.now) 0 (text path) false [] metadata) }
+        ensures value { (g : _) → DefaultsCount C.DirEntryState.Default g
+            → IfOk result (λ e. counted_entry g (entry e) ≡ value.made_of (job_by S.FileSystem g self.now) 0 (text path) false [] metadata) }
     {
         let file_type = metadata.file_type();
         let file_name = String::from_str(self.alloc, own_name(path.as_str()))?;
@@ -334,7 +353,8 @@ impl<C: ClientState, S: FileSystem, P: ProcessReadDir<C, A>, A: Allocator + Copy
     /// The root's entry, or the error with its path.
     fn made(&self, path: &str) -> Result<Result<DirEntry<C, A>, Error<A>>, AllocError>
         ensures depth { IfOk result (λ r. AtDepth 0 (item r ∷ [])) }
-        ensures value { (d : C.DirEntryState) → S.IsFixed (file_system self.now) → DefaultIs C.DirEntryState.is_default d → IfOk result (λ r. item r ≡ value.made (job (S.functions (file_system self.now)) (P.processed (callback self.now)) d self.now) 0 path.now false []) }
+        ensures value { (g : _) → S.IsFixed (file_system self.now) → DefaultsCount C.DirEntryState.Default g
+            → IfOk result (λ r. counted_item g (item r) ≡ value.made (job_by S.FileSystem g self.now) 0 path.now false []) }
     {
         let shared = Arc::new(self.alloc, String::from_str(self.alloc, path)?)?;
         match self.fs.symlink_metadata(path) {
@@ -350,7 +370,8 @@ impl<C: ClientState, S: FileSystem, P: ProcessReadDir<C, A>, A: Allocator + Copy
         found: DirEntry<C, A>,
     ) -> Result<Result<DirEntry<C, A>, Error<A>>, AllocError>
         ensures depth { AtDepth 0 (Ok (entry found) ∷ []) → IfOk result (λ r. AtDepth 0 (item r ∷ [])) }
-        ensures value { (d : C.DirEntryState) → S.IsFixed (file_system self.now) → IfOk result (λ r. item r ≡ value.with_target (job (S.functions (file_system self.now)) (P.processed (callback self.now)) d self.now) (entry found)) }
+        ensures value { (g : Given C.ReadDirState C.DirEntryState) → S.IsFixed (file_system self.now)
+            → IfOk result (λ r. counted_item g (item r) ≡ value.with_target (job_by S.FileSystem g self.now) (counted_entry g (entry found))) }
     {
         if !found.file_type.is_symlink() {
             return Ok(Ok(found));
@@ -366,8 +387,10 @@ impl<C: ClientState, S: FileSystem, P: ProcessReadDir<C, A>, A: Allocator + Copy
     /// The root's item before the callback, with the path that the callback is given beside it.
     fn root_item(&self, path: &str) -> Result<RootItem<C, A>, AllocError>
         ensures depth { IfOk result (λ r. AtDepth 0 (item r.item ∷ [])) }
-        ensures value { (d : C.DirEntryState) → S.IsFixed (file_system self.now) → DefaultIs C.DirEntryState.is_default d → IfOk result (λ r. item r.item ≡ value.root_item (job (S.functions (file_system self.now)) (P.processed (callback self.now)) d self.now) path.now) }
-        ensures parent { (d : C.DirEntryState) → S.IsFixed (file_system self.now) → DefaultIs C.DirEntryState.is_default d → IfOk result (λ r. text r.parent_path ≡ value.root_parent (job (S.functions (file_system self.now)) (P.processed (callback self.now)) d self.now) path.now) }
+        ensures value { (g : _) → S.IsFixed (file_system self.now) → DefaultsCount C.DirEntryState.Default g
+            → IfOk result (λ r. counted_item g (item r.item) ≡ value.root_item (job_by S.FileSystem g self.now) path.now) }
+        ensures parent { (g : _) → S.IsFixed (file_system self.now) → DefaultsCount C.DirEntryState.Default g
+            → IfOk result (λ r. text r.parent_path ≡ value.root_parent (job_by S.FileSystem g self.now) path.now) }
     {
         match self.made(path)? {
             Ok(found) => {
@@ -390,7 +413,8 @@ impl<C: ClientState, S: FileSystem, P: ProcessReadDir<C, A>, A: Allocator + Copy
     pub fn root_list(&self, path: &str, state: C::ReadDirState) -> Result<ReadDir<C, A>, AllocError>
         requires { P.IsLawful (callback self.now) }
         ensures depth { IfOk result (λ r. AtDepth 0 (reading r).list) }
-        ensures value { (d : C.DirEntryState) → IsSteady (S.IsFixed (file_system self.now)) (P.IsFixed (callback self.now)) C.ReadDirState.is_clone C.DirEntryState.is_default d → IfOk result (λ r. value.root_list (job (S.functions (file_system self.now)) (P.processed (callback self.now)) d self.now) path.now state ≡ reading r) }
+        ensures value { (g : _) → IsSteady S.FileSystem P.ProcessReadDir C.ReadDirState.Clone C.DirEntryState.Default self.now g
+            → IfOk result (λ r. value.root_list (job_by S.FileSystem g self.now) path.now (g.read_dir_state state) ≡ counted_reading g (reading r)) }
     {
         let RootItem { item, parent_path } = self.root_item(path)?;
         let mut state = state;

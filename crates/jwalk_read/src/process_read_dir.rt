@@ -1,8 +1,8 @@
 //! What a walk's user does with each list.
-ghost use Rattle.std.specs.Prelude.{◌≡◌, ℕ, List, Option, OnOk, map};
-ghost use Rattle.walk_model.specs.ReadDir.{Reading, KeepsDepths};
+ghost use Rattle.std.specs.Prelude.{◌≡◌, OnOk, IsOk, map};
+ghost use Rattle.walk_model.specs.ReadDir.{KeepsDepths};
 ghost use Rattle.jwalk_read.specs.Entry.{item};
-ghost use Rattle.jwalk_read.specs.Job.{Processing};
+ghost use Rattle.jwalk_read.specs.Given.{Given, IsProcessed, KeepsLists};
 
 use crate::client_state::ClientState;
 use crate::dir_entry::DirEntry;
@@ -14,11 +14,9 @@ pub trait ProcessReadDir<C: ClientState, A: Allocator + Copy>: Drop {
     /// It may be called, and keeps the depths of a list.
     ghost IsLawful: { Self → Type 0 };
 
-    /// It always makes the same of the same list, unless memory runs out.
-    ghost IsFixed: { Self → Type 0 };
-
-    /// What it then makes of a list.
-    ghost processed: { Self → Processing C.ReadDirState C.DirEntryState };
+    /// It always makes of a list what is given, as far as states count, unless memory runs out. A callback of which nothing
+    /// is to be said so has `⊥` here.
+    ghost Makes: { Self → Given C.ReadDirState C.DirEntryState → Type 0 };
 
     /// Works on the list of the directory at `path`, which has this depth, or on the list of the root alone, where
     /// `depth` is `None` and `path` the root's parent. It may change `state`, which the directories of the list begin
@@ -35,7 +33,8 @@ pub trait ProcessReadDir<C: ClientState, A: Allocator + Copy>: Drop {
     ) -> Result<(), AllocError>
         requires { IsLawful self.now }
         ensures depths { OnOk result (KeepsDepths depth (map item list.old.items) (map item list.new.items)) }
-        ensures fixed { IsFixed self.now → OnOk result (processed self.now depth path.now state.old (map item list.old.items) ≡ record { state = state.new; list = map item list.new.items }) };
+        ensures made { (g : _) → Makes self.now g
+            → OnOk result (IsProcessed g depth path.now state.old (map item list.old.items) state.new (map item list.new.items)) };
 }
 
 /// The callback that changes nothing.
@@ -45,9 +44,7 @@ pub struct NoProcess;
 impl<C: ClientState, A: Allocator + Copy> ProcessReadDir<C, A> for NoProcess {
     ghost IsLawful = { λ _. Unit {0} };
 
-    ghost IsFixed = { λ _. Unit {0} };
-
-    ghost processed = { λ _ depth path state list. record { state = state; list = list } };
+    ghost Makes = { λ _ g. KeepsLists g.processed };
 
     fn process(
         &self,
@@ -55,7 +52,11 @@ impl<C: ClientState, A: Allocator + Copy> ProcessReadDir<C, A> for NoProcess {
         _path: &str,
         _state: &mut C::ReadDirState,
         _list: &mut Vec<Result<DirEntry<C, A>, Error<A>>, A>,
-    ) -> Result<(), AllocError> {
+    ) -> Result<(), AllocError>
+        ensures never_refuses { IsOk result }
+        ensures state { state.new ≡ state.old }
+        ensures list { list.new.items ≡ list.old.items }
+    {
         Ok(())
     }
 }

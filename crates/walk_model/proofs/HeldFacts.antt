@@ -1,14 +1,13 @@
 -- What one step of a walk does to what is held.
-use Rattle.std.proofs.Common.{◌≡◌, if◌then◌else◌, ℕ, zero, suc, ◌+◌, ◌-◌, ◌*◌, ◌^◌, ◌<◌, ◌≤◌, Bool, true, false, is_some, List, [], ◌∷◌, ◌++◌, map, length, Some, None, option_to_list, Ok, Err, refl, sym, ap, ◌∙◌, arith}
+use Rattle.std.proofs.Common.{◌≡◌, if◌then◌else◌, ℕ, zero, suc, ◌+◌, ◌-◌, ◌*◌, ◌^◌, ◌<◌, ◌≤◌, Bool, true, false, not, is_some, List, [], ◌∷◌, ◌++◌, map, length, Some, None, option_to_list, Ok, Err, refl, sym, ap, ◌∙◌, arith}
 use Rattle.std.proofs.Math.Nat.{mul-le-mul_right}
 use Rattle.std.proofs.lemmas.Grind.{flat_map-append}
-use Rattle.std.proofs.lemmas.List.{map-append}
-use lib.ListN.{length-map}
 use Rattle.std.specs.Prelude.{flat_map, option_map}
 use Rattle.walk_model.specs.Entry.{Entry, Item, has_directory, AtDepth}
-use Rattle.walk_model.specs.ReadDir.{Spec, Outcome, Place, place, spec_of, spec_below, children_of, list_of, IsLawful, ReadsFirst}
+use Rattle.walk_model.specs.ReadDir.{Spec, Outcome, spec_of, spec_below, children_of, list_of, IsLawful, AreClones}
+use Rattle.walk_model.proofs.CloneFacts.{depths, same_depths}
 use Rattle.walk_model.specs.Listing.{Pair, Source, nothing, unread, was_read, source_of, pair, paired, pairs_of, after_reading, levels_of, stands, below, listing}
-use Rattle.walk_model.specs.Held.{first_source, after_first, pair_up, bound, source_weight, weight, sources}
+use Rattle.walk_model.specs.Held.{first_source, after_first, pair_up, is_plain, bound, source_weight, weight, sources, AreSourced}
 
 module _ {R E : Type 0} where
   -- a list that was read stands in front of the rest as its pairs
@@ -27,8 +26,8 @@ module _ {R E : Type 0} where
   pair_up-outcome (Ok r) xs ss = front r.state r.list xs ss
   pair_up-outcome (Err f) xs ss = refl
 
-  -- the weight of a list depends on the places of its specifications alone
-  same_weight : (max_depth : ℕ) (xs : List (Item R E)) (ss ts : List (Spec R)) → map place ss ≡ map place ts → weight max_depth (pair_up xs ss) ≡ weight max_depth (pair_up xs ts)
+  -- the weight of a list depends on the depths of its specifications alone
+  same_weight : (max_depth : ℕ) (xs : List (Item R E)) (ss ts : List (Spec R)) → depths ss ≡ depths ts → weight max_depth (pair_up xs ss) ≡ weight max_depth (pair_up xs ts)
   same_weight max_depth [] ss ts h = refl
   same_weight max_depth (x ∷ xs) [] [] h = refl
   same_weight max_depth (x ∷ xs) [] (t ∷ ts) h = cc
@@ -37,9 +36,8 @@ module _ {R E : Type 0} where
       elim (has_directory x) as (λ b. source_weight {E = E} max_depth (first_source b (s ∷ ss)) + weight max_depth (pair_up xs (after_first b (s ∷ ss))) ≡ source_weight {E = E} max_depth (first_source b (t ∷ ts)) + weight max_depth (pair_up xs (after_first b (t ∷ ts)))) [
         | false ↦ ap (λ n. 1 + n) (same_weight max_depth xs (s ∷ ss) (t ∷ ts) h)
         | true ↦
-            let same_place : place s ≡ place t = cc in
-            let head : s.depth ≡ t.depth = ap (λ (p : Place). p.depth) same_place in
-            let tail : map place ss ≡ map place ts = cc in
+            let head : s.depth ≡ t.depth = cc in
+            let tail : depths ss ≡ depths ts = cc in
             rw head (ap (λ n. bound (max_depth - t.depth) + n) (same_weight max_depth xs ss ts tail))
       ]
 
@@ -82,11 +80,10 @@ module _ {R E : Type 0} where
       (let same : max_depth - (s.depth + 1) ≡ n = omega arith in rw same at (weight-paired max_depth (s.depth + 1) r.state r.list lawful.0))
 
   -- reading the directory of an entry makes what is held lighter
-  pub lighter : (max_depth : ℕ) (clones : Type 0) (e : Entry R E) (xs : List (Item R E)) (old new : List (Spec R)) (outcome : Outcome R E) → has_directory {R = R} (Ok e) ≡ true → length (list_of outcome) < 2 ^ 64 → ReadsFirst max_depth clones old outcome new → weight max_depth (pair_up (list_of outcome ++ xs) new) < weight max_depth (pair_up (Ok e ∷ xs) old)
-  lighter max_depth clones e xs old new outcome dir few reads =
-      let places : map place (reads.front ++ reads.rest) ≡ map place (children_of outcome ++ reads.rest) = map-append place reads.front reads.rest ∙ ap (λ l. l ++ map place reads.rest) reads.places ∙ sym (map-append place (children_of outcome) reads.rest) in
-      rw (reads.took, dir, reads.left, same_weight max_depth (list_of outcome ++ xs) (reads.front ++ reads.rest) (children_of outcome ++ reads.rest) places, pair_up-outcome outcome xs reads.rest, weight-append max_depth (pairs_of outcome) (pair_up xs reads.rest))
-      (omega (arith, lighter_at max_depth (max_depth - reads.first.depth) reads.first outcome reads.lawful few refl))
+  pub lighter : (max_depth : ℕ) (is_clone : R → R → Type 0) (e : Entry R E) (xs : List (Item R E)) (first : Spec R) (rest front : List (Spec R)) (outcome : Outcome R E) → has_directory {R = R} (Ok e) ≡ true → IsLawful max_depth first outcome → length (list_of outcome) < 2 ^ 64 → AreClones is_clone (children_of outcome) front → weight max_depth (pair_up (list_of outcome ++ xs) (front ++ rest)) < weight max_depth (pair_up (Ok e ∷ xs) (first ∷ rest))
+  lighter max_depth is_clone e xs first rest front outcome dir lawful few clones =
+      rw (dir, same_weight max_depth (list_of outcome ++ xs) (front ++ rest) (children_of outcome ++ rest) (same_depths is_clone (children_of outcome) front rest clones), pair_up-outcome outcome xs rest, weight-append max_depth (pairs_of outcome) (pair_up xs rest))
+      (omega (arith, lighter_at max_depth (max_depth - first.depth) first outcome lawful few refl))
 
 heavy_source : {R : Type 0} (E : Type 0) (max_depth : ℕ) (b : Bool) (ss : List (Spec R)) → 1 ≤ source_weight {R = R} {E = E} max_depth (first_source b ss)
 heavy_source E max_depth false ss = omega arith
@@ -141,9 +138,9 @@ module _ {R E : Type 0} (reading : Spec R → Outcome R E) where
   opened_at max_depth (suc n) s (Err f) is lawful levels = rw (← is) refl
 
   -- what is listed of an entry and the rest, once its directory was read
-  pub listed : (max_depth : ℕ) (clones : Type 0) (e : Entry R E) (xs : List (Item R E)) (old new : List (Spec R)) (outcome : Outcome R E) → has_directory {R = R} (Ok e) ≡ true → (reads : ReadsFirst max_depth clones old outcome new) → clones → outcome ≡ reading reads.first → listing reading max_depth (pair_up (Ok e ∷ xs) old) ≡ after_reading outcome (Ok e) ∷ listing reading max_depth (pair_up (list_of outcome ++ xs) new)
-  listed max_depth clones e xs old new outcome dir reads equal is =
-      rw (reads.took, dir, reads.left, reads.children equal, pair_up-outcome outcome xs reads.rest, listing-append max_depth (pairs_of outcome) (pair_up xs reads.rest), ← is, opened_at max_depth (max_depth - reads.first.depth) reads.first outcome is reads.lawful refl)
+  pub listed : (max_depth : ℕ) (e : Entry R E) (xs : List (Item R E)) (first : Spec R) (rest : List (Spec R)) (outcome : Outcome R E) → has_directory {R = R} (Ok e) ≡ true → IsLawful max_depth first outcome → outcome ≡ reading first → listing reading max_depth (pair_up (Ok e ∷ xs) (first ∷ rest)) ≡ after_reading outcome (Ok e) ∷ listing reading max_depth (pair_up (list_of outcome ++ xs) (children_of outcome ++ rest))
+  listed max_depth e xs first rest outcome dir lawful is =
+      rw (dir, pair_up-outcome outcome xs rest, listing-append max_depth (pairs_of outcome) (pair_up xs rest), ← is, opened_at max_depth (max_depth - first.depth) first outcome is lawful refl)
       refl
 
   -- an item with no directory
@@ -162,7 +159,7 @@ AtDepth-append depth (Err f ∷ l) m a b = AtDepth-append depth l m a b
 
 module _ {R E : Type 0} where
   -- how many items of a list have a directory
-  abbrev directories : List (Item R E) → ℕ
+  abbrev pub directories : List (Item R E) → ℕ
   directories [] = 0
   directories (x ∷ xs) = (if has_directory x then 1 else 0) + directories xs
 
@@ -190,8 +187,45 @@ module _ {R E : Type 0} where
         | true ↦ λ same. ap (λ l. s ∷ l) (all_sources xs ss (omega (arith, same)))
       ] h
 
-  -- where the specifications are in the places of a list's directories, they are the sources of its items
-  pub sources_of_list : (state : R) (l : List (Item R E)) (ss : List (Spec R)) → map place ss ≡ map place (flat_map (λ item. option_to_list (spec_of state item)) l) → sources (pair_up l ss) ≡ ss
-  sources_of_list state l ss places =
-      let listed : List (Spec R) = flat_map (λ item. option_to_list (spec_of state item)) l in
-      all_sources l ss (sym (length-map ss place) ∙ ap length places ∙ length-map listed place ∙ as_many state l)
+  all_sourced : (xs : List (Item R E)) (ss : List (Spec R)) → length ss ≡ directories xs → AreSourced (pair_up xs ss)
+  all_sourced [] ss h = tt
+  all_sourced (x ∷ xs) [] h =
+      elim (has_directory x) as (λ b. 0 ≡ (if b then 1 else 0) + directories xs → (is_plain (first_source {R = R} {E = E} b []) ≡ not b) × AreSourced (pair_up xs (after_first {R = R} b []))) [
+        | false ↦ λ same. (refl, all_sourced xs [] (omega (arith, same)))
+        | true ↦ λ same. absurd (omega (arith, same))
+      ] h
+  all_sourced (x ∷ xs) (s ∷ ss) h =
+      elim (has_directory x) as (λ b. length (s ∷ ss) ≡ (if b then 1 else 0) + directories xs → (is_plain (first_source {R = R} {E = E} b (s ∷ ss)) ≡ not b) × AreSourced (pair_up xs (after_first b (s ∷ ss)))) [
+        | false ↦ λ same. (refl, all_sourced xs (s ∷ ss) (omega (arith, same)))
+        | true ↦ λ same. (refl, all_sourced xs ss (omega (arith, same)))
+      ] h
+
+  -- as many specifications as directories: then each directory has its source, and each specification is one
+  pub sourced : (xs : List (Item R E)) (ss : List (Spec R)) → length ss ≡ directories xs → AreSourced (pair_up xs ss) × (ss ≡ sources (pair_up xs ss))
+  sourced xs ss h = (all_sourced xs ss h, sym (all_sources xs ss h))
+
+  count_sources : (xs : List (Item R E)) (ss : List (Spec R)) → AreSourced (pair_up xs ss) → length (sources (pair_up xs ss)) ≡ directories xs
+  count_sources [] ss h = refl
+  count_sources (x ∷ xs) [] h =
+      elim (has_directory x) as (λ b. (is_plain (first_source {R = R} {E = E} b []) ≡ not b) × AreSourced (pair_up xs (after_first {R = R} b [])) → length (sources (record { item = x; source = first_source {R = R} {E = E} b [] } ∷ pair_up xs (after_first b []))) ≡ (if b then 1 else 0) + directories xs) [
+        | false ↦ λ k. omega (arith, count_sources xs [] k.1)
+        | true ↦ λ k. let no : true ≡ false = k.0 in cc
+      ] h
+  count_sources (x ∷ xs) (s ∷ ss) h =
+      elim (has_directory x) as (λ b. (is_plain (first_source {R = R} {E = E} b (s ∷ ss)) ≡ not b) × AreSourced (pair_up xs (after_first b (s ∷ ss))) → length (sources (record { item = x; source = first_source {R = R} {E = E} b (s ∷ ss) } ∷ pair_up xs (after_first b (s ∷ ss)))) ≡ (if b then 1 else 0) + directories xs) [
+        | false ↦ λ k. omega (arith, count_sources xs (s ∷ ss) k.1)
+        | true ↦ λ k. omega (arith, count_sources xs ss k.1)
+      ] h
+
+  -- and the other way round
+  pub sourced_count : (xs : List (Item R E)) (ss : List (Spec R)) → AreSourced (pair_up xs ss) → ss ≡ sources (pair_up xs ss) → length ss ≡ directories xs
+  sourced_count xs ss each all = ap length all ∙ count_sources xs ss each
+
+  pub directories-append : (xs ys : List (Item R E)) → directories (xs ++ ys) ≡ directories xs + directories ys
+  directories-append [] ys = omega arith
+  directories-append (x ∷ xs) ys = omega (arith, directories-append xs ys)
+
+  -- an outcome has as many specifications as its list has directories
+  pub as_many_of : (outcome : Outcome R E) → length (children_of outcome) ≡ directories (list_of outcome)
+  as_many_of (Ok r) = as_many r.state r.list
+  as_many_of (Err f) = refl

@@ -1,12 +1,12 @@
 -- What one reading does to what is still to be read.
-use Rattle.std.proofs.Common.{◌≡◌, ◌≢◌, ℕ, zero, suc, ◌+◌, ◌-◌, ◌*◌, ◌^◌, ◌<◌, ◌≤◌, List, [], ◌∷◌, ◌++◌, map, length, Some, None, option_to_list, Ok, Err, refl, sym, ap, ◌∙◌, arith}
+use Rattle.std.proofs.Common.{◌≡◌, ◌≢◌, ℕ, zero, suc, ◌+◌, ◌-◌, ◌*◌, ◌^◌, ◌<◌, ◌≤◌, List, [], ◌∷◌, ◌++◌, length, Some, None, option_to_list, Ok, Err, refl, sym, ap, ◌∙◌, arith}
 use Rattle.std.proofs.lemmas.Grind.{flat_map-append}
-use Rattle.std.proofs.lemmas.List.{map-append}
 use Rattle.std.specs.Prelude.{flat_map, option_map}
 use Rattle.walk_model.specs.Entry.{Entry, Item, AtDepth}
-use Rattle.walk_model.specs.ReadDir.{Spec, Outcome, Place, place, spec_of, spec_below, children, children_of, list_of, IsLawful, ReadsFirst, IsReadingOfFirst}
+use Rattle.walk_model.specs.ReadDir.{Spec, Outcome, spec_of, spec_below, children, children_of, list_of, IsLawful, AreClones}
 use Rattle.walk_model.specs.Held.{bound, spec_weight}
 use Rattle.walk_model.specs.Preorder.{readings, preorder}
+use Rattle.walk_model.proofs.CloneFacts.{depths, same_depths}
 use Rattle.walk_model.proofs.HeldFacts.{bound_pos, below_bound}
 
 module _ {R E : Type 0} (reading : Spec R → Outcome R E) where
@@ -39,20 +39,19 @@ module _ {R E : Type 0} (reading : Spec R → Outcome R E) where
   first_readings max_depth (suc n) s (Err f) is lawful levels = rw (← is) refl
 
   -- the first reading, and then the preorder of what is left
-  pub preorder-first : (max_depth : ℕ) (clones : Type 0) (old new : List (Spec R)) (outcome : Outcome R E) → (reads : ReadsFirst max_depth clones old outcome new) → clones → outcome ≡ reading reads.first → preorder reading max_depth old ≡ outcome ∷ preorder reading max_depth new
-  preorder-first max_depth clones old new outcome reads equal is =
-      rw (reads.took, reads.left, reads.children equal, flat_map-append (λ spec. readings reading (max_depth - spec.depth) spec) (children_of outcome) reads.rest, first_readings max_depth (max_depth - reads.first.depth) reads.first outcome is reads.lawful refl)
+  pub preorder-first : (max_depth : ℕ) (first : Spec R) (rest : List (Spec R)) (outcome : Outcome R E) → IsLawful max_depth first outcome → outcome ≡ reading first → preorder reading max_depth (first ∷ rest) ≡ outcome ∷ preorder reading max_depth (children_of outcome ++ rest)
+  preorder-first max_depth first rest outcome lawful is =
+      rw (flat_map-append (λ spec. readings reading (max_depth - spec.depth) spec) (children_of outcome) rest, first_readings max_depth (max_depth - first.depth) first outcome is lawful refl)
       refl
 
 module _ {R : Type 0} where
-  same_spec_weight : (max_depth : ℕ) (ss ts : List (Spec R)) → map place ss ≡ map place ts → spec_weight max_depth ss ≡ spec_weight max_depth ts
+  same_spec_weight : (max_depth : ℕ) (ss ts : List (Spec R)) → depths ss ≡ depths ts → spec_weight max_depth ss ≡ spec_weight max_depth ts
   same_spec_weight max_depth [] [] h = refl
   same_spec_weight max_depth [] (t ∷ ts) h = cc
   same_spec_weight max_depth (s ∷ ss) [] h = cc
   same_spec_weight max_depth (s ∷ ss) (t ∷ ts) h =
-      let same_place : place s ≡ place t = cc in
-      let head : s.depth ≡ t.depth = ap (λ (p : Place). p.depth) same_place in
-      let tail : map place ss ≡ map place ts = cc in
+      let head : s.depth ≡ t.depth = cc in
+      let tail : depths ss ≡ depths ts = cc in
       rw head (ap (λ n. bound (max_depth - t.depth) + n) (same_spec_weight max_depth ss ts tail))
 
   spec_weight-append : (max_depth : ℕ) (ss ts : List (Spec R)) → spec_weight max_depth (ss ++ ts) ≡ spec_weight max_depth ss + spec_weight max_depth ts
@@ -85,15 +84,10 @@ module _ {R E : Type 0} where
       (let same : max_depth - (s.depth + 1) ≡ n = omega arith in rw same at (spec_weight-children max_depth (s.depth + 1) r.state r.list lawful.0))
 
   -- reading the first makes what is to be read weigh less
-  pub fewer_to_read : (max_depth : ℕ) (clones : Type 0) (old new : List (Spec R)) (outcome : Outcome R E) → length (list_of outcome) < 2 ^ 64 → ReadsFirst max_depth clones old outcome new → spec_weight max_depth new < spec_weight max_depth old
-  fewer_to_read max_depth clones old new outcome few reads =
-      let places : map place (reads.front ++ reads.rest) ≡ map place (children_of outcome ++ reads.rest) = map-append place reads.front reads.rest ∙ ap (λ l. l ++ map place reads.rest) reads.places ∙ sym (map-append place (children_of outcome) reads.rest) in
-      rw (reads.took, reads.left, same_spec_weight max_depth (reads.front ++ reads.rest) (children_of outcome ++ reads.rest) places, spec_weight-append max_depth (children_of outcome) reads.rest)
-      (omega (arith, fewer_at max_depth (max_depth - reads.first.depth) reads.first outcome reads.lawful few refl))
-
--- the outcome is the reading of the specification that was taken
-pub first_is_read : {R E : Type 0} (reading : Spec R → Outcome R E) (max_depth : ℕ) (clones : Type 0) (old new : List (Spec R)) (outcome : Outcome R E) (reads : ReadsFirst max_depth clones old outcome new) → IsReadingOfFirst reading old outcome → outcome ≡ reading reads.first
-first_is_read reading max_depth clones old new outcome reads h = rw reads.took at h
+  pub fewer_to_read : (max_depth : ℕ) (is_clone : R → R → Type 0) (first : Spec R) (rest front : List (Spec R)) (outcome : Outcome R E) → IsLawful max_depth first outcome → length (list_of outcome) < 2 ^ 64 → AreClones is_clone (children_of outcome) front → spec_weight max_depth (front ++ rest) < spec_weight max_depth (first ∷ rest)
+  fewer_to_read max_depth is_clone first rest front outcome lawful few clones =
+      rw (same_spec_weight max_depth (front ++ rest) (children_of outcome ++ rest) (same_depths is_clone (children_of outcome) front rest clones), spec_weight-append max_depth (children_of outcome) rest)
+      (omega (arith, fewer_at max_depth (max_depth - first.depth) first outcome lawful few refl))
 
 -- what is still to be read isn't nothing
 pub heavy_specs : {R : Type 0} (max_depth : ℕ) (specs : List (Spec R)) → specs ≢ [] → 0 < spec_weight max_depth specs

@@ -8,15 +8,23 @@ use Rattle.walk_model.specs.FileSystem.{Named, Listed, Functions}
 use Rattle.walk_model.specs.Paths.{join, parent, file_name, same_path}
 use Rattle.walk_model.specs.Error.{io, looped}
 use Rattle.walk_model.specs.Entry.{Entry, Item, children_at, is_hidden, path_of}
-use Rattle.walk_model.specs.ReadDir.{Spec, Reading, Outcome}
+use Rattle.walk_model.specs.ReadDir.{Spec, Reading, Outcome, KeepsDepths, IsLawful}
 use Rattle.walk_model.specs.Options.{Options}
-use Rattle.walk_model.specs.Sorting.{Typed, arranged}
+use Rattle.walk_model.specs.Sorting.{arranged}
+
+-- what a callback makes of a list: of a directory at a depth or of the root, with its path, its state and the list
+abbrev pub Processing : Type 0 → Type 0 → Type 0
+Processing R E = Option ℕ → List ℕ → R → List (Item R E) → Reading R E
+
+-- it keeps the depths of every list
+abbrev pub KeepsDepthsOf : {R E : Type 0} → Processing R E → Type 0
+KeepsDepthsOf {R} {E} processed = (depth : Option ℕ) (path : List ℕ) (state : R) (list : List (Item R E)) → KeepsDepths depth list (processed depth path state list).list
 
 -- What readings are made of: a fixed file system, the options, what the callback makes of a list (of a directory at a depth, or the root's), and the state of a new entry.
 pub record Job (R E : Type 0) : Type 0 where
   pub fs : Functions
   pub options : Options
-  pub processed : Option ℕ → List ℕ → R → List (Item R E) → Reading R E
+  pub processed : Processing R E
   pub default : E
 
 -- one function of an answer, another of its error
@@ -56,12 +64,12 @@ module _ {R E : Type 0} (job : Job R E) where
       (if through then job.fs.meta_of path else job.fs.link_meta_of path)
 
   -- the entry x behind the link e, unless x is an ancestor
-  abbrev unless_looped : Entry R E → Entry R E → Option (List ℕ) → Item R E
+  abbrev pub unless_looped : Entry R E → Entry R E → Option (List ℕ) → Item R E
   unless_looped e x None = Ok x
   unless_looped e x (Some ancestor) = Err (looped e.depth ancestor (path_of e))
 
   -- the entry x that is reached through the link e: a directory is looked for among the ancestors, by the link's text
-  abbrev reached : Entry R E → Entry R E → Item R E
+  abbrev pub reached : Entry R E → Entry R E → Item R E
   reached e x =
       if is_dir x.file_type
       then either
@@ -93,10 +101,6 @@ module _ {R E : Type 0} (job : Job R E) where
     ancestors = ancestors_in spec;
     read_children = children_at (is_dir type) (join spec.path name);
   }
-
-  -- that entry as an item
-  abbrev pub entry_of : Spec R → Typed → Item R E
-  entry_of spec n = Ok (entry_in spec n.name n.file_type)
 
   -- what a name with a type gives: nothing where it is hidden and skipped
   abbrev pub shown : Spec R → List ℕ → FileType → List (Item R E)
@@ -154,3 +158,7 @@ module _ {R E : Type 0} (job : Job R E) where
   -- the list that a walk begins with
   abbrev pub root_list : List ℕ → R → Reading R E
   root_list path state = job.processed None (root_parent path) state (root_item path ∷ [])
+
+-- whatever the file system answers, readings by a callback that keeps depths are lawful
+abbrev pub ReadingsAreLawful : Type 0 → Type 0 → Type 0
+ReadingsAreLawful R E = (job : Job R E) → KeepsDepthsOf job.processed → (spec : Spec R) → IsLawful job.options.max_depth spec (reading job spec)

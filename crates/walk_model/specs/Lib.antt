@@ -10,6 +10,7 @@ pub mod Error
 pub mod Entry
 pub mod Options
 pub mod ReadDir
+pub mod Counted
 pub mod Sorting
 pub mod Job
 pub mod Listing

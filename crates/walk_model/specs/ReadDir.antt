@@ -1,5 +1,5 @@
 -- Directories to be read, and readings of them.
-use Rattle.std.specs.Prelude.{◌≡◌, ◌≢◌, ℕ, ◌+◌, ◌≤◌, ◌<◌, List, [], ◌∷◌, ◌++◌, map, flat_map, Option, Some, None, option_map, option_to_list, unwrap_or, Result, Ok, Err}
+use Rattle.std.specs.Prelude.{◌≡◌, ◌≢◌, ℕ, ◌+◌, ◌≤◌, ◌<◌, List, [], ◌∷◌, flat_map, Option, Some, None, option_map, option_to_list, unwrap_or, Result, Ok, Err}
 use Rattle.walk_model.specs.Error.{Failure, memory}
 use Rattle.walk_model.specs.Entry.{Children, Entry, Item, AtDepth}
 
@@ -14,15 +14,6 @@ pub record Spec (R : Type 0) : Type 0 where
 pub record Reading (R E : Type 0) : Type 0 where
   pub state : R
   pub list : List (Item R E)
-
--- a specification but for its state
-pub record Place : Type 0 where
-  pub depth : ℕ
-  pub path : List ℕ
-  pub ancestors : List (List ℕ)
-
-abbrev pub place : {R : Type 0} → Spec R → Place
-place spec = record { depth = spec.depth; path = spec.path; ancestors = spec.ancestors }
 
 -- what came of a reading: a list, or the error that stands in its place
 abbrev pub Outcome : Type 0 → Type 0 → Type 0
@@ -65,18 +56,12 @@ module _ {R E : Type 0} where
   IsLawful max_depth s (Ok r) = AtDepth (s.depth + 1) r.list × (max_depth ≤ s.depth → r.list ≡ [])
   IsLawful max_depth s (Err f) = (s.depth < max_depth) × (f ≢ memory)
 
--- The first of the specifications is read: it gives way to those of the directories in its outcome. Their states are what the reading left, where a clone equals what it was made of.
-pub record ReadsFirst {R E : Type 0} (max_depth : ℕ) (clones_are_equal : Type 0) (old : List (Spec R)) (outcome : Outcome R E) (new : List (Spec R)) : Type 0 where
-  pub first : Spec R
-  pub rest : List (Spec R)
-  pub front : List (Spec R)
-  pub took : old ≡ first ∷ rest
-  pub left : new ≡ front ++ rest
-  pub lawful : IsLawful max_depth first outcome
-  pub places : map place front ≡ map place (children_of outcome)
-  pub children : clones_are_equal → front ≡ children_of outcome
+-- the same directory, whose state is a clone of the other's
+abbrev pub IsClone : {R : Type 0} → (R → R → Type 0) → Spec R → Spec R → Type 0
+IsClone is_clone asked made = (made.depth ≡ asked.depth) × (made.path ≡ asked.path) × (made.ancestors ≡ asked.ancestors) × is_clone asked.state made.state
 
--- the outcome is the reading of the first of the specifications
-abbrev pub IsReadingOfFirst : {R E : Type 0} → (Spec R → Outcome R E) → List (Spec R) → Outcome R E → Type 0
-IsReadingOfFirst reading [] outcome = ⊥
-IsReadingOfFirst reading (first ∷ rest) outcome = outcome ≡ reading first
+-- each of the second list is such a clone of the one in its place in the first
+abbrev pub AreClones : {R : Type 0} → (R → R → Type 0) → List (Spec R) → List (Spec R) → Type 0
+AreClones is_clone [] [] = Unit {0}
+AreClones is_clone (asked ∷ specs) (made ∷ others) = IsClone is_clone asked made × AreClones is_clone specs others
+AreClones is_clone _ _ = ⊥

@@ -1,0 +1,19 @@
+-- The options of a walk seen as a value. Links can't be followed yet, and every walk is serial.
+use Rattle.std.specs.Prelude.{ℕ, Bool, false}
+use Rattle.walk_model.specs.Options as value
+use Rattle.walk_model.specs.Options.{serial, defaults}
+use Rattle.jwalk_read.specs.declared.options.Options.{Options}
+
+abbrev pub options : Options → value.Options
+options it = record {
+  sort = it.sort;
+  skip_hidden = it.skip_hidden;
+  follow_links = false;
+  min_depth = it.min_depth;
+  max_depth = it.max_depth;
+  parallelism = serial;
+}
+
+-- the options that readings go by
+abbrev pub reads_by : Bool → Bool → ℕ → value.Options
+reads_by sort skip_hidden max_depth = record defaults { sort = sort; skip_hidden = skip_hidden; max_depth = max_depth }

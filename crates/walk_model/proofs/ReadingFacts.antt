@@ -1,0 +1,76 @@
+-- The depths of a reading's entries.
+use Rattle.std.proofs.Common.{ℕ, ◌+◌, ◌<◌, Bool, true, false, cond, ◌&&◌, List, [], ◌∷◌, Option, Some, None, Result, Ok, Err, inl, inr, refl, arith}
+use Rattle.std.proofs.lemmas.Bool.Decides.{leb_tells}
+use Rattle.std.specs.declared.io.ErrorKind.{ErrorKind}
+use Rattle.walk_model.specs.declared.file_type.FileType.{FileType}
+use Rattle.walk_model.specs.FileType.{is_dir, is_symlink}
+use Rattle.walk_model.specs.Paths.{join}
+use Rattle.walk_model.specs.FileSystem.{Named, Listed}
+use Rattle.walk_model.specs.Error.{io}
+use Rattle.walk_model.specs.Entry.{Entry, Item, AtDepth, is_hidden, path_of}
+use Rattle.walk_model.specs.ReadDir.{Spec, IsLawful}
+use Rattle.walk_model.specs.Job as value
+use Rattle.walk_model.specs.Job.{Job, either, KeepsDepthsOf, ReadingsAreLawful}
+use Rattle.walk_model.proofs.HeldFacts.{AtDepth-append}
+use Rattle.walk_model.proofs.DepthFacts.{AtDepth-in_order}
+
+module _ {R E : Type 0} (job : Job R E) where
+  -- an item alone
+  abbrev At : ℕ → Item R E → Type 0
+  At depth x = AtDepth depth (x ∷ [])
+
+  either_at : {X F : Type 0} (depth : ℕ) (f : X → Item R E) (g : F → Item R E) (r : Result X F) → ((x : X) → At depth (f x)) → ((e : F) → At depth (g e)) → At depth (either f g r)
+  either_at depth f g (Ok x) h k = h x
+  either_at depth f g (Err e) h k = k e
+
+  cond_at : (depth : ℕ) (b : Bool) (x y : Item R E) → At depth x → At depth y → At depth (cond b x y)
+  cond_at depth true x y h k = h
+  cond_at depth false x y h k = k
+
+  looped_at : (e x : Entry R E) (o : Option (List ℕ)) → At x.depth (value.unless_looped job e x o)
+  looped_at e x None = (refl, tt)
+  looped_at e x (Some ancestor) = tt
+
+  reached_at : (e x : Entry R E) → At x.depth (value.reached job e x)
+  reached_at e x = cond_at x.depth (is_dir x.file_type) _ (Ok x) (either_at x.depth _ _ (job.fs.target_of (path_of e)) (λ target. looped_at e x (value.looped_to target e.ancestors)) (λ kind. tt)) (refl, tt)
+
+  -- an entry after the link rule is where it was
+  followed_at : (e : Entry R E) → At e.depth (value.followed job e)
+  followed_at e =
+      cond_at e.depth (job.options.follow_links && is_symlink e.file_type) (either (value.reached job e) Err (value.made job e.depth (path_of e) true e.ancestors)) (Ok e)
+      (elim (job.fs.meta_of (path_of e)) as (λ m. At e.depth (either (value.reached job e) Err (either (λ d. Ok (value.made_of job e.depth (path_of e) true e.ancestors d)) (λ kind. Err (io e.depth (Some (path_of e)) kind)) m))) [
+        | Ok d ↦ reached_at e (value.made_of job e.depth (path_of e) true e.ancestors d)
+        | Err kind ↦ tt
+      ])
+      (refl, tt)
+
+  shown_at : (spec : Spec R) (name : List ℕ) (type : FileType) (skips : Bool) → AtDepth (spec.depth + 1) (cond skips [] (value.followed job (value.entry_in job spec name type) ∷ []))
+  shown_at spec name type true = tt
+  shown_at spec name type false = followed_at (value.entry_in job spec name type)
+
+  named_at : (spec : Spec R) (n : Named) → AtDepth (spec.depth + 1) (value.named job spec n)
+  named_at spec n = elim n.file_type as (λ t. AtDepth (spec.depth + 1) (either (value.shown job spec n.name) (λ kind. Err (io (spec.depth + 1) (Some (join spec.path n.name)) kind) ∷ []) t)) [
+    | Ok type ↦ shown_at spec n.name type (job.options.skip_hidden && is_hidden n.name)
+    | Err kind ↦ tt
+  ]
+
+  raw_at : (spec : Spec R) (items : List Listed) → AtDepth (spec.depth + 1) (value.raw job spec items)
+  raw_at spec [] = tt
+  raw_at spec (Ok n ∷ items) = AtDepth-append (spec.depth + 1) (value.named job spec n) (value.raw job spec items) (named_at spec n) (raw_at spec items)
+  raw_at spec (Err kind ∷ items) = raw_at spec items
+
+  module _ (keeps : KeepsDepthsOf job.processed) where
+    above : (spec : Spec R) → spec.depth < job.options.max_depth → (answer : Result (List Listed) ErrorKind)
+        → IsLawful job.options.max_depth spec (either (λ items. Ok (job.processed (Some spec.depth) spec.path spec.state (value.ordered job spec items))) (λ kind. Err (io spec.depth (Some spec.path) kind)) answer)
+    above spec higher (Ok items) = (keeps (Some spec.depth) spec.path spec.state (value.ordered job spec items) (AtDepth-in_order (spec.depth + 1) job.options.sort (value.raw job spec items) (raw_at spec items)), λ deep. absurd (omega (arith, higher, deep)))
+    above spec higher (Err kind) = (higher, λ is. cc)
+
+    reading_at : (spec : Spec R) → IsLawful job.options.max_depth spec (value.reading job spec)
+    reading_at spec =
+        elim (leb_tells job.options.max_depth spec.depth) [
+          | inl deep ↦ rw deep.0 (tt, λ at. refl)
+          | inr higher ↦ rw higher.0 (above spec higher.1 (job.fs.list_of spec.path))
+        ]
+
+pub readings_lawful : {R E : Type 0} → ReadingsAreLawful R E
+readings_lawful job keeps spec = reading_at job keeps spec
