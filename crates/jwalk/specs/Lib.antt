@@ -1,4 +1,4 @@
 pub mod ReadDirIter
+pub mod Step
 pub mod DirEntryIter
-pub mod Depths
 pub mod WalkDir

@@ -1,13 +1,19 @@
--- What an iterator over readings has still to read.
+-- What an iterator over readings has still to read, and what it gives.
 use Rattle.std.specs.Prelude.{◌≡◌, ◌≢◌, ℕ, ◌⊎◌, List, [], ◌∷◌, ◌++◌, map, reverse, Option, Some, None, option_map, Result, Err}
+use Rattle.std.specs.declared.clone.Clone as Clone
+use Rattle.std.specs.declared.default.Default as Default
 use Rattle.walk_model.specs.Error.{memory}
-use Rattle.walk_model.specs.ReadDir.{Spec, Outcome, place, children_of, ReadsFirst, IsReadingOfFirst}
+use Rattle.walk_model.specs.ReadDir.{Spec, Outcome, children_of, AreClones}
 use Rattle.walk_model.specs.Preorder.{preorder}
-use Rattle.jwalk_read.specs.ReadDir.{spec, outcome}
-use Rattle.jwalk_read.specs.Job.{greatest_depth}
+use Rattle.walk_model.specs.Job.{reading}
+use Rattle.walk_fs.specs.declared.file_system.FileSystem as FileSystem
+use Rattle.jwalk_read.specs.declared.process_read_dir.ProcessReadDir as ProcessReadDir
 use Rattle.jwalk_read.specs.declared.error.Error.{Error}
 use Rattle.jwalk_read.specs.declared.read_dir.ReadDir.{ReadDir}
 use Rattle.jwalk_read.specs.declared.job.Job.{Job}
+use Rattle.jwalk_read.specs.ReadDir.{spec, outcome}
+use Rattle.jwalk_read.specs.Given.{Given, counted_spec, counted_outcome}
+use Rattle.jwalk_read.specs.Job.{greatest_depth, job_by, IsSteadyJob, IsReadingOf}
 use Rattle.jwalk.specs.declared.serial_walk.SerialWalk.{SerialWalk}
 use Rattle.jwalk.specs.declared.read_dir_iter.ReadDirIter.{ReadDirIter}
 use Rattle.jwalk.specs.declared.read_dir_iter.ReadDirIter.TheVariants.{Walk, ParWalk}
@@ -32,31 +38,38 @@ module _ {C S P A R E : Type 0} where
   early_of (Walk walk) = []
   early_of (ParWalk never) = elim never [ ]
 
--- the specifications of an outcome's directories stand in front of the old ones
-pub record StacksChildren {R E : Type 0} (clones_are_equal : Type 0) (old : List (Spec R)) (read : Outcome R E) (new : List (Spec R)) : Type 0 where
+-- the specifications of an outcome's directories, with clones of their states, stand in front of the old ones
+pub record StacksChildren {R E : Type 0} (clone : Clone.Ghosts R) (old : List (Spec R)) (read : Outcome R E) (new : List (Spec R)) : Type 0 where
   pub front : List (Spec R)
   pub left : new ≡ front ++ old
-  pub places : map place front ≡ map place (children_of read)
-  pub children : clones_are_equal → front ≡ children_of read
-
--- A reading is given: it is that of the first specification, which gives way to its children. It may be the error that tells of want of memory instead; then nothing is left to be read. Nothing is given where nothing is left, and nowhere else.
-abbrev pub GivesFirst : {R E : Type 0} → ℕ → Type 0 → List (Spec R) → Option (Outcome R E) → List (Spec R) → Type 0
-GivesFirst max_depth clones_are_equal old None new = (old ≡ []) × (new ≡ [])
-GivesFirst max_depth clones_are_equal old (Some given) new = ((given ≡ Err memory) × (old ≢ []) × (new ≡ [])) ⊎ ((given ≢ Err memory) × ReadsFirst max_depth clones_are_equal old given new)
+  pub clones : AreClones clone.is_clone (children_of read) front
 
 -- Readings come in preorder: the first of those still to come is given and the rest is left, or memory ran out and nothing is.
 abbrev pub GivesPreorder : {R E : Type 0} → (Spec R → Outcome R E) → ℕ → List (Spec R) → Option (Outcome R E) → List (Spec R) → Type 0
 GivesPreorder reading max_depth old None new = preorder reading max_depth old ≡ []
 GivesPreorder reading max_depth old (Some given) new = ((given ≡ Err memory) × (new ≡ [])) ⊎ (preorder reading max_depth old ≡ given ∷ preorder reading max_depth new)
 
--- what is given, unless it tells of want of memory, is the reading of the first specification
-abbrev pub GivesReading : {R E : Type 0} → (Spec R → Outcome R E) → List (Spec R) → Option (Outcome R E) → Type 0
-GivesReading reading old None = Unit {0}
-GivesReading reading old (Some given) = given ≢ Err memory → IsReadingOfFirst reading old given
+module _ {C S P A R E : Type 0} (files : FileSystem.Ghosts S) (process : ProcessReadDir.Ghosts P C A R E) (clone : Clone.Ghosts R) (defaults : Default.Ghosts E) where
+  -- The first of the specifications is read, and gives way to those of the directories in its outcome.
+  pub record ReadsFirst (job : Job C S P A R E) (old : List (Spec R)) (read : Outcome R E) (new : List (Spec R)) : Type 0 where
+    pub first : Spec R
+    pub rest : List (Spec R)
+    pub took : old ≡ first ∷ rest
+    pub reading : IsReadingOf files process clone defaults job first read
+    pub stacks : StacksChildren clone rest read new
 
--- One call of an iterator over readings. What it gives by value holds where the walk is steady, with d as the default state of an entry.
-pub record Gives {C S P A R E : Type 0} (clones_are_equal : Type 0) (is_steady : E → Type 0) (reading_by : E → Spec R → Outcome R E) (old : ReadDirIter C S P A R E) (given : Option (Result (ReadDir C A R E) (Error A))) (new : ReadDirIter C S P A R E) : Type 0 where
-  pub job : job_of new ≡ job_of old
-  pub first : GivesFirst (greatest_depth (job_of old)) clones_are_equal (to_read old) (option_map outcome given) (to_read new)
-  pub value : (d : E) → is_steady d → GivesReading (reading_by d) (to_read old) (option_map outcome given)
-  pub preorder : (d : E) → is_steady d → GivesPreorder (reading_by d) (greatest_depth (job_of old)) (to_read old) (option_map outcome given) (to_read new)
+  -- the first is read, or nothing was left to be read
+  abbrev pub ReadsNext : Job C S P A R E → List (Spec R) → Option (Outcome R E) → List (Spec R) → Type 0
+  ReadsNext job old None new = (old ≡ []) × (new ≡ [])
+  ReadsNext job old (Some read) new = ReadsFirst job old read new
+
+  -- The first is read; or the error that tells of want of memory is given instead, and nothing is left to be read.
+  abbrev pub GivesFirst : Job C S P A R E → List (Spec R) → Option (Outcome R E) → List (Spec R) → Type 0
+  GivesFirst job old given new = ((given ≡ Some (Err memory)) × (old ≢ []) × (new ≡ [])) ⊎ ReadsNext job old given new
+
+  -- One call of an iterator over readings. By value, what it gives comes in preorder.
+  pub record Gives (old : ReadDirIter C S P A R E) (given : Option (Result (ReadDir C A R E) (Error A))) (new : ReadDirIter C S P A R E) : Type 0 where
+    pub job : job_of new ≡ job_of old
+    pub first : GivesFirst (job_of old) (to_read old) (option_map outcome given) (to_read new)
+    pub preorder : (value : Given R E) → IsSteadyJob files process clone defaults (job_of old) value
+        → GivesPreorder (reading (job_by files value (job_of old))) (greatest_depth (job_of old)) (map (counted_spec value) (to_read old)) (option_map (counted_outcome value) (option_map outcome given)) (map (counted_spec value) (to_read new))

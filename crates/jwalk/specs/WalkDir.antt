@@ -1,24 +1,24 @@
 -- A walk as its builder describes it.
-use Rattle.std.specs.Prelude.{◌≡◌, ◌⊎◌, ℕ, false, List, string_bytes}
-use Rattle.walk_model.specs.FileSystem.{Functions}
+use Rattle.std.specs.Prelude.{◌≡◌, ◌⊎◌, ℕ, List, string_bytes}
+use Rattle.std.specs.declared.clone.Clone as Clone
+use Rattle.std.specs.declared.default.Default as Default
 use Rattle.walk_model.specs.Options as value
 use Rattle.walk_model.specs.Options.{Options}
-use Rattle.walk_model.specs.ReadDir.{Spec}
+use Rattle.walk_model.specs.Entry.{AtDepth}
 use Rattle.walk_model.specs.Listing.{paired}
-use Rattle.walk_model.specs.Held.{sources}
-use Rattle.walk_model.specs.Walk.{whole_walk}
-use Rattle.walk_model.specs.Job.{Job, reading, root_list}
-use Rattle.jwalk.specs.Depths.{least_of, greatest_of}
-use Rattle.jwalk_read.specs.Job.{Processing, job, file_system, callback, greatest_depth}
-use Rattle.jwalk.specs.DirEntryIter.{job_of, min_depth_of, unread_of, held, to_come, IsWithin, IsRefused}
+use Rattle.walk_model.specs.Counted.{Worth}
+use Rattle.walk_model.specs.Job.{Job, root_list}
+use Rattle.walk_fs.specs.declared.file_system.FileSystem as FileSystem
+use Rattle.jwalk_read.specs.declared.process_read_dir.ProcessReadDir as ProcessReadDir
+use Rattle.jwalk_read.specs.Options.{options_value}
+use Rattle.jwalk_read.specs.Given.{Given}
+use Rattle.jwalk_read.specs.Job as job
+use Rattle.jwalk_read.specs.Job.{file_system, callback, IsSteady}
+use Rattle.jwalk.specs.DirEntryIter.{job_of, items_of, held_by, IsWithin, IsSourced, IsRefused}
 use Rattle.jwalk.specs.declared.parallelism.Parallelism.{Parallelism}
 use Rattle.jwalk.specs.declared.parallelism.Parallelism.TheVariants.{Serial}
 use Rattle.jwalk.specs.declared.walk_dir.WalkDirGeneric.{WalkDirGeneric}
 use Rattle.jwalk.specs.declared.dir_entry_iter.DirEntryIter.{DirEntryIter}
-
--- what no callback makes of a list
-abbrev pub unprocessed : {R E : Type 0} → Processing R E
-unprocessed depth path state list = record { state = state; list = list }
 
 -- how directories are read, as a value
 abbrev pub parallelism_value : Parallelism → value.Parallelism
@@ -35,16 +35,13 @@ module _ {C S P A R E : Type 0} where
   abbrev pub root_of : WalkDirGeneric C S P A R E → List ℕ
   root_of walk = string_bytes walk.root
 
+  -- the state that the root's list is given
+  abbrev pub state_of : WalkDirGeneric C S P A R E → R
+  state_of walk = walk.root_read_dir_state
+
   -- the options. Links can't be followed yet, and every walk is serial.
   abbrev pub options_of : WalkDirGeneric C S P A R E → Options
-  options_of walk = record {
-    sort = walk.sort;
-    skip_hidden = walk.skip_hidden;
-    follow_links = false;
-    min_depth = least_of walk.depths;
-    max_depth = greatest_of walk.depths;
-    parallelism = value.serial;
-  }
+  options_of walk = options_value walk.options
 
   -- One call of the builder: it changes the options alone.
   pub record Sets (set : Options) (old new : WalkDirGeneric C S P A R E) : Type 0 where
@@ -52,30 +49,28 @@ module _ {C S P A R E : Type 0} where
     pub file_system : file_system_of new ≡ file_system_of old
     pub callback : callback_of new ≡ callback_of old
     pub root : root_of new ≡ root_of old
+    pub state : state_of new ≡ state_of old
 
-  -- what its readings are made of
-  abbrev pub job_for : Functions → Processing R E → E → WalkDirGeneric C S P A R E → Job R E
-  job_for functions processed d walk = record { fs = functions; options = options_of walk; processed = processed; default = d }
+  -- what its readings are made of, over a fixed file system and what is given
+  abbrev pub job_for : FileSystem.Ghosts S → Given R E → WalkDirGeneric C S P A R E → Job Worth Worth
+  job_for files given walk = record {
+    fs = files.functions (file_system_of walk);
+    options = options_of walk;
+    processed = given.processed;
+    default = given.new_entry;
+  }
 
-  -- A walk that begins, whatever its file system answers: it is over the builder's file system, callback and options, holds no entry that is too deep, and what it has to read are the directories of what it holds.
+  -- A walk that begins, whatever its file system answers: it is over the builder's file system, callback and options, holds no entry that is too deep, and what it has to read are the directories of what it holds. It holds what tells that its start was refused, or a list of the root's depth.
   pub record Starts (walk : WalkDirGeneric C S P A R E) (it : DirEntryIter C S P A R E) : Type 0 where
     pub file_system : file_system (job_of it) ≡ file_system_of walk
     pub callback : callback (job_of it) ≡ callback_of walk
-    pub min_depth : min_depth_of it ≡ (options_of walk).min_depth
-    pub max_depth : greatest_depth (job_of it) ≡ (options_of walk).max_depth
-    pub reads : (functions : Functions) (processed : Processing R E) (d : E) → reading (job functions processed d (job_of it)) ≡ reading (job_for functions processed d walk)
+    pub options : job.options_of (job_of it) ≡ options_of walk
     pub within : IsWithin it
-    pub unread : unread_of it ≡ sources (held it)
+    pub sourced : IsSourced it
+    pub start : IsRefused it ⊎ AtDepth 0 (items_of it)
 
-  -- The iterator holds the root's list, and what is to come is the whole walk from the root.
-  pub record Holds (functions : Functions) (processed : Processing R E) (d : E) (s : R) (walk : WalkDirGeneric C S P A R E) (it : DirEntryIter C S P A R E) : Type 0 where
-    pub holds : held it ≡ paired (root_list (job_for functions processed d walk) (root_of walk) s)
-    pub comes : to_come (reading (job functions processed d (job_of it))) it ≡ whole_walk (job_for functions processed d walk) (root_of walk) s
-
-  -- The iterator reads what the builder describes, from the least to the greatest depth, and holds the root's list; or its start was refused.
-  pub record Begins (functions : Functions) (processed : Processing R E) (d : E) (s : R) (walk : WalkDirGeneric C S P A R E) (it : DirEntryIter C S P A R E) : Type 0 where
-    pub reads : (spec : Spec R) → reading (job functions processed d (job_of it)) spec ≡ reading (job_for functions processed d walk) spec
-    pub min_depth : min_depth_of it ≡ (options_of walk).min_depth
-    pub max_depth : greatest_depth (job_of it) ≡ (options_of walk).max_depth
-    pub holds : IsRefused it ⊎ (held it ≡ paired (root_list (job_for functions processed d walk) (root_of walk) s))
-    pub comes : IsRefused it ⊎ (to_come (reading (job functions processed d (job_of it))) it ≡ whole_walk (job_for functions processed d walk) (root_of walk) s)
+module _ {C S P A R E : Type 0} (files : FileSystem.Ghosts S) (process : ProcessReadDir.Ghosts P C A R E) (clone : Clone.Ghosts R) (defaults : Default.Ghosts E) where
+  -- The iterator holds the root's list.
+  abbrev pub Holds : WalkDirGeneric C S P A R E → DirEntryIter C S P A R E → Type 0
+  Holds walk it = (given : Given R E) → IsSteady files process clone defaults (file_system_of walk) (callback_of walk) given
+      → held_by given it ≡ paired (root_list (job_for files given walk) (root_of walk) (given.read_dir_state (state_of walk)))

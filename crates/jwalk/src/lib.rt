@@ -15,7 +15,6 @@
 //! ```
 #![tactic(auto)]
 
-mod depths;
 pub mod dir_entry_iter;
 pub mod file_system;
 mod parallelism;

@@ -1,10 +1,7 @@
 //! Readings in preorder.
-ghost use Rattle.std.specs.Prelude.{◌≡◌, ◌<◌, [], length, Ok, OnOk, IfSome, IsSome, option_map};
-ghost use Rattle.walk_model.specs.Held.{spec_weight};
-ghost use Rattle.walk_model.specs.Job as value;
+ghost use Rattle.std.specs.Prelude.{◌≡◌, ◌≢◌, [], length, Ok, IfOk, OnOk, OnErr, IsSome, option_map};
 ghost use Rattle.jwalk_read.specs.ReadDir.{outcome, reading};
-ghost use Rattle.jwalk_read.specs.States.{ClonesAreEqual};
-ghost use Rattle.jwalk_read.specs.Job.{job, file_system, callback, greatest_depth, IsSteady};
+ghost use Rattle.jwalk_read.specs.Job.{callback, options_of};
 
 pub use crate::serial_walk::SerialWalk;
 use jwalk_read::client_state::ClientState;
@@ -40,7 +37,7 @@ impl<C: ClientState, S: FileSystem, P: ProcessReadDir<C, A>, A: Allocator + Copy
     P,
     A,
 > {
-    ghost use Rattle.jwalk.specs.ReadDirIter.{job_of, to_read, early_of, StacksChildren, GivesFirst, GivesReading};
+    ghost use Rattle.jwalk.specs.ReadDirIter.{job_of, to_read, early_of, StacksChildren, ReadsNext, Gives};
 
     /// Readings in turn, with nothing to read yet.
     pub(crate) fn serial(alloc: A, job: Job<C, S, P, A>) -> Self
@@ -53,7 +50,7 @@ impl<C: ClientState, S: FileSystem, P: ProcessReadDir<C, A>, A: Allocator + Copy
     /// Puts the directories of a reading in front of what is to be read.
     pub(crate) fn put(&mut self, read: &ReadDir<C, A>) -> Result<(), AllocError>
         ensures job { job_of self.new ≡ job_of self.old }
-        ensures children { OnOk result (StacksChildren (ClonesAreEqual C.ReadDirState.is_clone) (to_read self.old) (Ok (reading read.now)) (to_read self.new)) }
+        ensures children { OnOk result (StacksChildren C.ReadDirState.Clone (to_read self.old) (Ok (reading read.now)) (to_read self.new)) }
     {
         match self {
             ReadDirIter::Walk(walk) => walk.stack(read),
@@ -61,17 +58,34 @@ impl<C: ClientState, S: FileSystem, P: ProcessReadDir<C, A>, A: Allocator + Copy
         }
     }
 
-    /// The next reading, or the error that tells of want of memory.
-    fn read_next(&mut self) -> Option<Result<ReadDir<C, A>, Error<A>>>
+    /// The next reading.
+    pub(crate) fn read_next(
+        &mut self,
+    ) -> Result<Option<Result<ReadDir<C, A>, Error<A>>>, AllocError>
         requires { P.IsLawful (callback (job_of self.old)) }
         ensures job { job_of self.new ≡ job_of self.old }
-        ensures first { GivesFirst (greatest_depth (job_of self.old)) (ClonesAreEqual C.ReadDirState.is_clone) (to_read self.old) (option_map outcome result) (to_read self.new) }
-        ensures fewer { IfSome result (λ _. spec_weight (greatest_depth (job_of self.old)) (to_read self.new) < spec_weight (greatest_depth (job_of self.old)) (to_read self.old)) }
-        ensures value { (d : C.DirEntryState) → IsSteady (S.IsFixed (file_system (job_of self.old))) (P.IsFixed (callback (job_of self.old))) C.ReadDirState.is_clone C.DirEntryState.is_default d → GivesReading (value.reading (job (S.functions (file_system (job_of self.old))) (P.processed (callback (job_of self.old))) d (job_of self.old))) (to_read self.old) (option_map outcome result) }
+        ensures some { OnErr result (to_read self.old ≢ []) }
+        ensures next { IfOk result (λ o. ReadsNext S.FileSystem P.ProcessReadDir C.ReadDirState.Clone
+            C.DirEntryState.Default (job_of self.old) (to_read self.old) (option_map outcome o) (to_read self.new)) }
     {
         match self {
-            ReadDirIter::Walk(walk) => walk.read_or_stop(),
+            ReadDirIter::Walk(walk) => walk.read_next(),
             ReadDirIter::ParWalk(never) => match *never {},
+        }
+    }
+
+    /// The next reading; or, where memory is refused, the error that tells of it, and nothing is left to be read.
+    fn next_or_stop(&mut self) -> Option<Result<ReadDir<C, A>, Error<A>>>
+        requires { P.IsLawful (callback (job_of self.old)) }
+        ensures { Gives S.FileSystem P.ProcessReadDir C.ReadDirState.Clone C.DirEntryState.Default
+            self.old result self.new }
+    {
+        match self.read_next() {
+            Ok(read) => read,
+            Err(_) => {
+                self.stop();
+                Some(Err(Error::memory()))
+            }
         }
     }
 
@@ -80,13 +94,21 @@ impl<C: ClientState, S: FileSystem, P: ProcessReadDir<C, A>, A: Allocator + Copy
     pub fn next_of(&mut self, entry: &DirEntry<C, A>) -> Option<Result<ReadDir<C, A>, Error<A>>>
         requires lawful { P.IsLawful (callback (job_of self.old)) }
         requires has_directory { IsSome entry.now.read_children }
-        ensures job { job_of self.new ≡ job_of self.old }
-        ensures first { GivesFirst (greatest_depth (job_of self.old)) (ClonesAreEqual C.ReadDirState.is_clone) (to_read self.old) (option_map outcome result) (to_read self.new) }
-        ensures fewer { IfSome result (λ _. spec_weight (greatest_depth (job_of self.old)) (to_read self.new) < spec_weight (greatest_depth (job_of self.old)) (to_read self.old)) }
-        ensures value { (d : C.DirEntryState) → IsSteady (S.IsFixed (file_system (job_of self.old))) (P.IsFixed (callback (job_of self.old))) C.ReadDirState.is_clone C.DirEntryState.is_default d → GivesReading (value.reading (job (S.functions (file_system (job_of self.old))) (P.processed (callback (job_of self.old))) d (job_of self.old))) (to_read self.old) (option_map outcome result) }
+        ensures { Gives S.FileSystem P.ProcessReadDir C.ReadDirState.Clone C.DirEntryState.Default
+            self.old result self.new }
     {
         prove!(entry.read_children.is_some());
-        self.read_next()
+        self.next_or_stop()
+    }
+
+    /// The least depth of what the walk answers.
+    pub(crate) fn min_depth(&self) -> usize
+        ensures { result ≡ (options_of (job_of self.now)).min_depth }
+    {
+        match self {
+            ReadDirIter::Walk(walk) => walk.min_depth(),
+            ReadDirIter::ParWalk(never) => match *never {},
+        }
     }
 
     /// How many readings were made and not handed on.
@@ -117,18 +139,16 @@ impl<C: ClientState, S: FileSystem, P: ProcessReadDir<C, A>, A: Allocator + Copy
 
     ghost use Rattle.std.specs.Iterator.{at_most};
     ghost use Rattle.walk_model.specs.Held.{spec_weight};
-    ghost use Rattle.walk_model.specs.Job as value;
-    ghost use Rattle.jwalk_read.specs.States.{ClonesAreEqual};
-    ghost use Rattle.jwalk_read.specs.Job.{job, file_system, callback, greatest_depth, IsSteady};
+    ghost use Rattle.jwalk_read.specs.Job.{greatest_depth};
     ghost use Rattle.jwalk.specs.ReadDirIter.{job_of, to_read, Gives};
 
     ghost can_next = { λ s. P.IsLawful (callback (job_of s)) };
 
-    ghost next_gives = { λ s r t. Gives (ClonesAreEqual C.ReadDirState.is_clone) (IsSteady (S.IsFixed (file_system (job_of s))) (P.IsFixed (callback (job_of s))) C.ReadDirState.is_clone C.DirEntryState.is_default) (λ d. value.reading (job (S.functions (file_system (job_of s))) (P.processed (callback (job_of s))) d (job_of s))) s r t };
+    ghost next_gives = { Gives S.FileSystem P.ProcessReadDir C.ReadDirState.Clone C.DirEntryState.Default };
 
     ghost remaining = { λ s. at_most (spec_weight (greatest_depth (job_of s)) (to_read s)) };
 
     fn next(&mut self) -> Option<Result<ReadDir<C, A>, Error<A>>> {
-        self.read_next()
+        self.next_or_stop()
     }
 }

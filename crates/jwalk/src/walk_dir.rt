@@ -1,21 +1,17 @@
 //! The builder of a walk.
-ghost use Rattle.std.specs.Prelude.{◌≡◌, true, false, string_bytes, IfOk, IfErr};
+ghost use Rattle.std.specs.Prelude.{◌≡◌, ◌⊎◌, string_bytes, IfOk, IfErr};
 ghost use Rattle.walk_model.specs.Error.{memory};
 ghost use Rattle.jwalk_read.specs.Error.{failure};
-ghost use Rattle.jwalk_read.specs.States.{ClonesAreEqual, DefaultIs};
-ghost use Rattle.jwalk_read.specs.Job.{file_system, callback, IsSteady};
-ghost use Rattle.jwalk.specs.DirEntryIter.{job_of};
 
-use crate::depths::Depths;
 use crate::dir_entry_iter::DirEntryIter;
 use crate::parallelism::Parallelism;
 use jwalk_read::client_state::ClientState;
 use jwalk_read::dir_entry::DirEntry;
 use jwalk_read::error::Error;
 use jwalk_read::job::Job;
+use jwalk_read::options::Options;
 use jwalk_read::process_read_dir::{NoProcess, ProcessReadDir};
 use std::alloc::{Allocator, Global};
-use std::marker::PhantomData;
 use walk_fs::file_system::FileSystem;
 
 /// A walk that is yet to begin: a root in a file system, and options.
@@ -31,15 +27,13 @@ pub struct WalkDirGeneric<
     fs: S,
     root: String<A>,
     process: P,
-    sort: bool,
-    skip_hidden: bool,
-    depths: Depths,
-    of: PhantomData<C>,
+    options: Options,
+    root_read_dir_state: C::ReadDirState,
 }
 
 impl<C: ClientState, S: FileSystem, A: Allocator + Copy> WalkDirGeneric<C, S, NoProcess, A> {
     ghost use Rattle.walk_model.specs.Options.{defaults};
-    ghost use Rattle.jwalk.specs.WalkDir.{file_system_of, root_of, options_of};
+    ghost use Rattle.jwalk.specs.WalkDir.{file_system_of, root_of, state_of, options_of};
 
     /// A walk over a file system from a root, whose text is kept as it stands. All that the walk needs comes from the
     /// root's allocator.
@@ -47,15 +41,14 @@ impl<C: ClientState, S: FileSystem, A: Allocator + Copy> WalkDirGeneric<C, S, No
         ensures file_system { file_system_of result ≡ fs }
         ensures root { root_of result ≡ string_bytes root }
         ensures options { options_of result ≡ defaults }
+        ensures state { C.ReadDirState.is_default (state_of result) }
     {
         WalkDirGeneric {
             fs,
             root,
             process: NoProcess,
-            sort: false,
-            skip_hidden: true,
-            depths: Depths::all(),
-            of: PhantomData,
+            options: Options::new(),
+            root_read_dir_state: C::ReadDirState::default(),
         }
     }
 }
@@ -67,10 +60,8 @@ impl<C: ClientState, S: FileSystem, P: ProcessReadDir<C, A>, A: Allocator + Copy
     A,
 > {
     ghost use Rattle.walk_model.specs.Options.{with_sort, with_skip_hidden, with_min_depth, with_max_depth, with_parallelism};
-    ghost use Rattle.jwalk.specs.WalkDir.{parallelism_value, file_system_of, callback_of, root_of, options_of, Sets, Starts, Holds, Begins, job_for};
-    ghost use Rattle.walk_model.specs.Listing.{paired};
-    ghost use Rattle.walk_model.specs.Job.{root_list};
-    ghost use Rattle.jwalk.specs.DirEntryIter.{held, IsRefused};
+    ghost use Rattle.jwalk.specs.WalkDir.{parallelism_value, callback_of, root_of, options_of, Sets, Starts, Holds};
+    ghost use Rattle.jwalk.specs.DirEntryIter.{IsRefused};
 
     /// The root's path as it was given.
     pub fn root(&self) -> &str
@@ -84,7 +75,7 @@ impl<C: ClientState, S: FileSystem, P: ProcessReadDir<C, A>, A: Allocator + Copy
     pub fn sort(mut self, sort: bool) -> Self
         ensures { Sets (with_sort sort (options_of self)) self result }
     {
-        self.sort = sort;
+        self.options = self.options.with_sort(sort);
         self
     }
 
@@ -92,7 +83,7 @@ impl<C: ClientState, S: FileSystem, P: ProcessReadDir<C, A>, A: Allocator + Copy
     pub fn skip_hidden(mut self, skip_hidden: bool) -> Self
         ensures { Sets (with_skip_hidden skip_hidden (options_of self)) self result }
     {
-        self.skip_hidden = skip_hidden;
+        self.options = self.options.with_skip_hidden(skip_hidden);
         self
     }
 
@@ -101,7 +92,7 @@ impl<C: ClientState, S: FileSystem, P: ProcessReadDir<C, A>, A: Allocator + Copy
     pub fn min_depth(mut self, depth: usize) -> Self
         ensures { Sets (with_min_depth depth (options_of self)) self result }
     {
-        self.depths = self.depths.with_least(depth);
+        self.options = self.options.with_min_depth(depth);
         self
     }
 
@@ -111,7 +102,7 @@ impl<C: ClientState, S: FileSystem, P: ProcessReadDir<C, A>, A: Allocator + Copy
     pub fn max_depth(mut self, depth: usize) -> Self
         ensures { Sets (with_max_depth depth (options_of self)) self result }
     {
-        self.depths = self.depths.with_greatest(depth);
+        self.options = self.options.with_max_depth(depth);
         self
     }
 
@@ -127,22 +118,21 @@ impl<C: ClientState, S: FileSystem, P: ProcessReadDir<C, A>, A: Allocator + Copy
     fn begin(self) -> DirEntryIter<C, S, P, A>
         requires { P.IsLawful (callback_of self) }
         ensures starts { Starts self result }
+        ensures holds { result.refused ≡ false
+            → Holds S.FileSystem P.ProcessReadDir C.ReadDirState.Clone C.DirEntryState.Default self result }
         ensures refused { result.refused ≡ true → IsRefused result }
-        ensures holds { (d : C.DirEntryState) → (s : C.ReadDirState) → DefaultIs C.ReadDirState.is_default s → IsSteady (S.IsFixed (file_system_of self)) (P.IsFixed (callback_of self)) C.ReadDirState.is_clone C.DirEntryState.is_default d → result.refused ≡ false → held result ≡ paired (root_list (job_for (S.functions (file_system_of self)) (P.processed (callback_of self)) d self) (root_of self) s) }
     {
         let alloc = *self.root.allocator();
         let WalkDirGeneric {
             fs,
             root,
             process,
-            sort,
-            skip_hidden,
-            depths,
-            of: _,
+            options,
+            root_read_dir_state,
         } = self;
-        let job = Job::new(alloc, fs, process, sort, skip_hidden, depths.greatest());
-        let read = job.root_list(root.as_str(), C::ReadDirState::default());
-        DirEntryIter::from_root(alloc, job, depths.least(), read.ok())
+        let job = Job::with_options(alloc, fs, process, options);
+        let read = job.root_list(root.as_str(), root_read_dir_state);
+        DirEntryIter::from_root(alloc, job, read.ok())
     }
 
     /// The walk begun: its root's list is made, and no directory is read yet.
@@ -150,8 +140,9 @@ impl<C: ClientState, S: FileSystem, P: ProcessReadDir<C, A>, A: Allocator + Copy
     /// Fails only for want of memory.
     pub fn try_into_iter(self) -> Result<DirEntryIter<C, S, P, A>, Error<A>>
         requires { P.IsLawful (callback_of self) }
-        ensures starts { IfOk result (λ it. Starts self it) }
-        ensures holds { (d : C.DirEntryState) → (s : C.ReadDirState) → DefaultIs C.ReadDirState.is_default s → IsSteady (S.IsFixed (file_system_of self)) (P.IsFixed (callback_of self)) C.ReadDirState.is_clone C.DirEntryState.is_default d → IfOk result (λ it. Holds (S.functions (file_system_of self)) (P.processed (callback_of self)) d s self it) }
+        ensures starts { IfOk result (Starts self) }
+        ensures holds { IfOk result (Holds S.FileSystem P.ProcessReadDir C.ReadDirState.Clone
+            C.DirEntryState.Default self) }
         ensures memory { IfErr result (λ error. failure error ≡ memory) }
     {
         let walk = self.begin();
@@ -167,7 +158,8 @@ impl<C: ClientState, S: FileSystem, P: ProcessReadDir<C, A>, A: Allocator + Copy
     pub fn into_iter(self) -> DirEntryIter<C, S, P, A>
         requires { P.IsLawful (callback_of self) }
         ensures starts { Starts self result }
-        ensures begins { (d : C.DirEntryState) → (s : C.ReadDirState) → DefaultIs C.ReadDirState.is_default s → IsSteady (S.IsFixed (file_system_of self)) (P.IsFixed (callback_of self)) C.ReadDirState.is_clone C.DirEntryState.is_default d → Begins (S.functions (file_system_of self)) (P.processed (callback_of self)) d s self result }
+        ensures holds { IsRefused result
+            ⊎ Holds S.FileSystem P.ProcessReadDir C.ReadDirState.Clone C.DirEntryState.Default self result }
     {
         self.begin()
     }
@@ -179,11 +171,11 @@ impl<C: ClientState, S: FileSystem, A: Allocator + Copy> IntoIterator
 
     type IntoIter = DirEntryIter<C, S, NoProcess, A>;
 
-    ghost use Rattle.jwalk_read.specs.States.{DefaultIs};
-    ghost use Rattle.jwalk_read.specs.Job.{IsSteady};
-    ghost use Rattle.jwalk.specs.WalkDir.{file_system_of, unprocessed, Starts, Begins};
+    ghost use Rattle.jwalk.specs.WalkDir.{Starts, Holds};
+    ghost use Rattle.jwalk.specs.DirEntryIter.{IsRefused};
 
-    ghost into_iter_gives = { λ walk it. Starts walk it × ((d : C.DirEntryState) → (s : C.ReadDirState) → DefaultIs C.ReadDirState.is_default s → IsSteady (S.IsFixed (file_system_of walk)) (Unit {0}) C.ReadDirState.is_clone C.DirEntryState.is_default d → Begins (S.functions (file_system_of walk)) unprocessed d s walk it) };
+    ghost into_iter_gives = { λ walk it. Starts walk it × (IsRefused it ⊎ Holds S.FileSystem
+        ⟦<NoProcess as ProcessReadDir<C, A>>⟧ C.ReadDirState.Clone C.DirEntryState.Default walk it) };
 
     fn into_iter(self) -> DirEntryIter<C, S, NoProcess, A> {
         WalkDirGeneric::into_iter(self)

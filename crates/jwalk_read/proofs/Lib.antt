@@ -1,1 +1,2 @@
 pub mod ListFacts
+mod ReadingFacts

@@ -1,14 +1,29 @@
 -- Facts on lists that are gathered.
-use Rattle.std.proofs.Common.{◌≡◌, ℕ, ◌+◌, ◌<◌, List, ◌∷◌, ◌++◌, length, get_or, drop, sym, ap, ◌∙◌, append_assoc, add-one, drop-cons}
+use Rattle.std.proofs.Common.{◌≡◌, ◌++◌, List, [], ◌∷◌, Result, map, ap, sym, ◌∙◌, append-nil, option_to_list}
+use Rattle.std.proofs.lemmas.Grind.{flat_map-append}
+use Rattle.std.proofs.lemmas.List.{map-append}
+use Rattle.walk_model.specs.Entry.{Item}
+use Rattle.walk_model.specs.ReadDir.{Spec, spec_of, children, AreClones}
+use Rattle.jwalk_read.specs.declared.dir_entry.DirEntry.{DirEntry}
+use Rattle.jwalk_read.specs.declared.error.Error.{Error}
+use Rattle.jwalk_read.specs.Entry.{item}
+use Rattle.jwalk_read.specs.Given.{Given, counted_item, counted_list}
 
--- One more item of xs: what was gathered, and what is left to be gathered, are still all.
-pub gathers : {T Z : Type 0} (k : List T → List Z) (h : T → List Z) → ((x : T) (l : List T) → k (x ∷ l) ≡ h x ++ k l) → (a b : List Z) (xs : List T) (i : ℕ) (x : T) → i < length xs → x ≡ get_or xs i x → b ≡ a ++ h x → a ++ k (drop i xs) ≡ k xs → b ++ k (drop (i + 1) xs) ≡ k xs
-gathers k h cons a b xs i x lt at more sofar =
-    ap (λ l. l ++ k (drop (i + 1) xs)) more
-    ∙ append_assoc a (h x) (k (drop (i + 1) xs))
-    ∙ ap (λ l. a ++ l) (sym (cons x (drop (i + 1) xs)) ∙ ap k (ap (λ y. y ∷ drop (i + 1) xs) at ∙ rw add-one (sym (drop-cons xs i x lt))))
-    ∙ sofar
+-- items as they count, one list after another
+pub counted-append : {C A R E : Type 0} (given : Given R E) (l m : List (Result (DirEntry C A R E) (Error A))) → counted_list given (l ++ m) ≡ counted_list given l ++ counted_list given m
+counted-append given l m = ap (map (counted_item given)) (map-append item l m) ∙ map-append (counted_item given) (map item l) (map item m)
+
+-- the directories of one more item
+pub children_more : {R E : Type 0} (state : R) (l : List (Item R E)) (x : Item R E) → children (record { state = state; list = l ++ x ∷ [] }) ≡ children (record { state = state; list = l }) ++ option_to_list (spec_of state x)
+children_more state l x = flat_map-append (λ y. option_to_list (spec_of state y)) l (x ∷ []) ∙ ap (λ m. children (record { state = state; list = l }) ++ m) (append-nil (option_to_list (spec_of state x)))
+
+-- clones of one list and then of another
+pub AreClones-append : {R : Type 0} (is_clone : R → R → Type 0) (specs clones more others : List (Spec R)) → AreClones is_clone specs clones → AreClones is_clone more others → AreClones is_clone (specs ++ more) (clones ++ others)
+AreClones-append is_clone [] [] more others h k = k
+AreClones-append is_clone [] (c ∷ clones) more others h k = absurd h
+AreClones-append is_clone (s ∷ specs) [] more others h k = absurd h
+AreClones-append is_clone (s ∷ specs) (c ∷ clones) more others h k = (h.0, AreClones-append is_clone specs clones more others h.1 k)
 
 -- a call at equal arguments
-pub same_call : {T L Z : Type 0} (f : T → L → Z) {t u : T} {l m : L} {z : Z} → u ≡ t → m ≡ l → f u m ≡ z → f t l ≡ z
-same_call f {t} {u} {l} {m} p q e = ap (λ x. f x l) (sym p) ∙ ap (f u) (sym q) ∙ e
+pub same_call : {T U L Z : Type 0} (f : T → U → L → Z) {t t' : T} {u u' : U} {l l' : L} {z : Z} → t' ≡ t → u' ≡ u → l' ≡ l → f t' u' l' ≡ z → f t u l ≡ z
+same_call f {t} {t'} {u} {u'} {l} {l'} p q r e = ap (λ x. f x u l) (sym p) ∙ ap (λ x. f t' x l) (sym q) ∙ ap (f t' u') (sym r) ∙ e

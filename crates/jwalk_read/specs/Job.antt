@@ -1,8 +1,7 @@
 -- A job seen as a value, and what its readings are.
-use Rattle.std.specs.Prelude.{◌≡◌, ◌<◌, ◌^◌, ℕ, List, length}
+use Rattle.std.specs.Prelude.{◌≡◌, ◌<◌, ◌^◌, ℕ, length}
 use Rattle.std.specs.declared.clone.Clone as Clone
 use Rattle.std.specs.declared.default.Default as Default
-use Rattle.walk_model.specs.FileSystem.{Functions}
 use Rattle.walk_model.specs.Options as value_options
 use Rattle.walk_model.specs.ReadDir.{Spec, Outcome, IsLawful, list_of}
 use Rattle.walk_model.specs.Counted.{Worth}
@@ -10,7 +9,7 @@ use Rattle.walk_model.specs.Job as value
 use Rattle.walk_fs.specs.declared.file_system.FileSystem as FileSystem
 use Rattle.jwalk_read.specs.declared.process_read_dir.ProcessReadDir as ProcessReadDir
 use Rattle.jwalk_read.specs.declared.job.Job.{Job}
-use Rattle.jwalk_read.specs.Options.{options}
+use Rattle.jwalk_read.specs.Options.{options_value}
 use Rattle.jwalk_read.specs.Given.{Given, counted_spec, counted_outcome}
 
 module _ {C S P A R E : Type 0} where
@@ -21,7 +20,7 @@ module _ {C S P A R E : Type 0} where
   callback job = job.process
 
   abbrev pub options_of : Job C S P A R E → value_options.Options
-  options_of job = options job.options
+  options_of job = options_value job.options
 
   abbrev pub greatest_depth : Job C S P A R E → ℕ
   greatest_depth job = (options_of job).max_depth
@@ -43,16 +42,20 @@ job_by files given job = record {
   default = given.new_entry;
 }
 
-module _ {C S P A R E : Type 0} (files : FileSystem.Ghosts S) (process : ProcessReadDir.Ghosts P C A R E) (clone : Clone.Ghosts R) (default : Default.Ghosts E) where
-  -- What the job works with is as it is given: its file system is fixed, its callback makes of lists what is said, and clones and defaults count so.
-  pub record IsSteady (job : Job C S P A R E) (given : Given R E) : Type 0 where
-    pub file_system : files.IsFixed (file_system job)
-    pub callback : process.Makes (callback job) given
+module _ {C S P A R E : Type 0} (files : FileSystem.Ghosts S) (process : ProcessReadDir.Ghosts P C A R E) (clone : Clone.Ghosts R) (defaults : Default.Ghosts E) where
+  -- What a walk works with is as it is given: its file system is fixed, its callback makes of lists what is said, and clones and defaults count so.
+  pub record IsSteady (fs : S) (it : P) (given : Given R E) : Type 0 where
+    pub file_system : files.IsFixed fs
+    pub callback : process.Makes it given
     pub clones : ClonesCount clone given
-    pub default : DefaultsCount default given
+    pub default : DefaultsCount defaults given
+
+  -- that of a job is
+  abbrev pub IsSteadyJob : Job C S P A R E → Given R E → Type 0
+  IsSteadyJob job given = IsSteady (file_system job) (callback job) given
 
   -- The outcome is a reading of the directory: lawful whatever the file system answers, a list that fits in memory, and over a steady job the reading of the definition.
   pub record IsReadingOf (job : Job C S P A R E) (spec : Spec R) (outcome : Outcome R E) : Type 0 where
     pub lawful : IsLawful (greatest_depth job) spec outcome
     pub few : length (list_of outcome) < 2 ^ 64
-    pub value : (given : Given R E) → IsSteady job given → counted_outcome given outcome ≡ value.reading (job_by files given job) (counted_spec given spec)
+    pub value : (given : Given R E) → IsSteadyJob job given → counted_outcome given outcome ≡ value.reading (job_by files given job) (counted_spec given spec)

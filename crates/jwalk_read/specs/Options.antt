@@ -4,8 +4,8 @@ use Rattle.walk_model.specs.Options as value
 use Rattle.walk_model.specs.Options.{serial, defaults}
 use Rattle.jwalk_read.specs.declared.options.Options.{Options}
 
-abbrev pub options : Options → value.Options
-options it = record {
+abbrev pub options_value : Options → value.Options
+options_value it = record {
   sort = it.sort;
   skip_hidden = it.skip_hidden;
   follow_links = false;

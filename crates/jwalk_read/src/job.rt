@@ -1,5 +1,5 @@
 //! One reading of a directory.
-ghost use Rattle.std.specs.Prelude.{◌≡◌, ◌+◌, ◌<◌, ◌^◌, ◌&&◌, ◌++◌, [], ◌∷◌, Some, Ok, IfOk, OnOk, map, option_map, option_to_list, string_bytes};
+ghost use Rattle.std.specs.Prelude.{◌≡◌, ◌+◌, ◌<◌, ◌^◌, ◌&&◌, ◌++◌, [], ◌∷◌, false, Some, Ok, IfOk, OnOk, length, map, option_map, option_to_list, string_bytes};
 ghost use Rattle.std.specs.IoError.{error_kind};
 ghost use Rattle.walk_model.specs.Error.{io};
 ghost use Rattle.walk_model.specs.Entry.{AtDepth, is_hidden, children_at};
@@ -11,9 +11,9 @@ ghost use Rattle.jwalk_read.specs.Text.{text};
 ghost use Rattle.jwalk_read.specs.Error.{failure};
 ghost use Rattle.jwalk_read.specs.Entry.{entry, item, children};
 ghost use Rattle.jwalk_read.specs.ReadDir.{spec, outcome, reading};
-ghost use Rattle.jwalk_read.specs.Options.{options, reads_by};
+ghost use Rattle.jwalk_read.specs.Options.{options_value, reads_by};
 ghost use Rattle.jwalk_read.specs.Given.{Given, counted_spec, counted_item, counted_reading, counted_list, counted_entry};
-ghost use Rattle.jwalk_read.specs.Job.{file_system, callback, options_of, DefaultsCount, job_by, IsSteady, IsReadingOf};
+ghost use Rattle.jwalk_read.specs.Job.{file_system, callback, options_of, DefaultsCount, job_by, IsSteadyJob, IsReadingOf};
 
 use crate::client_state::ClientState;
 use crate::dir_entry::DirEntry;
@@ -23,7 +23,7 @@ use crate::process_read_dir::ProcessReadDir;
 use crate::read_children::ReadChildren;
 use crate::read_dir::ReadDir;
 use crate::read_dir_spec::ReadDirSpec;
-use crate::sorting::sort_by_name;
+use crate::sorting::in_order;
 use std::alloc::{AllocError, Allocator, Global};
 use std::io;
 use std::marker::PhantomData;
@@ -102,7 +102,7 @@ impl<C: ClientState, S: FileSystem, P: ProcessReadDir<C, A>, A: Allocator + Copy
     pub fn with_options(alloc: A, fs: S, process: P, options: Options) -> Self
         ensures file_system { file_system result ≡ fs }
         ensures callback { callback result ≡ process }
-        ensures options { options_of result ≡ options options }
+        ensures options { options_of result ≡ options_value options }
     {
         Job {
             fs,
@@ -115,7 +115,7 @@ impl<C: ClientState, S: FileSystem, P: ProcessReadDir<C, A>, A: Allocator + Copy
 
     /// The options that it goes by.
     pub fn options(&self) -> Options
-        ensures { options result ≡ options_of self.now }
+        ensures { options_value result ≡ options_of self.now }
     {
         self.options
     }
@@ -271,11 +271,8 @@ impl<C: ClientState, S: FileSystem, P: ProcessReadDir<C, A>, A: Allocator + Copy
         ensures value { (g : _) → DefaultsCount C.DirEntryState.Default g
             → IfOk result (λ v. counted_list g v.items ≡ value.ordered (job_by S.FileSystem g self.now) (counted_spec g (spec of.now)) (map listed listing.items)) }
     {
-        let mut items = self.raw(of, listing)?;
-        if self.options.sort {
-            sort_by_name(&mut items)?;
-        }
-        Ok(items)
+        let items = self.raw(of, listing)?;
+        Ok(in_order(self.options.sort, items)?)
     }
 
     /// The list of a directory that could be listed, after the callback.
@@ -286,14 +283,16 @@ impl<C: ClientState, S: FileSystem, P: ProcessReadDir<C, A>, A: Allocator + Copy
     ) -> Result<ReadDir<C, A>, AllocError>
         requires lawful { P.IsLawful (callback self.now) }
         requires fits { of.now.depth + 1 < 2 ^ 64 }
-        ensures depth { IfOk result (λ r. AtDepth (of.now.depth + 1) (map item r.results_list.items)) }
-        ensures value { (g : _) → IsSteady S.FileSystem P.ProcessReadDir C.ReadDirState.Clone C.DirEntryState.Default self.now g
+        ensures depth { IfOk result (λ r. AtDepth (of.now.depth + 1) (reading r).list) }
+        ensures few { IfOk result (λ r. length (reading r).list < 2 ^ 64) }
+        ensures value { (g : _) → IsSteadyJob S.FileSystem P.ProcessReadDir C.ReadDirState.Clone C.DirEntryState.Default self.now g
             → IfOk result (λ r. g.processed (Some of.now.depth) (text of.now.path) (g.read_dir_state of.now.client_read_state) (value.ordered (job_by S.FileSystem g self.now) (counted_spec g (spec of.now)) (map listed listing.items)) ≡ counted_reading g (reading r)) }
     {
         let mut items = self.ordered(of, listing)?;
         let mut state = of.client_read_state.clone()?;
         self.process
             .process(Some(of.depth), of.path.as_str(), &mut state, &mut items)?;
+        let _count = items.len();
         Ok(ReadDir::new(state, items))
     }
 
@@ -413,7 +412,7 @@ impl<C: ClientState, S: FileSystem, P: ProcessReadDir<C, A>, A: Allocator + Copy
     pub fn root_list(&self, path: &str, state: C::ReadDirState) -> Result<ReadDir<C, A>, AllocError>
         requires { P.IsLawful (callback self.now) }
         ensures depth { IfOk result (λ r. AtDepth 0 (reading r).list) }
-        ensures value { (g : _) → IsSteady S.FileSystem P.ProcessReadDir C.ReadDirState.Clone C.DirEntryState.Default self.now g
+        ensures value { (g : _) → IsSteadyJob S.FileSystem P.ProcessReadDir C.ReadDirState.Clone C.DirEntryState.Default self.now g
             → IfOk result (λ r. value.root_list (job_by S.FileSystem g self.now) path.now (g.read_dir_state state) ≡ counted_reading g (reading r)) }
     {
         let RootItem { item, parent_path } = self.root_item(path)?;

@@ -13,11 +13,11 @@ pub struct Options {
 
 impl Options {
     ghost use Rattle.walk_model.specs.Options.{defaults, with_sort, with_skip_hidden, with_min_depth, with_max_depth};
-    ghost use Rattle.jwalk_read.specs.Options.{options, reads_by};
+    ghost use Rattle.jwalk_read.specs.Options.{options_value, reads_by};
 
     /// The defaults.
     pub fn new() -> Self
-        ensures { options result ≡ defaults }
+        ensures { options_value result ≡ defaults }
     {
         Options {
             sort: false,
@@ -29,7 +29,7 @@ impl Options {
 
     /// Those that readings go by, with the least depth of the defaults.
     pub(crate) fn for_readings(sort: bool, skip_hidden: bool, max_depth: usize) -> Self
-        ensures { options result ≡ reads_by sort skip_hidden max_depth }
+        ensures { options_value result ≡ reads_by sort skip_hidden max_depth }
     {
         Options {
             sort,
@@ -40,46 +40,41 @@ impl Options {
     }
 
     /// Whether the entries of a directory come by the bytes of their names, with its errors last.
-    pub fn with_sort(self, sort: bool) -> Self
-        ensures { options result ≡ with_sort sort (options self) }
+    pub fn with_sort(mut self, sort: bool) -> Self
+        ensures { options_value result ≡ with_sort sort (options_value self) }
     {
-        Options { sort, ..self }
+        self.sort = sort;
+        self
     }
 
     /// Whether names that start with a dot are left out.
-    pub fn with_skip_hidden(self, skip_hidden: bool) -> Self
-        ensures { options result ≡ with_skip_hidden skip_hidden (options self) }
+    pub fn with_skip_hidden(mut self, skip_hidden: bool) -> Self
+        ensures { options_value result ≡ with_skip_hidden skip_hidden (options_value self) }
     {
-        Options {
-            skip_hidden,
-            ..self
-        }
+        self.skip_hidden = skip_hidden;
+        self
     }
 
     /// The least depth of the entries that are answered, lowered to the greatest.
-    pub fn with_min_depth(self, depth: usize) -> Self
-        ensures { options result ≡ with_min_depth depth (options self) }
+    pub fn with_min_depth(mut self, depth: usize) -> Self
+        ensures { options_value result ≡ with_min_depth depth (options_value self) }
     {
-        Options {
-            min_depth: depth.min(self.max_depth),
-            ..self
-        }
+        self.min_depth = depth.min(self.max_depth);
+        self
     }
 
     /// The greatest depth, raised to the least.
-    pub fn with_max_depth(self, depth: usize) -> Self
-        ensures { options result ≡ with_max_depth depth (options self) }
+    pub fn with_max_depth(mut self, depth: usize) -> Self
+        ensures { options_value result ≡ with_max_depth depth (options_value self) }
     {
-        Options {
-            max_depth: depth.max(self.min_depth),
-            ..self
-        }
+        self.max_depth = depth.max(self.min_depth);
+        self
     }
 
     /// The least depth, which is no greater than the greatest.
     pub fn min_depth(self) -> usize
-        ensures value { result ≡ (options self).min_depth }
-        ensures in_order { result ≤ (options self).max_depth }
+        ensures value { result ≡ (options_value self).min_depth }
+        ensures in_order { result ≤ (options_value self).max_depth }
     {
         self.min_depth
     }

@@ -54,8 +54,11 @@ impl<C: ClientState, A: Allocator + Copy> ProcessReadDir<C, A> for NoProcess {
         _list: &mut Vec<Result<DirEntry<C, A>, Error<A>>, A>,
     ) -> Result<(), AllocError>
         ensures never_refuses { IsOk result }
-        ensures state { state.new ≡ state.old }
-        ensures list { list.new.items ≡ list.old.items }
+        ensures state { _state.new ≡ _state.old }
+        ensures list { _list.new.items ≡ _list.old.items }
+        ensures depths { OnOk result (KeepsDepths _depth (map item _list.old.items) (map item _list.new.items)) }
+        ensures made { (g : _) → KeepsLists (Given.processed g)
+            → OnOk result (IsProcessed g _depth _path.now _state.old (map item _list.old.items) _state.new (map item _list.new.items)) }
     {
         Ok(())
     }

@@ -1,9 +1,8 @@
 //! A directory that was read.
-ghost use Rattle.std.specs.Prelude.{◌≡◌, ◌++◌, IfOk, OnOk, map, option_to_list};
-ghost use Rattle.walk_model.specs.ReadDir.{place, spec_of, children};
+ghost use Rattle.std.specs.Prelude.{◌≡◌, ◌++◌, List, IfOk, OnOk, map, option_to_list};
+ghost use Rattle.walk_model.specs.ReadDir.{Spec, spec_of, children, AreClones};
 ghost use Rattle.jwalk_read.specs.Entry.{item};
 ghost use Rattle.jwalk_read.specs.ReadDir.{spec, reading};
-ghost use Rattle.jwalk_read.specs.States.{ClonesAreEqual};
 
 use crate::client_state::ClientState;
 use crate::dir_entry::DirEntry;
@@ -26,8 +25,9 @@ fn push_spec<C: ClientState, A: Allocator + Copy>(
     state: &C::ReadDirState,
     found: &Result<DirEntry<C, A>, Error<A>>,
 ) -> Result<(), AllocError>
-    ensures places { OnOk result (map (λ s. place (spec s)) specs.new.items ≡ map (λ s. place (spec s)) specs.old.items ++ map place (option_to_list (spec_of state.now (item found.now)))) }
-    ensures specs { ClonesAreEqual C.ReadDirState.is_clone → OnOk result (map spec specs.new.items ≡ map spec specs.old.items ++ option_to_list (spec_of state.now (item found.now))) }
+    ensures { (asked : List (Spec C.ReadDirState)) → AreClones C.ReadDirState.is_clone asked (map spec specs.old.items)
+        → OnOk result (AreClones C.ReadDirState.is_clone
+            (asked ++ option_to_list (spec_of state.now (item found.now))) (map spec specs.new.items)) }
 {
     match ReadDirSpec::of_item(state, found)? {
         Some(spec) => {
@@ -71,8 +71,7 @@ impl<C: ClientState, A: Allocator + Copy> ReadDir<C, A> {
     ///
     /// Fails only for want of memory, met by the list or by the clone of a state.
     pub fn read_children_specs(&self) -> Result<Vec<ReadDirSpec<C, A>, A>, AllocError>
-        ensures places { IfOk result (λ v. map (λ s. place (spec s)) v.items ≡ map place (children (reading self.now))) }
-        ensures specs { ClonesAreEqual C.ReadDirState.is_clone → IfOk result (λ v. map spec v.items ≡ children (reading self.now)) }
+        ensures { IfOk result (λ v. AreClones C.ReadDirState.is_clone (children (reading self.now)) (map spec v.items)) }
     {
         let mut specs = Vec::new(*self.results_list.allocator());
         for found in &self.results_list {

@@ -1,9 +1,8 @@
 //! A directory to be read.
-ghost use Rattle.std.specs.Prelude.{◌≡◌, IfOk, map, unwrap_or, option_to_list};
-ghost use Rattle.walk_model.specs.ReadDir.{place, spec_of};
+ghost use Rattle.std.specs.Prelude.{IfOk, map, unwrap_or, option_to_list};
+ghost use Rattle.walk_model.specs.ReadDir.{spec_of, AreClones};
 ghost use Rattle.jwalk_read.specs.Entry.{item};
 ghost use Rattle.jwalk_read.specs.ReadDir.{spec};
-ghost use Rattle.jwalk_read.specs.States.{ClonesAreEqual};
 
 use crate::client_state::ClientState;
 use crate::dir_entry::DirEntry;
@@ -26,7 +25,7 @@ fn first_state<C: ClientState>(
     own: &Option<C::ReadDirState>,
     parent: &C::ReadDirState,
 ) -> Result<C::ReadDirState, AllocError>
-    ensures { ClonesAreEqual C.ReadDirState.is_clone → IfOk result (λ s. s ≡ unwrap_or own.now parent.now) }
+    ensures { IfOk result (C.ReadDirState.is_clone (unwrap_or own.now parent.now)) }
 {
     match own {
         Some(own) => Ok(own.clone()?),
@@ -35,13 +34,14 @@ fn first_state<C: ClientState>(
 }
 
 impl<C: ClientState, A: Allocator + Copy> ReadDirSpec<C, A> {
-    /// The specification of an item's directory, if it has one, where the reading of its list left `state`.
+    /// The specification of an item's directory, if it has one, where the reading of its list left `state`; its state is a
+    /// clone.
     pub(crate) fn of_item(
         state: &C::ReadDirState,
         found: &Result<DirEntry<C, A>, Error<A>>,
     ) -> Result<Option<Self>, AllocError>
-        ensures places { IfOk result (λ o. map (λ s. place (spec s)) (option_to_list o) ≡ map place (option_to_list (spec_of state.now (item found.now)))) }
-        ensures specs { ClonesAreEqual C.ReadDirState.is_clone → IfOk result (λ o. map spec (option_to_list o) ≡ option_to_list (spec_of state.now (item found.now))) }
+        ensures { IfOk result (λ o. AreClones C.ReadDirState.is_clone
+            (option_to_list (spec_of state.now (item found.now))) (map spec (option_to_list o))) }
     {
         let Ok(entry) = found else {
             return Ok(None);

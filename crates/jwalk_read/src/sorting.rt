@@ -1,5 +1,5 @@
 //! The order of a list by name.
-ghost use Rattle.std.specs.Prelude.{◌≡◌, OnOk, map};
+ghost use Rattle.std.specs.Prelude.{◌≡◌, IfOk, OnOk, map, if◌then◌else◌};
 ghost use Rattle.std.specs.Ordering.{is_lt};
 ghost use Rattle.walk_model.specs.Sorting.{stands_before, arranged};
 ghost use Rattle.jwalk_read.specs.Entry.{item};
@@ -26,10 +26,24 @@ fn by_name<C: ClientState, A: Allocator + Copy>(
 }
 
 /// Sorts a list by name, with the errors last. Entries of equal name, and errors, keep their order.
-pub(crate) fn sort_by_name<C: ClientState, A: Allocator + Copy>(
+fn sort_by_name<C: ClientState, A: Allocator + Copy>(
     list: &mut Vec<Result<DirEntry<C, A>, Error<A>>, A>,
 ) -> Result<(), AllocError>
     ensures { OnOk result (map item list.new.items ≡ arranged (map item list.old.items)) }
 {
     list.sort_by(|a, b| by_name(a, b))
+}
+
+/// A list in order by name where that is asked for, and else as it is.
+pub(crate) fn in_order<C: ClientState, A: Allocator + Copy>(
+    sort: bool,
+    mut list: Vec<Result<DirEntry<C, A>, Error<A>>, A>,
+) -> Result<Vec<Result<DirEntry<C, A>, Error<A>>, A>, AllocError>
+    ensures { IfOk result (λ v. map item v.items ≡ (if sort then arranged (map item list.items) else map item list.items)) }
+{
+    if sort {
+        sort_by_name(&mut list)?;
+        return Ok(list);
+    }
+    Ok(list)
 }

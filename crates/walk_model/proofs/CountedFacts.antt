@@ -1,8 +1,8 @@
 -- What is counted of lists and outcomes is what lists and outcomes of counted states have.
-use Rattle.std.proofs.Common.{◌≡◌, ℕ, List, [], ◌∷◌, ◌++◌, map, Option, Some, None, option_to_list, unwrap_or, is_some, true, false, cond, Ok, Err, refl, sym, ap, ◌∙◌}
+use Rattle.std.proofs.Common.{◌≡◌, ℕ, List, [], ◌∷◌, ◌++◌, map, Option, Some, None, option_to_list, unwrap_or, is_some, Bool, true, false, cond, Ok, Err, refl, sym, ap, ◌∙◌}
 use Rattle.std.specs.Prelude.{flat_map, option_map}
 use Rattle.std.proofs.lemmas.List.{map-append}
-use Rattle.walk_model.specs.Entry.{Entry, Item, Children, has_directory, AtDepth}
+use Rattle.walk_model.specs.Entry.{Entry, Item, Children, children_at, has_directory, AtDepth}
 use Rattle.walk_model.specs.ReadDir.{Spec, Outcome, spec_below, spec_of, children_of, list_of, IsLawful}
 use Rattle.walk_model.specs.Listing.{after_reading, is_answered}
 use Rattle.walk_model.specs.Sorting.{stands_before, put, arranged}
@@ -78,3 +78,12 @@ module _ {R E V W : Type 0} (view : R → V) (mark : E → W) where
   pub counted-arranged : (l : List (Item R E)) → arranged (map (item_by view mark) l) ≡ map (item_by view mark) (arranged l)
   counted-arranged [] = refl
   counted-arranged (x ∷ l) = ap (put (item_by view mark x)) (counted-arranged l) ∙ counted-put x (arranged l)
+
+  pub counted-in_order : (sort : Bool) (l : List (Item R E)) → map (item_by view mark) (cond sort (arranged l) l) ≡ cond sort (arranged (map (item_by view mark) l)) (map (item_by view mark) l)
+  counted-in_order true l = sym (counted-arranged l)
+  counted-in_order false l = refl
+
+  -- nor a directory that stands behind a link
+  pub counted-with_directory : (e : Entry R E) (dir : Bool) (path : List ℕ) → entry_by view mark (cond dir (record e { read_children = children_at true path }) e) ≡ cond dir (record (entry_by view mark e) { read_children = children_at true path }) (entry_by view mark e)
+  counted-with_directory e true path = refl
+  counted-with_directory e false path = refl

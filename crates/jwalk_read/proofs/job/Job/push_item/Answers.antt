@@ -2,6 +2,8 @@ use Rattle.std.proofs.Common.{◌+◌, ◌++◌, ◌∷◌, [], map, ap, ◌∙�
 use Rattle.std.proofs.lemmas.List.{map-append}
 use Rattle.walk_model.proofs.HeldFacts.{AtDepth-append}
 use Rattle.jwalk_read.specs.Entry.{item}
+use Rattle.jwalk_read.specs.Given.{counted_list}
+use Rattle.jwalk_read.proofs.ListFacts.{counted-append}
 use Rattle.jwalk_read.proofs.job.Job.push_item.Goals as goal
 
 pub returns-in_ok-push-in-Some-clause-depth : goal.returns-in_ok-push-in-Some-clause-depth
@@ -12,8 +14,8 @@ returns-in_ok-push-in-Some-clause-depth g c = λ before.
     rw (c.in_ok-push-in-Some.ensures.items, map-append item old added) (AtDepth-append (c.args.of.now.depth + 1) (map item old) (map item added) before deep)
 
 pub returns-in_ok-push-in-Some-clause-value : goal.returns-in_ok-push-in-Some-clause-value
-returns-in_ok-push-in-Some-clause-value g c = λ d default.
+returns-in_ok-push-in-Some-clause-value g c = λ given default.
     let old = c.args.items.now.items in
     let added = c.in-Some.item ∷ [] in
-    let is = rw c.in-Some.is at (c.in_ok-item.ensures.value d default) in
-    ap (map item) c.in_ok-push-in-Some.ensures.items ∙ map-append item old added ∙ ap (λ l. map item old ++ l) is
+    let is = rw c.in-Some.is at (c.in_ok-item.ensures.value given default) in
+    ap (counted_list given) c.in_ok-push-in-Some.ensures.items ∙ counted-append given old added ∙ ap (λ l. counted_list given old ++ l) is

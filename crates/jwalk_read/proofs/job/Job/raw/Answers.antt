@@ -6,26 +6,29 @@ use Rattle.std.proofs.lemmas.Iterator.Consumers.{YieldsList-end}
 use Rattle.walk_fs.specs.Views.{listed}
 use Rattle.walk_model.specs.Job as value
 use Rattle.jwalk_read.specs.ReadDir.{spec}
-use Rattle.jwalk_read.specs.Job.{job, file_system, callback}
+use Rattle.jwalk_read.specs.Given.{counted_spec}
+use Rattle.jwalk_read.specs.Job.{job_by}
 use Rattle.jwalk_read.proofs.job.Job.raw.Goals as goal
 
 pub loop-found-preserved : goal.loop-found-preserved
 loop-found-preserved g c = record {
   depth = c.in_ok-push_item.ensures.depth c.loop-found.invariant.depth;
-  value = λ d default.
-      let one = value.item_of (job (g.S.FileSystem.functions (file_system c.args.self.now)) (g.P.ProcessReadDir.processed (callback c.args.self.now)) d c.args.self.now) (spec c.args.of.now) in
+  value = λ given default.
+      let job = job_by g.S.FileSystem given c.args.self.now in
+      let place = counted_spec given (spec c.args.of.now) in
+      let one = value.item_of job place in
       let gone = map listed c.loop-found.yielded in
       let next = listed c.in-Some.found in
-      c.in_ok-push_item.ensures.value d default
-      ∙ ap (λ l. l ++ one next) (c.loop-found.invariant.value d default)
-      ∙ ap (λ l. value.raw (job (g.S.FileSystem.functions (file_system c.args.self.now)) (g.P.ProcessReadDir.processed (callback c.args.self.now)) d c.args.self.now) (spec c.args.of.now) gone ++ l) (sym (append-nil (one next)))
+      c.in_ok-push_item.ensures.value given default
+      ∙ ap (λ l. l ++ one next) (c.loop-found.invariant.value given default)
+      ∙ ap (λ l. value.raw job place gone ++ l) (sym (append-nil (one next)))
       ∙ sym (flat_map-append one gone (next ∷ []))
-      ∙ ap (value.raw (job (g.S.FileSystem.functions (file_system c.args.self.now)) (g.P.ProcessReadDir.processed (callback c.args.self.now)) d c.args.self.now) (spec c.args.of.now)) (sym (map-append listed c.loop-found.yielded (c.in-Some.found ∷ [])));
+      ∙ ap (value.raw job place) (sym (map-append listed c.loop-found.yielded (c.in-Some.found ∷ [])));
 }
 
 pub returns-clause-value : goal.returns-clause-value
-returns-clause-value g c = λ d default.
+returns-clause-value g c = λ given default.
     let begins = c.into_iter-found-iterator.ensures.into_iter_gives in
     let all = YieldsList-end (YieldsList-from_vec {s = c.into_iter-found-iterator.result} c.args.listing.items begins.0 (begins.1 ∙ c.args.listing.ok.0)) c.loop-found.yielded c.loop-found.found-iterator c.loop-found.yielded_by c.next.result c.next.new.self c.in-None.is c.next.ensures.steps in
-    c.loop-found.invariant.value d default
-    ∙ ap (λ l. value.raw (job (g.S.FileSystem.functions (file_system c.args.self.now)) (g.P.ProcessReadDir.processed (callback c.args.self.now)) d c.args.self.now) (spec c.args.of.now) (map listed l)) (sym (map-id c.loop-found.yielded) ∙ all.0)
+    c.loop-found.invariant.value given default
+    ∙ ap (λ l. value.raw (job_by g.S.FileSystem given c.args.self.now) (counted_spec given (spec c.args.of.now)) (map listed l)) (sym (map-id c.loop-found.yielded) ∙ all.0)

@@ -1,8 +1,8 @@
-use Rattle.std.proofs.Common.{◌≡◌, ◌∙◌, ◌∷◌, ◌++◌, [], List, None, map, ap, sym}
+use Rattle.std.proofs.Common.{◌≡◌, ◌∙◌, ◌∷◌, ◌++◌, [], List, None, refl, map, ap, sym}
 use Rattle.std.specs.Prelude.{string_bytes}
 use Rattle.walk_model.specs.ReadDir.{Reading}
 use Rattle.jwalk_read.specs.Entry.{item}
-use Rattle.jwalk_read.specs.Job.{callback}
+use Rattle.jwalk_read.specs.Given.{counted_item, counted_reading}
 use Rattle.jwalk_read.proofs.ListFacts.{same_call}
 use Rattle.jwalk_read.proofs.job.Job.root_list.Goals as goal
 
@@ -18,8 +18,8 @@ returns-clause-depth g c =
     rw (ap (λ (r : Reading g.row.C-ReadDirState.Denot g.row.C-DirEntryState.Denot). r.list) c.new.ensures) after
 
 pub returns-clause-value : goal.returns-clause-value
-returns-clause-value g c = λ d steady.
-    let path = c.as_str.ensures.value ∙ ap string_bytes c.deref.ensures ∙ c.in_ok-item.ensures.parent d steady.file_system steady.default in
-    let items = one_item item c.in_ok-item.field-0.item c.new-items.result.items c.push.new.self.items c.new-items.ensures.items c.in_ok-push.ensures.items ∙ ap (λ i. i ∷ []) (c.in_ok-item.ensures.value d steady.file_system steady.default) in
-    same_call (λ p l. g.P.ProcessReadDir.processed (callback c.args.self.now) None p c.args.state l) path items (c.in_ok-process.ensures.fixed steady.callback)
-    ∙ sym c.new.ensures
+returns-clause-value g c = λ given steady.
+    let path = c.as_str.ensures.value ∙ ap string_bytes c.deref.ensures ∙ c.in_ok-item.ensures.parent given steady.file_system steady.default in
+    let items = ap (map (counted_item given)) (one_item item c.in_ok-item.field-0.item c.new-items.result.items c.push.new.self.items c.new-items.ensures.items c.in_ok-push.ensures.items) ∙ ap (λ i. i ∷ []) (c.in_ok-item.ensures.value given steady.file_system steady.default) in
+    same_call (given.processed None) path refl items (c.in_ok-process.ensures.made given steady.callback)
+    ∙ sym (ap (counted_reading given) c.new.ensures)

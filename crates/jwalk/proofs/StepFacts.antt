@@ -1,0 +1,149 @@
+-- One item is passed, and items are passed one after another.
+use Rattle.std.proofs.Common.{◌≡◌, ◌≢◌, ℕ, ◌+◌, ◌<◌, ◌≤◌, Bool, true, false, not, List, [], ◌∷◌, ◌++◌, map, length, Option, Some, None, Ok, Err, IfSome, inl, inr, refl, sym, ap, ◌∙◌, subst, arith}
+use Rattle.std.specs.Prelude.{MatchBool}
+use Rattle.std.proofs.lemmas.List.{map-append}
+use lib.ListN.{length-append}
+use Rattle.std.specs.declared.clone.Clone as Clone
+use Rattle.std.specs.declared.default.Default as Default
+use Rattle.walk_model.specs.Entry.{Entry, Item, has_directory, NoDeeper, IsBetween}
+use Rattle.walk_model.specs.ReadDir.{Spec, Outcome, children_of, list_of}
+use Rattle.walk_model.specs.Counted.{Worth}
+use Rattle.walk_model.specs.Job as value
+use Rattle.walk_model.specs.Listing.{Pair, after_reading, is_answered, answers, listing}
+use Rattle.walk_model.specs.Held.{first_source, after_first, is_plain, pair_up, to_come, weight, sources, AnswersPlainly, AreSourced}
+use Rattle.walk_model.proofs.CloneFacts.{same_length, counted_clones}
+use Rattle.walk_model.proofs.CountedFacts.{counted-has_directory, counted-after_reading, counted-is_answered, counted-list_of, counted-children_of, counted-IsLawful}
+use Rattle.walk_model.proofs.HeldFacts.{directories, directories-append, as_many_of, sourced, sourced_count, lighter, lighter_alone, listed, alone, unread_none, heavy}
+use Rattle.walk_model.proofs.WithinFacts.{NoDeeper-append, of_reading, after, first_of, is_between}
+use Rattle.walk_fs.specs.declared.file_system.FileSystem as FileSystem
+use Rattle.jwalk_read.specs.declared.process_read_dir.ProcessReadDir as ProcessReadDir
+use Rattle.jwalk_read.specs.declared.job.Job.{Job}
+use Rattle.jwalk_read.specs.Given.{Given, counted_item, counted_spec, counted_outcome}
+use Rattle.jwalk_read.specs.Job.{options_of, greatest_depth, job_by, IsSteadyJob}
+use Rattle.jwalk.specs.ReadDirIter.{ReadsFirst}
+use Rattle.jwalk.specs.Step.{PassesNext, passed_plainly, passed_entering, LeavesOut, none_left_out, one_left_out, AnswersNext, ReadsUpTo, IsAtDirectory, StopsAtDirectory}
+
+-- a source that gives nothing takes no specification
+plain_keeps : {R : Type 0} (E : Type 0) (b : Bool) (ss : List (Spec R)) → is_plain (first_source {R = R} {E = E} b ss) ≡ true → after_first b ss ≡ ss
+plain_keeps E false ss h = refl
+plain_keeps E true [] h = refl
+plain_keeps E true (s ∷ ss) h = let no : false ≡ true = h in cc
+
+-- an item that gives nothing has no directory, where each directory has a specification
+plain_count : {R : Type 0} (E : Type 0) (b : Bool) (ss : List (Spec R)) (n : ℕ) → is_plain (first_source {R = R} {E = E} b ss) ≡ true → length ss ≡ (if b then 1 else 0) + n → length ss ≡ n
+plain_count E false ss n h same = omega (arith, same)
+plain_count E true [] n h same = absurd (omega (arith, same))
+plain_count E true (s ∷ ss) n h same = let no : false ≡ true = h in cc
+
+entry_alone : {R E : Type 0} (x : Item R E) → has_directory x ≡ true → (P : Item R E → Type 0) → ((e : Entry R E) → has_directory {R = R} (Ok e) ≡ true → P (Ok e)) → P x
+entry_alone (Ok e) h P k = k e h
+entry_alone (Err f) h P k = let no : false ≡ true = h in cc
+
+module _ {C S P A R E : Type 0} (files : FileSystem.Ghosts S) (process : ProcessReadDir.Ghosts P C A R E) (clone : Clone.Ghosts R) (defaults : Default.Ghosts E) (job : Job C S P A R E) where
+  abbrev Next : List (Item R E) → List (Spec R) → Item R E → List (Item R E) → List (Spec R) → Type 0
+  Next = PassesNext files process clone defaults job
+
+  -- ---- depths
+
+  next_within : {items : List (Item R E)} {specs : List (Spec R)} {answer : Item R E} {items' : List (Item R E)} {specs' : List (Spec R)} → Next items specs answer items' specs' → NoDeeper (greatest_depth job) items → NoDeeper (greatest_depth job) (answer ∷ []) × NoDeeper (greatest_depth job) items'
+  next_within (passed_plainly {x} {items} plain) h = first_of (greatest_depth job) x items h
+  next_within (passed_entering {x} {items} {outcome = outcome} dir reads) h =
+      let parts = first_of (greatest_depth job) x items h in
+      (after (greatest_depth job) outcome x parts.0, NoDeeper-append (greatest_depth job) (list_of outcome) items (of_reading (greatest_depth job) reads.first outcome reads.reading.lawful) parts.1)
+
+  -- ---- what is held gets lighter
+
+  next_lighter : {items : List (Item R E)} {specs : List (Spec R)} {answer : Item R E} {items' : List (Item R E)} {specs' : List (Spec R)} → Next items specs answer items' specs' → weight (greatest_depth job) (pair_up items' specs') < weight (greatest_depth job) (pair_up items specs)
+  next_lighter (passed_plainly {x} {items} {specs} plain) =
+      subst (λ l. weight (greatest_depth job) (pair_up items l) < weight (greatest_depth job) (pair_up (x ∷ items) specs)) (plain_keeps E (has_directory x) specs plain) (lighter_alone (greatest_depth job) x items specs)
+  next_lighter (passed_entering {x} {items} {specs} {left} {outcome} dir reads) =
+      entry_alone x dir (λ y. weight (greatest_depth job) (pair_up (list_of outcome ++ items) left) < weight (greatest_depth job) (pair_up (y ∷ items) specs))
+      (λ e has. rw (reads.took, reads.stacks.left) (lighter (greatest_depth job) clone.is_clone e items reads.first reads.rest reads.stacks.front outcome has reads.reading.lawful reads.reading.few reads.stacks.clones))
+
+  -- ---- each directory has its source
+
+  next_count : {items : List (Item R E)} {specs : List (Spec R)} {answer : Item R E} {items' : List (Item R E)} {specs' : List (Spec R)} → Next items specs answer items' specs' → length specs ≡ directories items → length specs' ≡ directories items'
+  next_count (passed_plainly {x} {items} {specs} plain) h = plain_count E (has_directory x) specs (directories items) plain h
+  next_count (passed_entering {x} {items} {specs} {left} {outcome} dir reads) h =
+      let one : length specs ≡ 1 + directories items = rw dir at h in
+      let rest : length specs ≡ 1 + length reads.rest = ap length reads.took ∙ omega arith in
+      let front : length reads.stacks.front ≡ directories (list_of outcome) = same_length clone.is_clone (children_of outcome) reads.stacks.front reads.stacks.clones ∙ as_many_of outcome in
+      let all : length left ≡ length reads.stacks.front + length reads.rest = ap length reads.stacks.left ∙ length-append reads.stacks.front reads.rest in
+      omega (arith, one, rest, front, all, directories-append (list_of outcome) items)
+
+  -- ---- what is answered plainly
+
+  next_plain_out : {items : List (Item R E)} {specs : List (Spec R)} {passed : Item R E} {items' : List (Item R E)} {specs' : List (Spec R)} (min_depth : ℕ) → Next items specs passed items' specs' → is_answered min_depth passed ≡ false → (answer : Option (Item R E)) (new : List (Pair R E)) → AnswersPlainly min_depth (pair_up items' specs') answer new → AnswersPlainly min_depth (pair_up items specs) answer new
+  next_plain_out min_depth (passed_plainly {x} {items} {specs} plain) out answer new h =
+      rw (plain, out) (subst (λ l. AnswersPlainly min_depth (pair_up items l) answer new) (sym (plain_keeps E (has_directory x) specs plain)) h)
+  next_plain_out min_depth (passed_entering {x} {items} {specs} dir reads) out answer new h = rw (reads.took, dir) tt
+
+  next_plain : {items : List (Item R E)} {specs : List (Spec R)} {answer : Item R E} {items' : List (Item R E)} {specs' : List (Spec R)} (min_depth : ℕ) → Next items specs answer items' specs' → is_answered min_depth answer ≡ true → AnswersPlainly min_depth (pair_up items specs) (Some answer) (pair_up items' specs')
+  next_plain min_depth (passed_plainly {x} {items} {specs} plain) kept = rw (plain, kept) (refl, ap (pair_up items) (sym (plain_keeps E (has_directory x) specs plain)))
+  next_plain min_depth (passed_entering {x} {items} {specs} dir reads) kept = rw (reads.took, dir) tt
+
+  -- ---- what is listed
+
+  module _ (given : Given R E) where
+    abbrev Listed : List (Item R E) → List (Spec R) → List (Item Worth Worth)
+    Listed items specs = listing (value.reading (job_by files given job)) (greatest_depth job) (pair_up (map (counted_item given) items) (map (counted_spec given) specs))
+
+    listed_plainly : (x : Item R E) (items : List (Item R E)) (specs : List (Spec R)) (b : Bool) → has_directory x ≡ b → is_plain (first_source {R = R} {E = E} (has_directory x) specs) ≡ true → Listed (x ∷ items) specs ≡ counted_item given x ∷ Listed items specs
+    listed_plainly x items specs false h plain =
+        alone (value.reading (job_by files given job)) (greatest_depth job) (counted_item given x) (map (counted_item given) items) (map (counted_spec given) specs) (counted-has_directory given.read_dir_state given.dir_entry_state x ∙ h)
+    listed_plainly x items [] true h plain =
+        unread_none (value.reading (job_by files given job)) (greatest_depth job) (counted_item given x) (map (counted_item given) items) [] refl (counted-has_directory given.read_dir_state given.dir_entry_state x ∙ h)
+    listed_plainly x items (s ∷ specs) true h plain = let no : false ≡ true = rw h at plain in cc
+
+    module _ (steady : IsSteadyJob files process clone defaults job given) where
+      listed_entering : (e : Entry R E) (items : List (Item R E)) (specs left : List (Spec R)) (outcome : Outcome R E) → has_directory {R = R} (Ok e) ≡ true → ReadsFirst files process clone defaults job specs outcome left → Listed (Ok e ∷ items) specs ≡ counted_item given (after_reading outcome (Ok e)) ∷ Listed (list_of outcome ++ items) left
+      listed_entering e items specs left outcome dir reads =
+          let view = given.read_dir_state in
+          let mark = given.dir_entry_state in
+          let reading = value.reading (job_by files given job) in
+          let front : map (counted_spec given) left ≡ children_of (counted_outcome given outcome) ++ map (counted_spec given) reads.rest
+          = ap (map (counted_spec given)) reads.stacks.left
+          ∙ map-append (counted_spec given) reads.stacks.front reads.rest
+          ∙ ap (λ l. l ++ map (counted_spec given) reads.rest) (counted_clones clone.is_clone view steady.clones (children_of outcome) reads.stacks.front reads.stacks.clones ∙ sym (counted-children_of view mark outcome)) in
+          let items_too : map (counted_item given) (list_of outcome ++ items) ≡ list_of (counted_outcome given outcome) ++ map (counted_item given) items
+          = map-append (counted_item given) (list_of outcome) items ∙ ap (λ l. l ++ map (counted_item given) items) (sym (counted-list_of view mark outcome)) in
+          ap (Listed (Ok e ∷ items)) reads.took
+          ∙ listed reading (greatest_depth job) (value_entry e) (map (counted_item given) items) (counted_spec given reads.first) (map (counted_spec given) reads.rest) (counted_outcome given outcome) (counted-has_directory view mark (Ok e) ∙ dir) (counted-IsLawful view mark (greatest_depth job) reads.first outcome reads.reading.lawful) (reads.reading.value given steady)
+          ∙ ap (λ a. a ∷ listing reading (greatest_depth job) (pair_up (list_of (counted_outcome given outcome) ++ map (counted_item given) items) (children_of (counted_outcome given outcome) ++ map (counted_spec given) reads.rest))) (counted-after_reading view mark outcome (Ok e))
+          ∙ ap (λ l. counted_item given (after_reading outcome (Ok e)) ∷ listing reading (greatest_depth job) (pair_up l (children_of (counted_outcome given outcome) ++ map (counted_spec given) reads.rest))) (sym items_too)
+          ∙ ap (λ l. counted_item given (after_reading outcome (Ok e)) ∷ listing reading (greatest_depth job) (pair_up (map (counted_item given) (list_of outcome ++ items)) l)) (sym front)
+
+      next_listed : {items : List (Item R E)} {specs : List (Spec R)} {answer : Item R E} {items' : List (Item R E)} {specs' : List (Spec R)} → Next items specs answer items' specs' → Listed items specs ≡ counted_item given answer ∷ Listed items' specs'
+      next_listed (passed_plainly {x} {items} {specs} plain) = listed_plainly x items specs (has_directory x) refl plain
+      next_listed (passed_entering {x} {items} {specs} {left} {outcome} dir reads) =
+          entry_alone x dir (λ y. Listed (y ∷ items) specs ≡ counted_item given (after_reading outcome y) ∷ Listed (list_of outcome ++ items) left)
+          (λ e has. listed_entering e items specs left outcome has reads)
+
+  -- ---- items that are left out
+
+  module _ (items : List (Item R E)) (specs : List (Spec R)) where
+    abbrev Left : List (Item R E) → List (Spec R) → Type 0
+    Left = LeavesOut files process clone defaults job items specs
+
+    left_within : {items' : List (Item R E)} {specs' : List (Spec R)} → Left items' specs' → NoDeeper (greatest_depth job) items → NoDeeper (greatest_depth job) items'
+    left_within none_left_out h = h
+    left_within (one_left_out before next out) h = (next_within next (left_within before h)).1
+
+    left_lighter : {items' : List (Item R E)} {specs' : List (Spec R)} → Left items' specs' → weight (greatest_depth job) (pair_up items' specs') ≤ weight (greatest_depth job) (pair_up items specs)
+    left_lighter none_left_out = omega arith
+    left_lighter (one_left_out before next out) = omega (arith, left_lighter before, next_lighter next)
+
+    left_count : {items' : List (Item R E)} {specs' : List (Spec R)} → Left items' specs' → length specs ≡ directories items → length specs' ≡ directories items'
+    left_count none_left_out h = h
+    left_count (one_left_out before next out) h = next_count next (left_count before h)
+
+    left_plain : {items' : List (Item R E)} {specs' : List (Spec R)} → Left items' specs' → (answer : Option (Item R E)) (new : List (Pair R E)) → AnswersPlainly (options_of job).min_depth (pair_up items' specs') answer new → AnswersPlainly (options_of job).min_depth (pair_up items specs) answer new
+    left_plain none_left_out answer new h = h
+    left_plain (one_left_out before next out) answer new h = left_plain before answer new (next_plain_out (options_of job).min_depth next out answer new h)
+
+    left_to_come : (given : Given R E) → IsSteadyJob files process clone defaults job given → {items' : List (Item R E)} {specs' : List (Spec R)} → Left items' specs' → answers (options_of job).min_depth (Listed given items specs) ≡ answers (options_of job).min_depth (Listed given items' specs')
+    left_to_come given steady none_left_out = refl
+    left_to_come given steady (one_left_out {passed = passed} before next out) =
+        left_to_come given steady before
+        ∙ ap (answers (options_of job).min_depth) (next_listed given steady next)
+        ∙ rw (counted-is_answered given.read_dir_state given.dir_entry_state (options_of job).min_depth passed, out) refl

@@ -1,0 +1,44 @@
+-- How an iterator passes what it holds: the items with the specifications that are unread.
+use Rattle.std.specs.Prelude.{◌≡◌, ◌≢◌, true, false, List, [], ◌∷◌, ◌++◌, Option, Some, None}
+use Rattle.std.specs.declared.clone.Clone as Clone
+use Rattle.std.specs.declared.default.Default as Default
+use Rattle.walk_model.specs.Entry.{Item, has_directory}
+use Rattle.walk_model.specs.ReadDir.{Spec, Outcome, list_of}
+use Rattle.walk_model.specs.Listing.{after_reading, is_answered}
+use Rattle.walk_model.specs.Held.{first_source, is_plain}
+use Rattle.walk_fs.specs.declared.file_system.FileSystem as FileSystem
+use Rattle.jwalk_read.specs.declared.process_read_dir.ProcessReadDir as ProcessReadDir
+use Rattle.jwalk_read.specs.declared.job.Job.{Job}
+use Rattle.jwalk_read.specs.Job.{options_of}
+use Rattle.jwalk.specs.ReadDirIter.{ReadsFirst}
+
+-- a directory is to be read below the first item
+abbrev pub IsAtDirectory : {R E : Type 0} → List (Item R E) → List (Spec R) → Type 0
+IsAtDirectory [] specs = ⊥
+IsAtDirectory (x ∷ items) specs = (has_directory x ≡ true) × (specs ≢ [])
+
+module _ {C S P A R E : Type 0} (files : FileSystem.Ghosts S) (process : ProcessReadDir.Ghosts P C A R E) (clone : Clone.Ghosts R) (defaults : Default.Ghosts E) (job : Job C S P A R E) where
+  -- The next item is passed. A directory takes the first of the unread specifications, which alone is read: its children stand in front of the others then, as the items of its reading do. Any other item leaves them as they are.
+  pub data PassesNext : List (Item R E) → List (Spec R) → Item R E → List (Item R E) → List (Spec R) → Type 0 where
+    passed_plainly : {x : Item R E} {items : List (Item R E)} {specs : List (Spec R)} → is_plain (first_source {R = R} {E = E} (has_directory x) specs) ≡ true → PassesNext (x ∷ items) specs x items specs
+    passed_entering : {x : Item R E} {items : List (Item R E)} {specs left : List (Spec R)} {outcome : Outcome R E} → has_directory x ≡ true → ReadsFirst files process clone defaults job specs outcome left → PassesNext (x ∷ items) specs (after_reading outcome x) (list_of outcome ++ items) left
+
+  -- Items are passed one after another, which the least depth leaves out.
+  pub data LeavesOut (items : List (Item R E)) (specs : List (Spec R)) : List (Item R E) → List (Spec R) → Type 0 where
+    none_left_out : LeavesOut items specs items specs
+    one_left_out : {between : List (Item R E)} {unread : List (Spec R)} {passed : Item R E} {items' : List (Item R E)} {specs' : List (Spec R)} → LeavesOut items specs between unread → PassesNext between unread passed items' specs' → is_answered (options_of job).min_depth passed ≡ false → LeavesOut items specs items' specs'
+
+  -- the next item is passed and answered, or there is none
+  abbrev pub AnswersNext : List (Item R E) → List (Spec R) → Option (Item R E) → List (Item R E) → List (Spec R) → Type 0
+  AnswersNext items specs None items' specs' = (items ≡ []) × (items' ≡ []) × (specs' ≡ specs)
+  AnswersNext items specs (Some answer) items' specs' = PassesNext items specs answer items' specs' × (is_answered (options_of job).min_depth answer ≡ true)
+
+  -- Items are passed one after another up to the first whose answer the least depth keeps, or up to the end.
+  abbrev pub ReadsUpTo : List (Item R E) → List (Spec R) → Option (Item R E) → List (Item R E) → List (Spec R) → Type 0
+  ReadsUpTo items specs answer items' specs' =
+      (between : List (Item R E)) × (unread : List (Spec R)) × LeavesOut items specs between unread × AnswersNext between unread answer items' specs'
+
+  -- Items are passed one after another up to a directory that is to be read.
+  abbrev pub StopsAtDirectory : List (Item R E) → List (Spec R) → Type 0
+  StopsAtDirectory items specs =
+      (between : List (Item R E)) × (unread : List (Spec R)) × LeavesOut items specs between unread × IsAtDirectory between unread
