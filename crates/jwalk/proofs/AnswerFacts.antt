@@ -1,134 +1,194 @@
 -- One call of a walk's `next`, case by case.
-use Rattle.std.proofs.Common.{◌≡◌, ◌∙◌, ◌<◌, ℕ, true, false, List, [], ◌∷◌, ◌++◌, map, append-nil, Option, Some, None, Result, Ok, Err, IfSome, OnSome, inl, inr, refl, sym, ap, arith}
+use Rattle.std.proofs.Common.{◌≡◌, ◌∙◌, ◌+◌, ◌<◌, ◌≤◌, ℕ, Bool, true, false, not, List, [], ◌∷◌, ◌++◌, map, length, append-nil, Option, Some, None, Result, Ok, Err, IfSome, OnSome, inl, inr, refl, sym, ap, arith}
+use Rattle.std.specs.Prelude.{option_map}
+use Rattle.std.specs.declared.clone.Clone as Clone
+use Rattle.std.specs.declared.default.Default as Default
 use Rattle.walk_model.specs.Error.{memory}
-use Rattle.walk_model.specs.Entry.{Item, AtDepth, NoDeeper, IsBetween}
-use Rattle.walk_model.specs.ReadDir.{Spec, Reading, Outcome, place, children_of}
-use Rattle.walk_model.specs.Listing.{nothing, paired, is_answered, answers, listing}
-use Rattle.walk_model.specs.Held.{pair_up, weight, sources, kept, ended, ReadsUpTo, answers_next, ends}
-use Rattle.walk_model.proofs.WithinFacts.{reads_between, at_depth}
-use Rattle.walk_model.proofs.HeldFacts.{alone, pair_up-outcome, sources_of_list}
-use Rattle.walk_model.proofs.StepFacts.{LeavesOut, plainly_one, plainly_any, heavy_held}
+use Rattle.walk_model.specs.Entry.{Item, AtDepth, NoDeeper, has_directory}
+use Rattle.walk_model.specs.ReadDir.{Spec, Reading, Outcome, children_of}
+use Rattle.walk_model.specs.Counted.{Worth}
+use Rattle.walk_model.specs.Job.{reading}
+use Rattle.walk_model.specs.Listing.{Pair, nothing, paired, is_answered, answers, listing}
+use Rattle.walk_model.specs.Held as value
+use Rattle.walk_model.specs.Held.{pair_up, weight, sources, AreSourced, AnswersPlainly}
+use Rattle.walk_model.proofs.CloneFacts.{same_length, counted_clones}
+use Rattle.walk_model.proofs.CountedFacts.{counted-is_answered, counted-children_of}
+use Rattle.walk_model.proofs.HeldFacts.{directories, as_many_of, sourced, sourced_count, alone, heavy, pair_up-outcome}
+use Rattle.walk_model.proofs.WithinFacts.{at_depth, is_between}
+use Rattle.walk_fs.specs.declared.file_system.FileSystem as FileSystem
+use Rattle.jwalk_read.specs.declared.process_read_dir.ProcessReadDir as ProcessReadDir
 use Rattle.jwalk_read.specs.declared.error.Error.{Error}
 use Rattle.jwalk_read.specs.declared.dir_entry.DirEntry.{DirEntry}
-use Rattle.jwalk.specs.declared.dir_entry_iter.DirEntryIter.{DirEntryIter}
+use Rattle.jwalk_read.specs.declared.job.Job.{Job}
 use Rattle.jwalk_read.specs.Error.{failure}
 use Rattle.jwalk_read.specs.Entry.{item}
-use Rattle.jwalk_read.specs.Job.{greatest_depth}
+use Rattle.jwalk_read.specs.Given.{Given, counted_item, counted_spec, counted_reading}
+use Rattle.jwalk_read.specs.Job.{options_of, greatest_depth, job_by, ClonesCount}
+use Rattle.jwalk.specs.declared.dir_entry_iter.DirEntryIter.{DirEntryIter}
 use Rattle.jwalk.specs.ReadDirIter.{StacksChildren}
-use Rattle.jwalk.specs.DirEntryIter.{job_of, min_depth_of, items_of, unread_of, held, to_come, IsWithin, Refuses, Answers, PassesOrStops}
+use Rattle.jwalk.specs.Step.{ReadsUpTo, IsAtDirectory, StopsAtDirectory}
+use Rattle.jwalk.specs.DirEntryIter.{job_of, min_depth_of, items_of, unread_of, held, held_by, refusal, weight_of, to_come, IsWithin, IsSourced, Refuses, Answers}
+use Rattle.jwalk.proofs.StepFacts.{next_within, next_lighter, next_count, next_plain, next_listed, left_within, left_lighter, left_count, left_plain, left_to_come}
 
--- a refusal is at no depth
-refused_between : {R E : Type 0} (least greatest : ℕ) (x : Item R E) → x ≡ Err memory → IsBetween least greatest x
-refused_between least greatest x is = rw is tt
+-- at a directory nothing is said of the answer but what its reading tells
+plainly_any : {R E : Type 0} (min_depth : ℕ) (items : List (Item R E)) (specs : List (Spec R)) (answer : Option (Item R E)) (new : List (Pair R E)) → IsAtDirectory items specs → AnswersPlainly min_depth (pair_up items specs) answer new
+plainly_any min_depth [] specs answer new h = absurd h
+plainly_any min_depth (x ∷ items) [] answer new h = absurd (h.1 refl)
+plainly_any min_depth (x ∷ items) (s ∷ specs) answer new h = rw h.0 tt
+
+-- what is held at a directory isn't nothing
+heavy_at : {R E : Type 0} (max_depth : ℕ) (items : List (Item R E)) (specs : List (Spec R)) → IsAtDirectory items specs → 0 < weight max_depth (pair_up items specs)
+heavy_at max_depth [] specs h = absurd h
+heavy_at max_depth (x ∷ items) specs h = heavy max_depth x items specs
+
+nothing_by : {R E : Type 0} (given : Given R E) (b : Bool) (items : List (Item R E)) (specs : List (Spec R)) → ◌≡◌ {A = List (Pair R E)} (refusal b ++ pair_up items specs) [] → ◌≡◌ {A = List (Pair Worth Worth)} (refusal b ++ pair_up (map (counted_item given) items) (map (counted_spec given) specs)) []
+nothing_by given true items specs h = absurd cc
+nothing_by given false [] specs h = refl
+nothing_by given false (x ∷ items) specs h = absurd cc
 
 module _ {C S P A R E : Type 0} where
   held_rest : (it : DirEntryIter C S P A R E) → it.refused ≡ false → held it ≡ pair_up (items_of it) (unread_of it)
   held_rest it started = rw started refl
 
-  held_refused : (it : DirEntryIter C S P A R E) → it.refused ≡ true → held it ≡ record { item = Err memory; source = nothing } ∷ pair_up (items_of it) (unread_of it)
-  held_refused it refused = rw refused refl
-
   held_nothing : (it : DirEntryIter C S P A R E) → it.refused ≡ false → items_of it ≡ [] → held it ≡ []
   held_nothing it started none = held_rest it started ∙ ap (λ l. pair_up l (unread_of it)) none
 
-  to_come_of : (reading : Spec R → Outcome R E) (old new : DirEntryIter C S P A R E) (answer : Item R E) → job_of new ≡ job_of old → min_depth_of new ≡ min_depth_of old → is_answered (min_depth_of old) answer ≡ true → answers (min_depth_of old) (answer ∷ listing reading (greatest_depth (job_of old)) (held new)) ≡ answer ∷ to_come reading new
-  to_come_of reading old new answer job depth is =
-      rw is (ap (λ l. answer ∷ l) (ap (λ j. answers (min_depth_of old) (listing reading (greatest_depth j) (held new))) (sym job) ∙ ap (λ m. answers m (listing reading (greatest_depth (job_of new)) (held new))) (sym depth)))
+  held_refused : (it : DirEntryIter C S P A R E) → it.refused ≡ true → held it ≡ record { item = Err memory; source = nothing } ∷ pair_up (items_of it) (unread_of it)
+  held_refused it refused = rw refused refl
 
-  -- where nothing is left, nothing is too deep
-  within_nothing : (it : DirEntryIter C S P A R E) → items_of it ≡ [] → IsWithin it
-  within_nothing it none = rw none tt
+  held_by_rest : (given : Given R E) (it : DirEntryIter C S P A R E) → it.refused ≡ false → held_by given it ≡ pair_up (map (counted_item given) (items_of it)) (map (counted_spec given) (unread_of it))
+  held_by_rest given it started = rw started refl
 
-  -- what was read up to an answer is within the depths
-  within_read : (clones : Type 0) (old new : DirEntryIter C S P A R E) (answer : Option (Item R E)) → job_of new ≡ job_of old → ReadsUpTo (greatest_depth (job_of old)) (min_depth_of old) clones (items_of old) (unread_of old) answer (items_of new) (unread_of new) → IsWithin old → IfSome answer (IsBetween (min_depth_of old) (greatest_depth (job_of old))) × IsWithin new
-  within_read clones old new answer job reads within =
-      let all = reads_between (greatest_depth (job_of old)) (min_depth_of old) clones reads within in
-      (all.0, rw job all.1)
+  held_by_refused : (given : Given R E) (it : DirEntryIter C S P A R E) → it.refused ≡ true → held_by given it ≡ record { item = Err memory; source = nothing } ∷ pair_up (map (counted_item given) (items_of it)) (map (counted_spec given) (unread_of it))
+  held_by_refused given it refused = rw refused refl
 
-module _ {C S P A R E : Type 0} (clones : Type 0) (is_steady : E → Type 0) (reading_by : E → Spec R → Outcome R E) (old new : DirEntryIter C S P A R E) where
-  -- a walk that was refused at its start tells of it
-  pub answers_refusal : (error : Error A) → failure error ≡ memory → old.refused ≡ true → new.refused ≡ false → job_of new ≡ job_of old → min_depth_of new ≡ min_depth_of old → items_of new ≡ items_of old → unread_of new ≡ unread_of old → Answers clones is_steady reading_by old (Some (Err error)) new
-  answers_refusal error told refused started job depth items unread =
-      let front = held_refused old refused in
-      let rest = held_rest new started ∙ ap (λ l. pair_up l (unread_of new)) items ∙ ap (pair_up (items_of old)) unread in
-      let one : (d : E) → listing (reading_by d) (greatest_depth (job_of old)) (held old) ≡ Err (failure error) ∷ listing (reading_by d) (greatest_depth (job_of old)) (held new)
-      = λ d. rw (front, rest, told) (alone (reading_by d) (greatest_depth (job_of old)) (Err memory) (items_of old) (unread_of old) refl) in
-      record {
-        job = job;
-        min_depth = depth;
-        depths = λ within. (tt, rw (job, items) within);
-        ended = tt;
-        reads = rw refused unread;
-        plain = rw (front, rest, told) (refl, refl);
-        passes = λ equal. inr (kept (rw (front, rest, told) (refl, refl)) refl);
-        coming = λ d steady. inr (ap (answers (min_depth_of old)) (one d) ∙ to_come_of (reading_by d) old new (Err (failure error)) job depth refl);
-      }
+  -- where nothing is held, nothing counts
+  pub held_by_nothing : (given : Given R E) (it : DirEntryIter C S P A R E) → held it ≡ [] → held_by given it ≡ []
+  held_by_nothing given it none = nothing_by given it.refused (items_of it) (unread_of it) none
 
-  -- so it gets lighter
-  pub lighter_refused : old.refused ≡ true → new.refused ≡ false → items_of new ≡ items_of old → unread_of new ≡ unread_of old → weight (greatest_depth (job_of old)) (held new) < weight (greatest_depth (job_of old)) (held old)
-  lighter_refused refused started items unread =
-      rw (held_refused old refused, held_rest new started ∙ ap (λ l. pair_up l (unread_of new)) items ∙ ap (pair_up (items_of old)) unread) (omega arith)
+  sourced_rest : (it : DirEntryIter C S P A R E) → it.refused ≡ false → IsSourced it → length (unread_of it) ≡ directories (items_of it)
+  sourced_rest it started is = sourced_count (items_of it) (unread_of it) (rw (held_rest it started) at is.each) (rw (held_rest it started) at is.unread)
 
-module _ {C S P A R E : Type 0} (clones : Type 0) (is_steady : E → Type 0) (reading_by : E → Spec R → Outcome R E) (old left new : DirEntryIter C S P A R E) where
-  -- items were left out, and then one is passed that is answered, or memory was refused below a directory
-  pub answers_kept : (x : Result (DirEntry C A R E) (Error A)) → old.refused ≡ false → new.refused ≡ false → job_of new ≡ job_of old → min_depth_of new ≡ min_depth_of old → is_answered (min_depth_of old) (item x) ≡ true → LeavesOut (greatest_depth (job_of old)) (min_depth_of old) clones is_steady reading_by (items_of old) (unread_of old) (items_of left) (unread_of left) → PassesOrStops (greatest_depth (job_of old)) clones is_steady reading_by left (item x) new → Answers clones is_steady reading_by old (Some x) new
-  answers_kept x began started job depth answered leaves passed =
+  rest_sourced : (it : DirEntryIter C S P A R E) → it.refused ≡ false → length (unread_of it) ≡ directories (items_of it) → IsSourced it
+  rest_sourced it started count =
+      let both = sourced (items_of it) (unread_of it) count in
+      record { each = rw (held_rest it started) both.0; unread = rw (held_rest it started) both.1 }
+
+module _ {C S P A R E : Type 0} (files : FileSystem.Ghosts S) (process : ProcessReadDir.Ghosts P C A R E) (clone : Clone.Ghosts R) (defaults : Default.Ghosts E) (old new : DirEntryIter C S P A R E) where
+  -- what is listed of items and specifications over the old walk's job
+  abbrev Listing : Given R E → List (Item R E) → List (Spec R) → List (Item Worth Worth)
+  Listing given items specs = listing (reading (job_by files given (job_of old))) (greatest_depth (job_of old)) (pair_up (map (counted_item given) items) (map (counted_spec given) specs))
+
+  come_old : (given : Given R E) → old.refused ≡ false → to_come files given old ≡ answers (min_depth_of old) (Listing given (items_of old) (unread_of old))
+  come_old given began = ap (value.to_come (reading (job_by files given (job_of old))) (min_depth_of old) (greatest_depth (job_of old))) (held_by_rest given old began)
+
+  come_new : (given : Given R E) → new.refused ≡ false → job_of new ≡ job_of old → to_come files given new ≡ answers (min_depth_of old) (Listing given (items_of new) (unread_of new))
+  come_new given started job =
+      ap (λ (j : Job C S P A R E). value.to_come (reading (job_by files given j)) (options_of j).min_depth (greatest_depth j) (held_by given new)) job
+      ∙ ap (value.to_come (reading (job_by files given (job_of old))) (min_depth_of old) (greatest_depth (job_of old))) (held_by_rest given new started)
+
+  -- items were left out, and then one is passed that is answered
+  answers_some : (x : Result (DirEntry C A R E) (Error A)) → old.refused ≡ false → new.refused ≡ false → job_of new ≡ job_of old
+      → ReadsUpTo files process clone defaults (job_of old) (items_of old) (unread_of old) (Some (item x)) (items_of new) (unread_of new) → Answers files process clone defaults old (Some x) new
+  answers_some x began started job reads =
+      let j = job_of old in
+      let left = reads.2 in
+      let next = reads.3.0 in
+      let kept = reads.3.1 in
       let before = held_rest old began in
       let after = held_rest new started in
-      elim passed [
-        | inl stopped ↦
-            let refuses : Refuses (item x) new = record { tells = stopped.0; nothing_held = held_nothing new started stopped.1; nothing_unread = stopped.2 } in
-            record {
-              job = job;
-              min_depth = depth;
-              depths = λ within. (refused_between (min_depth_of old) (greatest_depth (job_of old)) (item x) stopped.0, within_nothing new stopped.1);
-              ended = tt;
-              reads = rw began (inl refuses);
-              plain = rw before (leaves.plain (Some (item x)) (held new) (plainly_any (min_depth_of old) (pair_up (items_of left) (unread_of left)) (Some (item x)) (held new) stopped.3));
-              passes = λ equal. inl refuses;
-              coming = λ d steady. inl refuses;
-            }
-        | inr one ↦
-            let read = leaves.reads (Some (item x)) (items_of new) (unread_of new) (answers_next one.next answered) in
-            record {
-              job = job;
-              min_depth = depth;
-              depths = within_read clones old new (Some (item x)) job read;
-              ended = tt;
-              reads = rw began (inr read);
-              plain = rw (before, after) (leaves.plain (Some (item x)) (pair_up (items_of new) (unread_of new)) (plainly_one (min_depth_of old) (pair_up (items_of left) (unread_of left)) (item x) (pair_up (items_of new) (unread_of new)) answered one.plain));
-              passes = λ equal. inr (rw (before, after) (leaves.passes equal (Some (item x)) (pair_up (items_of new) (unread_of new)) (kept (one.passes equal) answered)));
-              coming = λ d steady. inr (rw before (leaves.coming d steady ∙ ap (answers (min_depth_of old)) (one.listed d steady)) ∙ ap (λ l. answers (min_depth_of old) (item x ∷ listing (reading_by d) (greatest_depth (job_of old)) l)) (sym after) ∙ to_come_of (reading_by d) old new (item x) job depth answered);
-            }
-      ]
-
-  -- all that was held is left out
-  pub answers_end : old.refused ≡ false → new.refused ≡ false → job_of new ≡ job_of old → min_depth_of new ≡ min_depth_of old → LeavesOut (greatest_depth (job_of old)) (min_depth_of old) clones is_steady reading_by (items_of old) (unread_of old) (items_of left) (unread_of left) → items_of left ≡ [] → items_of new ≡ [] → unread_of new ≡ unread_of left → Answers clones is_steady reading_by old None new
-  answers_end began started job depth leaves none rest same_unread =
-      let before = held_rest old began in
-      let after = held_nothing new started rest in
-      let read = leaves.reads None (items_of new) (unread_of new) (rw (none, rest, same_unread) ends) in
-      let nothing_left : pair_up (items_of left) (unread_of left) ≡ [] = ap (λ l. pair_up l (unread_of left)) none in
+      let between = reads.0 in
+      let unread = reads.1 in
       record {
         job = job;
-        min_depth = depth;
-        depths = within_read clones old new None job read;
-        ended = after;
-        reads = rw began (inr read);
-        plain = rw (before, after) (leaves.plain None [] (rw nothing_left (refl, refl)));
-        passes = λ equal. inr (rw (before, after) (leaves.passes equal None [] (rw nothing_left ended)));
-        coming = λ d steady. rw before (leaves.coming d steady ∙ ap (λ l. answers (min_depth_of old) (listing (reading_by d) (greatest_depth (job_of old)) l)) nothing_left);
+        depths = λ within.
+            let parts = next_within files process clone defaults j next (left_within files process clone defaults j (items_of old) (unread_of old) left within) in
+            (is_between (min_depth_of old) (greatest_depth j) (item x) kept parts.0, rw job parts.1);
+        sourced = λ is. rest_sourced new started (next_count files process clone defaults j next (left_count files process clone defaults j (items_of old) (unread_of old) left (sourced_rest old began is)));
+        plain = rw (before, after) (left_plain files process clone defaults j (items_of old) (unread_of old) left (Some (item x)) (pair_up (items_of new) (unread_of new)) (next_plain files process clone defaults j (min_depth_of old) next kept));
+        ended = tt;
+        lighter = rw (before, after, job) (omega (arith, left_lighter files process clone defaults j (items_of old) (unread_of old) left, next_lighter files process clone defaults j next));
+        reads = rw began (inr reads);
+        coming = λ given steady. inr (
+            come_old given began
+            ∙ left_to_come files process clone defaults j (items_of old) (unread_of old) given steady left
+            ∙ ap (answers (min_depth_of old)) (next_listed files process clone defaults j given steady next)
+            ∙ rw (counted-is_answered given.read_dir_state given.dir_entry_state (min_depth_of old) (item x), kept) (ap (λ l. counted_item given (item x) ∷ l) (sym (come_new given started job))));
       }
 
-  -- what is held gets lighter with each answer
-  pub lighter_kept : (x : Item R E) → old.refused ≡ false → new.refused ≡ false → LeavesOut (greatest_depth (job_of old)) (min_depth_of old) clones is_steady reading_by (items_of old) (unread_of old) (items_of left) (unread_of left) → PassesOrStops (greatest_depth (job_of old)) clones is_steady reading_by left x new → weight (greatest_depth (job_of old)) (held new) < weight (greatest_depth (job_of old)) (held old)
-  lighter_kept x began started leaves passed =
-      let fewer : weight (greatest_depth (job_of old)) (held new) < weight (greatest_depth (job_of old)) (pair_up (items_of left) (unread_of left))
-      = elim passed [
-        | inl stopped ↦ rw (held_nothing new started stopped.1) (heavy_held (greatest_depth (job_of old)) (pair_up (items_of left) (unread_of left)) stopped.3)
-        | inr one ↦ rw (held_rest new started) one.lighter
-      ] in
-      rw (held_rest old began) (omega (arith, fewer, leaves.lighter))
+  -- all that was held is left out
+  answers_none : old.refused ≡ false → new.refused ≡ false → job_of new ≡ job_of old
+      → ReadsUpTo files process clone defaults (job_of old) (items_of old) (unread_of old) None (items_of new) (unread_of new) → Answers files process clone defaults old None new
+  answers_none began started job reads =
+      let j = job_of old in
+      let left = reads.2 in
+      let none = reads.3.0 in
+      let rest = reads.3.1 in
+      let same = reads.3.2 in
+      let between = reads.0 in
+      let unread = reads.1 in
+      let before = held_rest old began in
+      let after = held_nothing new started rest in
+      let nothing_left : pair_up between unread ≡ [] = ap (λ l. pair_up l unread) none in
+      record {
+        job = job;
+        depths = λ within. (tt, rw rest tt);
+        sourced = λ is. rest_sourced new started (ap length same ∙ left_count files process clone defaults j (items_of old) (unread_of old) left (sourced_rest old began is) ∙ ap directories (none ∙ sym rest));
+        plain = rw (before, after) (left_plain files process clone defaults j (items_of old) (unread_of old) left None [] (rw nothing_left (refl, refl)));
+        ended = after;
+        lighter = tt;
+        reads = rw began (inr reads);
+        coming = λ given steady.
+            come_old given began
+            ∙ left_to_come files process clone defaults j (items_of old) (unread_of old) given steady left
+            ∙ ap (λ l. answers (min_depth_of old) (Listing given l unread)) none;
+      }
+
+  pub answers_reads : (answer : Option (Result (DirEntry C A R E) (Error A))) → old.refused ≡ false → new.refused ≡ false → job_of new ≡ job_of old
+      → ReadsUpTo files process clone defaults (job_of old) (items_of old) (unread_of old) (option_map item answer) (items_of new) (unread_of new) → Answers files process clone defaults old answer new
+  answers_reads None began started job reads = answers_none began started job reads
+  answers_reads (Some x) began started job reads = answers_some x began started job reads
+
+  -- memory was refused below a directory
+  pub answers_stopped : (error : Error A) → failure error ≡ memory → old.refused ≡ false → new.refused ≡ false → job_of new ≡ job_of old → items_of new ≡ [] → unread_of new ≡ []
+      → StopsAtDirectory files process clone defaults (job_of old) (items_of old) (unread_of old) → Answers files process clone defaults old (Some (Err error)) new
+  answers_stopped error told began started job none no_unread stops =
+      let j = job_of old in
+      let left = stops.2 in
+      let at = stops.3 in
+      let before = held_rest old began in
+      let after = held_nothing new started none in
+      let refuses : Refuses (Err (failure error)) new = record { tells = ap Err told; nothing_held = after; nothing_unread = no_unread } in
+      record {
+        job = job;
+        depths = λ within. (tt, rw none tt);
+        sourced = λ is. record { each = rw after tt; unread = rw (after, no_unread) refl };
+        plain = rw before (left_plain files process clone defaults j (items_of old) (unread_of old) left (Some (Err (failure error))) (held new) (plainly_any (min_depth_of old) stops.0 stops.1 (Some (Err (failure error))) (held new) at));
+        ended = tt;
+        lighter = rw (before, after) (omega (arith, left_lighter files process clone defaults j (items_of old) (unread_of old) left, heavy_at (greatest_depth j) stops.0 stops.1 at));
+        reads = rw began (inl refuses);
+        coming = λ given steady. inl refuses;
+      }
+
+  -- a walk that was refused at its start tells of it
+  pub answers_refusal : (error : Error A) → failure error ≡ memory → old.refused ≡ true → new.refused ≡ false → job_of new ≡ job_of old → items_of new ≡ items_of old → unread_of new ≡ unread_of old → Answers files process clone defaults old (Some (Err error)) new
+  answers_refusal error told refused started job items unread =
+      let front = held_refused old refused in
+      let rest : held new ≡ pair_up (items_of old) (unread_of old) = held_rest new started ∙ ap (λ l. pair_up l (unread_of new)) items ∙ ap (pair_up (items_of old)) unread in
+      record {
+        job = job;
+        depths = λ within. (tt, rw (job, items) within);
+        sourced = λ is. record { each = rw rest (rw front at is.each).1; unread = rw (rest, unread) (rw front at is.unread) };
+        plain = rw (front, rest, told) (refl, refl);
+        ended = tt;
+        lighter = rw (front, rest, job) (omega arith);
+        reads = rw refused unread;
+        coming = λ given steady. inr (
+            ap (value.to_come (reading (job_by files given (job_of old))) (min_depth_of old) (greatest_depth (job_of old))) (held_by_refused given old refused)
+            ∙ ap (answers (min_depth_of old)) (alone (reading (job_by files given (job_of old))) (greatest_depth (job_of old)) (Err memory) (map (counted_item given) (items_of old)) (map (counted_spec given) (unread_of old)) refl)
+            ∙ ap (λ f. Err f ∷ answers (min_depth_of old) (Listing given (items_of old) (unread_of old))) (sym told)
+            ∙ ap (λ l. Err (failure error) ∷ l) (ap (λ l. answers (min_depth_of old) (Listing given l (unread_of old))) (sym items) ∙ ap (λ l. answers (min_depth_of old) (Listing given (items_of new) l)) (sym unread) ∙ sym (come_new given started job)));
+      }
 
 -- an iterator that gets lighter with each answer may be asked again
 pub goes_on : {T : Type 0} {may : Type 0} (r : Option T) (fewer : Type 0) → may → IfSome r (λ x. fewer) → OnSome r (may × Unit {0} × fewer)
@@ -136,20 +196,30 @@ goes_on None fewer can less = tt
 goes_on (Some x) fewer can less = (can, tt, less)
 
 -- a walk that took over its root's list holds the pairs of that list
-pub holds_root : {C S P A R E : Type 0} (clones : Type 0) (r : Reading R E) (before after begun : DirEntryIter C S P A R E) → clones → begun.refused ≡ false → items_of begun ≡ items_of after → unread_of begun ≡ unread_of after → items_of before ≡ [] → unread_of before ≡ [] → items_of after ≡ r.list ++ items_of before → StacksChildren clones (unread_of before) (Ok r) (unread_of after) → held begun ≡ paired r
-holds_root clones r before after begun equal started same_items same_unread no_items no_unread items stacks =
-    held_rest begun started
-    ∙ ap (λ l. pair_up l (unread_of begun)) (same_items ∙ items ∙ ap (λ l. r.list ++ l) no_items)
-    ∙ ap (pair_up (r.list ++ [])) (same_unread ∙ stacks.left ∙ ap (λ l. l ++ unread_of before) (stacks.children equal) ∙ ap (λ l. children_of (Ok r) ++ l) no_unread)
-    ∙ pair_up-outcome (Ok r) [] []
-    ∙ append-nil (paired r)
+pub holds_root : {C S P A R E : Type 0} (clone : Clone.Ghosts R) (given : Given R E) (r : Reading R E) (before after begun : DirEntryIter C S P A R E) → ClonesCount clone given → begun.refused ≡ false → items_of begun ≡ items_of after → unread_of begun ≡ unread_of after → items_of before ≡ [] → unread_of before ≡ [] → items_of after ≡ r.list ++ items_of before → StacksChildren clone (unread_of before) (Ok r) (unread_of after) → held_by given begun ≡ paired (counted_reading given r)
+holds_root clone given r before after begun counts started same_items same_unread no_items no_unread items stacks =
+    let all : items_of begun ≡ r.list = same_items ∙ items ∙ ap (λ l. r.list ++ l) no_items ∙ append-nil r.list in
+    let directories_too : map (counted_spec given) (unread_of begun) ≡ children_of (Ok (counted_reading given r))
+    = ap (map (counted_spec given)) (same_unread ∙ stacks.left ∙ ap (λ l. stacks.front ++ l) no_unread ∙ append-nil stacks.front)
+    ∙ counted_clones clone.is_clone given.read_dir_state counts (children_of (Ok r)) stacks.front stacks.clones
+    ∙ sym (counted-children_of given.read_dir_state given.dir_entry_state (Ok r)) in
+    held_by_rest given begun started
+    ∙ ap (λ l. pair_up (map (counted_item given) l) (map (counted_spec given) (unread_of begun))) all
+    ∙ ap (pair_up (map (counted_item given) r.list)) (directories_too ∙ sym (append-nil (children_of (Ok (counted_reading given r)))))
+    ∙ ap (λ l. pair_up l (children_of (Ok (counted_reading given r)) ++ [])) (sym (append-nil (map (counted_item given) r.list)))
+    ∙ pair_up-outcome (Ok (counted_reading given r)) [] []
+    ∙ append-nil (paired (counted_reading given r))
 
 -- a walk that holds its root's list alone holds nothing too deep
-pub within_root : {R E : Type 0} (greatest : ℕ) (l items before : List (Item R E)) → items ≡ l ++ before → before ≡ [] → AtDepth 0 l → NoDeeper greatest items
-within_root greatest l items before all none depth = rw (all, none, append-nil l) (at_depth 0 greatest l (omega arith) depth)
+pub at_root : {R E : Type 0} (l items before : List (Item R E)) → items ≡ l ++ before → before ≡ [] → AtDepth 0 l → AtDepth 0 items
+at_root l items before all none depth = rw (all, none, append-nil l) depth
+
+pub within_root : {R E : Type 0} (greatest : ℕ) (items : List (Item R E)) → AtDepth 0 items → NoDeeper greatest items
+within_root greatest items depth = at_depth 0 greatest items (omega arith) depth
 
 -- and its directories alone are to be read
-pub root_sources : {R E : Type 0} (clones : Type 0) (r : Reading R E) (items before : List (Item R E)) (old new : List (Spec R)) → items ≡ r.list ++ before → before ≡ [] → old ≡ [] → StacksChildren clones old (Ok r) new → new ≡ sources (pair_up items new)
-root_sources clones r items before old new all none no_unread stacks =
-    rw (all, none, append-nil r.list)
-    (sym (sources_of_list r.state r.list new (ap (map place) (stacks.left ∙ ap (λ l. stacks.front ++ l) no_unread ∙ append-nil stacks.front) ∙ stacks.places)))
+pub root_sourced : {C S P A R E : Type 0} (clone : Clone.Ghosts R) (r : Reading R E) (before after begun : DirEntryIter C S P A R E) → begun.refused ≡ false → items_of begun ≡ items_of after → unread_of begun ≡ unread_of after → items_of before ≡ [] → unread_of before ≡ [] → items_of after ≡ r.list ++ items_of before → StacksChildren clone (unread_of before) (Ok r) (unread_of after) → IsSourced begun
+root_sourced clone r before after begun started same_items same_unread no_items no_unread items stacks =
+    let all : items_of begun ≡ r.list = same_items ∙ items ∙ ap (λ l. r.list ++ l) no_items ∙ append-nil r.list in
+    let front : unread_of begun ≡ stacks.front = same_unread ∙ stacks.left ∙ ap (λ l. stacks.front ++ l) no_unread ∙ append-nil stacks.front in
+    rest_sourced begun started (ap length front ∙ same_length clone.is_clone (children_of (Ok r)) stacks.front stacks.clones ∙ as_many_of (Ok r) ∙ ap directories (sym all))

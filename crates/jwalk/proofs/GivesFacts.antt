@@ -1,27 +1,58 @@
 -- What one call of an iterator over readings gives.
-use Rattle.std.proofs.Common.{◌≡◌, ◌≢◌, Err, inl, inr, ℕ, List, [], Option, Some, None, ap}
-use Rattle.walk_model.specs.Error.{Failure, memory}
-use Rattle.walk_model.specs.ReadDir.{Spec, Outcome, ReadsFirst}
+use Rattle.std.proofs.Common.{◌≡◌, ◌≢◌, ◌∙◌, ◌<◌, ◌++◌, ◌∷◌, Err, inl, inr, ℕ, List, [], Option, Some, None, IfSome, map, refl, sym, ap, arith}
+use Rattle.std.specs.Prelude.{option_map}
+use Rattle.std.proofs.lemmas.List.{map-append}
+use Rattle.std.specs.declared.clone.Clone as Clone
+use Rattle.std.specs.declared.default.Default as Default
+use Rattle.walk_model.specs.Error.{memory}
+use Rattle.walk_model.specs.ReadDir.{Spec, Outcome, children_of}
 use Rattle.walk_model.specs.Preorder.{preorder}
-use Rattle.walk_model.proofs.PreorderFacts.{preorder-first, first_is_read}
-use Rattle.jwalk.specs.ReadDirIter.{GivesFirst, GivesReading, GivesPreorder}
+use Rattle.walk_model.specs.Held.{spec_weight}
+use Rattle.walk_model.specs.Job.{reading}
+use Rattle.walk_model.proofs.CloneFacts.{counted_clones}
+use Rattle.walk_model.proofs.CountedFacts.{counted-children_of, counted-IsLawful}
+use Rattle.walk_model.proofs.PreorderFacts.{preorder-first, fewer_to_read, heavy_specs}
+use Rattle.walk_fs.specs.declared.file_system.FileSystem as FileSystem
+use Rattle.jwalk_read.specs.declared.process_read_dir.ProcessReadDir as ProcessReadDir
+use Rattle.jwalk_read.specs.declared.job.Job.{Job}
+use Rattle.jwalk_read.specs.Given.{Given, counted_spec, counted_outcome}
+use Rattle.jwalk_read.specs.Job.{greatest_depth, job_by, IsSteadyJob}
+use Rattle.jwalk.specs.ReadDirIter.{ReadsFirst, ReadsNext, GivesFirst, GivesPreorder}
 
--- readings that are given one by one come in preorder
-pub given_in_preorder : {R E : Type 0} (reading : Spec R → Outcome R E) (max_depth : ℕ) (clones : Type 0) (old : List (Spec R)) (given : Option (Outcome R E)) (new : List (Spec R)) → clones → GivesFirst max_depth clones old given new → GivesReading reading old given → GivesPreorder reading max_depth old given new
-given_in_preorder reading max_depth clones old None new equal first value = ap (preorder reading max_depth) first.0
-given_in_preorder reading max_depth clones old (Some outcome) new equal first value =
-    elim first [
-      | inl refused ↦ inl (refused.0, refused.2)
-      | inr read ↦ inr (preorder-first reading max_depth clones old new outcome read.1 equal (first_is_read reading max_depth clones old new outcome read.1 (value read.0)))
+module _ {C S P A R E : Type 0} (files : FileSystem.Ghosts S) (process : ProcessReadDir.Ghosts P C A R E) (clone : Clone.Ghosts R) (defaults : Default.Ghosts E) (job : Job C S P A R E) (old new : List (Spec R)) where
+  module _ (given : Given R E) (steady : IsSteadyJob files process clone defaults job given) where
+    first_in_preorder : (read : Outcome R E) → ReadsFirst files process clone defaults job old read new → preorder (reading (job_by files given job)) (greatest_depth job) (map (counted_spec given) old) ≡ counted_outcome given read ∷ preorder (reading (job_by files given job)) (greatest_depth job) (map (counted_spec given) new)
+    first_in_preorder read reads =
+        let view = given.read_dir_state in
+        let mark = given.dir_entry_state in
+        let left : children_of (counted_outcome given read) ++ map (counted_spec given) reads.rest ≡ map (counted_spec given) new
+        = ap (λ l. l ++ map (counted_spec given) reads.rest) (counted-children_of view mark read ∙ sym (counted_clones clone.is_clone view steady.clones (children_of read) reads.stacks.front reads.stacks.clones))
+        ∙ sym (map-append (counted_spec given) reads.stacks.front reads.rest)
+        ∙ sym (ap (map (counted_spec given)) reads.stacks.left) in
+        ap (λ l. preorder (reading (job_by files given job)) (greatest_depth job) (map (counted_spec given) l)) reads.took
+        ∙ preorder-first (reading (job_by files given job)) (greatest_depth job) (counted_spec given reads.first) (map (counted_spec given) reads.rest) (counted_outcome given read) (counted-IsLawful view mark (greatest_depth job) reads.first read reads.reading.lawful) (reads.reading.value given steady)
+        ∙ ap (λ l. counted_outcome given read ∷ preorder (reading (job_by files given job)) (greatest_depth job) l) left
+
+    -- readings that are given one by one come in preorder
+    pub given_in_preorder : (read : Option (Outcome R E)) → GivesFirst files process clone defaults job old read new → GivesPreorder (reading (job_by files given job)) (greatest_depth job) (map (counted_spec given) old) (option_map (counted_outcome given) read) (map (counted_spec given) new)
+    given_in_preorder None gives = elim gives [
+      | inl refused ↦ absurd (let no : ◌≡◌ {A = Option (Outcome R E)} None (Some (Err memory)) = refused.0 in cc)
+      | inr none ↦ ap (λ l. preorder (reading (job_by files given job)) (greatest_depth job) (map (counted_spec given) l)) none.0
+    ]
+    given_in_preorder (Some read) gives = elim gives [
+      | inl refused ↦ inl (let told : read ≡ Err memory = cc in ap (counted_outcome given) told, ap (map (counted_spec given)) refused.2)
+      | inr reads ↦ inr (first_in_preorder read reads)
     ]
 
--- what is given is a refusal, or a reading of the first specification
-pub refusal_given : {R E : Type 0} (max_depth : ℕ) (clones : Type 0) (old : List (Spec R)) (given : Outcome R E) (new : List (Spec R)) → GivesFirst max_depth clones old (Some given) new → given ≡ Err memory → old ≢ []
-refusal_given max_depth clones old given new first is = elim first [ inl refused ↦ refused.1 | inr read ↦ absurd (read.0 is) ]
+  -- what is to be read weighs less then
+  pub gives_fewer : (read : Option (Outcome R E)) → GivesFirst files process clone defaults job old read new → IfSome read (λ _. spec_weight (greatest_depth job) new < spec_weight (greatest_depth job) old)
+  gives_fewer None gives = tt
+  gives_fewer (Some read) gives = elim gives [
+    | inl refused ↦ rw refused.2 (heavy_specs (greatest_depth job) old refused.1)
+    | inr reads ↦ rw (reads.took, reads.stacks.left) (fewer_to_read (greatest_depth job) clone.is_clone reads.first reads.rest reads.stacks.front read reads.reading.lawful reads.reading.few reads.stacks.clones)
+  ]
 
-pub reading_given : {R E : Type 0} (max_depth : ℕ) (clones : Type 0) (old : List (Spec R)) (given : Outcome R E) (new : List (Spec R)) → GivesFirst max_depth clones old (Some given) new → given ≢ Err memory → ReadsFirst max_depth clones old given new
-reading_given max_depth clones old given new first other = elim first [ inl refused ↦ absurd (other refused.0) | inr read ↦ read.1 ]
-
--- an error that tells of something else is no refusal
-pub not_refused : (R E : Type 0) (f : Failure) → f ≢ memory → ◌≢◌ {A = Outcome R E} (Err f) (Err memory)
-not_refused R E f other is = let same : f ≡ memory = cc in other same
+-- what is said of a value, whatever it is, is said of what it is seen as
+pub some_of : {X Y : Type 0} (P : Type 0) (f : X → Y) (o : Option X) → IfSome (option_map f o) (λ _. P) → IfSome o (λ _. P)
+some_of P f None h = tt
+some_of P f (Some x) h = h

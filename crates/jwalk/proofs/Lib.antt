@@ -1,6 +1,6 @@
 pub mod AnswerFacts
-pub mod BeginFacts
 pub mod FillFacts
 pub mod GivesFacts
 pub mod ListFacts
-pub mod WholeFacts
+pub mod StepFacts
+pub mod BeginFacts

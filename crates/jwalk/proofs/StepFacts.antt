@@ -1,6 +1,6 @@
 -- One item is passed, and items are passed one after another.
 use Rattle.std.proofs.Common.{◌≡◌, ◌≢◌, ℕ, ◌+◌, ◌<◌, ◌≤◌, Bool, true, false, not, List, [], ◌∷◌, ◌++◌, map, length, Option, Some, None, Ok, Err, IfSome, inl, inr, refl, sym, ap, ◌∙◌, subst, arith}
-use Rattle.std.specs.Prelude.{MatchBool}
+use Rattle.std.specs.Prelude.{MatchBool, if◌then◌else◌}
 use Rattle.std.proofs.lemmas.List.{map-append}
 use lib.ListN.{length-append}
 use Rattle.std.specs.declared.clone.Clone as Clone
@@ -18,7 +18,7 @@ use Rattle.walk_model.proofs.WithinFacts.{NoDeeper-append, of_reading, after, fi
 use Rattle.walk_fs.specs.declared.file_system.FileSystem as FileSystem
 use Rattle.jwalk_read.specs.declared.process_read_dir.ProcessReadDir as ProcessReadDir
 use Rattle.jwalk_read.specs.declared.job.Job.{Job}
-use Rattle.jwalk_read.specs.Given.{Given, counted_item, counted_spec, counted_outcome}
+use Rattle.jwalk_read.specs.Given.{Given, counted_entry, counted_item, counted_spec, counted_outcome}
 use Rattle.jwalk_read.specs.Job.{options_of, greatest_depth, job_by, IsSteadyJob}
 use Rattle.jwalk.specs.ReadDirIter.{ReadsFirst}
 use Rattle.jwalk.specs.Step.{PassesNext, passed_plainly, passed_entering, LeavesOut, none_left_out, one_left_out, AnswersNext, ReadsUpTo, IsAtDirectory, StopsAtDirectory}
@@ -43,9 +43,17 @@ module _ {C S P A R E : Type 0} (files : FileSystem.Ghosts S) (process : Process
   abbrev Next : List (Item R E) → List (Spec R) → Item R E → List (Item R E) → List (Spec R) → Type 0
   Next = PassesNext files process clone defaults job
 
+  -- an entry where nothing is left to be read
+  pub next_left : (x : Item R E) (items : List (Item R E)) (old new : List (Spec R)) → has_directory x ≡ true → old ≡ [] → new ≡ [] → Next (x ∷ items) old x items new
+  next_left x items old new dir none left = rw (none, left) (passed_plainly {x = x} {specs = []} (rw dir refl))
+
+  -- an item without a directory
+  pub next_alone : (x : Item R E) (items : List (Item R E)) (specs : List (Spec R)) → has_directory x ≡ false → Next (x ∷ items) specs x items specs
+  next_alone x items specs none = passed_plainly {x = x} {specs = specs} (rw none refl)
+
   -- ---- depths
 
-  next_within : {items : List (Item R E)} {specs : List (Spec R)} {answer : Item R E} {items' : List (Item R E)} {specs' : List (Spec R)} → Next items specs answer items' specs' → NoDeeper (greatest_depth job) items → NoDeeper (greatest_depth job) (answer ∷ []) × NoDeeper (greatest_depth job) items'
+  pub next_within : {items : List (Item R E)} {specs : List (Spec R)} {answer : Item R E} {items' : List (Item R E)} {specs' : List (Spec R)} → Next items specs answer items' specs' → NoDeeper (greatest_depth job) items → NoDeeper (greatest_depth job) (answer ∷ []) × NoDeeper (greatest_depth job) items'
   next_within (passed_plainly {x} {items} plain) h = first_of (greatest_depth job) x items h
   next_within (passed_entering {x} {items} {outcome = outcome} dir reads) h =
       let parts = first_of (greatest_depth job) x items h in
@@ -53,7 +61,7 @@ module _ {C S P A R E : Type 0} (files : FileSystem.Ghosts S) (process : Process
 
   -- ---- what is held gets lighter
 
-  next_lighter : {items : List (Item R E)} {specs : List (Spec R)} {answer : Item R E} {items' : List (Item R E)} {specs' : List (Spec R)} → Next items specs answer items' specs' → weight (greatest_depth job) (pair_up items' specs') < weight (greatest_depth job) (pair_up items specs)
+  pub next_lighter : {items : List (Item R E)} {specs : List (Spec R)} {answer : Item R E} {items' : List (Item R E)} {specs' : List (Spec R)} → Next items specs answer items' specs' → weight (greatest_depth job) (pair_up items' specs') < weight (greatest_depth job) (pair_up items specs)
   next_lighter (passed_plainly {x} {items} {specs} plain) =
       subst (λ l. weight (greatest_depth job) (pair_up items l) < weight (greatest_depth job) (pair_up (x ∷ items) specs)) (plain_keeps E (has_directory x) specs plain) (lighter_alone (greatest_depth job) x items specs)
   next_lighter (passed_entering {x} {items} {specs} {left} {outcome} dir reads) =
@@ -62,7 +70,7 @@ module _ {C S P A R E : Type 0} (files : FileSystem.Ghosts S) (process : Process
 
   -- ---- each directory has its source
 
-  next_count : {items : List (Item R E)} {specs : List (Spec R)} {answer : Item R E} {items' : List (Item R E)} {specs' : List (Spec R)} → Next items specs answer items' specs' → length specs ≡ directories items → length specs' ≡ directories items'
+  pub next_count : {items : List (Item R E)} {specs : List (Spec R)} {answer : Item R E} {items' : List (Item R E)} {specs' : List (Spec R)} → Next items specs answer items' specs' → length specs ≡ directories items → length specs' ≡ directories items'
   next_count (passed_plainly {x} {items} {specs} plain) h = plain_count E (has_directory x) specs (directories items) plain h
   next_count (passed_entering {x} {items} {specs} {left} {outcome} dir reads) h =
       let one : length specs ≡ 1 + directories items = rw dir at h in
@@ -73,12 +81,12 @@ module _ {C S P A R E : Type 0} (files : FileSystem.Ghosts S) (process : Process
 
   -- ---- what is answered plainly
 
-  next_plain_out : {items : List (Item R E)} {specs : List (Spec R)} {passed : Item R E} {items' : List (Item R E)} {specs' : List (Spec R)} (min_depth : ℕ) → Next items specs passed items' specs' → is_answered min_depth passed ≡ false → (answer : Option (Item R E)) (new : List (Pair R E)) → AnswersPlainly min_depth (pair_up items' specs') answer new → AnswersPlainly min_depth (pair_up items specs) answer new
+  pub next_plain_out : {items : List (Item R E)} {specs : List (Spec R)} {passed : Item R E} {items' : List (Item R E)} {specs' : List (Spec R)} (min_depth : ℕ) → Next items specs passed items' specs' → is_answered min_depth passed ≡ false → (answer : Option (Item R E)) (new : List (Pair R E)) → AnswersPlainly min_depth (pair_up items' specs') answer new → AnswersPlainly min_depth (pair_up items specs) answer new
   next_plain_out min_depth (passed_plainly {x} {items} {specs} plain) out answer new h =
       rw (plain, out) (subst (λ l. AnswersPlainly min_depth (pair_up items l) answer new) (sym (plain_keeps E (has_directory x) specs plain)) h)
   next_plain_out min_depth (passed_entering {x} {items} {specs} dir reads) out answer new h = rw (reads.took, dir) tt
 
-  next_plain : {items : List (Item R E)} {specs : List (Spec R)} {answer : Item R E} {items' : List (Item R E)} {specs' : List (Spec R)} (min_depth : ℕ) → Next items specs answer items' specs' → is_answered min_depth answer ≡ true → AnswersPlainly min_depth (pair_up items specs) (Some answer) (pair_up items' specs')
+  pub next_plain : {items : List (Item R E)} {specs : List (Spec R)} {answer : Item R E} {items' : List (Item R E)} {specs' : List (Spec R)} (min_depth : ℕ) → Next items specs answer items' specs' → is_answered min_depth answer ≡ true → AnswersPlainly min_depth (pair_up items specs) (Some answer) (pair_up items' specs')
   next_plain min_depth (passed_plainly {x} {items} {specs} plain) kept = rw (plain, kept) (refl, ap (pair_up items) (sym (plain_keeps E (has_directory x) specs plain)))
   next_plain min_depth (passed_entering {x} {items} {specs} dir reads) kept = rw (reads.took, dir) tt
 
@@ -108,12 +116,12 @@ module _ {C S P A R E : Type 0} (files : FileSystem.Ghosts S) (process : Process
           let items_too : map (counted_item given) (list_of outcome ++ items) ≡ list_of (counted_outcome given outcome) ++ map (counted_item given) items
           = map-append (counted_item given) (list_of outcome) items ∙ ap (λ l. l ++ map (counted_item given) items) (sym (counted-list_of view mark outcome)) in
           ap (Listed (Ok e ∷ items)) reads.took
-          ∙ listed reading (greatest_depth job) (value_entry e) (map (counted_item given) items) (counted_spec given reads.first) (map (counted_spec given) reads.rest) (counted_outcome given outcome) (counted-has_directory view mark (Ok e) ∙ dir) (counted-IsLawful view mark (greatest_depth job) reads.first outcome reads.reading.lawful) (reads.reading.value given steady)
+          ∙ listed reading (greatest_depth job) (counted_entry given e) (map (counted_item given) items) (counted_spec given reads.first) (map (counted_spec given) reads.rest) (counted_outcome given outcome) (counted-has_directory view mark (Ok e) ∙ dir) (counted-IsLawful view mark (greatest_depth job) reads.first outcome reads.reading.lawful) (reads.reading.value given steady)
           ∙ ap (λ a. a ∷ listing reading (greatest_depth job) (pair_up (list_of (counted_outcome given outcome) ++ map (counted_item given) items) (children_of (counted_outcome given outcome) ++ map (counted_spec given) reads.rest))) (counted-after_reading view mark outcome (Ok e))
           ∙ ap (λ l. counted_item given (after_reading outcome (Ok e)) ∷ listing reading (greatest_depth job) (pair_up l (children_of (counted_outcome given outcome) ++ map (counted_spec given) reads.rest))) (sym items_too)
           ∙ ap (λ l. counted_item given (after_reading outcome (Ok e)) ∷ listing reading (greatest_depth job) (pair_up (map (counted_item given) (list_of outcome ++ items)) l)) (sym front)
 
-      next_listed : {items : List (Item R E)} {specs : List (Spec R)} {answer : Item R E} {items' : List (Item R E)} {specs' : List (Spec R)} → Next items specs answer items' specs' → Listed items specs ≡ counted_item given answer ∷ Listed items' specs'
+      pub next_listed : {items : List (Item R E)} {specs : List (Spec R)} {answer : Item R E} {items' : List (Item R E)} {specs' : List (Spec R)} → Next items specs answer items' specs' → Listed items specs ≡ counted_item given answer ∷ Listed items' specs'
       next_listed (passed_plainly {x} {items} {specs} plain) = listed_plainly x items specs (has_directory x) refl plain
       next_listed (passed_entering {x} {items} {specs} {left} {outcome} dir reads) =
           entry_alone x dir (λ y. Listed (y ∷ items) specs ≡ counted_item given (after_reading outcome y) ∷ Listed (list_of outcome ++ items) left)
@@ -125,23 +133,23 @@ module _ {C S P A R E : Type 0} (files : FileSystem.Ghosts S) (process : Process
     abbrev Left : List (Item R E) → List (Spec R) → Type 0
     Left = LeavesOut files process clone defaults job items specs
 
-    left_within : {items' : List (Item R E)} {specs' : List (Spec R)} → Left items' specs' → NoDeeper (greatest_depth job) items → NoDeeper (greatest_depth job) items'
+    pub left_within : {items' : List (Item R E)} {specs' : List (Spec R)} → Left items' specs' → NoDeeper (greatest_depth job) items → NoDeeper (greatest_depth job) items'
     left_within none_left_out h = h
     left_within (one_left_out before next out) h = (next_within next (left_within before h)).1
 
-    left_lighter : {items' : List (Item R E)} {specs' : List (Spec R)} → Left items' specs' → weight (greatest_depth job) (pair_up items' specs') ≤ weight (greatest_depth job) (pair_up items specs)
+    pub left_lighter : {items' : List (Item R E)} {specs' : List (Spec R)} → Left items' specs' → weight (greatest_depth job) (pair_up items' specs') ≤ weight (greatest_depth job) (pair_up items specs)
     left_lighter none_left_out = omega arith
     left_lighter (one_left_out before next out) = omega (arith, left_lighter before, next_lighter next)
 
-    left_count : {items' : List (Item R E)} {specs' : List (Spec R)} → Left items' specs' → length specs ≡ directories items → length specs' ≡ directories items'
+    pub left_count : {items' : List (Item R E)} {specs' : List (Spec R)} → Left items' specs' → length specs ≡ directories items → length specs' ≡ directories items'
     left_count none_left_out h = h
     left_count (one_left_out before next out) h = next_count next (left_count before h)
 
-    left_plain : {items' : List (Item R E)} {specs' : List (Spec R)} → Left items' specs' → (answer : Option (Item R E)) (new : List (Pair R E)) → AnswersPlainly (options_of job).min_depth (pair_up items' specs') answer new → AnswersPlainly (options_of job).min_depth (pair_up items specs) answer new
+    pub left_plain : {items' : List (Item R E)} {specs' : List (Spec R)} → Left items' specs' → (answer : Option (Item R E)) (new : List (Pair R E)) → AnswersPlainly (options_of job).min_depth (pair_up items' specs') answer new → AnswersPlainly (options_of job).min_depth (pair_up items specs) answer new
     left_plain none_left_out answer new h = h
     left_plain (one_left_out before next out) answer new h = left_plain before answer new (next_plain_out (options_of job).min_depth next out answer new h)
 
-    left_to_come : (given : Given R E) → IsSteadyJob files process clone defaults job given → {items' : List (Item R E)} {specs' : List (Spec R)} → Left items' specs' → answers (options_of job).min_depth (Listed given items specs) ≡ answers (options_of job).min_depth (Listed given items' specs')
+    pub left_to_come : (given : Given R E) → IsSteadyJob files process clone defaults job given → {items' : List (Item R E)} {specs' : List (Spec R)} → Left items' specs' → answers (options_of job).min_depth (Listed given items specs) ≡ answers (options_of job).min_depth (Listed given items' specs')
     left_to_come given steady none_left_out = refl
     left_to_come given steady (one_left_out {passed = passed} before next out) =
         left_to_come given steady before

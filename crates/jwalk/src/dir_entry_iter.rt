@@ -184,6 +184,21 @@ impl<C: ClientState, S: FileSystem, P: ProcessReadDir<C, A>, A: Allocator + Copy
         }
     }
 
+    /// What was passed, unless the least depth leaves it out.
+    fn kept(
+        &self,
+        passed: Result<DirEntry<C, A>, Error<A>>,
+    ) -> Option<Result<DirEntry<C, A>, Error<A>>>
+        ensures some { IfSome result (λ answer. (answer ≡ passed) × (is_answered (min_depth_of self.now) (item passed) ≡ true)) }
+        ensures none { IfNone result (is_answered (min_depth_of self.now) (item passed) ≡ false) }
+    {
+        if self.keeps(&passed) {
+            Some(passed)
+        } else {
+            None
+        }
+    }
+
     /// The next item that is answered.
     fn next_kept(&mut self) -> Result<Option<Result<DirEntry<C, A>, Error<A>>>, AllocError>
         requires { P.IsLawful (callback (job_of self.old)) }
@@ -196,11 +211,30 @@ impl<C: ClientState, S: FileSystem, P: ProcessReadDir<C, A>, A: Allocator + Copy
             C.DirEntryState.Default (job_of self.old) (items_of self.old) (unread_of self.old)) }
     {
         while let Some(passed) = self.pass()? {
-            if self.keeps(&passed) {
-                return Ok(Some(passed));
+            if let Some(answer) = self.kept(passed) {
+                return Ok(Some(answer));
             }
         }
         Ok(None)
+    }
+
+    /// The next answer; where memory is refused, the error that tells of it, and nothing is left.
+    fn next_answer(&mut self) -> Option<Result<DirEntry<C, A>, Error<A>>>
+        requires { P.IsLawful (callback (job_of self.old)) }
+        ensures { Answers S.FileSystem P.ProcessReadDir C.ReadDirState.Clone C.DirEntryState.Default
+            self.old result self.new }
+    {
+        if self.refused {
+            self.refused = false;
+            return Some(Err(Error::memory()));
+        }
+        match self.next_kept() {
+            Ok(answer) => answer,
+            Err(_) => {
+                self.stop();
+                Some(Err(Error::memory()))
+            }
+        }
     }
 
     /// Whether memory was refused at the start, and the error that tells of it was not answered yet.
@@ -270,16 +304,6 @@ impl<C: ClientState, S: FileSystem, P: ProcessReadDir<C, A>, A: Allocator + Copy
     ghost remaining = { λ s. at_most (weight_of s) };
 
     fn next(&mut self) -> Option<Result<DirEntry<C, A>, Error<A>>> {
-        if self.refused {
-            self.refused = false;
-            return Some(Err(Error::memory()));
-        }
-        match self.next_kept() {
-            Ok(answer) => answer,
-            Err(_) => {
-                self.stop();
-                Some(Err(Error::memory()))
-            }
-        }
+        self.next_answer()
     }
 }

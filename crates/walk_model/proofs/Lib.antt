@@ -10,3 +10,4 @@ pub mod PathParents
 pub mod PreorderFacts
 pub mod ReadingFacts
 pub mod SortingFacts
+pub mod WithinFacts

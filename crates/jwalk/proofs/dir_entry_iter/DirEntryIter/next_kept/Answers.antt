@@ -1,51 +1,43 @@
-use Rattle.std.proofs.Common.{◌≡◌, ◌∙◌, true, subst}
-use Rattle.walk_model.specs.Held.{LeavesOne}
+use Rattle.std.proofs.Common.{◌≡◌, ◌∙◌, true, false, refl, subst}
 use Rattle.walk_model.specs.Listing.{is_answered}
-use Rattle.walk_model.specs.Job as value
-use Rattle.walk_model.proofs.StepFacts.{one_left_out}
 use Rattle.jwalk_read.specs.Entry.{item}
-use Rattle.jwalk_read.specs.States.{ClonesAreEqual}
-use Rattle.jwalk_read.specs.Job.{job, file_system, callback, greatest_depth, IsSteady}
-use Rattle.jwalk.specs.DirEntryIter.{job_of, min_depth_of, items_of, unread_of, PassesOrStops}
-use Rattle.jwalk.proofs.AnswerFacts.{answers_kept, answers_end, lighter_kept}
+use Rattle.jwalk_read.specs.Job.{options_of}
+use Rattle.jwalk.specs.Step.{PassesNext, none_left_out, one_left_out}
+use Rattle.jwalk.specs.DirEntryIter.{job_of, items_of, unread_of}
+use Rattle.jwalk.proofs.StepFacts.{next_lighter}
 use Rattle.jwalk.proofs.dir_entry_iter.DirEntryIter.next_kept.Goals as goal
 
-pub returns-in-Some-passed-clause-answers : goal.returns-in-Some-passed-clause-answers
-returns-in-Some-passed-clause-answers g c =
-    let old = c.args.self.now in
-    let left = c.loop-passed.self in
-    let sofar = c.loop-passed.invariant in
-    let answered = subst (λ m. is_answered m (item c.in-Some-passed.answer) ≡ true) sofar.same_depth (rw c.in-Some-passed.is at c.in-Some.ensures.kept) in
-    let passed = subst (λ j. PassesOrStops (greatest_depth j) (ClonesAreEqual g.C.ReadDirState.Clone.is_clone) (IsSteady (g.S.FileSystem.IsFixed (file_system j)) (g.P.ProcessReadDir.IsFixed (callback j)) g.C.ReadDirState.Clone.is_clone g.C.DirEntryState.Default.is_default) (λ d. value.reading (job (g.S.FileSystem.functions (file_system j)) (g.P.ProcessReadDir.processed (callback j)) d j)) left (item c.in-Some-passed.answer) c.pass_kept.new.self) sofar.same_job (rw c.in-Some-passed.is at c.in-Some.ensures.answered) in
-    answers_kept (ClonesAreEqual g.C.ReadDirState.Clone.is_clone) (IsSteady (g.S.FileSystem.IsFixed (file_system (job_of old))) (g.P.ProcessReadDir.IsFixed (callback (job_of old))) g.C.ReadDirState.Clone.is_clone g.C.DirEntryState.Default.is_default) (λ d. value.reading (job (g.S.FileSystem.functions (file_system (job_of old))) (g.P.ProcessReadDir.processed (callback (job_of old))) d (job_of old))) old left c.pass_kept.new.self c.in-Some-passed.answer c.requires.begun (c.in-Some.ensures.refused ∙ sofar.begun) (c.in-Some.ensures.job ∙ sofar.same_job) (c.in-Some.ensures.min_depth ∙ sofar.same_depth) answered sofar.leaves passed
+pub loop-passed-init : goal.loop-passed-init
+loop-passed-init g c = record { same_job = refl; same_refused = refl; leaves = none_left_out }
 
-pub returns-in-Some-passed-clause-lighter : goal.returns-in-Some-passed-clause-lighter
-returns-in-Some-passed-clause-lighter g c =
-    let old = c.args.self.now in
+pub returns-in-Some-kept-clause-reads : goal.returns-in-Some-kept-clause-reads
+returns-in-Some-kept-clause-reads g c =
     let left = c.loop-passed.self in
+    let new = c.pass.new.self in
     let sofar = c.loop-passed.invariant in
-    let passed = subst (λ j. PassesOrStops (greatest_depth j) (ClonesAreEqual g.C.ReadDirState.Clone.is_clone) (IsSteady (g.S.FileSystem.IsFixed (file_system j)) (g.P.ProcessReadDir.IsFixed (callback j)) g.C.ReadDirState.Clone.is_clone g.C.DirEntryState.Default.is_default) (λ d. value.reading (job (g.S.FileSystem.functions (file_system j)) (g.P.ProcessReadDir.processed (callback j)) d j)) left (item c.in-Some-passed.answer) c.pass_kept.new.self) sofar.same_job (rw c.in-Some-passed.is at c.in-Some.ensures.answered) in
-    lighter_kept (ClonesAreEqual g.C.ReadDirState.Clone.is_clone) (IsSteady (g.S.FileSystem.IsFixed (file_system (job_of old))) (g.P.ProcessReadDir.IsFixed (callback (job_of old))) g.C.ReadDirState.Clone.is_clone g.C.DirEntryState.Default.is_default) (λ d. value.reading (job (g.S.FileSystem.functions (file_system (job_of old))) (g.P.ProcessReadDir.processed (callback (job_of old))) d (job_of old))) old left c.pass_kept.new.self (item c.in-Some-passed.answer) c.requires.begun (c.in-Some.ensures.refused ∙ sofar.begun) sofar.leaves passed
+    let passed = c.in-Some.passed in
+    let step = rw c.in-Some.is at c.in_ok-passed.ensures.passed in
+    let told = c.in-Some-kept.ensures.some in
+    let here = subst (λ j. PassesNext g.S.FileSystem g.P.ProcessReadDir g.C.ReadDirState.Clone g.C.DirEntryState.Default j (items_of left) (unread_of left) (item passed) (items_of new) (unread_of new)) sofar.same_job step in
+    let answered = subst (λ j. is_answered (options_of j).min_depth (item passed) ≡ true) (c.pass.ensures.job ∙ sofar.same_job) told.1 in
+    rw told.0 (items_of left, unread_of left, sofar.leaves, (here, answered))
+
+pub loop-passed-smaller : goal.loop-passed-smaller
+loop-passed-smaller g c =
+    let step = rw c.in-Some.is at c.in_ok-passed.ensures.passed in
+    rw c.pass.ensures.job (next_lighter g.S.FileSystem g.P.ProcessReadDir g.C.ReadDirState.Clone g.C.DirEntryState.Default (job_of c.loop-passed.self) step)
 
 pub loop-passed-preserved : goal.loop-passed-preserved
 loop-passed-preserved g c =
-    let old = c.args.self.now in
     let left = c.loop-passed.self in
-    let new = c.pass_kept.new.self in
+    let new = c.pass.new.self in
     let sofar = c.loop-passed.invariant in
-    let at_left = rw c.in_default-passed.is at c.in-Some.ensures.left_out in
-    let leaves = subst (λ m. LeavesOne (greatest_depth (job_of old)) m (ClonesAreEqual g.C.ReadDirState.Clone.is_clone) (IsSteady (g.S.FileSystem.IsFixed (file_system (job_of old))) (g.P.ProcessReadDir.IsFixed (callback (job_of old))) g.C.ReadDirState.Clone.is_clone g.C.DirEntryState.Default.is_default) (λ d. value.reading (job (g.S.FileSystem.functions (file_system (job_of old))) (g.P.ProcessReadDir.processed (callback (job_of old))) d (job_of old))) (items_of left) (unread_of left) (items_of new) (unread_of new)) sofar.same_depth
-    (subst (λ j. LeavesOne (greatest_depth j) (min_depth_of left) (ClonesAreEqual g.C.ReadDirState.Clone.is_clone) (IsSteady (g.S.FileSystem.IsFixed (file_system j)) (g.P.ProcessReadDir.IsFixed (callback j)) g.C.ReadDirState.Clone.is_clone g.C.DirEntryState.Default.is_default) (λ d. value.reading (job (g.S.FileSystem.functions (file_system j)) (g.P.ProcessReadDir.processed (callback j)) d j)) (items_of left) (unread_of left) (items_of new) (unread_of new)) sofar.same_job at_left) in
+    let passed = c.in-Some.passed in
+    let step = rw c.in-Some.is at c.in_ok-passed.ensures.passed in
+    let here = subst (λ j. PassesNext g.S.FileSystem g.P.ProcessReadDir g.C.ReadDirState.Clone g.C.DirEntryState.Default j (items_of left) (unread_of left) (item passed) (items_of new) (unread_of new)) sofar.same_job step in
+    let out = subst (λ j. is_answered (options_of j).min_depth (item passed) ≡ false) (c.pass.ensures.job ∙ sofar.same_job) c.in_default-kept.ensures.none in
     record {
-      same_job = c.in-Some.ensures.job ∙ sofar.same_job;
-      same_depth = c.in-Some.ensures.min_depth ∙ sofar.same_depth;
-      begun = c.in-Some.ensures.refused ∙ sofar.begun;
-      leaves = one_left_out (greatest_depth (job_of old)) (min_depth_of old) (ClonesAreEqual g.C.ReadDirState.Clone.is_clone) (IsSteady (g.S.FileSystem.IsFixed (file_system (job_of old))) (g.P.ProcessReadDir.IsFixed (callback (job_of old))) g.C.ReadDirState.Clone.is_clone g.C.DirEntryState.Default.is_default) (λ d. value.reading (job (g.S.FileSystem.functions (file_system (job_of old))) (g.P.ProcessReadDir.processed (callback (job_of old))) d (job_of old))) (items_of old) (items_of left) (unread_of old) (unread_of left) leaves.passed (items_of new) (unread_of new) sofar.leaves leaves.one leaves.left_out;
+      same_job = c.pass.ensures.job ∙ sofar.same_job;
+      same_refused = c.pass.ensures.refused ∙ sofar.same_refused;
+      leaves = one_left_out sofar.leaves here out;
     }
-
-pub returns-clause-answers : goal.returns-clause-answers
-returns-clause-answers g c =
-    let old = c.args.self.now in
-    let left = c.loop-passed.self in
-    let sofar = c.loop-passed.invariant in
-    answers_end (ClonesAreEqual g.C.ReadDirState.Clone.is_clone) (IsSteady (g.S.FileSystem.IsFixed (file_system (job_of old))) (g.P.ProcessReadDir.IsFixed (callback (job_of old))) g.C.ReadDirState.Clone.is_clone g.C.DirEntryState.Default.is_default) (λ d. value.reading (job (g.S.FileSystem.functions (file_system (job_of old))) (g.P.ProcessReadDir.processed (callback (job_of old))) d (job_of old))) old left c.pass_kept.new.self c.requires.begun (c.pass_kept.ensures.refused ∙ sofar.begun) (c.pass_kept.ensures.job ∙ sofar.same_job) (c.pass_kept.ensures.min_depth ∙ sofar.same_depth) sofar.leaves c.in_default.ensures.end.0 c.in_default.ensures.end.1 c.in_default.ensures.end.2

@@ -1,10 +1,8 @@
-use Rattle.std.proofs.Common.{◌≡◌, false}
+use Rattle.std.proofs.Common.{◌≡◌}
 use Rattle.walk_model.specs.Held.{pair_up, weight}
-use Rattle.walk_model.specs.Job as value
-use Rattle.walk_model.proofs.StepFacts.{LeavesOut}
-use Rattle.jwalk_read.specs.States.{ClonesAreEqual}
-use Rattle.jwalk_read.specs.Job.{job, file_system, callback, greatest_depth, IsSteady}
-use Rattle.jwalk.specs.DirEntryIter.{job_of, min_depth_of, items_of, unread_of}
+use Rattle.jwalk_read.specs.Job.{greatest_depth}
+use Rattle.jwalk.specs.Step.{LeavesOut}
+use Rattle.jwalk.specs.DirEntryIter.{job_of, items_of, unread_of}
 use Rattle.jwalk.proofs.dir_entry_iter.DirEntryIter.next_kept.Given as goal
 
 -- what was passed over is left out
@@ -13,9 +11,8 @@ invariant-loop-passed g l =
     let old = l.fn.self in
     record {
       same_job : job_of l.self ≡ job_of old;
-      same_depth : min_depth_of l.self ≡ min_depth_of old;
-      begun : l.self.refused ≡ false;
-      leaves : LeavesOut (greatest_depth (job_of old)) (min_depth_of old) (ClonesAreEqual g.C.ReadDirState.Clone.is_clone) (IsSteady (g.S.FileSystem.IsFixed (file_system (job_of old))) (g.P.ProcessReadDir.IsFixed (callback (job_of old))) g.C.ReadDirState.Clone.is_clone g.C.DirEntryState.Default.is_default) (λ d. value.reading (job (g.S.FileSystem.functions (file_system (job_of old))) (g.P.ProcessReadDir.processed (callback (job_of old))) d (job_of old))) (items_of old) (unread_of old) (items_of l.self) (unread_of l.self);
+      same_refused : l.self.refused ≡ old.refused;
+      leaves : LeavesOut g.S.FileSystem g.P.ProcessReadDir g.C.ReadDirState.Clone g.C.DirEntryState.Default (job_of old) (items_of old) (unread_of old) (items_of l.self) (unread_of l.self);
     }
 
 abbrev pub decreases-loop-passed : goal.decreases-loop-passed

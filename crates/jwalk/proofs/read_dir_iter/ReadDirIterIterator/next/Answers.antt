@@ -1,22 +1,23 @@
-use Rattle.std.proofs.Common.{rules}
+use Rattle.std.proofs.Common.{◌<◌, IfSome, rules}
 use Rattle.std.specs.Prelude.{option_map}
-use Rattle.walk_model.specs.Job as value
+use Rattle.walk_model.specs.Held.{spec_weight}
 use Rattle.jwalk_read.specs.ReadDir.{outcome}
-use Rattle.jwalk_read.specs.States.{ClonesAreEqual}
-use Rattle.jwalk_read.specs.Job.{job, file_system, callback, greatest_depth}
+use Rattle.jwalk_read.specs.Job.{callback, greatest_depth}
 use Rattle.jwalk.specs.ReadDirIter.{job_of, to_read}
-use Rattle.jwalk.proofs.GivesFacts.{given_in_preorder}
+use Rattle.jwalk.proofs.AnswerFacts.{goes_on}
+use Rattle.jwalk.proofs.GivesFacts.{gives_fewer, some_of}
 use Rattle.jwalk.proofs.read_dir_iter.ReadDirIterIterator.next.Goals as goal
 
-pub returns-clause-steps : goal.returns-clause-steps
-returns-clause-steps g c =
-    let old = c.args.self.now in
-    record {
-      job = c.read_next.ensures.job;
-      first = c.read_next.ensures.first;
-      value = c.read_next.ensures.value;
-      preorder = λ d steady. given_in_preorder (value.reading (job (g.S.FileSystem.functions (file_system (job_of old))) (g.P.ProcessReadDir.processed (callback (job_of old))) d (job_of old))) (greatest_depth (job_of old)) (ClonesAreEqual g.C.ReadDirState.Clone.is_clone) (to_read old) (option_map outcome c.read_next.result) (to_read c.read_next.new.self) steady.clones c.read_next.ensures.first (c.read_next.ensures.value d steady);
-    }
-
 pub returns-clause-goes : goal.returns-clause-goes
-returns-clause-goes g c = record { on = λ f. search rules; keeps = search rules; rests = λ f. search rules }
+returns-clause-goes g c =
+    let old = c.args.self.now in
+    let new = c.next_or_stop.new.self in
+    let gives = c.next_or_stop.ensures in
+    let lawful : g.P.ProcessReadDir.IsLawful (callback (job_of new)) = rw gives.job c.requires in
+    let fewer : IfSome c.next_or_stop.result (λ _. spec_weight (greatest_depth (job_of new)) (to_read new) < spec_weight (greatest_depth (job_of old)) (to_read old))
+    = rw gives.job (some_of _ outcome c.next_or_stop.result (gives_fewer g.S.FileSystem g.P.ProcessReadDir g.C.ReadDirState.Clone g.C.DirEntryState.Default (job_of old) (to_read old) (to_read new) (option_map outcome c.next_or_stop.result) gives.first)) in
+    record {
+      on = λ f. goes_on c.next_or_stop.result _ lawful fewer;
+      keeps = search rules;
+      rests = λ f. search rules;
+    }

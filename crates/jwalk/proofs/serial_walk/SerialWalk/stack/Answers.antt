@@ -1,8 +1,7 @@
 use Rattle.std.proofs.Common.{◌∙◌, ◌++◌, map, reverse, ap}
 use Rattle.std.proofs.lemmas.List.{map-append}
-use Rattle.walk_model.specs.ReadDir.{place}
 use Rattle.jwalk_read.specs.ReadDir.{spec}
-use Rattle.jwalk.proofs.ListFacts.{map-map, reverse-stacked}
+use Rattle.jwalk.proofs.ListFacts.{reverse-stacked}
 use Rattle.jwalk.proofs.serial_walk.SerialWalk.stack.Goals as goal
 
 pub returns-clause-children : goal.returns-clause-children
@@ -12,6 +11,5 @@ returns-clause-children g c =
     record {
       front = map spec children;
       left = ap (λ l. map spec (reverse l)) (c.in_ok-append.ensures.items ∙ ap (λ l. old ++ l) c.reverse.ensures.items) ∙ ap (map spec) (reverse-stacked old children) ∙ map-append spec children (reverse old);
-      places = map-map place spec children ∙ c.in_ok-children.ensures.places;
-      children = c.in_ok-children.ensures.specs;
+      clones = c.in_ok-children.ensures;
     }
