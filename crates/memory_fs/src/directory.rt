@@ -65,7 +65,7 @@ impl<A: Allocator + Copy> Directory<A> {
         alloc: B,
     ) -> Result<Vec<io::Result<Listed<B>>, B>, AllocError>
         ensures items { IfOk result (λ v. map listed v.items ≡ listing_of (branch self.now).children) }
-        ensures found { OnOk result (AreFound (branch self.now).children (branch self.now).children) }
+        ensures found { AreFound (branch self.now).children (branch self.now).children }
     {
         let mut items = Vec::with_capacity(alloc, self.children.len())?;
         for (name, child) in &self.children {

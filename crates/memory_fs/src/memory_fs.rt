@@ -188,7 +188,10 @@ impl<A: Allocator + Copy> MemoryFs<A> {
     }
 }
 
+/// Of its answers only a listing that is made takes memory: metadata and every error are answered without.
 impl<A: Allocator + Copy> FileSystem for MemoryFs<A> {
+    ghost use Rattle.std.specs.Prelude.{◌≢◌, IsErr, map, string_bytes};
+    ghost use Rattle.walk_fs.specs.Views.{listed, AnswersValue};
     ghost use Rattle.walk_model.specs.Tree.{functions_of};
     ghost use Rattle.memory_fs.specs.MemoryFs.{tree_of};
 
@@ -200,39 +203,48 @@ impl<A: Allocator + Copy> FileSystem for MemoryFs<A> {
         &self,
         alloc: B,
         path: &str,
-    ) -> Result<Vec<io::Result<Listed<B>>, B>, Fault> {
+    ) -> Result<Vec<io::Result<Listed<B>>, B>, Fault>
+        ensures value { AnswersValue (λ v. map listed v.items) result ((functions_of (tree_of self.now)).list_of path.now) }
+        ensures errors_need_no_memory { IsErr ((functions_of (tree_of self.now)).list_of path.now) → result ≢ Err Fault.Memory }
+    {
         match self.look_up(path) {
             Ok(Child::Dir(place)) => {
                 let directory = self.table.directory(place);
                 if let Some(kind) = directory.denied {
                     return Err(Fault::Io(io::Error::from(kind)));
                 }
-                match directory.listing(alloc) {
-                    Ok(items) => Ok(items),
-                    Err(_) => Err(Fault::Memory),
-                }
+                Ok(directory.listing(alloc)?)
             }
             Ok(Child::File(_)) => Err(Fault::Io(io::Error::from(ErrorKind::InvalidInput))),
             Err(kind) => Err(Fault::Io(io::Error::from(kind))),
         }
     }
 
-    fn metadata(&self, path: &str) -> Result<Metadata, Fault> {
+    fn metadata(&self, path: &str) -> Result<Metadata, Fault>
+        ensures value { AnswersValue (λ m. m) result ((functions_of (tree_of self.now)).meta_of path.now) }
+        ensures never_refuses { result ≢ Err Fault.Memory }
+    {
         match self.look_up(path) {
             Ok(child) => Ok(child.metadata()),
             Err(kind) => Err(Fault::Io(io::Error::from(kind))),
         }
     }
 
-    fn symlink_metadata(&self, path: &str) -> Result<Metadata, Fault> {
+    fn symlink_metadata(&self, path: &str) -> Result<Metadata, Fault>
+        ensures value { AnswersValue (λ m. m) result ((functions_of (tree_of self.now)).link_meta_of path.now) }
+        ensures never_refuses { result ≢ Err Fault.Memory }
+    {
         match self.look_up(path) {
-            Ok(child) => Ok(child.metadata()),
+            Ok(named) => Ok(named.metadata()),
             Err(kind) => Err(Fault::Io(io::Error::from(kind))),
         }
     }
 
     // Nothing in the tree is a link.
-    fn read_link<B: Allocator + Copy>(&self, _alloc: B, path: &str) -> Result<String<B>, Fault> {
+    fn read_link<B: Allocator + Copy>(&self, _alloc: B, path: &str) -> Result<String<B>, Fault>
+        ensures value { AnswersValue string_bytes result ((functions_of (tree_of self.now)).target_of path.now) }
+        ensures errors_need_no_memory { IsErr ((functions_of (tree_of self.now)).target_of path.now) → result ≢ Err Fault.Memory }
+    {
         match self.look_up(path) {
             Ok(_) => Err(Fault::Io(io::Error::from(ErrorKind::InvalidInput))),
             Err(kind) => Err(Fault::Io(io::Error::from(kind))),
