@@ -86,10 +86,10 @@ impl<A: Allocator + Copy> MemoryFs<A> {
         ensures only_not_found { IfErr result (λ e. e ≡ BuildError.NotFound) }
         ensures err { OnErr result (IsSameTree (tree_of self.old) (tree_of self.new)) }
     {
-        let Some(place) = self.directory(path) else {
+        let Some(index) = self.directory(path) else {
             return Err(BuildError::NotFound);
         };
-        self.table.deny(place, kind);
+        self.table.deny(index, kind);
         Ok(())
     }
 
@@ -99,16 +99,16 @@ impl<A: Allocator + Copy> MemoryFs<A> {
         ensures value { result ≡ next_child (branches self.now.table) child (component_seen component.entry) }
         ensures within { IfOk result (IsWithin (branches self.now.table)) }
     {
-        let Child::Dir(place) = child else {
+        let Child::Dir(index) = child else {
             return Err(ErrorKind::Other);
         };
         match component {
             Component::RootDir => Ok(Child::Dir(0)),
             Component::CurDir => Ok(child),
-            Component::ParentDir => Ok(Child::Dir(self.table.directory(place).parent)),
+            Component::ParentDir => Ok(Child::Dir(self.table.directory(index).parent)),
             Component::Normal(name) => self
                 .table
-                .directory(place)
+                .directory(index)
                 .child(name)
                 .ok_or(ErrorKind::NotFound),
         }
@@ -140,10 +140,10 @@ impl<A: Allocator + Copy> MemoryFs<A> {
     // The directory that the components lead to.
     fn holder(&self, components: Components<'_>) -> Option<usize>
         ensures value { result ≡ holder_of (reached (branches self.now.table) (Dir 0) (components_left components.entry)) }
-        ensures within { IfSome result (λ place. place < length (branches self.now.table)) }
+        ensures within { IfSome result (λ index. index < length (branches self.now.table)) }
     {
         match self.walk(components) {
-            Ok(Child::Dir(place)) => Some(place),
+            Ok(Child::Dir(index)) => Some(index),
             Ok(Child::File(_)) => None,
             Err(_) => None,
         }
@@ -177,11 +177,11 @@ impl<A: Allocator + Copy> MemoryFs<A> {
     // The directory there.
     fn directory(&self, path: &str) -> Option<usize>
         ensures value { result ≡ directory_spot (branches self.now.table) (components path.now) }
-        ensures within { IfSome result (λ place. place < length (branches self.now.table)) }
+        ensures within { IfSome result (λ index. index < length (branches self.now.table)) }
     {
         let spot = self.spot(path)?;
         match self.table.directory(spot.holder).child(spot.name) {
-            Some(Child::Dir(place)) => Some(place),
+            Some(Child::Dir(index)) => Some(index),
             Some(Child::File(_)) => None,
             None => None,
         }
@@ -208,8 +208,8 @@ impl<A: Allocator + Copy> FileSystem for MemoryFs<A> {
         ensures errors_need_no_memory { IsErr ((functions_of (tree_of self.now)).list_of path.now) → result ≢ Err Fault.Memory }
     {
         match self.look_up(path) {
-            Ok(Child::Dir(place)) => {
-                let directory = self.table.directory(place);
+            Ok(Child::Dir(index)) => {
+                let directory = self.table.directory(index);
                 if let Some(kind) = directory.denied {
                     return Err(Fault::Io(io::Error::from(kind)));
                 }

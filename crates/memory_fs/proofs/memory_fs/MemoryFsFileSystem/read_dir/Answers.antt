@@ -8,24 +8,24 @@ use Rattle.memory_fs.proofs.memory_fs.MemoryFsFileSystem.read_dir.Goals as goal
 
 pub returns-in-Some-clause-value : goal.returns-in-Some-clause-value
 returns-in-Some-clause-value g c =
-    let at = c.directory-directory.ensures ∙ ap (branch_at (branches c.args.self.now.table)) c.in-Ok-Dir.place-is in
-    no_listing-denied (branches c.args.self.now.table) c.args.self.now.sound true c.args.path.now c.in-Ok-Dir.place c.in-Some.kind
+    let at = c.directory-directory.ensures ∙ ap (branch_at (branches c.args.self.now.table)) c.in-Ok-Dir.index-is in
+    no_listing-denied (branches c.args.self.now.table) c.args.self.now.sound true c.args.path.now c.in-Ok-Dir.index c.in-Some.kind
     (sym c.look_up.ensures.value ∙ c.in-Ok-Dir.is ∙ ap (λ x. Ok x) c.in-Ok-Dir.field-0-is)
     (ap (λ (b : Branch). b.denied) (sym at) ∙ c.in-Some.is)
     ∙ ap (λ k. Err k) (sym c.from.ensures)
 
 pub returns-in_ok-listing-in-Ok-Dir-clause-value : goal.returns-in_ok-listing-in-Ok-Dir-clause-value
 returns-in_ok-listing-in-Ok-Dir-clause-value g c =
-    listing-found (branches c.args.self.now.table) c.args.self.now.sound true c.args.path.now c.in-Ok-Dir.place (sym c.look_up.ensures.value ∙ c.in-Ok-Dir.is ∙ ap (λ x. Ok x) c.in-Ok-Dir.field-0-is)
-    (branch c.directory-directory.result.now) (c.directory-directory.ensures ∙ ap (branch_at (branches c.args.self.now.table)) c.in-Ok-Dir.place-is) c.in_default.is
+    listing-found (branches c.args.self.now.table) c.args.self.now.sound true c.args.path.now c.in-Ok-Dir.index (sym c.look_up.ensures.value ∙ c.in-Ok-Dir.is ∙ ap (λ x. Ok x) c.in-Ok-Dir.field-0-is)
+    (branch c.directory-directory.result.now) (c.directory-directory.ensures ∙ ap (branch_at (branches c.args.self.now.table)) c.in-Ok-Dir.index-is) c.in_default.is
     c.listing.ensures.found
     ∙ ap (λ ls. Ok ls) (sym c.in_ok-listing-in-Ok-Dir.ensures.items)
 
 -- a directory that may be listed is no error
 pub returns-in_err-listing-in-Ok-Dir-clause-errors_need_no_memory : goal.returns-in_err-listing-in-Ok-Dir-clause-errors_need_no_memory
 returns-in_err-listing-in-Ok-Dir-clause-errors_need_no_memory g c = λ is_error.
-    let listed = listing-found (branches c.args.self.now.table) c.args.self.now.sound true c.args.path.now c.in-Ok-Dir.place (sym c.look_up.ensures.value ∙ c.in-Ok-Dir.is ∙ ap (λ x. Ok x) c.in-Ok-Dir.field-0-is)
-    (branch c.directory-directory.result.now) (c.directory-directory.ensures ∙ ap (branch_at (branches c.args.self.now.table)) c.in-Ok-Dir.place-is) c.in_default.is
+    let listed = listing-found (branches c.args.self.now.table) c.args.self.now.sound true c.args.path.now c.in-Ok-Dir.index (sym c.look_up.ensures.value ∙ c.in-Ok-Dir.is ∙ ap (λ x. Ok x) c.in-Ok-Dir.field-0-is)
+    (branch c.directory-directory.result.now) (c.directory-directory.ensures ∙ ap (branch_at (branches c.args.self.now.table)) c.in-Ok-Dir.index-is) c.in_default.is
     c.listing.ensures.found in
     absurd (false≢true (sym (ap is_err listed) ∙ is_error))
 
