@@ -1,6 +1,5 @@
 //! A directory of the table. A clause sees it as a `Branch`.
 ghost use Rattle.std.specs.Prelude.{◌≡◌, [], map, None, IfOk, OnOk, OnErr};
-ghost use Rattle.std.specs.Option.{option_copied};
 ghost use Rattle.memory_fs.specs.Branch.{child_named, with_child, with_denied, listing_of, AreFound};
 ghost use Rattle.memory_fs.specs.Directory.{branch};
 ghost use Rattle.walk_fs.specs.Views.{listed};

@@ -28,7 +28,7 @@ pub struct MemoryFs<A: Allocator + Copy = Global> {
 }
 
 impl<A: Allocator + Copy> MemoryFs<A> {
-    ghost use Rattle.std.specs.Prelude.{◌≡◌, ◌<◌, ◌↔◌, ℕ, [], length, None, IfSome, IfOk, IfErr, OnOk, OnErr, MatchOption, MatchResult, Some, Ok, Err};
+    ghost use Rattle.std.specs.Prelude.{◌≡◌, ◌<◌, ◌↔◌, [], length, None, IfSome, IfOk, IfErr, OnOk, OnErr, MatchOption, MatchResult, Some, Ok, Err};
     ghost use Rattle.walk_model.specs.Paths.{components};
     ghost use Rattle.walk_model.specs.PathTexts.{components_left, component_seen};
     ghost use Rattle.walk_model.specs.Tree.{Place, only_root, directory, file, add, deny, not_found, already_exists};

@@ -1,7 +1,7 @@
 //! The directories of a tree by their indices. A clause sees them as a list of branches.
-ghost use Rattle.std.specs.Prelude.{◌≡◌, ◌<◌, ◌++◌, ◌∷◌, [], None, OnOk, OnErr, length, slice_set, vec_capacity};
+ghost use Rattle.std.specs.Prelude.{◌≡◌, ◌<◌, ◌++◌, ◌∷◌, [], None, OnOk, OnErr, length, vec_capacity};
 ghost use Rattle.memory_fs.specs.declared.child.Child.TheVariants.{Dir};
-ghost use Rattle.memory_fs.specs.Branch.{children_at, child_named, branch_at, empty_branch, with_child, with_named, with_denial};
+ghost use Rattle.memory_fs.specs.Branch.{children_at, child_named, branch_at, empty_branch, with_named, with_denial};
 ghost use Rattle.memory_fs.specs.Directory.{branch};
 ghost use Rattle.memory_fs.specs.Table.{branches};
 

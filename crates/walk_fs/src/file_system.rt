@@ -1,5 +1,5 @@
 //! The file system as a trait.
-ghost use Rattle.std.specs.Prelude.{◌≡◌, ℕ, List, Result, map, string_bytes};
+ghost use Rattle.std.specs.Prelude.{map, string_bytes};
 ghost use Rattle.std.specs.Arc.{arc_value};
 ghost use Rattle.walk_model.specs.FileSystem.{Functions};
 ghost use Rattle.walk_fs.specs.Views.{listed, AnswersValue};
