@@ -50,12 +50,6 @@ module _ {T R A : Type 0} where
           omega (arith, fewer, held, same, h.in_hand a);
     }
 
-    pub handed_out : (item : Ordered R A) → HandsOut item b c → IsUnderWay hands c
-    handed_out item p = record {
-      running = ap (λ z. z.stopped) p.others ∙ h.running;
-      in_hand = λ a. ap (λ z. times a z.in_hand) p.others ∙ h.in_hand a;
-    }
-
   -- What a worker holds is refused for want of memory alone.
   pub only_memory : (hands : List (Option (Ordered T A))) (b : Board T R) → IsUnderWay hands b → (k : ℕ) (item : Ordered T A) → slice_get hands k ≡ Some (Some item)
       → (cause : FinishRefusal) → RefusesFinish b (address_of item) cause → cause ≡ finishing.Memory

@@ -129,3 +129,39 @@ fn only_what_is_in_hand_is_finished(rt: HostRuntime) -> Result<(), Fail> {
     }
     Ok(())
 }
+
+// Takes what is queued, finishes it with one child and hands it out. It says whether each was at an address so long.
+fn steps_down(board: &mut Names, alloc: Global, length: usize) -> Result<bool, Fail> {
+    let Ok(item) = board.take() else {
+        return Ok(false);
+    };
+    let taken = item.index_path.indices.len();
+    board.finish(item.index_path, "d", vec![in alloc; "d"]?)?;
+    let Ok(reading) = board.hand_out() else {
+        return Ok(false);
+    };
+    Ok(taken == length && reading.index_path.indices.len() == length)
+}
+
+#[test]
+fn a_long_chain_is_finished_and_handed_out(rt: HostRuntime) -> Result<(), Fail> {
+    let mut board = with_root(rt.alloc())?;
+    for length in 1..300 {
+        assert!(rt; steps_down(&mut board, rt.alloc(), length)?);
+    }
+    assert_eq!(rt; counts(&board), [1, 0, 0, 1]);
+    Ok(())
+}
+
+#[test]
+fn many_roots_have_many_children(rt: HostRuntime) -> Result<(), Fail> {
+    let alloc = rt.alloc();
+    let names = vec![in alloc; "n"; 3000]?;
+    let mut board: Names = Board::new(vec![in alloc; "r"; 3000]?)?;
+    assert!(rt; takes(&mut board, &[0]));
+    finish(&mut board, alloc, &[0], "r", names.as_slice())?;
+    assert_eq!(rt; counts(&board), [5999, 0, 1, 5999]);
+    assert!(rt; hands_out(&mut board, &[0], 3000));
+    assert!(rt; takes(&mut board, &[0, 0]));
+    Ok(())
+}
