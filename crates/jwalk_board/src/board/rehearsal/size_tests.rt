@@ -43,6 +43,7 @@ impl Plan<Global> for Levels {
 
 // One of six levels, of three directories, nine and so on: 1 + 3 + 9 + 27 + 81 + 243 + 729.
 const LEVELS: u8 = 6;
+
 const ALL: usize = 1093;
 
 fn rounds(alloc: Global, round: &[Move], count: usize) -> Result<Vec<Move>, AllocError> {
@@ -88,7 +89,10 @@ fn totals(
 fn a_long_rehearsal_reads_each_specification_once(rt: HostRuntime) -> Result<(), Fail> {
     let alloc = rt.alloc();
     let alone = [Move::Take(0), Move::Finish(0), Move::HandOut];
-    assert_eq!(rt; totals(alloc, 1, alone.as_slice(), ALL)?, [ALL, ALL, ALL, 0]);
+    assert_eq!(rt;
+        totals(alloc, 1, alone.as_slice(), ALL)?,
+        [ALL, ALL, ALL, 0]
+    );
     let in_pairs = [
         Move::Take(0),
         Move::Take(1),
@@ -97,6 +101,9 @@ fn a_long_rehearsal_reads_each_specification_once(rt: HostRuntime) -> Result<(),
         Move::HandOut,
         Move::HandOut,
     ];
-    assert_eq!(rt; totals(alloc, 2, in_pairs.as_slice(), ALL)?, [ALL, ALL, ALL, 0]);
+    assert_eq!(rt;
+        totals(alloc, 2, in_pairs.as_slice(), ALL)?,
+        [ALL, ALL, ALL, 0]
+    );
     Ok(())
 }
