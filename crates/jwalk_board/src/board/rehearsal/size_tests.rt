@@ -5,6 +5,7 @@ use std::test::Fail;
 
 // Each specification says how many levels lie below it, and has three children as long as there is one. It counts how
 // often it is read.
+#[derive(Drop)]
 struct Levels {
     reads: Cell<usize>,
 }
@@ -41,7 +42,7 @@ impl Plan<Global> for Levels {
     }
 }
 
-// One of six levels, of three directories, nine and so on: 1 + 3 + 9 + 27 + 81 + 243 + 729.
+// At and below a root with six levels below it there are 1 + 3 + 9 + 27 + 81 + 243 + 729.
 const LEVELS: u8 = 6;
 
 const ALL: usize = 1093;
@@ -64,7 +65,7 @@ fn played(
     rehearse(alloc, plan, vec![in alloc; LEVELS]?, workers, moves)
 }
 
-// Plays this many rounds, and says how many were read, taken, handed out and are left.
+// Plays so many rounds, and says how many were read, taken and handed out, and how many are left.
 fn totals(
     alloc: Global,
     workers: usize,
