@@ -8,7 +8,7 @@ use Rattle.std.specs.Option.{option_map}
 use Rattle.jwalk_order.specs.Ordered.{address_of}
 use Rattle.jwalk_order.specs.declared.ordered.Ordered.{Ordered}
 use Rattle.jwalk_board.specs.Addresses.{times}
-use Rattle.jwalk_board.specs.Board.{Board, IsNew, Takes, Finishes, HandsOut}
+use Rattle.jwalk_board.specs.Board.{Board, IsNew, Takes, Finishes}
 use Rattle.jwalk_board.specs.Refusal.{RefusesFinish}
 use Rattle.jwalk_board.specs.Run.{in_hands}
 use Rattle.jwalk_board.specs.Stage.{hands_of, IsUnderWay}
