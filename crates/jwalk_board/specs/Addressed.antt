@@ -5,37 +5,37 @@ use Rattle.jwalk_order.specs.IndexPath.{is_before}
 use Rattle.jwalk_order.specs.Ordered.{address_of, child_count_of}
 use Rattle.jwalk_order.specs.declared.ordered.Ordered.{Ordered}
 
-pub record Placed (V : Type 0) : Type 0 where
+pub record Addressed (V : Type 0) : Type 0 where
   pub at : List ℕ
   pub value : V
   -- how many children the address has
   pub child_count : ℕ
 
 module _ {V A : Type 0} where
-  abbrev pub placed : Ordered V A → Placed V
-  placed item = record { at = address_of item; value = item.value; child_count = child_count_of item }
+  abbrev pub addressed : Ordered V A → Addressed V
+  addressed item = record { at = address_of item; value = item.value; child_count = child_count_of item }
 
 module _ {V : Type 0} where
   -- where they stand
-  abbrev pub places : List (Placed V) → List (List ℕ)
-  places = map (λ x. x.at)
+  abbrev pub addresses_of : List (Addressed V) → List (List ℕ)
+  addresses_of = map (λ x. x.at)
 
   -- the addresses of all their children
-  abbrev pub child_places : List (Placed V) → List (List ℕ)
-  child_places [] = []
-  child_places (x ∷ xs) = children_from 0 x.at x.child_count ++ child_places xs
+  abbrev pub child_addresses : List (Addressed V) → List (List ℕ)
+  child_addresses [] = []
+  child_addresses (x ∷ xs) = children_from 0 x.at x.child_count ++ child_addresses xs
 
   -- Nothing stands before the address.
-  abbrev pub IsFirst : List ℕ → List (Placed V) → Type 0
+  abbrev pub IsFirst : List ℕ → List (Addressed V) → Type 0
   IsFirst a items = All (λ y. is_before y.at a ≡ false) items
 
   -- values at the children of an address, from an index on
-  abbrev pub numbered : List ℕ → ℕ → List V → List (Placed V)
+  abbrev pub numbered : List ℕ → ℕ → List V → List (Addressed V)
   numbered a i [] = []
   numbered a i (x ∷ xs) = record { at = a ++ i ∷ []; value = x; child_count = 0 } ∷ numbered a (i + 1) xs
 
   -- values at these addresses
-  abbrev pub at_places : List (List ℕ) → List V → List (Placed V)
-  at_places [] xs = []
-  at_places (a ∷ addresses) [] = []
-  at_places (a ∷ addresses) (x ∷ xs) = record { at = a; value = x; child_count = 0 } ∷ at_places addresses xs
+  abbrev pub at_addresses : List (List ℕ) → List V → List (Addressed V)
+  at_addresses [] xs = []
+  at_addresses (a ∷ addresses) [] = []
+  at_addresses (a ∷ addresses) (x ∷ xs) = record { at = a; value = x; child_count = 0 } ∷ at_addresses addresses xs
