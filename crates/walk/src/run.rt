@@ -1,9 +1,9 @@
 //! A call of the program.
-ghost use Rattle.std.specs.Prelude.{◌≡◌, ◌≤◌, Err, map, string_bytes, IfOk, OnOk};
+ghost use Rattle.std.specs.Prelude.{◌≡◌, ◌≤◌, Err, map, string_bytes, IfOk, IfErr, OnOk};
 ghost use Rattle.jwalk.specs.WalkDir.{file_system_of, root_of, options_of};
 ghost use Rattle.walk.specs.Words.{AreGood};
 ghost use Rattle.walk.specs.Asked.{options_for};
-ghost use Rattle.walk.specs.Run.{PrintsWalk};
+ghost use Rattle.walk.specs.Run.{PrintsWalk, TellsOfCall, IsBadCall};
 
 use crate::answers::print_answers;
 use crate::asked::Asked;
@@ -50,6 +50,7 @@ fn print_walk<A: Allocator + Copy, R: Read, W: Write, E: Write>(
     ensures status { IfOk result (λ status. status ≤ 1) }
     ensures good { OnOk result (AreGood (map string_bytes words.now)) }
     ensures bad_words { ¬ (AreGood (map string_bytes words.now)) → result ≡ Err Failure.BadWords }
+    ensures told { IfErr result (TellsOfCall (map string_bytes words.now) (R.remaining input.old)) }
     ensures printed { IfOk result (λ status. status ≡ 0 → PrintsWalk (map string_bytes words.now) (R.remaining input.old) (W.contents out.old) (W.contents out.new)) }
 {
     let Some(request) = parse_words(words) else {
@@ -73,6 +74,7 @@ pub fn run<A: Allocator + Copy, R: Read, W: Write, E: Write>(
 ) -> u8
     ensures status { result ≤ 2 }
     ensures bad_words { ¬ (AreGood (map string_bytes words.now)) → result ≡ 2 }
+    ensures only_bad { result ≡ 2 → IsBadCall (map string_bytes words.now) (R.remaining input.old) }
     ensures printed { result ≡ 0 → PrintsWalk (map string_bytes words.now) (R.remaining input.old) (W.contents out.old) (W.contents out.new) }
 {
     match print_walk(alloc, words, input, out, err) {
