@@ -1,36 +1,36 @@
 -- The lines that answers are printed as.
 use Rattle.std.specs.Prelude.{ℕ, Bool, ◌||◌, List, [], ◌++◌, Option, Some, None, Ok, Err, if◌then◌else◌, codes, decimal, unwrap_or, flat_map}
 use Rattle.std.specs.declared.io.ErrorKind.{ErrorKind}
-use Rattle.std.specs.declared.io.ErrorKind.TheVariants.{NotFound, PermissionDenied, AlreadyExists, InvalidInput, InvalidData, Interrupted, Unsupported}
+use Rattle.std.specs.declared.io.ErrorKind.TheVariants as kind
 use Rattle.walk_model.specs.declared.file_type.FileType.{FileType}
-use Rattle.walk_model.specs.declared.file_type.FileType.TheVariants.{Dir, File, Symlink, Other}
+use Rattle.walk_model.specs.declared.file_type.FileType.TheVariants as type
 use Rattle.walk_model.specs.FileType.{is_symlink}
 use Rattle.walk_model.specs.Error.{Failure, io, looped, busy, memory, lost}
 use Rattle.walk_model.specs.Entry.{Children, Entry, Item, path_of}
 
 -- the name that a kind is printed by
 abbrev pub kind_name : ErrorKind → List ℕ
-kind_name NotFound = codes "NotFound"
-kind_name PermissionDenied = codes "PermissionDenied"
-kind_name AlreadyExists = codes "AlreadyExists"
-kind_name InvalidInput = codes "InvalidInput"
-kind_name InvalidData = codes "InvalidData"
-kind_name Interrupted = codes "Interrupted"
-kind_name Unsupported = codes "Unsupported"
+kind_name kind.NotFound = codes "NotFound"
+kind_name kind.PermissionDenied = codes "PermissionDenied"
+kind_name kind.AlreadyExists = codes "AlreadyExists"
+kind_name kind.InvalidInput = codes "InvalidInput"
+kind_name kind.InvalidData = codes "InvalidData"
+kind_name kind.Interrupted = codes "Interrupted"
+kind_name kind.Unsupported = codes "Unsupported"
 kind_name _ = codes "Other"
 
 -- the letter of a type, small and as a capital
-abbrev pub small_letter : FileType → List ℕ
-small_letter Dir = codes "d"
-small_letter File = codes "f"
-small_letter Symlink = codes "l"
-small_letter Other = codes "o"
+abbrev small_letter : FileType → List ℕ
+small_letter type.Dir = codes "d"
+small_letter type.File = codes "f"
+small_letter type.Symlink = codes "l"
+small_letter type.Other = codes "o"
 
-abbrev pub capital_letter : FileType → List ℕ
-capital_letter Dir = codes "D"
-capital_letter File = codes "F"
-capital_letter Symlink = codes "L"
-capital_letter Other = codes "O"
+abbrev capital_letter : FileType → List ℕ
+capital_letter type.Dir = codes "D"
+capital_letter type.File = codes "F"
+capital_letter type.Symlink = codes "L"
+capital_letter type.Other = codes "O"
 
 -- the letter of an entry: a capital where its path is a link
 abbrev pub letter_of : Bool → FileType → List ℕ
@@ -43,7 +43,7 @@ failure_name (io depth path kind) = kind_name kind
 failure_name _ = codes "Other"
 
 -- what stands for an error at the end of an entry's line
-abbrev pub error_part : Option Failure → List ℕ
+abbrev error_part : Option Failure → List ℕ
 error_part None = []
 error_part (Some failure) = codes " ! " ++ failure_name failure
 
