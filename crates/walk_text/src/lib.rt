@@ -8,6 +8,8 @@ pub mod input;
 mod lines;
 mod number;
 pub mod print;
+#[cfg(test)]
+mod tests;
 mod tree;
 mod tree_line;
 pub mod words;
