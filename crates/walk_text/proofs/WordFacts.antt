@@ -127,10 +127,7 @@ asks_twice old words asked left others choice alike some begin twice new add = r
         let mids : also choice asked ≡ Some m = subst (λ k. also k asked ≡ Some m) same.0 adds in
         subst (λ o. MatchOption o (Unit {0}) (λ _. ⊥)) (sym twice ∙ mids) tt
 
--- Where no words are left, the words ask for what was asked for by then.
-pub asks_at_end : (old : Asked) (words : List (List ℕ)) (asked : Asked) → AsksAlike old words asked [] → Add words old asked
-asks_at_end old words asked alike = alike.forth asked ([], (refl, refl))
-
+-- Where no words are left, the words ask for what was asked for by then and for nothing else.
 pub asks_only : (old : Asked) (words : List (List ℕ)) (asked : Asked) → AsksAlike old words asked [] → (new : Asked) → Add words old new → new ≡ asked
 asks_only old words asked alike new add = ended (alike.back new add)
   where

@@ -1,8 +1,7 @@
 //! Answers as lines.
-ghost use Rattle.std.specs.Prelude.{◌≡◌, codes, decimal, IfOk, OnOk, option_map, false};
+ghost use Rattle.std.specs.Prelude.{◌≡◌, decimal, OnOk, option_map, false};
 ghost use Rattle.std.specs.Io.KnownBytes.{Appends};
 ghost use Rattle.walk_model.specs.Paths.{join};
-ghost use Rattle.walk_model.specs.Entry.{path_of};
 ghost use Rattle.jwalk_read.specs.Entry.{children, entry, item};
 ghost use Rattle.jwalk_read.specs.Error.{failure};
 ghost use Rattle.walk_model.specs.Lines.{kind_name, letter_of, failure_name, reading_part, entry_line, failure_line, line_of};

@@ -1,5 +1,5 @@
 //! The words of a call.
-ghost use Rattle.std.specs.Prelude.{◌≡◌, ℕ, List, map, string_bytes, IfSome, IfNone, MatchOption};
+ghost use Rattle.std.specs.Prelude.{◌≡◌, ℕ, List, map, string_bytes, IfSome, IfNone};
 ghost use Rattle.walk_text.specs.declared.asked.Asked.{Asked};
 ghost use Rattle.walk_text.specs.declared.asked.Choice.{Choice};
 ghost use Rattle.walk_text.specs.Asked.{nothing};

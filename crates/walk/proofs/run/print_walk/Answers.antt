@@ -1,4 +1,4 @@
-use Rattle.std.proofs.Common.{List, ℕ, subst}
+use Rattle.std.proofs.Common.{subst}
 use Rattle.memory_fs.specs.MemoryFs.{tree_of}
 use Rattle.walk.specs.TreeWalk.{PrintsTree}
 use Rattle.walk.proofs.run.print_walk.Goals as goal
