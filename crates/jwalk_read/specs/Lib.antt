@@ -2,6 +2,5 @@ pub mod Text
 pub mod Error
 pub mod Entry
 pub mod ReadDir
-pub mod KeyedName
 pub mod States
 pub mod Job

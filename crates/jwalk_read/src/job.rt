@@ -15,8 +15,6 @@ ghost use Rattle.jwalk_read.specs.ReadDir.{spec, outcome, reading};
 ghost use Rattle.jwalk_read.specs.States.{DefaultIs};
 ghost use Rattle.jwalk_read.specs.Job.{job, file_system, callback, greatest_depth, sorts, skips_hidden, IsSteady};
 
-mod by_name;
-
 use crate::client_state::ClientState;
 use crate::dir_entry::DirEntry;
 use crate::error::Error;
@@ -24,6 +22,7 @@ use crate::process_read_dir::ProcessReadDir;
 use crate::read_children::ReadChildren;
 use crate::read_dir::ReadDir;
 use crate::read_dir_spec::ReadDirSpec;
+use crate::sorting::sort_by_name;
 use std::alloc::{AllocError, Allocator, Global};
 use std::io;
 use std::marker::PhantomData;
@@ -255,10 +254,11 @@ impl<C: ClientState, S: FileSystem, P: ProcessReadDir<C, A>, A: Allocator + Copy
         ensures depth { IfOk result (λ v. AtDepth (of.now.depth + 1) (map item v.items)) }
         ensures value { (d : C.DirEntryState) → DefaultIs C.DirEntryState.is_default d → IfOk result (λ v. map item v.items ≡ value.ordered (job (S.functions (file_system self.now)) (P.processed (callback self.now)) d self.now) (spec of.now) (map listed listing.items)) }
     {
+        let mut items = self.raw(of, listing)?;
         if self.sort {
-            return self.by_name(of, listing);
+            sort_by_name(&mut items)?;
         }
-        self.raw(of, listing)
+        Ok(items)
     }
 
     /// The list of a directory that could be listed, after the callback.

@@ -1,14 +1,10 @@
-pub mod ByteNumbers
 pub mod DepthFacts
 pub mod HeldFacts
-pub mod ListingFacts
-pub mod NameOrders
 pub mod PathEnds
 pub mod PathFacts
 pub mod PathJoins
 pub mod PathNames
 pub mod PathParents
-pub mod PlacedSort
 pub mod PreorderFacts
 pub mod SortingFacts
 pub mod StepFacts

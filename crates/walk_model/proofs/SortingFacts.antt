@@ -1,14 +1,18 @@
 -- The stable order of a list: the insertion sort has it, and no other list has.
 use Rattle.std.proofs.Common.{◌≡◌, ℕ, zero, suc, ◌<◌, ◌≤◌, Bool, true, false, cond, not, ◌&&◌, List, [], ◌∷◌, map, length, get_or, refl, sym, ap, ◌∙◌, subst, add-one, arith, Ok, Err}
 use Rattle.std.specs.List.{filter, AllByRecursion}
-use Rattle.std.specs.List.Sorted.{IsPermutation, IsSortedBy, IsStableBy, ties}
+use Rattle.std.specs.List.Sorted.{IsPermutation, IsSortedBy, IsStableBy, IsSortedByClosure, IsStableByClosure, ties}
 use Rattle.std.specs.Cmp.{IsStrictWeakOrder}
 use Rattle.std.specs.Cmp.Lexicographic.{slice_cmp}
+use Rattle.std.specs.Fn.{Called}
 use Rattle.std.specs.Ordering.{nat_cmp, is_lt}
+use Rattle.std.specs.declared.cmp.Ordering.{Ordering}
+use denote.Param.Members.{Mut}
+use denote.Ref.{Bor}
 use Rattle.std.proofs.lemmas.Cmp.{nat_list_cmp_total}
 use Rattle.walk_model.specs.Entry.{Entry, Item}
 use Rattle.walk_model.specs.Sorting.{stands_before, IsSorted, arranged, OrdersAreArranged}
-use Rattle.std.proofs.lemmas.List.Sorted.{ranks_by, sorted_far, IsPermutation-refl, IsPermutation-cons, IsPermutation-middle, IsPermutation-sym, IsPermutation-trans}
+use Rattle.std.proofs.lemmas.List.Sorted.{ranks_by, answers_always, sorted_far, IsPermutation-refl, IsPermutation-cons, IsPermutation-middle, IsPermutation-sym, IsPermutation-trans}
 
 first_false : (a b : Bool) → (not a && not b) ≡ true → a ≡ false
 first_false false b h = refl
@@ -28,7 +32,7 @@ exchanged x y us vs false false h e = e
 
 module _ {X : Type 0} (lt : X → X → Bool) where
   -- no element has to stand before an earlier one
-  abbrev pub Ascends : List X → Type 0
+  abbrev Ascends : List X → Type 0
   Ascends [] = Unit {0}
   Ascends (x ∷ xs) = AllByRecursion (λ y. lt y x ≡ false) xs × Ascends xs
 
@@ -192,7 +196,7 @@ pub map-insertion_sorted : {X Y : Type 0} (lt : X → X → Bool) (f : Y → X) 
 map-insertion_sorted lt f [] = refl
 map-insertion_sorted lt f (y ∷ ys) = map_inserted lt f y (insertion_sorted (λ a b. lt (f a) (f b)) ys) ∙ ap (inserted lt (f y)) (map-insertion_sorted lt f ys)
 
-pub IsStrictWeakOrder-through : {X Y : Type 0} (lt : X → X → Bool) → IsStrictWeakOrder lt → (f : Y → X) → IsStrictWeakOrder (λ a b. lt (f a) (f b))
+IsStrictWeakOrder-through : {X Y : Type 0} (lt : X → X → Bool) → IsStrictWeakOrder lt → (f : Y → X) → IsStrictWeakOrder (λ a b. lt (f a) (f b))
 IsStrictWeakOrder-through lt o f = record { one_way = λ x y. o.one_way (f x) (f y); chain = λ x y z. o.chain (f x) (f y) (f z) }
 
 -- ---- the order of items
@@ -215,6 +219,10 @@ module _ {R E : Type 0} where
   pub stands_before-order : IsStrictWeakOrder (stands_before {R = R} {E = E})
   stands_before-order = record { one_way = one_way; chain = chain }
 
+  -- the order of what can be seen as items
+  pub stands_before-through : {T : Type 0} (item : T → Item R E) → IsStrictWeakOrder (λ a b. stands_before (item a) (item b))
+  stands_before-through item = IsStrictWeakOrder-through stands_before stands_before-order item
+
   pub IsSorted-arranged : (l : List (Item R E)) → IsSorted l (arranged l)
   IsSorted-arranged l = record {
     same_items = IsPermutation-insertion_sorted stands_before l;
@@ -227,3 +235,19 @@ module _ {R E : Type 0} where
 
   pub orders_are_arranged : OrdersAreArranged R E
   orders_are_arranged l m = (arranged-unique l m, λ e. subst (IsSorted l) (sym e) (IsSorted-arranged l))
+
+  -- for a stable sort of a list of what can be seen as items
+  pub arranged-map : {T : Type 0} (item : T → Item R E) (l m : List T) → IsSortedBy (λ a b. stands_before (item a) (item b)) m → IsStableBy (λ a b. stands_before (item a) (item b)) l m → map item m ≡ arranged (map item l)
+  arranged-map item l m h k =
+      ap (map item) (insertion_sorted-unique (λ a b. stands_before (item a) (item b)) (stands_before-through item) l m h k)
+      ∙ map-insertion_sorted stands_before item l
+
+  -- from the clauses of `sort_by`, where each call answers `Less` just where the one item has to stand before the other
+  pub arranged-from_sort_by : {T F : Type 0} {g : Mut F (Bor T × (Bor T × Unit {0})) Ordering} {f : F} (item : T → Item R E) (l m : List T)
+      → IsSortedByClosure g f m
+      → IsStableByClosure g f l m
+      → ((q : F) (a : Bor T × (Bor T × Unit {0})) (r : Ordering) (q' : F) → Called g q a r q' → is_lt r ≡ stands_before (item a.0.now) (item a.1.0.now))
+      → map item m ≡ arranged (map item l)
+  arranged-from_sort_by {g = g} {f = f} item l m sorted stable calls =
+      let compares = answers_always g (λ a r. is_lt r ≡ stands_before (item a.0.now) (item a.1.0.now)) f calls in
+      arranged-map item l m (sorted _ (stands_before-through item) compares) (stable _ (stands_before-through item) compares)

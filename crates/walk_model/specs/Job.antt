@@ -10,7 +10,7 @@ use Rattle.walk_model.specs.Error.{io, looped}
 use Rattle.walk_model.specs.Entry.{Entry, Item, children_at, is_hidden, path_of}
 use Rattle.walk_model.specs.ReadDir.{Spec, Reading, Outcome}
 use Rattle.walk_model.specs.Options.{Options}
-use Rattle.walk_model.specs.Sorting.{Typed, arranged}
+use Rattle.walk_model.specs.Sorting.{arranged}
 
 -- What readings are made of: a fixed file system, the options, what the callback makes of a list (of a directory at a depth, or the root's), and the state of a new entry.
 pub record Job (R E : Type 0) : Type 0 where
@@ -93,10 +93,6 @@ module _ {R E : Type 0} (job : Job R E) where
     ancestors = ancestors_in spec;
     read_children = children_at (is_dir type) (join spec.path name);
   }
-
-  -- that entry as an item
-  abbrev pub entry_of : Spec R → Typed → Item R E
-  entry_of spec n = Ok (entry_in spec n.name n.file_type)
 
   -- what a name with a type gives: nothing where it is hidden and skipped
   abbrev pub shown : Spec R → List ℕ → FileType → List (Item R E)
