@@ -70,20 +70,20 @@ def part_of(pid):
     return crate, "tests" if "--test" in words else "proof"
 
 
-def prover(pid, top, found):
-    """What the nearest prover at or above a process works on; nothing where the process is not below `top`."""
-    above, part = pid, None
-    while above in found and above != top:
-        part = part or part_of(above)
-        above = found[above][0]
-    return part if above == top else None
+def up_to(top, pid, found):
+    """A process and those above it, up to the child of `top`; none where it is not below `top`."""
+    above = []
+    while pid in found and pid != top:
+        above.append(pid)
+        pid = found[pid][0]
+    return above if pid == top else []
 
 
 def look(top, times):
-    """Adds what can be seen of the processes below `top`."""
+    """Adds what can be seen of the processes below `top`: each belongs to the nearest prover at or above it."""
     now, found = time.monotonic(), processes()
     for pid, (_, started, seconds) in found.items():
-        part = prover(pid, top, found)
+        part = next(filter(None, map(part_of, up_to(top, pid, found))), None)
         if part:
             seen = times.setdefault(part, Part(now))
             seen.seconds[pid, started] = seconds
