@@ -7,7 +7,8 @@ walk by name beside one in the order of creation.
 Build the program first: (cd crates/walk && rt run). FOLDER holds the inputs and the trees on disk (a temporary folder
 where none is given). Each time is the best of three warm runs with the output in a file, and the peak memory is that
 of the last one. The two walks of the sorting take turns: their times are the medians of 25 turns, and so is the ratio
-of the two of a turn, which a machine that is slow for a while leaves as it is.
+of the two of a turn, which a machine that is slow for a while leaves as it is. They go over names that differ early, and
+over names of 24 bytes whose first 16 are the same.
 """
 import os
 import random
@@ -20,11 +21,11 @@ from statistics import median
 PROGRAM = os.path.join(os.path.dirname(os.path.abspath(__file__)), "..", "crates", "walk", "out", "walk")
 
 
-def wide(count):
+def wide(count, name="file-{:07d}"):
     """One directory with files alone."""
     yield "d", "/r"
     for i in range(count - 1):
-        yield "f", f"/r/file-{i:07d}"
+        yield "f", "/r/" + name.format(i)
 
 
 def bushy(count):
@@ -58,9 +59,8 @@ TREES = [
 ]
 
 
-def scrambled(count):
-    """The wide tree, its names in an order that is random and always the same."""
-    entries = list(wide(count))
+def scrambled(entries):
+    """A wide tree, its names in an order that is random and always the same."""
     files = entries[1:]
     random.Random(1).shuffle(files)
     return entries[:1] + files
@@ -89,20 +89,21 @@ def best(words, input_path, output_path):
     return min(seconds for seconds, _ in runs), runs[-1][1]
 
 
-def sorting(folder, output, count=200_000):
+def sorting(folder, output, label, name, count=200_000):
     """A walk by name of a wide tree with its names in random order, beside a walk of the same tree as it is."""
-    listed = os.path.join(folder, f"scrambled-{count}.txt")
-    write_tree(listed, scrambled(count))
+    entries = list(wide(count, name))
+    listed = os.path.join(folder, f"{label}-{count}.txt")
+    write_tree(listed, scrambled(entries))
     plain, by_name = [], []
     for _ in range(26):
         plain.append(run([PROGRAM, "--tree", "/r"], listed, output)[0])
         by_name.append(run([PROGRAM, "--tree", "--sort", "/r"], listed, output)[0])
     with open(output) as file:
         lines = file.read().splitlines()
-    if lines != ["0 d /r"] + [f"1 f {path}" for _, path in list(wide(count))[1:]]:
+    if lines != ["0 d /r"] + [f"1 f {path}" for _, path in entries[1:]]:
         sys.exit("the sorted walk isn't sorted")
     ratio = median(b / a for a, b in zip(plain[1:], by_name[1:]))
-    print(f"scrambled {count}: {median(plain[1:]) * 1e3:.1f} ms, with --sort {median(by_name[1:]) * 1e3:.1f} ms, {ratio:.2f} times")
+    print(f"{label} {count}: {median(plain[1:]) * 1e3:.1f} ms, with --sort {median(by_name[1:]) * 1e3:.1f} ms, {ratio:.2f} times")
 
 
 def on_disk(folder, entries):
@@ -138,7 +139,8 @@ def main():
             smaller, faster = before[name]
             print(f"    {count // smaller} times the lines take {seconds / faster:.1f} times the time")
         before[name] = (count, seconds)
-    sorting(folder, output)
+    sorting(folder, output, "scrambled", "file-{:07d}")
+    sorting(folder, output, "scrambled and alike", "file-of-archive-{:08d}")
     if len(sys.argv) < 2:
         subprocess.run(["rm", "-rf", folder], check=True)
 

@@ -4,14 +4,14 @@ ghost use Rattle.std.specs.List.Sorted.{IsPermutation};
 
 use std::alloc::{AllocError, Global};
 
-/// The address of the place with this number, where the places of a tree are numbered from 0, level by level, and each
-/// has ten children.
+/// The address of the node with this number, where the nodes of a tree are numbered from 0, level by level, and each has
+/// ten children.
 fn address(alloc: Global, number: usize) -> Result<Vec<usize>, AllocError> {
     let mut indices = Vec::new(alloc);
-    let mut place = number;
-    while place > 0 {
-        indices.push((place - 1) % 10)?;
-        place = (place - 1) / 10;
+    let mut node = number;
+    while node > 0 {
+        indices.push((node - 1) % 10)?;
+        node = (node - 1) / 10;
     }
     indices.push(0)?;
     indices.reverse();
@@ -32,7 +32,7 @@ fn scramble(mut numbers: Vec<usize>) -> Vec<usize>
     numbers
 }
 
-/// The addresses of the first places, scrambled.
+/// The addresses of the first nodes, scrambled.
 pub fn scrambled_addresses(alloc: Global, count: usize) -> Result<Vec<Vec<usize>>, AllocError>
     ensures { IfOk result (λ addresses. vec_len addresses ≡ count) }
 {

@@ -11,7 +11,7 @@ use Rattle.std.proofs.lemmas.List.Sorted.{sum_by-IsPermutation, IsPermutation-ap
 use Rattle.std.proofs.lemmas.List.Sums.{sum_by-cons}
 use Rattle.jwalk_order.specs.Frontier.{children_from}
 use Rattle.jwalk_board.specs.Addresses.{is_same, times}
-use Rattle.jwalk_board.specs.Placed.{Placed, places, child_places, numbered, at_places}
+use Rattle.jwalk_board.specs.Addressed.{Addressed, addresses_of, child_addresses, numbered, at_addresses}
 use Rattle.jwalk_board.proofs.Sets.{same, times-append, times-itself, among_cases}
 
 -- The address is that of a child with an index from `i` on.
@@ -61,41 +61,41 @@ children-once c a i (suc n) =
     (eq-zero-or-pos (times c (children_from (i + 1) a n)))
 
 module _ {V : Type 0} where
-  places-at : (xs : List (Placed V)) (k : ℕ) (x : Placed V) → k < length xs → get_or xs k x ≡ x → 0 < times x.at (places xs)
-  places-at [] k x h e = absurd (omega arith)
-  places-at (y ∷ ys) zero x h e = subst (λ z. 0 < times z.at (y.at ∷ places ys)) e (omega (arith, times-itself y.at (places ys)))
-  places-at (y ∷ ys) (suc k) x h e = let r : 0 < times x.at (places ys) = places-at ys k x (omega arith) e in omega arith
+  addresses_of-at : (xs : List (Addressed V)) (k : ℕ) (x : Addressed V) → k < length xs → get_or xs k x ≡ x → 0 < times x.at (addresses_of xs)
+  addresses_of-at [] k x h e = absurd (omega arith)
+  addresses_of-at (y ∷ ys) zero x h e = subst (λ z. 0 < times z.at (y.at ∷ addresses_of ys)) e (omega (arith, times-itself y.at (addresses_of ys)))
+  addresses_of-at (y ∷ ys) (suc k) x h e = let r : 0 < times x.at (addresses_of ys) = addresses_of-at ys k x (omega arith) e in omega arith
 
-  pub times-contains : (xs : List (Placed V)) (x : Placed V) → Contains xs x → 0 < times x.at (places xs)
-  times-contains xs x h = places-at xs h.0 x h.1 h.2
+  pub times-contains : (xs : List (Addressed V)) (x : Addressed V) → Contains xs x → 0 < times x.at (addresses_of xs)
+  times-contains xs x h = addresses_of-at xs h.0 x h.1 h.2
 
-  child_places-at : (xs : List (Placed V)) (k : ℕ) (x : Placed V) (i : ℕ) → k < length xs → get_or xs k x ≡ x → i < x.child_count → 0 < times (x.at ++ i ∷ []) (child_places xs)
-  child_places-at [] k x i h e less = absurd (omega arith)
-  child_places-at (y ∷ ys) zero x i h e less =
+  child_addresses-at : (xs : List (Addressed V)) (k : ℕ) (x : Addressed V) (i : ℕ) → k < length xs → get_or xs k x ≡ x → i < x.child_count → 0 < times (x.at ++ i ∷ []) (child_addresses xs)
+  child_addresses-at [] k x i h e less = absurd (omega arith)
+  child_addresses-at (y ∷ ys) zero x i h e less =
       let r : 0 < times (x.at ++ i ∷ []) (children_from 0 y.at y.child_count) =
       subst (λ z. 0 < times (x.at ++ i ∷ []) (children_from 0 z.at z.child_count)) (sym e) (times_from_child x.at 0 x.child_count i (omega arith) (omega arith)) in
-      omega (arith, times-append (x.at ++ i ∷ []) (children_from 0 y.at y.child_count) (child_places ys))
-  child_places-at (y ∷ ys) (suc k) x i h e less =
-      let r : 0 < times (x.at ++ i ∷ []) (child_places ys) = child_places-at ys k x i (omega arith) e less in
-      omega (arith, times-append (x.at ++ i ∷ []) (children_from 0 y.at y.child_count) (child_places ys))
+      omega (arith, times-append (x.at ++ i ∷ []) (children_from 0 y.at y.child_count) (child_addresses ys))
+  child_addresses-at (y ∷ ys) (suc k) x i h e less =
+      let r : 0 < times (x.at ++ i ∷ []) (child_addresses ys) = child_addresses-at ys k x i (omega arith) e less in
+      omega (arith, times-append (x.at ++ i ∷ []) (children_from 0 y.at y.child_count) (child_addresses ys))
 
-  pub times-child_places : (xs : List (Placed V)) (x : Placed V) (i : ℕ) → Contains xs x → i < x.child_count → 0 < times (x.at ++ i ∷ []) (child_places xs)
-  times-child_places xs x i h less = child_places-at xs h.0 x i h.1 h.2 less
+  pub times-child_addresses : (xs : List (Addressed V)) (x : Addressed V) (i : ℕ) → Contains xs x → i < x.child_count → 0 < times (x.at ++ i ∷ []) (child_addresses xs)
+  times-child_addresses xs x i h less = child_addresses-at xs h.0 x i h.1 h.2 less
 
   -- An address among the children has its parent there.
-  pub record HasParent (c : List ℕ) (xs : List (Placed V)) : Type 0 where
-    pub parent : Placed V
+  pub record HasParent (c : List ℕ) (xs : List (Addressed V)) : Type 0 where
+    pub parent : Addressed V
     pub index : ℕ
     pub there : Contains xs parent
     pub below : index < parent.child_count
     pub is : c ≡ parent.at ++ index ∷ []
 
-  pub has_parent : (c : List ℕ) (xs : List (Placed V)) → 0 < times c (child_places xs) → HasParent c xs
+  pub has_parent : (c : List ℕ) (xs : List (Addressed V)) → 0 < times c (child_addresses xs) → HasParent c xs
   has_parent c [] h = absurd (omega arith)
   has_parent c (y ∷ ys) h =
       ⊎_elim
       (λ (none : times c (children_from 0 y.at y.child_count) ≡ 0).
-      let later : 0 < times c (child_places ys) = omega (arith, times-append c (children_from 0 y.at y.child_count) (child_places ys)) in
+      let later : 0 < times c (child_addresses ys) = omega (arith, times-append c (children_from 0 y.at y.child_count) (child_addresses ys)) in
       let r : HasParent c ys = has_parent c ys later in
       let p : HasParent c (y ∷ ys) = record {
         parent = r.parent;
@@ -111,36 +111,36 @@ module _ {V : Type 0} where
       let p : HasParent c (y ∷ ys) = record { parent = y; index = k.0; there = (0, front, refl); below = less; is = k.3 } in p)
       (eq-zero-or-pos (times c (children_from 0 y.at y.child_count)))
 
-  by_sum : (c : List ℕ) (xs : List (Placed V)) → sum_by (λ x. times c (children_from 0 x.at x.child_count)) xs ≡ times c (child_places xs)
+  by_sum : (c : List ℕ) (xs : List (Addressed V)) → sum_by (λ x. times c (children_from 0 x.at x.child_count)) xs ≡ times c (child_addresses xs)
   by_sum c [] = refl
   by_sum c (x ∷ xs) =
       sum_by-cons (λ x. times c (children_from 0 x.at x.child_count)) x xs
       ∙ ap (λ n. times c (children_from 0 x.at x.child_count) + n) (by_sum c xs)
-      ∙ sym (times-append c (children_from 0 x.at x.child_count) (child_places xs))
+      ∙ sym (times-append c (children_from 0 x.at x.child_count) (child_addresses xs))
 
-  pub child_places-permutation : (c : List ℕ) (xs ys : List (Placed V)) → IsPermutation xs ys → times c (child_places ys) ≡ times c (child_places xs)
-  child_places-permutation c xs ys p =
+  pub child_addresses-permutation : (c : List ℕ) (xs ys : List (Addressed V)) → IsPermutation xs ys → times c (child_addresses ys) ≡ times c (child_addresses xs)
+  child_addresses-permutation c xs ys p =
       sym (by_sum c ys) ∙ sum_by-IsPermutation (λ x. times c (children_from 0 x.at x.child_count)) xs ys p ∙ by_sum c xs
 
-  pub places-numbered : (a : List ℕ) (i : ℕ) (xs : List V) → places (numbered a i xs) ≡ children_from i a (length xs)
-  places-numbered a i [] = refl
-  places-numbered a i (x ∷ xs) = ap (λ z. (a ++ i ∷ []) ∷ z) (places-numbered a (i + 1) xs)
+  pub addresses_of-numbered : (a : List ℕ) (i : ℕ) (xs : List V) → addresses_of (numbered a i xs) ≡ children_from i a (length xs)
+  addresses_of-numbered a i [] = refl
+  addresses_of-numbered a i (x ∷ xs) = ap (λ z. (a ++ i ∷ []) ∷ z) (addresses_of-numbered a (i + 1) xs)
 
   pub unread-numbered : (a : List ℕ) (i : ℕ) (xs : List V) → All (λ x. x.child_count ≡ 0) (numbered a i xs)
   unread-numbered a i [] = All-nil (λ x. x.child_count ≡ 0)
   unread-numbered a i (x ∷ xs) =
       All-cons (λ y. y.child_count ≡ 0) (record { at = a ++ i ∷ []; value = x; child_count = 0 }) (numbered a (i + 1) xs) refl (unread-numbered a (i + 1) xs)
 
-  pub at_places-children : (a : List ℕ) (i : ℕ) (xs : List V) → at_places (children_from i a (length xs)) xs ≡ numbered a i xs
-  at_places-children a i [] = refl
-  at_places-children a i (x ∷ xs) = ap (λ z. record { at = a ++ i ∷ []; value = x; child_count = 0 } ∷ z) (at_places-children a (i + 1) xs)
+  pub at_addresses-children : (a : List ℕ) (i : ℕ) (xs : List V) → at_addresses (children_from i a (length xs)) xs ≡ numbered a i xs
+  at_addresses-children a i [] = refl
+  at_addresses-children a i (x ∷ xs) = ap (λ z. record { at = a ++ i ∷ []; value = x; child_count = 0 } ∷ z) (at_addresses-children a (i + 1) xs)
 
   -- A value goes from those to be queued to those that are.
-  pub queues : (start : List (Placed V)) (a : List ℕ) (addresses : List (List ℕ)) (x : V) (xs : List V) (item : Placed V) (old new : List (Placed V))
-      → item ≡ record { at = a; value = x; child_count = 0 } → IsPermutation start (at_places (a ∷ addresses) (x ∷ xs) ++ old) → IsPermutation (item ∷ old) new
-      → IsPermutation start (at_places addresses xs ++ new)
+  pub queues : (start : List (Addressed V)) (a : List ℕ) (addresses : List (List ℕ)) (x : V) (xs : List V) (item : Addressed V) (old new : List (Addressed V))
+      → item ≡ record { at = a; value = x; child_count = 0 } → IsPermutation start (at_addresses (a ∷ addresses) (x ∷ xs) ++ old) → IsPermutation (item ∷ old) new
+      → IsPermutation start (at_addresses addresses xs ++ new)
   queues start a addresses x xs item old new is p q =
-      let rest : List (Placed V) = at_places addresses xs in
+      let rest : List (Addressed V) = at_addresses addresses xs in
       IsPermutation-trans start (item ∷ (rest ++ old)) (rest ++ new)
       (subst (λ z. IsPermutation start (z ∷ (rest ++ old))) (sym is) p)
       (IsPermutation-trans (item ∷ (rest ++ old)) (rest ++ item ∷ old) (rest ++ new)

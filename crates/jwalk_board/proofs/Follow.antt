@@ -3,10 +3,10 @@ use Rattle.std.proofs.Common.{◌≡◌, ◌≢◌, ℕ, zero, suc, ◌+◌, ◌
 use Rattle.std.proofs.Math.Nat.{eq-zero-or-pos}
 use Rattle.std.proofs.Math.Numerals.{add-one}
 use Rattle.std.proofs.lemmas.Bool.{false≢true, lt-ltb, eqb-true, ltb-true, or_cases}
-use Rattle.std.proofs.lemmas.List.{append-nil, map-append, map-set, drop-map, take-append-drop, length-map, take_at}
+use Rattle.std.proofs.lemmas.List.{append-nil, map-append, map-set, drop-map, take-append-drop, take_at}
 use Rattle.std.proofs.lemmas.List.Elements.{All-head, All-tail, All-nil, All-cons, All-append, All-weaker, All-contains}
 use Rattle.std.proofs.lemmas.List.Sorted.{All-permutation}
-use Rattle.std.proofs.lemmas.Option.{slice_get-map, slice_get_past}
+use Rattle.std.proofs.lemmas.Option.{slice_get-map}
 use Rattle.std.specs.Prelude.{◌==◌}
 use Rattle.std.specs.List.{slice_get, find, filter, take-map}
 use Rattle.std.specs.List.Sorted.{IsPermutation}
@@ -14,16 +14,16 @@ use Rattle.std.specs.Option.{option_map}
 use Rattle.jwalk_order.specs.Frontier.{children_from, next_address, passed, roots as root_addresses}
 use Rattle.jwalk_order.specs.IndexPath.{is_before}
 use Rattle.jwalk_board.specs.Addresses.{times}
-use Rattle.jwalk_board.specs.Board.{Board, held, IsNew}
-use Rattle.jwalk_board.specs.Placed.{Placed, places, child_places, numbered, IsFirst}
-use Rattle.jwalk_board.specs.Plan.{Tree, Falls, forest, node, read, subtree, specs_in_preorder, preorder}
-use Rattle.jwalk_board.specs.Rehearsal.{Stage, Answers, IsInOrder, Follows, trees}
-use Rattle.jwalk_board.specs.Run.{Run, is_among, parent, is_queued, moved, move, taken_by, take_first, take_by, finish_by, hand_out_next, in_hands}
+use Rattle.jwalk_board.specs.Board.{Board, on_board, IsNew}
+use Rattle.jwalk_board.specs.Addressed.{Addressed, addresses_of, child_addresses, numbered, IsFirst}
+use Rattle.jwalk_board.specs.Plan.{PlanTree, Falls, forest, node, read, subtree, specs_in_preorder, readings_in_preorder}
+use Rattle.jwalk_board.specs.Rehearsal.{Stage, MatchesRun, IsInOrder, Follows, trees}
+use Rattle.jwalk_board.specs.Run.{Run, is_among, parent_address, is_queued, moved, move, taken_by, take_first, take_by, finish_by, hand_out_next, in_hands}
 use Rattle.jwalk_board.specs.declared.board.moves.Move.{Move}
-use Rattle.jwalk_board.proofs.Children.{IsChild, HasParent, has_parent, child_from_times, times_from_child, times-contains, times-child_places, places-numbered}
+use Rattle.jwalk_board.proofs.Children.{IsChild, HasParent, has_parent, child_from_times, times_from_child, times-contains, times-child_addresses, addresses_of-numbered}
 use Rattle.jwalk_board.proofs.Hands.{in_hands-taken, in_hands-finished, in_hands-none, get_set_cases, get_replicate, Splits, splits, get_past, contains_map, find_first, find_none, times-filter}
 use Rattle.jwalk_board.proofs.Left.{not_before-below}
-use Rattle.jwalk_board.proofs.Opens.{times-held, times-places, is_below, whole_taken, whole_finished, whole_handed_out, whole_new, times_finished}
+use Rattle.jwalk_board.proofs.Opens.{times-on_board, times-addresses_of, is_below, whole_taken, whole_finished, whole_handed_out, whole_new, times_finished}
 use Rattle.jwalk_board.proofs.Preorders.{IsAscending, ascending-cross, ascending-once, unique, contains_first, contains_later, ascends, root_or_child, subtree-is, closed_below, children_there}
 use Rattle.jwalk_board.proofs.Sets.{times-append, times-permutation, times-itself, among_cases}
 use Rattle.jwalk_board.proofs.Steps.{first_among}
@@ -32,8 +32,8 @@ or_true : (b : Bool) → (b || true) ≡ true
 or_true true = refl
 or_true false = refl
 
-parent-child : (a : List ℕ) (i : ℕ) → parent (a ++ i ∷ []) ≡ a
-parent-child a i = take_at a (i ∷ []) (length (a ++ i ∷ []) - 1) (omega (arith, length-append a (i ∷ [])))
+parent_address-child : (a : List ℕ) (i : ℕ) → parent_address (a ++ i ∷ []) ≡ a
+parent_address-child a i = take_at a (i ∷ []) (length (a ++ i ∷ []) - 1) (omega (arith, length-append a (i ∷ [])))
 
 -- What is among the list is so often.
 is_among-some : (a : List ℕ) (xs : List (List ℕ)) → 0 < times a xs → is_among a xs ≡ true
@@ -47,47 +47,47 @@ no_next [] h = refl
 no_next (x ∷ xs) h = absurd (omega (arith, h x, times-itself x xs))
 
 module _ (S : Type 0) where
-  map_replicate : (n : ℕ) → map (option_map (λ (x : Placed S). x.at)) (replicate n None) ≡ replicate n None
+  map_replicate : (n : ℕ) → map (option_map (λ (x : Addressed S). x.at)) (replicate n None) ≡ replicate n None
   map_replicate zero = refl
   map_replicate (suc n) = ap (λ z. None ∷ z) (map_replicate n)
 
 module _ {V : Type 0} where
   -- An address that stands there has a value.
-  place_at : (a : List ℕ) (xs : List (Placed V)) → 0 < times a (places xs) → (x : Placed V) × Contains xs x × (x.at ≡ a)
-  place_at a [] h = absurd (omega arith)
-  place_at a (x ∷ xs) h =
+  value_there : (a : List ℕ) (xs : List (Addressed V)) → 0 < times a (addresses_of xs) → (x : Addressed V) × Contains xs x × (x.at ≡ a)
+  value_there a [] h = absurd (omega arith)
+  value_there a (x ∷ xs) h =
       ⊎_elim
       (λ (e : x.at ≡ a). (x, contains_first x xs, e))
-      (λ (m : 0 < times a (places xs)). let r = place_at a xs m in (r.0, contains_later x r.0 xs r.1, r.2))
-      (among_cases a x.at (places xs) h)
+      (λ (m : 0 < times a (addresses_of xs)). let r = value_there a xs m in (r.0, contains_later x r.0 xs r.1, r.2))
+      (among_cases a x.at (addresses_of xs) h)
 
-  none_left : (xs : List (Placed V)) → places xs ≡ [] → xs ≡ []
+  none_left : (xs : List (Addressed V)) → addresses_of xs ≡ [] → xs ≡ []
   none_left [] e = refl
   none_left (x ∷ xs) e = absurd (cc)
 
-  some_left : (xs : List (Placed V)) → xs ≢ [] → (x : Placed V) × (rest : List (Placed V)) × (xs ≡ x ∷ rest)
+  some_left : (xs : List (Addressed V)) → xs ≢ [] → (x : Addressed V) × (rest : List (Addressed V)) × (xs ≡ x ∷ rest)
   some_left [] h = absurd (h refl)
   some_left (x ∷ xs) h = (x, xs, refl)
 
-  get_contains : (n : ℕ) (xs : List (Placed V)) (x : Placed V) → slice_get xs n ≡ Some x → Contains xs x
+  get_contains : (n : ℕ) (xs : List (Addressed V)) (x : Addressed V) → slice_get xs n ≡ Some x → Contains xs x
   get_contains n [] x e = absurd (cc)
   get_contains zero (y ∷ ys) x e = let d : y ≡ x = cc in subst (Contains (y ∷ ys)) d (contains_first y ys)
   get_contains (suc n) (y ∷ ys) x e = contains_later y x ys (get_contains n ys x e)
 
-module _ {S R : Type 0} (t : Tree S R) where
-  among_specs : (all queued : List (Placed S)) → All (λ x. Contains all (node t x.at x.value)) queued → (a : List ℕ) → 0 < times a (places queued) → 0 < times a (places all)
+module _ {S R : Type 0} (t : PlanTree S R) where
+  among_specs : (all queued : List (Addressed S)) → All (λ x. Contains all (node t x.at x.value)) queued → (a : List ℕ) → 0 < times a (addresses_of queued) → 0 < times a (addresses_of all)
   among_specs all queued h a there =
-      let x = place_at a queued there in
-      subst (λ z. 0 < times z (places all)) x.2 (times-contains all (node t x.0.at x.0.value) (All-contains (λ (y : Placed S). Contains all (node t y.at y.value)) queued x.0 h x.1))
+      let x = value_there a queued there in
+      subst (λ z. 0 < times z (addresses_of all)) x.2 (times-contains all (node t x.0.at x.0.value) (All-contains (λ (y : Addressed S). Contains all (node t y.at y.value)) queued x.0 h x.1))
 
-  longer : (roots : List S) (a : List ℕ) → 0 < times a (places (specs_in_preorder t roots)) → 0 < length a
+  longer : (roots : List S) (a : List ℕ) → 0 < times a (addresses_of (specs_in_preorder t roots)) → 0 < length a
   longer roots a h =
       ⊎_elim
       (λ (k : IsChild a [] 0 (length roots)). let e : length a ≡ 1 = ap length k.3 in omega (arith, e))
       (λ (p : HasParent a (specs_in_preorder t roots)). omega (arith, ap length p.is, length-append p.parent.at (p.index ∷ [])))
       (root_or_child t roots a h)
 
-  trees-append : (xs ys : List (Placed S)) → trees t (xs ++ ys) ≡ trees t xs ++ trees t ys
+  trees-append : (xs ys : List (Addressed S)) → trees t (xs ++ ys) ≡ trees t xs ++ trees t ys
   trees-append [] ys = refl
   trees-append (x ∷ xs) ys = ap (λ z. subtree t x.at x.value ++ z) (trees-append xs ys) ∙ sym (append_assoc (subtree t x.at x.value) (trees t xs) (trees t ys))
 
@@ -97,70 +97,70 @@ module _ {S R : Type 0} (t : Tree S R) where
 
   module _ (falls : Falls t) where
     -- Each address of a frontier stands in its subtrees.
-    frontier_there : (a : List ℕ) (left : List (Placed S)) → 0 < times a (places left) → 0 < times a (places (trees t left))
+    frontier_there : (a : List ℕ) (left : List (Addressed S)) → 0 < times a (addresses_of left) → 0 < times a (addresses_of (trees t left))
     frontier_there a [] h = absurd (omega arith)
     frontier_there a (x ∷ xs) h =
-        let both : times a (places (subtree t x.at x.value ++ trees t xs)) ≡ times a (places (subtree t x.at x.value)) + times a (places (trees t xs)) =
-        ap (times a) (map-append (λ y. y.at) (subtree t x.at x.value) (trees t xs)) ∙ times-append a (places (subtree t x.at x.value)) (places (trees t xs)) in
+        let both : times a (addresses_of (subtree t x.at x.value ++ trees t xs)) ≡ times a (addresses_of (subtree t x.at x.value)) + times a (addresses_of (trees t xs)) =
+        ap (times a) (map-append (λ y. y.at) (subtree t x.at x.value) (trees t xs)) ∙ times-append a (addresses_of (subtree t x.at x.value)) (addresses_of (trees t xs)) in
         ⊎_elim
         (λ (e : x.at ≡ a).
-        let here : 0 < times x.at (places (subtree t x.at x.value)) =
-        subst (λ z. 0 < times x.at (places z)) (sym (subtree-is t falls x.at x.value))
-        (let k = times-itself x.at (places (forest (subtree t) x.at 0 (t.children x.value))) in omega arith) in
-        let here' : 0 < times a (places (subtree t x.at x.value)) = subst (λ z. 0 < times z (places (subtree t x.at x.value))) e here in omega (arith, both))
-        (λ (m : 0 < times a (places xs)). omega (arith, both, frontier_there a xs m))
-        (among_cases a x.at (places xs) h)
+        let here : 0 < times x.at (addresses_of (subtree t x.at x.value)) =
+        subst (λ z. 0 < times x.at (addresses_of z)) (sym (subtree-is t falls x.at x.value))
+        (let k = times-itself x.at (addresses_of (forest (subtree t) x.at 0 (t.children x.value))) in omega arith) in
+        let here' : 0 < times a (addresses_of (subtree t x.at x.value)) = subst (λ z. 0 < times z (addresses_of (subtree t x.at x.value))) e here in omega (arith, both))
+        (λ (m : 0 < times a (addresses_of xs)). omega (arith, both, frontier_there a xs m))
+        (among_cases a x.at (addresses_of xs) h)
 
     module _ (roots : List S) (r : Run) (st : Stage S R) (f : Follows t roots r st) where
       -- The preorder is what was handed out, and the subtrees that are left.
-      halves : places (specs_in_preorder t roots) ≡ take r.handed_out (places (specs_in_preorder t roots)) ++ places (trees t f.left)
+      halves : addresses_of (specs_in_preorder t roots) ≡ take r.handed_out (addresses_of (specs_in_preorder t roots)) ++ addresses_of (trees t f.left)
       halves =
           let all = specs_in_preorder t roots in
-          sym (take-append-drop r.handed_out (places all))
-          ∙ ap (λ z. take r.handed_out (places all) ++ z) (drop-map (λ x. x.at) r.handed_out all ∙ ap places f.left_are)
+          sym (take-append-drop r.handed_out (addresses_of all))
+          ∙ ap (λ z. take r.handed_out (addresses_of all) ++ z) (drop-map (λ x. x.at) r.handed_out all ∙ ap addresses_of f.left_are)
 
-      not_handed_out : (a : List ℕ) → 0 < times a (held st.made.board) → times a (take r.handed_out (places (specs_in_preorder t roots))) ≡ 0
+      not_handed_out : (a : List ℕ) → 0 < times a (on_board st.made.board) → times a (take r.handed_out (addresses_of (specs_in_preorder t roots))) ≡ 0
       not_handed_out a h =
-          let front : List (List ℕ) = take r.handed_out (places (specs_in_preorder t roots)) in
+          let front : List (List ℕ) = take r.handed_out (addresses_of (specs_in_preorder t roots)) in
           let b = is_below st.made.board f.whole a h in
-          let there : 0 < times b.above (places (trees t f.left)) = frontier_there b.above f.left (subst (λ z. 0 < times b.above z) (sym f.left_frontier) b.there) in
+          let there : 0 < times b.above (addresses_of (trees t f.left)) = frontier_there b.above f.left (subst (λ z. 0 < times b.above z) (sym f.left_frontier) b.there) in
           ⊎_elim
           (λ none. none)
           (λ (some : 0 < times a front).
           absurd (false≢true
           (sym (ap (λ z. is_before z b.above) b.is ∙ not_before-below b.above b.rest)
-          ∙ ascending-cross front (places (trees t f.left)) (subst IsAscending halves (ascends t roots)) a b.above some there)))
+          ∙ ascending-cross front (addresses_of (trees t f.left)) (subst IsAscending halves (ascends t roots)) a b.above some there)))
           (eq-zero-or-pos (times a front))
 
-      not_taken : (a : List ℕ) → 0 < times a (places st.made.board.queued) → times a r.taken ≡ 0
+      not_taken : (a : List ℕ) → 0 < times a (addresses_of st.made.board.queued) → times a r.taken ≡ 0
       not_taken a h =
           let b = st.made.board in
-          let h' : 0 < times a (held b) = omega (arith, times-held a b) in
-          omega (arith, f.whole.once a, times-held a b, f.taken_are a, f.finished a, not_handed_out a h')
+          let h' : 0 < times a (on_board b) = omega (arith, times-on_board a b) in
+          omega (arith, f.whole.once a, times-on_board a b, f.taken_are a, f.finished a, not_handed_out a h')
 
-      spec_there : (a : List ℕ) → 0 < times a (places st.made.board.queued) → 0 < times a (places (specs_in_preorder t roots))
+      spec_there : (a : List ℕ) → 0 < times a (addresses_of st.made.board.queued) → 0 < times a (addresses_of (specs_in_preorder t roots))
       spec_there a h = among_specs (specs_in_preorder t roots) st.made.board.queued f.specs a h
 
-      queued_from_board : (a : List ℕ) → 0 < times a (places st.made.board.queued) → is_queued r a ≡ true
+      queued_from_board : (a : List ℕ) → 0 < times a (addresses_of st.made.board.queued) → is_queued r a ≡ true
       queued_from_board a h =
           let b = st.made.board in
-          let h' : 0 < times a (held b) = omega (arith, times-held a b) in
+          let h' : 0 < times a (on_board b) = omega (arith, times-on_board a b) in
           let free : is_among a r.taken ≡ false = is_among-none a r.taken (not_taken a h) in
-          let reached : ((length a == 1) || is_among (parent a) r.finished) ≡ true =
+          let reached : ((length a == 1) || is_among (parent_address a) r.finished) ≡ true =
           ⊎_elim
           (λ (none : times a (root_addresses (length roots)) ≡ 0).
           let p : HasParent a f.done = has_parent a f.done (omega (arith, f.each a)) in
-          let there : 0 < times (parent a) r.finished =
-          subst (λ z. 0 < times (parent a) z) f.done_are (subst (λ z. 0 < times z (places f.done)) (sym (ap parent p.is ∙ parent-child p.parent.at p.index)) (times-contains f.done p.parent p.there)) in
-          ap (λ v. (length a == 1) || v) (is_among-some (parent a) r.finished there) ∙ or_true (length a == 1))
+          let there : 0 < times (parent_address a) r.finished =
+          subst (λ z. 0 < times (parent_address a) z) f.done_are (subst (λ z. 0 < times z (addresses_of f.done)) (sym (ap parent_address p.is ∙ parent_address-child p.parent.at p.index)) (times-contains f.done p.parent p.there)) in
+          ap (λ v. (length a == 1) || v) (is_among-some (parent_address a) r.finished there) ∙ or_true (length a == 1))
           (λ (some : 0 < times a (root_addresses (length roots))).
           let k = child_from_times a [] 0 (length roots) some in
-          ap (λ z. (length z == 1) || is_among (parent a) r.finished) k.3)
+          ap (λ z. (length z == 1) || is_among (parent_address a) r.finished) k.3)
           (eq-zero-or-pos (times a (root_addresses (length roots)))) in
-          ap (λ v. not v && ((length a == 1) || is_among (parent a) r.finished)) free ∙ reached
+          ap (λ v. not v && ((length a == 1) || is_among (parent_address a) r.finished)) free ∙ reached
 
-      reached_there : (a : List ℕ) → 0 < times a (places (specs_in_preorder t roots)) → ((length a == 1) || is_among (parent a) r.finished) ≡ true
-          → 0 < times a (root_addresses (length roots)) + times a (child_places f.done)
+      reached_there : (a : List ℕ) → 0 < times a (addresses_of (specs_in_preorder t roots)) → ((length a == 1) || is_among (parent_address a) r.finished) ≡ true
+          → 0 < times a (root_addresses (length roots)) + times a (child_addresses f.done)
       reached_there a there h =
           let all = specs_in_preorder t roots in
           ⊎_elim
@@ -173,80 +173,67 @@ module _ {S R : Type 0} (t : Tree S R) where
           let one : length a ≡ 1 = eqb-true (length a) 1 e in
           let more : 0 < length p.parent.at = longer roots p.parent.at (times-contains all p.parent p.there) in
           absurd (omega (arith, ap length p.is, length-append p.parent.at (p.index ∷ []))))
-          (λ (e : is_among (parent a) r.finished ≡ true).
-          let some : 0 < times (parent a) r.finished = ltb-true 0 (times (parent a) r.finished) e in
-          let some' : 0 < times p.parent.at (places f.done) =
-          subst (λ z. 0 < times z (places f.done)) (ap parent p.is ∙ parent-child p.parent.at p.index) (subst (λ z. 0 < times (parent a) z) (sym f.done_are) some) in
-          let q = place_at p.parent.at f.done some' in
+          (λ (e : is_among (parent_address a) r.finished ≡ true).
+          let some : 0 < times (parent_address a) r.finished = ltb-true 0 (times (parent_address a) r.finished) e in
+          let some' : 0 < times p.parent.at (addresses_of f.done) =
+          subst (λ z. 0 < times z (addresses_of f.done)) (ap parent_address p.is ∙ parent_address-child p.parent.at p.index) (subst (λ z. 0 < times (parent_address a) z) (sym f.done_are) some) in
+          let q = value_there p.parent.at f.done some' in
           let same : q.0 ≡ p.parent = unique all (ascends t roots) q.0 p.parent (All-contains (Contains all) f.done q.0 f.done_there q.1) p.there q.2 in
-          let child : 0 < times a (child_places f.done) =
-          subst (λ z. 0 < times z (child_places f.done)) (sym p.is) (times-child_places f.done p.parent p.index (subst (Contains f.done) same q.1) p.below) in omega arith)
-          (or_cases (length a == 1) (is_among (parent a) r.finished) h))
+          let child : 0 < times a (child_addresses f.done) =
+          subst (λ z. 0 < times z (child_addresses f.done)) (sym p.is) (times-child_addresses f.done p.parent p.index (subst (Contains f.done) same q.1) p.below) in omega arith)
+          (or_cases (length a == 1) (is_among (parent_address a) r.finished) h))
           (root_or_child t roots a there)
 
       -- What is queued in the run is queued on the board.
-      board_from_queued : (a : List ℕ) → 0 < times a (places (specs_in_preorder t roots)) → is_queued r a ≡ true → 0 < times a (places st.made.board.queued)
+      board_from_queued : (a : List ℕ) → 0 < times a (addresses_of (specs_in_preorder t roots)) → is_queued r a ≡ true → 0 < times a (addresses_of st.made.board.queued)
       board_from_queued a there h =
           let b = st.made.board in
           ⊎_elim
           (λ (free : times a r.taken ≡ 0).
-          let reached : ((length a == 1) || is_among (parent a) r.finished) ≡ true =
-          sym (ap (λ v. not v && ((length a == 1) || is_among (parent a) r.finished)) (is_among-none a r.taken free)) ∙ h in
-          let more : 0 < times a (root_addresses (length roots)) + times a (child_places f.done) = reached_there a there reached in
-          omega (arith, f.each a, times-held a b, f.taken_are a, f.finished a))
+          let reached : ((length a == 1) || is_among (parent_address a) r.finished) ≡ true =
+          sym (ap (λ v. not v && ((length a == 1) || is_among (parent_address a) r.finished)) (is_among-none a r.taken free)) ∙ h in
+          let more : 0 < times a (root_addresses (length roots)) + times a (child_addresses f.done) = reached_there a there reached in
+          omega (arith, f.each a, times-on_board a b, f.taken_are a, f.finished a))
           (λ (some : 0 < times a r.taken).
-          absurd (false≢true (ap (λ v. not v && ((length a == 1) || is_among (parent a) r.finished)) (sym (is_among-some a r.taken some)) ∙ h)))
+          absurd (false≢true (ap (λ v. not v && ((length a == 1) || is_among (parent_address a) r.finished)) (sym (is_among-some a r.taken some)) ∙ h)))
           (eq-zero-or-pos (times a r.taken))
 
       -- ---- taking
 
-      find_least : (x : Placed S) → 0 < times x.at (places st.made.board.queued) → IsFirst x.at st.made.board.queued → find (is_queued r) (places (specs_in_preorder t roots)) ≡ Some x.at
+      find_least : (x : Addressed S) → 0 < times x.at (addresses_of st.made.board.queued) → IsFirst x.at st.made.board.queued → find (is_queued r) (addresses_of (specs_in_preorder t roots)) ≡ Some x.at
       find_least x there first =
-          find_first (is_queued r) (places (specs_in_preorder t roots)) x.at (ascends t roots) (queued_from_board x.at there) (spec_there x.at there)
+          find_first (is_queued r) (addresses_of (specs_in_preorder t roots)) x.at (ascends t roots) (queued_from_board x.at there) (spec_there x.at there)
           (λ y m q. first_among x.at y st.made.board.queued first (board_from_queued y m q))
 
-      find_nothing : st.made.board.queued ≡ [] → find (is_queued r) (places (specs_in_preorder t roots)) ≡ None
+      find_nothing : st.made.board.queued ≡ [] → find (is_queued r) (addresses_of (specs_in_preorder t roots)) ≡ None
       find_nothing empty =
-          find_none (is_queued r) (places (specs_in_preorder t roots))
+          find_none (is_queued r) (addresses_of (specs_in_preorder t roots))
           (λ y m.
           elim (is_queued r y) as (λ b. is_queued r y ≡ b → b ≡ false) [
             | true ↦ λ e.
-                let k : 0 < times y (places st.made.board.queued) = board_from_queued y m e in
-                let none : times y (places st.made.board.queued) ≡ 0 = ap (λ z. times y (places z)) empty in
+                let k : 0 < times y (addresses_of st.made.board.queued) = board_from_queued y m e in
+                let none : times y (addresses_of st.made.board.queued) ≡ 0 = ap (λ z. times y (addresses_of z)) empty in
                 absurd (omega arith)
             | false ↦ λ e. refl
           ] refl)
 
-      hand_of_run : (k : ℕ) (h : Option (Placed S)) → slice_get st.hands k ≡ Some h → slice_get r.hands k ≡ Some (option_map (λ x. x.at) h)
+      hand_of_run : (k : ℕ) (h : Option (Addressed S)) → slice_get st.hands k ≡ Some h → slice_get r.hands k ≡ Some (option_map (λ x. x.at) h)
       hand_of_run k h e =
           ap (λ z. slice_get z k) (sym f.hands) ∙ slice_get-map (option_map (λ x. x.at)) st.hands k ∙ ap (option_map (option_map (λ x. x.at))) e
 
-      -- A worker that is not there.
-      no_worker : (k : ℕ) → length st.hands ≤ k → slice_get r.hands k ≡ None
-      no_worker k out = slice_get_past r.hands k (omega (arith, ap length f.hands, length-map st.hands (option_map (λ (x : Placed S). x.at))))
-
-      pub no_take : (k : ℕ) → length st.hands ≤ k → take_by (places (specs_in_preorder t roots)) r k (slice_get r.hands k) ≡ r
-      no_take k out = ap (take_by (places (specs_in_preorder t roots)) r k) (no_worker k out)
-
-      pub busy_take : (k : ℕ) (x : Placed S) → slice_get st.hands k ≡ Some (Some x) → take_by (places (specs_in_preorder t roots)) r k (slice_get r.hands k) ≡ r
-      busy_take k x e = ap (take_by (places (specs_in_preorder t roots)) r k) (hand_of_run k (Some x) e)
-
-      pub no_finish : (k : ℕ) → length st.hands ≤ k → finish_by r k (slice_get r.hands k) ≡ r
-      no_finish k out = ap (finish_by r k) (no_worker k out)
+      pub busy_take : (k : ℕ) (x : Addressed S) → slice_get st.hands k ≡ Some (Some x) → take_by (addresses_of (specs_in_preorder t roots)) r k (slice_get r.hands k) ≡ r
+      busy_take k x e = ap (take_by (addresses_of (specs_in_preorder t roots)) r k) (hand_of_run k (Some x) e)
 
       pub free_finish : (k : ℕ) → slice_get st.hands k ≡ Some None → finish_by r k (slice_get r.hands k) ≡ r
       free_finish k e = ap (finish_by r k) (hand_of_run k None e)
 
-      pub held_in_hand : (k : ℕ) (x : Placed S) → slice_get st.hands k ≡ Some (Some x) → 0 < times x.at st.made.board.in_hand
-      held_in_hand k x e = omega (arith, f.in_hand x.at, in_hands-finished x.at x.at r.hands k (hand_of_run k (Some x) e), times-itself x.at (in_hands (set r.hands k None)))
-
-      pub skips_take : (k : ℕ) → slice_get st.hands k ≡ Some None → st.made.board.queued ≡ [] → take_by (places (specs_in_preorder t roots)) r k (slice_get r.hands k) ≡ r
+      pub skips_take : (k : ℕ) → slice_get st.hands k ≡ Some None → st.made.board.queued ≡ [] → take_by (addresses_of (specs_in_preorder t roots)) r k (slice_get r.hands k) ≡ r
       skips_take k free empty =
-          ap (take_by (places (specs_in_preorder t roots)) r k) (hand_of_run k None free) ∙ ap (take_first r k) (find_nothing empty)
+          ap (take_by (addresses_of (specs_in_preorder t roots)) r k) (hand_of_run k None free) ∙ ap (take_first r k) (find_nothing empty)
 
-      pub follows_take : (k : ℕ) → slice_get st.hands k ≡ Some None → (x : Placed S) (queued : List (Placed S)) (in_hand : List (List ℕ))
+      pub follows_take : (k : ℕ) → slice_get st.hands k ≡ Some None → (x : Addressed S) (queued : List (Addressed S)) (in_hand : List (List ℕ))
           → IsPermutation st.made.board.queued (x ∷ queued) → IsFirst x.at st.made.board.queued → IsPermutation (x.at ∷ st.made.board.in_hand) in_hand
-          → Follows t roots (take_by (places (specs_in_preorder t roots)) r k (slice_get r.hands k))
+          → Follows t roots (take_by (addresses_of (specs_in_preorder t roots)) r k (slice_get r.hands k))
           (record {
             hands = set st.hands k (Some x);
             made = record { handed_out = st.made.handed_out; taken = st.made.taken ++ x.at ∷ []; board = record st.made.board { queued = queued; in_hand = in_hand } };
@@ -254,14 +241,14 @@ module _ {S R : Type 0} (t : Tree S R) where
       follows_take k free x queued in_hand q first h =
           let b = st.made.board in
           let all = specs_in_preorder t roots in
-          let P : Placed S → Type 0 = λ y. Contains all (node t y.at y.value) in
+          let P : Addressed S → Type 0 = λ y. Contains all (node t y.at y.value) in
           let n : Board S R = record b { queued = queued; in_hand = in_hand } in
-          let there : 0 < times x.at (places b.queued) = omega (arith, times-places x.at b.queued (x ∷ queued) q, times-itself x.at (places queued)) in
-          let run : take_by (places all) r k (slice_get r.hands k) ≡ taken_by r k x.at =
-          ap (take_by (places all) r k) (hand_of_run k None free) ∙ ap (take_first r k) (find_least x there first) in
+          let there : 0 < times x.at (addresses_of b.queued) = omega (arith, times-addresses_of x.at b.queued (x ∷ queued) q, times-itself x.at (addresses_of queued)) in
+          let run : take_by (addresses_of all) r k (slice_get r.hands k) ≡ taken_by r k x.at =
+          ap (take_by (addresses_of all) r k) (hand_of_run k None free) ∙ ap (take_first r k) (find_least x there first) in
           let specs : All P (x ∷ queued) = All-permutation P b.queued (x ∷ queued) q f.specs in
-          let same : (a : List ℕ) → times a (held n) ≡ times a (held b) = λ a.
-          omega (arith, times-held a n, times-held a b, times-places a b.queued (x ∷ queued) q, times-permutation a (x.at ∷ b.in_hand) in_hand h) in
+          let same : (a : List ℕ) → times a (on_board n) ≡ times a (on_board b) = λ a.
+          omega (arith, times-on_board a n, times-on_board a b, times-addresses_of a b.queued (x ∷ queued) q, times-permutation a (x.at ∷ b.in_hand) in_hand h) in
           let result : Follows t roots (taken_by r k x.at) (record {
             hands = set st.hands k (Some x);
             made = record { handed_out = st.made.handed_out; taken = st.made.taken ++ x.at ∷ []; board = n };
@@ -296,7 +283,7 @@ module _ {S R : Type 0} (t : Tree S R) where
 
       -- ---- finishing
 
-      pub follows_finish : (k : ℕ) (x : Placed S) → slice_get st.hands k ≡ Some (Some x) → (queued : List (Placed S)) (in_hand : List (List ℕ)) (ready : List (Placed R))
+      pub follows_finish : (k : ℕ) (x : Addressed S) → slice_get st.hands k ≡ Some (Some x) → (queued : List (Addressed S)) (in_hand : List (List ℕ)) (ready : List (Addressed R))
           → IsPermutation st.made.board.in_hand (x.at ∷ in_hand) → IsPermutation (read t (node t x.at x.value) ∷ st.made.board.ready) ready
           → IsPermutation (numbered x.at 0 (t.children x.value) ++ st.made.board.queued) queued
           → Follows t roots (finish_by r k (slice_get r.hands k))
@@ -307,15 +294,15 @@ module _ {S R : Type 0} (t : Tree S R) where
       follows_finish k x holds queued in_hand ready h rd q =
           let b = st.made.board in
           let all = specs_in_preorder t roots in
-          let P : Placed S → Type 0 = λ y. Contains all (node t y.at y.value) in
-          let Q : Placed R → Type 0 = λ y. (z : Placed S) × Contains all z × (y ≡ read t z) in
-          let y : Placed R = read t (node t x.at x.value) in
+          let P : Addressed S → Type 0 = λ y. Contains all (node t y.at y.value) in
+          let Q : Addressed R → Type 0 = λ y. (z : Addressed S) × Contains all z × (y ≡ read t z) in
+          let y : Addressed R = read t (node t x.at x.value) in
           let specs : List S = t.children x.value in
           let n : Board S R = record b { queued = queued; in_hand = in_hand; ready = ready } in
           let there : Contains all (node t x.at x.value) = f.held_specs k x holds in
           let run : finish_by r k (slice_get r.hands k) ≡ record r { hands = set r.hands k None; finished = x.at ∷ r.finished } =
           ap (finish_by r k) (hand_of_run k (Some x) holds) in
-          let more : (a : List ℕ) → times a (held n) ≡ times a (children_from 0 x.at (length specs)) + times a (held b) = times_finished b y specs queued in_hand ready refl h rd q in
+          let more : (a : List ℕ) → times a (on_board n) ≡ times a (children_from 0 x.at (length specs)) + times a (on_board b) = times_finished b y specs queued in_hand ready refl h rd q in
           let result : Follows t roots (record r { hands = set r.hands k None; finished = x.at ∷ r.finished }) (record {
             hands = set st.hands k None;
             made = record { handed_out = st.made.handed_out; taken = st.made.taken; board = n };
@@ -326,7 +313,7 @@ module _ {S R : Type 0} (t : Tree S R) where
             hands = map-set (option_map (λ z. z.at)) st.hands k None ∙ ap (λ z. set z k None) f.hands;
             held_specs = λ j z e.
                 ⊎_elim
-                (λ (d : ◌≡◌ {A = Option (Placed S)} None (Some z)). absurd (cc))
+                (λ (d : ◌≡◌ {A = Option (Addressed S)} None (Some z)). absurd (cc))
                 (λ (d : slice_get st.hands j ≡ Some (Some z)). f.held_specs j z d)
                 (get_set_cases st.hands k j None (Some z) e);
             in_hand = λ a. omega (arith, times-permutation a b.in_hand (x.at ∷ in_hand) h, f.in_hand a, in_hands-finished a x.at r.hands k (hand_of_run k (Some x) holds));
@@ -338,8 +325,8 @@ module _ {S R : Type 0} (t : Tree S R) where
             done = node t x.at x.value ∷ f.done;
             done_there = All-cons (Contains all) (node t x.at x.value) f.done there f.done_there;
             done_are = ap (λ z. x.at ∷ z) f.done_are;
-            each = λ a. omega (arith, more a, f.each a, times-append a (children_from 0 x.at (length specs)) (child_places f.done));
-            finished = λ a. omega (arith, times-places a (y ∷ b.ready) ready rd, f.finished a);
+            each = λ a. omega (arith, more a, f.each a, times-append a (children_from 0 x.at (length specs)) (child_addresses f.done));
+            finished = λ a. omega (arith, times-addresses_of a (y ∷ b.ready) ready rd, f.finished a);
             taken_are = λ a. omega (arith, f.taken_are a, times-permutation a b.in_hand (x.at ∷ in_hand) h);
             handed_out = f.handed_out;
             left = f.left;
@@ -356,51 +343,51 @@ module _ {S R : Type 0} (t : Tree S R) where
       at_end : st.made.board.frontier ≡ [] → f.left ≡ []
       at_end e = none_left f.left (f.left_frontier ∙ e)
 
-      pub skips_done : st.made.board.frontier ≡ [] → hand_out_next r (slice_get (places (specs_in_preorder t roots)) r.handed_out) ≡ r
+      pub skips_done : st.made.board.frontier ≡ [] → hand_out_next r (slice_get (addresses_of (specs_in_preorder t roots)) r.handed_out) ≡ r
       skips_done e =
           let all = specs_in_preorder t roots in
           ap (hand_out_next r)
-          (get_past r.handed_out (places all) (drop-map (λ x. x.at) r.handed_out all ∙ ap places (f.left_are ∙ ap (trees t) (at_end e))))
+          (get_past r.handed_out (addresses_of all) (drop-map (λ x. x.at) r.handed_out all ∙ ap addresses_of (f.left_are ∙ ap (trees t) (at_end e))))
 
       -- the next specification, and what comes after it
       pub record Next : Type 0 where
-        pub item : Placed S
-        pub others : List (Placed S)
+        pub item : Addressed S
+        pub others : List (Addressed S)
         pub first : f.left ≡ item ∷ others
         pub is_next : item.at ≡ next_address st.made.board.frontier
         pub split : Splits r.handed_out (specs_in_preorder t roots) (node t item.at item.value) (forest (subtree t) item.at 0 (t.children item.value) ++ trees t others)
 
       next : st.made.board.frontier ≢ [] → Next
       next some =
-          let l = some_left f.left (λ e. some (sym f.left_frontier ∙ ap places e)) in
-          let rest : List (Placed S) = forest (subtree t) l.0.at 0 (t.children l.0.value) ++ trees t l.1 in
+          let l = some_left f.left (λ e. some (sym f.left_frontier ∙ ap addresses_of e)) in
+          let rest : List (Addressed S) = forest (subtree t) l.0.at 0 (t.children l.0.value) ++ trees t l.1 in
           let e : drop r.handed_out (specs_in_preorder t roots) ≡ node t l.0.at l.0.value ∷ rest =
           f.left_are ∙ ap (trees t) l.2 ∙ ap (λ z. z ++ trees t l.1) (subtree-is t falls l.0.at l.0.value) in
           let n : Next = record {
             item = l.0;
             others = l.1;
             first = l.2;
-            is_next = ap next_address (sym (ap places l.2) ∙ f.left_frontier);
+            is_next = ap next_address (sym (ap addresses_of l.2) ∙ f.left_frontier);
             split = splits r.handed_out (specs_in_preorder t roots) (node t l.0.at l.0.value) rest e;
           } in n
 
-      next_of_run : (n : Next) → slice_get (places (specs_in_preorder t roots)) r.handed_out ≡ Some n.item.at
+      next_of_run : (n : Next) → slice_get (addresses_of (specs_in_preorder t roots)) r.handed_out ≡ Some n.item.at
       next_of_run n = slice_get-map (λ x. x.at) (specs_in_preorder t roots) r.handed_out ∙ ap (option_map (λ x. x.at)) n.split.at
 
       pub skips_not_ready : st.made.board.frontier ≢ []
-          → (0 < times (next_address st.made.board.frontier) (places st.made.board.queued)) ⊎ (0 < times (next_address st.made.board.frontier) st.made.board.in_hand)
-          → hand_out_next r (slice_get (places (specs_in_preorder t roots)) r.handed_out) ≡ r
+          → (0 < times (next_address st.made.board.frontier) (addresses_of st.made.board.queued)) ⊎ (0 < times (next_address st.made.board.frontier) st.made.board.in_hand)
+          → hand_out_next r (slice_get (addresses_of (specs_in_preorder t roots)) r.handed_out) ≡ r
       skips_not_ready some waits =
           let b = st.made.board in
           let n = next some in
           let a : List ℕ = next_address b.frontier in
-          let there : 0 < times a (places b.queued) + times a b.in_hand = ⊎_elim (λ (m : 0 < times a (places b.queued)). omega arith) (λ (m : 0 < times a b.in_hand). omega arith) waits in
-          let h : 0 < times a (held b) = omega (arith, times-held a b) in
-          let none : times a r.finished ≡ 0 = omega (arith, f.finished a, f.whole.once a, times-held a b, not_handed_out a h) in
+          let there : 0 < times a (addresses_of b.queued) + times a b.in_hand = ⊎_elim (λ (m : 0 < times a (addresses_of b.queued)). omega arith) (λ (m : 0 < times a b.in_hand). omega arith) waits in
+          let h : 0 < times a (on_board b) = omega (arith, times-on_board a b) in
+          let none : times a r.finished ≡ 0 = omega (arith, f.finished a, f.whole.once a, times-on_board a b, not_handed_out a h) in
           ap (hand_out_next r) (next_of_run n ∙ ap Some n.is_next) ∙ ap (λ v. cond v (record r { handed_out = r.handed_out + 1 }) r) (is_among-none a r.finished none)
 
-      pub follows_hand_out : st.made.board.frontier ≢ [] → (y : Placed R) (ready : List (Placed R)) → y.at ≡ next_address st.made.board.frontier → IsPermutation st.made.board.ready (y ∷ ready)
-          → Follows t roots (hand_out_next r (slice_get (places (specs_in_preorder t roots)) r.handed_out))
+      pub follows_hand_out : st.made.board.frontier ≢ [] → (y : Addressed R) (ready : List (Addressed R)) → y.at ≡ next_address st.made.board.frontier → IsPermutation st.made.board.ready (y ∷ ready)
+          → Follows t roots (hand_out_next r (slice_get (addresses_of (specs_in_preorder t roots)) r.handed_out))
           (record {
             hands = st.hands;
             made = record {
@@ -412,9 +399,9 @@ module _ {S R : Type 0} (t : Tree S R) where
       follows_hand_out some y ready y-is rd =
           let b = st.made.board in
           let all = specs_in_preorder t roots in
-          let Q : Placed R → Type 0 = λ y. (z : Placed S) × Contains all z × (y ≡ read t z) in
+          let Q : Addressed R → Type 0 = λ y. (z : Addressed S) × Contains all z × (y ≡ read t z) in
           let n = next some in
-          let x : Placed S = node t n.item.at n.item.value in
+          let x : Addressed S = node t n.item.at n.item.value in
           let specs : List S = t.children n.item.value in
           let x-there : Contains all x = get_contains r.handed_out all x n.split.at in
           let readings : All Q (y ∷ ready) = All-permutation Q b.ready (y ∷ ready) rd f.readings in
@@ -422,24 +409,24 @@ module _ {S R : Type 0} (t : Tree S R) where
           let z-is : z.0 ≡ x = unique all (ascends t roots) z.0 x z.1 x-there (ap (λ w. w.at) (sym z.2) ∙ y-is ∙ sym n.is_next) in
           let y-read : y ≡ read t x = z.2 ∙ ap (read t) z-is in
           let y-at : y.at ≡ x.at = ap (λ w. w.at) y-read in
-          let was_ready : 0 < times y.at (places b.ready) = omega (arith, times-places y.at b.ready (y ∷ ready) rd, times-itself y.at (places ready)) in
+          let was_ready : 0 < times y.at (addresses_of b.ready) = omega (arith, times-addresses_of y.at b.ready (y ∷ ready) rd, times-itself y.at (addresses_of ready)) in
           let was : 0 < times x.at r.finished = subst (λ w. 0 < times w r.finished) y-at (omega (arith, f.finished y.at)) in
-          let run : hand_out_next r (slice_get (places all) r.handed_out) ≡ record r { handed_out = r.handed_out + 1 } =
+          let run : hand_out_next r (slice_get (addresses_of all) r.handed_out) ≡ record r { handed_out = r.handed_out + 1 } =
           ap (hand_out_next r) (next_of_run n) ∙ ap (λ v. cond v (record r { handed_out = r.handed_out + 1 }) r) (is_among-some x.at r.finished was) in
           let frontier : List (List ℕ) = passed b.frontier y.child_count in
           let m : Board S R = record b { ready = ready; frontier = frontier } in
-          let front : b.frontier ≡ x.at ∷ places n.others = sym f.left_frontier ∙ ap places n.first in
+          let front : b.frontier ≡ x.at ∷ addresses_of n.others = sym f.left_frontier ∙ ap addresses_of n.first in
           let taken : take (r.handed_out + 1) all ≡ take r.handed_out all ++ x ∷ [] = ap (λ k. take k all) (add-one r.handed_out) ∙ n.split.front in
-          let more : (a : List ℕ) → times a (take (r.handed_out + 1) (places all)) ≡ times a (take r.handed_out (places all)) + times a (x.at ∷ []) = λ a.
-          ap (times a) (take-map (λ w. w.at) (r.handed_out + 1) all ∙ ap places taken ∙ map-append (λ w. w.at) (take r.handed_out all) (x ∷ []) ∙ ap (λ w. w ++ x.at ∷ []) (sym (take-map (λ w. w.at) r.handed_out all)))
-          ∙ times-append a (take r.handed_out (places all)) (x.at ∷ []) in
-          let fewer : (a : List ℕ) → times a (places b.ready) ≡ times a (x.at ∷ []) + times a (places ready) = λ a.
-          omega (arith, times-places a b.ready (y ∷ ready) rd, ap (λ w. times a (w ∷ [])) y-at) in
+          let more : (a : List ℕ) → times a (take (r.handed_out + 1) (addresses_of all)) ≡ times a (take r.handed_out (addresses_of all)) + times a (x.at ∷ []) = λ a.
+          ap (times a) (take-map (λ w. w.at) (r.handed_out + 1) all ∙ ap addresses_of taken ∙ map-append (λ w. w.at) (take r.handed_out all) (x ∷ []) ∙ ap (λ w. w ++ x.at ∷ []) (sym (take-map (λ w. w.at) r.handed_out all)))
+          ∙ times-append a (take r.handed_out (addresses_of all)) (x.at ∷ []) in
+          let fewer : (a : List ℕ) → times a (addresses_of b.ready) ≡ times a (x.at ∷ []) + times a (addresses_of ready) = λ a.
+          omega (arith, times-addresses_of a b.ready (y ∷ ready) rd, ap (λ w. times a (w ∷ [])) y-at) in
           let result : Follows t roots (record r { handed_out = r.handed_out + 1 }) (record {
             hands = st.hands;
             made = record { handed_out = st.made.handed_out ++ y ∷ []; taken = st.made.taken; board = m };
           }) = record {
-            whole = whole_handed_out b y ready frontier (places n.others) f.whole (front ∙ ap (λ w. w ∷ places n.others) (sym y-at)) refl rd;
+            whole = whole_handed_out b y ready frontier (addresses_of n.others) f.whole (front ∙ ap (λ w. w ∷ addresses_of n.others) (sym y-at)) refl rd;
             running = f.running;
             taken = f.taken;
             hands = f.hands;
@@ -450,14 +437,14 @@ module _ {S R : Type 0} (t : Tree S R) where
             done = f.done;
             done_there = f.done_there;
             done_are = f.done_are;
-            each = λ a. omega (arith, f.each a, more a, fewer a, times-held a m, times-held a b);
+            each = λ a. omega (arith, f.each a, more a, fewer a, times-on_board a m, times-on_board a b);
             finished = λ a. omega (arith, f.finished a, more a, fewer a);
             taken_are = f.taken_are;
             handed_out = ap (λ w. w ++ y ∷ []) f.handed_out ∙ ap (λ w. map (read t) (take r.handed_out all) ++ w ∷ []) y-read ∙ sym (ap (map (read t)) taken ∙ map-append (read t) (take r.handed_out all) (x ∷ []));
             left = numbered x.at 0 specs ++ n.others;
             left_are = ap (λ k. drop k all) (add-one r.handed_out) ∙ n.split.rest ∙ ap (λ w. w ++ trees t n.others) (trees-numbered x.at 0 specs) ∙ sym (trees-append (numbered x.at 0 specs) n.others);
-            left_frontier = map-append (λ w. w.at) (numbered x.at 0 specs) n.others ∙ ap (λ w. w ++ places n.others) (places-numbered x.at 0 specs)
-                ∙ sym (ap (λ w. passed w y.child_count) front ∙ ap (λ w. children_from 0 x.at w ++ places n.others) (ap (λ w. w.child_count) y-read));
+            left_frontier = map-append (λ w. w.at) (numbered x.at 0 specs) n.others ∙ ap (λ w. w ++ addresses_of n.others) (addresses_of-numbered x.at 0 specs)
+                ∙ sym (ap (λ w. passed w y.child_count) front ∙ ap (λ w. children_from 0 x.at w ++ addresses_of n.others) (ap (λ w. w.child_count) y-read));
           } in
           subst (λ w. Follows t roots w (record {
             hands = st.hands;
@@ -466,65 +453,65 @@ module _ {S R : Type 0} (t : Tree S R) where
 
       -- ---- what is answered
 
-      pub answers : Answers t roots r st.made
-      answers =
+      pub matches_run : MatchesRun t roots r st.made
+      matches_run =
           let b = st.made.board in
           let all = specs_in_preorder t roots in
           record {
             handed_out = f.handed_out ∙ sym (take-map (read t) r.handed_out all);
             taken = f.taken;
             queued = λ a.
-                let e = times-filter (is_queued r) a (places all) in
-                elim (is_queued r a) as (λ v. is_queued r a ≡ v → times a (filter (is_queued r) (places all)) ≡ cond v (times a (places all)) 0 → times a (places b.queued) ≡ times a (filter (is_queued r) (places all))) [
+                let e = times-filter (is_queued r) a (addresses_of all) in
+                elim (is_queued r a) as (λ v. is_queued r a ≡ v → times a (filter (is_queued r) (addresses_of all)) ≡ cond v (times a (addresses_of all)) 0 → times a (addresses_of b.queued) ≡ times a (filter (is_queued r) (addresses_of all))) [
                   | true ↦ λ q k.
                       ⊎_elim
-                      (λ (none : times a (places all) ≡ 0).
+                      (λ (none : times a (addresses_of all) ≡ 0).
                       ⊎_elim
-                      (λ (free : times a (places b.queued) ≡ 0). omega arith)
-                      (λ (some : 0 < times a (places b.queued)). absurd (let there : 0 < times a (places all) = spec_there a some in omega arith))
-                      (eq-zero-or-pos (times a (places b.queued))))
-                      (λ (some : 0 < times a (places all)).
-                      let here : 0 < times a (places b.queued) = board_from_queued a some q in
-                      omega (arith, ascending-once a (places all) (ascends t roots), f.whole.once a, times-held a b))
-                      (eq-zero-or-pos (times a (places all)))
+                      (λ (free : times a (addresses_of b.queued) ≡ 0). omega arith)
+                      (λ (some : 0 < times a (addresses_of b.queued)). absurd (let there : 0 < times a (addresses_of all) = spec_there a some in omega arith))
+                      (eq-zero-or-pos (times a (addresses_of b.queued))))
+                      (λ (some : 0 < times a (addresses_of all)).
+                      let here : 0 < times a (addresses_of b.queued) = board_from_queued a some q in
+                      omega (arith, ascending-once a (addresses_of all) (ascends t roots), f.whole.once a, times-on_board a b))
+                      (eq-zero-or-pos (times a (addresses_of all)))
                   | false ↦ λ q k.
                       ⊎_elim
-                      (λ (free : times a (places b.queued) ≡ 0). omega arith)
-                      (λ (some : 0 < times a (places b.queued)). absurd (false≢true (sym q ∙ queued_from_board a some)))
-                      (eq-zero-or-pos (times a (places b.queued)))
+                      (λ (free : times a (addresses_of b.queued) ≡ 0). omega arith)
+                      (λ (some : 0 < times a (addresses_of b.queued)). absurd (false≢true (sym q ∙ queued_from_board a some)))
+                      (eq-zero-or-pos (times a (addresses_of b.queued)))
                 ] refl e;
             in_hand = f.in_hand;
             ready = f.finished;
             running = f.running;
             specs = f.specs;
-            readings = All-weaker (λ y. (x : Placed S) × Contains all x × (y ≡ read t x)) (Contains (preorder t roots))
-                (λ y h. subst (Contains (preorder t roots)) (sym h.2) (contains_map (read t) all h.0 h.1)) b.ready f.readings;
+            readings = All-weaker (λ y. (x : Addressed S) × Contains all x × (y ≡ read t x)) (Contains (readings_in_preorder t roots))
+                (λ y h. subst (Contains (readings_in_preorder t roots)) (sym h.2) (contains_map (read t) all h.0 h.1)) b.ready f.readings;
           }
 
-      at_most_there : (a : List ℕ) → times a (take r.handed_out (places (specs_in_preorder t roots))) ≤ 1
+      at_most_there : (a : List ℕ) → times a (take r.handed_out (addresses_of (specs_in_preorder t roots))) ≤ 1
       at_most_there a =
-          let front : List (List ℕ) = take r.handed_out (places (specs_in_preorder t roots)) in
-          omega (arith, ap (times a) halves, times-append a front (places (trees t f.left)), ascending-once a (places (specs_in_preorder t roots)) (ascends t roots))
+          let front : List (List ℕ) = take r.handed_out (addresses_of (specs_in_preorder t roots)) in
+          omega (arith, ap (times a) halves, times-append a front (addresses_of (trees t f.left)), ascending-once a (addresses_of (specs_in_preorder t roots)) (ascends t roots))
 
       taken_once : (a : List ℕ) → times a r.taken ≤ 1
       taken_once a =
           let b = st.made.board in
           ⊎_elim
-          (λ (none : times a (held b) ≡ 0). omega (arith, f.taken_are a, f.finished a, times-held a b, at_most_there a))
-          (λ (some : 0 < times a (held b)). omega (arith, f.taken_are a, f.finished a, times-held a b, f.whole.once a, not_handed_out a some))
-          (eq-zero-or-pos (times a (held b)))
+          (λ (none : times a (on_board b) ≡ 0). omega (arith, f.taken_are a, f.finished a, times-on_board a b, at_most_there a))
+          (λ (some : 0 < times a (on_board b)). omega (arith, f.taken_are a, f.finished a, times-on_board a b, f.whole.once a, not_handed_out a some))
+          (eq-zero-or-pos (times a (on_board b)))
 
       nothing_left : st.made.board.queued ≡ [] → st.made.board.in_hand ≡ [] → st.made.board.ready ≡ [] → st.made.board.frontier ≡ []
       nothing_left q h d =
           let b = st.made.board in
           no_next b.frontier
           (λ a.
-          let none-q : times a (places b.queued) ≡ 0 = ap (λ z. times a (places z)) q in
+          let none-q : times a (addresses_of b.queued) ≡ 0 = ap (λ z. times a (addresses_of z)) q in
           let none-h : times a b.in_hand ≡ 0 = ap (times a) h in
-          let none-d : times a (places b.ready) ≡ 0 = ap (λ z. times a (places z)) d in
-          omega (arith, f.whole.each a, times-held a b))
+          let none-d : times a (addresses_of b.ready) ≡ 0 = ap (λ z. times a (addresses_of z)) d in
+          omega (arith, f.whole.each a, times-on_board a b))
 
-      pub in_order : IsInOrder (preorder t roots) st.made
+      pub in_order : IsInOrder (readings_in_preorder t roots) st.made
       in_order =
           let all = specs_in_preorder t roots in
           record {
@@ -538,33 +525,33 @@ module _ {S R : Type 0} (t : Tree S R) where
 
 -- ---- the start
 
-module _ {S R : Type 0} (t : Tree S R) (roots : List S) where
+module _ {S R : Type 0} (t : PlanTree S R) (roots : List S) where
   pub follows_start : (falls : Falls t) (n : ℕ) (b : Board S R) → IsNew roots b
       → Follows t roots (record { taken = []; hands = replicate n None; finished = []; handed_out = 0 }) (record { hands = replicate n None; made = record { handed_out = []; taken = []; board = b } })
   follows_start falls n b new =
       let all = specs_in_preorder t roots in
-      let P : Placed S → Type 0 = λ y. Contains all (node t y.at y.value) in
+      let P : Addressed S → Type 0 = λ y. Contains all (node t y.at y.value) in
       let none-h : (a : List ℕ) → times a b.in_hand ≡ 0 = λ a. ap (times a) new.in_hand in
-      let none-d : (a : List ℕ) → times a (places b.ready) ≡ 0 = λ a. ap (λ z. times a (places z)) new.ready in
+      let none-d : (a : List ℕ) → times a (addresses_of b.ready) ≡ 0 = λ a. ap (λ z. times a (addresses_of z)) new.ready in
       record {
         whole = whole_new roots b new;
         running = new.running;
         taken = refl;
         hands = map_replicate S n;
-        held_specs = λ k x e. absurd (let d : ◌≡◌ {A = Option (Placed S)} (Some x) None = get_replicate n k None (Some x) e in cc);
+        held_specs = λ k x e. absurd (let d : ◌≡◌ {A = Option (Addressed S)} (Some x) None = get_replicate n k None (Some x) e in cc);
         in_hand = λ a. omega (arith, none-h a, ap (times a) (in_hands-none n));
         specs = All-permutation P (numbered [] 0 roots) b.queued new.queued (children_there t falls [] 0 roots);
-        readings = subst (All (λ y. (x : Placed S) × Contains all x × (y ≡ read t x))) (sym new.ready) (All-nil (λ y. (x : Placed S) × Contains all x × (y ≡ read t x)));
+        readings = subst (All (λ y. (x : Addressed S) × Contains all x × (y ≡ read t x))) (sym new.ready) (All-nil (λ y. (x : Addressed S) × Contains all x × (y ≡ read t x)));
         done = [];
         done_there = All-nil (Contains all);
         done_are = refl;
-        each = λ a. omega (arith, times-held a b, none-h a, none-d a, times-places a (numbered [] 0 roots) b.queued new.queued, ap (times a) (places-numbered [] 0 roots));
+        each = λ a. omega (arith, times-on_board a b, none-h a, none-d a, times-addresses_of a (numbered [] 0 roots) b.queued new.queued, ap (times a) (addresses_of-numbered [] 0 roots));
         finished = λ a. omega (arith, none-d a);
         taken_are = λ a. omega (arith, none-h a);
         handed_out = refl;
         left = numbered [] 0 roots;
         left_are = trees-numbered t [] 0 roots;
-        left_frontier = places-numbered [] 0 roots ∙ sym new.frontier;
+        left_frontier = addresses_of-numbered [] 0 roots ∙ sym new.frontier;
       }
 
 pub moved-push : (all : List (List ℕ)) (r : Run) (ms : List Move) (m : Move) → moved all r (ms ++ m ∷ []) ≡ move all (moved all r ms) m

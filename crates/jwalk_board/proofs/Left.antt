@@ -75,7 +75,7 @@ left_of-child a i [] h = tt
 left_of-child a i (y ∷ ys) h =
     (subst (λ z. is_left (a ++ i ∷ []) z ≡ true) (append-nil y) (left-below a y (i ∷ []) [] h.0), left_of-child a i ys h.1)
 
--- The children of an address may stand in its place.
+-- The children of an address may stand in its stead.
 pub apart_passed : (a : List ℕ) (i n : ℕ) (rest : List (List ℕ)) → IsLeftOf a rest → IsApart rest → IsApart (children_from i a n ++ rest)
 apart_passed a i zero rest h k = k
 apart_passed a i (suc n) rest h k = (

@@ -9,8 +9,8 @@ use Rattle.std.specs.Option.{option_map}
 use Rattle.jwalk_order.specs.Ordered.{address_of}
 use Rattle.jwalk_order.specs.declared.ordered.Ordered.{Ordered}
 use Rattle.jwalk_board.specs.Board.{Board, IsNew, Takes, Finishes, HandsOut}
-use Rattle.jwalk_board.specs.Placed.{Placed, placed, places, numbered}
-use Rattle.jwalk_board.specs.Plan.{Tree, Falls, node, read, specs_in_preorder}
+use Rattle.jwalk_board.specs.Addressed.{Addressed, addressed, addresses_of, numbered}
+use Rattle.jwalk_board.specs.Plan.{PlanTree, Falls, node, read, specs_in_preorder}
 use Rattle.jwalk_board.specs.Refusal.{RefusesTake, RefusesHandOut}
 use Rattle.jwalk_board.specs.Seen.{seen, seen_item, seen_board}
 use Rattle.jwalk_board.specs.Addresses.{times}
@@ -53,9 +53,9 @@ pub none_is : {X : Type 0} (h : Option X) → is_some h ≡ false → h ≡ None
 none_is None e = refl
 none_is (Some x) e = absurd (false≢true (sym e))
 
-places-seen : {V W : Type 0} (view : V → W) (xs : List (Placed V)) → places (map (seen view) xs) ≡ places xs
-places-seen view [] = refl
-places-seen view (x ∷ xs) = ap (λ z. x.at ∷ z) (places-seen view xs)
+addresses_of-seen : {V W : Type 0} (view : V → W) (xs : List (Addressed V)) → addresses_of (map (seen view) xs) ≡ addresses_of xs
+addresses_of-seen view [] = refl
+addresses_of-seen view (x ∷ xs) = ap (λ z. x.at ∷ z) (addresses_of-seen view xs)
 
 numbered-seen : {V W : Type 0} (view : V → W) (a : List ℕ) (i : ℕ) (xs : List V) → map (seen view) (numbered a i xs) ≡ numbered a i (map view xs)
 numbered-seen view a i [] = refl
@@ -63,7 +63,7 @@ numbered-seen view a i (x ∷ xs) = ap (λ z. record { at = a ++ i ∷ []; value
 
 module _ {S R : Type 0} where
   -- a stage whose parts are these
-  pub stage_as : (t : Tree S R) (roots : List S) (r : Run) (h k : List (Option (Placed S))) (o p : List (Placed R)) (q u : List (List ℕ)) (b c : Board S R) → h ≡ k → o ≡ p → q ≡ u → b ≡ c
+  pub stage_as : (t : PlanTree S R) (roots : List S) (r : Run) (h k : List (Option (Addressed S))) (o p : List (Addressed R)) (q u : List (List ℕ)) (b c : Board S R) → h ≡ k → o ≡ p → q ≡ u → b ≡ c
       → Follows t roots r (record { hands = k; made = record { handed_out = p; taken = u; board = c } }) → Follows t roots r (record { hands = h; made = record { handed_out = o; taken = q; board = b } })
   stage_as t roots r h k o p q u b c eh eo eq eb f =
       subst (Follows t roots r) (λ i. record { hands = sym eh i; made = record { handed_out = sym eo i; taken = sym eq i; board = sym eb i } }) f
@@ -78,45 +78,45 @@ module _ {T Q S R : Type 0} (v : T → S) (w : Q → R) where
     running = new.running;
   }
 
-  pub take_refused : (t : Tree S R) → Falls t → (roots : List S) (r : Run) (hands : List (Option (Placed S))) (handed : List (Placed R)) (taken : List (List ℕ)) (b : Board T Q) (k : ℕ) (cause : TakeRefusal)
+  pub take_refused : (t : PlanTree S R) → Falls t → (roots : List S) (r : Run) (hands : List (Option (Addressed S))) (handed : List (Addressed R)) (taken : List (List ℕ)) (b : Board T Q) (k : ℕ) (cause : TakeRefusal)
       → Follows t roots r (record { hands = hands; made = record { handed_out = handed; taken = taken; board = seen_board v w b } }) → slice_get hands k ≡ Some None
-      → RefusesTake b cause → cause ≢ taking.Memory → take_by (places (specs_in_preorder t roots)) r k (slice_get r.hands k) ≡ r
+      → RefusesTake b cause → cause ≢ taking.Memory → take_by (addresses_of (specs_in_preorder t roots)) r k (slice_get r.hands k) ≡ r
   take_refused t falls roots r hands handed taken b k taking.Stopped f free refused other = absurd (false≢true (sym f.running ∙ refused))
   take_refused t falls roots r hands handed taken b k taking.Empty f free refused other = skips_take t falls roots r _ f k free (ap (map (seen v)) refused.1)
   take_refused t falls roots r hands handed taken b k taking.Done f free refused other = skips_take t falls roots r _ f k free (ap (map (seen v)) refused.1)
   take_refused t falls roots r hands handed taken b k taking.Memory f free refused other = absurd (other refl)
 
-  pub hand_out_refused : (t : Tree S R) → Falls t → (roots : List S) (r : Run) (hands : List (Option (Placed S))) (handed : List (Placed R)) (taken : List (List ℕ)) (b : Board T Q) (cause : HandOutRefusal)
+  pub hand_out_refused : (t : PlanTree S R) → Falls t → (roots : List S) (r : Run) (hands : List (Option (Addressed S))) (handed : List (Addressed R)) (taken : List (List ℕ)) (b : Board T Q) (cause : HandOutRefusal)
       → Follows t roots r (record { hands = hands; made = record { handed_out = handed; taken = taken; board = seen_board v w b } })
-      → RefusesHandOut b cause → cause ≢ handing_out.Memory → hand_out_next r (slice_get (places (specs_in_preorder t roots)) r.handed_out) ≡ r
+      → RefusesHandOut b cause → cause ≢ handing_out.Memory → hand_out_next r (slice_get (addresses_of (specs_in_preorder t roots)) r.handed_out) ≡ r
   hand_out_refused t falls roots r hands handed taken b handing_out.Stopped f refused other = absurd (false≢true (sym f.running ∙ refused))
   hand_out_refused t falls roots r hands handed taken b handing_out.Done f refused other = skips_done t falls roots r _ f refused.1
   hand_out_refused t falls roots r hands handed taken b handing_out.NotReady f refused other =
       skips_not_ready t falls roots r _ f refused.1
-      (subst (λ z. (0 < times (next_address b.frontier) z) ⊎ (0 < times (next_address b.frontier) b.in_hand)) (sym (places-seen v b.queued)) refused.2)
+      (subst (λ z. (0 < times (next_address b.frontier) z) ⊎ (0 < times (next_address b.frontier) b.in_hand)) (sym (addresses_of-seen v b.queued)) refused.2)
   hand_out_refused t falls roots r hands handed taken b handing_out.Memory f refused other = absurd (other refl)
 
-  module _ {A : Type 0} (t : Tree S R) (falls : Falls t) (roots : List S) (r : Run) where
-    pub played_take : (hands : List (Option (Ordered T A))) (handed : List (Placed R)) (taken : List (List ℕ)) (b c : Board T Q) (k : ℕ) (item : Ordered T A) (path : List ℕ)
+  module _ {A : Type 0} (t : PlanTree S R) (falls : Falls t) (roots : List S) (r : Run) where
+    pub played_take : (hands : List (Option (Ordered T A))) (handed : List (Addressed R)) (taken : List (List ℕ)) (b c : Board T Q) (k : ℕ) (item : Ordered T A) (path : List ℕ)
         → Follows t roots r (record { hands = map (option_map (seen_item v)) hands; made = record { handed_out = handed; taken = taken; board = seen_board v w b } })
         → slice_get hands k ≡ Some None → Takes item b c → path ≡ address_of item
-        → Follows t roots (take_by (places (specs_in_preorder t roots)) r k (slice_get r.hands k))
+        → Follows t roots (take_by (addresses_of (specs_in_preorder t roots)) r k (slice_get r.hands k))
         (record { hands = map (option_map (seen_item v)) (set hands k (Some item)); made = record { handed_out = handed; taken = taken ++ path ∷ []; board = seen_board v w c } })
     played_take hands handed taken b c k item path f free takes path-is =
-        stage_as t roots (take_by (places (specs_in_preorder t roots)) r k (slice_get r.hands k)) _ _ _ _ _ _ _ _
+        stage_as t roots (take_by (addresses_of (specs_in_preorder t roots)) r k (slice_get r.hands k)) _ _ _ _ _ _ _ _
         (map-set (option_map (seen_item v)) hands k (Some item)) refl (ap (λ z. taken ++ z ∷ []) path-is) (ap (seen_board v w) takes.others)
         (follows_take t falls roots r _ f k (slice_get-map (option_map (seen_item v)) hands k ∙ ap (option_map (option_map (seen_item v))) free) (seen_item v item) (map (seen v) c.queued) c.in_hand
-        (IsPermutation-map (seen v) b.queued (placed item ∷ c.queued) takes.queued)
+        (IsPermutation-map (seen v) b.queued (addressed item ∷ c.queued) takes.queued)
         (All-map (λ y. is_before y.at (address_of item) ≡ false) (seen v) b.queued takes.least) takes.in_hand)
 
-    pub played_finish : (hands : List (Option (Ordered T A))) (handed : List (Placed R)) (taken : List (List ℕ)) (b c : Board T Q) (k : ℕ) (item : Ordered T A) (reading : Q) (children : List T)
+    pub played_finish : (hands : List (Option (Ordered T A))) (handed : List (Addressed R)) (taken : List (List ℕ)) (b c : Board T Q) (k : ℕ) (item : Ordered T A) (reading : Q) (children : List T)
         → Follows t roots r (record { hands = map (option_map (seen_item v)) hands; made = record { handed_out = handed; taken = taken; board = seen_board v w b } })
         → slice_get hands k ≡ Some (Some item) → w reading ≡ t.reading (v item.value) → map v children ≡ t.children (v item.value) → Finishes (address_of item) reading children b c
         → Follows t roots (finish_by r k (slice_get r.hands k))
         (record { hands = map (option_map (seen_item v)) (set hands k None); made = record { handed_out = handed; taken = taken; board = seen_board v w c } })
     played_finish hands handed taken b c k item reading children f holds reading-is children-is p =
         let a : List ℕ = address_of item in
-        let x : Placed Q = record { at = a; value = reading; child_count = length children } in
+        let x : Addressed Q = record { at = a; value = reading; child_count = length children } in
         let count : length children ≡ length (t.children (v item.value)) = sym (length-map children v) ∙ ap length children-is in
         let x-is : seen w x ≡ read t (node t a (v item.value)) = λ i. record { at = a; value = reading-is i; child_count = count i } in
         let ready = subst (λ z. IsPermutation (z ∷ map (seen w) b.ready) (map (seen w) c.ready)) x-is (IsPermutation-map (seen w) (x ∷ b.ready) c.ready p.ready) in
@@ -128,10 +128,10 @@ module _ {T Q S R : Type 0} (v : T → S) (w : Q → R) where
         (follows_finish t falls roots r _ f k (seen_item v item) (slice_get-map (option_map (seen_item v)) hands k ∙ ap (option_map (option_map (seen_item v))) holds)
         (map (seen v) c.queued) c.in_hand (map (seen w) c.ready) p.in_hand ready queued)
 
-    pub played_hand_out : (hands : List (Option (Placed S))) (handed : List (Placed R)) (taken : List (List ℕ)) (b c : Board T Q) (item : Ordered Q A)
+    pub played_hand_out : (hands : List (Option (Addressed S))) (handed : List (Addressed R)) (taken : List (List ℕ)) (b c : Board T Q) (item : Ordered Q A)
         → Follows t roots r (record { hands = hands; made = record { handed_out = handed; taken = taken; board = seen_board v w b } }) → HandsOut item b c
-        → Follows t roots (hand_out_next r (slice_get (places (specs_in_preorder t roots)) r.handed_out))
+        → Follows t roots (hand_out_next r (slice_get (addresses_of (specs_in_preorder t roots)) r.handed_out))
         (record { hands = hands; made = record { handed_out = handed ++ seen_item w item ∷ []; taken = taken; board = seen_board v w c } })
     played_hand_out hands handed taken b c item f h =
-        stage_as t roots (hand_out_next r (slice_get (places (specs_in_preorder t roots)) r.handed_out)) _ _ _ _ _ _ _ _ refl refl refl (ap (seen_board v w) h.others)
-        (follows_hand_out t falls roots r _ f h.some (seen_item w item) (map (seen w) c.ready) h.next (IsPermutation-map (seen w) b.ready (placed item ∷ c.ready) h.ready))
+        stage_as t roots (hand_out_next r (slice_get (addresses_of (specs_in_preorder t roots)) r.handed_out)) _ _ _ _ _ _ _ _ refl refl refl (ap (seen_board v w) h.others)
+        (follows_hand_out t falls roots r _ f h.some (seen_item w item) (map (seen w) c.ready) h.next (IsPermutation-map (seen w) b.ready (addressed item ∷ c.ready) h.ready))

@@ -10,8 +10,8 @@ use Rattle.jwalk_order.specs.IndexPath.{is_before}
 use Rattle.std.proofs.Math.Nat.{eq-zero-or-pos}
 use Rattle.jwalk_board.specs.Addresses.{is_same, times}
 use Rattle.jwalk_board.specs.Left.{is_left}
-use Rattle.jwalk_board.specs.Placed.{Placed, places, numbered}
-use Rattle.jwalk_board.specs.Plan.{Tree, Falls, forest, node, subtree_within, subtree, specs_in_preorder}
+use Rattle.jwalk_board.specs.Addressed.{Addressed, addresses_of, numbered}
+use Rattle.jwalk_board.specs.Plan.{PlanTree, Falls, forest, node, subtree_within, subtree, specs_in_preorder}
 use Rattle.jwalk_board.proofs.Children.{HasParent, IsChild, times-contains, at_most_one}
 use Rattle.jwalk_board.proofs.Left.{left-below, left-children, not_before-below}
 use Rattle.jwalk_board.proofs.Sets.{same, times-append, times-itself, among_cases}
@@ -75,10 +75,10 @@ ascending-once a (x ∷ xs) h =
 -- ---- parents in longer lists
 
 module _ {V : Type 0} where
-  pub has_more : {c : List ℕ} (xs ys : List (Placed V)) → HasParent c ys → HasParent c (xs ++ ys)
+  pub has_more : {c : List ℕ} (xs ys : List (Addressed V)) → HasParent c ys → HasParent c (xs ++ ys)
   has_more xs ys p = record { parent = p.parent; index = p.index; there = Contains-append_right xs ys p.parent p.there; below = p.below; is = p.is }
 
-  pub has_less : {c : List ℕ} (xs ys : List (Placed V)) → HasParent c xs → HasParent c (xs ++ ys)
+  pub has_less : {c : List ℕ} (xs ys : List (Addressed V)) → HasParent c xs → HasParent c (xs ++ ys)
   has_less xs ys p = record { parent = p.parent; index = p.index; there = Contains-append_left xs ys p.parent p.there; below = p.below; is = p.is }
 
 -- ---- what a subtree starts with
@@ -91,29 +91,29 @@ abbrev pub IsBelowChild : List ℕ → ℕ → List ℕ → Type 0
 IsBelowChild a i y = (j : ℕ) × (i ≤ j) × ((rest : List ℕ) × (y ≡ a ++ j ∷ rest))
 
 module _ {S : Type 0} where
-  forest_starts : (f : List ℕ → S → List (Placed S)) → ((a : List ℕ) (s : S) (y : List ℕ) → 0 < times y (places (f a s)) → IsAtOrBelow a y)
-      → (a : List ℕ) (i : ℕ) (specs : List S) (y : List ℕ) → 0 < times y (places (forest f a i specs)) → IsBelowChild a i y
+  forest_starts : (f : List ℕ → S → List (Addressed S)) → ((a : List ℕ) (s : S) (y : List ℕ) → 0 < times y (addresses_of (f a s)) → IsAtOrBelow a y)
+      → (a : List ℕ) (i : ℕ) (specs : List S) (y : List ℕ) → 0 < times y (addresses_of (forest f a i specs)) → IsBelowChild a i y
   forest_starts f starts a i [] y h = absurd (omega arith)
   forest_starts f starts a i (s ∷ specs) y h =
-      let both : times y (places (f (a ++ i ∷ []) s ++ forest f a (i + 1) specs)) ≡ times y (places (f (a ++ i ∷ []) s)) + times y (places (forest f a (i + 1) specs)) =
-      ap (times y) (map-append (λ x. x.at) (f (a ++ i ∷ []) s) (forest f a (i + 1) specs)) ∙ times-append y (places (f (a ++ i ∷ []) s)) (places (forest f a (i + 1) specs)) in
+      let both : times y (addresses_of (f (a ++ i ∷ []) s ++ forest f a (i + 1) specs)) ≡ times y (addresses_of (f (a ++ i ∷ []) s)) + times y (addresses_of (forest f a (i + 1) specs)) =
+      ap (times y) (map-append (λ x. x.at) (f (a ++ i ∷ []) s) (forest f a (i + 1) specs)) ∙ times-append y (addresses_of (f (a ++ i ∷ []) s)) (addresses_of (forest f a (i + 1) specs)) in
       ⊎_elim
-      (λ (none : times y (places (f (a ++ i ∷ []) s)) ≡ 0).
+      (λ (none : times y (addresses_of (f (a ++ i ∷ []) s)) ≡ 0).
       let r = forest_starts f starts a (i + 1) specs y (omega (arith, both)) in
       let low : i ≤ r.0 = omega (arith, r.1) in
       (r.0, low, r.2))
-      (λ (some : 0 < times y (places (f (a ++ i ∷ []) s))).
+      (λ (some : 0 < times y (addresses_of (f (a ++ i ∷ []) s))).
       let r = starts (a ++ i ∷ []) s y some in
       let low : i ≤ i = omega arith in
       (i, low, (r.0, r.1 ∙ append_assoc a (i ∷ []) r.0)))
-      (eq-zero-or-pos (times y (places (f (a ++ i ∷ []) s))))
+      (eq-zero-or-pos (times y (addresses_of (f (a ++ i ∷ []) s))))
 
-  forest_ascends : (f : List ℕ → S → List (Placed S)) → ((a : List ℕ) (s : S) (y : List ℕ) → 0 < times y (places (f a s)) → IsAtOrBelow a y)
-      → ((a : List ℕ) (s : S) → IsAscending (places (f a s))) → (a : List ℕ) (i : ℕ) (specs : List S) → IsAscending (places (forest f a i specs))
+  forest_ascends : (f : List ℕ → S → List (Addressed S)) → ((a : List ℕ) (s : S) (y : List ℕ) → 0 < times y (addresses_of (f a s)) → IsAtOrBelow a y)
+      → ((a : List ℕ) (s : S) → IsAscending (addresses_of (f a s))) → (a : List ℕ) (i : ℕ) (specs : List S) → IsAscending (addresses_of (forest f a i specs))
   forest_ascends f starts ascends a i [] = tt
   forest_ascends f starts ascends a i (s ∷ specs) =
       subst IsAscending (sym (map-append (λ x. x.at) (f (a ++ i ∷ []) s) (forest f a (i + 1) specs)))
-      (ascending-append (places (f (a ++ i ∷ []) s)) (places (forest f a (i + 1) specs)) (ascends (a ++ i ∷ []) s) (forest_ascends f starts ascends a (i + 1) specs)
+      (ascending-append (addresses_of (f (a ++ i ∷ []) s)) (addresses_of (forest f a (i + 1) specs)) (ascends (a ++ i ∷ []) s) (forest_ascends f starts ascends a (i + 1) specs)
       (λ x y m n.
       let p = starts (a ++ i ∷ []) s x m in
       let q = forest_starts f starts a (i + 1) specs y n in
@@ -123,27 +123,27 @@ module _ {S : Type 0} where
       ∙ left-is_before ((a ++ i ∷ []) ++ p.0) ((a ++ q.0 ∷ []) ++ q.2.0) l))
 
   -- two trees that agree on these specifications
-  forest_same : (f g : List ℕ → S → List (Placed S)) (a : List ℕ) (i : ℕ) (specs : List S) → All (λ c. (b : List ℕ) → f b c ≡ g b c) specs → forest f a i specs ≡ forest g a i specs
+  forest_same : (f g : List ℕ → S → List (Addressed S)) (a : List ℕ) (i : ℕ) (specs : List S) → All (λ c. (b : List ℕ) → f b c ≡ g b c) specs → forest f a i specs ≡ forest g a i specs
   forest_same f g a i [] h = refl
   forest_same f g a i (s ∷ specs) h =
       ap (λ z. z ++ forest f a (i + 1) specs) (All-head (λ c. (b : List ℕ) → f b c ≡ g b c) s specs h (a ++ i ∷ []))
       ∙ ap (λ z. g (a ++ i ∷ []) s ++ z) (forest_same f g a (i + 1) specs (All-tail (λ c. (b : List ℕ) → f b c ≡ g b c) s specs h))
 
-  cons_at : (x y : Placed S) (xs : List (Placed S)) (k : ℕ) → k < length (x ∷ xs) → get_or (x ∷ xs) k y ≡ y → (y ≡ x) ⊎ Contains xs y
+  cons_at : (x y : Addressed S) (xs : List (Addressed S)) (k : ℕ) → k < length (x ∷ xs) → get_or (x ∷ xs) k y ≡ y → (y ≡ x) ⊎ Contains xs y
   cons_at x y xs zero less e = inl (sym e)
   cons_at x y xs (suc k) less e = let l : k < length xs = omega arith in inr (k, l, e)
 
-  pub cons_cases : (x y : Placed S) (xs : List (Placed S)) → Contains (x ∷ xs) y → (y ≡ x) ⊎ Contains xs y
+  pub cons_cases : (x y : Addressed S) (xs : List (Addressed S)) → Contains (x ∷ xs) y → (y ≡ x) ⊎ Contains xs y
   cons_cases x y xs h = cons_at x y xs h.0 h.1 h.2
 
-  pub contains_first : (x : Placed S) (xs : List (Placed S)) → Contains (x ∷ xs) x
+  pub contains_first : (x : Addressed S) (xs : List (Addressed S)) → Contains (x ∷ xs) x
   contains_first x xs = let l : 0 < length (x ∷ xs) = omega arith in (0, l, refl)
 
-  pub contains_later : (x y : Placed S) (xs : List (Placed S)) → Contains xs y → Contains (x ∷ xs) y
+  pub contains_later : (x y : Addressed S) (xs : List (Addressed S)) → Contains xs y → Contains (x ∷ xs) y
   contains_later x y xs h = Contains-append_right (x ∷ []) xs y h
 
-  -- One address, one place.
-  pub unique : (xs : List (Placed S)) → IsAscending (places xs) → (x y : Placed S) → Contains xs x → Contains xs y → x.at ≡ y.at → x ≡ y
+  -- One address, one value.
+  pub unique : (xs : List (Addressed S)) → IsAscending (addresses_of xs) → (x y : Addressed S) → Contains xs x → Contains xs y → x.at ≡ y.at → x ≡ y
   unique [] h x y m n e = absurd (let l : m.0 < 0 = m.1 in omega arith)
   unique (z ∷ zs) h x y m n e =
       ⊎_elim
@@ -161,39 +161,39 @@ module _ {S : Type 0} where
       (cons_cases z y zs n))
       (cons_cases z x zs m)
 
-  forest_parent : (f : List ℕ → S → List (Placed S)) → ((a : List ℕ) (s : S) (y : List ℕ) → 0 < times y (places (f a s)) → (y ≡ a) ⊎ HasParent y (f a s))
-      → (a : List ℕ) (i : ℕ) (specs : List S) (y : List ℕ) → 0 < times y (places (forest f a i specs)) → IsChild y a i (length specs) ⊎ HasParent y (forest f a i specs)
+  forest_parent : (f : List ℕ → S → List (Addressed S)) → ((a : List ℕ) (s : S) (y : List ℕ) → 0 < times y (addresses_of (f a s)) → (y ≡ a) ⊎ HasParent y (f a s))
+      → (a : List ℕ) (i : ℕ) (specs : List S) (y : List ℕ) → 0 < times y (addresses_of (forest f a i specs)) → IsChild y a i (length specs) ⊎ HasParent y (forest f a i specs)
   forest_parent f parents a i [] y h = absurd (omega arith)
   forest_parent f parents a i (s ∷ specs) y h =
-      let here : List (Placed S) = f (a ++ i ∷ []) s in
-      let later : List (Placed S) = forest f a (i + 1) specs in
-      let both : times y (places (here ++ later)) ≡ times y (places here) + times y (places later) =
-      ap (times y) (map-append (λ x. x.at) here later) ∙ times-append y (places here) (places later) in
+      let here : List (Addressed S) = f (a ++ i ∷ []) s in
+      let later : List (Addressed S) = forest f a (i + 1) specs in
+      let both : times y (addresses_of (here ++ later)) ≡ times y (addresses_of here) + times y (addresses_of later) =
+      ap (times y) (map-append (λ x. x.at) here later) ∙ times-append y (addresses_of here) (addresses_of later) in
       ⊎_elim
-      (λ (none : times y (places here) ≡ 0).
+      (λ (none : times y (addresses_of here) ≡ 0).
       ⊎_elim
       (λ (k : IsChild y a (i + 1) (length specs)).
       let low : i ≤ k.0 = omega (arith, k.1) in let high : k.0 < i + length (s ∷ specs) = omega (arith, k.2) in inl (k.0, low, high, k.3))
       (λ (p : HasParent y later). inr (has_more here later p))
       (forest_parent f parents a (i + 1) specs y (omega (arith, both))))
-      (λ (some : 0 < times y (places here)).
+      (λ (some : 0 < times y (addresses_of here)).
       ⊎_elim
       (λ (e : y ≡ a ++ i ∷ []). let low : i ≤ i = omega arith in let high : i < i + length (s ∷ specs) = omega arith in inl (i, low, high, e))
       (λ (p : HasParent y here). inr (has_less here later p))
       (parents (a ++ i ∷ []) s y some))
-      (eq-zero-or-pos (times y (places here)))
+      (eq-zero-or-pos (times y (addresses_of here)))
 
-module _ {S R : Type 0} (t : Tree S R) where
-  within_starts : (n : ℕ) (a : List ℕ) (s : S) (y : List ℕ) → 0 < times y (places (subtree_within t n a s)) → IsAtOrBelow a y
+module _ {S R : Type 0} (t : PlanTree S R) where
+  within_starts : (n : ℕ) (a : List ℕ) (s : S) (y : List ℕ) → 0 < times y (addresses_of (subtree_within t n a s)) → IsAtOrBelow a y
   within_starts zero a s y h = absurd (omega arith)
   within_starts (suc n) a s y h =
       ⊎_elim
       (λ (e : a ≡ y). ([], sym e ∙ sym (append-nil a)))
-      (λ (m : 0 < times y (places (forest (subtree_within t n) a 0 (t.children s)))).
+      (λ (m : 0 < times y (addresses_of (forest (subtree_within t n) a 0 (t.children s)))).
       let r = forest_starts (subtree_within t n) (within_starts n) a 0 (t.children s) y m in (r.0 ∷ r.2.0, r.2.1))
-      (among_cases y a (places (forest (subtree_within t n) a 0 (t.children s))) h)
+      (among_cases y a (addresses_of (forest (subtree_within t n) a 0 (t.children s))) h)
 
-  within_ascends : (n : ℕ) (a : List ℕ) (s : S) → IsAscending (places (subtree_within t n a s))
+  within_ascends : (n : ℕ) (a : List ℕ) (s : S) → IsAscending (addresses_of (subtree_within t n a s))
   within_ascends zero a s = tt
   within_ascends (suc n) a s = (
     λ y m.
@@ -202,27 +202,27 @@ module _ {S R : Type 0} (t : Tree S R) where
     forest_ascends (subtree_within t n) (within_starts n) (within_ascends n) a 0 (t.children s),
   )
 
-  within_parent : (n : ℕ) (a : List ℕ) (s : S) (y : List ℕ) → 0 < times y (places (subtree_within t n a s)) → (y ≡ a) ⊎ HasParent y (subtree_within t n a s)
+  within_parent : (n : ℕ) (a : List ℕ) (s : S) (y : List ℕ) → 0 < times y (addresses_of (subtree_within t n a s)) → (y ≡ a) ⊎ HasParent y (subtree_within t n a s)
   within_parent zero a s y h = absurd (omega arith)
   within_parent (suc n) a s y h =
-      let below : List (Placed S) = forest (subtree_within t n) a 0 (t.children s) in
+      let below : List (Addressed S) = forest (subtree_within t n) a 0 (t.children s) in
       ⊎_elim
       (λ (e : a ≡ y). inl (sym e))
-      (λ (m : 0 < times y (places below)).
+      (λ (m : 0 < times y (addresses_of below)).
       ⊎_elim
       (λ (k : IsChild y a 0 (length (t.children s))).
       let less : k.0 < (node t a s).child_count = omega (arith, k.2) in
       let p : HasParent y (node t a s ∷ below) = record { parent = node t a s; index = k.0; there = contains_first (node t a s) below; below = less; is = k.3 } in inr p)
       (λ (p : HasParent y below). inr (has_more (node t a s ∷ []) below p))
       (forest_parent (subtree_within t n) (within_parent n) a 0 (t.children s) y m))
-      (among_cases y a (places below) h)
+      (among_cases y a (addresses_of below) h)
 
-  pub ascends : (roots : List S) → IsAscending (places (specs_in_preorder t roots))
+  pub ascends : (roots : List S) → IsAscending (addresses_of (specs_in_preorder t roots))
   ascends roots =
       forest_ascends (subtree t) (λ a s. within_starts (suc (t.height s)) a s) (λ a s. within_ascends (suc (t.height s)) a s) [] 0 roots
 
   -- An address of the preorder is that of a root, or has its parent there.
-  pub root_or_child : (roots : List S) (y : List ℕ) → 0 < times y (places (specs_in_preorder t roots)) → IsChild y [] 0 (length roots) ⊎ HasParent y (specs_in_preorder t roots)
+  pub root_or_child : (roots : List S) (y : List ℕ) → 0 < times y (addresses_of (specs_in_preorder t roots)) → IsChild y [] 0 (length roots) ⊎ HasParent y (specs_in_preorder t roots)
   root_or_child roots y h = forest_parent (subtree t) (λ a s. within_parent (suc (t.height s)) a s) [] 0 roots y h
 
   module _ (falls : Falls t) where
@@ -243,28 +243,24 @@ module _ {S R : Type 0} (t : Tree S R) where
         (All-weaker (λ c. t.height c < t.height s) (λ c. (b : List ℕ) → subtree_within t (t.height s) b c ≡ subtree t b c)
         (λ c less b. within_same (t.height s) (suc (t.height c)) b c less (omega arith)) (t.children s) (falls s)))
 
-    -- What lies below a specification of a subtree lies in it.
-    IsClosed : List (Placed S) → Placed S → Type 0
-    IsClosed xs x = (z : Placed S) → Contains (forest (subtree t) x.at 0 (t.children x.value)) z → Contains xs z
-
-    forest_closed : (f : List ℕ → S → List (Placed S)) (a : List ℕ) (i : ℕ) (specs : List S)
-        → All (λ c. (b : List ℕ) (x : Placed S) → Contains (f b c) x → (z : Placed S) → Contains (forest (subtree t) x.at 0 (t.children x.value)) z → Contains (f b c) z) specs
-        → (x : Placed S) → Contains (forest f a i specs) x → (z : Placed S) → Contains (forest (subtree t) x.at 0 (t.children x.value)) z → Contains (forest f a i specs) z
+    forest_closed : (f : List ℕ → S → List (Addressed S)) (a : List ℕ) (i : ℕ) (specs : List S)
+        → All (λ c. (b : List ℕ) (x : Addressed S) → Contains (f b c) x → (z : Addressed S) → Contains (forest (subtree t) x.at 0 (t.children x.value)) z → Contains (f b c) z) specs
+        → (x : Addressed S) → Contains (forest f a i specs) x → (z : Addressed S) → Contains (forest (subtree t) x.at 0 (t.children x.value)) z → Contains (forest f a i specs) z
     forest_closed f a i [] h x m z k = absurd (let l : m.0 < 0 = m.1 in omega arith)
     forest_closed f a i (s ∷ specs) h x m z k =
-        let P : S → Type 0 = λ c. (b : List ℕ) (x : Placed S) → Contains (f b c) x → (z : Placed S) → Contains (forest (subtree t) x.at 0 (t.children x.value)) z → Contains (f b c) z in
-        let here : List (Placed S) = f (a ++ i ∷ []) s in
-        let later : List (Placed S) = forest f a (i + 1) specs in
+        let P : S → Type 0 = λ c. (b : List ℕ) (x : Addressed S) → Contains (f b c) x → (z : Addressed S) → Contains (forest (subtree t) x.at 0 (t.children x.value)) z → Contains (f b c) z in
+        let here : List (Addressed S) = f (a ++ i ∷ []) s in
+        let later : List (Addressed S) = forest f a (i + 1) specs in
         ⊎_elim
         (λ (p : Contains here x). Contains-append_left here later z (All-head P s specs h (a ++ i ∷ []) x p z k))
         (λ (p : Contains later x). Contains-append_right here later z (forest_closed f a (i + 1) specs (All-tail P s specs h) x p z k))
         (Contains-append_cases here later x m)
 
-    within_closed : (n : ℕ) (a : List ℕ) (s : S) → t.height s < n → (x : Placed S) → Contains (subtree_within t n a s) x
-        → (z : Placed S) → Contains (forest (subtree t) x.at 0 (t.children x.value)) z → Contains (subtree_within t n a s) z
+    within_closed : (n : ℕ) (a : List ℕ) (s : S) → t.height s < n → (x : Addressed S) → Contains (subtree_within t n a s) x
+        → (z : Addressed S) → Contains (forest (subtree t) x.at 0 (t.children x.value)) z → Contains (subtree_within t n a s) z
     within_closed zero a s h x m z k = absurd (omega arith)
     within_closed (suc n) a s h x m z k =
-        let below : List (Placed S) = forest (subtree_within t n) a 0 (t.children s) in
+        let below : List (Addressed S) = forest (subtree_within t n) a 0 (t.children s) in
         ⊎_elim
         (λ (e : x ≡ node t a s).
         let same : forest (subtree t) a 0 (t.children s) ≡ below =
@@ -277,11 +273,11 @@ module _ {S R : Type 0} (t : Tree S R) where
         contains_later (node t a s) z below
         (forest_closed (subtree_within t n) a 0 (t.children s)
         (All-weaker (λ c. t.height c < t.height s)
-        (λ c. (b : List ℕ) (x : Placed S) → Contains (subtree_within t n b c) x → (z : Placed S) → Contains (forest (subtree t) x.at 0 (t.children x.value)) z → Contains (subtree_within t n b c) z)
+        (λ c. (b : List ℕ) (x : Addressed S) → Contains (subtree_within t n b c) x → (z : Addressed S) → Contains (forest (subtree t) x.at 0 (t.children x.value)) z → Contains (subtree_within t n b c) z)
         (λ c less b y there w inner. within_closed n b c (omega arith) y there w inner) (t.children s) (falls s)) x p z k))
         (cons_cases (node t a s) x below m)
 
-    pub closed_below : (roots : List S) (x : Placed S) → Contains (specs_in_preorder t roots) x → (z : Placed S) → Contains (forest (subtree t) x.at 0 (t.children x.value)) z
+    pub closed_below : (roots : List S) (x : Addressed S) → Contains (specs_in_preorder t roots) x → (z : Addressed S) → Contains (forest (subtree t) x.at 0 (t.children x.value)) z
         → Contains (specs_in_preorder t roots) z
     closed_below roots x m z k =
         forest_closed (subtree t) [] 0 roots
@@ -291,8 +287,8 @@ module _ {S R : Type 0} (t : Tree S R) where
     pub children_there : (a : List ℕ) (i : ℕ) (specs : List S) → All (λ z. Contains (forest (subtree t) a i specs) (node t z.at z.value)) (numbered a i specs)
     children_there a i [] = All-nil (λ z. Contains (forest (subtree t) a i []) (node t z.at z.value))
     children_there a i (s ∷ specs) =
-        let here : List (Placed S) = subtree t (a ++ i ∷ []) s in
-        let later : List (Placed S) = forest (subtree t) a (i + 1) specs in
+        let here : List (Addressed S) = subtree t (a ++ i ∷ []) s in
+        let later : List (Addressed S) = forest (subtree t) a (i + 1) specs in
         let first : Contains here (node t (a ++ i ∷ []) s) =
         subst (λ w. Contains w (node t (a ++ i ∷ []) s)) (sym (subtree-is (a ++ i ∷ []) s)) (contains_first (node t (a ++ i ∷ []) s) (forest (subtree t) (a ++ i ∷ []) 0 (t.children s))) in
         All-cons (λ z. Contains (here ++ later) (node t z.at z.value)) (record { at = a ++ i ∷ []; value = s; child_count = 0 }) (numbered a (i + 1) specs)

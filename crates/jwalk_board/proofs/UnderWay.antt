@@ -8,7 +8,7 @@ use Rattle.std.specs.Option.{option_map}
 use Rattle.jwalk_order.specs.Ordered.{address_of}
 use Rattle.jwalk_order.specs.declared.ordered.Ordered.{Ordered}
 use Rattle.jwalk_board.specs.Addresses.{times}
-use Rattle.jwalk_board.specs.Board.{Board, IsNew, Takes, Finishes, HandsOut}
+use Rattle.jwalk_board.specs.Board.{Board, IsNew, Takes, Finishes}
 use Rattle.jwalk_board.specs.Refusal.{RefusesFinish}
 use Rattle.jwalk_board.specs.Run.{in_hands}
 use Rattle.jwalk_board.specs.Stage.{hands_of, IsUnderWay}
@@ -48,12 +48,6 @@ module _ {T R A : Type 0} where
           let held = in_hands-finished a (address_of item) (hands_of hands) k (address_in k (Some item) holds) in
           let same = ap (λ z. times a (in_hands z)) (map-set (option_map address_of) hands k None) in
           omega (arith, fewer, held, same, h.in_hand a);
-    }
-
-    pub handed_out : (item : Ordered R A) → HandsOut item b c → IsUnderWay hands c
-    handed_out item p = record {
-      running = ap (λ z. z.stopped) p.others ∙ h.running;
-      in_hand = λ a. ap (λ z. times a z.in_hand) p.others ∙ h.in_hand a;
     }
 
   -- What a worker holds is refused for want of memory alone.

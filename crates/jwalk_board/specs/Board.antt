@@ -7,46 +7,46 @@ use Rattle.jwalk_order.specs.Ordered.{address_of, child_count_of}
 use Rattle.jwalk_order.specs.declared.ordered.Ordered.{Ordered}
 use Rattle.jwalk_board.specs.Addresses.{times, IsAmong}
 use Rattle.jwalk_board.specs.Left.{IsApart}
-use Rattle.jwalk_board.specs.Placed.{Placed, placed, places, child_places, numbered, IsFirst}
+use Rattle.jwalk_board.specs.Addressed.{Addressed, addressed, addresses_of, child_addresses, numbered, IsFirst}
 
 -- No list but the frontier is in a particular order.
 pub record Board (T R : Type 0) : Type 0 where
   -- what waits to be taken
-  pub queued : List (Placed T)
+  pub queued : List (Addressed T)
   -- what was taken and is not finished
   pub in_hand : List (List ℕ)
   -- what is finished and waits to be handed out
-  pub ready : List (Placed R)
+  pub ready : List (Addressed R)
   -- the addresses still to be passed, the next one first
   pub frontier : List (List ℕ)
   pub stopped : Bool
 
 -- The open addresses: the least set that has the frontier and the children of each member that is ready.
-pub data IsOpen {R : Type 0} (frontier : List (List ℕ)) (ready : List (Placed R)) : List ℕ → Type 0 where
+pub data IsOpen {R : Type 0} (frontier : List (List ℕ)) (ready : List (Addressed R)) : List ℕ → Type 0 where
   of_frontier : {a : List ℕ} → IsAmong a frontier → IsOpen frontier ready a
-  of_parent : (x : Placed R) (i : ℕ) → Contains ready x → IsOpen frontier ready x.at → i < x.child_count → IsOpen frontier ready (x.at ++ i ∷ [])
+  of_parent : (x : Addressed R) (i : ℕ) → Contains ready x → IsOpen frontier ready x.at → i < x.child_count → IsOpen frontier ready (x.at ++ i ∷ [])
 
 module _ {T R : Type 0} where
   -- the addresses of all that is queued, in hand or ready
-  abbrev pub held : Board T R → List (List ℕ)
-  held b = places b.queued ++ (b.in_hand ++ places b.ready)
+  abbrev pub on_board : Board T R → List (List ℕ)
+  on_board b = addresses_of b.queued ++ (b.in_hand ++ addresses_of b.ready)
 
   -- What holds of every board. What it holds is its frontier, and the children of what is ready.
   pub record IsWhole (b : Board T R) : Type 0 where
-    pub each : (a : List ℕ) → times a (held b) ≡ times a b.frontier + times a (child_places b.ready)
-    pub once : (a : List ℕ) → times a (held b) ≤ 1
+    pub each : (a : List ℕ) → times a (on_board b) ≡ times a b.frontier + times a (child_addresses b.ready)
+    pub once : (a : List ℕ) → times a (on_board b) ≤ 1
     pub apart : IsApart b.frontier
     pub unread : All (λ x. x.child_count ≡ 0) b.queued
 
   -- What a caller may know of every board.
   pub record HoldsOpen (b : Board T R) : Type 0 where
     -- No address stands twice: queued, in hand and ready are disjoint.
-    pub once : (a : List ℕ) → times a (held b) ≤ 1
+    pub once : (a : List ℕ) → times a (on_board b) ≤ 1
     -- They are together the open addresses.
-    pub open_addresses : (a : List ℕ) → IsAmong a (held b) ↔ IsOpen b.frontier b.ready a
+    pub open_addresses : (a : List ℕ) → IsAmong a (on_board b) ↔ IsOpen b.frontier b.ready a
     -- The first of the frontier is the least of them.
-    pub next_is_open : b.frontier ≢ [] → IsAmong (next_address b.frontier) (held b)
-    pub next_is_least : (a : List ℕ) → IsAmong a (held b) → is_before a (next_address b.frontier) ≡ false
+    pub next_is_open : b.frontier ≢ [] → IsAmong (next_address b.frontier) (on_board b)
+    pub next_is_least : (a : List ℕ) → IsAmong a (on_board b) → is_before a (next_address b.frontier) ≡ false
 
   -- The roots are queued at `[0]`, `[1]` and so on.
   pub record IsNew (specs : List T) (b : Board T R) : Type 0 where
@@ -60,7 +60,7 @@ module _ {T R : Type 0} where
     -- The item, the least that is queued, goes in hand, and nothing else changes.
     pub record Takes (item : Ordered T A) (old new : Board T R) : Type 0 where
       pub running : old.stopped ≡ false
-      pub queued : IsPermutation old.queued (placed item ∷ new.queued)
+      pub queued : IsPermutation old.queued (addressed item ∷ new.queued)
       pub least : IsFirst (address_of item) old.queued
       pub unread : child_count_of item ≡ 0
       pub in_hand : IsPermutation (address_of item ∷ old.in_hand) new.in_hand
@@ -72,7 +72,7 @@ module _ {T R : Type 0} where
       pub running : old.stopped ≡ false
       pub some : old.frontier ≢ []
       pub next : address_of item ≡ next_address old.frontier
-      pub ready : IsPermutation old.ready (placed item ∷ new.ready)
+      pub ready : IsPermutation old.ready (addressed item ∷ new.ready)
       pub others : new ≡ record old { ready = new.ready; frontier = passed old.frontier (child_count_of item) }
 
   -- The address goes from in hand to ready, with its reading and the count of its children, which are queued. Nothing

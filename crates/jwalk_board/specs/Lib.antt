@@ -1,8 +1,8 @@
+pub mod Addressed
 pub mod Addresses
 pub mod Board
 pub mod Heap
 pub mod Left
-pub mod Placed
 pub mod Plan
 pub mod Refusal
 pub mod Rehearsal

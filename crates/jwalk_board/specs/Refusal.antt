@@ -3,7 +3,7 @@ use Rattle.std.specs.Prelude.{◌≡◌, ◌≢◌, ℕ, true, false, List, [], 
 use Rattle.jwalk_order.specs.Frontier.{next_address}
 use Rattle.jwalk_board.specs.Addresses.{IsAmong}
 use Rattle.jwalk_board.specs.Board.{Board}
-use Rattle.jwalk_board.specs.Placed.{places}
+use Rattle.jwalk_board.specs.Addressed.{addresses_of}
 use Rattle.jwalk_board.specs.declared.board.refusal.TakeRefusal.{TakeRefusal}
 use Rattle.jwalk_board.specs.declared.board.refusal.TakeRefusal.TheVariants as taking
 use Rattle.jwalk_board.specs.declared.board.refusal.FinishRefusal.{FinishRefusal}
@@ -26,5 +26,5 @@ module _ {T R : Type 0} where
   abbrev pub RefusesHandOut : Board T R → HandOutRefusal → Type 0
   RefusesHandOut b handing_out.Stopped = b.stopped ≡ true
   RefusesHandOut b handing_out.Done = (b.stopped ≡ false) × (b.frontier ≡ [])
-  RefusesHandOut b handing_out.NotReady = (b.stopped ≡ false) × (b.frontier ≢ []) × (IsAmong (next_address b.frontier) (places b.queued) ⊎ IsAmong (next_address b.frontier) b.in_hand)
-  RefusesHandOut b handing_out.Memory = (b.stopped ≡ false) × (b.frontier ≢ []) × IsAmong (next_address b.frontier) (places b.ready)
+  RefusesHandOut b handing_out.NotReady = (b.stopped ≡ false) × (b.frontier ≢ []) × (IsAmong (next_address b.frontier) (addresses_of b.queued) ⊎ IsAmong (next_address b.frontier) b.in_hand)
+  RefusesHandOut b handing_out.Memory = (b.stopped ≡ false) × (b.frontier ≢ []) × IsAmong (next_address b.frontier) (addresses_of b.ready)

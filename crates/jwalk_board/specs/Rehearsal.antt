@@ -1,53 +1,53 @@
--- How a rehearsal answers a run of moves.
+-- What a rehearsal makes of a run of moves.
 use Rattle.std.specs.Prelude.{◌≡◌, ℕ, ◌+◌, ◌≤◌, false, List, [], ◌∷◌, ◌++◌, length, map, take, drop, All, Contains, slice_get, Option, Some}
 use Rattle.std.specs.List.{filter}
 use Rattle.std.specs.Option.{option_map}
 use Rattle.jwalk_order.specs.Frontier.{roots as root_addresses}
 use Rattle.jwalk_board.specs.Addresses.{times}
-use Rattle.jwalk_board.specs.Board.{Board, held, IsWhole}
-use Rattle.jwalk_board.specs.Placed.{Placed, places, child_places}
-use Rattle.jwalk_board.specs.Plan.{Tree, node, read, subtree, specs_in_preorder, preorder}
+use Rattle.jwalk_board.specs.Board.{Board, on_board, IsWhole}
+use Rattle.jwalk_board.specs.Addressed.{Addressed, addresses_of, child_addresses}
+use Rattle.jwalk_board.specs.Plan.{PlanTree, node, read, subtree, specs_in_preorder, readings_in_preorder}
 use Rattle.jwalk_board.specs.Run.{Run, is_queued, in_hands}
 
 -- what was handed out and taken, and the board
-pub record Made (S R : Type 0) : Type 0 where
-  pub handed_out : List (Placed R)
+pub record Rehearsed (S R : Type 0) : Type 0 where
+  pub handed_out : List (Addressed R)
   pub taken : List (List ℕ)
   pub board : Board S R
 
--- What follows for readings in the order of a preorder.
-pub record IsInOrder {S R : Type 0} (preorder : List (Placed R)) (m : Made S R) : Type 0 where
+-- What follows, where these are all readings in preorder.
+pub record IsInOrder {S R : Type 0} (all : List (Addressed R)) (m : Rehearsed S R) : Type 0 where
   pub count : ℕ
-  -- What was handed out is a beginning of the preorder.
-  pub beginning : m.handed_out ≡ take count preorder
+  -- What was handed out is a beginning of them.
+  pub beginning : m.handed_out ≡ take count all
   -- No address was taken twice.
   pub once : (a : List ℕ) → times a m.taken ≤ 1
-  -- It is the whole preorder once nothing is left.
-  pub whole : m.board.queued ≡ [] → m.board.in_hand ≡ [] → m.board.ready ≡ [] → m.handed_out ≡ preorder
+  -- It is all of them once nothing is left.
+  pub whole : m.board.queued ≡ [] → m.board.in_hand ≡ [] → m.board.ready ≡ [] → m.handed_out ≡ all
 
 -- a rehearsal under way, with what each worker holds
 pub record Stage (S R : Type 0) : Type 0 where
-  pub hands : List (Option (Placed S))
-  pub made : Made S R
+  pub hands : List (Option (Addressed S))
+  pub made : Rehearsed S R
 
 -- the subtrees of these specifications, one after another
-abbrev pub trees : {S R : Type 0} → Tree S R → List (Placed S) → List (Placed S)
+abbrev pub trees : {S R : Type 0} → PlanTree S R → List (Addressed S) → List (Addressed S)
 trees t [] = []
 trees t (x ∷ xs) = subtree t x.at x.value ++ trees t xs
 
-module _ {S R : Type 0} (t : Tree S R) (roots : List S) where
+module _ {S R : Type 0} (t : PlanTree S R) (roots : List S) where
   -- It is what the run leaves.
-  pub record Answers (r : Run) (m : Made S R) : Type 0 where
-    pub handed_out : m.handed_out ≡ take r.handed_out (preorder t roots)
+  pub record MatchesRun (r : Run) (m : Rehearsed S R) : Type 0 where
+    pub handed_out : m.handed_out ≡ take r.handed_out (readings_in_preorder t roots)
     pub taken : m.taken ≡ r.taken
     -- The board has the run's addresses: those that are queued, in hand, and finished but not handed out.
-    pub queued : (a : List ℕ) → times a (places m.board.queued) ≡ times a (filter (is_queued r) (places (specs_in_preorder t roots)))
+    pub queued : (a : List ℕ) → times a (addresses_of m.board.queued) ≡ times a (filter (is_queued r) (addresses_of (specs_in_preorder t roots)))
     pub in_hand : (a : List ℕ) → times a m.board.in_hand ≡ times a (in_hands r.hands)
-    pub ready : (a : List ℕ) → times a (places m.board.ready) + times a (take r.handed_out (places (specs_in_preorder t roots))) ≡ times a r.finished
+    pub ready : (a : List ℕ) → times a (addresses_of m.board.ready) + times a (take r.handed_out (addresses_of (specs_in_preorder t roots))) ≡ times a r.finished
     pub running : m.board.stopped ≡ false
     -- It has the plan's specifications, readings and counts.
     pub specs : All (λ x. Contains (specs_in_preorder t roots) (node t x.at x.value)) m.board.queued
-    pub readings : All (Contains (preorder t roots)) m.board.ready
+    pub readings : All (Contains (readings_in_preorder t roots)) m.board.ready
 
   -- It is where the run is. What is finished has its specifications, and what is left to be handed out is the subtrees
   -- of the frontier.
@@ -56,17 +56,17 @@ module _ {S R : Type 0} (t : Tree S R) (roots : List S) where
     pub running : st.made.board.stopped ≡ false
     pub taken : st.made.taken ≡ r.taken
     pub hands : map (option_map (λ x. x.at)) st.hands ≡ r.hands
-    pub held_specs : (k : ℕ) (x : Placed S) → slice_get st.hands k ≡ Some (Some x) → Contains (specs_in_preorder t roots) (node t x.at x.value)
+    pub held_specs : (k : ℕ) (x : Addressed S) → slice_get st.hands k ≡ Some (Some x) → Contains (specs_in_preorder t roots) (node t x.at x.value)
     pub in_hand : (a : List ℕ) → times a st.made.board.in_hand ≡ times a (in_hands r.hands)
     pub specs : All (λ x. Contains (specs_in_preorder t roots) (node t x.at x.value)) st.made.board.queued
-    pub readings : All (λ y. (x : Placed S) × Contains (specs_in_preorder t roots) x × (y ≡ read t x)) st.made.board.ready
-    pub done : List (Placed S)
+    pub readings : All (λ y. (x : Addressed S) × Contains (specs_in_preorder t roots) x × (y ≡ read t x)) st.made.board.ready
+    pub done : List (Addressed S)
     pub done_there : All (Contains (specs_in_preorder t roots)) done
-    pub done_are : places done ≡ r.finished
-    pub each : (a : List ℕ) → times a (held st.made.board) + times a (take r.handed_out (places (specs_in_preorder t roots))) ≡ times a (root_addresses (length roots)) + times a (child_places done)
-    pub finished : (a : List ℕ) → times a (places st.made.board.ready) + times a (take r.handed_out (places (specs_in_preorder t roots))) ≡ times a r.finished
+    pub done_are : addresses_of done ≡ r.finished
+    pub each : (a : List ℕ) → times a (on_board st.made.board) + times a (take r.handed_out (addresses_of (specs_in_preorder t roots))) ≡ times a (root_addresses (length roots)) + times a (child_addresses done)
+    pub finished : (a : List ℕ) → times a (addresses_of st.made.board.ready) + times a (take r.handed_out (addresses_of (specs_in_preorder t roots))) ≡ times a r.finished
     pub taken_are : (a : List ℕ) → times a r.taken ≡ times a st.made.board.in_hand + times a r.finished
     pub handed_out : st.made.handed_out ≡ map (read t) (take r.handed_out (specs_in_preorder t roots))
-    pub left : List (Placed S)
+    pub left : List (Addressed S)
     pub left_are : drop r.handed_out (specs_in_preorder t roots) ≡ trees t left
-    pub left_frontier : places left ≡ st.made.board.frontier
+    pub left_frontier : addresses_of left ≡ st.made.board.frontier

@@ -3,12 +3,12 @@ use Rattle.std.specs.Prelude.{◌≡◌, ℕ, ◌-◌, ◌<◌, true, false, con
 use Rattle.std.proofs.Common.{arith}
 use Rattle.std.proofs.lemmas.Bool.{eqb-true}
 use Rattle.std.proofs.lemmas.List.Elements.{All-nil, All-cons}
-use Rattle.jwalk_board.specs.Placed.{Placed, places}
-use Rattle.jwalk_board.specs.Plan.{Tree, Falls, preorder, specs_in_preorder}
+use Rattle.jwalk_board.specs.Addressed.{Addressed, addresses_of}
+use Rattle.jwalk_board.specs.Plan.{PlanTree, Falls, readings_in_preorder, specs_in_preorder}
 use Rattle.jwalk_board.specs.Run.{run_of_moves}
 use Rattle.jwalk_board.specs.declared.board.moves.Move.TheVariants.{Take, Finish, HandOut}
 
-abbrev pub family : Tree ℕ ℕ
+abbrev pub family : PlanTree ℕ ℕ
 family = record {
   reading = λ s. s;
   children = λ s. cond (s == 0) (1 ∷ 2 ∷ []) (cond (s == 1) (3 ∷ []) []);
@@ -27,14 +27,14 @@ family-falls s =
           ] refl
     ] refl
 
-abbrev placed_at : List ℕ → ℕ → ℕ → Placed ℕ
-placed_at a value count = record { at = a; value = value; child_count = count }
+abbrev value_at : List ℕ → ℕ → ℕ → Addressed ℕ
+value_at a value count = record { at = a; value = value; child_count = count }
 
-pub family_in_preorder : preorder family (0 ∷ [])
-    ≡ placed_at (0 ∷ []) 0 2 ∷ placed_at (0 ∷ 0 ∷ []) 1 1 ∷ placed_at (0 ∷ 0 ∷ 0 ∷ []) 3 0 ∷ placed_at (0 ∷ 1 ∷ []) 2 0 ∷ []
+pub family_in_preorder : readings_in_preorder family (0 ∷ [])
+    ≡ value_at (0 ∷ []) 0 2 ∷ value_at (0 ∷ 0 ∷ []) 1 1 ∷ value_at (0 ∷ 0 ∷ 0 ∷ []) 3 0 ∷ value_at (0 ∷ 1 ∷ []) 2 0 ∷ []
 family_in_preorder = refl
 
-pub family_run : run_of_moves (places (specs_in_preorder family (0 ∷ []))) 2
+pub family_run : run_of_moves (addresses_of (specs_in_preorder family (0 ∷ []))) 2
     (Take 0 ∷ Finish 0 ∷ Take 1 ∷ Take 0 ∷ Finish 0 ∷ HandOut ∷ HandOut ∷ Take 0 ∷ Take 2 ∷ Finish 1 ∷ HandOut ∷ HandOut ∷ Take 1 ∷ Finish 1 ∷ HandOut ∷ HandOut ∷ [])
     ≡ record {
       taken = (0 ∷ []) ∷ (0 ∷ 0 ∷ []) ∷ (0 ∷ 1 ∷ []) ∷ (0 ∷ 0 ∷ 0 ∷ []) ∷ [];
@@ -45,5 +45,5 @@ pub family_run : run_of_moves (places (specs_in_preorder family (0 ∷ []))) 2
 family_run = refl
 
 -- A worker that is not there takes nothing.
-pub no_worker : run_of_moves (places (specs_in_preorder family (0 ∷ []))) 0 (Take 0 ∷ HandOut ∷ []) ≡ record { taken = []; hands = []; finished = []; handed_out = 0 }
+pub no_worker : run_of_moves (addresses_of (specs_in_preorder family (0 ∷ []))) 0 (Take 0 ∷ HandOut ∷ []) ≡ record { taken = []; hands = []; finished = []; handed_out = 0 }
 no_worker = refl

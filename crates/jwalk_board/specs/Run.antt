@@ -17,12 +17,12 @@ pub record Run : Type 0 where
 abbrev pub is_among : List ℕ → List (List ℕ) → Bool
 is_among a xs = nat_lt 0 (times a xs)
 
-abbrev pub parent : List ℕ → List ℕ
-parent a = take (length a - 1) a
+abbrev pub parent_address : List ℕ → List ℕ
+parent_address a = take (length a - 1) a
 
 -- It is not taken, and is a root or the child of what is finished.
 abbrev pub is_queued : Run → List ℕ → Bool
-is_queued r a = not (is_among a r.taken) && ((length a == 1) || is_among (parent a) r.finished)
+is_queued r a = not (is_among a r.taken) && ((length a == 1) || is_among (parent_address a) r.finished)
 
 -- The worker takes the address.
 abbrev pub taken_by : Run → ℕ → List ℕ → Run

@@ -1,34 +1,18 @@
 -- Which item is due in a strict queue: the one at the top of the heap, or none.
-use Rattle.std.proofs.Common.{◌≡◌, ◌≢◌, ℕ, ◌<◌, ◌≤◌, false, List, [], ◌∷◌, get_or, length, Contains, Less, Equal, Greater, refl, sym, ap, ◌∙◌, subst, arith}
-use Rattle.std.proofs.lemmas.Bool.{false≢true}
+use Rattle.std.proofs.Common.{◌≡◌, ◌≢◌, ℕ, ◌<◌, ◌≤◌, false, List, [], ◌∷◌, get_or, length, Contains, refl, sym, ap, ◌∙◌, subst, arith}
 use Rattle.std.proofs.lemmas.List.Elements.{All-from_recursion, All-contains}
 use Rattle.std.proofs.lemmas.List.{get_or_default}
 use Rattle.std.specs.List.Sorted.{IsPermutation}
 use Rattle.std.specs.BinaryHeap.{IsUpperBound}
-use Rattle.std.specs.Cmp.Lexicographic.{nat_list_cmp_total}
-use Rattle.std.specs.FinMap.{nat_cmp-IsAntisymmetric, slice_cmp-IsAntisymmetric}
-use Rattle.std.specs.Ordering.{is_lt, ordering_reverse}
-use Rattle.std.specs.declared.cmp.Ordering as cmp
 use Rattle.jwalk_order.specs.Frontier.{next_address, passed}
 use Rattle.jwalk_order.specs.IndexPath.{is_before}
 use Rattle.jwalk_order.specs.Ordered.{address_of, child_count_of, ordered_cmp, IsLeast}
-use Rattle.jwalk_order.specs.OrderedQueue.{Queue, IsUnchanged, Gives}
+use Rattle.jwalk_order.specs.OrderedQueue.{Queue, IsUnchanged, Removes}
 use Rattle.jwalk_order.specs.Step.{IsDue, IsInTurn, IsWaiting, IsOutstanding, frontier_behind}
 use Rattle.jwalk_order.specs.declared.ordered.Ordered.{Ordered}
 use Rattle.jwalk_order.specs.declared.ordered_queue.Ordering.{Ordering}
 use Rattle.jwalk_order.specs.declared.ordered_queue.Ordering.TheVariants.{Strict}
-
-tied : (o p : cmp.Ordering) → o ≡ ordering_reverse p → is_lt o ≡ false → is_lt p ≡ false → o ≡ Equal
-tied Less p dual h k = absurd (false≢true (sym h))
-tied Equal p dual h k = refl
-tied Greater Less dual h k = absurd (false≢true (sym k))
-tied Greater Equal dual h k = dual
-tied Greater Greater dual h k = absurd (false≢true (ap is_lt dual))
-
--- Two addresses of which neither comes before the other are equal.
-pub same_address : (a b : List ℕ) → is_before a b ≡ false → is_before b a ≡ false → a ≡ b
-same_address a b h k =
-    slice_cmp-IsAntisymmetric nat_cmp-IsAntisymmetric a b (tied _ _ (nat_list_cmp_total.antisymm a b) h k)
+use Rattle.jwalk_order.proofs.AddressOrder.{same_address}
 
 module _ {T A : Type 0} where
   -- Two least items have one address.
@@ -74,11 +58,11 @@ module _ {T A : Type 0} where
   same_top x y items x-is y-is = x-is.first ∙ get_or_default items 0 x y x-is.some ∙ sym y-is.first
 
   -- The matcher has passed the top, and the heap has given an item.
-  pub gives : (q : Queue T A) (top item : Ordered T A) (rest : List (Ordered T A)) (f : List (List ℕ)) (room : ℕ)
+  pub removes : (q : Queue T A) (top item : Ordered T A) (rest : List (Ordered T A)) (f : List (List ℕ)) (room : ℕ)
       → q.stopped ≡ false → q.ordering ≡ Strict → q.frontier ≢ [] → IsTop top q.items → address_of top ≡ next_address q.frontier
       → IsTop item q.items → IsPermutation q.items (item ∷ rest) → f ≡ passed q.frontier (child_count_of top) → q.room ≤ room
-      → IsDue q item × Gives item (frontier_behind q.ordering q.frontier (child_count_of item)) q (record q { items = rest; frontier = f; room = room })
-  gives q top item rest f room running strict some is next item-is permutation f-is more =
+      → IsDue q item × Removes item (frontier_behind q.ordering q.frontier (child_count_of item)) q (record q { items = rest; frontier = f; room = room })
+  removes q top item rest f room running strict some is next item-is permutation f-is more =
       let same : top ≡ item = same_top top item q.items is item-is in
       let f-is' : f ≡ frontier_behind q.ordering q.frontier (child_count_of item) =
       f-is ∙ ap (λ x. passed q.frontier (child_count_of x)) same ∙ ap (λ o. frontier_behind o q.frontier (child_count_of item)) (sym strict) in (

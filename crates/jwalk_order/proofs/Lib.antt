@@ -1,3 +1,3 @@
-mod Above
+pub mod AddressOrder
 mod Due
 mod Frontiers

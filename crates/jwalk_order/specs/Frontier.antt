@@ -10,7 +10,7 @@ children_from first a count = map (λ i. a ++ i ∷ []) (range_with_len first co
 abbrev pub roots : ℕ → List (List ℕ)
 roots count = children_from 0 [] count
 
--- The first address is passed: its children stand in its place.
+-- The first address is passed: its children stand in its stead.
 abbrev pub passed : List (List ℕ) → ℕ → List (List ℕ)
 passed [] count = []
 passed (a ∷ rest) count = children_from 0 a count ++ rest

@@ -38,7 +38,7 @@ module _ {T A : Type 0} where
     pub room : old.room ≤ new.room + 1
 
   -- The item has left, the frontier is this one, and nothing else has changed.
-  pub record Gives (item : Ordered T A) (frontier : List (List ℕ)) (old new : Queue T A) : Type 0 where
+  pub record Removes (item : Ordered T A) (frontier : List (List ℕ)) (old new : Queue T A) : Type 0 where
     pub items : IsPermutation old.items (item ∷ new.items)
     pub others : new ≡ record old { items = new.items; frontier = frontier; room = new.room }
     pub room : old.room ≤ new.room

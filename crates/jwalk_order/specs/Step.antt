@@ -2,7 +2,7 @@
 use Rattle.std.specs.Prelude.{◌≡◌, ◌≢◌, ℕ, ◌<◌, ◌⊎◌, false, true, List, [], Option, Some, None, Contains}
 use Rattle.jwalk_order.specs.Frontier.{next_address, passed}
 use Rattle.jwalk_order.specs.Ordered.{address_of, child_count_of, IsLeast}
-use Rattle.jwalk_order.specs.OrderedQueue.{Queue, IsUnchanged, Gives}
+use Rattle.jwalk_order.specs.OrderedQueue.{Queue, IsUnchanged, Removes}
 use Rattle.jwalk_order.specs.declared.ordered.Ordered.{Ordered}
 use Rattle.jwalk_order.specs.declared.ordered_queue.Ordering.{Ordering}
 use Rattle.jwalk_order.specs.declared.ordered_queue.Ordering.TheVariants.{Relaxed, Strict}
@@ -44,16 +44,16 @@ module _ {T A : Type 0} where
   IsWaiting q = (q.stopped ≡ false) × IsOutstanding q.ordering q
 
   -- what a step answers, and what it leaves
-  abbrev pub Answers : Queue T A → Step T A → Queue T A → Type 0
-  Answers old (Item x) new = IsDue old x × Gives x (frontier_behind old.ordering old.frontier (child_count_of x)) old new
-  Answers old Empty new = IsWaiting old × IsUnchanged old new
-  Answers old Done new = IsDone old × IsUnchanged old new
+  abbrev pub StepGives : Queue T A → Step T A → Queue T A → Type 0
+  StepGives old (Item x) new = IsDue old x × Removes x (frontier_behind old.ordering old.frontier (child_count_of x)) old new
+  StepGives old Empty new = IsWaiting old × IsUnchanged old new
+  StepGives old Done new = IsDone old × IsUnchanged old new
 
   -- The item that is due has children to be looked for, which takes memory.
   abbrev pub MayRefuse : Queue T A → Type 0
   MayRefuse q = (q.ordering ≡ Strict) × ((x : Ordered T A) × IsDue q x × (0 < child_count_of x))
 
   -- What `next` answers: the item of a step, or nothing where there is none or memory runs out.
-  abbrev pub AnswersNext : Queue T A → Option (Ordered T A) → Queue T A → Type 0
-  AnswersNext old (Some x) new = Answers old (Item x) new
-  AnswersNext old None new = (IsWaiting old ⊎ (IsDone old ⊎ MayRefuse old)) × IsUnchanged old new
+  abbrev pub NextGives : Queue T A → Option (Ordered T A) → Queue T A → Type 0
+  NextGives old (Some x) new = StepGives old (Item x) new
+  NextGives old None new = (IsWaiting old ⊎ (IsDone old ⊎ MayRefuse old)) × IsUnchanged old new

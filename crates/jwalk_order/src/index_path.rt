@@ -10,8 +10,8 @@ ghost use Rattle.jwalk_order.specs.IndexPath.{address, reversed_cmp, IsAbove};
 use std::alloc::{AllocError, Allocator, Global};
 use std::cmp::Ordering;
 
-/// The address of a place in a tree: the index of its root, then that of each child on the way to it. Child `i` of a
-/// place has the place's indices followed by `i`.
+/// The address of a node in a tree: the index of its root, then that of each child on the way to it. Child `i` of a
+/// node has the node's indices followed by `i`.
 #[derive(Debug, Drop)]
 pub struct IndexPath<A: Allocator + Copy = Global> {
     pub indices: Vec<usize, A>,
@@ -105,7 +105,7 @@ impl<A: Allocator + Copy> Eq for IndexPath<A> {
     ghost laws = { Prim.search (comparing, rules) };
 }
 
-/// The reversed lexicographic order, so that a greatest-first heap gives the least address, and a place before all that
+/// The reversed lexicographic order, so that a greatest-first heap gives the least address, and a node before all that
 /// lies below it.
 impl<A: Allocator + Copy> Ord for IndexPath<A> {
     ghost cmp = { reversed_cmp };

@@ -2,7 +2,7 @@
 ghost use Rattle.std.specs.Prelude.{◌≡◌, ◌-◌, ◌+◌, ◌<◌, ◌≤◌, ◌^◌, IfErr, IfOk, IsOk, OnErr, OnOk, false, true};
 ghost use Rattle.jwalk_order.specs.OrderedQueue.{IsNew, IsUnchanged, Adds};
 ghost use Rattle.jwalk_order.specs.OrderedQueueIter.{IsOver};
-ghost use Rattle.jwalk_order.specs.Step.{Answers, MayRefuse};
+ghost use Rattle.jwalk_order.specs.Step.{StepGives, MayRefuse};
 
 use crate::ordered::Ordered;
 use std::alloc::{AllocError, Allocator, Global};
@@ -150,7 +150,7 @@ impl<T, A: Allocator + Copy> OrderedQueue<T, A> {
 
     // What `OrderedQueueIter::step` answers.
     fn step(&mut self) -> Result<Step<T, A>, AllocError>
-        ensures answered { IfOk result (λ step. Answers self.old step self.new) }
+        ensures answered { IfOk result (λ step. StepGives self.old step self.new) }
         ensures unchanged { OnErr result (IsUnchanged self.old self.new) }
         ensures refused { OnErr result (MayRefuse self.old) }
     {
@@ -166,7 +166,7 @@ impl<T, A: Allocator + Copy> OrderedQueue<T, A> {
     fn relaxed_step(&mut self) -> Step<T, A>
         requires running { self.old.stopped ≡ false }
         requires relaxed { self.old.ordering ≡ Ordering.Relaxed }
-        ensures { Answers self.old result self.new }
+        ensures { StepGives self.old result self.new }
     {
         match self.items.pop() {
             Some(item) => Step::Item(item),
@@ -179,7 +179,7 @@ impl<T, A: Allocator + Copy> OrderedQueue<T, A> {
     fn strict_step(&mut self) -> Result<Step<T, A>, AllocError>
         requires running { self.old.stopped ≡ false }
         requires strict { self.old.ordering ≡ Ordering.Strict }
-        ensures answered { IfOk result (λ step. Answers self.old step self.new) }
+        ensures answered { IfOk result (λ step. StepGives self.old step self.new) }
         ensures unchanged { OnErr result (IsUnchanged self.old self.new) }
         ensures refused { OnErr result (MayRefuse self.old) }
     {

@@ -2,6 +2,8 @@
 #![tactic(auto)]
 
 #[cfg(test)]
+mod error_texts;
+#[cfg(test)]
 mod faults;
 #[cfg(test)]
 mod lines;
@@ -13,6 +15,8 @@ mod options;
 mod readings;
 #[cfg(test)]
 mod roots;
+#[cfg(test)]
+mod sizes;
 #[cfg(test)]
 mod trees;
 #[cfg(test)]

@@ -1,5 +1,5 @@
 -- What the tree answers as a file system, by what the table finds.
-use Rattle.std.proofs.Common.{◌≡◌, ℕ, Bool, List, [], ◌∷◌, map, Option, None, Some, Result, Ok, Err, refl, sym, ap, ◌∙◌}
+use Rattle.std.proofs.Common.{◌≡◌, ℕ, Bool, List, [], ◌∷◌, map, Option, None, Some, Result, Ok, Err, refl, sym, ap, subst, ◌∙◌}
 use Rattle.std.specs.Prelude.{option_and_then}
 use Rattle.std.specs.Option.{option_map}
 use Rattle.std.specs.declared.io.ErrorKind.{ErrorKind}
@@ -10,7 +10,7 @@ use Rattle.walk_model.specs.Tree.{Place, directory, child, look_up, at_found, li
 use Rattle.memory_fs.specs.declared.child.Child.{Child}
 use Rattle.memory_fs.specs.declared.child.Child.TheVariants.{Dir, File}
 use Rattle.memory_fs.specs.Child.{type_of, metadata_of}
-use Rattle.memory_fs.specs.Branch.{Branch, children_at, denied_at, child_of, at_end, names_of, node_of, tree_of_table, found, listed_child, listing_of, AreFound, IsSound}
+use Rattle.memory_fs.specs.Branch.{Branch, branch_at, children_at, denied_at, child_of, at_end, names_of, node_of, tree_of_table, found, listed_child, listing_of, AreFound, IsSound}
 use Rattle.memory_fs.proofs.TableLemmas.{at_end-append}
 use Rattle.memory_fs.proofs.LookUpLemmas.{Agrees, look_up_agrees}
 
@@ -78,14 +78,21 @@ module _ (table : List Branch) (sound : IsSound table) (follow : Bool) (path : L
       ap (λ (t : FileType). listed_as e.0 t ∷ map (listed_at place) (names_of es)) (ap (λ (x : Option Child). type_at (option_map (node_of table) x)) o ∙ type-node table e.1)
       ∙ ap (λ (ls : List Listed). listed_child e ∷ ls) (listed-names place i stands es found.1)
 
-  pub listing-found : (i : ℕ) → found table path ≡ Ok (Dir i) → denied_at table i ≡ None → AreFound (children_at table i) (children_at table i)
+  listing-listed : (i : ℕ) → found table path ≡ Ok (Dir i) → denied_at table i ≡ None → AreFound (children_at table i) (children_at table i)
       → at_found (λ place. listing_at (tree_of_table table) place (tree_of_table table place)) (look_up (tree_of_table table) follow path) ≡ Ok (listing_of (children_at table i))
-  listing-found i is undenied named =
+  listing-listed i is undenied named =
       answer-found table sound follow path (λ place. listing_at (tree_of_table table) place (tree_of_table table place)) (Dir i) is (Ok (listing_of (children_at table i)))
       (λ place e.
       ap (λ (o : Option Child). listing_at (tree_of_table table) place (option_map (node_of table) o)) e
       ∙ ap (λ (d : Option ErrorKind). listing_at (tree_of_table table) place (Some (directory (names_of (children_at table i)) d))) undenied
       ∙ ap (λ (ls : List Listed). Ok ls) (listed-names place i e (children_at table i) named))
+
+  -- the answer is the listing of the directory that was found
+  pub listing-found : (i : ℕ) → found table path ≡ Ok (Dir i) → (b : Branch) → b ≡ branch_at table i → b.denied ≡ None → AreFound b.children b.children
+      → at_found (λ place. listing_at (tree_of_table table) place (tree_of_table table place)) (look_up (tree_of_table table) follow path) ≡ Ok (listing_of b.children)
+  listing-found i is b at undenied named =
+      listing-listed i is (ap (λ (d : Branch). d.denied) (sym at) ∙ undenied) (subst (λ (d : Branch). AreFound d.children d.children) at named)
+      ∙ ap (λ (d : Branch). Ok (listing_of d.children)) (sym at)
 
   pub no_listing-denied : (i : ℕ) (k : ErrorKind) → found table path ≡ Ok (Dir i) → denied_at table i ≡ Some k
       → at_found (λ place. listing_at (tree_of_table table) place (tree_of_table table place)) (look_up (tree_of_table table) follow path) ≡ Err k

@@ -9,7 +9,7 @@ use Rattle.memory_fs.specs.declared.child.Child.{Child}
 use Rattle.memory_fs.specs.declared.child.Child.TheVariants.{Dir, File}
 use Rattle.memory_fs.specs.declared.build_error.BuildError.{BuildError}
 use Rattle.memory_fs.specs.declared.build_error.BuildError.TheVariants.{NotFound}
-use Rattle.memory_fs.specs.Branch.{Branch, child_named, children_at, parent_at, denied_at, child_of, at_end, names_of, node_of, tree_of_table, with_denied, with_denial, place_of_child, named_spot, directory_spot, IsHeld, IsSound}
+use Rattle.memory_fs.specs.Branch.{Branch, child_named, children_at, parent_at, denied_at, child_of, at_end, names_of, node_of, tree_of_table, with_denied, with_denial, index_of_child, named_spot, directory_spot, IsHeld, IsSound}
 use Rattle.memory_fs.specs.MemoryFs.{IsBuilt}
 use Rattle.memory_fs.proofs.PlaceLemmas.{same_place-refl, same_place-false, place_cases}
 use Rattle.memory_fs.proofs.TableLemmas.{at_end-append, one_place}
@@ -50,58 +50,58 @@ module _ (old new : List Branch) (children : (i : ℕ) → children_at new i ≡
       }
 
 -- ---- one directory denied
-module _ (table : List Branch) (place : ℕ) (k : ErrorKind) (lt : place < length table) where
-  children-denied : (i : ℕ) → children_at (with_denial table place k) i ≡ children_at table i
-  children-denied = kept-edited (with_denied k) table place (λ (b : Branch). b.children) (λ b. refl) lt
+module _ (table : List Branch) (index : ℕ) (k : ErrorKind) (lt : index < length table) where
+  children-denied : (i : ℕ) → children_at (with_denial table index k) i ≡ children_at table i
+  children-denied = kept-edited (with_denied k) table index (λ (b : Branch). b.children) (λ b. refl) lt
 
-  parent-denied : (i : ℕ) → parent_at (with_denial table place k) i ≡ parent_at table i
-  parent-denied = kept-edited (with_denied k) table place (λ (b : Branch). b.parent) (λ b. refl) lt
+  parent-denied : (i : ℕ) → parent_at (with_denial table index k) i ≡ parent_at table i
+  parent-denied = kept-edited (with_denied k) table index (λ (b : Branch). b.parent) (λ b. refl) lt
 
-  pub sound-denied : IsSound table → IsSound (with_denial table place k)
-  sound-denied = sound-same table (with_denial table place k) children-denied (length-edited (with_denied k) table place) parent-denied
+  pub sound-denied : IsSound table → IsSound (with_denial table index k)
+  sound-denied = sound-same table (with_denial table index k) children-denied (length-edited (with_denied k) table index) parent-denied
 
-  node-denied : node_of (with_denial table place k) (Dir place) ≡ directory (names_of (children_at table place)) (Some k)
+  node-denied : node_of (with_denial table index k) (Dir index) ≡ directory (names_of (children_at table index)) (Some k)
   node-denied =
-      ap (λ (es : List (List ℕ × Child)). directory (names_of es) (denied_at (with_denial table place k) place)) (children-denied place)
-      ∙ ap (λ (b : Branch). directory (names_of (children_at table place)) b.denied) (at_edited (with_denied k) table place lt)
+      ap (λ (es : List (List ℕ × Child)). directory (names_of es) (denied_at (with_denial table index k) index)) (children-denied index)
+      ∙ ap (λ (b : Branch). directory (names_of (children_at table index)) b.denied) (at_edited (with_denied k) table index lt)
 
-  node-other : (i : ℕ) → i ≢ place → node_of (with_denial table place k) (Dir i) ≡ node_of table (Dir i)
-  node-other i ne = ap (λ (b : Branch). directory (names_of b.children) b.denied) (at_other (with_denied k) table place i ne)
+  node-other : (i : ℕ) → i ≢ index → node_of (with_denial table index k) (Dir i) ≡ node_of table (Dir i)
+  node-other i ne = ap (λ (b : Branch). directory (names_of b.children) b.denied) (at_other (with_denied k) table index i ne)
 
-  module _ (sound : IsSound table) (at : Place) (stands : at_end table (Dir 0) at ≡ Some (Dir place)) where
-    elsewhere : (q : Place) → q ≢ at → (o : Option Child) → at_end table (Dir 0) q ≡ o → option_map (node_of (with_denial table place k)) o ≡ option_map (node_of table) o
+  module _ (sound : IsSound table) (at : Place) (stands : at_end table (Dir 0) at ≡ Some (Dir index)) where
+    elsewhere : (q : Place) → q ≢ at → (o : Option Child) → at_end table (Dir 0) q ≡ o → option_map (node_of (with_denial table index k)) o ≡ option_map (node_of table) o
     elsewhere q ne None e = refl
     elsewhere q ne (Some (File len)) e = refl
     elsewhere q ne (Some (Dir i)) e =
-        ap (λ (n : Node). Some n) (node-other i (λ h. ne (one_place table sound at q place stands (e ∙ ap (λ j. Some (Dir j)) h))))
+        ap (λ (n : Node). Some n) (node-other i (λ h. ne (one_place table sound at q index stands (e ∙ ap (λ j. Some (Dir j)) h))))
 
     -- the directory is denied at its place, and all else is as it was
-    pub tree-denied : (q : Place) → tree_of_table (with_denial table place k) q ≡ (if same_place q at then Some (directory (names_of (children_at table place)) (Some k)) else tree_of_table table q)
-    tree-denied q = ap (option_map (node_of (with_denial table place k))) (at_end-same table (with_denial table place k) children-denied (Dir 0) q) ∙ by (place_cases q at)
+    pub tree-denied : (q : Place) → tree_of_table (with_denial table index k) q ≡ (if same_place q at then Some (directory (names_of (children_at table index)) (Some k)) else tree_of_table table q)
+    tree-denied q = ap (option_map (node_of (with_denial table index k))) (at_end-same table (with_denial table index k) children-denied (Dir 0) q) ∙ by (place_cases q at)
       where
         by : (q ≡ at) ⊎ (q ≢ at)
-            → option_map (node_of (with_denial table place k)) (at_end table (Dir 0) q) ≡ (if same_place q at then Some (directory (names_of (children_at table place)) (Some k)) else tree_of_table table q)
+            → option_map (node_of (with_denial table index k)) (at_end table (Dir 0) q) ≡ (if same_place q at then Some (directory (names_of (children_at table index)) (Some k)) else tree_of_table table q)
         by (inl e) =
-            ap (option_map (node_of (with_denial table place k))) (ap (at_end table (Dir 0)) e ∙ stands) ∙ ap (λ (n : Node). Some n) node-denied
-            ∙ sym (ap (λ (b : Bool). if b then Some (directory (names_of (children_at table place)) (Some k)) else tree_of_table table q) (ap (λ (p : Place). same_place p at) e ∙ same_place-refl at))
+            ap (option_map (node_of (with_denial table index k))) (ap (at_end table (Dir 0)) e ∙ stands) ∙ ap (λ (n : Node). Some n) node-denied
+            ∙ sym (ap (λ (b : Bool). if b then Some (directory (names_of (children_at table index)) (Some k)) else tree_of_table table q) (ap (λ (p : Place). same_place p at) e ∙ same_place-refl at))
         by (inr ne) =
             elsewhere q ne (at_end table (Dir 0) q) refl
-            ∙ sym (ap (λ (b : Bool). if b then Some (directory (names_of (children_at table place)) (Some k)) else tree_of_table table q) (same_place-false q at ne))
+            ∙ sym (ap (λ (b : Bool). if b then Some (directory (names_of (children_at table index)) (Some k)) else tree_of_table table q) (same_place-false q at ne))
 
 -- ---- what the definition answers
 -- the tree with the directory of the table denied
-pub record IsDenied (table : List Branch) (answer : Result Tree Refusal) (k : ErrorKind) (place : ℕ) : Type 0 where
+pub record IsDenied (table : List Branch) (answer : Result Tree Refusal) (k : ErrorKind) (index : ℕ) : Type 0 where
   pub at : Place
-  pub stands : at_end table (Dir 0) at ≡ Some (Dir place)
-  pub answer_is : answer ≡ Ok (λ q. if same_place q at then Some (directory (names_of (children_at table place)) (Some k)) else tree_of_table table q)
+  pub stands : at_end table (Dir 0) at ≡ Some (Dir index)
+  pub answer_is : answer ≡ Ok (λ q. if same_place q at then Some (directory (names_of (children_at table index)) (Some k)) else tree_of_table table q)
 
 -- both are refused, or both found the same directory
 abbrev pub DeniesAlike : List Branch → Result Tree Refusal → ErrorKind → Option ℕ → Type 0
 DeniesAlike table answer k None = answer ≡ Err not_found
-DeniesAlike table answer k (Some place) = IsDenied table answer k place
+DeniesAlike table answer k (Some index) = IsDenied table answer k index
 
 module _ (table : List Branch) (k : ErrorKind) where
-  at_child : (s : Spot) (o : Option Child) → at_end table (Dir 0) (place_of s) ≡ o → DeniesAlike table (deny_at (tree_of_table table) k (Some s)) k (place_of_child o)
+  at_child : (s : Spot) (o : Option Child) → at_end table (Dir 0) (place_of s) ≡ o → DeniesAlike table (deny_at (tree_of_table table) k (Some s)) k (index_of_child o)
   at_child s None e = ap (λ (o : Option Child). with_denied_node k s (tree_of_table table) (option_map (node_of table) o)) e
   at_child s (Some (File len)) e = ap (λ (o : Option Child). with_denied_node k s (tree_of_table table) (option_map (node_of table) o)) e
   at_child s (Some (Dir i)) e = record {
@@ -111,12 +111,12 @@ module _ (table : List Branch) (k : ErrorKind) where
   }
 
   alike : (s : Option Spot) (t : Option (ℕ × List ℕ)) → SpotsAgree table s t
-      → DeniesAlike table (deny_at (tree_of_table table) k s) k (option_and_then (λ found. place_of_child (child_named (children_at table found.0) found.1)) t)
+      → DeniesAlike table (deny_at (tree_of_table table) k s) k (option_and_then (λ found. index_of_child (child_named (children_at table found.0) found.1)) t)
   alike None None agree = refl
   alike None (Some t) agree = absurd agree
   alike (Some s) None agree = absurd agree
   alike (Some s) (Some t) agree =
-      subst (λ (name : List ℕ). DeniesAlike table (deny_at (tree_of_table table) k (Some s)) k (place_of_child (child_named (children_at table t.0) name))) agree.1
+      subst (λ (name : List ℕ). DeniesAlike table (deny_at (tree_of_table table) k (Some s)) k (index_of_child (child_named (children_at table t.0) name))) agree.1
       (at_child s (child_named (children_at table t.0) s.name) (at_end-append table (Dir 0) s.holder s.name ∙ ap (option_and_then (λ x. child_of table x s.name)) agree.0))
 
   deny_alike : IsSound table → (path : List ℕ) → DeniesAlike table (deny k path (tree_of_table table)) k (directory_spot table (components path))
@@ -128,19 +128,19 @@ module _ (table : List Branch) (sound : IsSound table) (k : ErrorKind) (path : L
   refused is = subst (DeniesAlike table (deny k path (tree_of_table table)) k) (sym is) (deny_alike table k sound path)
 
   -- where one was
-  pub found-directory : (place : ℕ) → Some place ≡ directory_spot table (components path) → IsDenied table (deny k path (tree_of_table table)) k place
-  found-directory place is = subst (DeniesAlike table (deny k path (tree_of_table table)) k) (sym is) (deny_alike table k sound path)
+  pub found-directory : (index : ℕ) → Some index ≡ directory_spot table (components path) → IsDenied table (deny k path (tree_of_table table)) k index
+  found-directory index is = subst (DeniesAlike table (deny k path (tree_of_table table)) k) (sym is) (deny_alike table k sound path)
 
-  pub built-denied : (place : ℕ) → Some place ≡ directory_spot table (components path) → place < length table → (new : List Branch) → new ≡ with_denial table place k
+  pub built-denied : (index : ℕ) → Some index ≡ directory_spot table (components path) → index < length table → (new : List Branch) → new ≡ with_denial table index k
       → IsBuilt (deny k path (tree_of_table table)) (tree_of_table new)
-  built-denied place is lt new same =
-      let d = found-directory place is in
+  built-denied index is lt new same =
+      let d = found-directory index is in
       subst (λ (t : List Branch). IsBuilt (deny k path (tree_of_table table)) (tree_of_table t)) (sym same)
-      (subst (λ (a : Result Tree Refusal). IsBuilt a (tree_of_table (with_denial table place k))) (sym d.answer_is) (tree-denied table place k lt sound d.at d.stands))
+      (subst (λ (a : Result Tree Refusal). IsBuilt a (tree_of_table (with_denial table index k))) (sym d.answer_is) (tree-denied table index k lt sound d.at d.stands))
 
   pub told-refused : None ≡ directory_spot table (components path) → (◌≡◌ {A = Result (Unit {0}) BuildError} (Err NotFound) (Err NotFound)) ↔ (deny k path (tree_of_table table) ≡ Err not_found)
   told-refused is = (λ h. refused is, λ h. refl)
 
-  pub told-denied : (place : ℕ) → Some place ≡ directory_spot table (components path)
+  pub told-denied : (index : ℕ) → Some index ≡ directory_spot table (components path)
       → (◌≡◌ {A = Result (Unit {0}) BuildError} (Ok tt) (Err NotFound)) ↔ (deny k path (tree_of_table table) ≡ Err not_found)
-  told-denied place is = (λ h. cc, λ h. let z : ◌≡◌ {A = Result Tree Refusal} (Ok _) (Err not_found) = sym (found-directory place is).answer_is ∙ h in cc)
+  told-denied index is = (λ h. cc, λ h. let z : ◌≡◌ {A = Result Tree Refusal} (Ok _) (Err not_found) = sym (found-directory index is).answer_is ∙ h in cc)

@@ -33,17 +33,17 @@ child_named-append (e ∷ es) name other new =
 pub record Grows (old new : List Branch) (holder : ℕ) (name : List ℕ) (child : Child) : Type 0 where
   pub free : child_named (children_at old holder) name ≡ None
   pub here : children_at new holder ≡ children_at old holder ++ (name, child) ∷ []
-  pub others : (place : ℕ) → place ≢ holder → children_at new place ≡ children_at old place
-  pub denials : (place : ℕ) → denied_at new place ≡ denied_at old place
+  pub others : (index : ℕ) → index ≢ holder → children_at new index ≡ children_at old index
+  pub denials : (index : ℕ) → denied_at new index ≡ denied_at old index
   pub leaf : (other : List ℕ) → child_of new child other ≡ None
 
 -- no directory has gone or moved, and a new one stands behind the others
 pub record Extends (old new : List Branch) (holder : ℕ) (child : Child) : Type 0 where
   pub within : holder < length old
   pub longer : length old ≤ length new
-  pub kept : (place : ℕ) → place < length old → parent_at new place ≡ parent_at old place
-  pub added : (place : ℕ) → length old ≤ place → place < length new → parent_at new place ≡ holder
-  pub new_dir : (place : ℕ) → child ≡ Dir place → (place ≡ length old) × (place < length new)
+  pub kept : (index : ℕ) → index < length old → parent_at new index ≡ parent_at old index
+  pub added : (index : ℕ) → length old ≤ index → index < length new → parent_at new index ≡ holder
+  pub new_dir : (index : ℕ) → child ≡ Dir index → (index ≡ length old) × (index < length new)
 
 module _ (old new : List Branch) (holder : ℕ) (name : List ℕ) (child : Child) (grows : Grows old new holder name child) where
   pub named_new : child_named (children_at new holder) name ≡ Some child
@@ -184,13 +184,13 @@ module _ (old new : List Branch) (holder : ℕ) (name : List ℕ) (child : Child
   sound-grown sound more = record {
     rooted = let r = sound.rooted in let l = more.longer in omega arith;
     own_parent = more.kept 0 sound.rooted ∙ sound.own_parent;
-    parents = λ place h. within_new place h (cases_lt place (length old));
+    parents = λ index h. within_new index h (cases_lt index (length old));
     held = λ i n j e. held_new i n j (edge_cases i n j e);
   }
     where
-      within_new : (place : ℕ) → place < length new → (place < length old) ⊎ (length old ≤ place) → parent_at new place < length new
-      within_new place h (inl lt) = let k = more.kept place lt in let p = sound.parents place lt in let l = more.longer in omega arith
-      within_new place h (inr le) = let k = more.added place le h in let w = more.within in let l = more.longer in omega arith
+      within_new : (index : ℕ) → index < length new → (index < length old) ⊎ (length old ≤ index) → parent_at new index < length new
+      within_new index h (inl lt) = let k = more.kept index lt in let p = sound.parents index lt in let l = more.longer in omega arith
+      within_new index h (inr le) = let k = more.added index le h in let w = more.within in let l = more.longer in omega arith
 
       held_new : (i : ℕ) (n : List ℕ) (j : ℕ) → (child_named (children_at old i) n ≡ Some (Dir j)) ⊎ ((i ≡ holder) × (n ≡ name) × (child ≡ Dir j)) → IsHeld new i n j
       held_new i n j (inl e) =

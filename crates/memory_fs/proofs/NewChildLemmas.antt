@@ -10,17 +10,17 @@ use Rattle.memory_fs.proofs.EditLemmas.{at_edited, at_other, length-edited, kept
 use Rattle.memory_fs.proofs.GrowthLemmas.{Grows, Extends}
 
 module _ (table : List Branch) (holder : ℕ) (name : List ℕ) (child : Child) (lt : holder < length table) where
-  parent-named : (place : ℕ) → parent_at (with_named table holder name child) place ≡ parent_at table place
+  parent-named : (index : ℕ) → parent_at (with_named table holder name child) index ≡ parent_at table index
   parent-named = kept-edited (with_child name child) table holder (λ (b : Branch). b.parent) (λ b. refl) lt
 
-  denied-named : (place : ℕ) → denied_at (with_named table holder name child) place ≡ denied_at table place
+  denied-named : (index : ℕ) → denied_at (with_named table holder name child) index ≡ denied_at table index
   denied-named = kept-edited (with_child name child) table holder (λ (b : Branch). b.denied) (λ b. refl) lt
 
   children-named : children_at (with_named table holder name child) holder ≡ children_at table holder ++ (name, child) ∷ []
   children-named = ap (λ (b : Branch). b.children) (at_edited (with_child name child) table holder lt)
 
-  children-other : (place : ℕ) → place ≢ holder → children_at (with_named table holder name child) place ≡ children_at table place
-  children-other place ne = ap (λ (b : Branch). b.children) (at_other (with_child name child) table holder place ne)
+  children-other : (index : ℕ) → index ≢ holder → children_at (with_named table holder name child) index ≡ children_at table index
+  children-other index ne = ap (λ (b : Branch). b.children) (at_other (with_child name child) table holder index ne)
 
   length-named : length (with_named table holder name child) ≡ length table
   length-named = length-edited (with_child name child) table holder
@@ -42,22 +42,22 @@ module _ (table : List Branch) (holder : ℕ) (name : List ℕ) (lt : holder < l
       record {
         within = lt;
         longer = omega arith;
-        kept = λ place h. parent-named table holder name (File len) lt place;
-        added = λ place h h'. absurd (omega arith);
-        new_dir = λ place e. cc;
+        kept = λ index h. parent-named table holder name (File len) lt index;
+        added = λ index h h'. absurd (omega arith);
+        new_dir = λ index e. cc;
       }
 
 -- ---- an empty directory behind the others
 module _ {X : Type 0} (part : Branch → X) (empty : (parent : ℕ) → part (empty_branch parent) ≡ part (empty_branch 0)) where
   -- what all empty directories have alike is seen past the end too
-  pushed : (table : List Branch) (parent place : ℕ) → part (branch_at (table ++ empty_branch parent ∷ []) place) ≡ part (branch_at table place)
+  pushed : (table : List Branch) (parent index : ℕ) → part (branch_at (table ++ empty_branch parent ∷ []) index) ≡ part (branch_at table index)
   pushed [] parent zero = empty parent
   pushed [] parent (suc k) = refl
   pushed (b ∷ bs) parent zero = refl
   pushed (b ∷ bs) parent (suc k) = pushed bs parent k
 
-parent-pushed : (table : List Branch) (parent place : ℕ) → place < length table → parent_at (table ++ empty_branch parent ∷ []) place ≡ parent_at table place
-parent-pushed [] parent place h = absurd (omega arith)
+parent-pushed : (table : List Branch) (parent index : ℕ) → index < length table → parent_at (table ++ empty_branch parent ∷ []) index ≡ parent_at table index
+parent-pushed [] parent index h = absurd (omega arith)
 parent-pushed (b ∷ bs) parent zero h = refl
 parent-pushed (b ∷ bs) parent (suc k) h = parent-pushed bs parent k (omega arith)
 
@@ -72,11 +72,11 @@ module _ (table : List Branch) (holder : ℕ) (name : List ℕ) (lt : holder < l
   abbrev pub with_directory : List Branch
   with_directory = with_named table holder name (Dir (length table)) ++ empty_branch holder ∷ []
 
-  children_here : (place : ℕ) → children_at with_directory place ≡ children_at (with_named table holder name (Dir (length table))) place
+  children_here : (index : ℕ) → children_at with_directory index ≡ children_at (with_named table holder name (Dir (length table))) index
   children_here = pushed (λ (b : Branch). b.children) (λ parent. refl) (with_named table holder name (Dir (length table))) holder
 
-  denied_here : (place : ℕ) → denied_at with_directory place ≡ denied_at table place
-  denied_here place = pushed (λ (b : Branch). b.denied) (λ parent. refl) (with_named table holder name (Dir (length table))) holder place ∙ denied-named table holder name (Dir (length table)) lt place
+  denied_here : (index : ℕ) → denied_at with_directory index ≡ denied_at table index
+  denied_here index = pushed (λ (b : Branch). b.denied) (λ parent. refl) (with_named table holder name (Dir (length table))) holder index ∙ denied-named table holder name (Dir (length table)) lt index
 
   past : branch_at table (length table) ≡ empty_branch 0
   past = get_or_past table (length table) (empty_branch 0) (omega arith)
@@ -90,7 +90,7 @@ module _ (table : List Branch) (holder : ℕ) (name : List ℕ) (lt : holder < l
   grows-directory = record {
     free = free;
     here = children_here holder ∙ children-named table holder name (Dir (length table)) lt;
-    others = λ place ne. children_here place ∙ children-other table holder name (Dir (length table)) lt place ne;
+    others = λ index ne. children_here index ∙ children-other table holder name (Dir (length table)) lt index ne;
     denials = denied_here;
     leaf = λ other. ap (λ (es : List (List ℕ × Child)). child_named es other) none_past;
   }
@@ -98,10 +98,10 @@ module _ (table : List Branch) (holder : ℕ) (name : List ℕ) (lt : holder < l
   length-directory : length with_directory ≡ length table + 1
   length-directory = length-append (with_named table holder name (Dir (length table))) (empty_branch holder ∷ []) ∙ ap (λ n. n + 1) (length-named table holder name (Dir (length table)) lt)
 
-  added_parent : (place : ℕ) → length table ≤ place → place < length with_directory → parent_at with_directory place ≡ holder
-  added_parent place h h' =
+  added_parent : (index : ℕ) → length table ≤ index → index < length with_directory → parent_at with_directory index ≡ holder
+  added_parent index h h' =
       let l = length-directory in
-      let e : place ≡ length (with_named table holder name (Dir (length table))) = let n = length-named table holder name (Dir (length table)) lt in omega arith in
+      let e : index ≡ length (with_named table holder name (Dir (length table))) = let n = length-named table holder name (Dir (length table)) lt in omega arith in
       ap (parent_at with_directory) e ∙ parent-last (with_named table holder name (Dir (length table))) holder
 
   pub extends-directory : Extends table with_directory holder (Dir (length table))
@@ -110,11 +110,11 @@ module _ (table : List Branch) (holder : ℕ) (name : List ℕ) (lt : holder < l
       record {
         within = lt;
         longer = omega arith;
-        kept = λ place h.
-            parent-pushed (with_named table holder name (Dir (length table))) holder place (let n = length-named table holder name (Dir (length table)) lt in omega arith)
-            ∙ parent-named table holder name (Dir (length table)) lt place;
+        kept = λ index h.
+            parent-pushed (with_named table holder name (Dir (length table))) holder index (let n = length-named table holder name (Dir (length table)) lt in omega arith)
+            ∙ parent-named table holder name (Dir (length table)) lt index;
         added = added_parent;
-        new_dir = λ place e. let same : length table ≡ place = cc in (sym same, omega arith);
+        new_dir = λ index e. let same : length table ≡ index = cc in (sym same, omega arith);
       }
 
   -- nothing is in it, and it may be read

@@ -65,27 +65,27 @@ module _ (table : List Branch) (sound : IsSound table) where
 
 -- ---- the root alone
 pub sound-root : IsSound (empty_branch 0 ∷ [])
-sound-root = record { rooted = omega arith; own_parent = refl; parents = parents_root; held = λ holder name place e. absurd (none_held holder name place e) }
+sound-root = record { rooted = omega arith; own_parent = refl; parents = parents_root; held = λ holder name index e. absurd (none_held holder name index e) }
   where
-    parents_root : (place : ℕ) → place < length (empty_branch 0 ∷ []) → parent_at (empty_branch 0 ∷ []) place < length (empty_branch 0 ∷ [])
+    parents_root : (index : ℕ) → index < length (empty_branch 0 ∷ []) → parent_at (empty_branch 0 ∷ []) index < length (empty_branch 0 ∷ [])
     parents_root zero h = omega arith
     parents_root (suc k) h = omega arith
 
-    none_held : (holder : ℕ) (name : List ℕ) (place : ℕ) → child_named (children_at (empty_branch 0 ∷ []) holder) name ≡ Some (Dir place) → ⊥
-    none_held zero name place e = cc
-    none_held (suc k) name place e = cc
+    none_held : (holder : ℕ) (name : List ℕ) (index : ℕ) → child_named (children_at (empty_branch 0 ∷ []) holder) name ≡ Some (Dir index) → ⊥
+    none_held zero name index e = cc
+    none_held (suc k) name index e = cc
 
 pub tree-root : (place : Place) → tree_of_table (empty_branch 0 ∷ []) place ≡ only_root place
 tree-root [] = refl
 tree-root (n ∷ ns) = refl
 
 -- ---- what is found is within the table
-pub within_directory : (table : List Branch) → IsSound table → (holder : ℕ) (name : List ℕ) (b : Branch) (o : Option Child) (c : Child) (place : ℕ)
-    → b ≡ branch_at table holder → o ≡ child_named b.children name → o ≡ Some c → c ≡ Dir place → place < length table
-within_directory table sound holder name b o c place at is some dir =
-    (sound.held holder name place (ap (λ (d : Branch). child_named d.children name) (sym at) ∙ sym is ∙ some ∙ ap (λ (d : Child). Some d) dir)).within
+pub within_directory : (table : List Branch) → IsSound table → (holder : ℕ) (name : List ℕ) (b : Branch) (o : Option Child) (c : Child) (index : ℕ)
+    → b ≡ branch_at table holder → o ≡ child_named b.children name → o ≡ Some c → c ≡ Dir index → index < length table
+within_directory table sound holder name b o c index at is some dir =
+    (sound.held holder name index (ap (λ (d : Branch). child_named d.children name) (sym at) ∙ sym is ∙ some ∙ ap (λ (d : Child). Some d) dir)).within
 
-pub within_named : (table : List Branch) → IsSound table → (place : ℕ) (name : List ℕ) (o : Option Child) (k : ErrorKind) → o ≡ child_named (children_at table place) name → IfOk (ok_or o k) (IsWithin table)
-within_named table sound place name None k e = tt
-within_named table sound place name (Some (Dir j)) k e = (sound.held place name j (sym e)).within
-within_named table sound place name (Some (File len)) k e = tt
+pub within_named : (table : List Branch) → IsSound table → (index : ℕ) (name : List ℕ) (o : Option Child) (k : ErrorKind) → o ≡ child_named (children_at table index) name → IfOk (ok_or o k) (IsWithin table)
+within_named table sound index name None k e = tt
+within_named table sound index name (Some (Dir j)) k e = (sound.held index name j (sym e)).within
+within_named table sound index name (Some (File len)) k e = tt

@@ -35,9 +35,9 @@ with_denied k b = record { parent = b.parent; children = b.children; denied = So
 abbrev pub empty_branch : ℕ → Branch
 empty_branch parent = record { parent = parent; children = []; denied = None }
 
--- the directory at a place of the table, and an empty one past the end
+-- the directory at an index of the table, and an empty one past the end
 abbrev pub branch_at : List Branch → ℕ → Branch
-branch_at table place = slice_index_or table place (empty_branch 0)
+branch_at table index = slice_index_or table index (empty_branch 0)
 
 -- the table in which a directory has a new child behind the others
 abbrev pub with_named : List Branch → ℕ → List ℕ → Child → List Branch
@@ -45,23 +45,23 @@ with_named table holder name child = slice_set table holder (with_child name chi
 
 -- the table in which a directory is denied
 abbrev pub with_denial : List Branch → ℕ → ErrorKind → List Branch
-with_denial table place k = slice_set table place (with_denied k (branch_at table place))
+with_denial table index k = slice_set table index (with_denied k (branch_at table index))
 
 -- its children
 abbrev pub children_at : List Branch → ℕ → List (List ℕ × Child)
-children_at table place = (branch_at table place).children
+children_at table index = (branch_at table index).children
 
 -- where its own holder stands
 abbrev pub parent_at : List Branch → ℕ → ℕ
-parent_at table place = (branch_at table place).parent
+parent_at table index = (branch_at table index).parent
 
 -- the kind that reading it fails with
 abbrev pub denied_at : List Branch → ℕ → Option ErrorKind
-denied_at table place = (branch_at table place).denied
+denied_at table index = (branch_at table index).denied
 
 -- the child of this name where a directory stands
 abbrev pub child_of : List Branch → Child → List ℕ → Option Child
-child_of table (Dir place) name = child_named (children_at table place) name
+child_of table (Dir index) name = child_named (children_at table index) name
 child_of table (File len) name = None
 
 -- what stands at the end of the names
@@ -88,7 +88,7 @@ AreFound children (e ∷ es) = (child_named children e.0 ≡ Some e.1) × AreFou
 
 -- the node that a child is
 abbrev pub node_of : List Branch → Child → Node
-node_of table (Dir place) = directory (names_of (children_at table place)) (denied_at table place)
+node_of table (Dir index) = directory (names_of (children_at table index)) (denied_at table index)
 node_of table (File len) = file len
 
 -- the tree that the table is, whose root comes first
@@ -103,10 +103,10 @@ child_or_missing (Some child) = Ok child
 -- one component worked off
 abbrev pub next_child : List Branch → Child → Component → Result Child ErrorKind
 next_child table (File len) c = Err kind.Other
-next_child table (Dir place) root = Ok (Dir 0)
-next_child table (Dir place) here = Ok (Dir place)
-next_child table (Dir place) up = Ok (Dir (parent_at table place))
-next_child table (Dir place) (plain name) = child_or_missing (child_named (children_at table place) name)
+next_child table (Dir index) root = Ok (Dir 0)
+next_child table (Dir index) here = Ok (Dir index)
+next_child table (Dir index) up = Ok (Dir (parent_at table index))
+next_child table (Dir index) (plain name) = child_or_missing (child_named (children_at table index) name)
 
 abbrev pub go_on : (Child → Result Child ErrorKind) → Result Child ErrorKind → Result Child ErrorKind
 go_on next (Ok child) = next child
@@ -124,7 +124,7 @@ found table (c ∷ cs) = reached table (Dir 0) (components (c ∷ cs))
 
 -- the directory, if one was found
 abbrev pub holder_of : Result Child ErrorKind → Option ℕ
-holder_of (Ok (Dir place)) = Some place
+holder_of (Ok (Dir index)) = Some index
 holder_of (Ok (File len)) = None
 holder_of (Err k) = None
 
@@ -147,30 +147,30 @@ abbrev pub free_spot : List Branch → List Component → Result (ℕ × List �
 free_spot table cs = if_free table (named_spot table cs)
 
 -- the directory, if the child is one
-abbrev pub place_of_child : Option Child → Option ℕ
-place_of_child None = None
-place_of_child (Some (Dir place)) = Some place
-place_of_child (Some (File len)) = None
+abbrev pub index_of_child : Option Child → Option ℕ
+index_of_child None = None
+index_of_child (Some (Dir index)) = Some index
+index_of_child (Some (File len)) = None
 
 -- the directory that a path leads to by its last name
 abbrev pub directory_spot : List Branch → List Component → Option ℕ
-directory_spot table cs = option_and_then (λ s. place_of_child (child_named (children_at table s.0) s.1)) (named_spot table cs)
+directory_spot table cs = option_and_then (λ s. index_of_child (child_named (children_at table s.0) s.1)) (named_spot table cs)
 
--- the place is in the table, if it is one
+-- the index is in the table, if it is one
 abbrev pub IsWithin : List Branch → Child → Type 0
-IsWithin table (Dir place) = place < length table
+IsWithin table (Dir index) = index < length table
 IsWithin table (File len) = Unit {0}
 
 -- a directory that a name stands for is in the table and isn't the root, and that name in that directory is the only one that stands for it
-pub record IsHeld (table : List Branch) (holder : ℕ) (name : List ℕ) (place : ℕ) : Type 0 where
-  pub within : place < length table
-  pub below_root : 0 < place
-  pub parent : parent_at table place ≡ holder
-  pub only_name : (other : List ℕ) → child_named (children_at table holder) other ≡ Some (Dir place) → other ≡ name
+pub record IsHeld (table : List Branch) (holder : ℕ) (name : List ℕ) (index : ℕ) : Type 0 where
+  pub within : index < length table
+  pub below_root : 0 < index
+  pub parent : parent_at table index ≡ holder
+  pub only_name : (other : List ℕ) → child_named (children_at table holder) other ≡ Some (Dir index) → other ≡ name
 
 -- the root is there and holds itself, each directory's parent is there, and each directory that a name stands for is held by it alone
 pub record IsSound (table : List Branch) : Type 0 where
   pub rooted : 0 < length table
   pub own_parent : parent_at table 0 ≡ 0
-  pub parents : (place : ℕ) → place < length table → parent_at table place < length table
-  pub held : (holder : ℕ) (name : List ℕ) (place : ℕ) → child_named (children_at table holder) name ≡ Some (Dir place) → IsHeld table holder name place
+  pub parents : (index : ℕ) → index < length table → parent_at table index < length table
+  pub held : (holder : ℕ) (name : List ℕ) (index : ℕ) → child_named (children_at table holder) name ≡ Some (Dir index) → IsHeld table holder name index

@@ -7,9 +7,9 @@ use Rattle.memory_fs.specs.declared.child.Child.{Child}
 use Rattle.memory_fs.specs.declared.child.Child.TheVariants.{Dir, File}
 
 abbrev pub type_of : Child → FileType
-type_of (Dir place) = type.Dir
+type_of (Dir index) = type.Dir
 type_of (File len) = type.File
 
 abbrev pub metadata_of : Child → Metadata
-metadata_of (Dir place) = metadata type.Dir 0
+metadata_of (Dir index) = metadata type.Dir 0
 metadata_of (File len) = metadata type.File len

@@ -4,6 +4,6 @@ use Rattle.memory_fs.specs.declared.table.Table.{Table}
 use Rattle.memory_fs.specs.Branch.{Branch}
 use Rattle.memory_fs.specs.Directory.{branch}
 
--- the directories by their places, the root first
+-- the directories in order, the root first
 abbrev pub branches : {A : Type 0} → Table A → List Branch
 branches t = branch t.root ∷ map branch t.others.items

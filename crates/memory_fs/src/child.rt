@@ -4,7 +4,7 @@ ghost use Rattle.std.specs.Prelude.{◌≡◌};
 use walk_model::file_type::FileType;
 use walk_model::metadata::Metadata;
 
-/// A directory by its place in the table, or a file by its length.
+/// A directory by its index in the table, or a file by its length.
 #[derive(Clone, Copy)]
 pub enum Child {
     Dir(usize),

@@ -1,6 +1,5 @@
 //! A directory of the table. A clause sees it as a `Branch`.
 ghost use Rattle.std.specs.Prelude.{◌≡◌, [], map, None, IfOk, OnOk, OnErr};
-ghost use Rattle.std.specs.Option.{option_copied};
 ghost use Rattle.memory_fs.specs.Branch.{child_named, with_child, with_denied, listing_of, AreFound};
 ghost use Rattle.memory_fs.specs.Directory.{branch};
 ghost use Rattle.walk_fs.specs.Views.{listed};
@@ -65,7 +64,7 @@ impl<A: Allocator + Copy> Directory<A> {
         alloc: B,
     ) -> Result<Vec<io::Result<Listed<B>>, B>, AllocError>
         ensures items { IfOk result (λ v. map listed v.items ≡ listing_of (branch self.now).children) }
-        ensures found { OnOk result (AreFound (branch self.now).children (branch self.now).children) }
+        ensures found { AreFound (branch self.now).children (branch self.now).children }
     {
         let mut items = Vec::with_capacity(alloc, self.children.len())?;
         for (name, child) in &self.children {

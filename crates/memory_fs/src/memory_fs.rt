@@ -28,7 +28,7 @@ pub struct MemoryFs<A: Allocator + Copy = Global> {
 }
 
 impl<A: Allocator + Copy> MemoryFs<A> {
-    ghost use Rattle.std.specs.Prelude.{◌≡◌, ◌<◌, ◌↔◌, ℕ, [], length, None, IfSome, IfOk, IfErr, OnOk, OnErr, MatchOption, MatchResult, Some, Ok, Err};
+    ghost use Rattle.std.specs.Prelude.{◌≡◌, ◌<◌, ◌↔◌, [], length, None, IfSome, IfOk, IfErr, OnOk, OnErr, MatchOption, MatchResult, Some, Ok, Err};
     ghost use Rattle.walk_model.specs.Paths.{components};
     ghost use Rattle.walk_model.specs.PathTexts.{components_left, component_seen};
     ghost use Rattle.walk_model.specs.Tree.{Place, only_root, directory, file, add, deny, not_found, already_exists};
@@ -86,10 +86,10 @@ impl<A: Allocator + Copy> MemoryFs<A> {
         ensures only_not_found { IfErr result (λ e. e ≡ BuildError.NotFound) }
         ensures err { OnErr result (IsSameTree (tree_of self.old) (tree_of self.new)) }
     {
-        let Some(place) = self.directory(path) else {
+        let Some(index) = self.directory(path) else {
             return Err(BuildError::NotFound);
         };
-        self.table.deny(place, kind);
+        self.table.deny(index, kind);
         Ok(())
     }
 
@@ -99,16 +99,16 @@ impl<A: Allocator + Copy> MemoryFs<A> {
         ensures value { result ≡ next_child (branches self.now.table) child (component_seen component.entry) }
         ensures within { IfOk result (IsWithin (branches self.now.table)) }
     {
-        let Child::Dir(place) = child else {
+        let Child::Dir(index) = child else {
             return Err(ErrorKind::Other);
         };
         match component {
             Component::RootDir => Ok(Child::Dir(0)),
             Component::CurDir => Ok(child),
-            Component::ParentDir => Ok(Child::Dir(self.table.directory(place).parent)),
+            Component::ParentDir => Ok(Child::Dir(self.table.directory(index).parent)),
             Component::Normal(name) => self
                 .table
-                .directory(place)
+                .directory(index)
                 .child(name)
                 .ok_or(ErrorKind::NotFound),
         }
@@ -140,10 +140,10 @@ impl<A: Allocator + Copy> MemoryFs<A> {
     // The directory that the components lead to.
     fn holder(&self, components: Components<'_>) -> Option<usize>
         ensures value { result ≡ holder_of (reached (branches self.now.table) (Dir 0) (components_left components.entry)) }
-        ensures within { IfSome result (λ place. place < length (branches self.now.table)) }
+        ensures within { IfSome result (λ index. index < length (branches self.now.table)) }
     {
         match self.walk(components) {
-            Ok(Child::Dir(place)) => Some(place),
+            Ok(Child::Dir(index)) => Some(index),
             Ok(Child::File(_)) => None,
             Err(_) => None,
         }
@@ -177,18 +177,21 @@ impl<A: Allocator + Copy> MemoryFs<A> {
     // The directory there.
     fn directory(&self, path: &str) -> Option<usize>
         ensures value { result ≡ directory_spot (branches self.now.table) (components path.now) }
-        ensures within { IfSome result (λ place. place < length (branches self.now.table)) }
+        ensures within { IfSome result (λ index. index < length (branches self.now.table)) }
     {
         let spot = self.spot(path)?;
         match self.table.directory(spot.holder).child(spot.name) {
-            Some(Child::Dir(place)) => Some(place),
+            Some(Child::Dir(index)) => Some(index),
             Some(Child::File(_)) => None,
             None => None,
         }
     }
 }
 
+/// Of its answers only a listing that is made takes memory: metadata and every error are answered without.
 impl<A: Allocator + Copy> FileSystem for MemoryFs<A> {
+    ghost use Rattle.std.specs.Prelude.{◌≢◌, IsErr, map, string_bytes};
+    ghost use Rattle.walk_fs.specs.Views.{listed, AnswersValue};
     ghost use Rattle.walk_model.specs.Tree.{functions_of};
     ghost use Rattle.memory_fs.specs.MemoryFs.{tree_of};
 
@@ -200,39 +203,48 @@ impl<A: Allocator + Copy> FileSystem for MemoryFs<A> {
         &self,
         alloc: B,
         path: &str,
-    ) -> Result<Vec<io::Result<Listed<B>>, B>, Fault> {
+    ) -> Result<Vec<io::Result<Listed<B>>, B>, Fault>
+        ensures value { AnswersValue (λ v. map listed v.items) result ((functions_of (tree_of self.now)).list_of path.now) }
+        ensures errors_need_no_memory { IsErr ((functions_of (tree_of self.now)).list_of path.now) → result ≢ Err Fault.Memory }
+    {
         match self.look_up(path) {
-            Ok(Child::Dir(place)) => {
-                let directory = self.table.directory(place);
+            Ok(Child::Dir(index)) => {
+                let directory = self.table.directory(index);
                 if let Some(kind) = directory.denied {
                     return Err(Fault::Io(io::Error::from(kind)));
                 }
-                match directory.listing(alloc) {
-                    Ok(items) => Ok(items),
-                    Err(_) => Err(Fault::Memory),
-                }
+                Ok(directory.listing(alloc)?)
             }
             Ok(Child::File(_)) => Err(Fault::Io(io::Error::from(ErrorKind::InvalidInput))),
             Err(kind) => Err(Fault::Io(io::Error::from(kind))),
         }
     }
 
-    fn metadata(&self, path: &str) -> Result<Metadata, Fault> {
+    fn metadata(&self, path: &str) -> Result<Metadata, Fault>
+        ensures value { AnswersValue (λ m. m) result ((functions_of (tree_of self.now)).meta_of path.now) }
+        ensures never_refuses { result ≢ Err Fault.Memory }
+    {
         match self.look_up(path) {
             Ok(child) => Ok(child.metadata()),
             Err(kind) => Err(Fault::Io(io::Error::from(kind))),
         }
     }
 
-    fn symlink_metadata(&self, path: &str) -> Result<Metadata, Fault> {
+    fn symlink_metadata(&self, path: &str) -> Result<Metadata, Fault>
+        ensures value { AnswersValue (λ m. m) result ((functions_of (tree_of self.now)).link_meta_of path.now) }
+        ensures never_refuses { result ≢ Err Fault.Memory }
+    {
         match self.look_up(path) {
-            Ok(child) => Ok(child.metadata()),
+            Ok(named) => Ok(named.metadata()),
             Err(kind) => Err(Fault::Io(io::Error::from(kind))),
         }
     }
 
     // Nothing in the tree is a link.
-    fn read_link<B: Allocator + Copy>(&self, _alloc: B, path: &str) -> Result<String<B>, Fault> {
+    fn read_link<B: Allocator + Copy>(&self, _alloc: B, path: &str) -> Result<String<B>, Fault>
+        ensures value { AnswersValue string_bytes result ((functions_of (tree_of self.now)).target_of path.now) }
+        ensures errors_need_no_memory { IsErr ((functions_of (tree_of self.now)).target_of path.now) → result ≢ Err Fault.Memory }
+    {
         match self.look_up(path) {
             Ok(_) => Err(Fault::Io(io::Error::from(ErrorKind::InvalidInput))),
             Err(kind) => Err(Fault::Io(io::Error::from(kind))),

@@ -1,7 +1,7 @@
-//! The directories of a tree by their places. A clause sees them as a list of branches.
-ghost use Rattle.std.specs.Prelude.{◌≡◌, ◌<◌, ◌++◌, ◌∷◌, [], None, OnOk, OnErr, length, slice_set, vec_capacity};
+//! The directories of a tree by their indices. A clause sees them as a list of branches.
+ghost use Rattle.std.specs.Prelude.{◌≡◌, ◌<◌, ◌++◌, ◌∷◌, [], None, OnOk, OnErr, length, vec_capacity};
 ghost use Rattle.memory_fs.specs.declared.child.Child.TheVariants.{Dir};
-ghost use Rattle.memory_fs.specs.Branch.{children_at, child_named, branch_at, empty_branch, with_child, with_named, with_denial};
+ghost use Rattle.memory_fs.specs.Branch.{children_at, child_named, branch_at, empty_branch, with_named, with_denial};
 ghost use Rattle.memory_fs.specs.Directory.{branch};
 ghost use Rattle.memory_fs.specs.Table.{branches};
 
@@ -10,7 +10,7 @@ use crate::directory::Directory;
 use std::alloc::{AllocError, Allocator};
 use std::io::ErrorKind;
 
-/// The root, at place 0, and behind it the directories in order of creation.
+/// The root, at index 0, and behind it the directories in order of creation.
 #[derive(Drop)]
 pub struct Table<A: Allocator + Copy> {
     root: Directory<A>,
@@ -34,15 +34,15 @@ impl<A: Allocator + Copy> Table<A> {
         self.others.len() + 1
     }
 
-    /// The directory at a place.
-    pub(crate) fn directory(&self, place: usize) -> &Directory<A>
-        requires { place < length (branches self.now) }
-        ensures { branch result.now ≡ branch_at (branches self.now) place }
+    /// The directory at an index.
+    pub(crate) fn directory(&self, index: usize) -> &Directory<A>
+        requires { index < length (branches self.now) }
+        ensures { branch result.now ≡ branch_at (branches self.now) index }
     {
-        if place == 0 {
+        if index == 0 {
             &self.root
         } else {
-            &self.others[place - 1]
+            &self.others[index - 1]
         }
     }
 
@@ -69,8 +69,8 @@ impl<A: Allocator + Copy> Table<A> {
         ensures err { OnErr result (branches self.new ≡ branches self.old) }
     {
         self.others.reserve(1)?;
-        let place = self.len();
-        self.add(holder, name, Child::Dir(place))?;
+        let index = self.len();
+        self.add(holder, name, Child::Dir(index))?;
         let directory = Directory::new(*self.others.allocator(), holder);
         match self.others.push(directory) {
             Ok(()) => Ok(()),
@@ -79,14 +79,14 @@ impl<A: Allocator + Copy> Table<A> {
     }
 
     /// Reading a directory fails with this kind from now on.
-    pub(crate) fn deny(&mut self, place: usize, kind: ErrorKind)
-        requires { place < length (branches self.old) }
-        ensures { branches self.new ≡ with_denial (branches self.old) place kind }
+    pub(crate) fn deny(&mut self, index: usize, kind: ErrorKind)
+        requires { index < length (branches self.old) }
+        ensures { branches self.new ≡ with_denial (branches self.old) index kind }
     {
-        if place == 0 {
+        if index == 0 {
             self.root.deny(kind);
         } else {
-            self.others[place - 1].deny(kind);
+            self.others[index - 1].deny(kind);
         }
     }
 }

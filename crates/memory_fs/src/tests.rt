@@ -124,3 +124,54 @@ fn children_in_order_of_creation(rt: HostRuntime) -> Result<(), Fail> {
     assert_eq!(rt; text.as_str(), "f b/ a ");
     Ok(())
 }
+
+// The names of a listing, each behind a space.
+fn names(alloc: Global, fs: &MemoryFs, path: &str) -> Result<String, Fail> {
+    let mut text = String::new(alloc);
+    if let Ok(items) = fs.read_dir(alloc, path) {
+        for item in items {
+            text.push_str(" ")?;
+            text.push_str(item?.name.as_str())?;
+        }
+    }
+    Ok(text)
+}
+
+#[test]
+fn five_thousand_children(rt: HostRuntime) -> Result<(), Fail> {
+    let mut fs = MemoryFs::new(rt.alloc());
+    let mut wanted = String::new(rt.alloc());
+    fs.add_dir("/wide")?;
+    for number in 0..5_000u64 {
+        let path = format!(in rt.alloc(); "/wide/{number}")?;
+        fs.add_file(path.as_str(), number)?;
+        let file = Metadata::new(FileType::File, number);
+        assert_eq!(rt; fs.metadata(path.as_str()).ok(), Some(file));
+        write!(wanted, " {number}")?;
+    }
+    assert_eq!(rt; names(rt.alloc(), &fs, "/wide")?, wanted);
+    assert_eq!(rt; kind(fs.metadata("/wide/5000")), Some(ErrorKind::NotFound));
+    assert_eq!(rt; fs.add_dir("/wide/2500"), Err(BuildError::AlreadyExists));
+    Ok(())
+}
+
+#[test]
+fn thirty_deep(rt: HostRuntime) -> Result<(), Fail> {
+    let mut fs = MemoryFs::new(rt.alloc());
+    let mut path = String::new(rt.alloc());
+    for level in 0..30u64 {
+        write!(path, "/{level}")?;
+        fs.add_dir(path.as_str())?;
+        path.push_str("/.")?;
+    }
+    let dir = Metadata::new(FileType::Dir, 0);
+    assert_eq!(rt; fs.symlink_metadata(path.as_str()).ok(), Some(dir));
+    for level in 0..29u64 {
+        path.push_str("/..")?;
+        let below = format!(in rt.alloc(); " {}", 29 - level)?;
+        assert_eq!(rt; names(rt.alloc(), &fs, path.as_str())?, below);
+    }
+    path.push_str("/../0")?;
+    assert_eq!(rt; names(rt.alloc(), &fs, path.as_str())?.as_str(), " 1");
+    Ok(())
+}

@@ -4,7 +4,7 @@ use Rattle.std.specs.Io.KnownBytes.{Appends}
 use Rattle.std.specs.List.{list_all}
 use Rattle.std.proofs.lemmas.List.Folds.{list_all-append}
 use Rattle.walk_model.specs.Entry.{Item}
-use Rattle.walk.specs.Lines.{line_of, lines_of}
+use Rattle.walk_model.specs.Lines.{line_of, lines_of}
 
 -- one text is written and then another
 appends_then : (a b c : Option (List ℕ)) (xs ys : List ℕ) → Appends a b xs → Appends b c ys → Appends a c (xs ++ ys)

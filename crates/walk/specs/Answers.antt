@@ -6,7 +6,7 @@ use Rattle.std.specs.Io.KnownBytes.{Appends}
 use Rattle.jwalk_read.specs.declared.dir_entry.DirEntry.{DirEntry}
 use Rattle.jwalk_read.specs.declared.error.Error.{Error}
 use Rattle.jwalk_read.specs.Entry.{item}
-use Rattle.walk.specs.Lines.{lines_of}
+use Rattle.walk_model.specs.Lines.{lines_of}
 
 module _ {S C A R E : Type 0} (steps : S → Option (Result (DirEntry C A R E) (Error A)) → S → Type 0) (answers : S) where
   -- the iterator was asked until it ended, the line of each answer was written, and it is told whether none was an error

@@ -1,11 +1,3 @@
-pub mod Number
-pub mod TreeLine
-pub mod Asked
-pub mod Words
-pub mod Lines
-pub mod Failure
-pub mod TextLines
-pub mod NumberedLines
 pub mod Answers
-pub mod Built
+pub mod TreeWalk
 pub mod Run

@@ -3,16 +3,16 @@ ghost use Rattle.std.specs.Prelude.{◌≡◌, ◌≤◌, [], true, is_ok, IfOk,
 ghost use Rattle.std.specs.Iterator.{IsFinite};
 ghost use Rattle.std.specs.Io.KnownBytes.{Appends, append_known};
 ghost use Rattle.jwalk_read.specs.Entry.{item};
-ghost use Rattle.walk.specs.Lines.{line_of};
-ghost use Rattle.walk.specs.Failure.{status_of};
+ghost use Rattle.walk_model.specs.Lines.{line_of};
+ghost use Rattle.walk_text.specs.Failure.{status_of};
 ghost use Rattle.walk.specs.Answers.{PrintsAll};
 
-use crate::failure::Failure;
-use crate::print::print_answer;
 use jwalk::error::Result as Answer;
 use jwalk::{ClientState, DirEntry};
 use std::alloc::Allocator;
 use std::io::Write;
+use walk_text::failure::Failure;
+use walk_text::print::print_answer;
 
 /// How many bytes of lines are gathered before they are written. A buffer of twice the length takes the last line too,
 /// and stays below the 64 KiB at which a free makes the C library's allocator put all its small pieces together.

@@ -3,24 +3,16 @@
 #![tactic(auto)]
 
 mod answers;
-mod asked;
-mod failure;
-mod input;
-mod lines;
-mod number;
-mod print;
 mod run;
 #[cfg(test)]
 mod tests;
-mod tree;
-mod tree_line;
-mod words;
+mod tree_walk;
 
-use crate::failure::Failure;
 use crate::run::run;
 use std::io::ErrorKind;
 use std::process::ExitCode;
 use std::{env, io};
+use walk_text::failure::Failure;
 
 /// The words behind the program's name. Words that aren't text are bad ones.
 fn words_of(rt: &HostRuntime) -> Result<Vec<String>, Failure> {

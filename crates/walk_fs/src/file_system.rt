@@ -1,5 +1,5 @@
 //! The file system as a trait.
-ghost use Rattle.std.specs.Prelude.{◌≡◌, ℕ, List, Result, map, string_bytes};
+ghost use Rattle.std.specs.Prelude.{map, string_bytes};
 ghost use Rattle.std.specs.Arc.{arc_value};
 ghost use Rattle.walk_model.specs.FileSystem.{Functions};
 ghost use Rattle.walk_fs.specs.Views.{listed, AnswersValue};
@@ -13,6 +13,22 @@ use walk_model::metadata::Metadata;
 
 /// What a walk asks of a file system. Paths are texts, as `std::path` has them on Unix; relative ones start where the
 /// file system says. Each answer that needs memory is made with the caller's allocator.
+///
+/// A file system whose answers may change, or that can't promise them, says that it isn't fixed. Then it owes nothing,
+/// and names any functions:
+///
+///     ghost use Rattle.walk_model.specs.Tree.{functions_of, only_root};
+///
+///     impl FileSystem for Disk {
+///         ghost IsFixed = { λ _. ⊥ };
+///
+///         ghost functions = { λ _. functions_of only_root };
+///
+///         fn read_dir ..
+///     }
+///
+/// Of a walk over it no answer is known by value. The walk is safe and ends all the same, directories are read in order
+/// and each once, and every entry stands from the least to the greatest depth.
 pub trait FileSystem: Drop {
     /// It always answers the same: each answer is that of `functions`, unless memory runs out.
     ghost IsFixed: { Self → Type 0 };
@@ -66,5 +82,32 @@ impl<S: FileSystem, B: Allocator> FileSystem for Arc<S, B> {
 
     fn read_link<A: Allocator + Copy>(&self, alloc: A, path: &str) -> Result<String<A>, Fault> {
         (**self).read_link(alloc, path)
+    }
+}
+
+/// A borrowed file system answers what the one behind it does.
+impl<S: FileSystem> FileSystem for &S {
+    ghost IsFixed = { λ s. S.IsFixed s.now };
+
+    ghost functions = { λ s. S.functions s.now };
+
+    fn read_dir<A: Allocator + Copy>(
+        &self,
+        alloc: A,
+        path: &str,
+    ) -> Result<Vec<io::Result<Listed<A>>, A>, Fault> {
+        S::read_dir(*self, alloc, path)
+    }
+
+    fn metadata(&self, path: &str) -> Result<Metadata, Fault> {
+        S::metadata(*self, path)
+    }
+
+    fn symlink_metadata(&self, path: &str) -> Result<Metadata, Fault> {
+        S::symlink_metadata(*self, path)
+    }
+
+    fn read_link<A: Allocator + Copy>(&self, alloc: A, path: &str) -> Result<String<A>, Fault> {
+        S::read_link(*self, alloc, path)
     }
 }

@@ -4,3 +4,5 @@
 pub mod fault;
 pub mod file_system;
 pub mod listed;
+#[cfg(test)]
+mod tests;

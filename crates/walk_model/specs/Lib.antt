@@ -17,4 +17,6 @@ pub mod Listing
 pub mod Held
 pub mod Preorder
 pub mod Walk
+pub mod Lines
 pub mod WalkRows
+pub mod CallbackRows

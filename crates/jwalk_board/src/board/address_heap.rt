@@ -2,7 +2,7 @@
 ghost use Rattle.std.specs.Prelude.{◌≡◌, ◌+◌, ◌<◌, ◌≤◌, ◌^◌, ◌∷◌, [], length, IfNone, IfSome, OnOk, map, slice_index_or};
 ghost use Rattle.std.specs.List.Sorted.{IsPermutation};
 ghost use Rattle.jwalk_order.specs.Ordered.{address_of};
-ghost use Rattle.jwalk_board.specs.Placed.{placed, places, IsFirst};
+ghost use Rattle.jwalk_board.specs.Addressed.{addressed, addresses_of, IsFirst};
 ghost use Rattle.jwalk_board.specs.Addresses.{IsAmong};
 
 use jwalk_order::ordered::Ordered;
@@ -19,13 +19,13 @@ impl<T, A: Allocator + Copy> Model for AddressHeap<T, A> {
     ghost use Rattle.std.specs.Prelude.{◌-◌, map};
     ghost use Rattle.std.specs.BinaryHeap.{heap_items, heap_len, heap_capacity, IsHeap};
     ghost use Rattle.jwalk_order.specs.Ordered.{ordered_cmp};
-    ghost use Rattle.jwalk_board.specs.Placed.{placed};
+    ghost use Rattle.jwalk_board.specs.Addressed.{addressed};
     ghost use Rattle.jwalk_board.specs.Heap.{Heap};
 
     ghost Value = { Heap T };
 
     ghost view = { λ h. record {
-      items = map placed (heap_items h.items);
+      items = map addressed (heap_items h.items);
       room = heap_capacity h.items - heap_len h.items;
     } };
 
@@ -58,7 +58,7 @@ impl<T, A: Allocator + Copy> AddressHeap<T, A> {
 
     pub(super) fn push_reserved(&mut self, item: Ordered<T, A>)
         requires { 0 < self.old.room }
-        ensures items { IsPermutation (placed item ∷ self.old.items) self.new.items }
+        ensures items { IsPermutation (addressed item ∷ self.old.items) self.new.items }
         ensures room { self.old.room ≤ self.new.room + 1 }
     {
         match self.items.push(item) {
@@ -69,8 +69,8 @@ impl<T, A: Allocator + Copy> AddressHeap<T, A> {
 
     // An item at the least address.
     pub(super) fn peek(&self) -> Option<&Ordered<T, A>>
-        ensures some { IfSome result (λ item. IsAmong (address_of item.now) (places self.now.items)) }
-        ensures top { IfSome result (λ item. placed item.now ≡ slice_index_or self.now.items 0 (placed item.now)) }
+        ensures some { IfSome result (λ item. IsAmong (address_of item.now) (addresses_of self.now.items)) }
+        ensures top { IfSome result (λ item. addressed item.now ≡ slice_index_or self.now.items 0 (addressed item.now)) }
         ensures least { IfSome result (λ item. IsFirst (address_of item.now) self.now.items) }
         ensures none { IfNone result (self.now.items ≡ []) }
     {
@@ -79,8 +79,8 @@ impl<T, A: Allocator + Copy> AddressHeap<T, A> {
 
     // Takes the item that `peek` shows.
     pub(super) fn pop(&mut self) -> Option<Ordered<T, A>>
-        ensures items { IfSome result (λ item. IsPermutation self.old.items (placed item ∷ self.new.items)) }
-        ensures top { IfSome result (λ item. placed item ≡ slice_index_or self.old.items 0 (placed item)) }
+        ensures items { IfSome result (λ item. IsPermutation self.old.items (addressed item ∷ self.new.items)) }
+        ensures top { IfSome result (λ item. addressed item ≡ slice_index_or self.old.items 0 (addressed item)) }
         ensures none { IfNone result (self.old.items ≡ []) }
     {
         self.items.pop()

@@ -7,7 +7,7 @@ pub type Refused = AllocError;
 /// How specifications are read. A reading comes with the specifications of its children.
 pub trait Plan<A: Allocator + Copy> {
     ghost use Rattle.std.specs.Prelude.{◌≡◌, map, IfOk};
-    ghost use Rattle.jwalk_board.specs.Plan.{Tree, Falls};
+    ghost use Rattle.jwalk_board.specs.Plan.{PlanTree, Falls};
 
     type Spec: Drop;
 
@@ -25,7 +25,7 @@ pub trait Plan<A: Allocator + Copy> {
     // Whether its answers are those of its tree, wherever it answers.
     ghost IsFixed: { Self → Type 0 };
 
-    ghost tree: { Self → Tree SpecValue ReadingValue };
+    ghost tree: { Self → PlanTree SpecValue ReadingValue };
 
     /// The reading of a specification, and its children in order.
     ///

@@ -1,10 +1,10 @@
 //! Moves played on a board.
 ghost use Rattle.std.specs.Prelude.{◌≡◌, false, map, IfOk, replicate};
-ghost use Rattle.jwalk_board.specs.Placed.{places};
-ghost use Rattle.jwalk_board.specs.Plan.{preorder, specs_in_preorder};
-ghost use Rattle.jwalk_board.specs.Rehearsal.{Answers, IsInOrder};
+ghost use Rattle.jwalk_board.specs.Addressed.{addresses_of};
+ghost use Rattle.jwalk_board.specs.Plan.{readings_in_preorder, specs_in_preorder};
+ghost use Rattle.jwalk_board.specs.Rehearsal.{MatchesRun, IsInOrder};
 ghost use Rattle.jwalk_board.specs.Run.{run_of_moves};
-ghost use Rattle.jwalk_board.specs.Stage.{made_of};
+ghost use Rattle.jwalk_board.specs.Stage.{rehearsed};
 
 use super::Board;
 use super::moves::Move;
@@ -40,10 +40,10 @@ pub fn rehearse<P: Plan<A>, A: Allocator + Copy>(
     workers: usize,
     moves: &[Move],
 ) -> Result<Rehearsal<P::Spec, P::Reading, A>, Refused>
-    ensures answers { P.IsFixed plan.now → IfOk result (λ made. let roots = map P.spec_value roots.items in
-        Answers (P.tree plan.now) roots (run_of_moves (places (specs_in_preorder (P.tree plan.now) roots)) workers moves.now) (made_of P.spec_value P.reading_value made)) }
+    ensures matches_run { P.IsFixed plan.now → IfOk result (λ made. let roots = map P.spec_value roots.items in
+        MatchesRun (P.tree plan.now) roots (run_of_moves (addresses_of (specs_in_preorder (P.tree plan.now) roots)) workers moves.now) (rehearsed P.spec_value P.reading_value made)) }
     ensures in_order { P.IsFixed plan.now → IfOk result (λ made.
-        IsInOrder (preorder (P.tree plan.now) (map P.spec_value roots.items)) (made_of P.spec_value P.reading_value made)) }
+        IsInOrder (readings_in_preorder (P.tree plan.now) (map P.spec_value roots.items)) (rehearsed P.spec_value P.reading_value made)) }
     ensures running { IfOk result (λ made. made.board.stopped ≡ false) }
 {
     let hands = empty_hands(alloc, workers)?;
@@ -76,5 +76,7 @@ fn empty_hands<T, A: Allocator + Copy>(
     Ok(hands)
 }
 
+#[cfg(test)]
+mod size_tests;
 #[cfg(test)]
 mod tests;

@@ -3,7 +3,7 @@ ghost use Rattle.std.specs.Prelude.{◌≡◌, ◌≤◌, ◌++◌, length, map,
 ghost use Rattle.std.specs.List.Sorted.{IsPermutation};
 ghost use Rattle.jwalk_order.specs.Frontier.{children_from};
 ghost use Rattle.jwalk_order.specs.IndexPath.{address};
-ghost use Rattle.jwalk_board.specs.Placed.{at_places};
+ghost use Rattle.jwalk_board.specs.Addressed.{at_addresses};
 
 use super::address_heap::AddressHeap;
 use jwalk_order::index_path::IndexPath;
@@ -42,7 +42,7 @@ pub(super) fn make_room<T, R, A: Allocator + Copy>(
     child_paths(parent, count)
 }
 
-// Queues each specification at the address of its place.
+// Queues each specification at its address.
 pub(super) fn queue_all<T: Drop, A: Allocator + Copy>(
     queued: &mut AddressHeap<T, A>,
     specs: Vec<T, A>,
@@ -50,7 +50,7 @@ pub(super) fn queue_all<T: Drop, A: Allocator + Copy>(
 )
     requires each { length paths.items ≡ length specs.items }
     requires room { length specs.items ≤ queued.old.room }
-    ensures { IsPermutation (at_places (map address paths.items) specs.items ++ queued.old.items) queued.new.items }
+    ensures { IsPermutation (at_addresses (map address paths.items) specs.items ++ queued.old.items) queued.new.items }
 {
     let mut rest = specs.into_iter();
     for path in paths {

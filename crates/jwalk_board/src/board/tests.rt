@@ -12,8 +12,8 @@ type Fault = FinishFault<&'static str, &'static str>;
 // What the tests do with a board. None of it promises anything: what comes back is compared, and a test that calls the
 // board itself carries each call's contract to its end.
 
-fn with_root(alloc: Global) -> Result<Names, Fail> {
-    Ok(Board::new(vec![in alloc; "r"]?)?)
+fn with_roots(alloc: Global, roots: &[&'static str]) -> Result<Names, Fail> {
+    Ok(Board::new(Vec::from_slice(alloc, roots)?)?)
 }
 
 fn path(alloc: Global, indices: &[usize]) -> Result<IndexPath, AllocError> {
@@ -91,7 +91,7 @@ fn all_is_handed_out(rt: &(impl Abort + AllocGlobal), board: &mut Names) -> Resu
 
 #[test]
 fn a_root_with_two_leaves_is_handed_out_in_order(rt: HostRuntime) -> Result<(), Fail> {
-    let mut board = with_root(rt.alloc())?;
+    let mut board = with_roots(rt.alloc(), &["r"])?;
     root_and_second_leaf_are_read(&rt, &mut board)?;
     all_is_handed_out(&rt, &mut board)?;
     assert_eq!(rt; hand_out_refusal(&mut board), Some(HandOutRefusal::Done));
@@ -118,7 +118,7 @@ fn gives_back(fault: &Fault, indices: &[usize]) -> bool {
 #[test]
 fn only_what_is_in_hand_is_finished(rt: HostRuntime) -> Result<(), Fail> {
     let alloc = rt.alloc();
-    let mut board = with_root(alloc)?;
+    let mut board = with_roots(alloc, &["r"])?;
     assert!(rt; takes(&mut board, &[0]));
     finish(&mut board, alloc, &[0], "r", &["a", "b"])?;
     for indices in [[0, 5].as_slice(), [0].as_slice()] {
@@ -127,5 +127,36 @@ fn only_what_is_in_hand_is_finished(rt: HostRuntime) -> Result<(), Fail> {
         assert!(rt; gives_back(&fault, indices));
         assert_eq!(rt; counts(&board), [2, 0, 1, 2]);
     }
+    Ok(())
+}
+
+// Takes the only child of only children that lies so deep, finishes it with one child and hands it out.
+fn steps_down(board: &mut Names, alloc: Global, length: usize) -> Result<bool, Fail> {
+    let indices = vec![in alloc; 0; length]?;
+    let taken = takes(board, indices.as_slice());
+    finish(board, alloc, indices.as_slice(), "d", &["d"])?;
+    Ok(taken && hands_out(board, indices.as_slice(), 1))
+}
+
+#[test]
+fn a_long_chain_is_finished_and_handed_out(rt: HostRuntime) -> Result<(), Fail> {
+    let mut board = with_roots(rt.alloc(), &["r"])?;
+    for length in 1..300 {
+        assert!(rt; steps_down(&mut board, rt.alloc(), length)?);
+    }
+    assert_eq!(rt; counts(&board), [1, 0, 0, 1]);
+    Ok(())
+}
+
+#[test]
+fn many_roots_have_many_children(rt: HostRuntime) -> Result<(), Fail> {
+    let alloc = rt.alloc();
+    let names = vec![in alloc; "n"; 3000]?;
+    let mut board = with_roots(alloc, names.as_slice())?;
+    assert!(rt; takes(&mut board, &[0]));
+    finish(&mut board, alloc, &[0], "r", names.as_slice())?;
+    assert_eq!(rt; counts(&board), [5999, 0, 1, 5999]);
+    assert!(rt; hands_out(&mut board, &[0], 3000));
+    assert!(rt; takes(&mut board, &[0, 0]));
     Ok(())
 }

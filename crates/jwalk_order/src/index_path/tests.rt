@@ -3,19 +3,19 @@ use std::alloc::{AllocError, Global};
 use std::collections::BinaryHeap;
 use std::test::Fail;
 
-fn place(alloc: Global, indices: &[usize]) -> Result<IndexPath, AllocError> {
+fn path(alloc: Global, indices: &[usize]) -> Result<IndexPath, AllocError> {
     Ok(IndexPath::new(Vec::from_slice(alloc, indices)?))
 }
 
 // Whether a greatest-first heap of these gives a root, its first child and its second.
-fn come_in_order(alloc: Global, places: [&[usize]; 3]) -> Result<bool, AllocError> {
+fn come_in_order(alloc: Global, lists: [&[usize]; 3]) -> Result<bool, AllocError> {
     let mut heap = BinaryHeap::new(alloc);
-    for indices in places {
-        heap.push(place(alloc, indices)?)?;
+    for indices in lists {
+        heap.push(path(alloc, indices)?)?;
     }
-    let first = heap.pop() == Some(place(alloc, &[0])?);
-    let second = heap.pop() == Some(place(alloc, &[0, 0])?);
-    let third = heap.pop() == Some(place(alloc, &[0, 1])?);
+    let first = heap.pop() == Some(path(alloc, &[0])?);
+    let second = heap.pop() == Some(path(alloc, &[0, 0])?);
+    let third = heap.pop() == Some(path(alloc, &[0, 1])?);
     Ok(first && second && third)
 }
 
@@ -34,16 +34,45 @@ fn a_heap_gives_the_least_address_first(rt: HostRuntime) -> Result<(), Fail> {
 #[test]
 fn an_address_goes_down_and_up(rt: HostRuntime) -> Result<(), Fail> {
     let alloc = rt.alloc();
-    let mut path = place(alloc, &[0])?;
-    assert!(rt; path.adding(2)? == place(alloc, &[0, 2])?);
-    let copy = path.try_clone()?;
-    assert!(rt; copy == path);
-    path.push(1)?;
-    assert!(rt; path == place(alloc, &[0, 1])?);
-    path.increment_last();
-    assert_eq!(rt; path.pop(), Some(2));
-    assert_eq!(rt; path.pop(), Some(0));
-    assert!(rt; path.is_empty());
-    assert_eq!(rt; path.pop(), None);
+    let mut address = path(alloc, &[0])?;
+    assert!(rt; address.adding(2)? == path(alloc, &[0, 2])?);
+    let copy = address.try_clone()?;
+    assert!(rt; copy == address);
+    address.push(1)?;
+    assert!(rt; address == path(alloc, &[0, 1])?);
+    address.increment_last();
+    assert_eq!(rt; address.pop(), Some(2));
+    assert_eq!(rt; address.pop(), Some(0));
+    assert!(rt; address.is_empty());
+    assert_eq!(rt; address.pop(), None);
+    Ok(())
+}
+
+// Goes down from no index by `adding`.
+fn added(alloc: Global, indices: &[usize]) -> Result<IndexPath, AllocError> {
+    let mut address = path(alloc, &[])?;
+    for index in indices {
+        address = address.adding(*index)?;
+    }
+    Ok(address)
+}
+
+// Goes down from no index by `push`.
+fn pushed(alloc: Global, indices: &[usize]) -> Result<IndexPath, AllocError> {
+    let mut address = path(alloc, &[])?;
+    for index in indices {
+        address.push(*index)?;
+    }
+    Ok(address)
+}
+
+#[test]
+fn an_address_may_be_long(rt: HostRuntime) -> Result<(), Fail> {
+    let alloc = rt.alloc();
+    let indices: Vec<usize> = (0..300).rev().collect(alloc)?;
+    let address = pushed(alloc, indices.as_slice())?;
+    assert!(rt; address.indices.as_slice() == indices.as_slice());
+    assert!(rt; added(alloc, indices.as_slice())? == address);
+    assert!(rt; address.try_clone()? == address);
     Ok(())
 }

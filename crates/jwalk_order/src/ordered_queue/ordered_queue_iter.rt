@@ -3,7 +3,7 @@ ghost use Rattle.std.specs.Prelude.{length, IfOk, OnErr};
 ghost use Rattle.std.specs.Iterator.{at_most};
 ghost use Rattle.jwalk_order.specs.OrderedQueue.{IsUnchanged};
 ghost use Rattle.jwalk_order.specs.OrderedQueueIter.{queue_of, IsOver, IsOverTheSame};
-ghost use Rattle.jwalk_order.specs.Step.{Answers, AnswersNext, MayRefuse};
+ghost use Rattle.jwalk_order.specs.Step.{StepGives, NextGives, MayRefuse};
 
 use crate::ordered::Ordered;
 use crate::ordered_queue::OrderedQueue;
@@ -42,7 +42,7 @@ impl<'a, T, A: Allocator + Copy> OrderedQueueIter<'a, T, A> {
     /// then unchanged.
     pub fn step(&mut self) -> Result<Step<T, A>, AllocError>
         ensures same_queue { IsOverTheSame self.old self.new }
-        ensures answered { IfOk result (λ step. Answers (queue_of self.old) step (queue_of self.new)) }
+        ensures answered { IfOk result (λ step. StepGives (queue_of self.old) step (queue_of self.new)) }
         ensures unchanged { OnErr result (IsUnchanged (queue_of self.old) (queue_of self.new)) }
         ensures refused { OnErr result (MayRefuse (queue_of self.old)) }
     {
@@ -55,7 +55,7 @@ impl<'a, T, A: Allocator + Copy> OrderedQueueIter<'a, T, A> {
 impl<'a, T, A: Allocator + Copy> Iterator for OrderedQueueIter<'a, T, A> {
     type Item = Ordered<T, A>;
 
-    ghost next_gives = { λ old item new. AnswersNext (queue_of old) item (queue_of new) × IsOverTheSame old new };
+    ghost next_gives = { λ old item new. NextGives (queue_of old) item (queue_of new) × IsOverTheSame old new };
 
     ghost remaining = { λ it. at_most (length (queue_of it).items) };
 

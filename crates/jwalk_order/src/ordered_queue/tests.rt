@@ -100,3 +100,46 @@ fn an_iterator_gives_what_can_come(rt: HostRuntime) -> Result<(), Fail> {
     assert!(rt; matches!(queue.iter().step()?, Step::Empty));
     Ok(())
 }
+
+// Whether one item more is let in.
+fn lets_in(queue: &mut OrderedQueue<()>, item: Ordered<()>) -> bool {
+    queue.pending() < usize::MAX && queue.push(item).is_ok()
+}
+
+#[test]
+fn many_pushes_succeed_after_a_reserve(rt: HostRuntime) -> Result<(), Fail> {
+    let alloc = rt.alloc();
+    let mut queue = OrderedQueue::new(alloc, Ordering::Relaxed)?;
+    queue.reserve(3000)?;
+    for i in (0..3000).rev() {
+        assert!(rt; lets_in(&mut queue, at(alloc, &[0, i], 0)?));
+    }
+    for i in 0..3000 {
+        assert!(rt; is_at(&queue.iter().step()?, &[0, i]));
+    }
+    Ok(())
+}
+
+// The only address that is so long in a chain of only children.
+fn in_chain(alloc: Global, length: usize) -> Result<Vec<usize>, AllocError> {
+    vec![in alloc; 0; length]
+}
+
+#[test]
+fn a_strict_queue_gives_a_long_chain(rt: HostRuntime) -> Result<(), Fail> {
+    let alloc = rt.alloc();
+    let mut queue = OrderedQueue::new(alloc, Ordering::Strict)?;
+    for length in (1..300).rev() {
+        assert!(rt;
+            lets_in(
+                &mut queue,
+                at(alloc, in_chain(alloc, length)?.as_slice(), 1)?
+            )
+        );
+    }
+    for length in 1..300 {
+        assert!(rt; is_at(&queue.iter().step()?, in_chain(alloc, length)?.as_slice()));
+    }
+    assert!(rt; matches!(queue.iter().step()?, Step::Empty));
+    Ok(())
+}

@@ -1,4 +1,4 @@
 use Rattle.bench_order.proofs.scrambled.address.Given as goal
 
-abbrev pub decreases-loop-place : goal.decreases-loop-place
-decreases-loop-place l = l.place
+abbrev pub decreases-loop-node : goal.decreases-loop-node
+decreases-loop-node l = l.node

@@ -1,29 +1,18 @@
-use Rattle.std.proofs.Common.{◌∙◌, refl, sym, ap, subst, map}
-use Rattle.std.specs.Io.KnownBytes.{Appends}
-use Rattle.walk_model.specs.Tree.{functions_of}
+use Rattle.std.proofs.Common.{subst}
 use Rattle.memory_fs.specs.MemoryFs.{tree_of}
-use Rattle.jwalk_read.specs.Entry.{item}
-use Rattle.jwalk.specs.WalkDir.{unprocessed, file_system_of, options_of, root_of}
-use Rattle.jwalk.proofs.WholeFacts.{whole}
-use Rattle.walk.specs.Asked.{options_for}
-use Rattle.walk.specs.Lines.{lines_of}
-use Rattle.walk.proofs.RunFacts.{same_walk}
+use Rattle.walk.specs.TreeWalk.{PrintsTree}
 use Rattle.walk.proofs.run.print_walk.Goals as goal
+
+pub returns-clause-begins : goal.returns-clause-begins
+returns-clause-begins g c =
+    let request = c.in-Some.request in
+    record { asked = request.asked; root = request.root.now; ask = c.in-Some.ensures.some; tree = tree_of c.in_ok-fs.fs; builds = c.in_ok-fs.ensures.built }
 
 pub returns-clause-printed : goal.returns-clause-printed
 returns-clause-printed g c = λ clean.
     let request = c.in-Some.request in
-    let fs = c.in_ok-fs.fs in
-    let walk = c.walk_of.result in
-    let all = c.print_answers.ensures.printed clean in
-    let begins = c.into_iter-walk.ensures.begins tt tt (λ x is. refl) (record { file_system = tt; callback = tt; clones = λ x y is. refl; default = λ x is. refl }) in
-    let listed = whole _ (λ _. Unit {0}) (λ _. Unit {0}) (λ fs. functions_of (tree_of fs)) (λ _. unprocessed) _ _ tt tt walk c.into_iter-walk.result all.0 c.into_iter-walk.ensures.starts begins (record { file_system = tt; callback = tt; clones = λ x y is. refl; default = λ x is. refl }) all.1 (sym all.2) in
-    let asked = same_walk (map item all.0) (functions_of (tree_of (file_system_of walk))) (functions_of (tree_of fs)) (options_of walk) (options_for request.asked) (root_of walk) request.root.now (ap (λ f. functions_of (tree_of f)) c.walk_of.ensures.file_system) c.walk_of.ensures.options (c.walk_of.ensures.root ∙ c.in_ok-root.ensures.ok) listed in
+    let tree = tree_of c.in_ok-fs.fs in
     record {
-      asked = request.asked;
-      root = request.root.now;
-      ask = c.in-Some.ensures.some;
-      tree = tree_of fs;
-      builds = c.in_ok-fs.ensures.built;
-      prints = subst (λ l. Appends (g.W.Write.contents c.args.out.now) (g.W.Write.contents c.print_answers.new.out) (lines_of l)) asked all.3;
+      walk = record { asked = request.asked; root = request.root.now; ask = c.in-Some.ensures.some; tree = tree; builds = c.in_ok-fs.ensures.built };
+      prints = subst (λ root. PrintsTree tree request.asked root (g.W.Write.contents c.args.out.now) (g.W.Write.contents c.print_tree.new.out)) c.in_ok-root.ensures.ok (c.print_tree.ensures.printed clean);
     }

@@ -2,7 +2,7 @@ use Rattle.std.proofs.Common.{◌≡◌, ◌∙◌, length, map, refl}
 use Rattle.jwalk_order.specs.IndexPath.{address as indices_of}
 use Rattle.jwalk_board.proofs.Children.{length-children}
 use Rattle.jwalk_board.proofs.Steps.{queued_as, pushed_as, keeps_finished}
-use Rattle.jwalk_board.proofs.Tops.{placed-is}
+use Rattle.jwalk_board.proofs.Tops.{addressed-is}
 use Rattle.jwalk_board.proofs.board.Board.finish.Goals as goal
 
 pub queue_all-requires-clause-each : goal.queue_all-requires-clause-each
@@ -15,7 +15,7 @@ invariant_of-self-2 g c =
     let a = indices_of c.args.address in
     let specs = c.args.children.items in
     let count-is : c.len-count.result ≡ length specs = c.len-count.ensures ∙ c.args.children.ok.0 in
-    let item-is = placed-is c.new.result c.args.address c.args.reading (length specs) c.new.ensures.value c.new.ensures.index_path (c.new.ensures.child_count ∙ count-is) in
+    let item-is = addressed-is c.new.result c.args.address c.args.reading (length specs) c.new.ensures.value c.new.ensures.index_path (c.new.ensures.child_count ∙ count-is) in
     keeps_finished _ c.self.invariant a c.args.reading specs _ _ _ (record {
       running = c.if-self.false;
       in_hand = c.remove.ensures;
@@ -29,7 +29,7 @@ returns-clause-finished g c =
     let a = indices_of c.args.address in
     let specs = c.args.children.items in
     let count-is : c.len-count.result ≡ length specs = c.len-count.ensures ∙ c.args.children.ok.0 in
-    let item-is = placed-is c.new.result c.args.address c.args.reading (length specs) c.new.ensures.value c.new.ensures.index_path (c.new.ensures.child_count ∙ count-is) in
+    let item-is = addressed-is c.new.result c.args.address c.args.reading (length specs) c.new.ensures.value c.new.ensures.index_path (c.new.ensures.child_count ∙ count-is) in
     rw (← c.self.view_is) (record {
       running = c.if-self.false;
       in_hand = c.remove.ensures;

@@ -2,7 +2,7 @@ use Rattle.std.proofs.Common.{rules, ◌≡◌, ◌≢◌, [], ap}
 use Rattle.jwalk_order.specs.Frontier.{next_address}
 use Rattle.jwalk_order.specs.Ordered.{address_of}
 use Rattle.jwalk_board.specs.Addresses.{times}
-use Rattle.jwalk_board.specs.Placed.{places}
+use Rattle.jwalk_board.specs.Addressed.{addresses_of}
 use Rattle.jwalk_board.proofs.Steps.{waits, not_ready, hands_out, keeps_handed_out}
 use Rattle.jwalk_board.proofs.board.Board.hand_out.Goals as goal
 
@@ -10,7 +10,7 @@ pub returns-in_default-clause-refused : goal.returns-in_default-clause-refused
 returns-in_default-clause-refused g c =
     let some : c.self.inside.matcher ≢ [] = search rules in
     let empty : c.self.inside.ready.items ≡ [] = search rules in
-    rw (← c.self.view_is) (c.if-self.false, some, waits _ c.self.invariant some (ap (λ z. times (next_address c.self.inside.matcher) (places z)) empty))
+    rw (← c.self.view_is) (c.if-self.false, some, waits _ c.self.invariant some (ap (λ z. times (next_address c.self.inside.matcher) (addresses_of z)) empty))
 
 pub returns-then-ne-clause-refused : goal.returns-then-ne-clause-refused
 returns-then-ne-clause-refused g c =

@@ -2,14 +2,14 @@ use Rattle.std.proofs.Common.{◌≡◌, ◌+◌, ◌∷◌, ◌++◌, [], map, 
 use Rattle.std.proofs.lemmas.List.{take_more, take_all}
 use Rattle.std.specs.Option.{option_map}
 use Rattle.jwalk_order.specs.IndexPath.{address}
-use Rattle.jwalk_board.specs.Placed.{places}
+use Rattle.jwalk_board.specs.Addressed.{addresses_of}
 use Rattle.jwalk_board.specs.Plan.{specs_in_preorder}
-use Rattle.jwalk_board.specs.Rehearsal.{Follows, Answers}
+use Rattle.jwalk_board.specs.Rehearsal.{Follows, MatchesRun}
 use Rattle.jwalk_board.specs.Run.{move, run_of_moves}
 use Rattle.jwalk_board.specs.Seen.{seen_item, seen_board}
-use Rattle.jwalk_board.specs.Stage.{stage_of, made_of}
+use Rattle.jwalk_board.specs.Stage.{stage_of, rehearsed}
 use Rattle.jwalk_board.specs.declared.board.moves.Move.TheVariants.{Take}
-use Rattle.jwalk_board.proofs.Follow.{follows_start, moved-push, answers, in_order}
+use Rattle.jwalk_board.proofs.Follow.{follows_start, moved-push, matches_run, in_order}
 use Rattle.jwalk_board.proofs.Plays.{stage_as, map_none, seen_new}
 use Rattle.jwalk_board.proofs.UnderWay.{begins}
 use Rattle.jwalk_board.proofs.board.rehearsal.rehearse.Goals as goal
@@ -23,7 +23,7 @@ loop-next-init g c = (
       let v = g.P.Plan.spec_value in
       let w = g.P.Plan.reading_value in
       let roots = map g.P.Plan.spec_value c.args.roots.items in
-      stage_as t roots (run_of_moves (places (specs_in_preorder t roots)) c.args.workers []) _ _ _ _ _ _ _ _
+      stage_as t roots (run_of_moves (addresses_of (specs_in_preorder t roots)) c.args.workers []) _ _ _ _ _ _ _ _
       (ap (map (option_map (seen_item v))) c.in_ok-hands.ensures ∙ map_none (seen_item v) c.args.workers) (ap (map (seen_item w)) c.new-2.ensures.items) (ap (map address) c.new-3.ensures.items) refl
       (follows_start t roots falls c.args.workers (seen_board v w c.in-Ok.board) (seen_new v w c.args.roots.items c.in-Ok.board c.in-Ok.ensures.made)),
 )
@@ -34,7 +34,7 @@ loop-next-preserved g c = (
   λ fixed.
       let t = g.P.Plan.tree c.args.plan.now in
       let roots = map g.P.Plan.spec_value c.args.roots.items in
-      let all = places (specs_in_preorder t roots) in
+      let all = addresses_of (specs_in_preorder t roots) in
       let moves = c.args.moves.now in
       let i = c.loop-next.next-index in
       let next = get_or moves i (Take 0) in
@@ -45,13 +45,13 @@ loop-next-preserved g c = (
       (c.in_ok-play.ensures.follows fixed roots (run_of_moves all c.args.workers (take i moves)) (c.loop-next.invariant.1 fixed)),
 )
 
-pub returns-clause-answers : goal.returns-clause-answers
-returns-clause-answers g c = λ fixed.
+pub returns-clause-matches_run : goal.returns-clause-matches_run
+returns-clause-matches_run g c = λ fixed.
     let t = g.P.Plan.tree c.args.plan.now in
     let roots = map g.P.Plan.spec_value c.args.roots.items in
     let whole = take_all c.loop-next.next-index c.args.moves.now c.loop-next-test.false in
-    subst (λ ms. Answers t roots (run_of_moves (places (specs_in_preorder t roots)) c.args.workers ms) (made_of g.P.Plan.spec_value g.P.Plan.reading_value c.loop-next.stage.done)) whole
-    (answers t (g.met.P.Plan.falls c.args.plan.now fixed) roots _ _ (c.loop-next.invariant.1 fixed))
+    subst (λ ms. MatchesRun t roots (run_of_moves (addresses_of (specs_in_preorder t roots)) c.args.workers ms) (rehearsed g.P.Plan.spec_value g.P.Plan.reading_value c.loop-next.stage.done)) whole
+    (matches_run t (g.met.P.Plan.falls c.args.plan.now fixed) roots _ _ (c.loop-next.invariant.1 fixed))
 
 pub returns-clause-in_order : goal.returns-clause-in_order
 returns-clause-in_order g c = λ fixed.

@@ -1,5 +1,5 @@
 use Rattle.std.proofs.Common.{map, take}
-use Rattle.jwalk_board.specs.Placed.{places}
+use Rattle.jwalk_board.specs.Addressed.{addresses_of}
 use Rattle.jwalk_board.specs.Plan.{specs_in_preorder}
 use Rattle.jwalk_board.specs.Rehearsal.{Follows}
 use Rattle.jwalk_board.specs.Run.{run_of_moves}
@@ -10,4 +10,4 @@ abbrev pub invariant-loop-next : goal.invariant-loop-next
 invariant-loop-next g l =
     let t = g.P.Plan.tree l.plan in
     let roots = map g.P.Plan.spec_value l.fn.roots.items in
-    IsUnderWay l.stage.hands.items l.stage.done.board × (g.P.Plan.IsFixed l.plan → Follows t roots (run_of_moves (places (specs_in_preorder t roots)) l.workers (take l.next-index l.moves)) (stage_of g.P.Plan.spec_value g.P.Plan.reading_value l.stage))
+    IsUnderWay l.stage.hands.items l.stage.done.board × (g.P.Plan.IsFixed l.plan → Follows t roots (run_of_moves (addresses_of (specs_in_preorder t roots)) l.workers (take l.next-index l.moves)) (stage_of g.P.Plan.spec_value g.P.Plan.reading_value l.stage))

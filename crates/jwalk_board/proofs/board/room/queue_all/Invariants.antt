@@ -2,7 +2,7 @@ use Rattle.std.proofs.Common.{◌≡◌, ◌++◌, ◌≤◌, length, map}
 use Rattle.std.specs.List.Sorted.{IsPermutation}
 use Rattle.std.specs.Vec.Iter.{into_iter_items}
 use Rattle.jwalk_order.specs.IndexPath.{address}
-use Rattle.jwalk_board.specs.Placed.{at_places}
+use Rattle.jwalk_board.specs.Addressed.{at_addresses}
 use Rattle.jwalk_board.proofs.board.room.queue_all.Given as goal
 
 abbrev pub invariant-loop-path : goal.invariant-loop-path
@@ -11,5 +11,5 @@ invariant-loop-path g l = record {
   ends : (goal.iterator-loop-path g).is_finite l.path-iterator;
   each : length (into_iter_items l.path-iterator) ≡ length (into_iter_items l.rest);
   room : length (into_iter_items l.rest) ≤ l.queued.room;
-  items : IsPermutation (at_places (map address l.fn.paths.items) l.fn.specs.items ++ l.fn.queued.items) (at_places (map address (into_iter_items l.path-iterator)) (into_iter_items l.rest) ++ l.queued.items);
+  items : IsPermutation (at_addresses (map address l.fn.paths.items) l.fn.specs.items ++ l.fn.queued.items) (at_addresses (map address (into_iter_items l.path-iterator)) (into_iter_items l.rest) ++ l.queued.items);
 }

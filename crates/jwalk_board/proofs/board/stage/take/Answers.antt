@@ -5,7 +5,7 @@ use Rattle.std.proofs.lemmas.Option.{slice_get-map}
 use Rattle.std.specs.List.{slice_get}
 use Rattle.std.specs.Option.{option_map}
 use Rattle.jwalk_order.specs.IndexPath.{address}
-use Rattle.jwalk_board.specs.Placed.{places}
+use Rattle.jwalk_board.specs.Addressed.{addresses_of}
 use Rattle.jwalk_board.specs.Plan.{specs_in_preorder}
 use Rattle.jwalk_board.specs.Rehearsal.{Follows}
 use Rattle.jwalk_board.specs.Run.{take_by}
@@ -44,7 +44,7 @@ returns-in_ok-push-in-Ok-clause-follows g c = λ t roots r falls f.
     let hands = c.args.stage.now.hands in
     let there : k < length hands.items = omega (arith, hands.ok.0, c.len.ensures) in
     let free = get_read hands.items k c.index.result.now there c.index.ensures ∙ ap Some (none_is c.index.result.now (sym c.is_some.ensures ∙ c.if-is_some.false)) in
-    stage_as t roots (take_by (places (specs_in_preorder t roots)) r k (slice_get r.hands k)) _ _ _ _ _ _ _ _ refl refl
+    stage_as t roots (take_by (addresses_of (specs_in_preorder t roots)) r k (slice_get r.hands k)) _ _ _ _ _ _ _ _ refl refl
     (ap (map address) c.in_ok-push-in-Ok.ensures.items ∙ map-append address done.taken.items (c.in_ok-try_clone-in-Ok.field-0 ∷ [])) refl
     (played_take v w t falls roots r c.args.stage.now.hands.items (map (seen_item w) done.handed_out.items) (map address done.taken.items) done.board c.take.new.self k c.in-Ok.item
     (address c.in_ok-try_clone-in-Ok.field-0) f free c.in-Ok.ensures.taken c.in_ok-try_clone-in-Ok.ensures)
@@ -59,5 +59,5 @@ returns-in-Err-2-clause-follows g c = λ t roots r falls f.
     let free = get_read hands.items k c.index.result.now there c.index.ensures ∙ ap Some (none_is c.index.result.now (sym c.is_some.ensures ∙ c.if-is_some.false)) in
     let e = slice_get-map (option_map (seen_item v)) hands.items k ∙ ap (option_map (option_map (seen_item v))) free in
     let same = take_refused v w t falls roots r _ _ _ _ k c.in-Err.refusal f e c.in-Err.ensures.refused (λ q. false≢true (sym c.if-is_memory.false ∙ c.is_memory.ensures.1 q)) in
-    stage_as t roots (take_by (places (specs_in_preorder t roots)) r k (slice_get r.hands k)) _ _ _ _ _ _ _ _ refl refl refl (ap (seen_board v w) c.in-Err.ensures.unchanged)
+    stage_as t roots (take_by (addresses_of (specs_in_preorder t roots)) r k (slice_get r.hands k)) _ _ _ _ _ _ _ _ refl refl refl (ap (seen_board v w) c.in-Err.ensures.unchanged)
     (subst (λ z. Follows t roots z (stage_of v w c.args.stage.now)) (sym same) f)

@@ -1,7 +1,7 @@
 use Rattle.std.proofs.Common.{rules, ◌≡◌, ap, ◌∙◌}
 use Rattle.std.specs.Cmp.Lexicographic.{slice_cmp}
 use Rattle.std.specs.Ordering.{nat_cmp}
-use Rattle.jwalk_order.proofs.Above.{slice_cmp-append_left}
+use Rattle.jwalk_order.proofs.AddressOrder.{slice_cmp-append_left}
 use Rattle.jwalk_order.proofs.index_path.IndexPathOrd.cmp.Goals as goal
 
 pub returns-clause-parent_first : goal.returns-clause-parent_first

@@ -2,7 +2,7 @@ use Rattle.std.proofs.Common.{rules, ◌≡◌, ◌≢◌, ◌<◌, ◌≤◌, �
 use Rattle.std.proofs.lemmas.Result.{err_from_is_err_and}
 use Rattle.jwalk_order.specs.Frontier.{next_address}
 use Rattle.jwalk_order.specs.Ordered.{address_of, child_count_of}
-use Rattle.jwalk_order.proofs.Due.{IsTop, waits, top_due, gives}
+use Rattle.jwalk_order.proofs.Due.{IsTop, waits, top_due, removes}
 use Rattle.jwalk_order.proofs.ordered_queue.OrderedQueue.strict_step.Goals as goal
 
 pub returns-then-ne-clause-answered : goal.returns-then-ne-clause-answered
@@ -48,4 +48,4 @@ returns-clause-answered g c =
     } in
     let more : items.data.cap - items.data.len ≤ c.pop.new.self.data.cap - c.pop.new.self.data.len = omega (arith, c.in-Some-pop.ensures.len, c.in-Some-pop.ensures.capacity) in
     rw (← c.self.view_is)
-    (gives _ c.in-Some.top.now c.in-Some-pop.item _ _ _ (search rules) (search rules) some is next item-is c.in-Some-pop.ensures.permutation c.in_ok-advance_past.ensures.passed more)
+    (removes _ c.in-Some.top.now c.in-Some-pop.item _ _ _ (search rules) (search rules) some is next item-is c.in-Some-pop.ensures.permutation c.in_ok-advance_past.ensures.passed more)

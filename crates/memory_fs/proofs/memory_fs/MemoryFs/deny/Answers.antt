@@ -10,14 +10,14 @@ returns-in_default-clause-not_found g c =
 
 pub invariant_of-self : goal.invariant_of-self
 invariant_of-self g c = record {
-  sound = subst IsSound (sym c.deny.ensures) (sound-denied (branches c.args.self.now.table) c.in-Some.place c.args.kind c.in-Some.ensures.within c.args.self.now.sound);
+  sound = subst IsSound (sym c.deny.ensures) (sound-denied (branches c.args.self.now.table) c.in-Some.index c.args.kind c.in-Some.ensures.within c.args.self.now.sound);
 }
 
 pub returns-clause-denied : goal.returns-clause-denied
 returns-clause-denied g c =
-    built-denied (branches c.args.self.now.table) c.args.self.now.sound c.args.kind c.args.path.now c.in-Some.place (sym c.in-Some.is ∙ c.directory.ensures.value) c.in-Some.ensures.within
+    built-denied (branches c.args.self.now.table) c.args.self.now.sound c.args.kind c.args.path.now c.in-Some.index (sym c.in-Some.is ∙ c.directory.ensures.value) c.in-Some.ensures.within
     (branches c.deny.new.self) c.deny.ensures
 
 pub returns-clause-not_found : goal.returns-clause-not_found
 returns-clause-not_found g c =
-    told-denied (branches c.args.self.now.table) c.args.self.now.sound c.args.kind c.args.path.now c.in-Some.place (sym c.in-Some.is ∙ c.directory.ensures.value)
+    told-denied (branches c.args.self.now.table) c.args.self.now.sound c.args.kind c.args.path.now c.in-Some.index (sym c.in-Some.is ∙ c.directory.ensures.value)

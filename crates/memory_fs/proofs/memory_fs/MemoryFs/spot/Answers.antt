@@ -10,7 +10,7 @@ use Rattle.memory_fs.proofs.SpotLemmas.{named_spot-split}
 use Rattle.memory_fs.proofs.memory_fs.MemoryFs.spot.Goals as goal
 
 abbrev behind : List ℕ → Option ℕ → Option (ℕ × List ℕ)
-behind name holder = option_map (λ place. (place, name)) holder
+behind name holder = option_map (λ index. (index, name)) holder
 
 pub returns-in_err-name-clause-value : goal.returns-in_err-name-clause-value
 returns-in_err-name-clause-value g c = rw c.from_residual.ensures (

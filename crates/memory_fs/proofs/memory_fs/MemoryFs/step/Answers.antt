@@ -8,5 +8,5 @@ use Rattle.memory_fs.proofs.memory_fs.MemoryFs.step.Goals as goal
 pub returns-in-Normal-clause-within : goal.returns-in-Normal-clause-within
 returns-in-Normal-clause-within g c =
     subst (λ r. IfOk r (IsWithin (branches c.args.self.now.table))) (sym c.ok_or.ensures.value)
-    (within_named (branches c.args.self.now.table) c.args.self.now.sound c.in-Dir.place c.in-Normal.name.now c.child.result _
+    (within_named (branches c.args.self.now.table) c.args.self.now.sound c.in-Dir.index c.in-Normal.name.now c.child.result _
     (c.child.ensures ∙ ap (λ (b : Branch). child_named b.children c.in-Normal.name.now) c.directory-in-Normal.ensures))

@@ -1,6 +1,6 @@
 use Rattle.std.proofs.Common.{heap_items, length, ◌<◌, arith}
 use Rattle.std.proofs.lemmas.Option.{IfSome_then}
-use Rattle.jwalk_board.proofs.Tops.{first_from_bound, top_placed, among_from_top, if_some_with}
+use Rattle.jwalk_board.proofs.Tops.{first_from_bound, top_addressed, among_from_top, if_some_with}
 use Rattle.jwalk_board.proofs.board.address_heap.AddressHeap.peek.Goals as goal
 
 pub returns-clause-some : goal.returns-clause-some
@@ -11,7 +11,7 @@ returns-clause-some g c =
     (λ x some h. among_from_top x.now items (let n : 0 < length items = omega (arith, c.self.inside.items.data.ok.0) in n) h))
 
 pub returns-clause-top : goal.returns-clause-top
-returns-clause-top g c = rw (← c.self.view_is) (IfSome_then c.peek.result c.peek.ensures.lookup (λ x h. top_placed x.now (heap_items c.self.inside.items) h))
+returns-clause-top g c = rw (← c.self.view_is) (IfSome_then c.peek.result c.peek.ensures.lookup (λ x h. top_addressed x.now (heap_items c.self.inside.items) h))
 
 pub returns-clause-least : goal.returns-clause-least
 returns-clause-least g c =

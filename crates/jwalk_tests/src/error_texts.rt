@@ -1,0 +1,131 @@
+//! The texts of a file system's errors.
+ghost use Rattle.walk_model.specs.Tree.{functions_of, only_root};
+
+use crate::lines::{Entry, walk};
+use jwalk::Error;
+use jwalk::file_system::{Fault, FileSystem, FileType, Listed, Metadata};
+use std::alloc::{AllocError, Allocator, Global};
+use std::io;
+use std::io::ErrorKind;
+use std::test::Fail;
+
+/// What of a file system fails.
+#[derive(Clone, Copy)]
+enum Failing {
+    Item,
+    Type,
+    Listing,
+    Root,
+}
+
+/// A directory of one item, where something fails.
+#[derive(Drop)]
+struct Telling {
+    failing: Failing,
+    text: &'static str,
+}
+
+impl Telling {
+    fn error(&self) -> io::Error {
+        io::Error::new(ErrorKind::NotFound, self.text)
+    }
+
+    fn item<A: Allocator + Copy>(&self, alloc: A) -> Result<io::Result<Listed<A>>, AllocError> {
+        let file_type = match self.failing {
+            Failing::Item => return Ok(Err(self.error())),
+            Failing::Type => Err(self.error()),
+            _ => Ok(FileType::File),
+        };
+        let name = String::from_str(alloc, "x")?;
+        Ok(Ok(Listed { name, file_type }))
+    }
+
+    fn items<A: Allocator + Copy>(
+        &self,
+        alloc: A,
+    ) -> Result<Vec<io::Result<Listed<A>>, A>, AllocError> {
+        let mut items = Vec::new(alloc);
+        items.push(self.item(alloc)?)?;
+        Ok(items)
+    }
+}
+
+impl FileSystem for Telling {
+    ghost IsFixed = { λ _. ⊥ };
+
+    ghost functions = { λ _. functions_of only_root };
+
+    fn read_dir<A: Allocator + Copy>(
+        &self,
+        alloc: A,
+        _path: &str,
+    ) -> Result<Vec<io::Result<Listed<A>>, A>, Fault> {
+        if let Failing::Listing = self.failing {
+            return Err(Fault::Io(self.error()));
+        }
+        match self.items(alloc) {
+            Ok(items) => Ok(items),
+            Err(_) => Err(Fault::Memory),
+        }
+    }
+
+    fn metadata(&self, path: &str) -> Result<Metadata, Fault> {
+        self.symlink_metadata(path)
+    }
+
+    fn symlink_metadata(&self, _path: &str) -> Result<Metadata, Fault> {
+        match self.failing {
+            Failing::Root => Err(Fault::Io(self.error())),
+            _ => Ok(Metadata::new(FileType::Dir, 0)),
+        }
+    }
+
+    fn read_link<A: Allocator + Copy>(&self, _alloc: A, _path: &str) -> Result<String<A>, Fault> {
+        Err(Fault::Io(self.error()))
+    }
+}
+
+/// The error that an answer is, or that an entry's directory has.
+fn error_of(answer: &Result<Entry, Error>) -> Option<&Error> {
+    match answer {
+        Ok(entry) => entry.read_children.as_ref()?.error(),
+        Err(error) => Some(error),
+    }
+}
+
+/// The first error among a walk's answers, as it is written.
+fn told(alloc: Global, failing: Failing, text: &'static str) -> Result<String, Fail> {
+    for answer in walk(alloc, Telling { failing, text }, "/d")? {
+        if let Some(error) = error_of(&answer) {
+            let err = error.io_error().ok_or("no io error")?;
+            return Ok(format!(in alloc; "{err}")?);
+        }
+    }
+    Err("no error".into())
+}
+
+#[test]
+fn errors_keep_their_own_texts(rt: HostRuntime) -> Result<(), Fail> {
+    let text = "block 17 can't be read";
+    assert_eq!(rt;
+        told(rt.alloc(), Failing::Item, text)?.as_str(),
+        text,
+        "an item"
+    );
+    assert_eq!(rt;
+        told(rt.alloc(), Failing::Type, text)?.as_str(),
+        text,
+        "a type"
+    );
+    assert_eq!(rt;
+        told(rt.alloc(), Failing::Listing, text)?.as_str(),
+        text,
+        "a listing"
+    );
+    assert_eq!(rt;
+        told(rt.alloc(), Failing::Root, text)?.as_str(),
+        text,
+        "a root"
+    );
+    Ok(())
+}

@@ -1,0 +1,5 @@
+pub mod Lists
+pub mod Texts
+pub mod TextLineFacts
+pub mod BuiltFacts
+pub mod WordFacts

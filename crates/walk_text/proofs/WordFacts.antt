@@ -1,0 +1,168 @@
+-- The words of a call, option by option.
+use Rattle.std.proofs.Common.{◌≡◌, ◌≢◌, ℕ, List, [], ◌∷◌, ◌++◌, Option, Some, None, codes, if◌then◌else◌, bytes_eq, Bool, true, false, not, MatchOption, unwrap_or, ap, refl, sym, subst, ◌∙◌}
+use Rattle.std.proofs.lemmas.List.{same_from_push}
+use Rattle.walk_text.specs.Number.{value_of}
+use Rattle.walk_text.specs.Asked.{nothing, also}
+use Rattle.walk_text.specs.Words.{BeginWithNumber, BeginWithNamedNumber, Begin, AddAll, Add, Ask, AreGood}
+use Rattle.walk_text.specs.declared.asked.Asked.{Asked}
+use Rattle.walk_text.specs.declared.asked.Choice.{Choice}
+use Rattle.walk_text.specs.declared.asked.Choice.TheVariants.{Tree, Sort, Hidden, Min, Max}
+
+-- an option and the words behind it
+abbrev split_as : Choice → List (List ℕ) → Option (Choice × List (List ℕ))
+split_as choice others = Some (choice, others)
+
+-- an option with the number in front of these words
+numbered : (ℕ → Choice) → List (List ℕ) → Option (Choice × List (List ℕ))
+numbered option [] = None
+numbered option (digits ∷ others) = split_as (option (value_of digits)) others
+
+-- the option that a name in front of these words is
+named : List ℕ → List (List ℕ) → Option (Choice × List (List ℕ))
+named name behind =
+    if bytes_eq name (codes "--tree") then split_as Tree behind
+    else if bytes_eq name (codes "--sort") then split_as Sort behind
+    else if bytes_eq name (codes "--hidden") then split_as Hidden behind
+    else if bytes_eq name (codes "--min") then numbered Min behind
+    else if bytes_eq name (codes "--max") then numbered Max behind
+    else None
+
+-- the option that words begin with, and the words behind it
+split : List (List ℕ) → Option (Choice × List (List ℕ))
+split [] = None
+split (name ∷ behind) = named name behind
+
+numbered_is : (option : ℕ → Choice) (behind : List (List ℕ)) (n : ℕ) (others : List (List ℕ)) → BeginWithNumber behind n others → numbered option behind ≡ split_as (option n) others
+unfolding numbered
+numbered_is option behind n others (digits, is, number, value) = ap (numbered option) is ∙ ap (λ k. split_as (option k) others) value
+
+split_is : (words : List (List ℕ)) (choice : Choice) (others : List (List ℕ)) → Begin words choice others → split words ≡ split_as choice others
+unfolding split named
+split_is words Tree others begin = ap split begin
+split_is words Sort others begin = ap split begin
+split_is words Hidden others begin = ap split begin
+split_is words (Min n) others (behind, is, number) = ap split is ∙ numbered_is Min behind n others number
+split_is words (Max n) others (behind, is, number) = ap split is ∙ numbered_is Max behind n others number
+
+same_parts : (a b : Choice) (xs ys : List (List ℕ)) → split_as a xs ≡ split_as b ys → (a ≡ b) × (xs ≡ ys)
+same_parts a b xs ys same =
+    let P : Type 0 = Choice × List (List ℕ) in
+    let e : (a, xs) ≡ (b, ys) = ap (λ (o : Option P). unwrap_or o (a, xs)) same in
+    (ap (λ (p : P). p.0) e, ap (λ (p : P). p.1) e)
+
+-- words begin with one option alone
+pub one_option : (words : List (List ℕ)) (a b : Choice) (xs ys : List (List ℕ)) → Begin words a xs → Begin words b ys → (a ≡ b) × (xs ≡ ys)
+one_option words a b xs ys first second = same_parts a b xs ys (sym (split_is words a xs first) ∙ split_is words b ys second)
+
+-- Words that begin with an option's name begin with no option where no number follows.
+lacks_number : (option : ℕ → Choice) (name : List ℕ) (behind : List (List ℕ)) → split (name ∷ behind) ≡ numbered option behind → ((words : List (List ℕ)) (n : ℕ) (others : List (List ℕ)) → Begin words (option n) others → BeginWithNamedNumber name words n others) → ((n : ℕ) (others : List (List ℕ)) → ¬ (BeginWithNumber behind n others)) → (choice : Choice) (others : List (List ℕ)) → ¬ (Begin (name ∷ behind) choice others)
+unfolding numbered
+lacks_number option name [] by_name begins none choice others begin =
+    let differ : None ≡ split_as choice others = sym by_name ∙ split_is (name ∷ []) choice others begin in
+    subst (λ o. MatchOption o (Unit {0}) (λ _. ⊥)) differ tt
+lacks_number option name (digits ∷ behind) by_name begins none choice others begin =
+    let same = same_parts (option (value_of digits)) choice behind others (sym by_name ∙ split_is (name ∷ digits ∷ behind) choice others begin) in
+    let number : Begin (name ∷ digits ∷ behind) (option (value_of digits)) others = subst (λ c. Begin (name ∷ digits ∷ behind) c others) (sym same.0) begin in
+    let named : BeginWithNamedNumber name (name ∷ digits ∷ behind) (value_of digits) others = begins (name ∷ digits ∷ behind) (value_of digits) others number in
+    let e : named.0 ≡ digits ∷ behind = cc (named.1) in
+    none (value_of digits) others (subst (λ ws. BeginWithNumber ws (value_of digits) others) e named.2)
+
+pub lacks_min : (behind : List (List ℕ)) → ((n : ℕ) (others : List (List ℕ)) → ¬ (BeginWithNumber behind n others)) → (choice : Choice) (others : List (List ℕ)) → ¬ (Begin (codes "--min" ∷ behind) choice others)
+unfolding split named
+lacks_min behind = lacks_number Min (codes "--min") behind refl (λ words n others begin. begin)
+
+pub lacks_max : (behind : List (List ℕ)) → ((n : ℕ) (others : List (List ℕ)) → ¬ (BeginWithNumber behind n others)) → (choice : Choice) (others : List (List ℕ)) → ¬ (Begin (codes "--max" ∷ behind) choice others)
+unfolding split named
+lacks_max behind = lacks_number Max (codes "--max") behind refl (λ words n others begin. begin)
+
+-- no words begin with no option
+none_begins : (choice : Choice) (others : List (List ℕ)) → ¬ (Begin [] choice others)
+unfolding split
+none_begins choice others begin = absurd (differ (split_is [] choice others begin))
+  where
+    differ : None ≡ split_as choice others → ⊥
+    differ e = subst (λ o. MatchOption o (Unit {0}) (λ _. ⊥)) e tt
+
+-- what options add when one more stands in front of them
+add_front : (words others : List (List ℕ)) (choice : Choice) (old mid new : Asked) → Begin words choice others → also choice old ≡ Some mid → Add others mid new → Add words old new
+add_front words others choice old mid new begin more (choices, add) = (choice ∷ choices, (others, mid, begin, more, add))
+
+-- what options add behind the first one
+add_behind : (words others : List (List ℕ)) (choice : Choice) (old mid new : Asked) → words ≢ [] → Begin words choice others → also choice old ≡ Some mid → Add words old new → Add others mid new
+add_behind words others choice old mid new some begin more ([], done) = absurd (some done.0)
+add_behind words others choice old mid new some begin more (c ∷ choices, (rest, m, first, adds, add)) =
+    let same : (c ≡ choice) × (rest ≡ others) = one_option words c choice rest others first begin in
+    let mids : also choice old ≡ Some m = subst (λ k. also k old ≡ Some m) same.0 adds in
+    let e : m ≡ mid = cc in
+    (choices, subst (λ ws. AddAll choices ws mid new) same.1 (subst (λ k. AddAll choices rest k new) e add))
+
+-- Words that add to what was asked for what others add to other options.
+pub record AsksAlike (old : Asked) (words : List (List ℕ)) (mid : Asked) (left : List (List ℕ)) : Type 0 where
+  pub forth : (new : Asked) → Add left mid new → Add words old new
+  pub back : (new : Asked) → Add words old new → Add left mid new
+
+-- one option more
+pub alike_behind : (old : Asked) (words : List (List ℕ)) (asked mid : Asked) (left others : List (List ℕ)) (choice : Choice) → AsksAlike old words asked left → left ≢ [] → Begin left choice others → also choice asked ≡ Some mid → AsksAlike old words mid others
+alike_behind old words asked mid left others choice alike some begin more = record {
+  forth = λ new add. alike.forth new (add_front left others choice asked mid new begin more add);
+  back = λ new add. add_behind left others choice asked mid new some begin more (alike.back new add);
+}
+
+-- Where the words that are left begin with no option, none of the words ask for anything.
+pub asks_no_option : (old : Asked) (words : List (List ℕ)) (asked : Asked) (left : List (List ℕ)) → AsksAlike old words asked left → left ≢ [] → ((choice : Choice) (others : List (List ℕ)) → ¬ (Begin left choice others)) → (new : Asked) → ¬ (Add words old new)
+asks_no_option old words asked left alike some none new add = refuted (alike.back new add)
+  where
+    refuted : ¬ (Add left asked new)
+    refuted ([], done) = some done.0
+    refuted (c ∷ choices, (rest, m, first, adds, more)) = none c rest first
+
+-- nor where they begin with an option that was asked for already
+pub asks_twice : (old : Asked) (words : List (List ℕ)) (asked : Asked) (left others : List (List ℕ)) (choice : Choice) → AsksAlike old words asked left → left ≢ [] → Begin left choice others → also choice asked ≡ None → (new : Asked) → ¬ (Add words old new)
+asks_twice old words asked left others choice alike some begin twice new add = refuted (alike.back new add)
+  where
+    refuted : ¬ (Add left asked new)
+    refuted ([], done) = some done.0
+    refuted (c ∷ choices, (rest, m, first, adds, more)) =
+        let same : (c ≡ choice) × (rest ≡ others) = one_option left c choice rest others first begin in
+        let mids : also choice asked ≡ Some m = subst (λ k. also k asked ≡ Some m) same.0 adds in
+        subst (λ o. MatchOption o (Unit {0}) (λ _. ⊥)) (sym twice ∙ mids) tt
+
+-- Where no words are left, the words ask for what was asked for by then and for nothing else.
+pub asks_only : (old : Asked) (words : List (List ℕ)) (asked : Asked) → AsksAlike old words asked [] → (new : Asked) → Add words old new → new ≡ asked
+asks_only old words asked alike new add = ended (alike.back new add)
+  where
+    ended : Add [] asked new → new ≡ asked
+    ended ([], done) = done.1
+    ended (c ∷ choices, (rest, m, first, adds, more)) = absurd (none_begins c rest first)
+
+-- what words ask for, by the last of them and the others
+asks_by_last : (words options : List (List ℕ)) (last : List ℕ) → words ≡ options ++ last ∷ [] → (asked : Asked) (root : List ℕ) → Ask words asked root → (root ≡ last) × Add options nothing asked × (asked.tree ≡ true)
+asks_by_last words options last is asked root (front, front_is, add, tree) =
+    let same : (front ≡ options) × (root ≡ last) = same_from_push front options root last (sym front_is ∙ is) in
+    (same.1, subst (λ ws. Add ws nothing asked) same.0 add, tree)
+
+-- words whose others ask for nothing are bad ones
+pub bad_options : (words options : List (List ℕ)) (last : List ℕ) → words ≡ options ++ last ∷ [] → ((asked : Asked) → ¬ (Add options nothing asked)) → ¬ (AreGood words)
+bad_options words options last is none (asked, root, ask) = none asked (asks_by_last words options last is asked root ask).1
+
+-- and so are those that don't ask for the tree
+pub no_tree : (words options : List (List ℕ)) (last : List ℕ) → words ≡ options ++ last ∷ [] → (asked : Asked) → ((other : Asked) → Add options nothing other → other ≡ asked) → not asked.tree ≡ true → ¬ (AreGood words)
+no_tree words options last is asked only none (other, root, ask) =
+    let asks = asks_by_last words options last is other root ask in
+    let same : other ≡ asked = only other asks.1 in
+    let tree : asked.tree ≡ true = subst (λ (o : Asked). o.tree ≡ true) same asks.2 in
+    cc
+
+-- words whose others ask for the tree, among other things, ask for these
+pub asks : (words options : List (List ℕ)) (last : List ℕ) → words ≡ options ++ last ∷ [] → (asked : Asked) → Add options nothing asked → not asked.tree ≡ false → Ask words asked last
+asks words options last is asked add tree = (options, is, add, unnegated asked.tree tree)
+  where
+    unnegated : (b : Bool) → not b ≡ false → b ≡ true
+    unnegated true e = refl
+    unnegated false e = sym e
+
+-- what the words ask for is all that they ask for
+pub asks_one : (words options : List (List ℕ)) (last : List ℕ) → words ≡ options ++ last ∷ [] → (asked : Asked) → ((other : Asked) → Add options nothing other → other ≡ asked) → (other : Asked) (root : List ℕ) → Ask words other root → (other ≡ asked) × (root ≡ last)
+asks_one words options last is asked only other root ask =
+    let asks = asks_by_last words options last is other root ask in
+    (only other asks.1, asks.0)

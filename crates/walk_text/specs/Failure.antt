@@ -1,0 +1,11 @@
+-- What stands in the way of a walk.
+use Rattle.std.specs.Prelude.{ℕ}
+use Rattle.walk_text.specs.declared.failure.Failure.{Failure}
+use Rattle.walk_text.specs.declared.failure.Failure.TheVariants.{BadWords, BadTree, Memory, Output}
+
+-- the status that the program ends with
+abbrev pub status_of : Failure → ℕ
+status_of BadWords = 2
+status_of (BadTree line) = 2
+status_of Memory = 1
+status_of Output = 1

@@ -1,0 +1,72 @@
+//! What the options of a call ask for.
+ghost use Rattle.std.specs.Prelude.{◌≡◌};
+
+/// One option of a call.
+#[derive(Clone, Copy)]
+pub enum Choice {
+    /// The walk runs over a tree that standard input says.
+    Tree,
+    /// The entries of a directory come by name.
+    Sort,
+    /// Hidden names come too.
+    Hidden,
+    /// The least depth of the entries.
+    Min(usize),
+    /// The greatest depth.
+    Max(usize),
+}
+
+/// What options ask for together.
+#[derive(Clone, Copy)]
+pub struct Asked {
+    /// Whether the walk runs over a tree that standard input says.
+    pub tree: bool,
+    /// Whether the entries of a directory come by name.
+    pub sort: bool,
+    /// Whether hidden names come too.
+    pub hidden: bool,
+    /// The least depth of the entries, if one was named.
+    pub min: Option<usize>,
+    /// The greatest depth, if one was named.
+    pub max: Option<usize>,
+}
+
+impl Asked {
+    ghost use Rattle.walk_text.specs.Asked.{nothing, also};
+
+    /// What no option asks for.
+    pub fn nothing() -> Self
+        ensures { result ≡ nothing }
+    {
+        Asked {
+            tree: false,
+            sort: false,
+            hidden: false,
+            min: None,
+            max: None,
+        }
+    }
+
+    /// The same with one more option. None where that was asked for already.
+    pub fn also(self, choice: Choice) -> Option<Self>
+        ensures { result ≡ also choice self }
+    {
+        match choice {
+            Choice::Tree if !self.tree => Some(Asked { tree: true, ..self }),
+            Choice::Sort if !self.sort => Some(Asked { sort: true, ..self }),
+            Choice::Hidden if !self.hidden => Some(Asked {
+                hidden: true,
+                ..self
+            }),
+            Choice::Min(depth) if self.min.is_none() => Some(Asked {
+                min: Some(depth),
+                ..self
+            }),
+            Choice::Max(depth) if self.max.is_none() => Some(Asked {
+                max: Some(depth),
+                ..self
+            }),
+            _ => None,
+        }
+    }
+}

@@ -1,0 +1,64 @@
+//! What stands in the way of a walk.
+ghost use Rattle.std.specs.Prelude.{◌≡◌};
+
+use std::alloc::AllocError;
+use std::fmt;
+use std::io::Write;
+
+/// Why there is no walk, or why it was ended.
+#[derive(Clone, Copy, Debug, PartialEq, Eq)]
+pub enum Failure {
+    /// The words ask for no walk.
+    BadWords,
+    /// The line of this number, counted from 1, can't be added to the tree. It is 0 where the lines can't be read.
+    BadTree(usize),
+    /// Memory was refused outside the walk.
+    Memory,
+    /// Standard output can't be written.
+    Output,
+}
+
+impl Failure {
+    ghost use Rattle.walk_text.specs.Failure.{status_of};
+
+    /// The status that the program ends with.
+    fn status(self) -> u8
+        ensures { result ≡ status_of self }
+    {
+        match self {
+            Failure::BadWords | Failure::BadTree(_) => 2,
+            Failure::Memory | Failure::Output => 1,
+        }
+    }
+
+    /// Tells of it on standard error, and answers the status. Nothing tells that standard output can't be written.
+    pub fn report<E: Write>(self, err: &mut E) -> u8
+        ensures { result ≡ status_of self }
+    {
+        if self != Failure::Output {
+            let _ = writeln!(err, "walk: {self}");
+        }
+        self.status()
+    }
+}
+
+impl fmt::Display for Failure {
+    fn fmt<W: fmt::Write>(&self, f: &mut fmt::Formatter<W>) -> fmt::Result {
+        match self {
+            Failure::BadWords => f.write_str("bad words"),
+            Failure::BadTree(line) => write!(f, "bad tree, line {line}"),
+            Failure::Memory => f.write_str("memory refused"),
+            Failure::Output => f.write_str("output can't be written"),
+        }
+    }
+}
+
+impl From<AllocError> for Failure {
+    ghost use Rattle.walk_text.specs.declared.failure.Failure.TheVariants.{Memory};
+
+    ghost from_gives = { λ _ e. e ≡ Memory };
+
+    fn from(_refused: AllocError) -> Failure {
+        Failure::Memory
+    }
+}

@@ -1,0 +1,135 @@
+//! Answers as lines.
+ghost use Rattle.std.specs.Prelude.{◌≡◌, decimal, OnOk, option_map, false};
+ghost use Rattle.std.specs.Io.KnownBytes.{Appends};
+ghost use Rattle.walk_model.specs.Paths.{join};
+ghost use Rattle.jwalk_read.specs.Entry.{children, entry, item};
+ghost use Rattle.jwalk_read.specs.Error.{failure};
+ghost use Rattle.walk_model.specs.Lines.{kind_name, letter_of, failure_name, reading_part, entry_line, failure_line, line_of};
+
+use itoa::Buffer;
+use jwalk_read::client_state::ClientState;
+use jwalk_read::dir_entry::DirEntry;
+use jwalk_read::error::{Error, Result};
+use jwalk_read::read_children::ReadChildren;
+use std::alloc::Allocator;
+use std::io;
+use std::io::{ErrorKind, Write};
+use walk_model::file_type::FileType;
+use walk_paths::path_text::join_parts;
+
+/// The name that a kind is printed by.
+fn kind_name(kind: ErrorKind) -> &'static str
+    ensures { result.now ≡ kind_name kind }
+{
+    match kind {
+        ErrorKind::NotFound => "NotFound",
+        ErrorKind::PermissionDenied => "PermissionDenied",
+        ErrorKind::AlreadyExists => "AlreadyExists",
+        ErrorKind::InvalidInput => "InvalidInput",
+        ErrorKind::InvalidData => "InvalidData",
+        ErrorKind::Interrupted => "Interrupted",
+        ErrorKind::Unsupported => "Unsupported",
+        _ => "Other",
+    }
+}
+
+/// The letter of a type: a link, which no walk follows yet, has a capital.
+fn letter(file_type: FileType) -> &'static str
+    ensures { result.now ≡ letter_of false file_type }
+{
+    match file_type {
+        FileType::Dir => "d",
+        FileType::File => "f",
+        FileType::Symlink => "L",
+        FileType::Other => "o",
+    }
+}
+
+/// Writes a number in decimal digits.
+fn write_number<W: Write>(out: &mut W, n: usize) -> io::Result<()>
+    ensures { OnOk result (Appends (W.contents out.old) (W.contents out.new) (decimal n)) }
+{
+    out.write_all(Buffer::new().format(n).as_bytes())
+}
+
+/// Writes the path of a name below the path of its directory.
+fn write_path<W: Write>(out: &mut W, parent: &str, name: &str) -> io::Result<()>
+    ensures { OnOk result (Appends (W.contents out.old) (W.contents out.new) (join parent.now name.now)) }
+{
+    let (front, slash, name) = join_parts(parent, name);
+    out.write_all(front.as_bytes())?;
+    out.write_all(slash.as_bytes())?;
+    out.write_all(name.as_bytes())
+}
+
+/// The kind of an error, and `Other` where it has none.
+fn kind_of<A: Allocator + Copy>(error: &Error<A>) -> ErrorKind
+    ensures { kind_name result ≡ failure_name (failure error.now) }
+{
+    match error.io_error() {
+        Some(err) => err.kind(),
+        None => ErrorKind::Other,
+    }
+}
+
+/// Writes the kind of the error that the reading of a directory ended in, if it did.
+fn write_reading<W: Write, C: ClientState, A: Allocator + Copy>(
+    out: &mut W,
+    below: &Option<ReadChildren<C, A>>,
+) -> io::Result<()>
+    ensures { OnOk result (Appends (W.contents out.old) (W.contents out.new) (reading_part (option_map children below.now))) }
+{
+    let Some(children) = below else {
+        return Ok(());
+    };
+    let Some(error) = children.error() else {
+        return Ok(());
+    };
+    out.write_all(b" ! ")?;
+    out.write_all(kind_name(kind_of(error)).as_bytes())
+}
+
+/// Writes the line of an entry.
+fn print_entry<W: Write, C: ClientState, A: Allocator + Copy>(
+    out: &mut W,
+    found: &DirEntry<C, A>,
+) -> io::Result<()>
+    ensures { OnOk result (Appends (W.contents out.old) (W.contents out.new) (entry_line (entry found.now))) }
+{
+    write_number(out, found.depth())?;
+    out.write_all(b" ")?;
+    out.write_all(letter(found.file_type()).as_bytes())?;
+    out.write_all(b" ")?;
+    write_path(out, found.parent_path(), found.file_name())?;
+    write_reading(out, &found.read_children)?;
+    out.write_all(b"\n")
+}
+
+/// Writes the line of an error.
+fn print_error<W: Write, A: Allocator + Copy>(out: &mut W, error: &Error<A>) -> io::Result<()>
+    ensures { OnOk result (Appends (W.contents out.old) (W.contents out.new) (failure_line (failure error.now))) }
+{
+    let Some(err) = error.io_error() else {
+        return out.write_all(b"! 0 - memory\n");
+    };
+    out.write_all(b"! ")?;
+    write_number(out, error.depth())?;
+    out.write_all(b" ")?;
+    out.write_all(error.path().unwrap_or("-").as_bytes())?;
+    out.write_all(b" ")?;
+    out.write_all(kind_name(err.kind()).as_bytes())?;
+    out.write_all(b"\n")
+}
+
+/// Writes the line of an answer.
+pub fn print_answer<W: Write, C: ClientState, A: Allocator + Copy>(
+    out: &mut W,
+    answer: &Result<DirEntry<C, A>, A>,
+) -> io::Result<()>
+    ensures { OnOk result (Appends (W.contents out.old) (W.contents out.new) (line_of (item answer.now))) }
+{
+    match answer {
+        Ok(entry) => print_entry(out, entry),
+        Err(error) => print_error(out, error),
+    }
+}

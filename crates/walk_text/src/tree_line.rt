@@ -1,0 +1,54 @@
+//! The lines that a tree is built from.
+ghost use Rattle.std.specs.Prelude.{◌≡◌, ◌≢◌, ℕ, List, [], ◌++◌, codes, IfSome, IfNone, MatchOption};
+ghost use Rattle.walk_text.specs.TreeLine.{Says, HasSizedPath, IsTreeLine};
+
+use crate::number::parse_number;
+
+/// What a line adds to a tree.
+pub enum TreeLine<'a> {
+    /// An empty directory at a path.
+    Dir(&'a str),
+    /// A file of a length in bytes at a path.
+    File(u64, &'a str),
+    /// The directory at a path can't be read: permission is denied.
+    Deny(&'a str),
+}
+
+/// What follows a beginning.
+fn rest_after<'a>(text: &'a str, beginning: &str) -> Option<&'a str>
+    ensures { MatchOption result ((rest : List ℕ) → text.now ≢ beginning.now ++ rest) (λ rest. text.now ≡ beginning.now ++ rest.now) }
+{
+    text.strip_prefix(beginning)
+}
+
+/// A path, unless it is empty.
+fn path_in(text: &str) -> Option<&str>
+    ensures { MatchOption result (text.now ≡ []) (λ path. (path.now ≡ text.now) × (path.now ≢ [])) }
+{
+    if text.is_empty() { None } else { Some(text) }
+}
+
+/// Reads what follows the letter of a file.
+fn parse_file(text: &str) -> Option<TreeLine<'_>>
+    ensures some { IfSome result (Says (codes "f " ++ text.now)) }
+    ensures none { IfNone result (¬ (HasSizedPath text.now)) }
+{
+    let (len, path) = text.split_once(' ')?;
+    let len = parse_number(len)?;
+    Some(TreeLine::File(len, path_in(path)?))
+}
+
+/// Reads a line: `d PATH`, `f LEN PATH` or `x PATH`, with one space behind the letter and behind the length, and a path
+/// that is the whole rest and isn't empty. None for any other text.
+pub fn parse_tree_line(text: &str) -> Option<TreeLine<'_>>
+    ensures some { IfSome result (Says text.now) }
+    ensures none { IfNone result (¬ (IsTreeLine text.now)) }
+{
+    if let Some(path) = rest_after(text, "d ") {
+        return Some(TreeLine::Dir(path_in(path)?));
+    }
+    if let Some(path) = rest_after(text, "x ") {
+        return Some(TreeLine::Deny(path_in(path)?));
+    }
+    parse_file(rest_after(text, "f ")?)
+}

@@ -1,0 +1,85 @@
+//! The words of a call.
+ghost use Rattle.std.specs.Prelude.{◌≡◌, ℕ, List, map, string_bytes, IfSome, IfNone};
+ghost use Rattle.walk_text.specs.declared.asked.Asked.{Asked};
+ghost use Rattle.walk_text.specs.declared.asked.Choice.{Choice};
+ghost use Rattle.walk_text.specs.Asked.{nothing};
+ghost use Rattle.walk_text.specs.Words.{BeginWithNumber, Begin, Add, Ask, AreGood};
+
+use crate::asked::{Asked, Choice};
+use crate::number::parse_number;
+use std::alloc::Allocator;
+
+/// What the words ask for.
+#[derive(Drop)]
+pub struct Request<'w> {
+    /// What the options ask for.
+    pub asked: Asked,
+    /// The path that the walk begins at.
+    pub root: &'w str,
+}
+
+/// The number that words begin with, and the words behind it.
+fn split_number<A: Allocator>(words: &[String<A>]) -> Option<(usize, &[String<A>])>
+    ensures some { IfSome result (λ x. BeginWithNumber (map string_bytes words.now) x.0 (map string_bytes x.1.now)) }
+    ensures none { IfNone result ((n : ℕ) → (others : List (List ℕ)) → ¬ (BeginWithNumber (map string_bytes words.now) n others)) }
+{
+    let (word, others) = words.split_first()?;
+    let number = parse_number(word.as_str())?;
+    Some((number as usize, others))
+}
+
+/// The option that words begin with, and the words behind it.
+fn split_option<A: Allocator>(words: &[String<A>]) -> Option<(Choice, &[String<A>])>
+    ensures some { IfSome result (λ x. Begin (map string_bytes words.now) x.0 (map string_bytes x.1.now)) }
+    ensures none { IfNone result ((choice : Choice) → (others : List (List ℕ)) → ¬ (Begin (map string_bytes words.now) choice others)) }
+{
+    let (name, behind) = words.split_first()?;
+    match name.as_str() {
+        "--tree" => Some((Choice::Tree, behind)),
+        "--sort" => Some((Choice::Sort, behind)),
+        "--hidden" => Some((Choice::Hidden, behind)),
+        "--min" => {
+            let (depth, others) = split_number(behind)?;
+            Some((Choice::Min(depth), others))
+        }
+        "--max" => {
+            let (depth, others) = split_number(behind)?;
+            Some((Choice::Max(depth), others))
+        }
+        _ => None,
+    }
+}
+
+/// Reads options, in any order and each at most once. None for any other words.
+fn parse_options<A: Allocator>(words: &[String<A>]) -> Option<Asked>
+    ensures some { IfSome result (Add (map string_bytes words.now) nothing) }
+    ensures only { IfSome result (λ asked. (other : Asked) → Add (map string_bytes words.now) nothing other → other ≡ asked) }
+    ensures none { IfNone result ((other : Asked) → ¬ (Add (map string_bytes words.now) nothing other)) }
+{
+    let mut asked = Asked::nothing();
+    let mut left = words;
+    while !left.is_empty() {
+        let (choice, others) = split_option(left)?;
+        asked = asked.also(choice)?;
+        left = others;
+    }
+    Some(asked)
+}
+
+/// Reads the words: options, in any order and each at most once, and then the root, whatever it looks like. None for
+/// any other words, and where the tree isn't asked for.
+pub fn parse_words<A: Allocator>(words: &[String<A>]) -> Option<Request<'_>>
+    ensures some { IfSome result (λ r. Ask (map string_bytes words.now) r.asked r.root.now) }
+    ensures only { IfSome result (λ r. (asked : Asked) → (root : List ℕ) → Ask (map string_bytes words.now) asked root → (asked ≡ r.asked) × (root ≡ r.root.now)) }
+    ensures none { IfNone result (¬ (AreGood (map string_bytes words.now))) }
+{
+    let (root, options) = words.split_last()?;
+    let asked = parse_options(options)?;
+    if !asked.tree {
+        return None;
+    }
+    Some(Request {
+        asked,
+        root: root.as_str(),
+    })
+}
