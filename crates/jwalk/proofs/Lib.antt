@@ -4,3 +4,4 @@ pub mod GivesFacts
 pub mod ListFacts
 pub mod StepFacts
 pub mod BeginFacts
+pub mod WholeFacts

@@ -1,5 +1,5 @@
 -- What a walk holds, and what one of its answers does.
-use Rattle.std.specs.Prelude.{◌≡◌, ◌≤◌, ◌<◌, ◌+◌, ◌-◌, ◌^◌, ◌⊎◌, ℕ, min, Bool, true, false, List, [], ◌∷◌, ◌++◌, length, map, reverse, Option, Some, None, IfSome, IfNone, IfOk, IfErr, IsSomeAnd, MatchBool, option_map, Result, Err}
+use Rattle.std.specs.Prelude.{◌≡◌, ◌≢◌, ◌≤◌, ◌<◌, ◌+◌, ◌-◌, ◌^◌, ◌⊎◌, ℕ, min, Bool, true, false, List, [], ◌∷◌, ◌++◌, length, map, reverse, Option, Some, None, IfSome, IfNone, IfOk, IfErr, IsSomeAnd, MatchBool, option_map, Result, Err}
 use Rattle.std.specs.declared.clone.Clone as Clone
 use Rattle.std.specs.declared.default.Default as Default
 use Rattle.std.specs.declared.alloc.AllocError.{AllocError}
@@ -29,6 +29,12 @@ use Rattle.jwalk.specs.declared.dir_entry_iter.DirEntryIter.{DirEntryIter}
 abbrev pub refusal : {R E : Type 0} → Bool → List (Pair R E)
 refusal true = record { item = Err memory; source = nothing } ∷ []
 refusal false = []
+
+module _ {C A R E : Type 0} where
+  -- none of the answers tells of want of memory
+  abbrev pub NoneRefused : List (Result (DirEntry C A R E) (Error A)) → Type 0
+  NoneRefused [] = Unit {0}
+  NoneRefused (x ∷ answered) = (item x ≢ Err memory) × NoneRefused answered
 
 module _ {C S P A R E : Type 0} where
   abbrev pub job_of : DirEntryIter C S P A R E → Job C S P A R E

@@ -1,29 +1,49 @@
 -- The answers of the walk that is asked for.
-use Rattle.std.proofs.Common.{◌≡◌, ◌∙◌, ℕ, List, [], ◌∷◌, map, Result, Ok, Err, is_ok, ap, refl}
+use Rattle.std.proofs.Common.{◌≡◌, ◌++◌, ◌∙◌, ℕ, List, [], ◌∷◌, map, Some, None, Result, Ok, Err, is_ok, ap, refl, codes, decimal}
+use Rattle.std.specs.Prelude.{option_map}
 use Rattle.std.specs.List.{list_all}
 use Rattle.walk_model.specs.FileSystem.{Functions}
-use Rattle.walk_model.specs.Entry.{Item}
+use Rattle.walk_model.specs.Entry.{Entry, Item}
 use Rattle.walk_model.specs.Options.{Options}
-use Rattle.walk_model.specs.Job.{Job}
+use Rattle.walk_model.specs.Counted.{Worth, blank, children_by}
 use Rattle.walk_model.specs.Walk.{whole_walk}
+use Rattle.walk_model.specs.Lines.{line_of, lines_of}
 use Rattle.jwalk_read.specs.declared.dir_entry.DirEntry.{DirEntry}
 use Rattle.jwalk_read.specs.declared.error.Error.{Error}
 use Rattle.jwalk_read.specs.Entry.{item}
-use Rattle.jwalk.specs.WalkDir.{unprocessed}
+use Rattle.jwalk_read.specs.Given.{Given, counted_item}
+use Rattle.walk.specs.TreeWalk.{job_at}
 
-abbrev pub job_at : Functions → Options → Job (Unit {0}) (Unit {0})
-job_at fs options = record { fs = fs; options = options; processed = unprocessed; default = tt }
+-- states that count as nothing, with no callback
+abbrev pub silent : {R E : Type 0} → Given R E
+silent = record {
+  read_dir_state = λ _. blank;
+  dir_entry_state = λ _. blank;
+  processed = λ depth path state list. record { state = state; list = list };
+  keeps_depths = λ depth path state list h. h;
+  new_entry = blank;
+}
 
 -- a whole walk, where file system, options and root are the same
-pub same_walk : (items : List (Item (Unit {0}) (Unit {0}))) (fs fs' : Functions) (options options' : Options) (root root' : List ℕ) → fs ≡ fs' → options ≡ options' → root ≡ root' → items ≡ whole_walk (job_at fs options) root tt → items ≡ whole_walk (job_at fs' options') root' tt
+pub same_walk : (items : List (Item Worth Worth)) (fs fs' : Functions) (options options' : Options) (root root' : List ℕ) → fs ≡ fs' → options ≡ options' → root ≡ root' → items ≡ whole_walk (job_at fs options) root blank → items ≡ whole_walk (job_at fs' options') root' blank
 same_walk items fs fs' options options' root root' p q r is =
     is
-    ∙ ap (λ x. whole_walk (job_at x options) root tt) p
-    ∙ ap (λ x. whole_walk (job_at fs' x) root tt) q
-    ∙ ap (λ x. whole_walk (job_at fs' options') x tt) r
+    ∙ ap (λ x. whole_walk (job_at x options) root blank) p
+    ∙ ap (λ x. whole_walk (job_at fs' x) root blank) q
+    ∙ ap (λ x. whole_walk (job_at fs' options') x blank) r
 
--- answers are entries where their values are
-pub all_entries : {C A R E : Type 0} (xs : List (Result (DirEntry C A R E) (Error A))) → list_all is_ok (map item xs) ≡ list_all is_ok xs
-all_entries [] = refl
-all_entries (Ok e ∷ xs) = all_entries xs
-all_entries (Err f ∷ xs) = refl
+module _ {R E : Type 0} (given : Given R E) where
+  -- a line doesn't tell states
+  same_line : (x : Item R E) → line_of (counted_item given x) ≡ line_of x
+  same_line (Err f) = refl
+  same_line (Ok e) = elim e.read_children as (λ o. line_of (counted_item given (Ok (record e { read_children = o }))) ≡ line_of {R = R} {E = E} (Ok (record e { read_children = o }))) [ None ↦ refl | Some c ↦ refl ]
+
+  pub same_lines : (xs : List (Item R E)) → lines_of (map (counted_item given) xs) ≡ lines_of xs
+  same_lines [] = refl
+  same_lines (x ∷ xs) = ap (λ l. l ++ lines_of (map (counted_item given) xs)) (same_line x) ∙ ap (λ l. line_of x ++ l) (same_lines xs)
+
+  -- answers are entries where their values are
+  pub all_entries : {C A : Type 0} (xs : List (Result (DirEntry C A R E) (Error A))) → list_all is_ok (map (counted_item given) (map item xs)) ≡ list_all is_ok xs
+  all_entries [] = refl
+  all_entries (Ok e ∷ xs) = all_entries xs
+  all_entries (Err f ∷ xs) = refl

@@ -1,0 +1,100 @@
+-- What a walk answers from its beginning to its end.
+use Rattle.std.proofs.Common.{◌≡◌, ◌≢◌, ◌⊎◌, ◌∙◌, Bool, true, false, List, [], ◌∷◌, ◌++◌, map, append-nil, Result, Ok, Err, is_ok, inl, inr, refl, sym, ap, subst}
+use Rattle.std.specs.Iterator.{Drains}
+use Rattle.std.specs.List.{list_all}
+use Rattle.std.specs.declared.clone.Clone as Clone
+use Rattle.std.specs.declared.default.Default as Default
+use Rattle.walk_model.specs.Error.{Failure, memory}
+use Rattle.walk_model.specs.Entry.{Item}
+use Rattle.walk_model.specs.Options.{Options}
+use Rattle.walk_model.specs.ReadDir.{Spec}
+use Rattle.walk_model.specs.Counted.{Worth}
+use Rattle.walk_model.specs.Listing.{Pair, nothing, paired, answers}
+use Rattle.walk_model.specs.Held as held_value
+use Rattle.walk_model.specs.Held.{pair_up}
+use Rattle.walk_model.specs.Job as value
+use Rattle.walk_model.specs.Job.{reading, root_list}
+use Rattle.walk_model.specs.Walk.{whole_walk}
+use Rattle.walk_model.proofs.HeldFacts.{alone}
+use Rattle.walk_fs.specs.declared.file_system.FileSystem as FileSystem
+use Rattle.jwalk_read.specs.declared.process_read_dir.ProcessReadDir as ProcessReadDir
+use Rattle.jwalk_read.specs.declared.error.Error.{Error}
+use Rattle.jwalk_read.specs.declared.dir_entry.DirEntry.{DirEntry}
+use Rattle.jwalk_read.specs.Error.{failure}
+use Rattle.jwalk_read.specs.Entry.{item}
+use Rattle.jwalk_read.specs.Given.{Given, counted_item, counted_spec}
+use Rattle.jwalk_read.specs.Job.{options_of, greatest_depth, file_system, job_by, IsSteady, IsSteadyJob}
+use Rattle.jwalk.specs.declared.dir_entry_iter.DirEntryIter.{DirEntryIter}
+use Rattle.jwalk.specs.declared.walk_dir.WalkDirGeneric.{WalkDirGeneric}
+use Rattle.jwalk.specs.DirEntryIter.{job_of, min_depth_of, items_of, unread_of, held_by, refusal, to_come, NoneRefused, IsRefused, Answers, EndsRefused}
+use Rattle.jwalk.specs.WalkDir as builder
+use Rattle.jwalk.specs.WalkDir.{file_system_of, callback_of, root_of, state_of, job_for, Starts, Holds}
+use Rattle.jwalk.proofs.FillFacts.{same_job, come}
+
+module _ {C A R E : Type 0} where
+  -- answers that end with want of memory tell of it
+  refusal_told : (xs : List (Result (DirEntry C A R E) (Error A))) (before : List (Item R E)) → map item xs ≡ before ++ Err memory ∷ [] → NoneRefused xs → ⊥
+  refusal_told [] [] is none = absurd cc
+  refusal_told [] (b ∷ before) is none = absurd cc
+  refusal_told (x ∷ xs) [] is none = let told : item x ≡ Err memory = cc in none.0 told
+  refusal_told (x ∷ xs) (b ∷ before) is none = let rest : map item xs ≡ before ++ Err memory ∷ [] = cc in refusal_told xs before rest none.1
+
+  -- entries tell of none
+  pub entries_tell : (xs : List (Result (DirEntry C A R E) (Error A))) → list_all is_ok xs ≡ true → NoneRefused xs
+  entries_tell [] all = tt
+  entries_tell (Ok e ∷ xs) all = (λ is. cc, entries_tell xs all)
+  entries_tell (Err f ∷ xs) all = let no : false ≡ true = all in cc
+
+refused_by : {R E : Type 0} (given : Given R E) (b : Bool) (items : List (Item R E)) (specs : List (Spec R)) → ◌≡◌ {A = List (Pair R E)} (refusal b ++ pair_up items specs) (record { item = Err memory; source = nothing } ∷ []) → ◌≡◌ {A = List (Pair Worth Worth)} (refusal b ++ pair_up (map (counted_item given) items) (map (counted_spec given) specs)) (record { item = Err memory; source = nothing } ∷ [])
+refused_by given true [] specs is = refl
+refused_by given true (x ∷ items) specs is = absurd cc
+refused_by given false [] specs is = absurd cc
+refused_by given false (Ok e ∷ items) specs is = absurd cc
+refused_by given false (Err f ∷ []) specs is = let told : f ≡ memory = cc in ap (λ (g : Failure). ◌∷◌ {A = Pair Worth Worth} (record { item = Err g; source = nothing }) []) told
+refused_by given false (Err f ∷ x ∷ items) specs is = absurd cc
+
+-- what counts as the one answer that tells of want of memory is that answer
+refusal_among : {C A R E : Type 0} (given : Given R E) (xs : List (Result (DirEntry C A R E) (Error A))) → map (counted_item given) (map item xs) ≡ Err memory ∷ [] → NoneRefused xs → ⊥
+refusal_among given [] is none = absurd cc
+refusal_among given (Ok e ∷ xs) is none = absurd cc
+refusal_among given (Err f ∷ xs) is none = let told : failure f ≡ memory = cc in none.0 (ap Err told)
+
+module _ {C S P A R E : Type 0} (files : FileSystem.Ghosts S) (process : ProcessReadDir.Ghosts P C A R E) (clone : Clone.Ghosts R) (defaults : Default.Ghosts E) (given : Given R E) where
+  -- a walk whose start was refused has that to tell, and nothing else
+  to_come_refused : (it : DirEntryIter C S P A R E) → IsRefused it → to_come files given it ≡ Err memory ∷ []
+  to_come_refused it refused =
+      ap (held_value.to_come (reading (job_by files given (job_of it))) (min_depth_of it) (greatest_depth (job_of it))) (refused_by given it.refused (items_of it) (unread_of it) refused.tells)
+      ∙ ap (answers (min_depth_of it)) (alone (reading (job_by files given (job_of it))) (greatest_depth (job_of it)) (Err memory) [] [] refl)
+
+  -- calls up to `None` answer all that was to come, unless one of them tells of want of memory
+  pub all_answered : (xs : List (Result (DirEntry C A R E) (Error A))) (it : DirEntryIter C S P A R E) → IsSteadyJob files process clone defaults (job_of it) given → Drains (Answers files process clone defaults) it xs → NoneRefused xs → to_come files given it ≡ map (counted_item given) (map item xs)
+  all_answered xs it steady drains none =
+      let last = drains.1.0 in
+      let calls = drains.1.1 in
+      let ended = drains.1.2 in
+      let same = same_job files process clone defaults xs it last calls in
+      let nothing_left : to_come files given last ≡ [] = ended.coming given (subst (λ k. IsSteadyJob files process clone defaults k given) (sym same) steady) in
+      elim (come files process clone defaults given xs it last steady calls) [
+        | inl comes ↦ comes ∙ ap (λ l. map (counted_item given) (map item xs) ++ l) nothing_left ∙ append-nil (map (counted_item given) (map item xs))
+        | inr ends ↦ absurd (refusal_told xs ends.before ends.told none)
+      ]
+
+  -- where the root's list is held, the whole walk is to come
+  pub comes_whole : (walk : WalkDirGeneric C S P A R E) (it : DirEntryIter C S P A R E) → Starts walk it → held_by given it ≡ paired (root_list (job_for files given walk) (root_of walk) (given.read_dir_state (state_of walk))) → to_come files given it ≡ whole_walk (job_for files given walk) (root_of walk) (given.read_dir_state (state_of walk))
+  comes_whole walk it starts holds =
+      let over : S → Options → value.Job Worth Worth = λ fs options. record { fs = files.functions fs; options = options; processed = given.processed; default = given.new_entry } in
+      let coming : S → Options → List (Pair Worth Worth) → List (Item Worth Worth) = λ fs options held. held_value.to_come (reading (over fs options)) options.min_depth options.max_depth held in
+      ap (λ fs. coming fs (options_of (job_of it)) (held_by given it)) starts.file_system
+      ∙ ap (λ options. coming (file_system_of walk) options (held_by given it)) starts.options
+      ∙ ap (coming (file_system_of walk) (builder.options_of walk)) holds
+
+  -- A walk that was begun and asked up to `None`, where no answer tells of want of memory, answered the whole walk from its root.
+  pub whole : (walk : WalkDirGeneric C S P A R E) (it : DirEntryIter C S P A R E) (xs : List (Result (DirEntry C A R E) (Error A))) → Starts walk it → IsRefused it ⊎ Holds files process clone defaults walk it → IsSteady files process clone defaults (file_system_of walk) (callback_of walk) given → Drains (Answers files process clone defaults) it xs → NoneRefused xs
+      → map (counted_item given) (map item xs) ≡ whole_walk (job_for files given walk) (root_of walk) (given.read_dir_state (state_of walk))
+  whole walk it xs starts begun steady drains none =
+      let steady_here : IsSteadyJob files process clone defaults (job_of it) given = rw (starts.file_system, starts.callback) steady in
+      let came = all_answered xs it steady_here drains none in
+      elim begun [
+        | inl refused ↦ absurd (refusal_among given xs (sym came ∙ to_come_refused it refused) none)
+        | inr holds ↦ sym came ∙ comes_whole walk it starts (holds given steady)
+      ]
