@@ -1,14 +1,14 @@
 -- One call of a walk's `next`, case by case.
-use Rattle.std.proofs.Common.{◌≡◌, ◌∙◌, ◌+◌, ◌<◌, ◌≤◌, ℕ, Bool, true, false, not, List, [], ◌∷◌, ◌++◌, map, length, append-nil, Option, Some, None, Result, Ok, Err, IfSome, OnSome, inl, inr, refl, sym, ap, arith}
+use Rattle.std.proofs.Common.{◌≡◌, ◌∙◌, ◌<◌, ℕ, Bool, true, false, List, [], ◌∷◌, ◌++◌, map, length, append-nil, Option, Some, None, Result, Ok, Err, IfSome, OnSome, inl, inr, refl, sym, ap, arith}
 use Rattle.std.specs.Prelude.{option_map}
 use Rattle.std.specs.declared.clone.Clone as Clone
 use Rattle.std.specs.declared.default.Default as Default
 use Rattle.walk_model.specs.Error.{memory}
-use Rattle.walk_model.specs.Entry.{Item, AtDepth, NoDeeper, has_directory}
-use Rattle.walk_model.specs.ReadDir.{Spec, Reading, Outcome, children_of}
+use Rattle.walk_model.specs.Entry.{Item, AtDepth, NoDeeper}
+use Rattle.walk_model.specs.ReadDir.{Spec, Reading, children_of}
 use Rattle.walk_model.specs.Counted.{Worth}
 use Rattle.walk_model.specs.Job.{reading}
-use Rattle.walk_model.specs.Listing.{Pair, nothing, paired, is_answered, answers, listing}
+use Rattle.walk_model.specs.Listing.{Pair, nothing, paired, answers, listing}
 use Rattle.walk_model.specs.Held as value
 use Rattle.walk_model.specs.Held.{pair_up, weight, sources, AreSourced, AnswersPlainly}
 use Rattle.walk_model.proofs.CloneFacts.{same_length, counted_clones}
@@ -27,7 +27,7 @@ use Rattle.jwalk_read.specs.Job.{options_of, greatest_depth, job_by, ClonesCount
 use Rattle.jwalk.specs.declared.dir_entry_iter.DirEntryIter.{DirEntryIter}
 use Rattle.jwalk.specs.ReadDirIter.{StacksChildren}
 use Rattle.jwalk.specs.Step.{ReadsUpTo, IsAtDirectory, StopsAtDirectory}
-use Rattle.jwalk.specs.DirEntryIter.{job_of, min_depth_of, items_of, unread_of, held, held_by, refusal, weight_of, to_come, IsWithin, IsSourced, Refuses, Answers}
+use Rattle.jwalk.specs.DirEntryIter.{job_of, min_depth_of, items_of, unread_of, held, held_by, refusal, to_come, IsSourced, Refuses, Answers}
 use Rattle.jwalk.proofs.StepFacts.{next_within, next_lighter, next_count, next_plain, next_listed, left_within, left_lighter, left_count, left_plain, left_to_come}
 
 -- at a directory nothing is said of the answer but what its reading tells

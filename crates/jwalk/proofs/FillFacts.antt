@@ -15,7 +15,6 @@ use Rattle.walk_fs.specs.declared.file_system.FileSystem as FileSystem
 use Rattle.jwalk_read.specs.declared.process_read_dir.ProcessReadDir as ProcessReadDir
 use Rattle.jwalk_read.specs.declared.error.Error.{Error}
 use Rattle.jwalk_read.specs.declared.dir_entry.DirEntry.{DirEntry}
-use Rattle.jwalk_read.specs.declared.job.Job.{Job}
 use Rattle.jwalk_read.specs.Entry.{item}
 use Rattle.jwalk_read.specs.Given.{Given, counted_item}
 use Rattle.jwalk_read.specs.Job.{options_of, greatest_depth, job_by, IsSteadyJob}

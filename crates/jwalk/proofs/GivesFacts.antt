@@ -1,5 +1,5 @@
 -- What one call of an iterator over readings gives.
-use Rattle.std.proofs.Common.{◌≡◌, ◌≢◌, ◌∙◌, ◌<◌, ◌++◌, ◌∷◌, Err, inl, inr, ℕ, List, [], Option, Some, None, IfSome, map, refl, sym, ap, arith}
+use Rattle.std.proofs.Common.{◌≡◌, ◌∙◌, ◌<◌, ◌++◌, ◌∷◌, Err, inl, inr, List, Option, Some, None, IfSome, map, sym, ap}
 use Rattle.std.specs.Prelude.{option_map}
 use Rattle.std.proofs.lemmas.List.{map-append}
 use Rattle.std.specs.declared.clone.Clone as Clone
@@ -17,7 +17,7 @@ use Rattle.jwalk_read.specs.declared.process_read_dir.ProcessReadDir as ProcessR
 use Rattle.jwalk_read.specs.declared.job.Job.{Job}
 use Rattle.jwalk_read.specs.Given.{Given, counted_spec, counted_outcome}
 use Rattle.jwalk_read.specs.Job.{greatest_depth, job_by, IsSteadyJob}
-use Rattle.jwalk.specs.ReadDirIter.{ReadsFirst, ReadsNext, GivesFirst, GivesPreorder}
+use Rattle.jwalk.specs.ReadDirIter.{ReadsFirst, GivesFirst, GivesPreorder}
 
 module _ {C S P A R E : Type 0} (files : FileSystem.Ghosts S) (process : ProcessReadDir.Ghosts P C A R E) (clone : Clone.Ghosts R) (defaults : Default.Ghosts E) (job : Job C S P A R E) (old new : List (Spec R)) where
   module _ (given : Given R E) (steady : IsSteadyJob files process clone defaults job given) where

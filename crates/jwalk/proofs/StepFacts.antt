@@ -1,27 +1,27 @@
 -- One item is passed, and items are passed one after another.
-use Rattle.std.proofs.Common.{◌≡◌, ◌≢◌, ℕ, ◌+◌, ◌<◌, ◌≤◌, Bool, true, false, not, List, [], ◌∷◌, ◌++◌, map, length, Option, Some, None, Ok, Err, IfSome, inl, inr, refl, sym, ap, ◌∙◌, subst, arith}
-use Rattle.std.specs.Prelude.{MatchBool, if◌then◌else◌}
+use Rattle.std.proofs.Common.{◌≡◌, ℕ, ◌+◌, ◌<◌, ◌≤◌, Bool, true, false, List, [], ◌∷◌, ◌++◌, map, length, Option, Some, Ok, Err, refl, sym, ap, ◌∙◌, subst, arith}
+use Rattle.std.specs.Prelude.{if◌then◌else◌}
 use Rattle.std.proofs.lemmas.List.{map-append}
 use lib.ListN.{length-append}
 use Rattle.std.specs.declared.clone.Clone as Clone
 use Rattle.std.specs.declared.default.Default as Default
-use Rattle.walk_model.specs.Entry.{Entry, Item, has_directory, NoDeeper, IsBetween}
+use Rattle.walk_model.specs.Entry.{Entry, Item, has_directory, NoDeeper}
 use Rattle.walk_model.specs.ReadDir.{Spec, Outcome, children_of, list_of}
 use Rattle.walk_model.specs.Counted.{Worth}
 use Rattle.walk_model.specs.Job as value
 use Rattle.walk_model.specs.Listing.{Pair, after_reading, is_answered, answers, listing}
-use Rattle.walk_model.specs.Held.{first_source, after_first, is_plain, pair_up, to_come, weight, sources, AnswersPlainly, AreSourced}
+use Rattle.walk_model.specs.Held.{first_source, after_first, is_plain, pair_up, weight, AnswersPlainly}
 use Rattle.walk_model.proofs.CloneFacts.{same_length, counted_clones}
 use Rattle.walk_model.proofs.CountedFacts.{counted-has_directory, counted-after_reading, counted-is_answered, counted-list_of, counted-children_of, counted-IsLawful}
-use Rattle.walk_model.proofs.HeldFacts.{directories, directories-append, as_many_of, sourced, sourced_count, lighter, lighter_alone, listed, alone, unread_none, heavy}
-use Rattle.walk_model.proofs.WithinFacts.{NoDeeper-append, of_reading, after, first_of, is_between}
+use Rattle.walk_model.proofs.HeldFacts.{directories, directories-append, as_many_of, lighter, lighter_alone, listed, alone, unread_none}
+use Rattle.walk_model.proofs.WithinFacts.{NoDeeper-append, of_reading, after, first_of}
 use Rattle.walk_fs.specs.declared.file_system.FileSystem as FileSystem
 use Rattle.jwalk_read.specs.declared.process_read_dir.ProcessReadDir as ProcessReadDir
 use Rattle.jwalk_read.specs.declared.job.Job.{Job}
 use Rattle.jwalk_read.specs.Given.{Given, counted_entry, counted_item, counted_spec, counted_outcome}
 use Rattle.jwalk_read.specs.Job.{options_of, greatest_depth, job_by, IsSteadyJob}
 use Rattle.jwalk.specs.ReadDirIter.{ReadsFirst}
-use Rattle.jwalk.specs.Step.{PassesNext, passed_plainly, passed_entering, LeavesOut, none_left_out, one_left_out, AnswersNext, ReadsUpTo, IsAtDirectory, StopsAtDirectory}
+use Rattle.jwalk.specs.Step.{PassesNext, passed_plainly, passed_entering, LeavesOut, none_left_out, one_left_out}
 
 -- a source that gives nothing takes no specification
 plain_keeps : {R : Type 0} (E : Type 0) (b : Bool) (ss : List (Spec R)) → is_plain (first_source {R = R} {E = E} b ss) ≡ true → after_first b ss ≡ ss

@@ -1,5 +1,5 @@
 -- What a walk answers from its beginning to its end.
-use Rattle.std.proofs.Common.{◌≡◌, ◌≢◌, ◌⊎◌, ◌∙◌, Bool, true, false, List, [], ◌∷◌, ◌++◌, map, append-nil, Result, Ok, Err, is_ok, inl, inr, refl, sym, ap, subst}
+use Rattle.std.proofs.Common.{◌≡◌, ◌⊎◌, ◌∙◌, Bool, true, false, List, [], ◌∷◌, ◌++◌, map, append-nil, Result, Ok, Err, is_ok, inl, inr, refl, sym, ap, subst}
 use Rattle.std.specs.Iterator.{Drains}
 use Rattle.std.specs.List.{list_all}
 use Rattle.std.specs.declared.clone.Clone as Clone
@@ -23,10 +23,10 @@ use Rattle.jwalk_read.specs.declared.dir_entry.DirEntry.{DirEntry}
 use Rattle.jwalk_read.specs.Error.{failure}
 use Rattle.jwalk_read.specs.Entry.{item}
 use Rattle.jwalk_read.specs.Given.{Given, counted_item, counted_spec}
-use Rattle.jwalk_read.specs.Job.{options_of, greatest_depth, file_system, job_by, IsSteady, IsSteadyJob}
+use Rattle.jwalk_read.specs.Job.{options_of, greatest_depth, job_by, IsSteady, IsSteadyJob}
 use Rattle.jwalk.specs.declared.dir_entry_iter.DirEntryIter.{DirEntryIter}
 use Rattle.jwalk.specs.declared.walk_dir.WalkDirGeneric.{WalkDirGeneric}
-use Rattle.jwalk.specs.DirEntryIter.{job_of, min_depth_of, items_of, unread_of, held_by, refusal, to_come, NoneRefused, IsRefused, Answers, EndsRefused}
+use Rattle.jwalk.specs.DirEntryIter.{job_of, min_depth_of, items_of, unread_of, held_by, refusal, to_come, NoneRefused, IsRefused, Answers}
 use Rattle.jwalk.specs.WalkDir as builder
 use Rattle.jwalk.specs.WalkDir.{file_system_of, callback_of, root_of, state_of, job_for, Starts, Holds}
 use Rattle.jwalk.proofs.FillFacts.{same_job, come}
@@ -45,12 +45,20 @@ module _ {C A R E : Type 0} where
   entries_tell (Ok e ∷ xs) all = (λ is. cc, entries_tell xs all)
   entries_tell (Err f ∷ xs) all = let no : false ≡ true = all in cc
 
+abbrev first_item : {R E : Type 0} → List (Pair R E) → Item R E
+first_item [] = Err memory
+first_item (p ∷ held) = p.item
+
 refused_by : {R E : Type 0} (given : Given R E) (b : Bool) (items : List (Item R E)) (specs : List (Spec R)) → ◌≡◌ {A = List (Pair R E)} (refusal b ++ pair_up items specs) (record { item = Err memory; source = nothing } ∷ []) → ◌≡◌ {A = List (Pair Worth Worth)} (refusal b ++ pair_up (map (counted_item given) items) (map (counted_spec given) specs)) (record { item = Err memory; source = nothing } ∷ [])
 refused_by given true [] specs is = refl
 refused_by given true (x ∷ items) specs is = absurd cc
 refused_by given false [] specs is = absurd cc
-refused_by given false (Ok e ∷ items) specs is = absurd cc
-refused_by given false (Err f ∷ []) specs is = let told : f ≡ memory = cc in ap (λ (g : Failure). ◌∷◌ {A = Pair Worth Worth} (record { item = Err g; source = nothing }) []) told
+refused_by {R} {E} given false (Ok e ∷ items) specs is = absurd (let no : ◌≡◌ {A = Item R E} (Ok e) (Err memory) = ap first_item is in cc)
+refused_by {R} {E} given false (Err f ∷ []) specs is =
+    let same : ◌≡◌ {A = Item R E} (Err f) (Err memory) = ap first_item is in
+    let told : f ≡ memory = cc in
+    let one : Failure → List (Pair Worth Worth) = λ g. record { item = Err g; source = nothing } ∷ [] in
+    ap one told
 refused_by given false (Err f ∷ x ∷ items) specs is = absurd cc
 
 -- what counts as the one answer that tells of want of memory is that answer

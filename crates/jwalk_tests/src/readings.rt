@@ -30,9 +30,7 @@ fn names(list: &Items) -> Result<String, AllocError> {
 impl ProcessReadDir<Noted, Global> for NotesNames {
     ghost IsLawful = { λ _. Unit {0} };
 
-    ghost IsFixed = { λ _. ⊥ };
-
-    ghost processed = { λ _ depth path state list. record { state = state; list = list } };
+    ghost Makes = { λ _ _. ⊥ };
 
     fn process(
         &self,

@@ -1,4 +1,4 @@
-use Rattle.std.proofs.Common.{◌≡◌, ◌∙◌, sym, ap}
+use Rattle.std.proofs.Common.{◌≡◌, ◌∙◌, ap}
 use Rattle.walk_model.specs.Entry.{AtDepth}
 use Rattle.walk_model.specs.Options.{Options}
 use Rattle.walk_model.specs.Listing.{paired}
@@ -8,7 +8,7 @@ use Rattle.jwalk_read.specs.ReadDir.{reading}
 use Rattle.jwalk_read.specs.Given.{counted_reading}
 use Rattle.jwalk_read.specs.Job.{file_system, callback, options_of, job_by, IsSteady}
 use Rattle.jwalk.specs.DirEntryIter.{held_by}
-use Rattle.jwalk.specs.WalkDir.{job_for, file_system_of, callback_of, root_of, state_of}
+use Rattle.jwalk.specs.WalkDir.{job_for, file_system_of, root_of, state_of}
 use Rattle.jwalk.proofs.BeginFacts.{held_view, by_flag, if_some_of}
 use Rattle.jwalk.proofs.walk_dir.WalkDirGeneric.begin.Goals as goal
 
