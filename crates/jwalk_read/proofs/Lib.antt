@@ -1,2 +1,3 @@
 pub mod ListFacts
 mod ReadingFacts
+pub mod TieFacts

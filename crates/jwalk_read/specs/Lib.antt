@@ -5,3 +5,4 @@ pub mod ReadDir
 pub mod Options
 pub mod Given
 pub mod Job
+pub mod Sorting
