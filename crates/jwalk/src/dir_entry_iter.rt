@@ -68,7 +68,8 @@ impl<C: ClientState, S: FileSystem, P: ProcessReadDir<C, A>, A: Allocator + Copy
         ensures job { job_of self.new ≡ job_of self.old }
         ensures refused { self.new.refused ≡ self.old.refused }
         ensures items { OnOk result (items_of self.new ≡ (reading read).list ++ items_of self.old) }
-        ensures children { OnOk result (StacksChildren C.ReadDirState.Clone (unread_of self.old) (Ok (reading read)) (unread_of self.new)) }
+        ensures children { OnOk result (StacksChildren C.ReadDirState.Clone
+            (unread_of self.old) (Ok (reading read)) (unread_of self.new)) }
     {
         self.reads.put(&read)?;
         self.receive(read)?;
@@ -77,11 +78,7 @@ impl<C: ClientState, S: FileSystem, P: ProcessReadDir<C, A>, A: Allocator + Copy
 
     /// The walk that begins with the root's list. Where memory is refused, what it answers is the error that tells of
     /// it, and nothing else.
-    pub(crate) fn from_root(
-        alloc: A,
-        job: Job<C, S, P, A>,
-        read: Option<ReadDir<C, A>>,
-    ) -> Self
+    pub(crate) fn from_root(alloc: A, job: Job<C, S, P, A>, read: Option<ReadDir<C, A>>) -> Self
         requires { IfSome read (λ r. AtDepth 0 (reading r).list) }
         ensures job { job_of result ≡ job }
         ensures refused { result.refused ≡ true → IsRefused result }
@@ -189,7 +186,8 @@ impl<C: ClientState, S: FileSystem, P: ProcessReadDir<C, A>, A: Allocator + Copy
         &self,
         passed: Result<DirEntry<C, A>, Error<A>>,
     ) -> Option<Result<DirEntry<C, A>, Error<A>>>
-        ensures some { IfSome result (λ answer. (answer ≡ passed) × (is_answered (min_depth_of self.now) (item passed) ≡ true)) }
+        ensures some { IfSome result (λ answer. (answer
+            ≡ passed) × (is_answered (min_depth_of self.now) (item passed) ≡ true)) }
         ensures none { IfNone result (is_answered (min_depth_of self.now) (item passed) ≡ false) }
     {
         if self.keeps(&passed) {

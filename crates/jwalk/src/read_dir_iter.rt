@@ -50,7 +50,8 @@ impl<C: ClientState, S: FileSystem, P: ProcessReadDir<C, A>, A: Allocator + Copy
     /// Puts the directories of a reading in front of what is to be read.
     pub(crate) fn put(&mut self, read: &ReadDir<C, A>) -> Result<(), AllocError>
         ensures job { job_of self.new ≡ job_of self.old }
-        ensures children { OnOk result (StacksChildren C.ReadDirState.Clone (to_read self.old) (Ok (reading read.now)) (to_read self.new)) }
+        ensures children { OnOk result (StacksChildren C.ReadDirState.Clone
+            (to_read self.old) (Ok (reading read.now)) (to_read self.new)) }
     {
         match self {
             ReadDirIter::Walk(walk) => walk.stack(read),

@@ -53,7 +53,8 @@ impl<C: ClientState, S: FileSystem, P: ProcessReadDir<C, A>, A: Allocator + Copy
     /// Puts the directories of a reading on the stack, with the first of them last.
     pub(crate) fn stack(&mut self, read: &ReadDir<C, A>) -> Result<(), AllocError>
         ensures job { self.new.job ≡ self.old.job }
-        ensures children { OnOk result (StacksChildren C.ReadDirState.Clone (stacked self.old) (Ok (reading read.now)) (stacked self.new)) }
+        ensures children { OnOk result (StacksChildren C.ReadDirState.Clone
+            (stacked self.old) (Ok (reading read.now)) (stacked self.new)) }
     {
         let mut children = read.read_children_specs()?;
         children.reverse();
@@ -64,7 +65,8 @@ impl<C: ClientState, S: FileSystem, P: ProcessReadDir<C, A>, A: Allocator + Copy
     /// The same for an outcome, where an error has no directories.
     fn stack_outcome(&mut self, read: &Result<ReadDir<C, A>, Error<A>>) -> Result<(), AllocError>
         ensures job { self.new.job ≡ self.old.job }
-        ensures children { OnOk result (StacksChildren C.ReadDirState.Clone (stacked self.old) (outcome read.now) (stacked self.new)) }
+        ensures children { OnOk result (StacksChildren C.ReadDirState.Clone
+            (stacked self.old) (outcome read.now) (stacked self.new)) }
     {
         match read {
             Ok(read) => self.stack(read),

@@ -74,7 +74,9 @@ impl<C: ClientState, A: Allocator + Copy> DirEntry<C, A> {
 
     /// The entry of a link, where the directory at its path is to be read, if it leads to one.
     pub(crate) fn with_directory(mut self, path: Arc<String<A>, A>, target: Metadata) -> Self
-        ensures { entry result ≡ (if is_dir (type_of target) then record (entry self) { read_children = children_at true (text path) } else entry self) }
+        ensures { entry result
+            ≡ (if is_dir (type_of target) then record (entry self) { read_children = children_at true (text path) }
+            else entry self) }
     {
         if target.is_dir() {
             self.read_children = Some(ReadChildren::new(path));

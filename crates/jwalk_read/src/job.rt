@@ -95,7 +95,12 @@ impl<C: ClientState, S: FileSystem, P: ProcessReadDir<C, A>, A: Allocator + Copy
         ensures callback { callback result ≡ process }
         ensures options { options_of result ≡ reads_by sort skip_hidden max_depth }
     {
-        Job::with_options(alloc, fs, process, Options::for_readings(sort, skip_hidden, max_depth))
+        Job::with_options(
+            alloc,
+            fs,
+            process,
+            Options::for_readings(sort, skip_hidden, max_depth),
+        )
     }
 
     /// A job over a file system and a callback, by the options of a walk.
@@ -127,7 +132,8 @@ impl<C: ClientState, S: FileSystem, P: ProcessReadDir<C, A>, A: Allocator + Copy
         name: &str,
         file_type: FileType,
     ) -> Result<Option<ReadChildren<C, A>>, AllocError>
-        ensures { IfOk result (λ o. option_map children o ≡ children_at (is_dir file_type) (join (text of.now.path) name.now)) }
+        ensures { IfOk result (λ o. option_map children o
+            ≡ children_at (is_dir file_type) (join (text of.now.path) name.now)) }
     {
         if !file_type.is_dir() {
             return Ok(None);
@@ -146,7 +152,9 @@ impl<C: ClientState, S: FileSystem, P: ProcessReadDir<C, A>, A: Allocator + Copy
         requires { of.now.depth + 1 < 2 ^ 64 }
         ensures depth { IfOk result (λ e. e.depth ≡ of.now.depth + 1) }
         ensures value { (g : _) → DefaultsCount C.DirEntryState.Default g
-            → IfOk result (λ e. counted_entry g (entry e) ≡ value.entry_in (job_by S.FileSystem g self.now) (counted_spec g (spec of.now)) (string_bytes name) file_type) }
+            → IfOk result (λ e. counted_entry g (entry e)
+            ≡ value.entry_in (job_by S.FileSystem g self.now)
+            (counted_spec g (spec of.now)) (string_bytes name) file_type) }
     {
         let read_children = self.children_in(of, name.as_str(), file_type)?;
         Ok(DirEntry {
@@ -174,7 +182,8 @@ impl<C: ClientState, S: FileSystem, P: ProcessReadDir<C, A>, A: Allocator + Copy
         err: io::Error,
     ) -> Result<Error<A>, AllocError>
         requires { of.now.depth + 1 < 2 ^ 64 }
-        ensures { IfOk result (λ e. failure e ≡ io (of.now.depth + 1) (Some (join (text of.now.path) name.now)) (error_kind err)) }
+        ensures { IfOk result (λ e. failure e
+            ≡ io (of.now.depth + 1) (Some (join (text of.now.path) name.now)) (error_kind err)) }
     {
         let joined = path_text::join(self.alloc, of.path.as_str(), name)?;
         let path = Arc::new(self.alloc, joined)?;
@@ -190,7 +199,8 @@ impl<C: ClientState, S: FileSystem, P: ProcessReadDir<C, A>, A: Allocator + Copy
         requires { of.now.depth + 1 < 2 ^ 64 }
         ensures depth { IfOk result (λ o. AtDepth (of.now.depth + 1) (map item (option_to_list o))) }
         ensures value { (g : _) → DefaultsCount C.DirEntryState.Default g
-            → IfOk result (λ o. counted_list g (option_to_list o) ≡ value.named (job_by S.FileSystem g self.now) (counted_spec g (spec of.now)) (named found)) }
+            → IfOk result (λ o. counted_list g (option_to_list o)
+            ≡ value.named (job_by S.FileSystem g self.now) (counted_spec g (spec of.now)) (named found)) }
     {
         let Listed { name, file_type } = found;
         match file_type {
@@ -213,7 +223,8 @@ impl<C: ClientState, S: FileSystem, P: ProcessReadDir<C, A>, A: Allocator + Copy
         requires { of.now.depth + 1 < 2 ^ 64 }
         ensures depth { IfOk result (λ o. AtDepth (of.now.depth + 1) (map item (option_to_list o))) }
         ensures value { (g : _) → DefaultsCount C.DirEntryState.Default g
-            → IfOk result (λ o. counted_list g (option_to_list o) ≡ value.item_of (job_by S.FileSystem g self.now) (counted_spec g (spec of.now)) (listed found)) }
+            → IfOk result (λ o. counted_list g (option_to_list o)
+            ≡ value.item_of (job_by S.FileSystem g self.now) (counted_spec g (spec of.now)) (listed found)) }
     {
         match found {
             Err(err) => Ok(Some(Err(Error::from_io(of.depth + 1, err)))),
@@ -229,9 +240,12 @@ impl<C: ClientState, S: FileSystem, P: ProcessReadDir<C, A>, A: Allocator + Copy
         found: io::Result<Listed<A>>,
     ) -> Result<(), AllocError>
         requires { of.now.depth + 1 < 2 ^ 64 }
-        ensures depth { AtDepth (of.now.depth + 1) (map item items.old.items) → OnOk result (AtDepth (of.now.depth + 1) (map item items.new.items)) }
+        ensures depth { AtDepth (of.now.depth + 1) (map item items.old.items)
+            → OnOk result (AtDepth (of.now.depth + 1) (map item items.new.items)) }
         ensures value { (g : _) → DefaultsCount C.DirEntryState.Default g
-            → OnOk result (counted_list g items.new.items ≡ counted_list g items.old.items ++ value.item_of (job_by S.FileSystem g self.now) (counted_spec g (spec of.now)) (listed found)) }
+            → OnOk result (counted_list g items.new.items
+            ≡ counted_list g items.old.items ++ value.item_of (job_by S.FileSystem g self.now)
+            (counted_spec g (spec of.now)) (listed found)) }
     {
         match self.item_of(of, found)? {
             Some(item) => {
@@ -251,7 +265,9 @@ impl<C: ClientState, S: FileSystem, P: ProcessReadDir<C, A>, A: Allocator + Copy
         requires { of.now.depth + 1 < 2 ^ 64 }
         ensures depth { IfOk result (λ v. AtDepth (of.now.depth + 1) (map item v.items)) }
         ensures value { (g : _) → DefaultsCount C.DirEntryState.Default g
-            → IfOk result (λ v. counted_list g v.items ≡ value.raw (job_by S.FileSystem g self.now) (counted_spec g (spec of.now)) (map listed listing.items)) }
+            → IfOk result (λ v. counted_list g v.items
+            ≡ value.raw (job_by S.FileSystem g self.now)
+            (counted_spec g (spec of.now)) (map listed listing.items)) }
     {
         let mut items = Vec::with_capacity(self.alloc, listing.len())?;
         for found in listing {
@@ -269,7 +285,9 @@ impl<C: ClientState, S: FileSystem, P: ProcessReadDir<C, A>, A: Allocator + Copy
         requires { of.now.depth + 1 < 2 ^ 64 }
         ensures depth { IfOk result (λ v. AtDepth (of.now.depth + 1) (map item v.items)) }
         ensures value { (g : _) → DefaultsCount C.DirEntryState.Default g
-            → IfOk result (λ v. counted_list g v.items ≡ value.ordered (job_by S.FileSystem g self.now) (counted_spec g (spec of.now)) (map listed listing.items)) }
+            → IfOk result (λ v. counted_list g v.items
+            ≡ value.ordered (job_by S.FileSystem g self.now)
+            (counted_spec g (spec of.now)) (map listed listing.items)) }
     {
         let items = self.raw(of, listing)?;
         Ok(in_order(self.options.sort, items)?)
@@ -285,8 +303,11 @@ impl<C: ClientState, S: FileSystem, P: ProcessReadDir<C, A>, A: Allocator + Copy
         requires fits { of.now.depth + 1 < 2 ^ 64 }
         ensures depth { IfOk result (λ r. AtDepth (of.now.depth + 1) (reading r).list) }
         ensures few { IfOk result (λ r. length (reading r).list < 2 ^ 64) }
-        ensures value { (g : _) → IsSteadyJob S.FileSystem P.ProcessReadDir C.ReadDirState.Clone C.DirEntryState.Default self.now g
-            → IfOk result (λ r. g.processed (Some of.now.depth) (text of.now.path) (g.read_dir_state of.now.client_read_state) (value.ordered (job_by S.FileSystem g self.now) (counted_spec g (spec of.now)) (map listed listing.items)) ≡ counted_reading g (reading r)) }
+        ensures value { (g : _)
+            → IsSteadyJob S.FileSystem P.ProcessReadDir C.ReadDirState.Clone C.DirEntryState.Default self.now g
+            → IfOk result (λ r. g.processed (Some of.now.depth) (text of.now.path) (g.read_dir_state of.now.client_read_state)
+            (value.ordered (job_by S.FileSystem g self.now) (counted_spec g (spec of.now)) (map listed listing.items))
+            ≡ counted_reading g (reading r)) }
     {
         let mut items = self.ordered(of, listing)?;
         let mut state = of.client_read_state.clone()?;
@@ -307,8 +328,8 @@ impl<C: ClientState, S: FileSystem, P: ProcessReadDir<C, A>, A: Allocator + Copy
         of: &ReadDirSpec<C, A>,
     ) -> Result<Result<ReadDir<C, A>, Error<A>>, AllocError>
         requires { P.IsLawful (callback self.now) }
-        ensures { IfOk result (λ o. IsReadingOf S.FileSystem P.ProcessReadDir C.ReadDirState.Clone C.DirEntryState.Default
-            self.now (spec of.now) (outcome o)) }
+        ensures { IfOk result (λ o. IsReadingOf S.FileSystem P.ProcessReadDir C.ReadDirState.Clone
+            C.DirEntryState.Default self.now (spec of.now) (outcome o)) }
     {
         if of.depth >= self.options.max_depth {
             let state = of.client_read_state.clone()?;
@@ -329,7 +350,8 @@ impl<C: ClientState, S: FileSystem, P: ProcessReadDir<C, A>, A: Allocator + Copy
     ) -> Result<DirEntry<C, A>, AllocError>
         ensures depth { IfOk result (λ e. e.depth ≡ 0) }
         ensures value { (g : _) → DefaultsCount C.DirEntryState.Default g
-            → IfOk result (λ e. counted_entry g (entry e) ≡ value.made_of (job_by S.FileSystem g self.now) 0 (text path) false [] metadata) }
+            → IfOk result (λ e. counted_entry g (entry e)
+            ≡ value.made_of (job_by S.FileSystem g self.now) 0 (text path) false [] metadata) }
     {
         let file_type = metadata.file_type();
         let file_name = String::from_str(self.alloc, own_name(path.as_str()))?;
@@ -353,7 +375,8 @@ impl<C: ClientState, S: FileSystem, P: ProcessReadDir<C, A>, A: Allocator + Copy
     fn made(&self, path: &str) -> Result<Result<DirEntry<C, A>, Error<A>>, AllocError>
         ensures depth { IfOk result (λ r. AtDepth 0 (item r ∷ [])) }
         ensures value { (g : _) → S.IsFixed (file_system self.now) → DefaultsCount C.DirEntryState.Default g
-            → IfOk result (λ r. counted_item g (item r) ≡ value.made (job_by S.FileSystem g self.now) 0 path.now false []) }
+            → IfOk result (λ r. counted_item g (item r)
+            ≡ value.made (job_by S.FileSystem g self.now) 0 path.now false []) }
     {
         let shared = Arc::new(self.alloc, String::from_str(self.alloc, path)?)?;
         match self.fs.symlink_metadata(path) {
@@ -370,7 +393,8 @@ impl<C: ClientState, S: FileSystem, P: ProcessReadDir<C, A>, A: Allocator + Copy
     ) -> Result<Result<DirEntry<C, A>, Error<A>>, AllocError>
         ensures depth { AtDepth 0 (Ok (entry found) ∷ []) → IfOk result (λ r. AtDepth 0 (item r ∷ [])) }
         ensures value { (g : Given C.ReadDirState C.DirEntryState) → S.IsFixed (file_system self.now)
-            → IfOk result (λ r. counted_item g (item r) ≡ value.with_target (job_by S.FileSystem g self.now) (counted_entry g (entry found))) }
+            → IfOk result (λ r. counted_item g (item r)
+            ≡ value.with_target (job_by S.FileSystem g self.now) (counted_entry g (entry found))) }
     {
         if !found.file_type.is_symlink() {
             return Ok(Ok(found));
@@ -387,7 +411,8 @@ impl<C: ClientState, S: FileSystem, P: ProcessReadDir<C, A>, A: Allocator + Copy
     fn root_item(&self, path: &str) -> Result<RootItem<C, A>, AllocError>
         ensures depth { IfOk result (λ r. AtDepth 0 (item r.item ∷ [])) }
         ensures value { (g : _) → S.IsFixed (file_system self.now) → DefaultsCount C.DirEntryState.Default g
-            → IfOk result (λ r. counted_item g (item r.item) ≡ value.root_item (job_by S.FileSystem g self.now) path.now) }
+            → IfOk result (λ r. counted_item g (item r.item)
+            ≡ value.root_item (job_by S.FileSystem g self.now) path.now) }
         ensures parent { (g : _) → S.IsFixed (file_system self.now) → DefaultsCount C.DirEntryState.Default g
             → IfOk result (λ r. text r.parent_path ≡ value.root_parent (job_by S.FileSystem g self.now) path.now) }
     {
@@ -412,8 +437,10 @@ impl<C: ClientState, S: FileSystem, P: ProcessReadDir<C, A>, A: Allocator + Copy
     pub fn root_list(&self, path: &str, state: C::ReadDirState) -> Result<ReadDir<C, A>, AllocError>
         requires { P.IsLawful (callback self.now) }
         ensures depth { IfOk result (λ r. AtDepth 0 (reading r).list) }
-        ensures value { (g : _) → IsSteadyJob S.FileSystem P.ProcessReadDir C.ReadDirState.Clone C.DirEntryState.Default self.now g
-            → IfOk result (λ r. value.root_list (job_by S.FileSystem g self.now) path.now (g.read_dir_state state) ≡ counted_reading g (reading r)) }
+        ensures value { (g : _)
+            → IsSteadyJob S.FileSystem P.ProcessReadDir C.ReadDirState.Clone C.DirEntryState.Default self.now g
+            → IfOk result (λ r. value.root_list (job_by S.FileSystem g self.now) path.now (g.read_dir_state state)
+            ≡ counted_reading g (reading r)) }
     {
         let RootItem { item, parent_path } = self.root_item(path)?;
         let mut state = state;

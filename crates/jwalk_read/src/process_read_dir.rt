@@ -34,7 +34,8 @@ pub trait ProcessReadDir<C: ClientState, A: Allocator + Copy>: Drop {
         requires { IsLawful self.now }
         ensures depths { OnOk result (KeepsDepths depth (map item list.old.items) (map item list.new.items)) }
         ensures made { (g : _) → Makes self.now g
-            → OnOk result (IsProcessed g depth path.now state.old (map item list.old.items) state.new (map item list.new.items)) };
+            → OnOk result (IsProcessed g depth path.now
+            state.old (map item list.old.items) state.new (map item list.new.items)) };
 }
 
 /// The callback that changes nothing.
@@ -58,7 +59,8 @@ impl<C: ClientState, A: Allocator + Copy> ProcessReadDir<C, A> for NoProcess {
         ensures list { _list.new.items ≡ _list.old.items }
         ensures depths { OnOk result (KeepsDepths _depth (map item _list.old.items) (map item _list.new.items)) }
         ensures made { (g : _) → KeepsLists (Given.processed g)
-            → OnOk result (IsProcessed g _depth _path.now _state.old (map item _list.old.items) _state.new (map item _list.new.items)) }
+            → OnOk result (IsProcessed g _depth _path.now
+            _state.old (map item _list.old.items) _state.new (map item _list.new.items)) }
     {
         Ok(())
     }

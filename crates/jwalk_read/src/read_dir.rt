@@ -27,7 +27,7 @@ fn push_spec<C: ClientState, A: Allocator + Copy>(
 ) -> Result<(), AllocError>
     ensures { (asked : List (Spec C.ReadDirState)) → AreClones C.ReadDirState.is_clone asked (map spec specs.old.items)
         → OnOk result (AreClones C.ReadDirState.is_clone
-            (asked ++ option_to_list (spec_of state.now (item found.now))) (map spec specs.new.items)) }
+        (asked ++ option_to_list (spec_of state.now (item found.now))) (map spec specs.new.items)) }
 {
     match ReadDirSpec::of_item(state, found)? {
         Some(spec) => {

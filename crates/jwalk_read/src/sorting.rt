@@ -120,7 +120,8 @@ pub(crate) fn in_order<C: ClientState, A: Allocator + Copy>(
     sort: bool,
     mut list: Vec<Result<DirEntry<C, A>, Error<A>>, A>,
 ) -> Result<Vec<Result<DirEntry<C, A>, Error<A>>, A>, AllocError>
-    ensures { IfOk result (λ v. map item v.items ≡ (if sort then arranged (map item list.items) else map item list.items)) }
+    ensures { IfOk result (λ v. map item v.items
+        ≡ (if sort then arranged (map item list.items) else map item list.items)) }
 {
     if sort {
         sort_by_name(&mut list)?;

@@ -17,6 +17,7 @@ mod readings;
 mod roots;
 #[cfg(test)]
 mod sizes;
+pub mod texts;
 #[cfg(test)]
 mod trees;
 #[cfg(test)]

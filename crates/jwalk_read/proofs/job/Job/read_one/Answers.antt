@@ -22,7 +22,7 @@ returns-in_ok-processed-in-Ok g c =
     let above : nat_le c.args.self.now.options.max_depth c.args.of.now.depth ≡ false = grind (arith, nat_tests) in
     let higher : c.args.of.now.depth < c.args.self.now.options.max_depth = omega arith in
     was_listed g.S.FileSystem g.P.ProcessReadDir g.C.ReadDirState.Clone g.C.DirEntryState.Default c.args.self.now (spec c.args.of.now)
-        (reading c.in_ok-processed-in-Ok.field-0) (map listed c.in-Ok.listing.items) higher above
-        c.in_ok-processed-in-Ok.ensures.depth c.in_ok-processed-in-Ok.ensures.few
-        (λ fixed. ap (g.S.FileSystem.functions (file_system c.args.self.now)).list_of (sym path) ∙ c.in-Ok.ensures fixed)
-        c.in_ok-processed-in-Ok.ensures.value
+    (reading c.in_ok-processed-in-Ok.field-0) (map listed c.in-Ok.listing.items) higher above
+    c.in_ok-processed-in-Ok.ensures.depth c.in_ok-processed-in-Ok.ensures.few
+    (λ fixed. ap (g.S.FileSystem.functions (file_system c.args.self.now)).list_of (sym path) ∙ c.in-Ok.ensures fixed)
+    c.in_ok-processed-in-Ok.ensures.value

@@ -20,8 +20,8 @@ loop-found-preserved g c =
     let gone : map item (take (i + 1) xs) ≡ map item (take i xs) ++ item x ∷ [] = ap (map item) (take_more xs i x lt ∙ ap (λ y. take i xs ++ y ∷ []) (sym at)) ∙ map-append item (take i xs) (x ∷ []) in
     let before = children (record { state = state; list = map item (take i xs) }) in
     subst (λ l. AreClones g.C.ReadDirState.Clone.is_clone l (map spec c.push_spec.new.specs.items))
-        (sym (ap (λ l. children (record { state = state; list = l })) gone ∙ children_more state (map item (take i xs)) (item x)))
-        (c.in_ok-push_spec.ensures before c.loop-found.invariant)
+    (sym (ap (λ l. children (record { state = state; list = l })) gone ∙ children_more state (map item (take i xs)) (item x)))
+    (c.in_ok-push_spec.ensures before c.loop-found.invariant)
 
 pub returns : goal.returns
 returns g c =
