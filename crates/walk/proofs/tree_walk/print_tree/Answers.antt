@@ -18,8 +18,7 @@ returns-clause-printed g c = λ clean.
     let walk = c.walk_of.result in
     let all = c.print_answers.ensures.printed clean in
     let begun = c.into_iter-walk.ensures in
-    let steady = record { file_system = tt; callback = λ depth path state list. refl; clones = λ x y is. refl; default = λ x is. refl } in
-    let listed = whole _ _ _ _ silent walk c.into_iter-walk.result all.0 begun.starts begun.holds steady all.1 (entries_tell all.0 (sym all.2)) in
+    let listed = whole _ _ _ _ silent walk c.into_iter-walk.result all.0 begun.starts begun.holds (record { file_system = tt; callback = λ depth path state list. refl; clones = λ x y is. refl; default = λ x is. refl }) all.1 (entries_tell all.0 (sym all.2)) in
     let items = map (counted_item silent) (map item all.0) in
     let asked = same_walk items (functions_of (tree_of (file_system_of walk))) (functions_of (tree_of fs)) (options_of walk) (options_for c.args.asked) (root_of walk) (string_bytes c.args.root) (ap (λ f. functions_of (tree_of f)) c.walk_of.ensures.file_system) c.walk_of.ensures.options c.walk_of.ensures.root listed in
     record {
