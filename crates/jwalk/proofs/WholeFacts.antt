@@ -5,6 +5,7 @@ use Rattle.std.specs.Iterator.{Drains}
 use Rattle.std.specs.List.{list_all}
 use Rattle.std.specs.declared.clone.Clone as Clone
 use Rattle.std.specs.declared.default.Default as Default
+use Rattle.walk_model.specs.FileSystem.{Functions}
 use Rattle.walk_model.specs.Error.{Failure, memory}
 use Rattle.walk_model.specs.Entry.{Item}
 use Rattle.walk_model.specs.Options.{Options}
@@ -15,7 +16,7 @@ use Rattle.walk_model.specs.Held as held_value
 use Rattle.walk_model.specs.Held.{pair_up}
 use Rattle.walk_model.specs.Job as value
 use Rattle.walk_model.specs.Job.{reading, root_list}
-use Rattle.walk_model.specs.Walk.{whole_walk}
+use Rattle.walk_model.specs.Walk.{whole_walk, stateless_walk}
 use Rattle.walk_model.proofs.HeldFacts.{alone}
 use Rattle.walk_fs.specs.declared.file_system.FileSystem as FileSystem
 use Rattle.jwalk_read.specs.declared.process_read_dir.ProcessReadDir as ProcessReadDir
@@ -149,3 +150,11 @@ module _ {C S P A R E : Type 0} (files : FileSystem.Ghosts S) (process : Process
   whole_filled walk it new n k before xs starts begun steady fills empty fewer none =
       let filled = all_filled n k before xs it new (steady_job walk it starts steady) fills fewer none in
       answered_whole walk it xs starts begun steady none (sym (filled ∙ ap (λ l. counted_list given l ++ to_come files given it) empty))
+
+-- what a walk with no callback answers is said by the file system, the options and the root that its builder was given
+pub stateless_of : {C S P A R E : Type 0} (functions : S → Functions) (walk : WalkDirGeneric C S P A R E) (fs : S) (options : Options) (root : List ℕ) → file_system_of walk ≡ fs → builder.options_of walk ≡ options → root_of walk ≡ root
+    → stateless_walk (functions (file_system_of walk)) (builder.options_of walk) (root_of walk) ≡ stateless_walk (functions fs) options root
+stateless_of functions walk fs options root fs_is options_are root_is =
+    ap (λ f. stateless_walk (functions f) (builder.options_of walk) (root_of walk)) fs_is
+    ∙ ap (λ o. stateless_walk (functions fs) o (root_of walk)) options_are
+    ∙ ap (stateless_walk (functions fs) options) root_is
