@@ -128,12 +128,11 @@ module _ {C S P A R E : Type 0} (files : FileSystem.Ghosts S) (process : Process
   whole walk it xs starts begun steady drains none =
       answered_whole walk it xs starts begun steady none (all_answered xs it (steady_job walk it starts steady) drains none)
 
-  -- After a call of `fill` that was given room, with fewer answers in the vector than were asked for, all that was to come stands there, behind what the vector held before, unless one of them tells of want of memory.
-  pub all_filled : (n k : ℕ) (before after : List (Result (DirEntry C A R E) (Error A))) (it new : DirEntryIter C S P A R E) → IsSteadyJob files process clone defaults (job_of it) given → Fills files process clone defaults n it before (Ok k) after new → length after < n → NoneRefused after
+  -- After a call of `fill` that told fewer answers than it was asked for, all that was to come stands in the vector, behind what it held before, unless one of them tells of want of memory.
+  pub all_filled : (n k : ℕ) (before after : List (Result (DirEntry C A R E) (Error A))) (it new : DirEntryIter C S P A R E) → IsSteadyJob files process clone defaults (job_of it) given → Fills files process clone defaults n it before (Ok k) after new → k < n → NoneRefused after
       → counted_list given after ≡ counted_list given before ++ to_come files given it
   all_filled n k before after it new steady fills fewer none =
-      let among : length after ≡ length before + length fills.answered = ap length fills.appended ∙ length-append before fills.answered in
-      let ended : held new ≡ [] = elim fills.all [ inl all ↦ absurd (omega (arith, all, among, fewer, fills.number.0)) | inr over ↦ over ] in
+      let ended : held new ≡ [] = elim fills.all [ inl all ↦ absurd (omega (arith, all, fewer)) | inr over ↦ over ] in
       let coming : List (Pair Worth Worth) → List (Item Worth Worth) = held_value.to_come (reading (job_by files given (job_of new))) (min_depth_of new) (greatest_depth (job_of new)) in
       let nothing_left : to_come files given new ≡ [] = ap coming (held_by_nothing given new ended) in
       let came : to_come files given it ≡ counted_list given fills.answered = elim (fills.coming given steady) [
@@ -148,7 +147,8 @@ module _ {C S P A R E : Type 0} (files : FileSystem.Ghosts S) (process : Process
   pub whole_filled : (walk : WalkDirGeneric C S P A R E) (it new : DirEntryIter C S P A R E) (n k : ℕ) (before xs : List (Result (DirEntry C A R E) (Error A))) → Starts walk it → IsRefused it ⊎ Holds files process clone defaults walk it → IsSteady files process clone defaults (file_system_of walk) (callback_of walk) given → Fills files process clone defaults n it before (Ok k) xs new → before ≡ [] → length xs < n → NoneRefused xs
       → counted_list given xs ≡ whole_walk (job_for files given walk) (root_of walk) (given.read_dir_state (state_of walk))
   whole_filled walk it new n k before xs starts begun steady fills empty fewer none =
-      let filled = all_filled n k before xs it new (steady_job walk it starts steady) fills fewer none in
+      let among : length xs ≡ length before + length fills.answered = ap length fills.appended ∙ length-append before fills.answered in
+      let filled = all_filled n k before xs it new (steady_job walk it starts steady) fills (omega (arith, among, fewer, fills.number.0)) none in
       answered_whole walk it xs starts begun steady none (sym (filled ∙ ap (λ l. counted_list given l ++ to_come files given it) empty))
 
 -- what a walk with no callback answers is said by the file system, the options and the root that its builder was given
