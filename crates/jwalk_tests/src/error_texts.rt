@@ -95,7 +95,10 @@ fn error_of(answer: &Result<Entry, Error>) -> Option<&Error> {
 
 /// The text of an answer's error, if it has one.
 fn text_of(alloc: Global, answer: &Result<Entry, Error>) -> Result<Option<String>, AllocError> {
-    match error_of(answer).and_then(|error| error.io_error()) {
+    let Some(error) = error_of(answer) else {
+        return Ok(None);
+    };
+    match error.io_error() {
         Some(err) => Ok(Some(format!(in alloc; "{err}")?)),
         None => Ok(None),
     }

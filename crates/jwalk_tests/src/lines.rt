@@ -118,7 +118,7 @@ fn entry_line(alloc: Global, entry: &Entry) -> Result<String, AllocError> {
 }
 
 /// One answer.
-pub fn line(alloc: Global, answer: &Result<Entry, Error>) -> Result<String, AllocError> {
+fn line(alloc: Global, answer: &Result<Entry, Error>) -> Result<String, AllocError> {
     match answer {
         Ok(entry) => entry_line(alloc, entry),
         Err(error) => error_line(alloc, error),
@@ -134,7 +134,8 @@ pub fn lines_of(alloc: Global, answers: &[Result<Entry, Error>]) -> Result<Strin
     Ok(text)
 }
 
-fn push_line(text: &mut String, answer: &Result<Entry, Error>) -> Result<(), AllocError> {
+/// Adds one answer to a text.
+pub fn push_line(text: &mut String, answer: &Result<Entry, Error>) -> Result<(), AllocError> {
     if !text.is_empty() {
         text.push_str("; ")?;
     }

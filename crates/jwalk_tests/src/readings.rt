@@ -1,4 +1,6 @@
 //! Readings of one directory, without a walk.
+ghost use Rattle.jwalk_read.specs.Job.{callback};
+
 use crate::trees::grouped_tree;
 use crate::watched::{Failing, Watched};
 use jwalk::file_system::FileSystem;
@@ -48,7 +50,9 @@ impl ProcessReadDir<Noted, Global> for NotesNames {
 // The specification of the root that a job begins with.
 fn root_spec<C: ClientState, S: FileSystem, P: ProcessReadDir<C, Global>>(
     job: &Job<C, S, P>,
-) -> Result<ReadDirSpec<C>, Fail> {
+) -> Result<ReadDirSpec<C>, Fail>
+    requires { P.IsLawful (callback job.now) }
+{
     let list = job.root_list("/t", C::ReadDirState::default())?;
     let mut roots = list.read_children_specs()?;
     Ok(roots.pop().ok_or("no root")?)
@@ -58,7 +62,9 @@ fn root_spec<C: ClientState, S: FileSystem, P: ProcessReadDir<C, Global>>(
 fn specs_in<C: ClientState, S: FileSystem, P: ProcessReadDir<C, Global>>(
     job: &Job<C, S, P>,
     of: &ReadDirSpec<C>,
-) -> Result<Vec<ReadDirSpec<C>>, Fail> {
+) -> Result<Vec<ReadDirSpec<C>>, Fail>
+    requires { P.IsLawful (callback job.now) }
+{
     let read = job.read_one(of)?.ok().ok_or("not read")?;
     Ok(read.read_children_specs()?)
 }
@@ -70,9 +76,11 @@ fn a_reading_has_its_items_and_directories_in_order(rt: HostRuntime) -> Result<(
     let root = root_spec(&job)?;
     assert_eq!(rt; root.path.as_str(), "/t");
     let specs = specs_in(&job, &root)?;
-    assert_eq!(rt; specs.len(), 2);
+    let [first, second] = specs.as_slice() else {
+        return Err("not two directories".into());
+    };
     let noted = "c.txt;a.txt;group 2;group 1;b.txt;";
-    for (spec, path) in specs.iter().zip(["/t/group 2", "/t/group 1"]) {
+    for (spec, path) in [(first, "/t/group 2"), (second, "/t/group 1")] {
         assert_eq!(rt; spec.path.as_str(), path);
         assert_eq!(rt; spec.client_read_state.as_deref(), Some(noted));
     }

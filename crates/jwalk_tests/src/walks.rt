@@ -1,5 +1,5 @@
 //! Walks over trees in memory.
-use crate::lines::{Builder, builder, is_over, line, next_are, root_shows, walk};
+use crate::lines::{Builder, builder, is_over, next_are, push_line, root_shows, walk};
 use crate::trees::{empty_directory, grouped_tree, small_tree};
 use jwalk::file_system::MemoryFs;
 use jwalk::{WalkDirGeneric, path_text};
@@ -56,12 +56,11 @@ fn a_walk_counted(rt: HostRuntime) -> Result<(), Fail> {
     Ok(())
 }
 
-// The answers of a walk, each ended by `;`.
+// The answers of a walk, parted by `; `.
 fn in_a_for_loop(alloc: Global, walk: Builder<MemoryFs>) -> Result<String, AllocError> {
     let mut text = String::new(alloc);
     for answer in walk {
-        text.push_str(line(alloc, &answer)?.as_str())?;
-        text.push_str(";")?;
+        push_line(&mut text, &answer)?;
     }
     Ok(text)
 }
@@ -70,7 +69,7 @@ fn in_a_for_loop(alloc: Global, walk: Builder<MemoryFs>) -> Result<String, Alloc
 fn a_walk_in_a_for_loop(rt: HostRuntime) -> Result<(), Fail> {
     let walk = builder(rt.alloc(), small_tree(rt.alloc())?, "/r/s")?;
     let text = in_a_for_loop(rt.alloc(), walk)?;
-    assert_eq!(rt; text.as_str(), "0 d /r/s;1 f /r/s/x;");
+    assert_eq!(rt; text.as_str(), "0 d /r/s; 1 f /r/s/x");
     Ok(())
 }
 
