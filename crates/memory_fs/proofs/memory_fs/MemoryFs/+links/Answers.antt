@@ -1,9 +1,8 @@
-use Rattle.std.proofs.Common.{◌≡◌, ℕ, Bool, true, List, [], ◌∷◌, ◌++◌, map, length, eqb, Some, Ok, Err, refl, sym, ap, subst, ◌∙◌, arith}
+use Rattle.std.proofs.Common.{◌≡◌, ℕ, true, List, [], ◌++◌, map, length, eqb, Some, Err, sym, ap, subst, ◌∙◌, arith}
 use Rattle.std.proofs.lemmas.Bool.{false≢true, eqb-true}
 use Rattle.std.proofs.lemmas.List.{nil_from_length}
 use Rattle.std.proofs.lemmas.Result.{err_from_is_err_and}
 use Rattle.std.specs.Path.{path_components, components_remaining}
-use Rattle.walk_model.specs.Paths.{Component}
 use Rattle.walk_model.specs.PathTexts.{component_read, component_seen, components_left}
 use Rattle.walk_model.proofs.PathFacts.{path_components-read, next_read}
 use Rattle.memory_fs.specs.declared.hit.Hit.{Hit as CodeHit}

@@ -1,4 +1,4 @@
-use Rattle.std.proofs.Common.{◌≡◌, ℕ, [], Err, sym, ap, subst, ◌∙◌}
+use Rattle.std.proofs.Common.{ℕ, [], Err, sym, ap, subst, ◌∙◌}
 use Rattle.std.proofs.lemmas.Result.{err_from_is_err_and}
 use Rattle.walk_model.specs.PathTexts.{components_left}
 use Rattle.memory_fs.specs.declared.hit.Hit.{Hit as CodeHit}
