@@ -1,5 +1,5 @@
 //! One reading of a directory.
-ghost use Rattle.std.specs.Prelude.{◌≡◌, ◌+◌, ◌<◌, ◌^◌, ◌&&◌, ◌++◌, [], ◌∷◌, Some, Ok, Err, IfOk, OnOk, length, map, option_map, option_to_list, string_bytes};
+ghost use Rattle.std.specs.Prelude.{◌≡◌, ◌+◌, ◌<◌, ◌^◌, ◌&&◌, ◌++◌, Some, IfOk, OnOk, length, map, option_map, option_to_list, string_bytes};
 ghost use Rattle.std.specs.IoError.{error_kind};
 ghost use Rattle.walk_model.specs.Error.{io};
 ghost use Rattle.walk_model.specs.Entry.{AtDepth, is_hidden, children_at};
@@ -13,10 +13,11 @@ ghost use Rattle.jwalk_read.specs.Error.{failure};
 ghost use Rattle.jwalk_read.specs.Entry.{entry, item, children};
 ghost use Rattle.jwalk_read.specs.ReadDir.{spec, outcome, reading};
 ghost use Rattle.jwalk_read.specs.Options.{options_value, reads_by};
-ghost use Rattle.jwalk_read.specs.Given.{Given, counted_spec, counted_item, counted_reading, counted_list, counted_entry};
+ghost use Rattle.jwalk_read.specs.Given.{counted_spec, counted_reading, counted_list, counted_entry};
 ghost use Rattle.jwalk_read.specs.Job.{file_system, callback, options_of, DefaultsCount, job_by, IsSteadyJob, IsReadingOf};
 
 mod links;
+mod root;
 
 use crate::ancestors::Ancestors;
 use crate::client_state::ClientState;
@@ -58,13 +59,6 @@ fn is_hidden(name: &str) -> bool
     ensures { result ≡ is_hidden name.now }
 {
     matches!(name.as_bytes(), [b'.', ..])
-}
-
-/// The item of a root before the callback, and the path that the callback is given with it.
-#[derive(Drop)]
-struct RootItem<C: ClientState, A: Allocator + Copy> {
-    item: Result<DirEntry<C, A>, Error<A>>,
-    parent_path: Arc<String<A>, A>,
 }
 
 impl<C: ClientState, S: FileSystem, P: ProcessReadDir<C, A>, A: Allocator + Copy> Job<C, S, P, A> {
@@ -345,89 +339,5 @@ impl<C: ClientState, S: FileSystem, P: ProcessReadDir<C, A>, A: Allocator + Copy
             Err(Fault::Io(err)) => Ok(Err(Error::from_path(of.depth, of.path.clone()?, err))),
             Err(Fault::Memory) => Err(AllocError),
         }
-    }
-
-    /// A root's entry with what stands behind it, if it is a link: a directory there is to be read.
-    fn with_target(
-        &self,
-        found: DirEntry<C, A>,
-    ) -> Result<Result<DirEntry<C, A>, Error<A>>, AllocError>
-        ensures depth { AtDepth 0 (Ok (entry found) ∷ []) → IfOk result (λ r. AtDepth 0 (item r ∷ [])) }
-        ensures value { (g : Given C.ReadDirState C.DirEntryState) → S.IsFixed (file_system self.now)
-            → IfOk result (λ r. counted_item g (item r)
-            ≡ value.with_target (job_by S.FileSystem g self.now) (counted_entry g (entry found))) }
-    {
-        if !found.file_type.is_symlink() {
-            return Ok(Ok(found));
-        }
-        let path = Arc::new(self.alloc, found.path()?)?;
-        match self.fs.metadata(path.as_str()) {
-            Ok(metadata) => Ok(Ok(found.with_directory(path, metadata))),
-            Err(Fault::Io(err)) => Ok(Err(Error::from_path(0, path, err))),
-            Err(Fault::Memory) => Err(AllocError),
-        }
-    }
-
-    /// A root's entry after the link rule, and with what stands behind it if it is still a link.
-    fn root_target(
-        &self,
-        found: DirEntry<C, A>,
-    ) -> Result<Result<DirEntry<C, A>, Error<A>>, AllocError>
-        ensures depth { AtDepth 0 (Ok (entry found) ∷ []) → IfOk result (λ r. AtDepth 0 (item r ∷ [])) }
-        ensures value { (g : _) → S.IsFixed (file_system self.now) → DefaultsCount C.DirEntryState.Default g
-            → IfOk result (λ r. counted_item g (item r)
-            ≡ value.either (value.with_target (job_by S.FileSystem g self.now)) Err
-            (value.followed (job_by S.FileSystem g self.now) (counted_entry g (entry found)))) }
-    {
-        match self.followed(found)? {
-            Ok(found) => self.with_target(found),
-            Err(error) => Ok(Err(error)),
-        }
-    }
-
-    /// The root's item before the callback, with the path that the callback is given beside it.
-    fn root_item(&self, path: &str) -> Result<RootItem<C, A>, AllocError>
-        ensures depth { IfOk result (λ r. AtDepth 0 (item r.item ∷ [])) }
-        ensures value { (g : _) → S.IsFixed (file_system self.now) → DefaultsCount C.DirEntryState.Default g
-            → IfOk result (λ r. counted_item g (item r.item)
-            ≡ value.root_item (job_by S.FileSystem g self.now) path.now) }
-        ensures parent { (g : _) → S.IsFixed (file_system self.now) → DefaultsCount C.DirEntryState.Default g
-            → IfOk result (λ r. text r.parent_path ≡ value.root_parent (job_by S.FileSystem g self.now) path.now) }
-    {
-        let shared = Arc::new(self.alloc, String::from_str(self.alloc, path)?)?;
-        let ancestors = self.root_ancestors(&shared)?;
-        match self.made(0, shared, false, ancestors)? {
-            Ok(found) => {
-                let parent_path = found.parent_path.clone()?;
-                let item = self.root_target(found)?;
-                Ok(RootItem { item, parent_path })
-            }
-            Err(error) => Ok(RootItem {
-                item: Err(error),
-                parent_path: Arc::new(self.alloc, String::new(self.alloc))?,
-            }),
-        }
-    }
-
-    /// The list that a walk begins with: the root's entry, or the error met when it was asked for, after the callback,
-    /// which is given no depth, the root's parent path and this state. A root that is a link to a directory stays a
-    /// link, and the directory is read below it; a root that is a broken link is an error with its path.
-    ///
-    /// Fails only for want of memory: of the walk's own, of the file system's or of the callback's.
-    pub fn root_list(&self, path: &str, state: C::ReadDirState) -> Result<ReadDir<C, A>, AllocError>
-        requires { P.IsLawful (callback self.now) }
-        ensures depth { IfOk result (λ r. AtDepth 0 (reading r).list) }
-        ensures value { (g : _)
-            → IsSteadyJob S.FileSystem P.ProcessReadDir C.ReadDirState.Clone C.DirEntryState.Default self.now g
-            → IfOk result (λ r. value.root_list (job_by S.FileSystem g self.now) path.now (g.read_dir_state state)
-            ≡ counted_reading g (reading r)) }
-    {
-        let RootItem { item, parent_path } = self.root_item(path)?;
-        let mut state = state;
-        let mut items = Vec::new(self.alloc);
-        items.push(item)?;
-        self.process
-            .process(None, parent_path.as_str(), &mut state, &mut items)?;
-        Ok(ReadDir::new(state, items))
     }
 }

@@ -62,20 +62,6 @@ impl<C: ClientState, S: FileSystem, P: ProcessReadDir<C, A>, A: Allocator + Copy
         of.ancestors.with(self.alloc, of.path.clone()?)
     }
 
-    /// The ancestors of a root: its own path, where links are followed.
-    pub(super) fn root_ancestors(
-        &self,
-        path: &Arc<String<A>, A>,
-    ) -> Result<Ancestors<A>, AllocError>
-        ensures { IfOk result (λ above. texts above
-            ≡ (if (options_of self.now).follow_links then text path.now ∷ [] else [])) }
-    {
-        if !self.options.follow_links {
-            return Ok(Ancestors::none());
-        }
-        Ancestors::none().with(self.alloc, path.clone()?)
-    }
-
     /// The entry of a path with this metadata.
     fn entry_at(
         &self,
