@@ -86,7 +86,8 @@ fn write_reading<W: Write, C: ClientState, A: Allocator + Copy>(
     out: &mut W,
     below: &Option<ReadChildren<C, A>>,
 ) -> io::Result<()>
-    ensures { OnOk result (Appends (W.contents out.old) (W.contents out.new) (reading_part (option_map children below.now))) }
+    ensures { OnOk result (Appends (W.contents out.old) (W.contents out.new)
+        (reading_part (option_map children below.now))) }
 {
     let Some(children) = below else {
         return Ok(());

@@ -1,4 +1,5 @@
-use crate::board::{Move, Plan, Refused, Rehearsal, rehearse};
+//! Rehearsals of many moves.
+use jwalk_board::board::{Move, Plan, Refused, Rehearsal, rehearse};
 use std::alloc::{AllocError, Global};
 use std::cell::Cell;
 use std::test::Fail;

@@ -1,6 +1,7 @@
-use crate::index_path::IndexPath;
-use crate::ordered::Ordered;
-use crate::ordered_queue::OrderedMatcher;
+//! Which address comes next.
+use jwalk_order::index_path::IndexPath;
+use jwalk_order::ordered::Ordered;
+use jwalk_order::ordered_queue::OrderedMatcher;
 use std::alloc::{AllocError, Global};
 use std::test::Fail;
 

@@ -1,6 +1,7 @@
-use crate::index_path::IndexPath;
-use crate::ordered::Ordered;
-use crate::ordered_queue::{OrderedQueue, Ordering, Step};
+//! Queues by address.
+use jwalk_order::index_path::IndexPath;
+use jwalk_order::ordered::Ordered;
+use jwalk_order::ordered_queue::{OrderedQueue, Ordering, Step};
 use std::alloc::{AllocError, Global};
 use std::test::Fail;
 

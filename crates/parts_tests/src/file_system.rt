@@ -1,14 +1,14 @@
 //! A file system that isn't fixed, one that is borrowed, and the faults that `?` makes.
 ghost use Rattle.walk_model.specs.Tree.{functions_of, only_root};
 
-use crate::fault::Fault;
-use crate::file_system::FileSystem;
-use crate::listed::Listed;
 use std::alloc::{AllocError, Allocator, Global};
 use std::cell::Cell;
 use std::io;
 use std::io::ErrorKind;
 use std::test::Fail;
+use walk_fs::fault::Fault;
+use walk_fs::file_system::FileSystem;
+use walk_fs::listed::Listed;
 use walk_model::file_type::FileType;
 use walk_model::metadata::Metadata;
 

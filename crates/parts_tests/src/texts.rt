@@ -1,14 +1,14 @@
 //! Words, trees and failures, text by text.
-use crate::asked::Asked;
-use crate::failure::Failure;
-use crate::input::read_tree;
-use crate::tree::build_tree;
-use crate::words::{Request, parse_words};
 use std::alloc::{AllocError, Global};
 use std::io;
 use std::io::{ErrorKind, Read};
 use std::process::Abort;
 use std::test::Fail;
+use walk_text::asked::Asked;
+use walk_text::failure::Failure;
+use walk_text::input::read_tree;
+use walk_text::tree::build_tree;
+use walk_text::words::{Request, parse_words};
 
 fn texts(alloc: Global, words: &[&str]) -> Result<Vec<String>, AllocError> {
     let mut texts = Vec::new(alloc);

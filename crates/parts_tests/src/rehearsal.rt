@@ -1,4 +1,5 @@
-use crate::board::{Move, Plan, Refused, Rehearsal, rehearse};
+//! Rehearsals of a small family.
+use jwalk_board::board::{Move, Plan, Refused, Rehearsal, rehearse};
 use jwalk_order::index_path::IndexPath;
 use jwalk_order::ordered::Ordered;
 use std::alloc::Global;

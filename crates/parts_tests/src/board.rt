@@ -1,4 +1,5 @@
-use crate::board::{Board, FinishFault, FinishRefusal, HandOutRefusal, TakeRefusal};
+//! Boards: what is taken, finished and handed out.
+use jwalk_board::board::{Board, FinishFault, FinishRefusal, HandOutRefusal, TakeRefusal};
 use jwalk_order::index_path::IndexPath;
 use jwalk_order::ordered::Ordered;
 use std::alloc::{AllocError, Global};

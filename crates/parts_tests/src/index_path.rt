@@ -1,4 +1,5 @@
-use crate::index_path::IndexPath;
+//! Addresses in a heap, in a set and side by side.
+use jwalk_order::index_path::IndexPath;
 use std::alloc::{AllocError, Global};
 use std::collections::BinaryHeap;
 use std::test::Fail;
