@@ -85,12 +85,12 @@ impl<C: ClientState, S: FileSystem, P: ProcessReadDir<C, A>, A: Allocator + Copy
         self
     }
 
-    /// Whether a link gives way to what it leads to, under the link's own path. Off by default: links stand in the walk as
+    /// Whether a link gives way to what it leads to, under the link's own path. Off by default: links are answered as
     /// such, and a root that is a link to a directory is read all the same.
     ///
-    /// A link whose text is the path of a directory above it, component by component, is answered as a loop. A loop that
-    /// isn't told by the text alone, as of a relative target, is gone round until the greatest depth or the file system
-    /// ends it.
+    /// A link to a directory whose text has the components of the path of a directory above it is a loop: it is an
+    /// error that names the nearest such directory. A loop that the text doesn't tell, as that of a relative target, is
+    /// gone round until the greatest depth or the file system ends it.
     pub fn follow_links(mut self, follow_links: bool) -> Self
         ensures { Sets (with_follow_links follow_links (options_of self)) self result }
     {

@@ -82,8 +82,8 @@ impl<A: Allocator + Copy> Error<A> {
         }
     }
 
-    /// The path that the error came with, of a loop that of the link. There is none for want of memory, where an item of
-    /// a listing had no name, and where the text of a link could not be read.
+    /// The path that the error came with, of a loop that of the link. There is none for want of memory, where an item
+    /// of a listing had no name, and where the text of a link could not be read.
     pub fn path(&self) -> Option<&str>
         ensures { option_copied result ≡ path_of (failure self.now) }
     {
@@ -97,8 +97,8 @@ impl<A: Allocator + Copy> Error<A> {
         }
     }
 
-    /// The directory that a link leads back to, of a loop alone: the nearest one above the link whose path is the same as
-    /// the link's text.
+    /// The directory that a link leads back to, of a loop alone: the nearest one above the link whose path has the same
+    /// components as the link's text.
     pub fn loop_ancestor(&self) -> Option<&str>
         ensures { option_copied result ≡ ancestor_of (failure self.now) }
     {

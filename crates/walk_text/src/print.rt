@@ -117,7 +117,8 @@ fn print_entry<W: Write, C: ClientState, A: Allocator + Copy>(
 
 /// Writes the line of a link that leads back to an ancestor.
 fn print_loop<W: Write>(out: &mut W, depth: usize, ancestor: &str, child: &str) -> io::Result<()>
-    ensures { OnOk result (Appends (W.contents out.old) (W.contents out.new) (failure_line (looped depth ancestor.now child.now))) }
+    ensures { OnOk result (Appends (W.contents out.old) (W.contents out.new)
+        (failure_line (looped depth ancestor.now child.now))) }
 {
     out.write_all(b"! ")?;
     write_number(out, depth)?;

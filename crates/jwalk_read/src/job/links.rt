@@ -74,7 +74,8 @@ impl<C: ClientState, S: FileSystem, P: ProcessReadDir<C, A>, A: Allocator + Copy
         ensures depth { IfOk result (λ e. e.depth ≡ depth) }
         ensures value { (g : _) → DefaultsCount C.DirEntryState.Default g
             → IfOk result (λ e. counted_entry g (entry e)
-            ≡ value.made_of (job_by S.FileSystem g self.now) depth (text path) through_link (texts ancestors) metadata) }
+            ≡ value.made_of (job_by S.FileSystem g self.now) depth (text path)
+            through_link (texts ancestors) metadata) }
     {
         let file_type = metadata.file_type();
         let file_name = String::from_str(self.alloc, own_name(path.as_str()))?;

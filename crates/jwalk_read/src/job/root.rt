@@ -103,8 +103,8 @@ impl<C: ClientState, S: FileSystem, P: ProcessReadDir<C, A>, A: Allocator + Copy
     }
 
     /// The list that a walk begins with: the root's entry, or the error met when it was asked for, after the callback,
-    /// which is given no depth, the root's parent path and this state. A root that is a link gives way to what it leads to
-    /// where links are followed; else it stays a link, and a directory behind it is read below it. A root that is a
+    /// which is given no depth, the root's parent path and this state. Where links are followed, a root that is a link
+    /// gives way to what it leads to; else it stays a link, and a directory behind it is read below it. A root that is a
     /// broken link is an error with its path.
     ///
     /// Fails only for want of memory: of the walk's own, of the file system's or of the callback's.
