@@ -72,7 +72,7 @@ fn specs_in<C: ClientState, S: FileSystem, P: ProcessReadDir<C, Global>>(
 #[test]
 fn a_reading_has_its_items_and_directories_in_order(rt: HostRuntime) -> Result<(), Fail> {
     let fs = grouped_tree(rt.alloc())?;
-    let job = Job::<Noted, _, _>::new(rt.alloc(), fs, NotesNames, false, true, usize::MAX);
+    let job = Job::<Noted, _, _>::new(rt.alloc(), fs, NotesNames, false, true, false, usize::MAX);
     let root = root_spec(&job)?;
     assert_eq!(rt; root.path.as_str(), "/t");
     let specs = specs_in(&job, &root)?;
@@ -91,7 +91,7 @@ fn a_reading_has_its_items_and_directories_in_order(rt: HostRuntime) -> Result<(
 fn nothing_is_read_at_the_greatest_depth(rt: HostRuntime) -> Result<(), Fail> {
     let fs = Watched::new(grouped_tree(rt.alloc())?, Failing::Never);
     let fs = Arc::new(rt.alloc(), fs)?;
-    let job = Job::<((), ()), _, _>::new(rt.alloc(), fs.clone()?, NoProcess, false, true, 0);
+    let job = Job::<((), ()), _, _>::new(rt.alloc(), fs.clone()?, NoProcess, false, true, false, 0);
     assert_eq!(rt; specs_in(&job, &root_spec(&job)?)?.len(), 0);
     assert_eq!(rt; fs.lists(), 0);
     Ok(())
@@ -100,7 +100,7 @@ fn nothing_is_read_at_the_greatest_depth(rt: HostRuntime) -> Result<(), Fail> {
 /// The entry of the root of the grouped tree.
 fn root_of_the_grouped_tree(alloc: Global) -> Result<DirEntry<((), ())>, Fail> {
     let fs = grouped_tree(alloc)?;
-    let job = Job::<((), ()), _, _>::new(alloc, fs, NoProcess, false, true, usize::MAX);
+    let job = Job::<((), ()), _, _>::new(alloc, fs, NoProcess, false, true, false, usize::MAX);
     let read = job.root_list("/t", ())?;
     if read.results_list().len() != 1 {
         return Err("not one root".into());
