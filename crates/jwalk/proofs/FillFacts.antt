@@ -1,8 +1,8 @@
 -- What calls of a walk's `next` answer, one after another.
-use Rattle.std.proofs.Common.{◌≡◌, ◌≤◌, ◌<◌, ◌⊎◌, ◌∙◌, true, false, ℕ, ◌+◌, List, [], ◌∷◌, ◌++◌, map, length, append_assoc, append-nil, Option, Some, None, Result, Ok, Err, inl, inr, refl, sym, ap, subst, arith}
+use Rattle.std.proofs.Common.{◌≡◌, ◌≢◌, ◌≤◌, ◌<◌, ◌⊎◌, ◌∙◌, true, false, ℕ, ◌+◌, List, [], ◌∷◌, ◌++◌, map, length, append_assoc, append-nil, Option, Some, None, Result, Ok, Err, inl, inr, refl, sym, ap, subst, arith}
 use lib.ListN.{length-append}
 use Rattle.std.specs.Prelude.{IsErr}
-use Rattle.std.specs.Iterator.{Yields}
+use Rattle.std.specs.Iterator.{Yields, Drains}
 use Rattle.std.specs.declared.alloc.AllocError.{AllocError}
 use Rattle.std.specs.declared.clone.Clone as Clone
 use Rattle.std.specs.declared.default.Default as Default
@@ -19,7 +19,7 @@ use Rattle.jwalk_read.specs.Entry.{item}
 use Rattle.jwalk_read.specs.Given.{Given, counted_item}
 use Rattle.jwalk_read.specs.Job.{options_of, greatest_depth, job_by, IsSteadyJob}
 use Rattle.jwalk.specs.declared.dir_entry_iter.DirEntryIter.{DirEntryIter}
-use Rattle.jwalk.specs.DirEntryIter.{job_of, min_depth_of, held, weight_of, to_come, IsWithin, IsSourced, Refuses, Answers, ComesFirst, EndsRefused, Fills}
+use Rattle.jwalk.specs.DirEntryIter.{job_of, min_depth_of, held, weight_of, to_come, IsWithin, IsSourced, Refuses, Answers, ComesFirst, EndsRefused, FillCalls, Fills}
 use Rattle.jwalk.proofs.AnswerFacts.{held_by_nothing}
 
 -- where nothing is held, nothing is answered
@@ -90,10 +90,26 @@ module _ {C S P A R E : Type 0} (files : FileSystem.Ghosts S) (process : Process
         | inr first ↦ one_more given (item x) (map item xs) s j t first (come given xs j t (subst (λ k. IsSteadyJob files process clone defaults k given) (sym step.job) steady) rest)
       ]
 
--- one call more
-more_by : {S X : Type 0} (steps : S → Option X → S → Type 0) (xs : List X) (s t : S) (x : X) (u : S) → Yields steps s xs t → steps t (Some x) u → Yields steps s (xs ++ x ∷ []) u
-more_by steps [] s t x u same step = (u, subst (λ k. steps k (Some x) u) (sym same) step, refl)
-more_by steps (y ∷ ys) s t x u (j, first, rest) step = (j, first, more_by steps ys j t x u rest step)
+-- calls after calls
+calls_on : {S X : Type 0} (steps : S → Option X → S → Type 0) (xs ys : List X) (s t u : S) → Yields steps s xs t → Yields steps t ys u → Yields steps s (xs ++ ys) u
+calls_on steps [] ys s t u same rest = subst (λ k. Yields steps k ys u) (sym same) rest
+calls_on steps (x ∷ xs) ys s t u (j, first, more) rest = (j, first, calls_on steps xs ys j t u more rest)
+
+module _ {C S P A R E : Type 0} (files : FileSystem.Ghosts S) (process : ProcessReadDir.Ghosts P C A R E) (clone : Clone.Ghosts R) (defaults : Default.Ghosts E) (n told : ℕ) (start old new : DirEntryIter C S P A R E) (earlier answered : List (Result (DirEntry C A R E) (Error A))) where
+  -- calls of `next`, and then a call of `fill` that told all that it was asked for, are so many calls of `next`
+  pub filled_on : Yields (Answers files process clone defaults) start earlier old → FillCalls files process clone defaults n old answered (Ok told) new → told ≡ n → Yields (Answers files process clone defaults) start (earlier ++ answered) new
+  filled_on before calls all =
+      calls_on (Answers files process clone defaults) earlier answered start old new before
+      (elim calls [ inl full ↦ full.1 | inr ended ↦ absurd (omega (arith, ended.0, all)) ])
+
+  -- where it told fewer, they are all up to the one that answers `None`
+  pub filled_to_end : Yields (Answers files process clone defaults) start earlier old → FillCalls files process clone defaults n old answered (Ok told) new → told ≢ n → Drains (Answers files process clone defaults) start (earlier ++ answered)
+  filled_to_end before calls fewer = elim calls [
+    | inl full ↦ absurd (fewer full.0)
+    | inr ended ↦
+        let last = ended.1.0 in
+        (new, (last, calls_on (Answers files process clone defaults) earlier answered start old last before ended.1.1, ended.1.2))
+  ]
 
 module _ {C S P A R E : Type 0} (files : FileSystem.Ghosts S) (process : ProcessReadDir.Ghosts P C A R E) (clone : Clone.Ghosts R) (defaults : Default.Ghosts E) (n : ℕ) (old : DirEntryIter C S P A R E) (before : List (Result (DirEntry C A R E) (Error A))) where
   -- What was filled in so far: as many answers as are counted, n at most, each of a call of `next`.
@@ -113,7 +129,7 @@ module _ {C S P A R E : Type 0} (files : FileSystem.Ghosts S) (process : Process
     appended = ap (λ l. l ++ x ∷ []) sofar.appended ∙ append_assoc before sofar.answered (x ∷ []);
     number = rw sofar.number (sym (length-append sofar.answered (x ∷ [])));
     few = omega (arith, less);
-    calls = more_by (Answers files process clone defaults) sofar.answered old mid x new sofar.calls step;
+    calls = calls_on (Answers files process clone defaults) sofar.answered (x ∷ []) old mid new sofar.calls (new, step, refl);
   }
 
   -- all that were asked for
@@ -124,7 +140,7 @@ module _ {C S P A R E : Type 0} (files : FileSystem.Ghosts S) (process : Process
     number = (sofar.number, sofar.few);
     all = inl (omega (arith, no_more, sofar.few));
     fewer = tt;
-    calls = inl sofar.calls;
+    calls = inl (omega (arith, no_more, sofar.few), sofar.calls);
     job = same_job files process clone defaults sofar.answered old new sofar.calls;
     depths = within files process clone defaults sofar.answered old new sofar.calls;
     sourced = sourced files process clone defaults sofar.answered old new sofar.calls;
@@ -141,7 +157,7 @@ module _ {C S P A R E : Type 0} (files : FileSystem.Ghosts S) (process : Process
     number = tt;
     all = tt;
     fewer = omega (arith, less, sofar.number);
-    calls = inl sofar.calls;
+    calls = sofar.calls;
     job = same_job files process clone defaults sofar.answered old new sofar.calls;
     depths = within files process clone defaults sofar.answered old new sofar.calls;
     sourced = sourced files process clone defaults sofar.answered old new sofar.calls;
@@ -157,8 +173,8 @@ module _ {C S P A R E : Type 0} (files : FileSystem.Ghosts S) (process : Process
   ]
 
   -- the walk ended
-  pub fills_all : (filled : ℕ) (now : List (Result (DirEntry C A R E) (Error A))) (mid new : DirEntryIter C S P A R E) → Filled filled now mid → Answers files process clone defaults mid None new → Fills files process clone defaults n old before (Ok filled) now new
-  fills_all filled now mid new sofar last =
+  pub fills_all : (filled : ℕ) (now : List (Result (DirEntry C A R E) (Error A))) (mid new : DirEntryIter C S P A R E) → Filled filled now mid → filled < n → Answers files process clone defaults mid None new → Fills files process clone defaults n old before (Ok filled) now new
+  fills_all filled now mid new sofar less last =
       let same = same_job files process clone defaults sofar.answered old mid sofar.calls in
       record {
         answered = sofar.answered;
@@ -166,7 +182,7 @@ module _ {C S P A R E : Type 0} (files : FileSystem.Ghosts S) (process : Process
         number = (sofar.number, sofar.few);
         all = inr last.ended;
         fewer = tt;
-        calls = inr (mid, sofar.calls, last);
+        calls = inr (less, (mid, sofar.calls, last));
         job = last.job ∙ same;
         depths = λ h. let more = within files process clone defaults sofar.answered old mid sofar.calls h in (more.0, (last.depths more.1).1);
         sourced = λ h. last.sourced (sourced files process clone defaults sofar.answered old mid sofar.calls h);

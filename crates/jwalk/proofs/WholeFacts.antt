@@ -1,9 +1,11 @@
 -- What a walk answers from its beginning to its end.
-use Rattle.std.proofs.Common.{◌≡◌, ◌⊎◌, ◌∙◌, Bool, true, false, List, [], ◌∷◌, ◌++◌, map, append-nil, Result, Ok, Err, is_ok, inl, inr, refl, sym, ap, subst}
+use Rattle.std.proofs.Common.{◌≡◌, ◌<◌, ◌⊎◌, ◌∙◌, ℕ, ◌+◌, Bool, true, false, List, [], ◌∷◌, ◌++◌, map, length, append-nil, Result, Ok, Err, is_ok, inl, inr, refl, sym, ap, subst, arith}
+use lib.ListN.{length-append}
 use Rattle.std.specs.Iterator.{Drains}
 use Rattle.std.specs.List.{list_all}
 use Rattle.std.specs.declared.clone.Clone as Clone
 use Rattle.std.specs.declared.default.Default as Default
+use Rattle.walk_model.specs.FileSystem.{Functions}
 use Rattle.walk_model.specs.Error.{Failure, memory}
 use Rattle.walk_model.specs.Entry.{Item}
 use Rattle.walk_model.specs.Options.{Options}
@@ -14,7 +16,7 @@ use Rattle.walk_model.specs.Held as held_value
 use Rattle.walk_model.specs.Held.{pair_up}
 use Rattle.walk_model.specs.Job as value
 use Rattle.walk_model.specs.Job.{reading, root_list}
-use Rattle.walk_model.specs.Walk.{whole_walk}
+use Rattle.walk_model.specs.Walk.{whole_walk, stateless_walk}
 use Rattle.walk_model.proofs.HeldFacts.{alone}
 use Rattle.walk_fs.specs.declared.file_system.FileSystem as FileSystem
 use Rattle.jwalk_read.specs.declared.process_read_dir.ProcessReadDir as ProcessReadDir
@@ -22,13 +24,14 @@ use Rattle.jwalk_read.specs.declared.error.Error.{Error}
 use Rattle.jwalk_read.specs.declared.dir_entry.DirEntry.{DirEntry}
 use Rattle.jwalk_read.specs.Error.{failure}
 use Rattle.jwalk_read.specs.Entry.{item}
-use Rattle.jwalk_read.specs.Given.{Given, counted_item, counted_spec}
+use Rattle.jwalk_read.specs.Given.{Given, counted_item, counted_spec, counted_list}
 use Rattle.jwalk_read.specs.Job.{options_of, greatest_depth, job_by, IsSteady, IsSteadyJob}
 use Rattle.jwalk.specs.declared.dir_entry_iter.DirEntryIter.{DirEntryIter}
 use Rattle.jwalk.specs.declared.walk_dir.WalkDirGeneric.{WalkDirGeneric}
-use Rattle.jwalk.specs.DirEntryIter.{job_of, min_depth_of, items_of, unread_of, held_by, refusal, to_come, NoneRefused, IsRefused, Answers}
+use Rattle.jwalk.specs.DirEntryIter.{job_of, min_depth_of, items_of, unread_of, held, held_by, refusal, to_come, NoneRefused, IsRefused, Answers, Fills}
 use Rattle.jwalk.specs.WalkDir as builder
 use Rattle.jwalk.specs.WalkDir.{file_system_of, callback_of, root_of, state_of, job_for, Starts, Holds}
+use Rattle.jwalk.proofs.AnswerFacts.{held_by_nothing}
 use Rattle.jwalk.proofs.FillFacts.{same_job, come}
 
 module _ {C A R E : Type 0} where
@@ -44,6 +47,16 @@ module _ {C A R E : Type 0} where
   entries_tell [] all = tt
   entries_tell (Ok e ∷ xs) all = (λ is. cc, entries_tell xs all)
   entries_tell (Err f ∷ xs) all = let no : false ≡ true = all in cc
+
+  -- where none of two lists one behind the other tells of it, none of the second does
+  last_tell : (before xs : List (Result (DirEntry C A R E) (Error A))) → NoneRefused (before ++ xs) → NoneRefused xs
+  last_tell [] xs none = none
+  last_tell (b ∷ before) xs none = last_tell before xs none.1
+
+-- two lists one behind the other, as they count
+counted_append : {C A R E : Type 0} (given : Given R E) (before xs : List (Result (DirEntry C A R E) (Error A))) → counted_list given (before ++ xs) ≡ counted_list given before ++ counted_list given xs
+counted_append given [] xs = refl
+counted_append given (b ∷ before) xs = ap (λ l. counted_item given (item b) ∷ l) (counted_append given before xs)
 
 abbrev first_item : {R E : Type 0} → List (Pair R E) → Item R E
 first_item [] = Err memory
@@ -62,7 +75,7 @@ refused_by {R} {E} given false (Err f ∷ []) specs is =
 refused_by given false (Err f ∷ x ∷ items) specs is = absurd cc
 
 -- what counts as the one answer that tells of want of memory is that answer
-refusal_among : {C A R E : Type 0} (given : Given R E) (xs : List (Result (DirEntry C A R E) (Error A))) → map (counted_item given) (map item xs) ≡ Err memory ∷ [] → NoneRefused xs → ⊥
+refusal_among : {C A R E : Type 0} (given : Given R E) (xs : List (Result (DirEntry C A R E) (Error A))) → counted_list given xs ≡ Err memory ∷ [] → NoneRefused xs → ⊥
 refusal_among given [] is none = absurd cc
 refusal_among given (Ok e ∷ xs) is none = absurd cc
 refusal_among given (Err f ∷ xs) is none = let told : failure f ≡ memory = cc in none.0 (ap Err told)
@@ -75,7 +88,7 @@ module _ {C S P A R E : Type 0} (files : FileSystem.Ghosts S) (process : Process
       ∙ ap (answers (min_depth_of it)) (alone (reading (job_by files given (job_of it))) (greatest_depth (job_of it)) (Err memory) [] [] refl)
 
   -- calls up to `None` answer all that was to come, unless one of them tells of want of memory
-  pub all_answered : (xs : List (Result (DirEntry C A R E) (Error A))) (it : DirEntryIter C S P A R E) → IsSteadyJob files process clone defaults (job_of it) given → Drains (Answers files process clone defaults) it xs → NoneRefused xs → to_come files given it ≡ map (counted_item given) (map item xs)
+  pub all_answered : (xs : List (Result (DirEntry C A R E) (Error A))) (it : DirEntryIter C S P A R E) → IsSteadyJob files process clone defaults (job_of it) given → Drains (Answers files process clone defaults) it xs → NoneRefused xs → to_come files given it ≡ counted_list given xs
   all_answered xs it steady drains none =
       let last = drains.1.0 in
       let calls = drains.1.1 in
@@ -83,12 +96,13 @@ module _ {C S P A R E : Type 0} (files : FileSystem.Ghosts S) (process : Process
       let same = same_job files process clone defaults xs it last calls in
       let nothing_left : to_come files given last ≡ [] = ended.coming given (subst (λ k. IsSteadyJob files process clone defaults k given) (sym same) steady) in
       elim (come files process clone defaults given xs it last steady calls) [
-        | inl comes ↦ comes ∙ ap (λ l. map (counted_item given) (map item xs) ++ l) nothing_left ∙ append-nil (map (counted_item given) (map item xs))
+        | inl comes ↦ comes ∙ ap (λ l. counted_list given xs ++ l) nothing_left ∙ append-nil (counted_list given xs)
         | inr ends ↦ absurd (refusal_told xs ends.before ends.told none)
       ]
 
   -- where the root's list is held, the whole walk is to come
   pub comes_whole : (walk : WalkDirGeneric C S P A R E) (it : DirEntryIter C S P A R E) → Starts walk it → held_by given it ≡ paired (root_list (job_for files given walk) (root_of walk) (given.read_dir_state (state_of walk))) → to_come files given it ≡ whole_walk (job_for files given walk) (root_of walk) (given.read_dir_state (state_of walk))
+  unfolding whole_walk
   comes_whole walk it starts holds =
       let over : S → Options → value.Job Worth Worth = λ fs options. record { fs = files.functions fs; options = options; processed = given.processed; default = given.new_entry } in
       let coming : S → Options → List (Pair Worth Worth) → List (Item Worth Worth) = λ fs options held. held_value.to_come (reading (over fs options)) options.min_depth options.max_depth held in
@@ -96,13 +110,51 @@ module _ {C S P A R E : Type 0} (files : FileSystem.Ghosts S) (process : Process
       ∙ ap (λ options. coming (file_system_of walk) options (held_by given it)) starts.options
       ∙ ap (coming (file_system_of walk) (builder.options_of walk)) holds
 
-  -- A walk that was begun and asked up to `None`, where no answer tells of want of memory, answered the whole walk from its root.
-  pub whole : (walk : WalkDirGeneric C S P A R E) (it : DirEntryIter C S P A R E) (xs : List (Result (DirEntry C A R E) (Error A))) → Starts walk it → IsRefused it ⊎ Holds files process clone defaults walk it → IsSteady files process clone defaults (file_system_of walk) (callback_of walk) given → Drains (Answers files process clone defaults) it xs → NoneRefused xs
-      → map (counted_item given) (map item xs) ≡ whole_walk (job_for files given walk) (root_of walk) (given.read_dir_state (state_of walk))
-  whole walk it xs starts begun steady drains none =
-      let steady_here : IsSteadyJob files process clone defaults (job_of it) given = rw (starts.file_system, starts.callback) steady in
-      let came = all_answered xs it steady_here drains none in
+  -- A walk that was begun answered the whole walk from its root, where its answers are all that was to come, and none tells of want of memory.
+  answered_whole : (walk : WalkDirGeneric C S P A R E) (it : DirEntryIter C S P A R E) (xs : List (Result (DirEntry C A R E) (Error A))) → Starts walk it → IsRefused it ⊎ Holds files process clone defaults walk it → IsSteady files process clone defaults (file_system_of walk) (callback_of walk) given → NoneRefused xs → to_come files given it ≡ counted_list given xs
+      → counted_list given xs ≡ whole_walk (job_for files given walk) (root_of walk) (given.read_dir_state (state_of walk))
+  answered_whole walk it xs starts begun steady none came =
       elim begun [
         | inl refused ↦ absurd (refusal_among given xs (sym came ∙ to_come_refused it refused) none)
         | inr holds ↦ sym came ∙ comes_whole walk it starts (holds given steady)
       ]
+
+  steady_job : (walk : WalkDirGeneric C S P A R E) (it : DirEntryIter C S P A R E) → Starts walk it → IsSteady files process clone defaults (file_system_of walk) (callback_of walk) given → IsSteadyJob files process clone defaults (job_of it) given
+  steady_job walk it starts steady = rw (starts.file_system, starts.callback) steady
+
+  -- A walk that was begun and asked up to `None`, where no answer tells of want of memory, answered the whole walk from its root.
+  pub whole : (walk : WalkDirGeneric C S P A R E) (it : DirEntryIter C S P A R E) (xs : List (Result (DirEntry C A R E) (Error A))) → Starts walk it → IsRefused it ⊎ Holds files process clone defaults walk it → IsSteady files process clone defaults (file_system_of walk) (callback_of walk) given → Drains (Answers files process clone defaults) it xs → NoneRefused xs
+      → counted_list given xs ≡ whole_walk (job_for files given walk) (root_of walk) (given.read_dir_state (state_of walk))
+  whole walk it xs starts begun steady drains none =
+      answered_whole walk it xs starts begun steady none (all_answered xs it (steady_job walk it starts steady) drains none)
+
+  -- After a call of `fill` that was given room, with fewer answers in the vector than were asked for, all that was to come stands there, behind what the vector held before, unless one of them tells of want of memory.
+  pub all_filled : (n k : ℕ) (before after : List (Result (DirEntry C A R E) (Error A))) (it new : DirEntryIter C S P A R E) → IsSteadyJob files process clone defaults (job_of it) given → Fills files process clone defaults n it before (Ok k) after new → length after < n → NoneRefused after
+      → counted_list given after ≡ counted_list given before ++ to_come files given it
+  all_filled n k before after it new steady fills fewer none =
+      let among : length after ≡ length before + length fills.answered = ap length fills.appended ∙ length-append before fills.answered in
+      let ended : held new ≡ [] = elim fills.all [ inl all ↦ absurd (omega (arith, all, among, fewer, fills.number.0)) | inr over ↦ over ] in
+      let coming : List (Pair Worth Worth) → List (Item Worth Worth) = held_value.to_come (reading (job_by files given (job_of new))) (min_depth_of new) (greatest_depth (job_of new)) in
+      let nothing_left : to_come files given new ≡ [] = ap coming (held_by_nothing given new ended) in
+      let came : to_come files given it ≡ counted_list given fills.answered = elim (fills.coming given steady) [
+        | inl comes ↦ comes ∙ ap (λ l. counted_list given fills.answered ++ l) nothing_left ∙ append-nil (counted_list given fills.answered)
+        | inr ends ↦ absurd (refusal_told fills.answered ends.before ends.told (last_tell before fills.answered (subst NoneRefused fills.appended none)))
+      ] in
+      ap (counted_list given) fills.appended
+      ∙ counted_append given before fills.answered
+      ∙ ap (λ l. counted_list given before ++ l) (sym came)
+
+  -- A walk that was begun and filled into an empty vector, which holds fewer answers than were asked for then, answered the whole walk from its root, unless one of them tells of want of memory.
+  pub whole_filled : (walk : WalkDirGeneric C S P A R E) (it new : DirEntryIter C S P A R E) (n k : ℕ) (before xs : List (Result (DirEntry C A R E) (Error A))) → Starts walk it → IsRefused it ⊎ Holds files process clone defaults walk it → IsSteady files process clone defaults (file_system_of walk) (callback_of walk) given → Fills files process clone defaults n it before (Ok k) xs new → before ≡ [] → length xs < n → NoneRefused xs
+      → counted_list given xs ≡ whole_walk (job_for files given walk) (root_of walk) (given.read_dir_state (state_of walk))
+  whole_filled walk it new n k before xs starts begun steady fills empty fewer none =
+      let filled = all_filled n k before xs it new (steady_job walk it starts steady) fills fewer none in
+      answered_whole walk it xs starts begun steady none (sym (filled ∙ ap (λ l. counted_list given l ++ to_come files given it) empty))
+
+-- what a walk with no callback answers is said by the file system, the options and the root that its builder was given
+pub stateless_of : {C S P A R E : Type 0} (functions : S → Functions) (walk : WalkDirGeneric C S P A R E) (fs : S) (options : Options) (root : List ℕ) → file_system_of walk ≡ fs → builder.options_of walk ≡ options → root_of walk ≡ root
+    → stateless_walk (functions (file_system_of walk)) (builder.options_of walk) (root_of walk) ≡ stateless_walk (functions fs) options root
+stateless_of functions walk fs options root fs_is options_are root_is =
+    ap (λ f. stateless_walk (functions f) (builder.options_of walk) (root_of walk)) fs_is
+    ∙ ap (λ o. stateless_walk (functions fs) o (root_of walk)) options_are
+    ∙ ap (stateless_walk (functions fs) options) root_is

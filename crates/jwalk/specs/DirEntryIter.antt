@@ -1,5 +1,5 @@
 -- What a walk holds, and what one of its answers does.
-use Rattle.std.specs.Prelude.{◌≡◌, ◌≢◌, ◌≤◌, ◌<◌, ◌+◌, ◌-◌, ◌^◌, ◌⊎◌, ℕ, min, Bool, true, false, List, [], ◌∷◌, ◌++◌, length, map, reverse, Option, Some, None, IfSome, IfNone, IfOk, IfErr, IsSomeAnd, MatchBool, option_map, Result, Err}
+use Rattle.std.specs.Prelude.{◌≡◌, ◌≢◌, ◌≤◌, ◌<◌, ◌+◌, ◌-◌, ◌^◌, ◌⊎◌, ℕ, min, Bool, true, false, List, [], ◌∷◌, ◌++◌, length, map, reverse, Option, Some, None, IfSome, IfNone, IfOk, IfErr, IsSomeAnd, MatchBool, option_map, Result, Ok, Err}
 use Rattle.std.specs.declared.clone.Clone as Clone
 use Rattle.std.specs.declared.default.Default as Default
 use Rattle.std.specs.declared.alloc.AllocError.{AllocError}
@@ -128,6 +128,11 @@ module _ {C S P A R E : Type 0} (files : FileSystem.Ghosts S) (process : Process
     pub reads : ReadsItems old (option_map item answer) new
     pub coming : (given : Given R E) → IsSteadyJob files process clone defaults (job_of old) given → AnswersFirst files given old (option_map item answer) new
 
+  -- calls of `next` answered these, all n that were asked for, or fewer and the next call answered `None`; or room was refused for one more
+  abbrev pub FillCalls : ℕ → DirEntryIter C S P A R E → List (Result (DirEntry C A R E) (Error A)) → Result ℕ AllocError → DirEntryIter C S P A R E → Type 0
+  FillCalls n old answered (Ok told) new = ((told ≡ n) × Yields Answers old answered new) ⊎ ((told < n) × YieldsThen Answers old answered None new)
+  FillCalls n old answered (Err error) new = Yields Answers old answered new
+
   -- A call of `fill` for n answers: it appends what calls of `next` answered. Their number is told, and it is n, or nothing is held any more; or room for one more was refused. Each of them makes the walk lighter.
   pub record Fills (n : ℕ) (old : DirEntryIter C S P A R E) (before : List (Result (DirEntry C A R E) (Error A))) (told : Result ℕ AllocError) (after : List (Result (DirEntry C A R E) (Error A))) (new : DirEntryIter C S P A R E) : Type 0 where
     pub answered : List (Result (DirEntry C A R E) (Error A))
@@ -135,7 +140,7 @@ module _ {C S P A R E : Type 0} (files : FileSystem.Ghosts S) (process : Process
     pub number : IfOk told (λ k. (k ≡ length answered) × (k ≤ n))
     pub all : IfOk told (λ k. (k ≡ n) ⊎ (held new ≡ []))
     pub fewer : IfErr told (λ _. length answered < n)
-    pub calls : Yields Answers old answered new ⊎ YieldsThen Answers old answered None new
+    pub calls : FillCalls n old answered told new
     pub job : job_of new ≡ job_of old
     pub depths : IsWithin old → AllBetween (min_depth_of old) (greatest_depth (job_of old)) (map item answered) × IsWithin new
     pub sourced : IsSourced old → IsSourced new

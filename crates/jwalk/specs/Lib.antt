@@ -2,3 +2,8 @@ pub mod ReadDirIter
 pub mod Step
 pub mod DirEntryIter
 pub mod WalkDir
+-- what callers cite of the crates below, each under its crate's name
+pub use Rattle.walk_model.specs as walk_model
+pub use Rattle.walk_fs.specs as walk_fs
+pub use Rattle.memory_fs.specs as memory_fs
+pub use Rattle.jwalk_read.specs as jwalk_read

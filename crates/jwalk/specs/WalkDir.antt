@@ -6,7 +6,7 @@ use Rattle.walk_model.specs.Options as value
 use Rattle.walk_model.specs.Options.{Options}
 use Rattle.walk_model.specs.Entry.{AtDepth}
 use Rattle.walk_model.specs.Listing.{paired}
-use Rattle.walk_model.specs.Counted.{Worth}
+use Rattle.walk_model.specs.Counted.{Worth, blank}
 use Rattle.walk_model.specs.Job.{Job, root_list}
 use Rattle.walk_fs.specs.declared.file_system.FileSystem as FileSystem
 use Rattle.jwalk_read.specs.declared.process_read_dir.ProcessReadDir as ProcessReadDir
@@ -23,6 +23,16 @@ use Rattle.jwalk.specs.declared.dir_entry_iter.DirEntryIter.{DirEntryIter}
 -- how directories are read, as a value
 abbrev pub parallelism_value : Parallelism → value.Parallelism
 parallelism_value Serial = value.serial
+
+-- no callback, and states that count as nothing
+abbrev pub stateless : {R E : Type 0} → Given R E
+stateless = record {
+  read_dir_state = λ _. blank;
+  dir_entry_state = λ _. blank;
+  processed = λ depth path state list. record { state = state; list = list };
+  keeps_depths = λ depth path state list h. h;
+  new_entry = blank;
+}
 
 module _ {C S P A R E : Type 0} where
   abbrev pub file_system_of : WalkDirGeneric C S P A R E → S

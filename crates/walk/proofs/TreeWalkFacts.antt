@@ -1,36 +1,12 @@
--- The answers of the walk that is asked for.
-use Rattle.std.proofs.Common.{◌≡◌, ◌++◌, ◌∙◌, ℕ, List, [], ◌∷◌, map, Some, None, Result, Ok, Err, is_ok, ap, refl, codes, decimal}
-use Rattle.std.specs.Prelude.{option_map}
+-- The lines of answers and whether they are entries, whatever their states count as.
+use Rattle.std.proofs.Common.{◌≡◌, ◌++◌, ◌∙◌, List, [], ◌∷◌, map, Some, None, Result, Ok, Err, is_ok, ap, refl}
 use Rattle.std.specs.List.{list_all}
-use Rattle.walk_model.specs.FileSystem.{Functions}
-use Rattle.walk_model.specs.Entry.{Entry, Item}
-use Rattle.walk_model.specs.Options.{Options}
-use Rattle.walk_model.specs.Counted.{Worth, blank, children_by}
-use Rattle.walk_model.specs.Walk.{whole_walk}
+use Rattle.walk_model.specs.Entry.{Item}
 use Rattle.walk_model.specs.Lines.{line_of, lines_of}
 use Rattle.jwalk_read.specs.declared.dir_entry.DirEntry.{DirEntry}
 use Rattle.jwalk_read.specs.declared.error.Error.{Error}
 use Rattle.jwalk_read.specs.Entry.{item}
 use Rattle.jwalk_read.specs.Given.{Given, counted_item}
-use Rattle.walk.specs.TreeWalk.{job_at}
-
--- states that count as nothing, with no callback
-abbrev pub silent : {R E : Type 0} → Given R E
-silent = record {
-  read_dir_state = λ _. blank;
-  dir_entry_state = λ _. blank;
-  processed = λ depth path state list. record { state = state; list = list };
-  keeps_depths = λ depth path state list h. h;
-  new_entry = blank;
-}
-
--- a whole walk, where file system, options and root are the same
-pub same_walk : (items : List (Item Worth Worth)) (fs fs' : Functions) (options options' : Options) (root root' : List ℕ) → fs ≡ fs' → options ≡ options' → root ≡ root' → items ≡ whole_walk (job_at fs options) root blank → items ≡ whole_walk (job_at fs' options') root' blank
-same_walk items fs fs' options options' root root' p q r is =
-    is
-    ∙ ap (λ x. whole_walk (job_at x options) root blank) p
-    ∙ ap (λ x. whole_walk (job_at fs' x) root blank) q
-    ∙ ap (λ x. whole_walk (job_at fs' options') x blank) r
 
 module _ {R E : Type 0} (given : Given R E) where
   -- a line doesn't tell states

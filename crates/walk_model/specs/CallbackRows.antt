@@ -10,7 +10,11 @@ use Rattle.walk_model.specs.Job.{Job, root_list}
 use Rattle.walk_model.specs.Listing.{below}
 use Rattle.walk_model.specs.Lines.{line_of}
 use Rattle.walk_model.specs.Walk.{whole_walk}
-use Rattle.walk_model.specs.WalkRows.{Nothing, tree_by, tree_a, sorted}
+use Rattle.walk_model.specs.WalkRows.{tree_by, tree_a, sorted}
+
+-- states that say nothing
+abbrev Nothing : Type 0
+Nothing = Unit {0}
 
 -- what a callback makes of a list
 abbrev Callback : Type 0 → Type 0 → Type 0
@@ -65,7 +69,7 @@ moves depth path state list =
 directory_moved : map line_of (whole_walk (job moves tt tree_a sorted) (codes "/t") tt)
     ≡ codes "0 d /t\n" ∷ codes "1 f /t/a.txt\n" ∷ codes "1 f /t/b.txt\n" ∷ codes "1 f /t/c.txt\n" ∷ codes "2 f /t/group 1/d.txt\n"
     ∷ codes "1 d /t/group 1\n" ∷ codes "1 d /t/group 2\n" ∷ codes "2 f /t/group 2/e.txt\n" ∷ []
-unfolding below digits
+unfolding whole_walk below digits
 directory_moved = refl
 
 -- States that are texts, or nothing: only directories stay; an entry is given its list's state, and its own name for its directory.
@@ -83,7 +87,7 @@ hands_on_names depth path state list = record { state = state; list = map (on_en
 
 names_handed_on : flat_map state_at (whole_walk (job hands_on_names None tree_a sorted) (codes "/t") None)
     ≡ (codes "/t", None) ∷ (codes "/t/group 1", Some (codes "t")) ∷ (codes "/t/group 2", Some (codes "t")) ∷ []
-unfolding below
+unfolding whole_walk below
 names_handed_on = refl
 
 -- A count of lists, and a mark on the first entry of each: entries that aren't hidden stay, by name, and nothing is read below depth 2.
@@ -107,7 +111,7 @@ extended_job steps = job extended false steps defaults
 first_entries_marked : flat_map state_at (whole_walk (extended_job tree_a) (codes "/t") 0)
     ≡ (codes "/t", true) ∷ (codes "/t/a.txt", true) ∷ (codes "/t/b.txt", false) ∷ (codes "/t/c.txt", false) ∷ (codes "/t/group 1", false)
     ∷ (codes "/t/group 1/d.txt", true) ∷ (codes "/t/group 2", false) ∷ (codes "/t/group 2/e.txt", true) ∷ []
-unfolding below
+unfolding whole_walk below
 first_entries_marked = refl
 
 -- a directory is read with the state that its list was left with
@@ -116,7 +120,7 @@ counted_on = refl
 
 nothing_below_depth_two : map line_of (whole_walk (extended_job (d (codes "/t") ∷ d (codes "/t/a") ∷ d (codes "/t/a/b") ∷ f 1 (codes "/t/a/b/c") ∷ [])) (codes "/t") 0)
     ≡ codes "0 d /t\n" ∷ codes "1 d /t/a\n" ∷ codes "2 d /t/a/b\n" ∷ []
-unfolding below digits
+unfolding whole_walk below digits
 nothing_below_depth_two = refl
 
 -- directories that aren't read, and directories that aren't answered
@@ -131,12 +135,12 @@ drops_groups = by_items (filter (is_entry_with (λ e. not (is_group e))))
 
 groups_cleared : map line_of (whole_walk (job clears_groups tt tree_a sorted) (codes "/t") tt)
     ≡ codes "0 d /t\n" ∷ codes "1 f /t/a.txt\n" ∷ codes "1 f /t/b.txt\n" ∷ codes "1 f /t/c.txt\n" ∷ codes "1 d /t/group 1\n" ∷ codes "1 d /t/group 2\n" ∷ []
-unfolding below digits
+unfolding whole_walk below digits
 groups_cleared = refl
 
 groups_dropped : map line_of (whole_walk (job drops_groups tt tree_a sorted) (codes "/t") tt)
     ≡ codes "0 d /t\n" ∷ codes "1 f /t/a.txt\n" ∷ codes "1 f /t/b.txt\n" ∷ codes "1 f /t/c.txt\n" ∷ []
-unfolding below digits
+unfolding whole_walk below digits
 groups_dropped = refl
 
 -- What a callback is given: the state gathers the depths and paths of the lists above an entry, the nearest last.
@@ -155,7 +159,7 @@ below_nothing = (None, codes "/") ∷ []
 calls_for_entries : flat_map state_at (whole_walk (job gathers [] (d (codes "/t") ∷ d (codes "/t/a") ∷ f 1 (codes "/t/a/b") ∷ []) defaults) (codes "/t") [])
     ≡ (codes "/t", below_nothing) ∷ (codes "/t/a", below_nothing ++ (Some 0, codes "/t") ∷ [])
     ∷ (codes "/t/a/b", below_nothing ++ (Some 0, codes "/t") ∷ (Some 1, codes "/t/a") ∷ []) ∷ []
-unfolding below
+unfolding whole_walk below
 calls_for_entries = refl
 
 -- a root that can't be looked up has no parent, a broken link has one

@@ -12,26 +12,13 @@ use Rattle.walk_model.specs.Error.{Failure, io}
 use Rattle.walk_model.specs.Entry.{Children, Item}
 use Rattle.walk_model.specs.Lines.{line_of}
 use Rattle.walk_model.specs.Options.{Options, batches, defaults, with_sort, with_skip_hidden, with_follow_links, with_min_depth, with_max_depth, with_parallelism}
-use Rattle.walk_model.specs.Job.{Job}
+use Rattle.walk_model.specs.Counted.{Worth}
 use Rattle.walk_model.specs.Listing.{below}
-use Rattle.walk_model.specs.Walk.{whole_walk}
-
--- states that say nothing
-abbrev pub Nothing : Type 0
-Nothing = Unit {0}
-
--- readings over this file system, with no callback
-abbrev job : Functions → Options → Job Nothing Nothing
-job fs options = record {
-  fs = fs;
-  options = options;
-  processed = λ depth path state list. record { state = state; list = list };
-  default = tt;
-}
+use Rattle.walk_model.specs.Walk.{whole_walk, stateless_walk}
 
 -- the lines of what a walk from this root answers
 abbrev walked : Functions → Options → List ℕ → List (List ℕ)
-walked fs o root = map line_of (whole_walk (job fs o) root tt)
+walked fs o root = map line_of (stateless_walk fs o root)
 
 -- the file system of the tree that these steps build
 abbrev pub tree_by : List Step → Functions
@@ -49,7 +36,7 @@ following = with_follow_links true defaults
 -- the stored run of the program
 first_run : over (d (codes "/r") ∷ f 3 (codes "/r/b") ∷ d (codes "/r/s") ∷ f 1 (codes "/r/s/x") ∷ f 2 (codes "/r/a") ∷ []) defaults (codes "/r")
     ≡ codes "0 d /r\n" ∷ codes "1 f /r/b\n" ∷ codes "1 d /r/s\n" ∷ codes "2 f /r/s/x\n" ∷ codes "1 f /r/a\n" ∷ []
-unfolding below digits
+unfolding whole_walk below digits
 first_run = refl
 
 abbrev pub tree_a : List Step
@@ -65,60 +52,60 @@ denied = tree_a ++ x (codes "/t/group 2") ∷ []
 by_name : over tree_a sorted (codes "/t")
     ≡ codes "0 d /t\n" ∷ codes "1 f /t/a.txt\n" ∷ codes "1 f /t/b.txt\n" ∷ codes "1 f /t/c.txt\n" ∷ codes "1 d /t/group 1\n"
     ∷ codes "2 f /t/group 1/d.txt\n" ∷ codes "1 d /t/group 2\n" ∷ codes "2 f /t/group 2/e.txt\n" ∷ []
-unfolding below digits
+unfolding whole_walk below digits
 by_name = refl
 
 in_order_of_creation : over tree_a defaults (codes "/t")
     ≡ codes "0 d /t\n" ∷ codes "1 f /t/c.txt\n" ∷ codes "1 f /t/a.txt\n" ∷ codes "1 d /t/group 2\n" ∷ codes "2 f /t/group 2/e.txt\n"
     ∷ codes "1 d /t/group 1\n" ∷ codes "2 f /t/group 1/d.txt\n" ∷ codes "1 f /t/b.txt\n" ∷ []
-unfolding below digits
+unfolding whole_walk below digits
 in_order_of_creation = refl
 
 hidden_shown : over tree_a (with_skip_hidden false sorted) (codes "/t")
     ≡ codes "0 d /t\n" ∷ codes "1 f /t/a.txt\n" ∷ codes "1 f /t/b.txt\n" ∷ codes "1 f /t/c.txt\n" ∷ codes "1 d /t/group 1\n"
     ∷ codes "2 f /t/group 1/d.txt\n" ∷ codes "1 d /t/group 2\n" ∷ codes "2 f /t/group 2/.hidden_file.txt\n" ∷ codes "2 f /t/group 2/e.txt\n" ∷ []
-unfolding below digits
+unfolding whole_walk below digits
 hidden_shown = refl
 
 missing_root : over tree_a defaults (codes "/none") ≡ codes "! 0 /none NotFound\n" ∷ []
-unfolding below digits
+unfolding whole_walk below digits
 missing_root = refl
 
 file_root : over tree_a defaults (codes "/t/a.txt") ≡ codes "0 f /t/a.txt\n" ∷ []
-unfolding below digits
+unfolding whole_walk below digits
 file_root = refl
 
 empty_directory : over (d (codes "/e") ∷ []) defaults (codes "/e") ≡ codes "0 d /e\n" ∷ []
-unfolding below digits
+unfolding whole_walk below digits
 empty_directory = refl
 
 root_alone : over tree_a (with_max_depth 0 defaults) (codes "/t") ≡ codes "0 d /t\n" ∷ []
-unfolding below digits
+unfolding whole_walk below digits
 root_alone = refl
 
 failed_directory : over denied sorted (codes "/t")
     ≡ codes "0 d /t\n" ∷ codes "1 f /t/a.txt\n" ∷ codes "1 f /t/b.txt\n" ∷ codes "1 f /t/c.txt\n" ∷ codes "1 d /t/group 1\n"
     ∷ codes "2 f /t/group 1/d.txt\n" ∷ codes "1 d /t/group 2 ! PermissionDenied\n" ∷ []
-unfolding below digits
+unfolding whole_walk below digits
 failed_directory = refl
 
 -- the errors that entries hold of their directories' readings
-abbrev inner_error : Item Nothing Nothing → List Failure
-inner_error (Ok e) = option_to_list (option_and_then (λ (c : Children Nothing). c.error) e.read_children)
+abbrev inner_error : Item Worth Worth → List Failure
+inner_error (Ok e) = option_to_list (option_and_then (λ (c : Children Worth). c.error) e.read_children)
 inner_error (Err failure) = []
 
-error_of_a_failed_directory : flat_map inner_error (whole_walk (job (tree_by denied) sorted) (codes "/t") tt)
+error_of_a_failed_directory : flat_map inner_error (stateless_walk (tree_by denied) sorted (codes "/t"))
     ≡ io 1 (Some (codes "/t/group 2")) kind.PermissionDenied ∷ []
-unfolding below
+unfolding whole_walk below
 error_of_a_failed_directory = refl
 
 not_read_at_the_greatest_depth : over denied (with_max_depth 1 sorted) (codes "/t")
     ≡ codes "0 d /t\n" ∷ codes "1 f /t/a.txt\n" ∷ codes "1 f /t/b.txt\n" ∷ codes "1 f /t/c.txt\n" ∷ codes "1 d /t/group 1\n" ∷ codes "1 d /t/group 2\n" ∷ []
-unfolding below digits
+unfolding whole_walk below digits
 not_read_at_the_greatest_depth = refl
 
 from_depth_two : over denied (with_min_depth 2 sorted) (codes "/t") ≡ codes "2 f /t/group 1/d.txt\n" ∷ []
-unfolding below digits
+unfolding whole_walk below digits
 from_depth_two = refl
 
 -- The option set later gives way. A walk that reads one directory at most is serial, unless its parallelism is set after that.
@@ -135,12 +122,12 @@ batches_at_depth_one : with_parallelism (batches 3) (with_max_depth 1 sorted) �
 batches_at_depth_one = refl
 
 raised_greatest_depth : over tree_a (with_max_depth 2 (with_min_depth 5 sorted)) (codes "/t") ≡ []
-unfolding below digits
+unfolding whole_walk below digits
 raised_greatest_depth = refl
 
 lowered_least_depth : over tree_a (with_min_depth 5 (with_max_depth 2 sorted)) (codes "/t")
     ≡ codes "2 f /t/group 1/d.txt\n" ∷ codes "2 f /t/group 2/e.txt\n" ∷ []
-unfolding below digits
+unfolding whole_walk below digits
 lowered_least_depth = refl
 
 abbrev deep : List ℕ → List Step
@@ -148,118 +135,118 @@ deep target = d (codes "/r") ∷ d (codes "/r/a") ∷ d (codes "/r/a/b") ∷ d (
 
 link_not_followed : over (deep (codes "/r/a")) defaults (codes "/r")
     ≡ codes "0 d /r\n" ∷ codes "1 d /r/a\n" ∷ codes "2 d /r/a/b\n" ∷ codes "3 d /r/a/b/c\n" ∷ codes "4 L /r/a/b/c/a-link\n" ∷ []
-unfolding below digits
+unfolding whole_walk below digits
 link_not_followed = refl
 
 loop_found : over (deep (codes "/r/a")) following (codes "/r")
     ≡ codes "0 d /r\n" ∷ codes "1 d /r/a\n" ∷ codes "2 d /r/a/b\n" ∷ codes "3 d /r/a/b/c\n" ∷ codes "! 4 /r/a/b/c/a-link loop /r/a\n" ∷ []
-unfolding below digits
+unfolding whole_walk below digits
 loop_found = refl
 
 relative_target_missed : over (deep (codes "../..")) (with_max_depth 6 following) (codes "/r")
     ≡ codes "0 d /r\n" ∷ codes "1 d /r/a\n" ∷ codes "2 d /r/a/b\n" ∷ codes "3 d /r/a/b/c\n" ∷ codes "4 D /r/a/b/c/a-link\n"
     ∷ codes "5 d /r/a/b/c/a-link/b\n" ∷ codes "6 d /r/a/b/c/a-link/b/c\n" ∷ []
-unfolding below digits
+unfolding whole_walk below digits
 relative_target_missed = refl
 
 abbrev circle : List Step
 circle = d (codes "/r") ∷ l (codes "a") (codes "/r/a") ∷ []
 
 circle_followed : over circle following (codes "/r") ≡ codes "0 d /r\n" ∷ codes "! 1 /r/a Other\n" ∷ []
-unfolding below digits
+unfolding whole_walk below digits
 circle_followed = refl
 
 circle_not_followed : over circle defaults (codes "/r") ≡ codes "0 d /r\n" ∷ codes "1 L /r/a\n" ∷ []
-unfolding below digits
+unfolding whole_walk below digits
 circle_not_followed = refl
 
 abbrev with_link : List Step
 with_link = d (codes "/r") ∷ d (codes "/r/a") ∷ f 0 (codes "/r/a/zzz") ∷ l (codes "a") (codes "/r/a-link") ∷ []
 
 root_link_entered : over with_link defaults (codes "/r/a-link") ≡ codes "0 L /r/a-link\n" ∷ codes "1 f /r/a-link/zzz\n" ∷ []
-unfolding below digits
+unfolding whole_walk below digits
 root_link_entered = refl
 
 root_link_followed : over with_link following (codes "/r/a-link") ≡ codes "0 D /r/a-link\n" ∷ codes "1 f /r/a-link/zzz\n" ∷ []
-unfolding below digits
+unfolding whole_walk below digits
 root_link_followed = refl
 
 link_followed : over with_link following (codes "/r")
     ≡ codes "0 d /r\n" ∷ codes "1 d /r/a\n" ∷ codes "2 f /r/a/zzz\n" ∷ codes "1 D /r/a-link\n" ∷ codes "2 f /r/a-link/zzz\n" ∷ []
-unfolding below digits
+unfolding whole_walk below digits
 link_followed = refl
 
 broken_root_link : over (l (codes "/nowhere") (codes "/x") ∷ []) defaults (codes "/x") ≡ codes "! 0 /x NotFound\n" ∷ []
-unfolding below digits
+unfolding whole_walk below digits
 broken_root_link = refl
 
 -- a broken root link is reported by its entry's own path, a missing root as it was given
 broken_root_link_with_slash : over (l (codes "/nowhere") (codes "/x") ∷ []) defaults (codes "/x/") ≡ codes "! 0 /x NotFound\n" ∷ []
-unfolding below digits
+unfolding whole_walk below digits
 broken_root_link_with_slash = refl
 
 missing_root_with_slash : over [] defaults (codes "/x/") ≡ codes "! 0 /x/ NotFound\n" ∷ []
-unfolding below digits
+unfolding whole_walk below digits
 missing_root_with_slash = refl
 
 empty_root : over [] defaults [] ≡ codes "! 0  NotFound\n" ∷ []
-unfolding below digits
+unfolding whole_walk below digits
 empty_root = refl
 
 abbrev one_directory : List ℕ → List (List ℕ)
 one_directory = over (d (codes "/r") ∷ []) (with_max_depth 1 defaults)
 
 root_dot : one_directory (codes ".") ≡ codes "0 d .\n" ∷ codes "1 d ./r\n" ∷ []
-unfolding below digits
+unfolding whole_walk below digits
 root_dot = refl
 
 root_dots : one_directory (codes "..") ≡ codes "0 d ..\n" ∷ codes "1 d ../r\n" ∷ []
-unfolding below digits
+unfolding whole_walk below digits
 root_dots = refl
 
 root_dots_dots : one_directory (codes "../..") ≡ codes "0 d ../..\n" ∷ codes "1 d ../../r\n" ∷ []
-unfolding below digits
+unfolding whole_walk below digits
 root_dots_dots = refl
 
 root_slash : one_directory (codes "/") ≡ codes "0 d /\n" ∷ codes "1 d /r\n" ∷ []
-unfolding below digits
+unfolding whole_walk below digits
 root_slash = refl
 
 -- the parents of the entries that are answered
-abbrev parent_in : Item Nothing Nothing → List (List ℕ)
+abbrev parent_in : Item Worth Worth → List (List ℕ)
 parent_in (Ok e) = e.parent_path ∷ []
 parent_in (Err failure) = []
 
 abbrev parents_of_one_directory : List ℕ → List (List ℕ)
-parents_of_one_directory root = flat_map parent_in (whole_walk (job (tree_by (d (codes "/r") ∷ [])) (with_max_depth 1 defaults)) root tt)
+parents_of_one_directory root = flat_map parent_in (stateless_walk (tree_by (d (codes "/r") ∷ [])) (with_max_depth 1 defaults) root)
 
 root_dot_has_no_parent : parents_of_one_directory (codes ".") ≡ [] ∷ codes "." ∷ []
-unfolding below
+unfolding whole_walk below
 root_dot_has_no_parent = refl
 
 root_dots_has_no_parent : parents_of_one_directory (codes "..") ≡ [] ∷ codes ".." ∷ []
-unfolding below
+unfolding whole_walk below
 root_dots_has_no_parent = refl
 
 root_dots_dots_has_no_parent : parents_of_one_directory (codes "../..") ≡ [] ∷ codes "../.." ∷ []
-unfolding below
+unfolding whole_walk below
 root_dots_dots_has_no_parent = refl
 
 root_slash_has_no_parent : parents_of_one_directory (codes "/") ≡ [] ∷ codes "/" ∷ []
-unfolding below
+unfolding whole_walk below
 root_slash_has_no_parent = refl
 
 abbrev itself : List Step
 itself = d (codes "/r") ∷ l (codes ".") (codes "/r/l") ∷ []
 
 link_to_itself : over itself (with_max_depth 3 following) (codes "/r") ≡ codes "0 d /r\n" ∷ codes "1 D /r/l\n" ∷ codes "2 D /r/l/l\n" ∷ codes "3 D /r/l/l/l\n" ∷ []
-unfolding below digits
+unfolding whole_walk below digits
 link_to_itself = refl
 
 -- what is below a followed directory, and a link to a file, under a root that ends in a dot
 dot_root_followed : over (d (codes "/r") ∷ f 1 (codes "/r/x") ∷ l (codes "x") (codes "/r/l") ∷ []) following (codes "/r/.")
     ≡ codes "0 d /r\n" ∷ codes "1 f /r/./x\n" ∷ codes "1 F /r/l\n" ∷ []
-unfolding below digits
+unfolding whole_walk below digits
 dot_root_followed = refl
 
 -- a listing with a type that failed, an item that failed, and two files
@@ -278,12 +265,12 @@ faulty = record {
 
 errors_last : walked faulty sorted (codes "/d")
     ≡ codes "0 d /d\n" ∷ codes "1 f /d/a\n" ∷ codes "1 f /d/b\n" ∷ codes "! 1 /d/.x PermissionDenied\n" ∷ codes "! 1 - InvalidData\n" ∷ []
-unfolding below digits
+unfolding whole_walk below digits
 errors_last = refl
 
 errors_at_any_depth : walked faulty (with_max_depth 5 (with_min_depth 5 sorted)) (codes "/d")
     ≡ codes "! 1 /d/.x PermissionDenied\n" ∷ codes "! 1 - InvalidData\n" ∷ []
-unfolding below digits
+unfolding whole_walk below digits
 errors_at_any_depth = refl
 
 abbrev repeated : ℕ → List ℕ
@@ -297,9 +284,9 @@ last_line (line ∷ next ∷ lines) = last_line (next ∷ lines)
 
 -- one look-up follows 40 links: 41 entries, and one error whose path has 41 of them
 link_to_itself_unbounded : length (over itself following (codes "/r")) ≡ 42
-unfolding below digits
+unfolding whole_walk below digits
 link_to_itself_unbounded = refl
 
 link_past_the_limit : last_line (over itself following (codes "/r")) ≡ codes "! 41 " ++ repeated 41 ++ codes " Other\n"
-unfolding below digits
+unfolding whole_walk below digits
 link_past_the_limit = refl

@@ -5,23 +5,21 @@ use Rattle.walk_model.specs.Tree.{functions_of}
 use Rattle.walk_model.specs.Lines.{lines_of}
 use Rattle.memory_fs.specs.MemoryFs.{tree_of}
 use Rattle.jwalk_read.specs.Entry.{item}
-use Rattle.jwalk_read.specs.Given.{counted_item}
-use Rattle.jwalk.specs.WalkDir.{file_system_of, options_of, root_of}
-use Rattle.jwalk.proofs.WholeFacts.{whole, entries_tell}
+use Rattle.jwalk.specs.WalkDir.{stateless}
+use Rattle.jwalk.proofs.WholeFacts.{whole, entries_tell, stateless_of}
 use Rattle.walk_text.specs.Asked.{options_for}
-use Rattle.walk.proofs.TreeWalkFacts.{silent, all_entries, same_walk, same_lines}
+use Rattle.walk.proofs.TreeWalkFacts.{all_entries, same_lines}
 use Rattle.walk.proofs.tree_walk.print_tree.Goals as goal
 
 pub returns-clause-printed : goal.returns-clause-printed
 returns-clause-printed g c = λ clean.
-    let fs = c.args.fs in
     let walk = c.walk_of.result in
     let all = c.print_answers.ensures.printed clean in
     let begun = c.into_iter-walk.ensures in
-    let listed = whole _ _ _ _ silent walk c.into_iter-walk.result all.0 begun.starts begun.holds (record { file_system = tt; callback = λ depth path state list. refl; clones = λ x y is. refl; default = λ x is. refl }) all.1 (entries_tell all.0 (sym all.2)) in
-    let items = map (counted_item silent) (map item all.0) in
-    let asked = same_walk items (functions_of (tree_of (file_system_of walk))) (functions_of (tree_of fs)) (options_of walk) (options_for c.args.asked) (root_of walk) (string_bytes c.args.root) (ap (λ f. functions_of (tree_of f)) c.walk_of.ensures.file_system) c.walk_of.ensures.options c.walk_of.ensures.root listed in
+    let listed = whole _ _ _ _ stateless walk c.into_iter-walk.result all.0 begun.starts begun.holds (record { file_system = tt; callback = λ depth path state list. refl; clones = λ x y is. refl; default = λ x is. refl }) all.1 (entries_tell all.0 (sym all.2)) in
+    let built = c.walk_of.ensures in
+    let asked = listed ∙ stateless_of (λ f. functions_of (tree_of f)) walk c.args.fs (options_for c.args.asked) (string_bytes c.args.root) built.file_system built.options built.root in
     record {
-      prints = subst (λ l. Appends (g.W.Write.contents c.args.out.now) (g.W.Write.contents c.print_answers.new.out) l) (sym (same_lines silent (map item all.0)) ∙ ap lines_of asked) all.3;
-      clean = ap (list_all is_ok) (sym asked) ∙ (all_entries silent all.0 ∙ sym all.2);
+      prints = subst (λ l. Appends (g.W.Write.contents c.args.out.now) (g.W.Write.contents c.print_answers.new.out) l) (sym (same_lines stateless (map item all.0)) ∙ ap lines_of asked) all.3;
+      clean = ap (list_all is_ok) (sym asked) ∙ (all_entries stateless all.0 ∙ sym all.2);
     }

@@ -10,7 +10,7 @@ returns-in_err-reserve g c =
 pub returns-in_default : goal.returns-in_default
 returns-in_default g c =
     fills_all g.S.FileSystem g.P.ProcessReadDir g.C.ReadDirState.Clone g.C.DirEntryState.Default c.args.n c.args.self.now c.args.out.now.items c.loop-filled.filled c.reserve.new.self.items c.loop-filled.self c.next.new.self
-    (subst (λ l. Filled g.S.FileSystem g.P.ProcessReadDir g.C.ReadDirState.Clone g.C.DirEntryState.Default c.args.n c.args.self.now c.args.out.now.items c.loop-filled.filled l c.loop-filled.self) (sym c.in_ok-reserve.ensures.items) c.loop-filled.invariant.sofar) c.in_default.ensures.steps
+    (subst (λ l. Filled g.S.FileSystem g.P.ProcessReadDir g.C.ReadDirState.Clone g.C.DirEntryState.Default c.args.n c.args.self.now c.args.out.now.items c.loop-filled.filled l c.loop-filled.self) (sym c.in_ok-reserve.ensures.items) c.loop-filled.invariant.sofar) c.loop-filled-test.true c.in_default.ensures.steps
 
 pub loop-filled-preserved : goal.loop-filled-preserved
 loop-filled-preserved g c =

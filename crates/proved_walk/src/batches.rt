@@ -1,0 +1,28 @@
+//! A walk taken in batches.
+ghost use Rattle.std.specs.Prelude.{IfOk};
+ghost use Rattle.jwalk.specs.jwalk_read.Job.{callback};
+ghost use Rattle.jwalk.specs.DirEntryIter.{job_of, Counts};
+
+use jwalk::file_system::FileSystem;
+use jwalk::read_dir::ProcessReadDir;
+use jwalk::{ClientState, DirEntryIter};
+use std::alloc::{AllocError, Allocator};
+
+/// Counts a walk's answers as `count` does, a hundred at a time. It ends over every file system.
+pub fn count_in_batches<
+    C: ClientState,
+    S: FileSystem,
+    P: ProcessReadDir<C, A>,
+    A: Allocator + Copy,
+>(alloc: A, mut walk: DirEntryIter<C, S, P, A>) -> Result<usize, AllocError>
+    requires { P.IsLawful (callback (job_of walk)) }
+    ensures { IfOk result (Counts S.FileSystem P.ProcessReadDir C.ReadDirState.Clone C.DirEntryState.Default walk) }
+{
+    let mut found = Vec::new(alloc);
+    let mut count: usize = 0;
+    while walk.fill(100, &mut found)? == 100 {
+        count = count.saturating_add(found.len());
+        found.clear();
+    }
+    Ok(count.saturating_add(found.len()))
+}

@@ -1,0 +1,5 @@
+//! Functions over walks, with contracts of their own.
+#![tactic(auto)]
+
+pub mod batches;
+pub mod whole;
