@@ -1,6 +1,6 @@
 //! A walk's answers as one text, to be compared with the text that is wanted.
 //!
-//! An error is `! DEPTH PATH KIND`, where the path is `-` if there is none and the kind `memory` for want of memory. An
+//! An error is `! DEPTH PATH KIND`, where the path is `-` if there is none and the kind `memory` for want of memory; a loop has `loop ANCESTOR` for the kind. An
 //! entry is `DEPTH LETTER PATH`, followed by the error of its directory where that could not be read.
 use jwalk::file_system::{FileSystem, FileType};
 use jwalk::read_dir::NoProcess;
@@ -38,7 +38,7 @@ fn getters(alloc: Global, entry: &Entry) -> Result<String, AllocError> {
     let depth = entry.depth();
     let name = entry.file_name();
     let parent = entry.parent_path();
-    let letter = letter(entry.file_type());
+    let letter = letter(entry);
     let mark = if entry.read_children.is_some() {
         "+"
     } else {
@@ -77,12 +77,15 @@ pub fn is_over<S: FileSystem>(walk: &mut Walk<S>) -> bool {
     walk.next().is_none() && first
 }
 
-fn letter(file_type: FileType) -> &'static str {
-    match file_type {
-        FileType::Dir => "d",
-        FileType::File => "f",
-        FileType::Symlink => "L",
-        FileType::Other => "o",
+/// The letter of a type, a capital where a link was met.
+fn letter(entry: &Entry) -> &'static str {
+    match (entry.file_type(), entry.path_is_symlink()) {
+        (FileType::Dir, false) => "d",
+        (FileType::Dir, true) => "D",
+        (FileType::File, false) => "f",
+        (FileType::File, true) => "F",
+        (FileType::Symlink, _) => "L",
+        (FileType::Other, _) => "o",
     }
 }
 
@@ -102,13 +105,16 @@ fn kind(alloc: Global, error: &Error) -> Result<String, AllocError> {
 fn error_line(alloc: Global, error: &Error) -> Result<String, AllocError> {
     let depth = error.depth();
     let path = error.path().unwrap_or("-");
+    if let Some(ancestor) = error.loop_ancestor() {
+        return format!(in alloc; "! {depth} {path} loop {ancestor}");
+    }
     let kind = kind(alloc, error)?;
     format!(in alloc; "! {depth} {path} {kind}")
 }
 
 fn entry_line(alloc: Global, entry: &Entry) -> Result<String, AllocError> {
     let depth = entry.depth();
-    let letter = letter(entry.file_type());
+    let letter = letter(entry);
     let path = entry.path()?;
     let Some(error) = entry.read_children.as_ref().and_then(|c| c.error()) else {
         return format!(in alloc; "{depth} {letter} {path}");

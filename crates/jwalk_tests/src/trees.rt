@@ -8,6 +8,8 @@ use std::io::ErrorKind;
 pub enum Step {
     Dir(&'static str),
     File(u64, &'static str),
+    /// A link: what it leads to, and its path.
+    Link(&'static str, &'static str),
     /// A directory that may not be listed.
     Deny(&'static str),
 }
@@ -16,6 +18,7 @@ fn make(fs: &mut MemoryFs, step: Step) -> Result<(), BuildError> {
     match step {
         Step::Dir(path) => fs.add_dir(path),
         Step::File(len, path) => fs.add_file(path, len),
+        Step::Link(target, path) => fs.add_link(path, target),
         Step::Deny(path) => fs.deny(path, ErrorKind::PermissionDenied),
     }
 }
