@@ -1,14 +1,14 @@
 #!/usr/bin/env python3
-"""Times `walk --tree` on trees in memory, beside `cat` of the same input and `find` over the same tree on disk, and a
-walk by name beside one in the order of creation.
+"""Times `walk --tree` on trees in memory, beside `cat` of the same input and `find` over the same tree on disk; and beside
+itself: by name and in the order of creation, over links and over files, and with links followed.
 
     python3 bench/walk.py [FOLDER]
 
 Build the program first: (cd crates/walk && rt run). FOLDER holds the inputs and the trees on disk (a temporary folder
-where none is given). Each time is the best of three warm runs with the output in a file, and the peak memory is that
-of the last one. The two walks of the sorting take turns: their times are the medians of 25 turns, and so is the ratio
-of the two of a turn, which a machine that is slow for a while leaves as it is. They go over names that differ early, and
-over names of 24 bytes whose first 16 are the same.
+where none is given). Each time of a tree is the best of three warm runs with the output in a file, and the peak memory is
+that of the last one. Two walks that are compared take turns: their times are processor times, the medians of 25 turns, and
+so is the ratio of the two of a turn, which a machine that is slow for a while leaves as it is. The walks by name go over
+names that differ early, and over names of 24 bytes whose first 16 are the same.
 """
 import os
 import random
@@ -49,6 +49,19 @@ def chain(count):
         yield "d", path
 
 
+def linked(count):
+    """A file, and one directory with links to it."""
+    yield "f", "/f"
+    for letter, path in wide(count, "link-{:07d}"):
+        yield letter if letter == "d" else "l", path
+
+
+def unlinked(count):
+    """The same with files in place of the links."""
+    yield "f", "/f"
+    yield from wide(count, "link-{:07d}")
+
+
 TREES = [
     ("wide", 50_000, wide, "/r"),
     ("wide", 200_000, wide, "/r"),
@@ -66,14 +79,17 @@ def scrambled(entries):
     return entries[:1] + files
 
 
+LINES = {"d": "d ", "f": "f 1 ", "l": "l /f\t"}
+
+
 def write_tree(path, entries):
     with open(path, "w") as file:
         for letter, name in entries:
-            file.write(f"d {name}\n" if letter == "d" else f"f 1 {name}\n")
+            file.write(LINES[letter] + name + "\n")
 
 
 def run(words, input_path, output_path):
-    """The seconds and the peak memory in KiB of one run."""
+    """The seconds, the processor seconds and the peak memory in KiB of one run."""
     with open(input_path, "rb") as source, open(output_path, "wb") as out:
         start = time.perf_counter()
         child = subprocess.Popen(words, stdin=source, stdout=out)
@@ -81,12 +97,25 @@ def run(words, input_path, output_path):
         seconds = time.perf_counter() - start
     if status != 0:
         sys.exit(f"{words} ended with {status}")
-    return seconds, usage.ru_maxrss
+    return seconds, usage.ru_utime + usage.ru_stime, usage.ru_maxrss
 
 
 def best(words, input_path, output_path):
     runs = [run(words, input_path, output_path) for _ in range(4)][1:]
-    return min(seconds for seconds, _ in runs), runs[-1][1]
+    return min(seconds for seconds, _, _ in runs), runs[-1][2]
+
+
+def compare(label, output, first, second, turns=25):
+    """Two walks in turn, each its options and input; the output is that of the second in the end. Answers the processor
+    seconds of the second."""
+    times = []
+    for _ in range(turns + 1):
+        times.append([run([PROGRAM, "--tree", *options, root], listed, output)[1] for options, root, listed in (first, second)])
+    times = times[1:]
+    before, after = (median(of) for of in zip(*times))
+    ratio = median(b / a for a, b in times)
+    print(f"{label}: {before * 1e3:.1f} ms, {after * 1e3:.1f} ms, {ratio:.2f} times")
+    return after
 
 
 def sorting(folder, output, label, name, count=200_000):
@@ -94,16 +123,27 @@ def sorting(folder, output, label, name, count=200_000):
     entries = list(wide(count, name))
     listed = os.path.join(folder, f"{label}-{count}.txt")
     write_tree(listed, scrambled(entries))
-    plain, by_name = [], []
-    for _ in range(26):
-        plain.append(run([PROGRAM, "--tree", "/r"], listed, output)[0])
-        by_name.append(run([PROGRAM, "--tree", "--sort", "/r"], listed, output)[0])
+    compare(f"{label} {count}, by name", output, ([], "/r", listed), (["--sort"], "/r", listed))
     with open(output) as file:
         lines = file.read().splitlines()
     if lines != ["0 d /r"] + [f"1 f {path}" for _, path in entries[1:]]:
         sys.exit("the sorted walk isn't sorted")
-    ratio = median(b / a for a, b in zip(plain[1:], by_name[1:]))
-    print(f"{label} {count}: {median(plain[1:]) * 1e3:.1f} ms, with --sort {median(by_name[1:]) * 1e3:.1f} ms, {ratio:.2f} times")
+
+
+def links(folder, output, count=200_000):
+    """A directory of links beside one of files, and with the links followed; chains with links followed."""
+    paths = [os.path.join(folder, f"{make.__name__}-{count}.txt") for make in (unlinked, linked)]
+    for path, make in zip(paths, (unlinked, linked)):
+        write_tree(path, make(count))
+    files, with_links = paths
+    compare(f"links {count}, beside files", output, ([], "/r", files), ([], "/r", with_links))
+    compare(f"links {count}, followed", output, ([], "/r", with_links), (["--follow"], "/r", with_links))
+    times = []
+    for depth in (250, 1_000):
+        listed = os.path.join(folder, f"chain-{depth}.txt")
+        write_tree(listed, chain(depth))
+        times.append(compare(f"chain {depth}, followed", output, ([], "/a", listed), (["--follow"], "/a", listed)))
+    print(f"    4 times the chain takes {times[1] / times[0]:.1f} times the time with links followed")
 
 
 def on_disk(folder, entries):
@@ -141,6 +181,7 @@ def main():
         before[name] = (count, seconds)
     sorting(folder, output, "scrambled", "file-{:07d}")
     sorting(folder, output, "scrambled and alike", "file-of-archive-{:08d}")
+    links(folder, output)
     if len(sys.argv) < 2:
         subprocess.run(["rm", "-rf", folder], check=True)
 

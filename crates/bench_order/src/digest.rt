@@ -18,7 +18,8 @@ impl Digest {
 
     /// Goes on with an address: with its length and its last index.
     pub fn add(&mut self, address: &[usize])
-        ensures { self.new.value ≡ mixed (mixed self.old.value (length address.now)) (slice_index address.now (length address.now - 1)) }
+        ensures { self.new.value ≡ mixed (mixed self.old.value (length address.now))
+            (slice_index address.now (length address.now - 1)) }
     {
         self.mix(address.len());
         self.mix(address.last().copied().unwrap_or(0));

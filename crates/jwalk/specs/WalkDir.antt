@@ -49,7 +49,7 @@ module _ {C S P A R E : Type 0} where
   abbrev pub state_of : WalkDirGeneric C S P A R E → R
   state_of walk = walk.root_read_dir_state
 
-  -- the options. Links can't be followed yet, and every walk is serial.
+  -- the options. Every walk is serial.
   abbrev pub options_of : WalkDirGeneric C S P A R E → Options
   options_of walk = options_value walk.options
 

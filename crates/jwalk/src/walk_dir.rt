@@ -15,8 +15,6 @@ use std::alloc::{Allocator, Global};
 use walk_fs::file_system::FileSystem;
 
 /// A walk that is yet to begin: a root in a file system, and options.
-///
-/// Links are not followed.
 #[derive(Drop)]
 pub struct WalkDirGeneric<
     C: ClientState,
@@ -59,7 +57,7 @@ impl<C: ClientState, S: FileSystem, P: ProcessReadDir<C, A>, A: Allocator + Copy
     P,
     A,
 > {
-    ghost use Rattle.walk_model.specs.Options.{with_sort, with_skip_hidden, with_min_depth, with_max_depth, with_parallelism};
+    ghost use Rattle.walk_model.specs.Options.{with_sort, with_skip_hidden, with_follow_links, with_min_depth, with_max_depth, with_parallelism};
     ghost use Rattle.jwalk.specs.WalkDir.{parallelism_value, callback_of, root_of, options_of, Sets, Starts, Holds};
     ghost use Rattle.jwalk.specs.DirEntryIter.{IsRefused};
 
@@ -84,6 +82,19 @@ impl<C: ClientState, S: FileSystem, P: ProcessReadDir<C, A>, A: Allocator + Copy
         ensures { Sets (with_skip_hidden skip_hidden (options_of self)) self result }
     {
         self.options = self.options.with_skip_hidden(skip_hidden);
+        self
+    }
+
+    /// Whether a link gives way to what it leads to, under the link's own path. Off by default: links are answered as
+    /// such, and a root that is a link to a directory is read all the same.
+    ///
+    /// A link to a directory whose text has the components of the path of a directory above it is a loop: it is an
+    /// error that names the nearest such directory. A loop that the text doesn't tell, as that of a relative target, is
+    /// gone round until the greatest depth or the file system ends it.
+    pub fn follow_links(mut self, follow_links: bool) -> Self
+        ensures { Sets (with_follow_links follow_links (options_of self)) self result }
+    {
+        self.options = self.options.with_follow_links(follow_links);
         self
     }
 

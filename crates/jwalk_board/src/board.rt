@@ -252,6 +252,3 @@ impl<T: Drop, R: Drop, A: Allocator + Copy> Board<T, R, A> {
         self.queued.len() + self.in_hand.len()
     }
 }
-
-#[cfg(test)]
-mod tests;

@@ -133,6 +133,3 @@ impl<A: Allocator + Copy> PartialOrd for IndexPath<A> {
         Some(self.cmp(other))
     }
 }
-
-#[cfg(test)]
-mod tests;

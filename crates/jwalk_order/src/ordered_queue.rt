@@ -199,6 +199,3 @@ impl<T, A: Allocator + Copy> OrderedQueue<T, A> {
         }
     }
 }
-
-#[cfg(test)]
-mod tests;

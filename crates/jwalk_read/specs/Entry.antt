@@ -1,11 +1,12 @@
--- Entries seen as values. No entry is made through a link yet, and none has ancestors.
-use Rattle.std.specs.Prelude.{false, [], option_map, Result, Ok, Err, string_bytes}
+-- Entries seen as values.
+use Rattle.std.specs.Prelude.{option_map, Result, Ok, Err, string_bytes}
 use Rattle.walk_model.specs.Entry as value
 use Rattle.walk_model.specs.Entry.{Children, Item}
 use Rattle.jwalk_read.specs.declared.dir_entry.DirEntry.{DirEntry}
 use Rattle.jwalk_read.specs.declared.read_children.ReadChildren.{ReadChildren}
 use Rattle.jwalk_read.specs.declared.error.Error.{Error}
 use Rattle.jwalk_read.specs.Text.{text}
+use Rattle.jwalk_read.specs.Ancestors.{texts}
 use Rattle.jwalk_read.specs.Error.{failure}
 
 module _ {C A R E : Type 0} where
@@ -19,8 +20,8 @@ module _ {C A R E : Type 0} where
     file_type = e.file_type;
     client_state = e.client_state;
     parent_path = text e.parent_path;
-    through_link = false;
-    ancestors = [];
+    through_link = e.through_link;
+    ancestors = texts e.ancestors;
     read_children = option_map children e.read_children;
   }
 

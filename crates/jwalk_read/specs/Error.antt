@@ -6,11 +6,12 @@ use Rattle.walk_model.specs.Error as value
 use Rattle.walk_model.specs.Error.{Failure}
 use Rattle.jwalk_read.specs.declared.error.Error.{Error}
 use Rattle.jwalk_read.specs.declared.error.ErrorInner.{ErrorInner}
-use Rattle.jwalk_read.specs.declared.error.ErrorInner.TheVariants.{Io, Memory}
+use Rattle.jwalk_read.specs.declared.error.ErrorInner.TheVariants.{Io, Loop, Memory}
 use Rattle.jwalk_read.specs.Text.{text}
 
 abbrev inner_failure : {A : Type 0} → ℕ → ErrorInner A → Failure
 inner_failure depth (Io path err) = value.io depth (option_map text path) (error_kind err)
+inner_failure depth (Loop ancestor child) = value.looped depth (text ancestor) (text child)
 inner_failure depth Memory = value.memory
 
 -- the error as a value
@@ -32,6 +33,14 @@ path_of (value.looped depth ancestor child) = Some child
 path_of value.busy = None
 path_of value.memory = None
 path_of value.lost = None
+
+-- of a loop, the directory that the link leads back to
+abbrev pub ancestor_of : Failure → Option (List ℕ)
+ancestor_of (value.io depth path kind) = None
+ancestor_of (value.looped depth ancestor child) = Some ancestor
+ancestor_of value.busy = None
+ancestor_of value.memory = None
+ancestor_of value.lost = None
 
 -- the kind of its `io::Error`
 abbrev pub kind_of : Failure → Option ErrorKind

@@ -1,4 +1,5 @@
 pub mod Text
+pub mod Ancestors
 pub mod Error
 pub mod Entry
 pub mod ReadDir

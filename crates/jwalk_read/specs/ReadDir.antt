@@ -1,16 +1,17 @@
 -- Directories to be read, and readings, seen as values.
-use Rattle.std.specs.Prelude.{[], map, Result, Ok, Err}
+use Rattle.std.specs.Prelude.{map, Result, Ok, Err}
 use Rattle.walk_model.specs.ReadDir.{Spec, Reading, Outcome}
 use Rattle.jwalk_read.specs.declared.read_dir_spec.ReadDirSpec.{ReadDirSpec}
 use Rattle.jwalk_read.specs.declared.read_dir.ReadDir.{ReadDir}
 use Rattle.jwalk_read.specs.declared.error.Error.{Error}
 use Rattle.jwalk_read.specs.Text.{text}
+use Rattle.jwalk_read.specs.Ancestors.{texts}
 use Rattle.jwalk_read.specs.Error.{failure}
 use Rattle.jwalk_read.specs.Entry.{item}
 
 module _ {C A R E : Type 0} where
   abbrev pub spec : ReadDirSpec C A R E → Spec R
-  spec s = record { depth = s.depth; path = text s.path; ancestors = []; state = s.client_read_state }
+  spec s = record { depth = s.depth; path = text s.path; ancestors = texts s.ancestors; state = s.client_read_state }
 
   abbrev pub reading : ReadDir C A R E → Reading R E
   reading r = record { state = r.read_dir_state; list = map item r.results_list.items }

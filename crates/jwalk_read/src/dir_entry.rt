@@ -1,4 +1,5 @@
 //! An entry of a walk.
+use crate::ancestors::Ancestors;
 use crate::client_state::ClientState;
 use crate::error::Error;
 pub use crate::read_children::ReadChildren;
@@ -23,12 +24,14 @@ pub struct DirEntry<C: ClientState, A: Allocator + Copy = Global> {
     pub parent_path: Arc<String<A>, A>,
     /// The directory to be read below the entry: set where it is one, unless a callback took it away.
     pub read_children: Option<ReadChildren<C, A>>,
+    pub(crate) through_link: bool,
+    pub(crate) ancestors: Ancestors<A>,
 }
 
 impl<C: ClientState, A: Allocator + Copy> DirEntry<C, A> {
-    ghost use Rattle.std.specs.Prelude.{◌≡◌, true, Ok, IfOk, string_bytes, if◌then◌else◌};
+    ghost use Rattle.std.specs.Prelude.{◌≡◌, ◌||◌, true, Ok, IfOk, string_bytes, if◌then◌else◌};
     ghost use Rattle.walk_model.specs.Entry.{path_of, with_error, children_at};
-    ghost use Rattle.walk_model.specs.FileType.{is_dir};
+    ghost use Rattle.walk_model.specs.FileType.{is_dir, is_symlink};
     ghost use Rattle.walk_model.specs.Metadata.{type_of};
     ghost use Rattle.jwalk_read.specs.Text.{text};
     ghost use Rattle.jwalk_read.specs.Error.{failure};
@@ -53,6 +56,13 @@ impl<C: ClientState, A: Allocator + Copy> DirEntry<C, A> {
         ensures { result ≡ (entry self.now).file_type }
     {
         self.file_type
+    }
+
+    /// Whether its path is that of a link: one that stands in the walk as a link, or one that was followed.
+    pub fn path_is_symlink(&self) -> bool
+        ensures { result ≡ (is_symlink (entry self.now).file_type || (entry self.now).through_link) }
+    {
+        self.file_type.is_symlink() || self.through_link
     }
 
     /// The path of the directory that the entry was listed in.

@@ -9,10 +9,15 @@ pub(crate) enum ErrorInner<A: Allocator + Copy> {
         path: Option<Arc<String<A>, A>>,
         err: io::Error,
     },
+    Loop {
+        ancestor: Arc<String<A>, A>,
+        child: Arc<String<A>, A>,
+    },
     Memory,
 }
 
-/// An error met on a walk: an `io::Error` with the depth at which it came and, mostly, a path; or want of memory.
+/// An error met on a walk: an `io::Error` with the depth at which it came and, mostly, a path; a link that was followed
+/// and leads back to a directory above it; or want of memory.
 #[derive(Drop)]
 pub struct Error<A: Allocator + Copy = Global> {
     depth: usize,
@@ -26,9 +31,9 @@ impl<A: Allocator + Copy> Error<A> {
     ghost use Rattle.std.specs.Prelude.{◌≡◌, ◌↔◌, Some, None, option_map, IsTrue, string_bytes};
     ghost use Rattle.std.specs.Option.{option_copied};
     ghost use Rattle.std.specs.IoError.{error_kind};
-    ghost use Rattle.walk_model.specs.Error.{io, memory};
+    ghost use Rattle.walk_model.specs.Error.{io, looped, memory};
     ghost use Rattle.jwalk_read.specs.Text.{text};
-    ghost use Rattle.jwalk_read.specs.Error.{failure, depth_of, path_of, kind_of};
+    ghost use Rattle.jwalk_read.specs.Error.{failure, depth_of, path_of, ancestor_of, kind_of};
 
     /// An error of the file system at a depth, with the path that it was asked for.
     pub(crate) fn from_path(depth: usize, path: Arc<String<A>, A>, err: io::Error) -> Self
@@ -53,6 +58,20 @@ impl<A: Allocator + Copy> Error<A> {
         }
     }
 
+    /// The error of a link, the child, at a depth, that leads back to an ancestor.
+    pub(crate) fn from_loop(
+        depth: usize,
+        ancestor: Arc<String<A>, A>,
+        child: Arc<String<A>, A>,
+    ) -> Self
+        ensures { failure result ≡ looped depth (text ancestor) (text child) }
+    {
+        Error {
+            depth,
+            inner: ErrorInner::Loop { ancestor, child },
+        }
+    }
+
     /// The error that tells of want of memory.
     pub fn memory() -> Self
         ensures { failure result ≡ memory }
@@ -63,7 +82,8 @@ impl<A: Allocator + Copy> Error<A> {
         }
     }
 
-    /// The path that the error came with: none for want of memory, and where an item of a listing had no name.
+    /// The path that the error came with, of a loop that of the link. There is none for want of memory, where an item
+    /// of a listing had no name, and where the text of a link could not be read.
     pub fn path(&self) -> Option<&str>
         ensures { option_copied result ≡ path_of (failure self.now) }
     {
@@ -72,6 +92,18 @@ impl<A: Allocator + Copy> Error<A> {
                 path: Some(path),
                 ..
             } => Some(path.as_str()),
+            ErrorInner::Loop { child, .. } => Some(child.as_str()),
+            _ => None,
+        }
+    }
+
+    /// The directory that a link leads back to, of a loop alone: the nearest one above the link whose path has the same
+    /// components as the link's text.
+    pub fn loop_ancestor(&self) -> Option<&str>
+        ensures { option_copied result ≡ ancestor_of (failure self.now) }
+    {
+        match &self.inner {
+            ErrorInner::Loop { ancestor, .. } => Some(ancestor.as_str()),
             _ => None,
         }
     }
@@ -81,7 +113,7 @@ impl<A: Allocator + Copy> Error<A> {
         ensures { result ≡ depth_of (failure self.now) }
     {
         match &self.inner {
-            ErrorInner::Io { .. } => self.depth,
+            ErrorInner::Io { .. } | ErrorInner::Loop { .. } => self.depth,
             ErrorInner::Memory => 0,
         }
     }
@@ -92,7 +124,7 @@ impl<A: Allocator + Copy> Error<A> {
     {
         match &self.inner {
             ErrorInner::Io { err, .. } => Some(err),
-            ErrorInner::Memory => None,
+            _ => None,
         }
     }
 

@@ -1,5 +1,5 @@
 //! One reading of a directory.
-ghost use Rattle.std.specs.Prelude.{◌≡◌, ◌+◌, ◌<◌, ◌^◌, ◌&&◌, ◌++◌, [], ◌∷◌, false, Some, Ok, IfOk, OnOk, length, map, option_map, option_to_list, string_bytes};
+ghost use Rattle.std.specs.Prelude.{◌≡◌, ◌+◌, ◌<◌, ◌^◌, ◌&&◌, ◌++◌, Some, IfOk, OnOk, length, map, option_map, option_to_list, string_bytes};
 ghost use Rattle.std.specs.IoError.{error_kind};
 ghost use Rattle.walk_model.specs.Error.{io};
 ghost use Rattle.walk_model.specs.Entry.{AtDepth, is_hidden, children_at};
@@ -8,13 +8,18 @@ ghost use Rattle.walk_model.specs.Paths.{join};
 ghost use Rattle.walk_model.specs.Job as value;
 ghost use Rattle.walk_fs.specs.Views.{listed, named};
 ghost use Rattle.jwalk_read.specs.Text.{text};
+ghost use Rattle.jwalk_read.specs.Ancestors.{texts};
 ghost use Rattle.jwalk_read.specs.Error.{failure};
 ghost use Rattle.jwalk_read.specs.Entry.{entry, item, children};
 ghost use Rattle.jwalk_read.specs.ReadDir.{spec, outcome, reading};
 ghost use Rattle.jwalk_read.specs.Options.{options_value, reads_by};
-ghost use Rattle.jwalk_read.specs.Given.{Given, counted_spec, counted_item, counted_reading, counted_list, counted_entry};
+ghost use Rattle.jwalk_read.specs.Given.{counted_spec, counted_reading, counted_list, counted_entry};
 ghost use Rattle.jwalk_read.specs.Job.{file_system, callback, options_of, DefaultsCount, job_by, IsSteadyJob, IsReadingOf};
 
+mod links;
+mod root;
+
+use crate::ancestors::Ancestors;
 use crate::client_state::ClientState;
 use crate::dir_entry::DirEntry;
 use crate::error::Error;
@@ -32,7 +37,6 @@ use walk_fs::fault::Fault;
 use walk_fs::file_system::FileSystem;
 use walk_fs::listed::Listed;
 use walk_model::file_type::FileType;
-use walk_model::metadata::Metadata;
 use walk_paths::path_text;
 
 /// What reads one directory: a file system, a callback, and the options that a reading goes by.
@@ -57,49 +61,28 @@ fn is_hidden(name: &str) -> bool
     matches!(name.as_bytes(), [b'.', ..])
 }
 
-/// The name of a root: its file name, or its whole path where it has none.
-fn own_name(path: &str) -> &str
-    ensures { result.now ≡ value.own_name path.now }
-{
-    match path_text::file_name(path) {
-        Some(name) => name,
-        None => path,
-    }
-}
-
-/// The parent of a root: nothing where it has no file name.
-fn own_parent(path: &str) -> &str
-    ensures { result.now ≡ value.own_parent path.now }
-{
-    if path_text::file_name(path).is_none() {
-        return "";
-    }
-    match path_text::parent(path) {
-        Some(parent) => parent,
-        None => "",
-    }
-}
-
-/// The item of a root before the callback, and the path that the callback is given with it.
-#[derive(Drop)]
-struct RootItem<C: ClientState, A: Allocator + Copy> {
-    item: Result<DirEntry<C, A>, Error<A>>,
-    parent_path: Arc<String<A>, A>,
-}
-
 impl<C: ClientState, S: FileSystem, P: ProcessReadDir<C, A>, A: Allocator + Copy> Job<C, S, P, A> {
     /// A job over a file system and a callback. It puts each list in order by name where `sort` says so, leaves out
-    /// hidden names where `skip_hidden` does, and reads no directory whose depth is `max_depth` or more.
-    pub fn new(alloc: A, fs: S, process: P, sort: bool, skip_hidden: bool, max_depth: usize) -> Self
+    /// hidden names where `skip_hidden` does, lets links give way to what they lead to where `follow_links` does, and
+    /// reads no directory whose depth is `max_depth` or more.
+    pub fn new(
+        alloc: A,
+        fs: S,
+        process: P,
+        sort: bool,
+        skip_hidden: bool,
+        follow_links: bool,
+        max_depth: usize,
+    ) -> Self
         ensures file_system { file_system result ≡ fs }
         ensures callback { callback result ≡ process }
-        ensures options { options_of result ≡ reads_by sort skip_hidden max_depth }
+        ensures options { options_of result ≡ reads_by sort skip_hidden follow_links max_depth }
     {
         Job::with_options(
             alloc,
             fs,
             process,
-            Options::for_readings(sort, skip_hidden, max_depth),
+            Options::for_readings(sort, skip_hidden, follow_links, max_depth),
         )
     }
 
@@ -146,10 +129,13 @@ impl<C: ClientState, S: FileSystem, P: ProcessReadDir<C, A>, A: Allocator + Copy
     fn entry_in(
         &self,
         of: &ReadDirSpec<C, A>,
+        inside: &Ancestors<A>,
         name: String<A>,
         file_type: FileType,
     ) -> Result<DirEntry<C, A>, AllocError>
-        requires { of.now.depth + 1 < 2 ^ 64 }
+        requires fits { of.now.depth + 1 < 2 ^ 64 }
+        requires inside { (g : _) → texts inside.now
+            ≡ value.ancestors_in (job_by S.FileSystem g self.now) (counted_spec g (spec of.now)) }
         ensures depth { IfOk result (λ e. e.depth ≡ of.now.depth + 1) }
         ensures value { (g : _) → DefaultsCount C.DirEntryState.Default g
             → IfOk result (λ e. counted_entry g (entry e)
@@ -164,6 +150,8 @@ impl<C: ClientState, S: FileSystem, P: ProcessReadDir<C, A>, A: Allocator + Copy
             client_state: C::DirEntryState::default(),
             parent_path: of.path.clone()?,
             read_children,
+            through_link: false,
+            ancestors: inside.share()?,
         })
     }
 
@@ -194,11 +182,14 @@ impl<C: ClientState, S: FileSystem, P: ProcessReadDir<C, A>, A: Allocator + Copy
     fn named(
         &self,
         of: &ReadDirSpec<C, A>,
+        inside: &Ancestors<A>,
         found: Listed<A>,
     ) -> Result<Option<Result<DirEntry<C, A>, Error<A>>>, AllocError>
-        requires { of.now.depth + 1 < 2 ^ 64 }
+        requires fits { of.now.depth + 1 < 2 ^ 64 }
+        requires inside { (g : _) → texts inside.now
+            ≡ value.ancestors_in (job_by S.FileSystem g self.now) (counted_spec g (spec of.now)) }
         ensures depth { IfOk result (λ o. AtDepth (of.now.depth + 1) (map item (option_to_list o))) }
-        ensures value { (g : _) → DefaultsCount C.DirEntryState.Default g
+        ensures value { (g : _) → S.IsFixed (file_system self.now) → DefaultsCount C.DirEntryState.Default g
             → IfOk result (λ o. counted_list g (option_to_list o)
             ≡ value.named (job_by S.FileSystem g self.now) (counted_spec g (spec of.now)) (named found)) }
     {
@@ -209,7 +200,8 @@ impl<C: ClientState, S: FileSystem, P: ProcessReadDir<C, A>, A: Allocator + Copy
                 if self.skips(name.as_str()) {
                     return Ok(None);
                 }
-                Ok(Some(Ok(self.entry_in(of, name, file_type)?)))
+                let found = self.entry_in(of, inside, name, file_type)?;
+                Ok(Some(self.followed(found)?))
             }
         }
     }
@@ -218,17 +210,20 @@ impl<C: ClientState, S: FileSystem, P: ProcessReadDir<C, A>, A: Allocator + Copy
     fn item_of(
         &self,
         of: &ReadDirSpec<C, A>,
+        inside: &Ancestors<A>,
         found: io::Result<Listed<A>>,
     ) -> Result<Option<Result<DirEntry<C, A>, Error<A>>>, AllocError>
-        requires { of.now.depth + 1 < 2 ^ 64 }
+        requires fits { of.now.depth + 1 < 2 ^ 64 }
+        requires inside { (g : _) → texts inside.now
+            ≡ value.ancestors_in (job_by S.FileSystem g self.now) (counted_spec g (spec of.now)) }
         ensures depth { IfOk result (λ o. AtDepth (of.now.depth + 1) (map item (option_to_list o))) }
-        ensures value { (g : _) → DefaultsCount C.DirEntryState.Default g
+        ensures value { (g : _) → S.IsFixed (file_system self.now) → DefaultsCount C.DirEntryState.Default g
             → IfOk result (λ o. counted_list g (option_to_list o)
             ≡ value.item_of (job_by S.FileSystem g self.now) (counted_spec g (spec of.now)) (listed found)) }
     {
         match found {
             Err(err) => Ok(Some(Err(Error::from_io(of.depth + 1, err)))),
-            Ok(found) => self.named(of, found),
+            Ok(found) => self.named(of, inside, found),
         }
     }
 
@@ -237,17 +232,20 @@ impl<C: ClientState, S: FileSystem, P: ProcessReadDir<C, A>, A: Allocator + Copy
         &self,
         items: &mut Vec<Result<DirEntry<C, A>, Error<A>>, A>,
         of: &ReadDirSpec<C, A>,
+        inside: &Ancestors<A>,
         found: io::Result<Listed<A>>,
     ) -> Result<(), AllocError>
-        requires { of.now.depth + 1 < 2 ^ 64 }
+        requires fits { of.now.depth + 1 < 2 ^ 64 }
+        requires inside { (g : _) → texts inside.now
+            ≡ value.ancestors_in (job_by S.FileSystem g self.now) (counted_spec g (spec of.now)) }
         ensures depth { AtDepth (of.now.depth + 1) (map item items.old.items)
             → OnOk result (AtDepth (of.now.depth + 1) (map item items.new.items)) }
-        ensures value { (g : _) → DefaultsCount C.DirEntryState.Default g
+        ensures value { (g : _) → S.IsFixed (file_system self.now) → DefaultsCount C.DirEntryState.Default g
             → OnOk result (counted_list g items.new.items
             ≡ counted_list g items.old.items ++ value.item_of (job_by S.FileSystem g self.now)
             (counted_spec g (spec of.now)) (listed found)) }
     {
-        match self.item_of(of, found)? {
+        match self.item_of(of, inside, found)? {
             Some(item) => {
                 items.push(item)?;
                 Ok(())
@@ -264,14 +262,15 @@ impl<C: ClientState, S: FileSystem, P: ProcessReadDir<C, A>, A: Allocator + Copy
     ) -> Result<Vec<Result<DirEntry<C, A>, Error<A>>, A>, AllocError>
         requires { of.now.depth + 1 < 2 ^ 64 }
         ensures depth { IfOk result (λ v. AtDepth (of.now.depth + 1) (map item v.items)) }
-        ensures value { (g : _) → DefaultsCount C.DirEntryState.Default g
+        ensures value { (g : _) → S.IsFixed (file_system self.now) → DefaultsCount C.DirEntryState.Default g
             → IfOk result (λ v. counted_list g v.items
             ≡ value.raw (job_by S.FileSystem g self.now)
             (counted_spec g (spec of.now)) (map listed listing.items)) }
     {
+        let inside = self.ancestors_in(of)?;
         let mut items = Vec::with_capacity(self.alloc, listing.len())?;
         for found in listing {
-            self.push_item(&mut items, of, found)?;
+            self.push_item(&mut items, of, &inside, found)?;
         }
         Ok(items)
     }
@@ -284,7 +283,7 @@ impl<C: ClientState, S: FileSystem, P: ProcessReadDir<C, A>, A: Allocator + Copy
     ) -> Result<Vec<Result<DirEntry<C, A>, Error<A>>, A>, AllocError>
         requires { of.now.depth + 1 < 2 ^ 64 }
         ensures depth { IfOk result (λ v. AtDepth (of.now.depth + 1) (map item v.items)) }
-        ensures value { (g : _) → DefaultsCount C.DirEntryState.Default g
+        ensures value { (g : _) → S.IsFixed (file_system self.now) → DefaultsCount C.DirEntryState.Default g
             → IfOk result (λ v. counted_list g v.items
             ≡ value.ordered (job_by S.FileSystem g self.now)
             (counted_spec g (spec of.now)) (map listed listing.items)) }
@@ -340,114 +339,5 @@ impl<C: ClientState, S: FileSystem, P: ProcessReadDir<C, A>, A: Allocator + Copy
             Err(Fault::Io(err)) => Ok(Err(Error::from_path(of.depth, of.path.clone()?, err))),
             Err(Fault::Memory) => Err(AllocError),
         }
-    }
-
-    /// The root's entry with this metadata.
-    fn root_entry(
-        &self,
-        path: Arc<String<A>, A>,
-        metadata: Metadata,
-    ) -> Result<DirEntry<C, A>, AllocError>
-        ensures depth { IfOk result (λ e. e.depth ≡ 0) }
-        ensures value { (g : _) → DefaultsCount C.DirEntryState.Default g
-            → IfOk result (λ e. counted_entry g (entry e)
-            ≡ value.made_of (job_by S.FileSystem g self.now) 0 (text path) false [] metadata) }
-    {
-        let file_type = metadata.file_type();
-        let file_name = String::from_str(self.alloc, own_name(path.as_str()))?;
-        let parent_path = String::from_str(self.alloc, own_parent(path.as_str()))?;
-        let read_children = if file_type.is_dir() {
-            Some(ReadChildren::new(path))
-        } else {
-            None
-        };
-        Ok(DirEntry {
-            depth: 0,
-            file_name,
-            file_type,
-            client_state: C::DirEntryState::default(),
-            parent_path: Arc::new(self.alloc, parent_path)?,
-            read_children,
-        })
-    }
-
-    /// The root's entry, or the error with its path.
-    fn made(&self, path: &str) -> Result<Result<DirEntry<C, A>, Error<A>>, AllocError>
-        ensures depth { IfOk result (λ r. AtDepth 0 (item r ∷ [])) }
-        ensures value { (g : _) → S.IsFixed (file_system self.now) → DefaultsCount C.DirEntryState.Default g
-            → IfOk result (λ r. counted_item g (item r)
-            ≡ value.made (job_by S.FileSystem g self.now) 0 path.now false []) }
-    {
-        let shared = Arc::new(self.alloc, String::from_str(self.alloc, path)?)?;
-        match self.fs.symlink_metadata(path) {
-            Ok(metadata) => Ok(Ok(self.root_entry(shared, metadata)?)),
-            Err(Fault::Io(err)) => Ok(Err(Error::from_path(0, shared, err))),
-            Err(Fault::Memory) => Err(AllocError),
-        }
-    }
-
-    /// A root's entry with what stands behind it, if it is a link: a directory there is to be read.
-    fn with_target(
-        &self,
-        found: DirEntry<C, A>,
-    ) -> Result<Result<DirEntry<C, A>, Error<A>>, AllocError>
-        ensures depth { AtDepth 0 (Ok (entry found) ∷ []) → IfOk result (λ r. AtDepth 0 (item r ∷ [])) }
-        ensures value { (g : Given C.ReadDirState C.DirEntryState) → S.IsFixed (file_system self.now)
-            → IfOk result (λ r. counted_item g (item r)
-            ≡ value.with_target (job_by S.FileSystem g self.now) (counted_entry g (entry found))) }
-    {
-        if !found.file_type.is_symlink() {
-            return Ok(Ok(found));
-        }
-        let path = Arc::new(self.alloc, found.path()?)?;
-        match self.fs.metadata(path.as_str()) {
-            Ok(metadata) => Ok(Ok(found.with_directory(path, metadata))),
-            Err(Fault::Io(err)) => Ok(Err(Error::from_path(0, path, err))),
-            Err(Fault::Memory) => Err(AllocError),
-        }
-    }
-
-    /// The root's item before the callback, with the path that the callback is given beside it.
-    fn root_item(&self, path: &str) -> Result<RootItem<C, A>, AllocError>
-        ensures depth { IfOk result (λ r. AtDepth 0 (item r.item ∷ [])) }
-        ensures value { (g : _) → S.IsFixed (file_system self.now) → DefaultsCount C.DirEntryState.Default g
-            → IfOk result (λ r. counted_item g (item r.item)
-            ≡ value.root_item (job_by S.FileSystem g self.now) path.now) }
-        ensures parent { (g : _) → S.IsFixed (file_system self.now) → DefaultsCount C.DirEntryState.Default g
-            → IfOk result (λ r. text r.parent_path ≡ value.root_parent (job_by S.FileSystem g self.now) path.now) }
-    {
-        match self.made(path)? {
-            Ok(found) => {
-                let parent_path = found.parent_path.clone()?;
-                let item = self.with_target(found)?;
-                Ok(RootItem { item, parent_path })
-            }
-            Err(error) => Ok(RootItem {
-                item: Err(error),
-                parent_path: Arc::new(self.alloc, String::new(self.alloc))?,
-            }),
-        }
-    }
-
-    /// The list that a walk begins with: the root's entry, or the error met when it was asked for, after the callback,
-    /// which is given no depth, the root's parent path and this state. A root that is a link to a directory stays a
-    /// link, and the directory is read below it; a root that is a broken link is an error with its path.
-    ///
-    /// Fails only for want of memory: of the walk's own, of the file system's or of the callback's.
-    pub fn root_list(&self, path: &str, state: C::ReadDirState) -> Result<ReadDir<C, A>, AllocError>
-        requires { P.IsLawful (callback self.now) }
-        ensures depth { IfOk result (λ r. AtDepth 0 (reading r).list) }
-        ensures value { (g : _)
-            → IsSteadyJob S.FileSystem P.ProcessReadDir C.ReadDirState.Clone C.DirEntryState.Default self.now g
-            → IfOk result (λ r. value.root_list (job_by S.FileSystem g self.now) path.now (g.read_dir_state state)
-            ≡ counted_reading g (reading r)) }
-    {
-        let RootItem { item, parent_path } = self.root_item(path)?;
-        let mut state = state;
-        let mut items = Vec::new(self.alloc);
-        items.push(item)?;
-        self.process
-            .process(None, parent_path.as_str(), &mut state, &mut items)?;
-        Ok(ReadDir::new(state, items))
     }
 }

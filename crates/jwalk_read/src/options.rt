@@ -1,18 +1,20 @@
 //! The options of a walk.
 ghost use Rattle.std.specs.Prelude.{◌≡◌, ◌≤◌};
 
-/// What a walk goes by. A new one has the defaults: no order but the file system's, hidden names left out, every depth.
+/// What a walk goes by. A new one has the defaults: no order but the file system's, hidden names left out, no
+/// link followed, every depth.
 #[derive(Clone, Copy)]
 pub struct Options {
     pub(crate) sort: bool,
     pub(crate) skip_hidden: bool,
+    pub(crate) follow_links: bool,
     pub(crate) min_depth: usize,
     pub(crate) max_depth: usize,
     ghost in_order: { min_depth ≤ max_depth },
 }
 
 impl Options {
-    ghost use Rattle.walk_model.specs.Options.{defaults, with_sort, with_skip_hidden, with_min_depth, with_max_depth};
+    ghost use Rattle.walk_model.specs.Options.{defaults, with_sort, with_skip_hidden, with_follow_links, with_min_depth, with_max_depth};
     ghost use Rattle.jwalk_read.specs.Options.{options_value, reads_by};
 
     /// The defaults.
@@ -22,18 +24,25 @@ impl Options {
         Options {
             sort: false,
             skip_hidden: true,
+            follow_links: false,
             min_depth: 0,
             max_depth: usize::MAX,
         }
     }
 
     /// Those that readings go by, with the least depth of the defaults.
-    pub(crate) fn for_readings(sort: bool, skip_hidden: bool, max_depth: usize) -> Self
-        ensures { options_value result ≡ reads_by sort skip_hidden max_depth }
+    pub(crate) fn for_readings(
+        sort: bool,
+        skip_hidden: bool,
+        follow_links: bool,
+        max_depth: usize,
+    ) -> Self
+        ensures { options_value result ≡ reads_by sort skip_hidden follow_links max_depth }
     {
         Options {
             sort,
             skip_hidden,
+            follow_links,
             min_depth: 0,
             max_depth,
         }
@@ -52,6 +61,14 @@ impl Options {
         ensures { options_value result ≡ with_skip_hidden skip_hidden (options_value self) }
     {
         self.skip_hidden = skip_hidden;
+        self
+    }
+
+    /// Whether a link gives way to what it leads to.
+    pub fn with_follow_links(mut self, follow_links: bool) -> Self
+        ensures { options_value result ≡ with_follow_links follow_links (options_value self) }
+    {
+        self.follow_links = follow_links;
         self
     }
 

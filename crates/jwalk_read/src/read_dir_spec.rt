@@ -4,6 +4,7 @@ ghost use Rattle.walk_model.specs.ReadDir.{spec_of, AreClones};
 ghost use Rattle.jwalk_read.specs.Entry.{item};
 ghost use Rattle.jwalk_read.specs.ReadDir.{spec};
 
+use crate::ancestors::Ancestors;
 use crate::client_state::ClientState;
 use crate::dir_entry::DirEntry;
 use crate::error::Error;
@@ -14,6 +15,7 @@ use std::sync::Arc;
 #[derive(Drop)]
 pub struct ReadDirSpec<C: ClientState, A: Allocator + Copy = Global> {
     pub(crate) depth: usize,
+    pub(crate) ancestors: Ancestors<A>,
     /// The path of the directory.
     pub path: Arc<String<A>, A>,
     /// The state that its reading begins with.
@@ -51,6 +53,7 @@ impl<C: ClientState, A: Allocator + Copy> ReadDirSpec<C, A> {
         };
         Ok(Some(ReadDirSpec {
             depth: entry.depth,
+            ancestors: entry.ancestors.share()?,
             path: children.path.clone()?,
             client_read_state: first_state::<C>(&children.client_read_state, state)?,
         }))

@@ -1,10 +1,9 @@
 //! Walks over file systems that fail, or whose listings are odd.
-use crate::lines::{answers, is_over, next_entry, walk};
+use crate::lines::{is_over, next_entry, root_shows, walk};
 use crate::listed_directory::{Item, ListedDirectory};
 use crate::trees::{grouped_tree, small_tree};
 use crate::watched::{Failing, Watched};
-use jwalk::file_system::{BuildError, FileType};
-use std::alloc::Global;
+use jwalk::file_system::FileType;
 use std::io::ErrorKind;
 use std::sync::Arc;
 use std::test::Fail;
@@ -26,10 +25,8 @@ fn errors_stand_where_their_items_were_listed(rt: HostRuntime) -> Result<(), Fai
         Item::Typed("b", FileType::File),
         Item::Typed("a", FileType::File),
     ];
-    let found = answers(rt.alloc(), directory(&items), "/d")?;
     let wanted = "0 d /d; ! 1 /d/.x PermissionDenied; ! 1 - InvalidData; 1 f /d/b; 1 f /d/a";
-    assert_eq!(rt; found.as_str(), wanted);
-    Ok(())
+    root_shows(&rt, directory(&items), "/d", wanted)
 }
 
 #[test]
@@ -40,37 +37,30 @@ fn odd_names_are_joined_as_texts(rt: HostRuntime) -> Result<(), Fail> {
         Item::Typed("..", FileType::File),
         Item::Typed("a/b", FileType::File),
     ];
-    let found = answers(rt.alloc(), directory(&items), "/d")?;
-    assert_eq!(rt; found.as_str(), "0 d /d; 1 f /x; 1 f /d/; 1 f /d/a/b");
-    Ok(())
+    let wanted = "0 d /d; 1 f /x; 1 f /d/; 1 f /d/a/b";
+    root_shows(&rt, directory(&items), "/d", wanted)
 }
 
 #[test]
 fn a_directory_that_can_not_be_listed_is_still_answered(rt: HostRuntime) -> Result<(), Fail> {
     let failing = Failing::List("/r/s", ErrorKind::PermissionDenied);
     let fs = Watched::new(small_tree(rt.alloc())?, failing);
-    let found = answers(rt.alloc(), fs, "/r")?;
     let wanted = "0 d /r; 1 f /r/b; 1 d /r/s ! 1 /r/s PermissionDenied; 1 f /r/a";
-    assert_eq!(rt; found.as_str(), wanted);
-    Ok(())
-}
-
-fn until(alloc: Global, failing: Failing) -> Result<String, BuildError> {
-    let found = answers(alloc, Watched::new(grouped_tree(alloc)?, failing), "/t")?;
-    Ok(found)
+    root_shows(&rt, fs, "/r", wanted)
 }
 
 #[test]
 fn want_of_memory_ends_a_walk(rt: HostRuntime) -> Result<(), Fail> {
-    let found = until(rt.alloc(), Failing::ListForMemory("/t/group 2"))?;
-    assert_eq!(rt;
-        found.as_str(),
-        "0 d /t; 1 f /t/c.txt; 1 f /t/a.txt; ! 0 - memory"
-    );
-    let found = until(rt.alloc(), Failing::ListForMemory("/t"))?;
-    assert_eq!(rt; found.as_str(), "! 0 - memory", "no listing of the root");
-    let found = until(rt.alloc(), Failing::MetadataForMemory("/t"))?;
-    assert_eq!(rt; found.as_str(), "! 0 - memory", "no metadata of the root");
+    let told = "0 d /t; 1 f /t/c.txt; 1 f /t/a.txt; ! 0 - memory";
+    let rows = [
+        (Failing::ListForMemory("/t/group 2"), told),
+        (Failing::ListForMemory("/t"), "! 0 - memory"),
+        (Failing::MetadataForMemory("/t"), "! 0 - memory"),
+    ];
+    for (failing, wanted) in rows {
+        let fs = Watched::new(grouped_tree(rt.alloc())?, failing);
+        root_shows(&rt, fs, "/t", wanted)?;
+    }
     Ok(())
 }
 

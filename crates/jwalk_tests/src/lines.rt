@@ -1,6 +1,6 @@
 //! A walk's answers as one text, to be compared with the text that is wanted.
 //!
-//! An error is `! DEPTH PATH KIND`, where the path is `-` if there is none and the kind `memory` for want of memory. An
+//! An error is `! DEPTH PATH KIND`, where the path is `-` if there is none and the kind `memory` for want of memory; a loop has `loop ANCESTOR` for the kind. An
 //! entry is `DEPTH LETTER PATH`, followed by the error of its directory where that could not be read.
 use jwalk::file_system::{FileSystem, FileType};
 use jwalk::read_dir::NoProcess;
@@ -32,25 +32,42 @@ pub fn next_entry<S: FileSystem>(walk: &mut Walk<S>) -> Option<Entry> {
     walk.next()?.ok()
 }
 
-/// The next answer is an entry, and this is what its getters answer.
-pub fn next_is<S: FileSystem>(
-    rt: &impl Abort,
+/// What the getters of an entry answer: depth, name, parent, the letter of its type, and `+` where it has a directory
+/// to be read.
+fn getters(alloc: Global, entry: &Entry) -> Result<String, AllocError> {
+    let depth = entry.depth();
+    let name = entry.file_name();
+    let parent = entry.parent_path();
+    let letter = letter(entry);
+    let mark = if entry.read_children.is_some() {
+        "+"
+    } else {
+        ""
+    };
+    format!(in alloc; "{depth} {name} in {parent} {letter}{mark}")
+}
+
+/// The getters of the next answer, if it is an entry.
+fn next_getters<S: FileSystem>(
+    alloc: Global,
     walk: &mut Walk<S>,
-    depth: usize,
-    name: &str,
-    parent: &str,
-    file_type: FileType,
+) -> Result<Option<String>, AllocError> {
+    match next_entry(walk) {
+        Some(entry) => Ok(Some(getters(alloc, &entry)?)),
+        None => Ok(None),
+    }
+}
+
+/// The next answers are entries, and this is what their getters answer.
+pub fn next_are<S: FileSystem>(
+    rt: &(impl Abort + AllocGlobal),
+    walk: &mut Walk<S>,
+    wanted: &[&str],
 ) -> Result<(), Fail> {
-    let entry = next_entry(walk).ok_or("no entry")?;
-    assert_eq!(rt; entry.depth(), depth, "at {name}");
-    assert_eq!(rt; entry.file_name(), name);
-    assert_eq!(rt; entry.parent_path(), parent, "at {name}");
-    assert_eq!(rt; entry.file_type(), file_type, "at {name}");
-    assert_eq!(rt;
-        entry.read_children.is_some(),
-        file_type.is_dir(),
-        "at {name}"
-    );
+    for text in wanted {
+        let found = next_getters(rt.alloc(), walk)?.ok_or("no entry")?;
+        assert_eq!(rt; found.as_str(), *text);
+    }
     Ok(())
 }
 
@@ -60,12 +77,15 @@ pub fn is_over<S: FileSystem>(walk: &mut Walk<S>) -> bool {
     walk.next().is_none() && first
 }
 
-fn letter(file_type: FileType) -> &'static str {
-    match file_type {
-        FileType::Dir => "d",
-        FileType::File => "f",
-        FileType::Symlink => "L",
-        FileType::Other => "o",
+/// The letter of a type, a capital where a link was met.
+fn letter(entry: &Entry) -> &'static str {
+    match (entry.file_type(), entry.path_is_symlink()) {
+        (FileType::Dir, false) => "d",
+        (FileType::Dir, true) => "D",
+        (FileType::File, false) => "f",
+        (FileType::File, true) => "F",
+        (FileType::Symlink, _) => "L",
+        (FileType::Other, _) => "o",
     }
 }
 
@@ -85,13 +105,16 @@ fn kind(alloc: Global, error: &Error) -> Result<String, AllocError> {
 fn error_line(alloc: Global, error: &Error) -> Result<String, AllocError> {
     let depth = error.depth();
     let path = error.path().unwrap_or("-");
+    if let Some(ancestor) = error.loop_ancestor() {
+        return format!(in alloc; "! {depth} {path} loop {ancestor}");
+    }
     let kind = kind(alloc, error)?;
     format!(in alloc; "! {depth} {path} {kind}")
 }
 
 fn entry_line(alloc: Global, entry: &Entry) -> Result<String, AllocError> {
     let depth = entry.depth();
-    let letter = letter(entry.file_type());
+    let letter = letter(entry);
     let path = entry.path()?;
     let Some(error) = entry.read_children.as_ref().and_then(|c| c.error()) else {
         return format!(in alloc; "{depth} {letter} {path}");
@@ -101,16 +124,11 @@ fn entry_line(alloc: Global, entry: &Entry) -> Result<String, AllocError> {
 }
 
 /// One answer.
-pub fn line(alloc: Global, answer: &Result<Entry, Error>) -> Result<String, AllocError> {
+fn line(alloc: Global, answer: &Result<Entry, Error>) -> Result<String, AllocError> {
     match answer {
         Ok(entry) => entry_line(alloc, entry),
         Err(error) => error_line(alloc, error),
     }
-}
-
-/// All answers of a walk, parted by `; `, once it was seen that `None` stays.
-pub fn answers<S: FileSystem>(alloc: Global, fs: S, root: &str) -> Result<String, AllocError> {
-    answers_of(alloc, builder(alloc, fs, root)?)
 }
 
 /// Answers parted by `; `.
@@ -122,15 +140,16 @@ pub fn lines_of(alloc: Global, answers: &[Result<Entry, Error>]) -> Result<Strin
     Ok(text)
 }
 
-fn push_line(text: &mut String, answer: &Result<Entry, Error>) -> Result<(), AllocError> {
+/// Adds one answer to a text.
+pub fn push_line(text: &mut String, answer: &Result<Entry, Error>) -> Result<(), AllocError> {
     if !text.is_empty() {
         text.push_str("; ")?;
     }
     text.push_str(line(*text.allocator(), answer)?.as_str())
 }
 
-/// All answers of a walk that is yet to begin.
-pub fn answers_of<S: FileSystem>(alloc: Global, walk: Builder<S>) -> Result<String, AllocError> {
+/// All answers of a walk that is yet to begin, parted by `; `, once it was seen that `None` stays.
+fn answers_of<S: FileSystem>(alloc: Global, walk: Builder<S>) -> Result<String, AllocError> {
     let mut walk = walk.into_iter();
     let mut text = String::new(alloc);
     for answer in walk.by_ref() {
@@ -140,4 +159,34 @@ pub fn answers_of<S: FileSystem>(alloc: Global, walk: Builder<S>) -> Result<Stri
         text.push_str("; not over")?;
     }
     Ok(text)
+}
+
+/// This is what a walk that is yet to begin answers.
+pub fn shows<S: FileSystem>(
+    rt: &(impl Abort + AllocGlobal),
+    walk: Builder<S>,
+    wanted: &str,
+) -> Result<(), Fail> {
+    let found = answers_of(rt.alloc(), walk)?;
+    assert_eq!(rt; found.as_str(), wanted);
+    Ok(())
+}
+
+/// This is what a walk with the options as they are answers.
+pub fn root_shows<S: FileSystem>(
+    rt: &(impl Abort + AllocGlobal),
+    fs: S,
+    root: &str,
+    wanted: &str,
+) -> Result<(), Fail> {
+    shows(rt, builder(rt.alloc(), fs, root)?, wanted)
+}
+
+/// Fills a list with some answers of a walk.
+pub fn fill<S: FileSystem>(
+    walk: &mut Walk<S>,
+    n: usize,
+    found: &mut Vec<Result<Entry, Error>>,
+) -> Result<usize, AllocError> {
+    walk.fill(n, found)
 }

@@ -1,82 +1,73 @@
 //! Walks with options.
-use crate::lines::{answers_of, builder, is_over, lines_of, next_entry};
+use crate::lines::{Builder, builder, fill, is_over, lines_of, next_entry, shows};
 use crate::listed_directory::{Item, ListedDirectory};
 use crate::trees::{denied_tree, forked_tree, grouped_tree};
 use crate::watched::{Failing, Watched};
 use jwalk::Parallelism;
-use jwalk::file_system::FileType;
+use jwalk::file_system::{BuildError, FileType, MemoryFs};
+use std::alloc::Global;
 use std::io::ErrorKind;
 use std::sync::Arc;
 use std::test::Fail;
 
+// A walk by name over the groups of files.
+fn by_name(alloc: Global) -> Result<Builder<MemoryFs>, BuildError> {
+    let walk = builder(alloc, grouped_tree(alloc)?, "/t")?;
+    Ok(walk.sort(true))
+}
+
+// The same, where one group may not be listed.
+fn denied_by_name(alloc: Global) -> Result<Builder<MemoryFs>, BuildError> {
+    let walk = builder(alloc, denied_tree(alloc)?, "/t")?;
+    Ok(walk.sort(true))
+}
+
 #[test]
 fn names_in_order(rt: HostRuntime) -> Result<(), Fail> {
-    let walk = builder(rt.alloc(), grouped_tree(rt.alloc())?, "/t")?.sort(true);
-    let found = answers_of(rt.alloc(), walk.parallelism(Parallelism::Serial))?;
     let wanted = "0 d /t; 1 f /t/a.txt; 1 f /t/b.txt; 1 f /t/c.txt; 1 d /t/group 1; \
                   2 f /t/group 1/d.txt; 1 d /t/group 2; 2 f /t/group 2/e.txt";
-    assert_eq!(rt; found.as_str(), wanted);
-    Ok(())
+    let walk = by_name(rt.alloc())?.parallelism(Parallelism::Serial);
+    shows(&rt, walk, wanted)
 }
 
 #[test]
 fn hidden_names_too(rt: HostRuntime) -> Result<(), Fail> {
-    let walk = builder(rt.alloc(), grouped_tree(rt.alloc())?, "/t")?.sort(true);
-    let found = answers_of(rt.alloc(), walk.skip_hidden(false))?;
     let wanted = "0 d /t; 1 f /t/a.txt; 1 f /t/b.txt; 1 f /t/c.txt; 1 d /t/group 1; \
                   2 f /t/group 1/d.txt; 1 d /t/group 2; 2 f /t/group 2/.hidden_file.txt; \
                   2 f /t/group 2/e.txt";
-    assert_eq!(rt; found.as_str(), wanted);
-    Ok(())
+    shows(&rt, by_name(rt.alloc())?.skip_hidden(false), wanted)
 }
 
 #[test]
 fn the_root_alone_at_greatest_depth_0(rt: HostRuntime) -> Result<(), Fail> {
-    let walk = builder(rt.alloc(), grouped_tree(rt.alloc())?, "/t")?.max_depth(0);
-    assert_eq!(rt; answers_of(rt.alloc(), walk)?.as_str(), "0 d /t");
-    Ok(())
+    shows(&rt, by_name(rt.alloc())?.max_depth(0), "0 d /t")
 }
 
 #[test]
 fn a_denied_directory(rt: HostRuntime) -> Result<(), Fail> {
-    let walk = builder(rt.alloc(), denied_tree(rt.alloc())?, "/t")?.sort(true);
-    let found = answers_of(rt.alloc(), walk)?;
     let wanted = "0 d /t; 1 f /t/a.txt; 1 f /t/b.txt; 1 f /t/c.txt; 1 d /t/group 1; \
                   2 f /t/group 1/d.txt; 1 d /t/group 2 ! 1 /t/group 2 PermissionDenied";
-    assert_eq!(rt; found.as_str(), wanted);
-    Ok(())
+    shows(&rt, denied_by_name(rt.alloc())?, wanted)
 }
 
 #[test]
 fn a_denied_directory_at_the_greatest_depth_is_not_read(rt: HostRuntime) -> Result<(), Fail> {
-    let walk = builder(rt.alloc(), denied_tree(rt.alloc())?, "/t")?.sort(true);
-    let found = answers_of(rt.alloc(), walk.max_depth(1))?;
     let wanted = "0 d /t; 1 f /t/a.txt; 1 f /t/b.txt; 1 f /t/c.txt; 1 d /t/group 1; \
                   1 d /t/group 2";
-    assert_eq!(rt; found.as_str(), wanted);
-    Ok(())
+    shows(&rt, denied_by_name(rt.alloc())?.max_depth(1), wanted)
 }
 
 #[test]
 fn a_denied_directory_above_the_least_depth(rt: HostRuntime) -> Result<(), Fail> {
-    let walk = builder(rt.alloc(), denied_tree(rt.alloc())?, "/t")?.sort(true);
-    let found = answers_of(rt.alloc(), walk.min_depth(2))?;
-    assert_eq!(rt; found.as_str(), "2 f /t/group 1/d.txt");
-    Ok(())
+    let walk = denied_by_name(rt.alloc())?.min_depth(2);
+    shows(&rt, walk, "2 f /t/group 1/d.txt")
 }
 
 #[test]
 fn the_later_depth_gives_way(rt: HostRuntime) -> Result<(), Fail> {
-    let walk = builder(rt.alloc(), grouped_tree(rt.alloc())?, "/t")?.sort(true);
-    let mut raised = walk.min_depth(5).max_depth(2).into_iter();
-    assert!(rt; is_over(&mut raised));
-    let walk = builder(rt.alloc(), grouped_tree(rt.alloc())?, "/t")?.sort(true);
-    let lowered = answers_of(rt.alloc(), walk.max_depth(2).min_depth(5))?;
-    assert_eq!(rt;
-        lowered.as_str(),
-        "2 f /t/group 1/d.txt; 2 f /t/group 2/e.txt"
-    );
-    Ok(())
+    shows(&rt, by_name(rt.alloc())?.min_depth(5).max_depth(2), "")?;
+    let lowered = by_name(rt.alloc())?.max_depth(2).min_depth(5);
+    shows(&rt, lowered, "2 f /t/group 1/d.txt; 2 f /t/group 2/e.txt")
 }
 
 fn faulty_directory<'a>(items: &'a [Item]) -> ListedDirectory<'a> {
@@ -97,16 +88,11 @@ fn errors_after_entries_and_whatever_their_depth(rt: HostRuntime) -> Result<(), 
         Item::Typed("a", FileType::File),
     ];
     let walk = builder(rt.alloc(), faulty_directory(&items), "/d")?.sort(true);
-    let sorted = answers_of(rt.alloc(), walk)?;
     let wanted = "0 d /d; 1 f /d/a; 1 f /d/b; ! 1 /d/.x PermissionDenied; ! 1 - InvalidData";
-    assert_eq!(rt; sorted.as_str(), wanted);
+    shows(&rt, walk, wanted)?;
     let walk = builder(rt.alloc(), faulty_directory(&items), "/d")?.sort(true);
-    let deep = answers_of(rt.alloc(), walk.min_depth(5).max_depth(5))?;
-    assert_eq!(rt;
-        deep.as_str(),
-        "! 1 /d/.x PermissionDenied; ! 1 - InvalidData"
-    );
-    Ok(())
+    let deep = walk.min_depth(5).max_depth(5);
+    shows(&rt, deep, "! 1 /d/.x PermissionDenied; ! 1 - InvalidData")
 }
 
 /// A long listing of names that begin alike, with two of one name and two errors.
@@ -141,7 +127,6 @@ fn chapters() -> [Item; 22] {
 fn a_long_listing_of_names_that_begin_alike(rt: HostRuntime) -> Result<(), Fail> {
     let items = chapters();
     let walk = builder(rt.alloc(), faulty_directory(&items), "/d")?.sort(true);
-    let found = answers_of(rt.alloc(), walk)?;
     let wanted = "0 d /d; 1 f /d/log-2026-11-; 1 f /d/log-2026-11-a; 1 o /d/log-2026-11-b; \
                   1 f /d/log-2026-11-b; 1 f /d/log-2026-11-chapter-1; \
                   1 f /d/log-2026-11-chapter-10; 1 f /d/log-2026-11-chapter-11; \
@@ -152,20 +137,16 @@ fn a_long_listing_of_names_that_begin_alike(rt: HostRuntime) -> Result<(), Fail>
                   1 f /d/log-2026-11-chapter-6; 1 f /d/log-2026-11-chapter-7; \
                   1 f /d/log-2026-11-chapter-8; 1 f /d/log-2026-11-chapter-9; \
                   1 f /d/log-2026-11-z; ! 1 - InvalidData; ! 1 /d/log-2026-11-0 PermissionDenied";
-    assert_eq!(rt; found.as_str(), wanted);
-    Ok(())
+    shows(&rt, walk, wanted)
 }
 
 #[test]
 fn nothing_below_the_greatest_depth_is_listed(rt: HostRuntime) -> Result<(), Fail> {
     let fs = Watched::new(grouped_tree(rt.alloc())?, Failing::Never);
     let fs = Arc::new(rt.alloc(), fs)?;
-    let found = answers_of(
-        rt.alloc(),
-        builder(rt.alloc(), fs.clone()?, "/t")?.max_depth(1),
-    )?;
+    let walk = builder(rt.alloc(), fs.clone()?, "/t")?.max_depth(1);
     let wanted = "0 d /t; 1 f /t/c.txt; 1 f /t/a.txt; 1 d /t/group 2; 1 d /t/group 1; 1 f /t/b.txt";
-    assert_eq!(rt; found.as_str(), wanted);
+    shows(&rt, walk, wanted)?;
     assert_eq!(rt; fs.lists(), 1);
     Ok(())
 }
@@ -187,17 +168,16 @@ fn a_serial_walk_reads_one_directory_at_a_time(rt: HostRuntime) -> Result<(), Fa
 
 #[test]
 fn answers_in_three_parts(rt: HostRuntime) -> Result<(), Fail> {
-    let walk = builder(rt.alloc(), grouped_tree(rt.alloc())?, "/t")?.sort(true);
-    let mut walk = walk.try_into_iter().ok().ok_or("refused")?;
+    let walk = by_name(rt.alloc())?.try_into_iter();
+    let mut walk = walk.ok().ok_or("refused")?;
     let mut found = Vec::new(rt.alloc());
-    assert_eq!(rt; walk.fill(3, &mut found)?, 3);
-    let first = lines_of(rt.alloc(), found.as_slice())?;
-    assert_eq!(rt; first.as_str(), "0 d /t; 1 f /t/a.txt; 1 f /t/b.txt");
-    assert_eq!(rt; walk.fill(100, &mut found)?, 5);
-    assert_eq!(rt; walk.fill(100, &mut found)?, 0);
-    let all = lines_of(rt.alloc(), found.as_slice())?;
-    let wanted = "0 d /t; 1 f /t/a.txt; 1 f /t/b.txt; 1 f /t/c.txt; 1 d /t/group 1; \
-                  2 f /t/group 1/d.txt; 1 d /t/group 2; 2 f /t/group 2/e.txt";
-    assert_eq!(rt; all.as_str(), wanted);
+    let first = "0 d /t; 1 f /t/a.txt; 1 f /t/b.txt";
+    let all = "0 d /t; 1 f /t/a.txt; 1 f /t/b.txt; 1 f /t/c.txt; 1 d /t/group 1; \
+               2 f /t/group 1/d.txt; 1 d /t/group 2; 2 f /t/group 2/e.txt";
+    for (n, count, wanted) in [(3, 3, first), (100, 5, all), (100, 0, all)] {
+        assert_eq!(rt; fill(&mut walk, n, &mut found)?, count);
+        let lines = lines_of(rt.alloc(), found.as_slice())?;
+        assert_eq!(rt; lines.as_str(), wanted);
+    }
     Ok(())
 }

@@ -1,8 +1,11 @@
 //! Readings of one directory, without a walk.
+ghost use Rattle.jwalk_read.specs.Job.{callback};
+
 use crate::trees::grouped_tree;
 use crate::watched::{Failing, Watched};
-use jwalk::read_dir::{Job, NoProcess, ProcessReadDir};
-use jwalk::{DirEntry, Error};
+use jwalk::file_system::FileSystem;
+use jwalk::read_dir::{Job, NoProcess, ProcessReadDir, ReadDirSpec};
+use jwalk::{ClientState, DirEntry, Error};
 use std::alloc::{AllocError, Global};
 use std::sync::Arc;
 use std::test::Fail;
@@ -44,20 +47,43 @@ impl ProcessReadDir<Noted, Global> for NotesNames {
     }
 }
 
+// The specification of the root that a job begins with.
+fn root_spec<C: ClientState, S: FileSystem, P: ProcessReadDir<C, Global>>(
+    job: &Job<C, S, P>,
+) -> Result<ReadDirSpec<C>, Fail>
+    requires { P.IsLawful (callback job.now) }
+{
+    let list = job.root_list("/t", C::ReadDirState::default())?;
+    let mut roots = list.read_children_specs()?;
+    Ok(roots.pop().ok_or("no root")?)
+}
+
+// The specifications of the directories in a directory.
+fn specs_in<C: ClientState, S: FileSystem, P: ProcessReadDir<C, Global>>(
+    job: &Job<C, S, P>,
+    of: &ReadDirSpec<C>,
+) -> Result<Vec<ReadDirSpec<C>>, Fail>
+    requires { P.IsLawful (callback job.now) }
+{
+    let read = job.read_one(of)?.ok().ok_or("not read")?;
+    Ok(read.read_children_specs()?)
+}
+
 #[test]
 fn a_reading_has_its_items_and_directories_in_order(rt: HostRuntime) -> Result<(), Fail> {
     let fs = grouped_tree(rt.alloc())?;
-    let job = Job::<Noted, _, _>::new(rt.alloc(), fs, NotesNames, false, true, usize::MAX);
-    let roots = job.root_list("/t", None)?.read_children_specs()?;
-    let root = roots.first().ok_or("no root")?;
+    let job = Job::<Noted, _, _>::new(rt.alloc(), fs, NotesNames, false, true, false, usize::MAX);
+    let root = root_spec(&job)?;
     assert_eq!(rt; root.path.as_str(), "/t");
-    let read = job.read_one(root)?.ok().ok_or("not read")?;
-    let specs = read.read_children_specs()?;
-    assert_eq!(rt; specs.len(), 2);
-    assert_eq!(rt; specs[0].path.as_str(), "/t/group 2");
-    assert_eq!(rt; specs[1].path.as_str(), "/t/group 1");
-    let noted = specs[0].client_read_state.as_ref().ok_or("no state")?;
-    assert_eq!(rt; noted.as_str(), "c.txt;a.txt;group 2;group 1;b.txt;");
+    let specs = specs_in(&job, &root)?;
+    let [first, second] = specs.as_slice() else {
+        return Err("not two directories".into());
+    };
+    let noted = "c.txt;a.txt;group 2;group 1;b.txt;";
+    for (spec, path) in [(first, "/t/group 2"), (second, "/t/group 1")] {
+        assert_eq!(rt; spec.path.as_str(), path);
+        assert_eq!(rt; spec.client_read_state.as_deref(), Some(noted));
+    }
     Ok(())
 }
 
@@ -65,11 +91,8 @@ fn a_reading_has_its_items_and_directories_in_order(rt: HostRuntime) -> Result<(
 fn nothing_is_read_at_the_greatest_depth(rt: HostRuntime) -> Result<(), Fail> {
     let fs = Watched::new(grouped_tree(rt.alloc())?, Failing::Never);
     let fs = Arc::new(rt.alloc(), fs)?;
-    let job = Job::<((), ()), _, _>::new(rt.alloc(), fs.clone()?, NoProcess, false, true, 0);
-    let roots = job.root_list("/t", ())?.read_children_specs()?;
-    let root = roots.first().ok_or("no root")?;
-    let read = job.read_one(root)?.ok().ok_or("not read")?;
-    assert_eq!(rt; read.read_children_specs()?.len(), 0);
+    let job = Job::<((), ()), _, _>::new(rt.alloc(), fs.clone()?, NoProcess, false, true, false, 0);
+    assert_eq!(rt; specs_in(&job, &root_spec(&job)?)?.len(), 0);
     assert_eq!(rt; fs.lists(), 0);
     Ok(())
 }
@@ -77,7 +100,7 @@ fn nothing_is_read_at_the_greatest_depth(rt: HostRuntime) -> Result<(), Fail> {
 /// The entry of the root of the grouped tree.
 fn root_of_the_grouped_tree(alloc: Global) -> Result<DirEntry<((), ())>, Fail> {
     let fs = grouped_tree(alloc)?;
-    let job = Job::<((), ()), _, _>::new(alloc, fs, NoProcess, false, true, usize::MAX);
+    let job = Job::<((), ()), _, _>::new(alloc, fs, NoProcess, false, true, false, usize::MAX);
     let read = job.root_list("/t", ())?;
     if read.results_list().len() != 1 {
         return Err("not one root".into());

@@ -1,5 +1,5 @@
 //! Walks over trees of size.
-use crate::lines::{Walk, builder, is_over, next_entry, walk};
+use crate::lines::{Walk, builder, fill, is_over, next_entry, walk};
 use crate::watched::{Failing, Watched};
 use jwalk::file_system::{BuildError, FileSystem, MemoryFs};
 use std::alloc::{AllocError, Global};
@@ -39,7 +39,6 @@ fn file_is_next<S: FileSystem>(
 ) -> Result<(), Fail> {
     let entry = next_entry(walk).ok_or("no entry")?;
     let wanted = file_path(rt.alloc(), number)?;
-    assert_eq!(rt; entry.depth(), 1);
     assert_eq!(rt; entry.path()?.as_str(), wanted.as_str());
     Ok(())
 }
@@ -77,9 +76,10 @@ fn many_files_by_name(rt: HostRuntime) -> Result<(), Fail> {
 fn all_answers_by_one_call(rt: HostRuntime) -> Result<(), Fail> {
     let mut walk = walk(rt.alloc(), wide_directory(rt.alloc())?, "/d")?;
     let mut found = Vec::new(rt.alloc());
-    assert_eq!(rt; walk.fill(usize::MAX, &mut found)?, 5_001);
-    assert_eq!(rt; found.len(), 5_001);
-    assert_eq!(rt; walk.fill(usize::MAX, &mut found)?, 0);
+    for count in [5_001, 0] {
+        assert_eq!(rt; fill(&mut walk, usize::MAX, &mut found)?, count);
+        assert_eq!(rt; found.len(), 5_001);
+    }
     Ok(())
 }
 

@@ -1,62 +1,52 @@
 //! Walks over trees in memory.
-use crate::lines::{answers, is_over, line, next_is, walk};
+use crate::lines::{Builder, builder, is_over, next_are, push_line, root_shows, walk};
 use crate::trees::{empty_directory, grouped_tree, small_tree};
-use jwalk::file_system::FileType;
+use jwalk::file_system::MemoryFs;
 use jwalk::{WalkDirGeneric, path_text};
+use std::alloc::{AllocError, Global};
 use std::sync::Arc;
 use std::test::Fail;
 
 #[test]
 fn each_getter_of_each_entry(rt: HostRuntime) -> Result<(), Fail> {
     let mut walk = walk(rt.alloc(), small_tree(rt.alloc())?, "/r")?;
-    next_is(&rt, &mut walk, 0, "r", "/", FileType::Dir)?;
-    next_is(&rt, &mut walk, 1, "b", "/r", FileType::File)?;
-    next_is(&rt, &mut walk, 1, "s", "/r", FileType::Dir)?;
-    next_is(&rt, &mut walk, 2, "x", "/r/s", FileType::File)?;
-    next_is(&rt, &mut walk, 1, "a", "/r", FileType::File)?;
+    let wanted = [
+        "0 r in / d+",
+        "1 b in /r f",
+        "1 s in /r d+",
+        "2 x in /r/s f",
+        "1 a in /r f",
+    ];
+    next_are(&rt, &mut walk, &wanted)?;
     assert!(rt; is_over(&mut walk));
     Ok(())
 }
 
 #[test]
 fn paths_in_order(rt: HostRuntime) -> Result<(), Fail> {
-    let found = answers(rt.alloc(), small_tree(rt.alloc())?, "/r")?;
-    assert_eq!(rt;
-        found.as_str(),
-        "0 d /r; 1 f /r/b; 1 d /r/s; 2 f /r/s/x; 1 f /r/a"
-    );
-    Ok(())
+    let wanted = "0 d /r; 1 f /r/b; 1 d /r/s; 2 f /r/s/x; 1 f /r/a";
+    root_shows(&rt, small_tree(rt.alloc())?, "/r", wanted)
 }
 
 #[test]
 fn a_directory_before_all_that_it_holds(rt: HostRuntime) -> Result<(), Fail> {
-    let found = answers(rt.alloc(), grouped_tree(rt.alloc())?, "/t")?;
     let wanted = "0 d /t; 1 f /t/c.txt; 1 f /t/a.txt; 1 d /t/group 2; 2 f /t/group 2/e.txt; \
                   1 d /t/group 1; 2 f /t/group 1/d.txt; 1 f /t/b.txt";
-    assert_eq!(rt; found.as_str(), wanted);
-    Ok(())
+    root_shows(&rt, grouped_tree(rt.alloc())?, "/t", wanted)
 }
 
 #[test]
 fn a_file_or_an_empty_directory_alone(rt: HostRuntime) -> Result<(), Fail> {
-    let file = answers(rt.alloc(), grouped_tree(rt.alloc())?, "/t/a.txt")?;
-    assert_eq!(rt; file.as_str(), "0 f /t/a.txt");
-    let directory = answers(rt.alloc(), empty_directory(rt.alloc(), "/e")?, "/e")?;
-    assert_eq!(rt; directory.as_str(), "0 d /e");
-    Ok(())
+    root_shows(&rt, grouped_tree(rt.alloc())?, "/t/a.txt", "0 f /t/a.txt")?;
+    root_shows(&rt, empty_directory(rt.alloc(), "/e")?, "/e", "0 d /e")
 }
 
 #[test]
 fn a_shared_tree_walked_twice(rt: HostRuntime) -> Result<(), Fail> {
     let fs = Arc::new(rt.alloc(), small_tree(rt.alloc())?)?;
-    let first = answers(rt.alloc(), fs.clone()?, "/r")?;
-    assert_eq!(rt;
-        first.as_str(),
-        "0 d /r; 1 f /r/b; 1 d /r/s; 2 f /r/s/x; 1 f /r/a"
-    );
-    let second = answers(rt.alloc(), fs, "/r/s")?;
-    assert_eq!(rt; second.as_str(), "0 d /r/s; 1 f /r/s/x");
-    Ok(())
+    let wanted = "0 d /r; 1 f /r/b; 1 d /r/s; 2 f /r/s/x; 1 f /r/a";
+    root_shows(&rt, fs.clone()?, "/r", wanted)?;
+    root_shows(&rt, fs, "/r/s", "0 d /r/s; 1 f /r/s/x")
 }
 
 #[test]
@@ -66,17 +56,28 @@ fn a_walk_counted(rt: HostRuntime) -> Result<(), Fail> {
     Ok(())
 }
 
+// The answers of a walk, parted by `; `.
+fn in_a_for_loop(alloc: Global, walk: Builder<MemoryFs>) -> Result<String, AllocError> {
+    let mut text = String::new(alloc);
+    for answer in walk {
+        push_line(&mut text, &answer)?;
+    }
+    Ok(text)
+}
+
 #[test]
 fn a_walk_in_a_for_loop(rt: HostRuntime) -> Result<(), Fail> {
-    let root = String::from_str(rt.alloc(), "/r/s")?;
-    let directory = WalkDirGeneric::<((), ()), _, _, _>::new(small_tree(rt.alloc())?, root);
-    assert_eq!(rt; directory.root(), "/r/s");
-    let mut text = String::new(rt.alloc());
-    for answer in directory {
-        text.push_str(line(rt.alloc(), &answer)?.as_str())?;
-        text.push_str(";")?;
-    }
-    assert_eq!(rt; text.as_str(), "0 d /r/s;1 f /r/s/x;");
+    let walk = builder(rt.alloc(), small_tree(rt.alloc())?, "/r/s")?;
+    let text = in_a_for_loop(rt.alloc(), walk)?;
+    assert_eq!(rt; text.as_str(), "0 d /r/s; 1 f /r/s/x");
+    Ok(())
+}
+
+#[test]
+fn a_root_as_it_was_given(rt: HostRuntime) -> Result<(), Fail> {
+    let root = String::from_str(rt.alloc(), "/r//s/")?;
+    let walk = WalkDirGeneric::<((), ()), _, _, _>::new(MemoryFs::new(rt.alloc()), root);
+    assert_eq!(rt; walk.root(), "/r//s/");
     Ok(())
 }
 

@@ -4,16 +4,15 @@ use Rattle.std.specs.declared.alloc.AllocError.{AllocError}
 use Rattle.std.specs.Prelude.{◌↔◌, OnOk, OnErr, is_some, option_and_then, if◌then◌else◌}
 use Rattle.std.specs.Option.{option_map}
 use Rattle.walk_model.specs.Paths.{components}
-use Rattle.walk_model.specs.Tree.{Place, Tree, Node, directory, file, Refusal, not_found, already_exists, Spot, spot_of, place_of, with_child as with_node, add_at, add}
-use Rattle.memory_fs.specs.declared.child.Child.{Child}
-use Rattle.memory_fs.specs.declared.child.Child.TheVariants.{Dir, File}
+use Rattle.walk_model.specs.Tree.{Place, Tree, Node, directory, file, link, Refusal, not_found, already_exists, Spot, spot_of, place_of, with_child as with_node, add_at, add}
+use Rattle.memory_fs.specs.Child.{Child, Dir, File, Link}
 use Rattle.memory_fs.specs.declared.build_error.BuildError.{BuildError}
 use Rattle.memory_fs.specs.declared.build_error.BuildError.TheVariants.{NotFound, AlreadyExists, Memory}
 use Rattle.memory_fs.specs.Branch.{Branch, child_named, children_at, child_of, at_end, node_of, tree_of_table, if_free, named_spot, free_spot, empty_branch, with_named, IsSound}
 use Rattle.memory_fs.specs.MemoryFs.{IsBuilt}
 use Rattle.memory_fs.proofs.TableLemmas.{at_end-append}
 use Rattle.memory_fs.proofs.GrowthLemmas.{tree-grown, sound-grown}
-use Rattle.memory_fs.proofs.NewChildLemmas.{grows-file, extends-file, grows-directory, extends-directory, with_directory, node-directory}
+use Rattle.memory_fs.proofs.NewChildLemmas.{grows-leaf, extends-leaf, grows-directory, extends-directory, with_directory, node-directory}
 use Rattle.memory_fs.proofs.SpotLemmas.{SpotsAgree, spots_agree}
 
 -- the spot of the tree is the one of the table
@@ -59,11 +58,24 @@ module _ (table : List Branch) (sound : IsSound table) (holder : ℕ) (name : Li
   built-file answer len spot new is =
       subst (λ (t : List Branch). IsBuilt answer (tree_of_table t)) (sym is)
       (subst (λ (a : Result Tree Refusal). IsBuilt a (tree_of_table (with_named table holder name (File len)))) (sym spot.answer_is)
-      (tree-grown table (with_named table holder name (File len)) holder name (File len) (grows-file table holder name lt spot.free len) sound spot.place spot.stands (file len) refl))
+      (tree-grown table (with_named table holder name (File len)) holder name (File len) (grows-leaf table holder name lt spot.free (File len) (λ other. refl)) sound spot.place spot.stands (file len) refl))
 
   pub sound-file : (answer : Result Tree Refusal) (len : ℕ) → IsSpot table answer (file len) holder name → IsSound (with_named table holder name (File len))
   sound-file answer len spot =
-      sound-grown table (with_named table holder name (File len)) holder name (File len) (grows-file table holder name lt spot.free len) sound (extends-file table holder name lt spot.free len)
+      sound-grown table (with_named table holder name (File len)) holder name (File len) (grows-leaf table holder name lt spot.free (File len) (λ other. refl)) sound
+      (extends-leaf table holder name lt spot.free (File len) (λ index e. cc))
+
+  pub built-link : (answer : Result Tree Refusal) (target : List ℕ) → IsSpot table answer (link target) holder name → (new : List Branch) → new ≡ with_named table holder name (Link target)
+      → IsBuilt answer (tree_of_table new)
+  built-link answer target spot new is =
+      subst (λ (t : List Branch). IsBuilt answer (tree_of_table t)) (sym is)
+      (subst (λ (a : Result Tree Refusal). IsBuilt a (tree_of_table (with_named table holder name (Link target)))) (sym spot.answer_is)
+      (tree-grown table (with_named table holder name (Link target)) holder name (Link target) (grows-leaf table holder name lt spot.free (Link target) (λ other. refl)) sound spot.place spot.stands (link target) refl))
+
+  pub sound-link : (answer : Result Tree Refusal) (target : List ℕ) → IsSpot table answer (link target) holder name → IsSound (with_named table holder name (Link target))
+  sound-link answer target spot =
+      sound-grown table (with_named table holder name (Link target)) holder name (Link target) (grows-leaf table holder name lt spot.free (Link target) (λ other. refl)) sound
+      (extends-leaf table holder name lt spot.free (Link target) (λ index e. cc))
 
   pub built-directory : (answer : Result Tree Refusal) → IsSpot table answer (directory [] None) holder name
       → (new : List Branch) → new ≡ with_named table holder name (Dir (length table)) ++ empty_branch holder ∷ [] → IsBuilt answer (tree_of_table new)

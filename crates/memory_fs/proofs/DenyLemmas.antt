@@ -5,8 +5,7 @@ use Rattle.std.specs.Option.{option_map}
 use Rattle.std.specs.declared.io.ErrorKind.{ErrorKind}
 use Rattle.walk_model.specs.Paths.{components}
 use Rattle.walk_model.specs.Tree.{Place, Tree, Node, directory, same_place, Refusal, not_found, Spot, spot_of, place_of, with_denied as with_denied_node, deny_at, deny}
-use Rattle.memory_fs.specs.declared.child.Child.{Child}
-use Rattle.memory_fs.specs.declared.child.Child.TheVariants.{Dir, File}
+use Rattle.memory_fs.specs.Child.{Child, Dir, File, Link}
 use Rattle.memory_fs.specs.declared.build_error.BuildError.{BuildError}
 use Rattle.memory_fs.specs.declared.build_error.BuildError.TheVariants.{NotFound}
 use Rattle.memory_fs.specs.Branch.{Branch, child_named, children_at, parent_at, denied_at, child_of, at_end, names_of, node_of, tree_of_table, with_denied, with_denial, index_of_child, named_spot, directory_spot, IsHeld, IsSound}
@@ -24,6 +23,7 @@ module _ (old new : List Branch) (children : (i : ℕ) → children_at new i ≡
   child_same : (c : Child) (name : List ℕ) → child_of new c name ≡ child_of old c name
   child_same (Dir i) name = named_same i name
   child_same (File len) name = refl
+  child_same (Link target) name = refl
 
   -- the same stands everywhere
   at_end-same : (c : Child) (names : Place) → at_end new c names ≡ at_end old c names
@@ -72,6 +72,7 @@ module _ (table : List Branch) (index : ℕ) (k : ErrorKind) (lt : index < lengt
     elsewhere : (q : Place) → q ≢ at → (o : Option Child) → at_end table (Dir 0) q ≡ o → option_map (node_of (with_denial table index k)) o ≡ option_map (node_of table) o
     elsewhere q ne None e = refl
     elsewhere q ne (Some (File len)) e = refl
+    elsewhere q ne (Some (Link target)) e = refl
     elsewhere q ne (Some (Dir i)) e =
         ap (λ (n : Node). Some n) (node-other i (λ h. ne (one_place table sound at q index stands (e ∙ ap (λ j. Some (Dir j)) h))))
 
@@ -104,6 +105,7 @@ module _ (table : List Branch) (k : ErrorKind) where
   at_child : (s : Spot) (o : Option Child) → at_end table (Dir 0) (place_of s) ≡ o → DeniesAlike table (deny_at (tree_of_table table) k (Some s)) k (index_of_child o)
   at_child s None e = ap (λ (o : Option Child). with_denied_node k s (tree_of_table table) (option_map (node_of table) o)) e
   at_child s (Some (File len)) e = ap (λ (o : Option Child). with_denied_node k s (tree_of_table table) (option_map (node_of table) o)) e
+  at_child s (Some (Link target)) e = ap (λ (o : Option Child). with_denied_node k s (tree_of_table table) (option_map (node_of table) o)) e
   at_child s (Some (Dir i)) e = record {
     at = place_of s;
     stands = e;

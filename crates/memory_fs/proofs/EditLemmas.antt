@@ -5,7 +5,8 @@ use Rattle.std.proofs.lemmas.Bool.{cases_eq}
 use Rattle.std.proofs.lemmas.List.{get_or-map, get_or-set_same, get_or-set_other, length-map, length-set, map-set}
 use Rattle.std.proofs.Math.Seq.{map-set_same}
 use Rattle.memory_fs.specs.declared.directory.Directory.{Directory}
-use Rattle.memory_fs.specs.Branch.{Branch, branch_at, empty_branch}
+use Rattle.memory_fs.specs.Child.{Child}
+use Rattle.memory_fs.specs.Branch.{Branch, branch_at, empty_branch, with_child, with_named}
 use Rattle.memory_fs.specs.Directory.{branch}
 
 -- the table in which the directory at an index is edited
@@ -49,3 +50,12 @@ module _ {A : Type 0} (root : Branch) (items : List (Directory A)) where
   -- a directory that is seen as it was
   pub same-set : (i : ℕ) (new old : Directory A) → old ≡ get_or items i old → branch new ≡ branch old → root ∷ map branch (slice_set items i new) ≡ root ∷ map branch items
   same-set i new old stood is = ap (λ (bs : List Branch). root ∷ bs) (map-set_same branch items i new old (is ∙ ap branch stood))
+
+-- a directory that gets a child leaves as many directories as before
+pub length-others : {A : Type 0} (root first : Branch) (new old : List (Directory A)) (holder : ℕ) (name : List ℕ) (child : Child) → root ∷ map branch new ≡ with_named (first ∷ map branch old) holder name child → length new ≡ length old
+length-others root first new old holder name child is =
+    let all : length (root ∷ map branch new) ≡ length (with_named (first ∷ map branch old) holder name child) = ap (λ (bs : List Branch). length bs) is in
+    let kept : length (with_named (first ∷ map branch old) holder name child) ≡ length (first ∷ map branch old) = length-edited (with_child name child) (first ∷ map branch old) holder in
+    let here : length (map branch new) ≡ length new = length-map new branch in
+    let there : length (map branch old) ≡ length old = length-map old branch in
+    omega arith

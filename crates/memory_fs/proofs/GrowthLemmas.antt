@@ -7,9 +7,8 @@ use Rattle.std.specs.declared.io.ErrorKind.{ErrorKind}
 use Rattle.std.proofs.lemmas.Bool.{cases_eq, cases_lt, cases_Bool, false≢true}
 use Rattle.std.proofs.lemmas.List.{map-append}
 use Rattle.std.proofs.lemmas.Slice.Eq.{bytes_eq-Decides}
-use Rattle.walk_model.specs.Tree.{Place, Node, directory, file, same_place, renamed, with_child as with_node}
-use Rattle.memory_fs.specs.declared.child.Child.{Child}
-use Rattle.memory_fs.specs.declared.child.Child.TheVariants.{Dir, File}
+use Rattle.walk_model.specs.Tree.{Place, Node, directory, file, link, same_place, renamed, with_child as with_node}
+use Rattle.memory_fs.specs.Child.{Child, Dir, File, Link}
 use Rattle.memory_fs.specs.Branch.{Branch, child_named, children_at, parent_at, denied_at, child_of, at_end, names_of, node_of, tree_of_table, IsHeld, IsSound}
 use Rattle.memory_fs.proofs.PlaceLemmas.{by_last, same_front, same_last, longer_place, same_place-refl, same_place-false, place_cases}
 use Rattle.memory_fs.proofs.TableLemmas.{at_end-append, one_place, same_dir}
@@ -106,6 +105,8 @@ module _ (old new : List Branch) (holder : ℕ) (name : List ℕ) (child : Child
         elsewhere front last None (aside front last (λ h. let z : None ≡ Some (Dir holder) = sym e ∙ h in cc)) (sym (ap (option_and_then (λ x. child_of old x last)) e))
     below_same front last (Some (File len)) e =
         elsewhere front last None (aside front last (λ h. let z : Some (File len) ≡ Some (Dir holder) = sym e ∙ h in cc)) (sym (ap (option_and_then (λ x. child_of old x last)) e))
+    below_same front last (Some (Link target)) e =
+        elsewhere front last None (aside front last (λ h. let z : Some (Link target) ≡ Some (Dir holder) = sym e ∙ h in cc)) (sym (ap (option_and_then (λ x. child_of old x last)) e))
     below_same front last (Some (Dir k)) e = by (cases_eq k holder)
       where
         by : (k ≡ holder) ⊎ (k ≢ holder) → child_named (children_at new k) last ≡ (if same_place (front ++ last ∷ []) (place ++ name ∷ []) then Some child else at_end old (Dir 0) (front ++ last ∷ []))
@@ -146,6 +147,7 @@ module _ (old new : List Branch) (holder : ℕ) (name : List ℕ) (child : Child
             → option_map (node_of new) o ≡ (if same_place q place then renamed (λ names. names ++ name ∷ []) (option_map (node_of old) o) else option_map (node_of old) o)
         kept_node None e = same_branches (same_place q place) None
         kept_node (Some (File len)) e = same_branches (same_place q place) (Some (file len))
+        kept_node (Some (Link target)) e = same_branches (same_place q place) (Some (link target))
         kept_node (Some (Dir k)) e = at (cases_eq k holder)
           where
             at : (k ≡ holder) ⊎ (k ≢ holder)

@@ -2,6 +2,7 @@ pub mod DirectoryLemmas
 pub mod PlaceLemmas
 pub mod TableLemmas
 pub mod LookUpLemmas
+pub mod WalkLemmas
 pub mod AnswerLemmas
 pub mod EditLemmas
 pub mod GrowthLemmas

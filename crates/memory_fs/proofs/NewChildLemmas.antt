@@ -3,9 +3,8 @@ use Rattle.std.proofs.Common.{◌≡◌, ◌≢◌, ℕ, zero, suc, ◌+◌, ◌
 use Rattle.std.specs.declared.io.ErrorKind.{ErrorKind}
 use Rattle.std.proofs.lemmas.List.{length-append, get_or_past}
 use Rattle.walk_model.specs.Tree.{directory}
-use Rattle.memory_fs.specs.declared.child.Child.{Child}
-use Rattle.memory_fs.specs.declared.child.Child.TheVariants.{Dir, File}
-use Rattle.memory_fs.specs.Branch.{Branch, child_named, branch_at, children_at, parent_at, denied_at, empty_branch, names_of, node_of, with_child, with_named}
+use Rattle.memory_fs.specs.Child.{Child, Dir}
+use Rattle.memory_fs.specs.Branch.{Branch, child_named, branch_at, children_at, parent_at, denied_at, child_of, empty_branch, names_of, node_of, with_child, with_named}
 use Rattle.memory_fs.proofs.EditLemmas.{at_edited, at_other, length-edited, kept-edited}
 use Rattle.memory_fs.proofs.GrowthLemmas.{Grows, Extends}
 
@@ -26,25 +25,25 @@ module _ (table : List Branch) (holder : ℕ) (name : List ℕ) (child : Child) 
   length-named = length-edited (with_child name child) table holder
 
 module _ (table : List Branch) (holder : ℕ) (name : List ℕ) (lt : holder < length table) (free : child_named (children_at table holder) name ≡ None) where
-  -- ---- a file
-  pub grows-file : (len : ℕ) → Grows table (with_named table holder name (File len)) holder name (File len)
-  grows-file len = record {
+  -- ---- a file or a link
+  pub grows-leaf : (child : Child) → ((other : List ℕ) → child_of (with_named table holder name child) child other ≡ None) → Grows table (with_named table holder name child) holder name child
+  grows-leaf child leaf = record {
     free = free;
-    here = children-named table holder name (File len) lt;
-    others = children-other table holder name (File len) lt;
-    denials = denied-named table holder name (File len) lt;
-    leaf = λ other. refl;
+    here = children-named table holder name child lt;
+    others = children-other table holder name child lt;
+    denials = denied-named table holder name child lt;
+    leaf = leaf;
   }
 
-  pub extends-file : (len : ℕ) → Extends table (with_named table holder name (File len)) holder (File len)
-  extends-file len =
-      let l = length-named table holder name (File len) lt in
+  pub extends-leaf : (child : Child) → ((index : ℕ) → child ≢ Dir index) → Extends table (with_named table holder name child) holder child
+  extends-leaf child no_dir =
+      let l = length-named table holder name child lt in
       record {
         within = lt;
         longer = omega arith;
-        kept = λ index h. parent-named table holder name (File len) lt index;
+        kept = λ index h. parent-named table holder name child lt index;
         added = λ index h h'. absurd (omega arith);
-        new_dir = λ index e. cc;
+        new_dir = λ index e. absurd (no_dir index e);
       }
 
 -- ---- an empty directory behind the others

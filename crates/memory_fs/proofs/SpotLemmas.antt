@@ -9,10 +9,10 @@ use Rattle.walk_model.specs.Paths.{Component, root, here, up, plain, components,
 use Rattle.walk_model.specs.PathTexts.{component_read, component_seen}
 use Rattle.walk_model.specs.Tree.{Place, is_directory, looked_up, Spot, spot_in, spot_below, spot_of}
 use Rattle.walk_model.proofs.PathFacts.{last_read}
-use Rattle.memory_fs.specs.declared.child.Child.{Child}
-use Rattle.memory_fs.specs.declared.child.Child.TheVariants.{Dir, File}
-use Rattle.memory_fs.specs.Branch.{Branch, at_end, node_of, tree_of_table, reached, holder_of, named_below, named_spot, IsSound}
-use Rattle.memory_fs.proofs.LookUpLemmas.{Agrees, along_agrees}
+use Rattle.memory_fs.specs.Child.{Child, Dir}
+use Rattle.memory_fs.specs.Hit.{Hit, on_dir, on_file, on_link}
+use Rattle.memory_fs.specs.Branch.{Branch, at_end, node_of, tree_of_table, from_root, holder_of, named_below, named_spot, IsSound}
+use Rattle.memory_fs.proofs.LookUpLemmas.{Agrees, from_root_agrees}
 
 last_of-append : (front : List Component) (c : Component) → last_of (front ++ c ∷ []) ≡ Some c
 last_of-append [] c = refl
@@ -53,14 +53,16 @@ abbrev spot_at : Place → List ℕ → Spot
 spot_at place name = record { holder = place; name = name }
 
 module _ (table : List Branch) (sound : IsSound table) where
-  agree_in : (name : List ℕ) (r : Result Place ErrorKind) (s : Result Child ErrorKind) → Agrees table r s
+  agree_in : (name : List ℕ) (r : Result Place ErrorKind) (s : Result Hit ErrorKind) → Agrees table r s
       → SpotsAgree table (spot_in (tree_of_table table) name r) (option_map (λ holder. (holder, name)) (holder_of s))
-  agree_in name (Ok place) (Ok (Dir i)) e =
+  agree_in name (Ok place) (Ok (on_dir i)) e =
       subst (λ (o : Option Child). SpotsAgree table (if is_directory (option_map (node_of table) o) then Some (spot_at place name) else None) (Some (i, name))) (sym e) (e, refl)
-  agree_in name (Ok place) (Ok (File len)) e =
+  agree_in name (Ok place) (Ok (on_file len)) e =
       subst (λ (o : Option Child). SpotsAgree table (if is_directory (option_map (node_of table) o) then Some (spot_at place name) else None) None) (sym e) tt
+  agree_in name (Ok place) (Ok (on_link holder target)) e =
+      subst (λ (o : Option Child). SpotsAgree table (if is_directory (option_map (node_of table) o) then Some (spot_at place name) else None) None) (sym e.0) tt
   agree_in name (Ok place) (Err l) e = absurd e
-  agree_in name (Err k) (Ok c) e = absurd e
+  agree_in name (Err k) (Ok hit) e = absurd e
   agree_in name (Err k) (Err l) e = tt
 
   agree_below : (front : List Component) (last : Option Component) → SpotsAgree table (spot_below (tree_of_table table) front last) (named_below table front (name_of last))
@@ -69,7 +71,7 @@ module _ (table : List Branch) (sound : IsSound table) where
   agree_below front (Some here) = tt
   agree_below front (Some up) = tt
   agree_below front (Some (plain name)) =
-      agree_in name (looked_up (tree_of_table table) true 40 [] front) (reached table (Dir 0) front) (along_agrees table true (Some (looked_up (tree_of_table table) true 39)) sound front [] (Dir 0) refl)
+      agree_in name (looked_up (tree_of_table table) true 40 [] front) (from_root table true front) (from_root_agrees table true sound front)
 
   -- the tree's spot is the table's
   pub spots_agree : (path : List ℕ) → SpotsAgree table (spot_of (tree_of_table table) path) (named_spot table (components path))

@@ -1,11 +1,10 @@
 -- What a look-up by names finds in a table of directories, and that in a sound one each directory has one place.
 use Rattle.std.proofs.Common.{◌≡◌, ℕ, zero, suc, ◌<◌, List, [], ◌∷◌, ◌++◌, length, Option, None, Some, refl, sym, ap, ◌∙◌, arith}
-use Rattle.std.specs.Prelude.{option_and_then, IfOk, ok_or}
-use Rattle.std.specs.declared.io.ErrorKind.{ErrorKind}
+use Rattle.std.specs.Prelude.{option_and_then}
 use Rattle.walk_model.specs.Tree.{Place, above, only_root}
-use Rattle.memory_fs.specs.declared.child.Child.{Child}
-use Rattle.memory_fs.specs.declared.child.Child.TheVariants.{Dir, File}
-use Rattle.memory_fs.specs.Branch.{Branch, child_named, branch_at, children_at, parent_at, child_of, at_end, empty_branch, tree_of_table, IsSound, IsWithin}
+use Rattle.memory_fs.specs.Child.{Child, Dir, File, Link}
+use Rattle.memory_fs.specs.Hit.{hit_of}
+use Rattle.memory_fs.specs.Branch.{Branch, child_named, children_at, parent_at, child_of, at_end, empty_branch, tree_of_table, IsSound, IsWithin}
 use Rattle.memory_fs.proofs.PlaceLemmas.{by_last, above-append}
 
 and_then-Some : {X : Type 0} (o : Option X) → option_and_then (λ x. Some x) o ≡ o
@@ -33,6 +32,7 @@ last_step table front name child found = by (at_end table (Dir 0) front) refl (s
     by None e h = let h' : None ≡ Some child = sym (ap (option_and_then (λ x. child_of table x name)) e) ∙ h in cc
     by (Some (Dir i)) e h = record { holder = i; before = e; step = sym (ap (option_and_then (λ x. child_of table x name)) e) ∙ h }
     by (Some (File len)) e h = let h' : None ≡ Some child = sym (ap (option_and_then (λ x. child_of table x name)) e) ∙ h in cc
+    by (Some (Link target)) e h = let h' : None ≡ Some child = sym (ap (option_and_then (λ x. child_of table x name)) e) ∙ h in cc
 
 pub same_dir : (i j : ℕ) → Some (Dir i) ≡ Some (Dir j) → i ≡ j
 same_dir i j e = cc
@@ -80,12 +80,10 @@ tree-root [] = refl
 tree-root (n ∷ ns) = refl
 
 -- ---- what is found is within the table
-pub within_directory : (table : List Branch) → IsSound table → (holder : ℕ) (name : List ℕ) (b : Branch) (o : Option Child) (c : Child) (index : ℕ)
-    → b ≡ branch_at table holder → o ≡ child_named b.children name → o ≡ Some c → c ≡ Dir index → index < length table
-within_directory table sound holder name b o c index at is some dir =
-    (sound.held holder name index (ap (λ (d : Branch). child_named d.children name) (sym at) ∙ sym is ∙ some ∙ ap (λ (d : Child). Some d) dir)).within
+pub within_directory : (table : List Branch) → IsSound table → (holder : ℕ) (name : List ℕ) (index : ℕ) → child_named (children_at table holder) name ≡ Some (Dir index) → index < length table
+within_directory table sound holder name index is = (sound.held holder name index is).within
 
-pub within_named : (table : List Branch) → IsSound table → (index : ℕ) (name : List ℕ) (o : Option Child) (k : ErrorKind) → o ≡ child_named (children_at table index) name → IfOk (ok_or o k) (IsWithin table)
-within_named table sound index name None k e = tt
-within_named table sound index name (Some (Dir j)) k e = (sound.held index name j (sym e)).within
-within_named table sound index name (Some (File len)) k e = tt
+pub within_hit : (table : List Branch) → IsSound table → (holder : ℕ) → holder < length table → (name : List ℕ) (child : Child) → child_named (children_at table holder) name ≡ Some child → IsWithin table (hit_of holder child)
+within_hit table sound holder lt name (Dir index) is = (sound.held holder name index is).within
+within_hit table sound holder lt name (File len) is = tt
+within_hit table sound holder lt name (Link target) is = lt

@@ -1,15 +1,15 @@
 -- The table of directories as a list of values: what its names stand for, what a look-up finds in it, and the tree that it is.
-use Rattle.std.specs.Prelude.{◌≡◌, ℕ, ◌<◌, List, [], ◌∷◌, ◌++◌, map, length, slice_index_or, slice_set, Option, Some, None, is_some, Result, Ok, Err, if◌then◌else◌, bytes_eq, option_and_then}
+use Rattle.std.specs.Prelude.{◌≡◌, ℕ, zero, suc, ◌<◌, Bool, true, List, [], ◌∷◌, ◌++◌, map, length, slice_index_or, slice_set, Option, Some, None, is_some, Result, Ok, Err, if◌then◌else◌, bytes_eq, option_and_then}
 use Rattle.std.specs.Option.{option_map}
 use Rattle.std.specs.Map.{lookup}
 use Rattle.std.specs.declared.io.ErrorKind.{ErrorKind}
 use Rattle.std.specs.declared.io.ErrorKind.TheVariants as kind
 use Rattle.walk_model.specs.Paths.{Component, root, here, up, plain, components, last_of, all_but_last, name_of}
-use Rattle.walk_model.specs.Tree.{Node, directory, file, Tree}
+use Rattle.walk_model.specs.Tree.{Node, directory, file, link, Tree, link_limit}
 use Rattle.walk_model.specs.FileSystem.{Listed}
-use Rattle.memory_fs.specs.Child.{type_of}
-use Rattle.memory_fs.specs.declared.child.Child.{Child}
-use Rattle.memory_fs.specs.declared.child.Child.TheVariants.{Dir, File}
+use Rattle.memory_fs.specs.Child.{Child, Dir, File, Link, type_of}
+use Rattle.memory_fs.specs.Hit.{Hit, on_dir, on_file, on_link, hit_seen, hit_of}
+use Rattle.memory_fs.specs.declared.hit.Hit.{Hit as CodeHit}
 use Rattle.memory_fs.specs.declared.build_error.BuildError.{BuildError}
 use Rattle.memory_fs.specs.declared.build_error.BuildError.TheVariants.{NotFound, AlreadyExists}
 
@@ -63,6 +63,7 @@ denied_at table index = (branch_at table index).denied
 abbrev pub child_of : List Branch → Child → List ℕ → Option Child
 child_of table (Dir index) name = child_named (children_at table index) name
 child_of table (File len) name = None
+child_of table (Link target) name = None
 
 -- what stands at the end of the names
 abbrev pub at_end : List Branch → Child → List (List ℕ) → Option Child
@@ -90,48 +91,97 @@ AreFound children (e ∷ es) = (child_named children e.0 ≡ Some e.1) × AreFou
 abbrev pub node_of : List Branch → Child → Node
 node_of table (Dir index) = directory (names_of (children_at table index)) (denied_at table index)
 node_of table (File len) = file len
+node_of table (Link target) = link target
 
 -- the tree that the table is, whose root comes first
 abbrev pub tree_of_table : List Branch → Tree
 tree_of_table table names = option_map (node_of table) (at_end table (Dir 0) names)
 
--- a child that was looked for
-abbrev pub child_or_missing : Option Child → Result Child ErrorKind
-child_or_missing None = Err kind.NotFound
-child_or_missing (Some child) = Ok child
+-- what a look-up comes to by a child that was looked for in a directory
+abbrev pub hit_or_missing : ℕ → Option Child → Result Hit ErrorKind
+hit_or_missing holder None = Err kind.NotFound
+hit_or_missing holder (Some child) = Ok (hit_of holder child)
 
--- one component worked off
-abbrev pub next_child : List Branch → Child → Component → Result Child ErrorKind
-next_child table (File len) c = Err kind.Other
-next_child table (Dir index) root = Ok (Dir 0)
-next_child table (Dir index) here = Ok (Dir index)
-next_child table (Dir index) up = Ok (Dir (parent_at table index))
-next_child table (Dir index) (plain name) = child_or_missing (child_named (children_at table index) name)
+-- one component worked off, where what the look-up had come to is no link
+abbrev pub next_hit : List Branch → Hit → Component → Result Hit ErrorKind
+next_hit table (on_file len) c = Err kind.Other
+next_hit table (on_link holder target) c = Err kind.Other
+next_hit table (on_dir index) root = Ok (on_dir 0)
+next_hit table (on_dir index) here = Ok (on_dir index)
+next_hit table (on_dir index) up = Ok (on_dir (parent_at table index))
+next_hit table (on_dir index) (plain name) = hit_or_missing index (child_named (children_at table index) name)
 
-abbrev pub go_on : (Child → Result Child ErrorKind) → Result Child ErrorKind → Result Child ErrorKind
-go_on next (Ok child) = next child
+abbrev pub go_on : {X : Type 0} → (X → Result Hit ErrorKind) → Result X ErrorKind → Result Hit ErrorKind
+go_on next (Ok x) = next x
 go_on next (Err k) = Err k
 
--- the components worked off from the front
-abbrev pub reached : List Branch → Child → List Component → Result Child ErrorKind
-reached table child [] = Ok child
-reached table child (c ∷ cs) = go_on (λ next. reached table next cs) (next_child table child c)
+-- What a look-up comes to from a hit by the components that are left.
+abbrev pub Way : Type 0
+Way = Hit → List Component → Result Hit ErrorKind
+
+-- A link is followed: its target stands in front of the components that are left. There is no way on where no link may be followed any more.
+abbrev pub through : Option Way → ℕ → List ℕ → List Component → Result Hit ErrorKind
+through None holder target left = Err kind.Other
+through (Some way) holder [] left = Err kind.NotFound
+through (Some way) holder (c ∷ target) left = way (on_dir holder) (components (c ∷ target) ++ left)
+
+module _ (table : List Branch) (follow : Bool) where
+  -- the components worked off from the front
+  abbrev pub along : Option Way → Way
+  along links (on_link holder target) [] = if follow then through links holder target [] else Ok (on_link holder target)
+  along links (on_link holder target) (c ∷ cs) = through links holder target (c ∷ cs)
+  along links (on_dir index) [] = Ok (on_dir index)
+  along links (on_dir index) (c ∷ cs) = go_on (λ next. along links next cs) (next_hit table (on_dir index) c)
+  along links (on_file len) [] = Ok (on_file len)
+  along links (on_file len) (c ∷ cs) = Err kind.Other
+
+  -- the same, with so many links that may be followed
+  abbrev pub reached : ℕ → Way
+  reached zero = along None
+  reached (suc links) = along (Some (reached links))
+
+-- what the components lead to from the root, in a whole look-up
+unfoldable pub from_root : List Branch → Bool → List Component → Result Hit ErrorKind
+from_root table follow cs = reached table follow link_limit (on_dir 0) cs
 
 -- what is found at a path; nothing is at the empty one
-abbrev pub found : List Branch → List ℕ → Result Child ErrorKind
-found table [] = Err kind.NotFound
-found table (c ∷ cs) = reached table (Dir 0) (components (c ∷ cs))
+abbrev pub found : List Branch → Bool → List ℕ → Result Hit ErrorKind
+found table follow [] = Err kind.NotFound
+found table follow (c ∷ cs) = from_root table follow (components (c ∷ cs))
+
+-- it is no link
+abbrev pub IsSettled : Hit → Type 0
+IsSettled (on_dir index) = Unit {0}
+IsSettled (on_file len) = Unit {0}
+IsSettled (on_link holder target) = ⊥
+
+-- a link is followed before these components, or at the end where that is asked
+abbrev pub IsFollowed : Bool → List Component → Type 0
+IsFollowed follow [] = follow ≡ true
+IsFollowed follow (c ∷ cs) = Unit {0}
+
+-- What components lead to from a hit, and how many links may be followed from there: whatever is left behind them, the look-up goes on just so.
+abbrev pub LeadsOn : List Branch → ℕ → Hit → List Component → Result (CodeHit × ℕ) ErrorKind → Type 0
+LeadsOn table links from cs result =
+    (follow : Bool) (left : List Component) → reached table follow links from (cs ++ left) ≡ go_on (λ r. reached table follow r.1 (hit_seen r.0) left) result
+
+-- The same for a link that is followed.
+abbrev pub LinkLeadsOn : List Branch → ℕ → ℕ → List ℕ → Result (CodeHit × ℕ) ErrorKind → Type 0
+LinkLeadsOn table links holder target result =
+    (follow : Bool) (left : List Component) → IsFollowed follow left
+    → reached table follow links (on_link holder target) left ≡ go_on (λ r. reached table follow r.1 (hit_seen r.0) left) result
 
 -- the directory, if one was found
-abbrev pub holder_of : Result Child ErrorKind → Option ℕ
-holder_of (Ok (Dir index)) = Some index
-holder_of (Ok (File len)) = None
+abbrev pub holder_of : Result Hit ErrorKind → Option ℕ
+holder_of (Ok (on_dir index)) = Some index
+holder_of (Ok (on_file len)) = None
+holder_of (Ok (on_link holder target)) = None
 holder_of (Err k) = None
 
 -- the directory that the components lead to, and the name that comes behind them
 abbrev pub named_below : List Branch → List Component → Option (List ℕ) → Option (ℕ × List ℕ)
 named_below table front None = None
-named_below table front (Some name) = option_map (λ holder. (holder, name)) (holder_of (reached table (Dir 0) front))
+named_below table front (Some name) = option_map (λ holder. (holder, name)) (holder_of (from_root table true front))
 
 -- the directory and the name in it that a path leads to
 abbrev pub named_spot : List Branch → List Component → Option (ℕ × List ℕ)
@@ -151,15 +201,17 @@ abbrev pub index_of_child : Option Child → Option ℕ
 index_of_child None = None
 index_of_child (Some (Dir index)) = Some index
 index_of_child (Some (File len)) = None
+index_of_child (Some (Link target)) = None
 
 -- the directory that a path leads to by its last name
 abbrev pub directory_spot : List Branch → List Component → Option ℕ
 directory_spot table cs = option_and_then (λ s. index_of_child (child_named (children_at table s.0) s.1)) (named_spot table cs)
 
--- the index is in the table, if it is one
-abbrev pub IsWithin : List Branch → Child → Type 0
-IsWithin table (Dir index) = index < length table
-IsWithin table (File len) = Unit {0}
+-- the directory that was come to, or that holds the link, is in the table
+abbrev pub IsWithin : List Branch → Hit → Type 0
+IsWithin table (on_dir index) = index < length table
+IsWithin table (on_file len) = Unit {0}
+IsWithin table (on_link holder target) = holder < length table
 
 -- a directory that a name stands for is in the table and isn't the root, and that name in that directory is the only one that stands for it
 pub record IsHeld (table : List Branch) (holder : ℕ) (name : List ℕ) (index : ℕ) : Type 0 where

@@ -1,15 +1,22 @@
--- What a file system tells of a child.
+-- What a clause sees of a child, and the type that a file system tells of it.
+use Rattle.std.specs.Prelude.{ℕ, List, string_bytes}
 use Rattle.walk_model.specs.declared.file_type.FileType.{FileType}
 use Rattle.walk_model.specs.declared.file_type.FileType.TheVariants as type
-use Rattle.walk_model.specs.declared.metadata.Metadata.{Metadata}
-use Rattle.walk_model.specs.Metadata.{metadata}
-use Rattle.memory_fs.specs.declared.child.Child.{Child}
-use Rattle.memory_fs.specs.declared.child.Child.TheVariants.{Dir, File}
+use Rattle.memory_fs.specs.declared.child.Child.{Child as CodeChild}
+use Rattle.memory_fs.specs.declared.child.Child.TheVariants as code
+
+-- A directory by its index in the table, a file by its length, or a link by its target.
+pub data Child : Type 0 where
+  Dir : ℕ → Child
+  File : ℕ → Child
+  Link : List ℕ → Child
+
+abbrev pub child_seen : {A : Type 0} → CodeChild A → Child
+child_seen (code.Dir index) = Dir index
+child_seen (code.File len) = File len
+child_seen (code.Link target) = Link (string_bytes target.value)
 
 abbrev pub type_of : Child → FileType
 type_of (Dir index) = type.Dir
 type_of (File len) = type.File
-
-abbrev pub metadata_of : Child → Metadata
-metadata_of (Dir index) = metadata type.Dir 0
-metadata_of (File len) = metadata type.File len
+type_of (Link target) = type.Symlink

@@ -1,4 +1,5 @@
 pub mod Child
+pub mod Hit
 pub mod Branch
 pub mod Directory
 pub mod Table

@@ -1,36 +1,41 @@
 //! What a name in a directory stands for.
 ghost use Rattle.std.specs.Prelude.{◌≡◌};
 
+use crate::hit::Hit;
+use std::alloc::Allocator;
 use walk_model::file_type::FileType;
-use walk_model::metadata::Metadata;
 
-/// A directory by its index in the table, or a file by its length.
-#[derive(Clone, Copy)]
-pub enum Child {
+/// A directory by its index in the table, a file by its length, or a link by its target.
+#[derive(Drop)]
+pub enum Child<A: Allocator + Copy> {
     Dir(usize),
     File(u64),
+    Link(Box<String<A>, A>),
 }
 
-impl Child {
-    ghost use Rattle.memory_fs.specs.Child.{type_of, metadata_of};
+impl<A: Allocator + Copy> Child<A> {
+    ghost use Rattle.memory_fs.specs.Child.{child_seen, type_of};
+    ghost use Rattle.memory_fs.specs.Hit.{hit_seen, hit_of};
 
     /// The type, as a listing tells it.
-    pub(crate) fn file_type(self) -> FileType
-        ensures { result ≡ type_of self }
+    pub(crate) fn file_type(&self) -> FileType
+        ensures { result ≡ type_of (child_seen self.now) }
     {
         match self {
             Child::Dir(_) => FileType::Dir,
             Child::File(_) => FileType::File,
+            Child::Link(_) => FileType::Symlink,
         }
     }
 
-    /// Type and length; a directory has length 0.
-    pub(crate) fn metadata(self) -> Metadata
-        ensures { result ≡ metadata_of self }
+    /// What a look-up comes to where this child stands in a directory.
+    pub(crate) fn hit(&self, holder: usize) -> Hit<'_>
+        ensures { hit_seen result ≡ hit_of holder (child_seen self.now) }
     {
         match self {
-            Child::Dir(_) => Metadata::new(FileType::Dir, 0),
-            Child::File(len) => Metadata::new(FileType::File, len),
+            Child::Dir(index) => Hit::Dir(*index),
+            Child::File(len) => Hit::File(*len),
+            Child::Link(target) => Hit::Link(holder, target.as_str()),
         }
     }
 }

@@ -1,6 +1,8 @@
 //! A directory of the table. A clause sees it as a `Branch`.
 ghost use Rattle.std.specs.Prelude.{◌≡◌, [], map, None, IfOk, OnOk, OnErr};
+ghost use Rattle.std.specs.Option.{option_map};
 ghost use Rattle.memory_fs.specs.Branch.{child_named, with_child, with_denied, listing_of, AreFound};
+ghost use Rattle.memory_fs.specs.Child.{child_seen};
 ghost use Rattle.memory_fs.specs.Directory.{branch};
 ghost use Rattle.walk_fs.specs.Views.{listed};
 
@@ -17,7 +19,7 @@ use walk_fs::listed::Listed;
 #[derive(Drop)]
 pub struct Directory<A: Allocator + Copy> {
     pub(crate) parent: usize,
-    pub(crate) children: IndexMap<String<A>, Child, BuildHasherDefault<FoldHasher>, A>,
+    pub(crate) children: IndexMap<String<A>, Child<A>, BuildHasherDefault<FoldHasher>, A>,
     pub(crate) denied: Option<ErrorKind>,
 }
 
@@ -34,16 +36,16 @@ impl<A: Allocator + Copy> Directory<A> {
     }
 
     /// The child of this name.
-    pub(crate) fn child(&self, name: &str) -> Option<Child>
-        ensures { result ≡ child_named (branch self.now).children name.now }
+    pub(crate) fn child(&self, name: &str) -> Option<&Child<A>>
+        ensures { option_map (λ c. child_seen c.now) result ≡ child_named (branch self.now).children name.now }
     {
-        self.children.get(name).copied()
+        self.children.get(name)
     }
 
     /// Puts a new child behind the others. Where memory is refused, nothing changes.
-    pub(crate) fn add(&mut self, name: &str, child: Child) -> Result<(), AllocError>
+    pub(crate) fn add(&mut self, name: &str, child: Child<A>) -> Result<(), AllocError>
         requires { child_named (branch self.old).children name.now ≡ None }
-        ensures ok { OnOk result (branch self.new ≡ with_child name.now child (branch self.old)) }
+        ensures ok { OnOk result (branch self.new ≡ with_child name.now (child_seen child) (branch self.old)) }
         ensures err { OnErr result (branch self.new ≡ branch self.old) }
     {
         let text = String::from_str(*self.children.allocator(), name)?;

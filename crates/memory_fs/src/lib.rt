@@ -4,6 +4,7 @@
 pub mod build_error;
 mod child;
 mod directory;
+mod hit;
 pub mod memory_fs;
 mod spot;
 mod table;

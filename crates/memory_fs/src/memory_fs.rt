@@ -9,6 +9,7 @@ ghost use Rattle.memory_fs.specs.Table.{branches};
 
 use crate::build_error::BuildError;
 use crate::child::Child;
+use crate::hit::Hit;
 use crate::spot::Spot;
 use crate::table::Table;
 use std::alloc::{Allocator, Global};
@@ -20,7 +21,10 @@ use walk_fs::file_system::FileSystem;
 use walk_fs::listed::Listed;
 use walk_model::metadata::Metadata;
 
-/// A tree of directories and files. Its answers never change while it is not built on.
+// How many links one look-up may follow.
+const LINK_LIMIT: u32 = 40;
+
+/// A tree of directories, files and links. Its answers never change while it is not built on.
 #[derive(Drop)]
 pub struct MemoryFs<A: Allocator + Copy = Global> {
     table: Table<A>,
@@ -28,13 +32,12 @@ pub struct MemoryFs<A: Allocator + Copy = Global> {
 }
 
 impl<A: Allocator + Copy> MemoryFs<A> {
-    ghost use Rattle.std.specs.Prelude.{◌≡◌, ◌<◌, ◌↔◌, [], length, None, IfSome, IfOk, IfErr, OnOk, OnErr, MatchOption, MatchResult, Some, Ok, Err};
+    ghost use Rattle.std.specs.Prelude.{◌≡◌, ◌<◌, ◌≤◌, ◌↔◌, true, [], length, None, IfSome, IfOk, IfErr, OnOk, OnErr, MatchOption, MatchResult, Some, Ok, Err};
     ghost use Rattle.walk_model.specs.Paths.{components};
     ghost use Rattle.walk_model.specs.PathTexts.{components_left, component_seen};
-    ghost use Rattle.walk_model.specs.Tree.{Place, only_root, directory, file, add, deny, not_found, already_exists};
-    ghost use Rattle.memory_fs.specs.declared.child.Child.{Child};
-    ghost use Rattle.memory_fs.specs.declared.child.Child.TheVariants.{Dir};
-    ghost use Rattle.memory_fs.specs.Branch.{next_child, reached, found, holder_of, named_spot, free_spot, directory_spot, IsWithin};
+    ghost use Rattle.walk_model.specs.Tree.{Place, only_root, directory, file, link, add, deny, not_found, already_exists};
+    ghost use Rattle.memory_fs.specs.Hit.{hit_seen, answer_seen};
+    ghost use Rattle.memory_fs.specs.Branch.{next_hit, from_root, found, holder_of, named_spot, free_spot, directory_spot, IsWithin, IsSettled, LeadsOn, LinkLeadsOn};
     ghost use Rattle.memory_fs.specs.MemoryFs.{tree_of, IsSameTree, IsBuilt};
 
     /// The tree with nothing below its root, which needs no memory. The allocator serves all that is added.
@@ -76,6 +79,21 @@ impl<A: Allocator + Copy> MemoryFs<A> {
         Ok(())
     }
 
+    /// Adds a link to a target, which may lead nowhere, where `add_dir` would add a directory, with the same refusals. A
+    /// relative target starts at the directory that holds the link.
+    pub fn add_link(&mut self, path: &str, target: &str) -> Result<(), BuildError>
+        ensures added { OnOk result (IsBuilt (add (link target.now) path.now (tree_of self.old)) (tree_of self.new)) }
+        ensures not_found { (result ≡ Err BuildError.NotFound)
+            ↔ (add (link target.now) path.now (tree_of self.old) ≡ Err not_found) }
+        ensures already_exists { (result ≡ Err BuildError.AlreadyExists)
+            ↔ (add (link target.now) path.now (tree_of self.old) ≡ Err already_exists) }
+        ensures err { OnErr result (IsSameTree (tree_of self.old) (tree_of self.new)) }
+    {
+        let spot = self.free_spot(path)?;
+        self.table.add_link(spot.holder, spot.name, target)?;
+        Ok(())
+    }
+
     /// Reading the directory at the path fails with this kind from now on; a later kind replaces it, and nothing else is
     /// touched. `NotFound` where `add_dir` answers it, and where no directory has that name. It needs no memory. After a
     /// refusal the tree is as it was.
@@ -93,59 +111,121 @@ impl<A: Allocator + Copy> MemoryFs<A> {
         Ok(())
     }
 
-    // One component worked off.
-    fn step(&self, child: Child, component: Component<'_>) -> Result<Child, ErrorKind>
-        requires { IsWithin (branches self.now.table) child }
-        ensures value { result ≡ next_child (branches self.now.table) child (component_seen component.entry) }
-        ensures within { IfOk result (IsWithin (branches self.now.table)) }
+    // One component worked off, from what is no link.
+    fn step(&self, hit: Hit<'_>, component: Component<'_>) -> Result<Hit<'_>, ErrorKind>
+        requires { IsWithin (branches self.now.table) (hit_seen hit) }
+        ensures value { answer_seen result
+            ≡ next_hit (branches self.now.table) (hit_seen hit.entry) (component_seen component.entry) }
+        ensures within { IfOk result (λ h. IsWithin (branches self.now.table) (hit_seen h)) }
     {
-        let Child::Dir(index) = child else {
+        let Hit::Dir(index) = hit else {
             return Err(ErrorKind::Other);
         };
         match component {
-            Component::RootDir => Ok(Child::Dir(0)),
-            Component::CurDir => Ok(child),
-            Component::ParentDir => Ok(Child::Dir(self.table.directory(index).parent)),
-            Component::Normal(name) => self
-                .table
-                .directory(index)
-                .child(name)
-                .ok_or(ErrorKind::NotFound),
+            Component::RootDir => Ok(Hit::Dir(0)),
+            Component::CurDir => Ok(Hit::Dir(index)),
+            Component::ParentDir => Ok(Hit::Dir(self.table.directory(index).parent)),
+            Component::Normal(name) => match self.table.directory(index).child(name) {
+                Some(child) => Ok(child.hit(index)),
+                None => Err(ErrorKind::NotFound),
+            },
         }
     }
 
-    // What the components lead to, from the root.
-    fn walk(&self, components: Components<'_>) -> Result<Child, ErrorKind>
-        ensures value { result ≡ reached (branches self.now.table) (Dir 0) (components_left components.entry) }
-        ensures within { IfOk result (IsWithin (branches self.now.table)) }
+    // What the components lead to, where the last is followed only as far as it must be, and how many links may be
+    // followed from there.
+    #[cycle(links)]
+    fn walk<'a>(
+        &'a self,
+        from: Hit<'a>,
+        components: Components<'_>,
+        links: u32,
+    ) -> Result<(Hit<'a>, u32), ErrorKind>
+        requires { IsWithin (branches self.now.table) (hit_seen from) }
+        ensures value { LeadsOn (branches self.now.table) links (hit_seen from.entry) (components_left components.entry) result }
+        ensures within { IfOk result (λ r. IsWithin (branches self.now.table) (hit_seen r.0)) }
+        ensures fewer { IfOk result (λ r. r.1 ≤ links) }
     {
-        let mut child = Child::Dir(0);
+        let mut hit = from;
+        let mut left = links;
         for component in components {
-            child = self.step(child, component)?;
+            if let Hit::Link(holder, target) = hit {
+                let (end, fewer) = self.followed(holder, target, left)?;
+                hit = end;
+                left = fewer;
+            }
+            hit = self.step(hit, component)?;
         }
-        Ok(child)
+        Ok((hit, left))
+    }
+
+    // What a link leads to, all links followed, and how many may be followed from there.
+    #[cycle(links)]
+    fn followed<'a>(
+        &'a self,
+        holder: usize,
+        target: &'a str,
+        links: u32,
+    ) -> Result<(Hit<'a>, u32), ErrorKind>
+        requires { holder < length (branches self.now.table) }
+        ensures value { LinkLeadsOn (branches self.now.table) links holder target.now result }
+        ensures settled { IfOk result (λ r. IsSettled (hit_seen r.0)) }
+        ensures within { IfOk result (λ r. IsWithin (branches self.now.table) (hit_seen r.0)) }
+        ensures fewer { IfOk result (λ r. r.1 ≤ links) }
+    {
+        if links == 0 {
+            return Err(ErrorKind::Other);
+        }
+        if target.is_empty() {
+            return Err(ErrorKind::NotFound);
+        }
+        let (hit, left) = self.walk(Hit::Dir(holder), Path::new(target).components(), links - 1)?;
+        match hit {
+            Hit::Link(holder, target) => self.followed(holder, target, left),
+            Hit::Dir(_) => Ok((hit, left)),
+            Hit::File(_) => Ok((hit, left)),
+        }
+    }
+
+    // What the components lead to, from the root. The last, if it is a link, is followed where that is asked.
+    fn reach(&self, components: Components<'_>, follow: bool) -> Result<Hit<'_>, ErrorKind>
+        ensures value { answer_seen result
+            ≡ from_root (branches self.now.table) follow (components_left components.entry) }
+        ensures within { IfOk result (λ h. IsWithin (branches self.now.table) (hit_seen h)) }
+    {
+        let (hit, left) = self.walk(Hit::Dir(0), components, LINK_LIMIT)?;
+        match hit {
+            Hit::Dir(_) => Ok(hit),
+            Hit::File(_) => Ok(hit),
+            Hit::Link(holder, target) => {
+                if follow {
+                    Ok(self.followed(holder, target, left)?.0)
+                } else {
+                    Ok(hit)
+                }
+            }
+        }
     }
 
     // What a path leads to.
-    fn look_up(&self, path: &str) -> Result<Child, ErrorKind>
-        ensures value { result ≡ found (branches self.now.table) path.now }
-        ensures within { IfOk result (IsWithin (branches self.now.table)) }
+    fn look_up(&self, path: &str, follow: bool) -> Result<Hit<'_>, ErrorKind>
+        ensures value { answer_seen result ≡ found (branches self.now.table) follow path.now }
+        ensures within { IfOk result (λ h. IsWithin (branches self.now.table) (hit_seen h)) }
     {
         if path.is_empty() {
             return Err(ErrorKind::NotFound);
         }
-        self.walk(Path::new(path).components())
+        self.reach(Path::new(path).components(), follow)
     }
 
     // The directory that the components lead to.
     fn holder(&self, components: Components<'_>) -> Option<usize>
-        ensures value { result ≡ holder_of (reached (branches self.now.table) (Dir 0) (components_left components.entry)) }
+        ensures value { result ≡ holder_of (from_root (branches self.now.table) true (components_left components.entry)) }
         ensures within { IfSome result (λ index. index < length (branches self.now.table)) }
     {
-        match self.walk(components) {
-            Ok(Child::Dir(index)) => Some(index),
-            Ok(Child::File(_)) => None,
-            Err(_) => None,
+        match self.reach(components, true) {
+            Ok(Hit::Dir(index)) => Some(index),
+            _ => None,
         }
     }
 
@@ -181,9 +261,8 @@ impl<A: Allocator + Copy> MemoryFs<A> {
     {
         let spot = self.spot(path)?;
         match self.table.directory(spot.holder).child(spot.name) {
-            Some(Child::Dir(index)) => Some(index),
-            Some(Child::File(_)) => None,
-            None => None,
+            Some(Child::Dir(index)) => Some(*index),
+            _ => None,
         }
     }
 }
@@ -207,15 +286,16 @@ impl<A: Allocator + Copy> FileSystem for MemoryFs<A> {
         ensures value { AnswersValue (λ v. map listed v.items) result ((functions_of (tree_of self.now)).list_of path.now) }
         ensures errors_need_no_memory { IsErr ((functions_of (tree_of self.now)).list_of path.now) → result ≢ Err Fault.Memory }
     {
-        match self.look_up(path) {
-            Ok(Child::Dir(index)) => {
+        match self.look_up(path, true) {
+            Ok(Hit::Dir(index)) => {
                 let directory = self.table.directory(index);
                 if let Some(kind) = directory.denied {
                     return Err(Fault::Io(io::Error::from(kind)));
                 }
                 Ok(directory.listing(alloc)?)
             }
-            Ok(Child::File(_)) => Err(Fault::Io(io::Error::from(ErrorKind::InvalidInput))),
+            Ok(Hit::File(_)) => Err(Fault::Io(io::Error::from(ErrorKind::InvalidInput))),
+            Ok(Hit::Link(_, _)) => Err(Fault::Io(io::Error::from(ErrorKind::InvalidInput))),
             Err(kind) => Err(Fault::Io(io::Error::from(kind))),
         }
     }
@@ -224,8 +304,8 @@ impl<A: Allocator + Copy> FileSystem for MemoryFs<A> {
         ensures value { AnswersValue (λ m. m) result ((functions_of (tree_of self.now)).meta_of path.now) }
         ensures never_refuses { result ≢ Err Fault.Memory }
     {
-        match self.look_up(path) {
-            Ok(child) => Ok(child.metadata()),
+        match self.look_up(path, true) {
+            Ok(hit) => Ok(hit.metadata()),
             Err(kind) => Err(Fault::Io(io::Error::from(kind))),
         }
     }
@@ -234,19 +314,20 @@ impl<A: Allocator + Copy> FileSystem for MemoryFs<A> {
         ensures value { AnswersValue (λ m. m) result ((functions_of (tree_of self.now)).link_meta_of path.now) }
         ensures never_refuses { result ≢ Err Fault.Memory }
     {
-        match self.look_up(path) {
+        match self.look_up(path, false) {
             Ok(named) => Ok(named.metadata()),
             Err(kind) => Err(Fault::Io(io::Error::from(kind))),
         }
     }
 
-    // Nothing in the tree is a link.
-    fn read_link<B: Allocator + Copy>(&self, _alloc: B, path: &str) -> Result<String<B>, Fault>
+    fn read_link<B: Allocator + Copy>(&self, alloc: B, path: &str) -> Result<String<B>, Fault>
         ensures value { AnswersValue string_bytes result ((functions_of (tree_of self.now)).target_of path.now) }
         ensures errors_need_no_memory { IsErr ((functions_of (tree_of self.now)).target_of path.now) → result ≢ Err Fault.Memory }
     {
-        match self.look_up(path) {
-            Ok(_) => Err(Fault::Io(io::Error::from(ErrorKind::InvalidInput))),
+        match self.look_up(path, false) {
+            Ok(Hit::Link(_, target)) => Ok(String::from_str(alloc, target)?),
+            Ok(Hit::File(_)) => Err(Fault::Io(io::Error::from(ErrorKind::InvalidInput))),
+            Ok(Hit::Dir(_)) => Err(Fault::Io(io::Error::from(ErrorKind::InvalidInput))),
             Err(kind) => Err(Fault::Io(io::Error::from(kind))),
         }
     }

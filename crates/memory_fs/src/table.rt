@@ -1,6 +1,6 @@
 //! The directories of a tree by their indices. A clause sees them as a list of branches.
 ghost use Rattle.std.specs.Prelude.{◌≡◌, ◌<◌, ◌++◌, ◌∷◌, [], None, OnOk, OnErr, length, vec_capacity};
-ghost use Rattle.memory_fs.specs.declared.child.Child.TheVariants.{Dir};
+ghost use Rattle.memory_fs.specs.Child.{Dir, Link, child_seen};
 ghost use Rattle.memory_fs.specs.Branch.{children_at, child_named, branch_at, empty_branch, with_named, with_denial};
 ghost use Rattle.memory_fs.specs.Directory.{branch};
 ghost use Rattle.memory_fs.specs.Table.{branches};
@@ -47,10 +47,15 @@ impl<A: Allocator + Copy> Table<A> {
     }
 
     /// Puts a new child behind the others of a directory. Where memory is refused, nothing changes.
-    pub(crate) fn add(&mut self, holder: usize, name: &str, child: Child) -> Result<(), AllocError>
+    pub(crate) fn add(
+        &mut self,
+        holder: usize,
+        name: &str,
+        child: Child<A>,
+    ) -> Result<(), AllocError>
         requires within { holder < length (branches self.old) }
         requires free { child_named (children_at (branches self.old) holder) name.now ≡ None }
-        ensures ok { OnOk result (branches self.new ≡ with_named (branches self.old) holder name.now child) }
+        ensures ok { OnOk result (branches self.new ≡ with_named (branches self.old) holder name.now (child_seen child)) }
         ensures err { OnErr result (branches self.new ≡ branches self.old) }
         ensures room { vec_capacity self.new.others ≡ vec_capacity self.old.others }
     {
@@ -59,6 +64,23 @@ impl<A: Allocator + Copy> Table<A> {
         } else {
             self.others[holder - 1].add(name, child)
         }
+    }
+
+    /// Puts a new link behind the others of a directory. Where memory is refused, nothing changes.
+    pub(crate) fn add_link(
+        &mut self,
+        holder: usize,
+        name: &str,
+        target: &str,
+    ) -> Result<(), AllocError>
+        requires within { holder < length (branches self.old) }
+        requires free { child_named (children_at (branches self.old) holder) name.now ≡ None }
+        ensures ok { OnOk result (branches self.new ≡ with_named (branches self.old) holder name.now (Link target.now)) }
+        ensures err { OnErr result (branches self.new ≡ branches self.old) }
+    {
+        let alloc = *self.others.allocator();
+        let target = Box::new(alloc, String::from_str(alloc, target)?)?;
+        self.add(holder, name, Child::Link(target))
     }
 
     /// Puts a new directory behind the others of a directory. Where memory is refused, nothing changes.

@@ -175,3 +175,148 @@ fn thirty_deep(rt: HostRuntime) -> Result<(), Fail> {
     assert_eq!(rt; names(rt.alloc(), &fs, path.as_str())?.as_str(), " 1");
     Ok(())
 }
+
+fn answer(answer: Result<Metadata, Fault>) -> Result<Metadata, ErrorKind> {
+    match answer {
+        Ok(metadata) => Ok(metadata),
+        Err(Fault::Io(e)) => Err(e.kind()),
+        Err(Fault::Memory) => Err(ErrorKind::OutOfMemory),
+    }
+}
+
+// A directory that holds a file and a link to it, and links that lead there and elsewhere.
+fn linked(alloc: Global) -> Result<MemoryFs, BuildError> {
+    let mut fs = small(alloc)?;
+    fs.add_link("/r/l", "f")?;
+    fs.add_link("/q", "r")?;
+    for (path, target) in [
+        ("/to_q", "q"),
+        ("/slash", "./r//"),
+        ("/r/out", "../../r/f"),
+        ("/r/whole", "/r/l"),
+        ("/broken", "none"),
+        ("/empty", ""),
+        ("/a", "b"),
+        ("/b", "/a"),
+        ("/below", "r/f/x"),
+        ("/r/s", "f"),
+    ] {
+        fs.add_link(path, target)?;
+    }
+    Ok(fs)
+}
+
+#[test]
+fn metadata_through_links(rt: HostRuntime) -> Result<(), Fail> {
+    let fs = linked(rt.alloc())?;
+    let file = Ok(Metadata::new(FileType::File, 7));
+    let dir = Ok(Metadata::new(FileType::Dir, 0));
+    for (path, wanted) in [
+        ("/q/l", file),
+        ("/r/f", file),
+        ("/r/f/x", Err(ErrorKind::Other)),
+        ("/q/..", dir),
+        ("r", dir),
+        ("", Err(ErrorKind::NotFound)),
+        ("/r/l/", file),
+        ("/r/l/x", Err(ErrorKind::Other)),
+        ("/to_q/l", file),
+        ("/to_q", dir),
+        ("/slash/f", file),
+        ("/r/out", file),
+        ("/r/whole", file),
+        ("/broken", Err(ErrorKind::NotFound)),
+        ("/empty", Err(ErrorKind::NotFound)),
+        ("/a", Err(ErrorKind::Other)),
+        ("/b/x", Err(ErrorKind::Other)),
+        ("/below", Err(ErrorKind::Other)),
+    ] {
+        assert_eq!(rt; answer(fs.metadata(path)), wanted);
+    }
+    Ok(())
+}
+
+#[test]
+fn links_themselves(rt: HostRuntime) -> Result<(), Fail> {
+    let fs = linked(rt.alloc())?;
+    for (path, target) in [
+        ("/q/l", "f"),
+        ("/q", "r"),
+        ("/r/../slash/.", "./r//"),
+        ("/to_q/out", "../../r/f"),
+        ("/empty", ""),
+        ("/a", "b"),
+    ] {
+        let link = Metadata::new(FileType::Symlink, target.len() as u64);
+        assert_eq!(rt; answer(fs.symlink_metadata(path)), Ok(link));
+        if let Ok(text) = fs.read_link(rt.alloc(), path) {
+            assert_eq!(rt; text.as_str(), target);
+        } else {
+            assert!(rt; false);
+        }
+    }
+    let invalid = Some(ErrorKind::InvalidInput);
+    assert_eq!(rt; kind(fs.read_link(rt.alloc(), "/q")), None);
+    assert_eq!(rt; kind(fs.read_link(rt.alloc(), "/q/..")), invalid);
+    assert_eq!(rt; kind(fs.read_dir(rt.alloc(), "/q/l")), invalid);
+    assert_eq!(rt;
+        names(rt.alloc(), &fs, "/to_q")?.as_str(),
+        " f l out whole s"
+    );
+    Ok(())
+}
+
+#[test]
+fn up_after_a_link(rt: HostRuntime) -> Result<(), Fail> {
+    let mut fs = MemoryFs::new(rt.alloc());
+    fs.add_dir("/r")?;
+    fs.add_file("/r/f", 1)?;
+    fs.add_dir("/r/s")?;
+    fs.add_link("/q", "r/s")?;
+    let file = Metadata::new(FileType::File, 1);
+    assert_eq!(rt; answer(fs.metadata("/q/../f")), Ok(file));
+    Ok(())
+}
+
+#[test]
+fn forty_links_are_followed(rt: HostRuntime) -> Result<(), Fail> {
+    let mut fs = MemoryFs::new(rt.alloc());
+    fs.add_file("/0", 3)?;
+    fs.add_link("/root", "/")?;
+    for number in 1..42u64 {
+        let path = format!(in rt.alloc(); "/{number}")?;
+        let target = format!(in rt.alloc(); "{}", number - 1)?;
+        fs.add_link(path.as_str(), target.as_str())?;
+    }
+    let file = Ok(Metadata::new(FileType::File, 3));
+    let many = Err(ErrorKind::Other);
+    for (path, wanted) in [
+        ("/40", file),
+        ("/41", many),
+        ("/root/39", file),
+        ("/root/40", many),
+        ("/root/root/38", file),
+        ("/root/root/39", many),
+    ] {
+        assert_eq!(rt; answer(fs.metadata(path)), wanted);
+    }
+    Ok(())
+}
+
+#[test]
+fn building_through_links(rt: HostRuntime) -> Result<(), Fail> {
+    let mut fs = linked(rt.alloc())?;
+    let exists = Err(BuildError::AlreadyExists);
+    let not_found = Err(BuildError::NotFound);
+    assert_eq!(rt; fs.add_file("/q/f", 1), exists);
+    assert_eq!(rt; fs.add_link("/broken", "r"), exists);
+    assert_eq!(rt; fs.add_link("/broken/x", "r"), not_found);
+    assert_eq!(rt; fs.add_link("/r/l/x", "r"), not_found);
+    assert_eq!(rt; fs.add_link("/q/..", "r"), not_found);
+    assert_eq!(rt; fs.deny("/q", ErrorKind::PermissionDenied), not_found);
+    assert_eq!(rt; fs.add_dir("/to_q/d"), Ok(()));
+    assert_eq!(rt; fs.deny("/slash/d", ErrorKind::PermissionDenied), Ok(()));
+    let denied = Some(ErrorKind::PermissionDenied);
+    assert_eq!(rt; kind(fs.read_dir(rt.alloc(), "/r/d")), denied);
+    Ok(())
+}

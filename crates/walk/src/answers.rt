@@ -40,7 +40,8 @@ fn gather<W: Write, C: ClientState, A: Allocator + Copy>(
     gathered: &mut Vec<u8, A>,
     out: &mut W,
 ) -> Result<(), Failure>
-    ensures printed { OnOk result (Appends (append_known (W.contents out.old) gathered.old.items) (append_known (W.contents out.new) gathered.new.items) (line_of (item answer.now))) }
+    ensures printed { OnOk result (Appends (append_known (W.contents out.old) gathered.old.items)
+        (append_known (W.contents out.new) gathered.new.items) (line_of (item answer.now))) }
     ensures status { IfErr result (λ failure. status_of failure ≡ 1) }
 {
     if print_answer(gathered, answer).is_err() {
@@ -59,7 +60,8 @@ fn print_one<W: Write, C: ClientState, A: Allocator + Copy>(
     out: &mut W,
 ) -> Result<bool, Failure>
     ensures entry { IfOk result (λ is_entry. is_entry ≡ is_ok answer) }
-    ensures printed { OnOk result (Appends (append_known (W.contents out.old) gathered.old.items) (append_known (W.contents out.new) gathered.new.items) (line_of (item answer))) }
+    ensures printed { OnOk result (Appends (append_known (W.contents out.old) gathered.old.items)
+        (append_known (W.contents out.new) gathered.new.items) (line_of (item answer))) }
     ensures status { IfErr result (λ failure. status_of failure ≡ 1) }
 {
     gather(&answer, gathered, out)?;

@@ -23,7 +23,8 @@ fn print_walk<A: Allocator + Copy, R: Read, W: Write, E: Write>(
     ensures bad_words { ¬ (AreGood (map string_bytes words.now)) → result ≡ Err Failure.BadWords }
     ensures told { IfErr result (TellsOfCall (map string_bytes words.now) (R.remaining input.old)) }
     ensures untouched { OnErr result (W.contents out.new ≡ W.contents out.old) }
-    ensures printed { IfOk result (λ status. status ≡ 0 → PrintsWalk (map string_bytes words.now) (R.remaining input.old) (W.contents out.old) (W.contents out.new)) }
+    ensures printed { IfOk result (λ status. status ≡ 0 → PrintsWalk (map string_bytes words.now)
+        (R.remaining input.old) (W.contents out.old) (W.contents out.new)) }
 {
     let Some(request) = parse_words(words) else {
         return Err(Failure::BadWords);
@@ -49,7 +50,8 @@ pub fn run<A: Allocator + Copy, R: Read, W: Write, E: Write>(
     ensures bad_words { ¬ (AreGood (map string_bytes words.now)) → result ≡ 2 }
     ensures only_bad { result ≡ 2 → IsBadCall (map string_bytes words.now) (R.remaining input.old) }
     ensures untouched { result ≡ 2 → W.contents out.new ≡ W.contents out.old }
-    ensures printed { result ≡ 0 → PrintsWalk (map string_bytes words.now) (R.remaining input.old) (W.contents out.old) (W.contents out.new) }
+    ensures printed { result ≡ 0 → PrintsWalk (map string_bytes words.now)
+        (R.remaining input.old) (W.contents out.old) (W.contents out.new) }
 {
     match print_walk(alloc, words, input, out, err) {
         Ok(status) => status,

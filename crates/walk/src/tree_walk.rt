@@ -47,7 +47,8 @@ pub fn print_tree<A: Allocator + Copy, W: Write, E: Write>(
     err: &mut E,
 ) -> u8
     ensures status { result ≤ 1 }
-    ensures printed { result ≡ 0 → PrintsTree (tree_of fs) asked (string_bytes root) (W.contents out.old) (W.contents out.new) }
+    ensures printed { result ≡ 0
+        → PrintsTree (tree_of fs) asked (string_bytes root) (W.contents out.old) (W.contents out.new) }
 {
     let walk = walk_of(fs, root, asked).into_iter();
     print_answers(alloc, walk, out, err)

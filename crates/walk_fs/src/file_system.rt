@@ -43,7 +43,8 @@ pub trait FileSystem: Drop {
         alloc: A,
         path: &str,
     ) -> Result<Vec<io::Result<Listed<A>>, A>, Fault>
-        ensures { IsFixed self.now → AnswersValue (λ v. map listed v.items) result ((functions self.now).list_of path.now) };
+        ensures { IsFixed self.now
+            → AnswersValue (λ v. map listed v.items) result ((functions self.now).list_of path.now) };
 
     /// The type and length of what a path leads to, all links followed (`std::fs::metadata`).
     fn metadata(&self, path: &str) -> Result<Metadata, Fault>

@@ -4,5 +4,3 @@
 pub mod fault;
 pub mod file_system;
 pub mod listed;
-#[cfg(test)]
-mod tests;

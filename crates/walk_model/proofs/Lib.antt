@@ -7,6 +7,7 @@ pub mod PathFacts
 pub mod PathJoins
 pub mod PathNames
 pub mod PathParents
+pub mod PathSame
 pub mod PreorderFacts
 pub mod ReadingFacts
 pub mod SortingFacts

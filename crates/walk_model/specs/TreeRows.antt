@@ -90,3 +90,31 @@ circle = built only_root (l (codes "a") (codes "/a") ∷ [])
 
 too_many_links : (functions_of circle).meta_of (codes "/a") ≡ Err kind.Other
 too_many_links = refl
+
+-- two links that lead to each other
+two_links_in_a_circle : (functions_of (built only_root (l (codes "b") (codes "/a") ∷ l (codes "a") (codes "/b") ∷ []))).meta_of (codes "/a") ≡ Err kind.Other
+two_links_in_a_circle = refl
+
+-- a directory with a file and a directory, a link `/q` to the second, and links to that link
+abbrev linked : Tree
+linked = built only_root
+    (d (codes "/r") ∷ f 1 (codes "/r/f") ∷ d (codes "/r/s") ∷ l (codes "r/s") (codes "/q") ∷ l (codes "/q") (codes "/k") ∷ l (codes "r/s//") (codes "/n") ∷ [])
+
+up_from_where_a_link_led : (functions_of linked).meta_of (codes "/q/../f") ≡ Ok (metadata type.File 1)
+up_from_where_a_link_led = refl
+
+link_to_a_link : (functions_of linked).meta_of (codes "/k/../f") ≡ Ok (metadata type.File 1)
+link_to_a_link = refl
+
+target_with_a_slash_at_its_end : (functions_of linked).meta_of (codes "/n") ≡ Ok (metadata type.Dir 0)
+target_with_a_slash_at_its_end = refl
+
+-- what is left where the directory that `/q` leads to is taken away
+abbrev broken : Functions
+broken = functions_of (built linked (remove (codes "/r/s") ∷ []))
+
+broken_link_leads_nowhere : broken.meta_of (codes "/q") ≡ Err kind.NotFound
+broken_link_leads_nowhere = refl
+
+broken_link_is_a_link : broken.link_meta_of (codes "/q") ≡ Ok (metadata type.Symlink 3)
+broken_link_is_a_link = refl

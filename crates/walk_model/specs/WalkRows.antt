@@ -243,6 +243,28 @@ link_to_itself : over itself (with_max_depth 3 following) (codes "/r") ≡ codes
 unfolding whole_walk below digits
 link_to_itself = refl
 
+-- of two ancestors that a link leads to, the nearest is named: the root's text `/l/`, and the directory read, `/l`
+nearest_ancestor_named : over (d (codes "/s") ∷ l (codes "/s") (codes "/l") ∷ l (codes "/l") (codes "/s/k") ∷ []) following (codes "/l/")
+    ≡ codes "0 D /l\n" ∷ codes "! 1 /l/k loop /l\n" ∷ []
+unfolding whole_walk below digits
+nearest_ancestor_named = refl
+
+-- the ancestors of the entries that are answered
+abbrev ancestors_of : Item Worth Worth → List (List (List ℕ))
+ancestors_of (Ok e) = e.ancestors ∷ []
+ancestors_of (Err failure) = []
+
+abbrev ancestors_in_small : Options → List (List (List ℕ))
+ancestors_in_small o = flat_map ancestors_of (stateless_walk (tree_by (d (codes "/r") ∷ f 1 (codes "/r/b") ∷ [])) o (codes "/r"))
+
+root_stands_twice : ancestors_in_small following ≡ (codes "/r" ∷ []) ∷ (codes "/r" ∷ codes "/r" ∷ []) ∷ []
+unfolding whole_walk below
+root_stands_twice = refl
+
+no_ancestors_kept : ancestors_in_small defaults ≡ [] ∷ [] ∷ []
+unfolding whole_walk below
+no_ancestors_kept = refl
+
 -- what is below a followed directory, and a link to a file, under a root that ends in a dot
 dot_root_followed : over (d (codes "/r") ∷ f 1 (codes "/r/x") ∷ l (codes "x") (codes "/r/l") ∷ []) following (codes "/r/.")
     ≡ codes "0 d /r\n" ∷ codes "1 f /r/./x\n" ∷ codes "1 F /r/l\n" ∷ []

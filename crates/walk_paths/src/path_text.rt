@@ -1,6 +1,6 @@
 //! A path is a text; its components stand between its slashes.
 ghost use Rattle.std.specs.Prelude.{◌≡◌, ◌++◌, ◌≤◌, IfOk, length, option_copied, string_bytes};
-ghost use Rattle.walk_model.specs.Paths.{starts_with_slash, with_slash, join, parent, file_name};
+ghost use Rattle.walk_model.specs.Paths.{starts_with_slash, with_slash, join, parent, file_name, same_path};
 
 use std::alloc::{AllocError, Allocator};
 use std::path::Path;
@@ -82,6 +82,16 @@ pub fn file_name(path: &str) -> Option<&str>
     Path::new(path).file_name()
 }
 
+/// Whether two paths have the same components, one after the other.
+///
+/// `a//b/` and `a/b` are the same path, and so are `/a/./b` and `/a/b`; `./a` and `a` aren't, nor `a/../b` and `b`, nor
+/// the empty path and `.`. The rule is that of `==` on `std::path::Path` on Unix.
+pub fn same_path(a: &str, b: &str) -> bool
+    ensures { result ≡ same_path a.now b.now }
+{
+    Path::new(a).starts_with(b) && Path::new(b).starts_with(a)
+}
+
 #[cfg(test)]
 mod tests {
     use super::*;
@@ -110,6 +120,21 @@ mod tests {
         for (text, name, above) in rows {
             assert_eq!(rt; file_name(text), name, "at {text}");
             assert_eq!(rt; parent(text), above, "at {text}");
+        }
+    }
+
+    #[test]
+    fn texts_of_the_same_path(rt: HostRuntime) {
+        let rows = [
+            ("a//b/", "a/b", true),
+            ("/a/./b", "/a/b", true),
+            ("./a", "a", false),
+            ("a/../b", "b", false),
+            ("", ".", false),
+        ];
+        for (a, b, same) in rows {
+            assert_eq!(rt; same_path(a, b), same, "of {a} and {b}");
+            assert_eq!(rt; same_path(b, a), same, "of {b} and {a}");
         }
     }
 

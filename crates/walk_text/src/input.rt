@@ -29,7 +29,8 @@ pub fn read_tree<A: Allocator + Copy, R: Read>(
     alloc: A,
     input: &mut R,
 ) -> Result<MemoryFs<A>, Failure>
-    ensures built { IfOk result (λ fs. IfSome (R.remaining input.old) (λ bytes. Builds (text_lines bytes) (tree_of fs))) }
+    ensures built { IfOk result (λ fs. IfSome (R.remaining input.old)
+        (λ bytes. Builds (text_lines bytes) (tree_of fs))) }
     ensures bad { IfErr result (TellsOfInput (R.remaining input.old)) }
 {
     let bytes = read_whole(alloc, input)?;

@@ -8,8 +8,6 @@ pub mod input;
 mod lines;
 mod number;
 pub mod print;
-#[cfg(test)]
-mod tests;
-mod tree;
+pub mod tree;
 mod tree_line;
 pub mod words;

@@ -1,6 +1,7 @@
 //! Answers as lines.
-ghost use Rattle.std.specs.Prelude.{◌≡◌, decimal, OnOk, option_map, false};
+ghost use Rattle.std.specs.Prelude.{◌≡◌, decimal, OnOk, option_map};
 ghost use Rattle.std.specs.Io.KnownBytes.{Appends};
+ghost use Rattle.walk_model.specs.Error.{looped};
 ghost use Rattle.walk_model.specs.Paths.{join};
 ghost use Rattle.jwalk_read.specs.Entry.{children, entry, item};
 ghost use Rattle.jwalk_read.specs.Error.{failure};
@@ -33,14 +34,22 @@ fn kind_name(kind: ErrorKind) -> &'static str
     }
 }
 
-/// The letter of a type: a link, which no walk follows yet, has a capital.
-fn letter(file_type: FileType) -> &'static str
-    ensures { result.now ≡ letter_of false file_type }
+/// The letter of an entry's type: a capital where the path is that of a link, followed or not.
+fn letter<C: ClientState, A: Allocator + Copy>(found: &DirEntry<C, A>) -> &'static str
+    ensures { result.now ≡ letter_of (entry found.now).through_link (entry found.now).file_type }
 {
-    match file_type {
+    if found.path_is_symlink() {
+        return match found.file_type() {
+            FileType::Dir => "D",
+            FileType::File => "F",
+            FileType::Symlink => "L",
+            FileType::Other => "O",
+        };
+    }
+    match found.file_type() {
         FileType::Dir => "d",
         FileType::File => "f",
-        FileType::Symlink => "L",
+        FileType::Symlink => "l",
         FileType::Other => "o",
     }
 }
@@ -77,7 +86,8 @@ fn write_reading<W: Write, C: ClientState, A: Allocator + Copy>(
     out: &mut W,
     below: &Option<ReadChildren<C, A>>,
 ) -> io::Result<()>
-    ensures { OnOk result (Appends (W.contents out.old) (W.contents out.new) (reading_part (option_map children below.now))) }
+    ensures { OnOk result (Appends (W.contents out.old) (W.contents out.new)
+        (reading_part (option_map children below.now))) }
 {
     let Some(children) = below else {
         return Ok(());
@@ -98,10 +108,24 @@ fn print_entry<W: Write, C: ClientState, A: Allocator + Copy>(
 {
     write_number(out, found.depth())?;
     out.write_all(b" ")?;
-    out.write_all(letter(found.file_type()).as_bytes())?;
+    out.write_all(letter(found).as_bytes())?;
     out.write_all(b" ")?;
     write_path(out, found.parent_path(), found.file_name())?;
     write_reading(out, &found.read_children)?;
+    out.write_all(b"\n")
+}
+
+/// Writes the line of a link that leads back to an ancestor.
+fn print_loop<W: Write>(out: &mut W, depth: usize, ancestor: &str, child: &str) -> io::Result<()>
+    ensures { OnOk result (Appends (W.contents out.old) (W.contents out.new)
+        (failure_line (looped depth ancestor.now child.now))) }
+{
+    out.write_all(b"! ")?;
+    write_number(out, depth)?;
+    out.write_all(b" ")?;
+    out.write_all(child.as_bytes())?;
+    out.write_all(b" loop ")?;
+    out.write_all(ancestor.as_bytes())?;
     out.write_all(b"\n")
 }
 
@@ -109,6 +133,10 @@ fn print_entry<W: Write, C: ClientState, A: Allocator + Copy>(
 fn print_error<W: Write, A: Allocator + Copy>(out: &mut W, error: &Error<A>) -> io::Result<()>
     ensures { OnOk result (Appends (W.contents out.old) (W.contents out.new) (failure_line (failure error.now))) }
 {
+    if let Some(ancestor) = error.loop_ancestor() {
+        let child = error.path().unwrap_or("-");
+        return print_loop(out, error.depth(), ancestor, child);
+    }
     let Some(err) = error.io_error() else {
         return out.write_all(b"! 0 - memory\n");
     };

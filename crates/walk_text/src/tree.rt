@@ -32,7 +32,8 @@ fn add_line<A: Allocator + Copy>(
     line: &[u8],
 ) -> Result<(), Failure>
     ensures ok { OnOk result (Adds line.now (tree_of fs.old) (tree_of fs.new)) }
-    ensures bad { IfErr result (λ failure. failure ≢ Failure.Memory → (failure ≡ Failure.BadTree number) × CannotAdd line.now (tree_of fs.old)) }
+    ensures bad { IfErr result (λ failure. failure ≢ Failure.Memory
+        → (failure ≡ Failure.BadTree number) × CannotAdd line.now (tree_of fs.old)) }
 {
     if line.is_empty() {
         return Ok(());

@@ -16,7 +16,8 @@ pub enum TreeLine<'a> {
 
 /// What follows a beginning.
 fn rest_after<'a>(text: &'a str, beginning: &str) -> Option<&'a str>
-    ensures { MatchOption result ((rest : List ℕ) → text.now ≢ beginning.now ++ rest) (λ rest. text.now ≡ beginning.now ++ rest.now) }
+    ensures { MatchOption result ((rest : List ℕ) → text.now ≢ beginning.now ++ rest)
+        (λ rest. text.now ≡ beginning.now ++ rest.now) }
 {
     text.strip_prefix(beginning)
 }

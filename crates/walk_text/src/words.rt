@@ -21,7 +21,8 @@ pub struct Request<'w> {
 /// The number that words begin with, and the words behind it.
 fn split_number<A: Allocator>(words: &[String<A>]) -> Option<(usize, &[String<A>])>
     ensures some { IfSome result (λ x. BeginWithNumber (map string_bytes words.now) x.0 (map string_bytes x.1.now)) }
-    ensures none { IfNone result ((n : ℕ) → (others : List (List ℕ)) → ¬ (BeginWithNumber (map string_bytes words.now) n others)) }
+    ensures none { IfNone result ((n : ℕ) → (others : List (List ℕ))
+        → ¬ (BeginWithNumber (map string_bytes words.now) n others)) }
 {
     let (word, others) = words.split_first()?;
     let number = parse_number(word.as_str())?;
@@ -31,7 +32,8 @@ fn split_number<A: Allocator>(words: &[String<A>]) -> Option<(usize, &[String<A>
 /// The option that words begin with, and the words behind it.
 fn split_option<A: Allocator>(words: &[String<A>]) -> Option<(Choice, &[String<A>])>
     ensures some { IfSome result (λ x. Begin (map string_bytes words.now) x.0 (map string_bytes x.1.now)) }
-    ensures none { IfNone result ((choice : Choice) → (others : List (List ℕ)) → ¬ (Begin (map string_bytes words.now) choice others)) }
+    ensures none { IfNone result ((choice : Choice) → (others : List (List ℕ))
+        → ¬ (Begin (map string_bytes words.now) choice others)) }
 {
     let (name, behind) = words.split_first()?;
     match name.as_str() {
@@ -53,7 +55,8 @@ fn split_option<A: Allocator>(words: &[String<A>]) -> Option<(Choice, &[String<A
 /// Reads options, in any order and each at most once. None for any other words.
 fn parse_options<A: Allocator>(words: &[String<A>]) -> Option<Asked>
     ensures some { IfSome result (Add (map string_bytes words.now) nothing) }
-    ensures only { IfSome result (λ asked. (other : Asked) → Add (map string_bytes words.now) nothing other → other ≡ asked) }
+    ensures only { IfSome result (λ asked. (other : Asked)
+        → Add (map string_bytes words.now) nothing other → other ≡ asked) }
     ensures none { IfNone result ((other : Asked) → ¬ (Add (map string_bytes words.now) nothing other)) }
 {
     let mut asked = Asked::nothing();
@@ -70,7 +73,8 @@ fn parse_options<A: Allocator>(words: &[String<A>]) -> Option<Asked>
 /// any other words, and where the tree isn't asked for.
 pub fn parse_words<A: Allocator>(words: &[String<A>]) -> Option<Request<'_>>
     ensures some { IfSome result (λ r. Ask (map string_bytes words.now) r.asked r.root.now) }
-    ensures only { IfSome result (λ r. (asked : Asked) → (root : List ℕ) → Ask (map string_bytes words.now) asked root → (asked ≡ r.asked) × (root ≡ r.root.now)) }
+    ensures only { IfSome result (λ r. (asked : Asked) → (root : List ℕ)
+        → Ask (map string_bytes words.now) asked root → (asked ≡ r.asked) × (root ≡ r.root.now)) }
     ensures none { IfNone result (¬ (AreGood (map string_bytes words.now))) }
 {
     let (root, options) = words.split_last()?;

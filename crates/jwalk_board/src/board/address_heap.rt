@@ -70,7 +70,8 @@ impl<T, A: Allocator + Copy> AddressHeap<T, A> {
     // An item at the least address.
     pub(super) fn peek(&self) -> Option<&Ordered<T, A>>
         ensures some { IfSome result (λ item. IsAmong (address_of item.now) (addresses_of self.now.items)) }
-        ensures top { IfSome result (λ item. addressed item.now ≡ slice_index_or self.now.items 0 (addressed item.now)) }
+        ensures top { IfSome result (λ item. addressed item.now
+            ≡ slice_index_or self.now.items 0 (addressed item.now)) }
         ensures least { IfSome result (λ item. IsFirst (address_of item.now) self.now.items) }
         ensures none { IfNone result (self.now.items ≡ []) }
     {

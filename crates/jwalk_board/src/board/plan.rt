@@ -37,8 +37,10 @@ pub trait Plan<A: Allocator + Copy> {
         alloc: A,
         spec: &Self::Spec,
     ) -> Result<(Self::Reading, Vec<Self::Spec, A>), Refused>
-        ensures reading { IsFixed self.now → IfOk result (λ r. reading_value r.0 ≡ (tree self.now).reading (spec_value spec.now)) }
-        ensures children { IsFixed self.now → IfOk result (λ r. map spec_value r.1.items ≡ (tree self.now).children (spec_value spec.now)) };
+        ensures reading { IsFixed self.now
+            → IfOk result (λ r. reading_value r.0 ≡ (tree self.now).reading (spec_value spec.now)) }
+        ensures children { IsFixed self.now
+            → IfOk result (λ r. map spec_value r.1.items ≡ (tree self.now).children (spec_value spec.now)) };
 
     ghost falls: { (p : Self) → IsFixed p → Falls (tree p) };
 }

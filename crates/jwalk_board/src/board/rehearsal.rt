@@ -41,9 +41,12 @@ pub fn rehearse<P: Plan<A>, A: Allocator + Copy>(
     moves: &[Move],
 ) -> Result<Rehearsal<P::Spec, P::Reading, A>, Refused>
     ensures matches_run { P.IsFixed plan.now → IfOk result (λ made. let roots = map P.spec_value roots.items in
-        MatchesRun (P.tree plan.now) roots (run_of_moves (addresses_of (specs_in_preorder (P.tree plan.now) roots)) workers moves.now) (rehearsed P.spec_value P.reading_value made)) }
+        MatchesRun (P.tree plan.now) roots
+        (run_of_moves (addresses_of (specs_in_preorder (P.tree plan.now) roots)) workers moves.now)
+        (rehearsed P.spec_value P.reading_value made)) }
     ensures in_order { P.IsFixed plan.now → IfOk result (λ made.
-        IsInOrder (readings_in_preorder (P.tree plan.now) (map P.spec_value roots.items)) (rehearsed P.spec_value P.reading_value made)) }
+        IsInOrder (readings_in_preorder (P.tree plan.now) (map P.spec_value roots.items))
+        (rehearsed P.spec_value P.reading_value made)) }
     ensures running { IfOk result (λ made. made.board.stopped ≡ false) }
 {
     let hands = empty_hands(alloc, workers)?;
@@ -75,8 +78,3 @@ fn empty_hands<T, A: Allocator + Copy>(
     }
     Ok(hands)
 }
-
-#[cfg(test)]
-mod size_tests;
-#[cfg(test)]
-mod tests;

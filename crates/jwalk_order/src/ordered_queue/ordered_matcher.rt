@@ -134,6 +134,3 @@ fn leave_finished<A: Allocator + Copy>(indices: &mut Vec<usize, A>, counts: &mut
         indices.pop();
     }
 }
-
-#[cfg(test)]
-mod tests;

@@ -10,8 +10,8 @@ pub returns-clause-depth : goal.returns-clause-depth
 returns-clause-depth g c = rw c.in_ok-in_order.ensures (AtDepth-in_order (c.args.of.now.depth + 1) c.args.self.now.options.sort (map item c.in_ok-items.items.items) c.in_ok-items.ensures.depth)
 
 pub returns-clause-value : goal.returns-clause-value
-returns-clause-value g c = λ given default.
+returns-clause-value g c = λ given fixed default.
     let sort = c.args.self.now.options.sort in
     ap (map (counted_item given)) c.in_ok-in_order.ensures
     ∙ counted-in_order given.read_dir_state given.dir_entry_state sort (map item c.in_ok-items.items.items)
-    ∙ ap (λ l. cond sort (arranged l) l) (c.in_ok-items.ensures.value given default)
+    ∙ ap (λ l. cond sort (arranged l) l) (c.in_ok-items.ensures.value given fixed default)

@@ -20,6 +20,6 @@ pub returns-clause-value : goal.returns-clause-value
 returns-clause-value g c = λ given steady.
     let cloned = steady.clones c.args.of.now.client_read_state c.in_ok-state.state c.in_ok-state.ensures.cases in
     let path = c.as_str.ensures.value ∙ ap string_bytes c.deref.ensures in
-    let items = c.in_ok-items.ensures.value given steady.default in
+    let items = c.in_ok-items.ensures.value given steady.file_system steady.default in
     same_call (given.processed (Some c.args.of.now.depth)) path cloned items (c.in_ok-process.ensures.made given steady.callback)
     ∙ sym (ap (counted_reading given) c.new.ensures)

@@ -14,8 +14,8 @@ returns-in_ok-push-in-Some-clause-depth g c = λ before.
     rw (c.in_ok-push-in-Some.ensures.items, map-append item old added) (AtDepth-append (c.args.of.now.depth + 1) (map item old) (map item added) before deep)
 
 pub returns-in_ok-push-in-Some-clause-value : goal.returns-in_ok-push-in-Some-clause-value
-returns-in_ok-push-in-Some-clause-value g c = λ given default.
+returns-in_ok-push-in-Some-clause-value g c = λ given fixed default.
     let old = c.args.items.now.items in
     let added = c.in-Some.item ∷ [] in
-    let is = rw c.in-Some.is at (c.in_ok-item.ensures.value given default) in
+    let is = rw c.in-Some.is at (c.in_ok-item.ensures.value given fixed default) in
     ap (counted_list given) c.in_ok-push-in-Some.ensures.items ∙ counted-append given old added ∙ ap (λ l. counted_list given old ++ l) is

@@ -1,0 +1,202 @@
+// Entries made from paths, and what a link that is followed gives way to.
+ghost use Rattle.std.specs.Prelude.{◌≡◌, ◌&&◌, ◌∷◌, [], true, Ok, Err, IfOk, if◌then◌else◌};
+ghost use Rattle.walk_model.specs.Entry.{AtDepth, path_of};
+ghost use Rattle.walk_model.specs.FileType.{is_symlink};
+ghost use Rattle.walk_model.specs.Job as value;
+ghost use Rattle.walk_fs.specs.Views.{AnswersValue};
+ghost use Rattle.jwalk_read.specs.Text.{text};
+ghost use Rattle.jwalk_read.specs.Ancestors.{texts};
+ghost use Rattle.jwalk_read.specs.Entry.{entry, item};
+ghost use Rattle.jwalk_read.specs.ReadDir.{spec};
+ghost use Rattle.jwalk_read.specs.Given.{Given, counted_spec, counted_item, counted_entry};
+ghost use Rattle.jwalk_read.specs.Job.{file_system, options_of, DefaultsCount, job_by};
+
+use super::Job;
+use crate::ancestors::Ancestors;
+use crate::client_state::ClientState;
+use crate::dir_entry::DirEntry;
+use crate::error::Error;
+use crate::process_read_dir::ProcessReadDir;
+use crate::read_children::ReadChildren;
+use crate::read_dir_spec::ReadDirSpec;
+use std::alloc::{AllocError, Allocator};
+use std::sync::Arc;
+use walk_fs::fault::Fault;
+use walk_fs::file_system::FileSystem;
+use walk_model::file_type::FileType;
+use walk_model::metadata::Metadata;
+use walk_paths::path_text;
+
+/// The name of an entry made from a path: its file name, or its whole path where it has none.
+fn own_name(path: &str) -> &str
+    ensures { result.now ≡ value.own_name path.now }
+{
+    match path_text::file_name(path) {
+        Some(name) => name,
+        None => path,
+    }
+}
+
+/// The parent of an entry made from a path: nothing where it has no file name.
+fn own_parent(path: &str) -> &str
+    ensures { result.now ≡ value.own_parent path.now }
+{
+    if path_text::file_name(path).is_none() {
+        return "";
+    }
+    match path_text::parent(path) {
+        Some(parent) => parent,
+        None => "",
+    }
+}
+
+impl<C: ClientState, S: FileSystem, P: ProcessReadDir<C, A>, A: Allocator + Copy> Job<C, S, P, A> {
+    /// The ancestors of what stands in a directory, one list for all of it: none are kept where links aren't followed.
+    pub(super) fn ancestors_in(&self, of: &ReadDirSpec<C, A>) -> Result<Ancestors<A>, AllocError>
+        ensures { (g : _) → IfOk result (λ inside. texts inside
+            ≡ value.ancestors_in (job_by S.FileSystem g self.now) (counted_spec g (spec of.now))) }
+    {
+        if !self.options.follow_links {
+            return Ok(Ancestors::none());
+        }
+        of.ancestors.with(self.alloc, of.path.clone()?)
+    }
+
+    /// The entry of a path with this metadata.
+    fn entry_at(
+        &self,
+        depth: usize,
+        path: Arc<String<A>, A>,
+        through_link: bool,
+        ancestors: Ancestors<A>,
+        metadata: Metadata,
+    ) -> Result<DirEntry<C, A>, AllocError>
+        ensures depth { IfOk result (λ e. e.depth ≡ depth) }
+        ensures value { (g : _) → DefaultsCount C.DirEntryState.Default g
+            → IfOk result (λ e. counted_entry g (entry e)
+            ≡ value.made_of (job_by S.FileSystem g self.now) depth (text path)
+            through_link (texts ancestors) metadata) }
+    {
+        let file_type = metadata.file_type();
+        let file_name = String::from_str(self.alloc, own_name(path.as_str()))?;
+        let parent_path = String::from_str(self.alloc, own_parent(path.as_str()))?;
+        let read_children = if file_type.is_dir() {
+            Some(ReadChildren::new(path))
+        } else {
+            None
+        };
+        Ok(DirEntry {
+            depth,
+            file_name,
+            file_type,
+            client_state: C::DirEntryState::default(),
+            parent_path: Arc::new(self.alloc, parent_path)?,
+            read_children,
+            through_link,
+            ancestors,
+        })
+    }
+
+    /// What the file system knows of a path, through its last link or not.
+    fn metadata_of(&self, path: &str, through_link: bool) -> Result<Metadata, Fault>
+        ensures { S.IsFixed (file_system self.now) → AnswersValue (λ m. m) result
+            (if through_link then (S.functions (file_system self.now)).meta_of path.now
+            else (S.functions (file_system self.now)).link_meta_of path.now) }
+    {
+        if through_link {
+            self.fs.metadata(path)
+        } else {
+            self.fs.symlink_metadata(path)
+        }
+    }
+
+    /// The entry of a path, or the error with its depth and path.
+    pub(super) fn made(
+        &self,
+        depth: usize,
+        path: Arc<String<A>, A>,
+        through_link: bool,
+        ancestors: Ancestors<A>,
+    ) -> Result<Result<DirEntry<C, A>, Error<A>>, AllocError>
+        ensures depth { IfOk result (λ r. AtDepth depth (item r ∷ [])) }
+        ensures value { (g : _) → S.IsFixed (file_system self.now) → DefaultsCount C.DirEntryState.Default g
+            → IfOk result (λ r. counted_item g (item r)
+            ≡ value.made (job_by S.FileSystem g self.now) depth (text path) through_link (texts ancestors)) }
+    {
+        match self.metadata_of(path.as_str(), through_link) {
+            Ok(metadata) => {
+                let found = self.entry_at(depth, path, through_link, ancestors, metadata)?;
+                Ok(Ok(found))
+            }
+            Err(Fault::Io(err)) => Ok(Err(Error::from_path(depth, path, err))),
+            Err(Fault::Memory) => Err(AllocError),
+        }
+    }
+
+    /// The entry that a link at a path led to, unless it is a directory above the link, as the link's text tells.
+    fn reached(
+        &self,
+        link: &DirEntry<C, A>,
+        path: Arc<String<A>, A>,
+        found: DirEntry<C, A>,
+    ) -> Result<Result<DirEntry<C, A>, Error<A>>, AllocError>
+        requires { text path ≡ path_of (entry link.now) }
+        ensures depth { AtDepth link.now.depth (item (Ok found) ∷ [])
+            → IfOk result (λ r. AtDepth link.now.depth (item r ∷ [])) }
+        ensures value { (g : Given C.ReadDirState C.DirEntryState) → S.IsFixed (file_system self.now)
+            → IfOk result (λ r. counted_item g (item r)
+            ≡ value.reached (job_by S.FileSystem g self.now)
+            (counted_entry g (entry link.now)) (counted_entry g (entry found))) }
+    {
+        if !found.file_type.is_dir() {
+            return Ok(Ok(found));
+        }
+        match self.fs.read_link(self.alloc, path.as_str()) {
+            Ok(target) => match link.ancestors.nearest(target.as_str())? {
+                Some(ancestor) => Ok(Err(Error::from_loop(link.depth, ancestor, path))),
+                None => Ok(Ok(found)),
+            },
+            Err(Fault::Io(err)) => Ok(Err(Error::from_io(link.depth, err))),
+            Err(Fault::Memory) => Err(AllocError),
+        }
+    }
+
+    /// What a link gives way to.
+    fn behind(&self, link: &DirEntry<C, A>) -> Result<Result<DirEntry<C, A>, Error<A>>, AllocError>
+        ensures depth { IfOk result (λ r. AtDepth link.now.depth (item r ∷ [])) }
+        ensures value { (g : _) → S.IsFixed (file_system self.now) → DefaultsCount C.DirEntryState.Default g
+            → IfOk result (λ r. counted_item g (item r)
+            ≡ value.either (value.reached (job_by S.FileSystem g self.now) (counted_entry g (entry link.now))) Err
+            (value.made (job_by S.FileSystem g self.now) link.now.depth
+            (path_of (entry link.now)) true (texts link.now.ancestors))) }
+    {
+        let path = Arc::new(self.alloc, link.path()?)?;
+        match self.made(link.depth, path.clone()?, true, link.ancestors.share()?)? {
+            Ok(found) => self.reached(link, path, found),
+            Err(error) => Ok(Err(error)),
+        }
+    }
+
+    /// Whether an entry of this type gives way to what it leads to.
+    fn gives_way(&self, file_type: FileType) -> bool
+        ensures { result ≡ ((options_of self.now).follow_links && is_symlink file_type) }
+    {
+        self.options.follow_links && file_type.is_symlink()
+    }
+
+    /// An entry after the link rule: where links are followed, a link gives way to what it leads to.
+    pub(super) fn followed(
+        &self,
+        found: DirEntry<C, A>,
+    ) -> Result<Result<DirEntry<C, A>, Error<A>>, AllocError>
+        ensures depth { IfOk result (λ r. AtDepth found.depth (item r ∷ [])) }
+        ensures value { (g : _) → S.IsFixed (file_system self.now) → DefaultsCount C.DirEntryState.Default g
+            → IfOk result (λ r. counted_item g (item r)
+            ≡ value.followed (job_by S.FileSystem g self.now) (counted_entry g (entry found))) }
+    {
+        if self.gives_way(found.file_type) {
+            return self.behind(&found);
+        }
+        Ok(Ok(found))
+    }
+}

@@ -1,0 +1,55 @@
+use Rattle.std.proofs.Common.{ap, ◌∙◌, Err}
+use Rattle.std.proofs.lemmas.Result.{err_from_is_err_and}
+use Rattle.walk_model.specs.Tree.{link, add}
+use Rattle.memory_fs.specs.MemoryFs.{tree_of}
+use Rattle.memory_fs.specs.Table.{branches}
+use Rattle.memory_fs.proofs.AddLemmas.{found-spot, told-no_spot, told-no_memory, told-added, sound-either, sound-link, built-link}
+use Rattle.memory_fs.proofs.memory_fs.MemoryFs.add_link.Goals as goal
+
+pub returns-in_err-spot-clause-not_found : goal.returns-in_err-spot-clause-not_found
+returns-in_err-spot-clause-not_found g c =
+    let p = err_from_is_err_and c.from_residual.result c.from_residual.ensures.1 in
+    (told-no_spot (branches c.args.self.now.table) c.args.self.now.sound (link c.args.target.now) c.args.path.now c.in_err-spot.field-0.0 c.from_residual.result c.in_err-spot.ensures.value (p.1 ∙ ap (λ e. Err e) p.2)).not_found
+
+pub returns-in_err-spot-clause-already_exists : goal.returns-in_err-spot-clause-already_exists
+returns-in_err-spot-clause-already_exists g c =
+    let p = err_from_is_err_and c.from_residual.result c.from_residual.ensures.1 in
+    (told-no_spot (branches c.args.self.now.table) c.args.self.now.sound (link c.args.target.now) c.args.path.now c.in_err-spot.field-0.0 c.from_residual.result c.in_err-spot.ensures.value (p.1 ∙ ap (λ e. Err e) p.2)).already_exists
+
+pub add_link-requires-clause-free : goal.add_link-requires-clause-free
+add_link-requires-clause-free g c =
+    (found-spot (branches c.args.self.now.table) c.args.self.now.sound (link c.args.target.now) c.args.path.now c.in_ok-spot.spot.holder c.in_ok-spot.spot.name.now c.in_ok-spot.ensures.value).free
+
+pub invariant_of-self : goal.invariant_of-self
+invariant_of-self g c =
+    let spot = found-spot (branches c.args.self.now.table) c.args.self.now.sound (link c.args.target.now) c.args.path.now c.in_ok-spot.spot.holder c.in_ok-spot.spot.name.now c.in_ok-spot.ensures.value in
+    record {
+      sound = sound-either c.add_link.result (branches c.args.self.now.table) _ (branches c.add_link.new.self) c.add_link.ensures.ok c.add_link.ensures.err c.args.self.now.sound
+          (sound-link (branches c.args.self.now.table) c.args.self.now.sound c.in_ok-spot.spot.holder c.in_ok-spot.spot.name.now c.in_ok-spot.ensures.within (add (link c.args.target.now) c.args.path.now (tree_of c.args.self.now)) c.args.target.now spot);
+    }
+
+pub returns-in_err-add_link-clause-not_found : goal.returns-in_err-add_link-clause-not_found
+returns-in_err-add_link-clause-not_found g c =
+    let p = err_from_is_err_and c.from_residual-in_err-add_link.result c.from_residual-in_err-add_link.ensures.1 in
+    (told-no_memory (branches c.args.self.now.table) c.args.self.now.sound (link c.args.target.now) c.args.path.now c.in_ok-spot.spot.holder c.in_ok-spot.spot.name.now c.from_residual-in_err-add_link.result c.in_ok-spot.ensures.value
+    (p.1 ∙ ap (λ e. Err e) p.2)).not_found
+
+pub returns-in_err-add_link-clause-already_exists : goal.returns-in_err-add_link-clause-already_exists
+returns-in_err-add_link-clause-already_exists g c =
+    let p = err_from_is_err_and c.from_residual-in_err-add_link.result c.from_residual-in_err-add_link.ensures.1 in
+    (told-no_memory (branches c.args.self.now.table) c.args.self.now.sound (link c.args.target.now) c.args.path.now c.in_ok-spot.spot.holder c.in_ok-spot.spot.name.now c.from_residual-in_err-add_link.result c.in_ok-spot.ensures.value
+    (p.1 ∙ ap (λ e. Err e) p.2)).already_exists
+
+pub returns-clause-added : goal.returns-clause-added
+returns-clause-added g c =
+    let spot = found-spot (branches c.args.self.now.table) c.args.self.now.sound (link c.args.target.now) c.args.path.now c.in_ok-spot.spot.holder c.in_ok-spot.spot.name.now c.in_ok-spot.ensures.value in
+    built-link (branches c.args.self.now.table) c.args.self.now.sound c.in_ok-spot.spot.holder c.in_ok-spot.spot.name.now c.in_ok-spot.ensures.within (add (link c.args.target.now) c.args.path.now (tree_of c.args.self.now)) c.args.target.now spot
+    (branches c.add_link.new.self) c.in_ok-add_link.ensures.ok
+
+pub returns-clause-not_found : goal.returns-clause-not_found
+returns-clause-not_found g c =
+    (told-added (branches c.args.self.now.table) c.args.self.now.sound (link c.args.target.now) c.args.path.now c.in_ok-spot.spot.holder c.in_ok-spot.spot.name.now c.in_ok-spot.ensures.value).not_found
+
+pub returns-clause-already_exists : goal.returns-clause-already_exists
+returns-clause-already_exists g c =
+    (told-added (branches c.args.self.now.table) c.args.self.now.sound (link c.args.target.now) c.args.path.now c.in_ok-spot.spot.holder c.in_ok-spot.spot.name.now c.in_ok-spot.ensures.value).already_exists

@@ -1,0 +1,114 @@
+//! A file system that isn't fixed, one that is borrowed, and the faults that `?` makes.
+ghost use Rattle.walk_model.specs.Tree.{functions_of, only_root};
+
+use std::alloc::{AllocError, Allocator, Global};
+use std::cell::Cell;
+use std::io;
+use std::io::ErrorKind;
+use std::test::Fail;
+use walk_fs::fault::Fault;
+use walk_fs::file_system::FileSystem;
+use walk_fs::listed::Listed;
+use walk_model::file_type::FileType;
+use walk_model::metadata::Metadata;
+
+// A file at every path, one byte longer each time it is asked for; no path is a directory or a link.
+#[derive(Drop)]
+struct Growing {
+    len: Cell<u64>,
+}
+
+impl FileSystem for Growing {
+    ghost IsFixed = { λ _. ⊥ };
+
+    ghost functions = { λ _. functions_of only_root };
+
+    fn read_dir<A: Allocator + Copy>(
+        &self,
+        _alloc: A,
+        _path: &str,
+    ) -> Result<Vec<io::Result<Listed<A>>, A>, Fault> {
+        Err(Fault::from(io::Error::from(ErrorKind::NotADirectory)))
+    }
+
+    fn metadata(&self, _path: &str) -> Result<Metadata, Fault> {
+        self.len.set(self.len.get().wrapping_add(1));
+        Ok(Metadata::new(FileType::File, self.len.get()))
+    }
+
+    fn symlink_metadata(&self, _path: &str) -> Result<Metadata, Fault> {
+        Ok(Metadata::new(FileType::Symlink, 0))
+    }
+
+    fn read_link<A: Allocator + Copy>(&self, alloc: A, path: &str) -> Result<String<A>, Fault> {
+        Ok(String::from_str(alloc, path)?)
+    }
+}
+
+fn kind<T: Drop>(answer: Result<T, Fault>) -> Option<ErrorKind> {
+    match answer {
+        Err(Fault::Io(e)) => Some(e.kind()),
+        _ => None,
+    }
+}
+
+fn length<S: FileSystem>(fs: S) -> Option<u64> {
+    fs.metadata("/f").ok().map(|m| m.len())
+}
+
+#[test]
+fn answers_may_change(rt: HostRuntime) {
+    let fs = Growing { len: Cell::new(0) };
+    assert_eq!(rt; length(&fs), Some(1));
+    assert_eq!(rt; length(&fs), Some(2));
+    assert_eq!(rt; length(fs), Some(3));
+}
+
+// What the four calls answer, made through the trait's bound.
+fn answers<S: FileSystem>(
+    alloc: Global,
+    fs: S,
+) -> (
+    Option<ErrorKind>,
+    Option<Metadata>,
+    Option<Metadata>,
+    Option<String>,
+) {
+    (
+        kind(fs.read_dir(alloc, "/f")),
+        fs.metadata("/f").ok(),
+        fs.symlink_metadata("/f").ok(),
+        fs.read_link(alloc, "/f").ok(),
+    )
+}
+
+#[test]
+fn a_borrowed_file_system_answers(rt: HostRuntime) -> Result<(), Fail> {
+    let fs = Growing { len: Cell::new(0) };
+    let (listing, file, link, target) = answers(rt.alloc(), &fs);
+    assert_eq!(rt; listing, Some(ErrorKind::NotADirectory));
+    assert_eq!(rt; file, Some(Metadata::new(FileType::File, 1)));
+    assert_eq!(rt; link, Some(Metadata::new(FileType::Symlink, 0)));
+    let text = String::from_str(rt.alloc(), "/f")?;
+    assert_eq!(rt; target, Some(text));
+    Ok(())
+}
+
+fn fails<E: Drop>(error: E) -> Result<(), Fault>
+where
+    Fault: From<E>,
+{
+    Err(error)?
+}
+
+#[test]
+fn want_of_memory_is_a_fault_of_its_own(rt: HostRuntime) {
+    assert!(rt; matches!(fails(AllocError), Err(Fault::Memory)));
+}
+
+#[test]
+fn an_error_keeps_its_kind(rt: HostRuntime) {
+    for wanted in [ErrorKind::NotFound, ErrorKind::OutOfMemory] {
+        assert_eq!(rt; kind(fails(io::Error::from(wanted))), Some(wanted));
+    }
+}

@@ -1,0 +1,20 @@
+//! What the parts do on which a walk stands, by worked examples: addresses, the queue and the board, file systems, and
+//! the program's texts.
+#![tactic(auto)]
+
+#[cfg(test)]
+mod board;
+#[cfg(test)]
+mod file_system;
+#[cfg(test)]
+mod index_path;
+#[cfg(test)]
+mod ordered_matcher;
+#[cfg(test)]
+mod ordered_queue;
+#[cfg(test)]
+mod rehearsal;
+#[cfg(test)]
+mod rehearsal_sizes;
+#[cfg(test)]
+mod texts;

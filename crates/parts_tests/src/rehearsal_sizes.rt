@@ -1,0 +1,111 @@
+//! Rehearsals of many moves.
+use jwalk_board::board::{Move, Plan, Refused, Rehearsal, rehearse};
+use std::alloc::{AllocError, Global};
+use std::cell::Cell;
+use std::test::Fail;
+
+// Each specification says how many levels lie below it, and has three children as long as there is one. It counts how
+// often it is read.
+#[derive(Drop)]
+struct Levels {
+    reads: Cell<usize>,
+}
+
+impl Plan<Global> for Levels {
+    ghost use Rattle.jwalk_board.specs.Rows.{family, family-falls};
+    ghost use Rattle.std.specs.Prelude.{ℕ};
+
+    type Spec = u8;
+
+    type Reading = u8;
+
+    ghost SpecValue = { ℕ };
+
+    ghost ReadingValue = { ℕ };
+
+    ghost spec_value = { λ s. s };
+
+    ghost reading_value = { λ r. r };
+
+    ghost IsFixed = { λ _. ⊥ };
+
+    ghost tree = { λ _. family };
+
+    ghost falls = { λ _ _. family-falls };
+
+    fn read(&self, alloc: Global, spec: &u8) -> Result<(u8, Vec<u8>), Refused> {
+        self.reads.set(self.reads.get().wrapping_add(1));
+        let children = match spec.checked_sub(1) {
+            Some(below) => vec![in alloc; below; 3]?,
+            None => Vec::new(alloc),
+        };
+        Ok((*spec, children))
+    }
+}
+
+// At and below a root with six levels below it there are 1 + 3 + 9 + 27 + 81 + 243 + 729.
+const LEVELS: u8 = 6;
+
+const ALL: usize = 1093;
+
+fn rounds(alloc: Global, round: &[Move], count: usize) -> Result<Vec<Move>, AllocError> {
+    let mut moves = Vec::new(alloc);
+    for _round in 0..count {
+        moves.extend_from_slice(round)?;
+    }
+    Ok(moves)
+}
+
+// It promises nothing, as in the other tests.
+fn played(
+    alloc: Global,
+    plan: &Levels,
+    workers: usize,
+    moves: &[Move],
+) -> Result<Rehearsal<u8, u8>, Refused> {
+    rehearse(alloc, plan, vec![in alloc; LEVELS]?, workers, moves)
+}
+
+// Plays so many rounds, and says how many were read, taken and handed out, and how many are left.
+fn totals(
+    alloc: Global,
+    workers: usize,
+    round: &[Move],
+    count: usize,
+) -> Result<[usize; 4], Refused> {
+    let plan = Levels {
+        reads: Cell::new(0),
+    };
+    let moves = rounds(alloc, round, count)?;
+    let made = played(alloc, &plan, workers, moves.as_slice())?;
+    let left = made.board.pending();
+    Ok([
+        plan.reads.get(),
+        made.taken.len(),
+        made.handed_out.len(),
+        left,
+    ])
+}
+
+#[test]
+fn a_long_rehearsal_reads_each_specification_once(rt: HostRuntime) -> Result<(), Fail> {
+    let alloc = rt.alloc();
+    let alone = [Move::Take(0), Move::Finish(0), Move::HandOut];
+    assert_eq!(rt;
+        totals(alloc, 1, alone.as_slice(), ALL)?,
+        [ALL, ALL, ALL, 0]
+    );
+    let in_pairs = [
+        Move::Take(0),
+        Move::Take(1),
+        Move::Finish(1),
+        Move::Finish(0),
+        Move::HandOut,
+        Move::HandOut,
+    ];
+    assert_eq!(rt;
+        totals(alloc, 2, in_pairs.as_slice(), ALL)?,
+        [ALL, ALL, ALL, 0]
+    );
+    Ok(())
+}
