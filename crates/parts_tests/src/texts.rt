@@ -40,7 +40,7 @@ fn other_words_are_bad(rt: HostRuntime) -> Result<(), Fail> {
         &["--tree", "", "/r"],
         &["--tree", "/r", "--sort", "/r"],
         &["--tree", "--sorted", "/r"],
-        &["--tree", "--follow", "/r"],
+        &["--tree", "--follow", "--follow", "/r"],
         &["--tree", "--batch", "2", "/r"],
         &["--tree", "--usage", "/r"],
     ];
@@ -93,6 +93,7 @@ fn check_asked(rt: &impl Abort, request: Option<Request<'_>>, want: (Asked, &str
     assert_eq!(rt; request.asked.tree, asked.tree);
     assert_eq!(rt; request.asked.sort, asked.sort);
     assert_eq!(rt; request.asked.hidden, asked.hidden);
+    assert_eq!(rt; request.asked.follow, asked.follow);
     assert_eq!(rt; request.asked.min, asked.min);
     assert_eq!(rt; request.asked.max, asked.max);
 }
@@ -103,14 +104,15 @@ fn options_come_in_any_order_and_the_root_last(rt: HostRuntime) -> Result<(), Fa
         tree: true,
         sort: true,
         hidden: false,
+        follow: true,
         min: Some(1),
         max: Some(2),
     };
     let rows: [&[&str]; 4] = [
-        &["--tree", "--sort", "--max", "2", "--min", "1", "/r"],
-        &["--sort", "--tree", "--min", "1", "--max", "2", "/r"],
-        &["--min", "01", "--max", "2", "--sort", "--tree", "/r"],
-        &["--max", "2", "--tree", "--min", "1", "--sort", "/r"],
+        &["--tree", "--sort", "--follow", "--max", "2", "--min", "1", "/r"],
+        &["--follow", "--sort", "--tree", "--min", "1", "--max", "2", "/r"],
+        &["--min", "01", "--max", "2", "--sort", "--follow", "--tree", "/r"],
+        &["--max", "2", "--tree", "--min", "1", "--follow", "--sort", "/r"],
     ];
     for words in rows {
         let words = texts(rt.alloc(), words)?;
@@ -120,6 +122,7 @@ fn options_come_in_any_order_and_the_root_last(rt: HostRuntime) -> Result<(), Fa
         tree: true,
         sort: false,
         hidden: true,
+        follow: false,
         min: None,
         max: None,
     };
@@ -132,7 +135,7 @@ fn options_come_in_any_order_and_the_root_last(rt: HostRuntime) -> Result<(), Fa
 
 #[test]
 fn the_first_bad_line_is_named(rt: HostRuntime) -> Result<(), Fail> {
-    let first: [&[u8]; 25] = [
+    let first: [&[u8]; 28] = [
         b"d",
         b"d ",
         b"f",
@@ -145,7 +148,10 @@ fn the_first_bad_line_is_named(rt: HostRuntime) -> Result<(), Fail> {
         b"f 1.0 /r",
         b"f 18446744073709551616 /r",
         b"f 000000000000000000001 /r",
-        b"l /r\t/s",
+        b"l x",
+        b"l x\t",
+        b"lx\t/p",
+        b"l x\t/",
         b"x /r",
         b"x",
         b"x ",
@@ -192,7 +198,7 @@ impl Read for Broken {
 fn an_input_is_read_whole_or_told(rt: HostRuntime) -> Result<(), Fail> {
     let good = read_tree(
         rt.alloc(),
-        &mut "d /r\n\nf 18446744073709551615 /r/a b".as_bytes(),
+        &mut "d /r\n\nl \t/r/l\nf 18446744073709551615 /r/a b".as_bytes(),
     );
     assert!(rt; good.is_ok());
     let unread = read_tree(rt.alloc(), &mut Broken(ErrorKind::Other)).err();

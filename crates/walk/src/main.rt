@@ -1,5 +1,5 @@
-//! Walks a tree and prints one line for each answer: `walk --tree [--sort] [--hidden] [--min N] [--max N] ROOT`, with the
-//! lines of the tree on standard input.
+//! Walks a tree and prints one line for each answer:
+//! `walk --tree [--sort] [--hidden] [--follow] [--min N] [--max N] ROOT`, with the lines of the tree on standard input.
 #![tactic(auto)]
 
 mod answers;

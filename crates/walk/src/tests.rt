@@ -223,6 +223,131 @@ fn the_least_depth_is_set_before_the_greatest(rt: HostRuntime) -> Result<(), Fai
     Ok(())
 }
 
+/// A link to a directory above it.
+const LOOP: &str = "d /r\nd /r/a\nd /r/a/b\nd /r/a/b/c\nl /r/a\t/r/a/b/c/a-link\n";
+
+/// The same with a relative target.
+const RELATIVE: &str = "d /r\nd /r/a\nd /r/a/b\nd /r/a/b/c\nl ../..\t/r/a/b/c/a-link\n";
+
+/// A link to the directory beside it.
+const BESIDE: &str = "d /r\nd /r/a\nf 0 /r/a/zzz\nl a\t/r/a-link\n";
+
+#[test]
+fn links_are_followed_where_that_is_asked(rt: HostRuntime) -> Result<(), Fail> {
+    let rows: [(&str, &[&str], &str, u8); 13] = [
+        (
+            LOOP,
+            &["--tree", "/r"],
+            "0 d /r\n1 d /r/a\n2 d /r/a/b\n3 d /r/a/b/c\n4 L /r/a/b/c/a-link\n",
+            0,
+        ),
+        (
+            LOOP,
+            &["--tree", "--follow", "/r"],
+            "0 d /r\n1 d /r/a\n2 d /r/a/b\n3 d /r/a/b/c\n! 4 /r/a/b/c/a-link loop /r/a\n",
+            1,
+        ),
+        (
+            RELATIVE,
+            &["--tree", "--follow", "--max", "6", "/r"],
+            "0 d /r\n1 d /r/a\n2 d /r/a/b\n3 d /r/a/b/c\n4 D /r/a/b/c/a-link\n5 d /r/a/b/c/a-link/b\n6 d /r/a/b/c/a-link/b/c\n",
+            0,
+        ),
+        (
+            BESIDE,
+            &["--tree", "/r/a-link"],
+            "0 L /r/a-link\n1 f /r/a-link/zzz\n",
+            0,
+        ),
+        (
+            BESIDE,
+            &["--follow", "--tree", "/r/a-link"],
+            "0 D /r/a-link\n1 f /r/a-link/zzz\n",
+            0,
+        ),
+        (
+            BESIDE,
+            &["--tree", "--follow", "/r"],
+            "0 d /r\n1 d /r/a\n2 f /r/a/zzz\n1 D /r/a-link\n2 f /r/a-link/zzz\n",
+            0,
+        ),
+        (
+            "d /s\nl /s\t/l\nl /l\t/s/k\n",
+            &["--tree", "--follow", "/l/"],
+            "0 D /l\n! 1 /l/k loop /l\n",
+            1,
+        ),
+        (
+            "d /r\nf 3 /r/f\nl f\t/r/l\n",
+            &["--tree", "--follow", "/r"],
+            "0 d /r\n1 f /r/f\n1 F /r/l\n",
+            0,
+        ),
+        (
+            "d /r\nl a\t/r/a\n",
+            &["--tree", "--follow", "/r"],
+            "0 d /r\n! 1 /r/a Other\n",
+            1,
+        ),
+        (
+            "d /r\nl a\t/r/a\n",
+            &["--tree", "/r"],
+            "0 d /r\n1 L /r/a\n",
+            0,
+        ),
+        (
+            "d /r\nl \t/r/l\n",
+            &["--tree", "--follow", "/r"],
+            "0 d /r\n! 1 /r/l NotFound\n",
+            1,
+        ),
+        (
+            "d /r\nl \t/r/a\tb",
+            &["--tree", "/r"],
+            "0 d /r\n1 L /r/a\tb\n",
+            0,
+        ),
+        (
+            "l /nowhere\t/x\n",
+            &["--tree", "/x"],
+            "! 0 /x NotFound\n",
+            1,
+        ),
+    ];
+    for (input, words, out, status) in rows {
+        check(
+            &rt,
+            &run_on(rt.alloc(), words, input.as_bytes())?,
+            (out, "", status),
+        );
+    }
+    Ok(())
+}
+
+/// The path that goes so many times through a link.
+fn path_of_links(alloc: Global, count: usize) -> Result<String, AllocError> {
+    let mut path = String::from_str(alloc, "/r")?;
+    for _ in 0..count {
+        path.push_str("/l")?;
+    }
+    Ok(path)
+}
+
+#[test]
+fn links_are_gone_round_until_a_look_up_refuses(rt: HostRuntime) -> Result<(), Fail> {
+    let mut out = String::from_str(rt.alloc(), "0 d /r\n")?;
+    for depth in 1..41 {
+        let path = path_of_links(rt.alloc(), depth)?;
+        out.push_str(&format!(in rt.alloc(); "{depth} D {path}\n")?)?;
+    }
+    let last = path_of_links(rt.alloc(), 41)?;
+    out.push_str(&format!(in rt.alloc(); "! 41 {last} Other\n")?)?;
+    let input = "d /r\nl .\t/r/l\n".as_bytes();
+    let ran = run_on(rt.alloc(), &["--tree", "--follow", "/r"], input)?;
+    check(&rt, &ran, (&out, "", 1));
+    Ok(())
+}
+
 #[test]
 fn the_first_bad_line_is_named(rt: HostRuntime) -> Result<(), Fail> {
     let rows = [

@@ -13,8 +13,8 @@ use std::alloc::Allocator;
 use std::io::Write;
 use walk_text::asked::Asked;
 
-/// The walk that is asked for. Its options are set one after another: the order, hidden names, the least depth and then
-/// the greatest.
+/// The walk that is asked for. Its options are set one after another: the order, hidden names, links, the least depth and
+/// then the greatest.
 fn walk_of<S: FileSystem, A: Allocator + Copy>(
     fs: S,
     root: String<A>,
@@ -26,7 +26,8 @@ fn walk_of<S: FileSystem, A: Allocator + Copy>(
 {
     let mut walk = WalkDirGeneric::new(fs, root)
         .sort(asked.sort)
-        .skip_hidden(!asked.hidden);
+        .skip_hidden(!asked.hidden)
+        .follow_links(asked.follow);
     if let Some(least) = asked.min {
         walk = walk.min_depth(least);
     }

@@ -1,10 +1,10 @@
--- Numbers and what follows them.
+-- Numbers and targets, and what follows them.
 use Rattle.std.proofs.Common.{◌≡◌, ◌≢◌, ℕ, ◌<◌, List, [], length, get_or, arith, sym, subst, ◌∙◌, Option, Some, None, IfNone, MatchOption, Bor}
 use Rattle.std.specs.Str.Parse.{AllDigits}
 use Rattle.std.proofs.lemmas.Str.Parse.{not_in_digits, numerals_by_value, tells_digits}
 use Rattle.std.proofs.lemmas.Str.Pattern.{IsSplitOnceResult, split_after}
 use Rattle.walk_text.specs.Number.{IsNumber}
-use Rattle.walk_text.specs.TreeLine.{HasSizedPath, IsSizedPath}
+use Rattle.walk_text.specs.TreeLine.{HasSizedPath, IsSizedPath, HasLinkedPath, IsLinkedPath}
 
 -- digits hold no space
 no_space : (digits : List ℕ) → AllDigits 10 digits → (i : ℕ) → i < length digits → get_or digits i 0 ≢ 32
@@ -25,6 +25,18 @@ no_number text x splits none (digits, path, is) = let ends = ends_length text di
 -- nor has one with nothing behind its first space
 pub no_path : (text : List ℕ) (x : Bor (List ℕ) × Bor (List ℕ)) → IsSplitOnceResult 32 text (Some x) → x.1.now ≡ [] → ¬ (HasSizedPath text)
 no_path text x splits empty (digits, path, is) = let ends = ends_length text digits path (Some x) splits is in is.2 (sym ends.1 ∙ empty)
+
+-- a target ends at the first tab
+ends_target : (text target path : List ℕ) (r : Option (Bor (List ℕ) × Bor (List ℕ))) → IsSplitOnceResult 9 text r → IsLinkedPath text target path → MatchOption r ⊥ (λ x. (x.0.now ≡ target) × (x.1.now ≡ path))
+ends_target text target path r splits is = split_after 9 text target path r splits (omega arith) is.0 is.1
+
+-- a text with no tab has no target and path
+pub no_tab : (text : List ℕ) → IsSplitOnceResult 9 text None → ¬ (HasLinkedPath text)
+no_tab text splits (target, path, is) = ends_target text target path None splits is
+
+-- nor has one with nothing behind its first tab
+pub no_linked_path : (text : List ℕ) (x : Bor (List ℕ) × Bor (List ℕ)) → IsSplitOnceResult 9 text (Some x) → x.1.now ≡ [] → ¬ (HasLinkedPath text)
+no_linked_path text x splits empty (target, path, is) = let ends = ends_target text target path (Some x) splits is in is.2 (sym ends.1 ∙ empty)
 
 -- what holds, holds where there is nothing
 pub on_none : {T P : Type 0} (r : Option T) → P → IfNone r P

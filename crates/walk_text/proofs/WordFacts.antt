@@ -6,7 +6,7 @@ use Rattle.walk_text.specs.Asked.{nothing, also}
 use Rattle.walk_text.specs.Words.{BeginWithNumber, BeginWithNamedNumber, Begin, AddAll, Add, Ask, AreGood}
 use Rattle.walk_text.specs.declared.asked.Asked.{Asked}
 use Rattle.walk_text.specs.declared.asked.Choice.{Choice}
-use Rattle.walk_text.specs.declared.asked.Choice.TheVariants.{Tree, Sort, Hidden, Min, Max}
+use Rattle.walk_text.specs.declared.asked.Choice.TheVariants.{Tree, Sort, Hidden, Follow, Min, Max}
 
 -- an option and the words behind it
 abbrev split_as : Choice → List (List ℕ) → Option (Choice × List (List ℕ))
@@ -23,6 +23,7 @@ named name behind =
     if bytes_eq name (codes "--tree") then split_as Tree behind
     else if bytes_eq name (codes "--sort") then split_as Sort behind
     else if bytes_eq name (codes "--hidden") then split_as Hidden behind
+    else if bytes_eq name (codes "--follow") then split_as Follow behind
     else if bytes_eq name (codes "--min") then numbered Min behind
     else if bytes_eq name (codes "--max") then numbered Max behind
     else None
@@ -41,6 +42,7 @@ unfolding split named
 split_is words Tree others begin = ap split begin
 split_is words Sort others begin = ap split begin
 split_is words Hidden others begin = ap split begin
+split_is words Follow others begin = ap split begin
 split_is words (Min n) others (behind, is, number) = ap split is ∙ numbered_is Min behind n others number
 split_is words (Max n) others (behind, is, number) = ap split is ∙ numbered_is Max behind n others number
 

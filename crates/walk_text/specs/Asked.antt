@@ -1,19 +1,20 @@
 -- What the options of a call ask for.
 use Rattle.std.specs.Prelude.{ℕ, true, false, not, Option, Some, None, is_some, if◌then◌else◌}
-use Rattle.walk_model.specs.Options.{Options, defaults, with_sort, with_skip_hidden, with_min_depth, with_max_depth}
+use Rattle.walk_model.specs.Options.{Options, defaults, with_sort, with_skip_hidden, with_follow_links, with_min_depth, with_max_depth}
 use Rattle.walk_text.specs.declared.asked.Asked.{Asked}
 use Rattle.walk_text.specs.declared.asked.Choice.{Choice}
-use Rattle.walk_text.specs.declared.asked.Choice.TheVariants.{Tree, Sort, Hidden, Min, Max}
+use Rattle.walk_text.specs.declared.asked.Choice.TheVariants.{Tree, Sort, Hidden, Follow, Min, Max}
 
 -- what no option asks for
 abbrev pub nothing : Asked
-nothing = record { tree = false; sort = false; hidden = false; min = None; max = None }
+nothing = record { tree = false; sort = false; hidden = false; follow = false; min = None; max = None }
 
 -- what is asked for with one more option; each is taken at most once
 abbrev pub also : Choice → Asked → Option Asked
 also Tree asked = if asked.tree then None else Some (record asked { tree = true })
 also Sort asked = if asked.sort then None else Some (record asked { sort = true })
 also Hidden asked = if asked.hidden then None else Some (record asked { hidden = true })
+also Follow asked = if asked.follow then None else Some (record asked { follow = true })
 also (Min depth) asked = if is_some asked.min then None else Some (record asked { min = Some depth })
 also (Max depth) asked = if is_some asked.max then None else Some (record asked { max = Some depth })
 
@@ -25,4 +26,4 @@ at_depth step (Some depth) options = step depth options
 -- the options of the walk that is asked for, by the builder's steps one after another
 abbrev pub options_for : Asked → Options
 options_for asked =
-    at_depth with_max_depth asked.max (at_depth with_min_depth asked.min (with_skip_hidden (not asked.hidden) (with_sort asked.sort defaults)))
+    at_depth with_max_depth asked.max (at_depth with_min_depth asked.min (with_follow_links asked.follow (with_skip_hidden (not asked.hidden) (with_sort asked.sort defaults))))

@@ -1,12 +1,12 @@
 -- Trees built from lines.
 use Rattle.std.specs.Prelude.{◌≡◌, ℕ, ◌+◌, List, [], ◌∷◌, ◌++◌, length, ◌⊎◌, Option, None, IfSome, Result, IsErr, IsUtf8}
 use Rattle.std.specs.declared.io.ErrorKind.TheVariants.{PermissionDenied}
-use Rattle.walk_model.specs.Tree.{Tree, Refusal, directory, file, add, deny, only_root}
+use Rattle.walk_model.specs.Tree.{Tree, Refusal, directory, file, link, add, deny, only_root}
 use Rattle.memory_fs.specs.MemoryFs.{IsSameTree, IsBuilt}
 use Rattle.walk_text.specs.declared.failure.Failure.{Failure}
 use Rattle.walk_text.specs.declared.failure.Failure.TheVariants.{BadWords, BadTree, Memory, Output}
 use Rattle.walk_text.specs.declared.tree_line.TreeLine.{TreeLine}
-use Rattle.walk_text.specs.declared.tree_line.TreeLine.TheVariants.{Dir, File, Deny}
+use Rattle.walk_text.specs.declared.tree_line.TreeLine.TheVariants.{Dir, File, Link, Deny}
 use Rattle.walk_text.specs.TextLines.{text_lines}
 use Rattle.walk_text.specs.TreeLine.{Says, IsTreeLine}
 
@@ -14,6 +14,7 @@ use Rattle.walk_text.specs.TreeLine.{Says, IsTreeLine}
 abbrev pub added : TreeLine → Tree → Result Tree Refusal
 added (Dir path) tree = add (directory [] None) path.now tree
 added (File len path) tree = add (file len) path.now tree
+added (Link target path) tree = add (link target.now) path.now tree
 added (Deny path) tree = deny PermissionDenied path.now tree
 
 -- the line makes the second tree of the first; an empty line changes nothing

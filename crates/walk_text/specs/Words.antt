@@ -4,7 +4,7 @@ use Rattle.walk_text.specs.Number.{IsNumber, value_of}
 use Rattle.walk_text.specs.Asked.{nothing, also}
 use Rattle.walk_text.specs.declared.asked.Asked.{Asked}
 use Rattle.walk_text.specs.declared.asked.Choice.{Choice}
-use Rattle.walk_text.specs.declared.asked.Choice.TheVariants.{Tree, Sort, Hidden, Min, Max}
+use Rattle.walk_text.specs.declared.asked.Choice.TheVariants.{Tree, Sort, Hidden, Follow, Min, Max}
 
 -- the words begin with a number, and these stand behind it
 abbrev pub BeginWithNumber : List (List ℕ) → ℕ → List (List ℕ) → Type 0
@@ -19,6 +19,7 @@ abbrev pub Begin : List (List ℕ) → Choice → List (List ℕ) → Type 0
 Begin words Tree others = words ≡ codes "--tree" ∷ others
 Begin words Sort others = words ≡ codes "--sort" ∷ others
 Begin words Hidden others = words ≡ codes "--hidden" ∷ others
+Begin words Follow others = words ≡ codes "--follow" ∷ others
 Begin words (Min depth) others = BeginWithNamedNumber (codes "--min") words depth others
 Begin words (Max depth) others = BeginWithNamedNumber (codes "--max") words depth others
 

@@ -10,6 +10,8 @@ pub enum Choice {
     Sort,
     /// Hidden names come too.
     Hidden,
+    /// Links are followed.
+    Follow,
     /// The least depth of the entries.
     Min(usize),
     /// The greatest depth.
@@ -25,6 +27,8 @@ pub struct Asked {
     pub sort: bool,
     /// Whether hidden names come too.
     pub hidden: bool,
+    /// Whether links are followed.
+    pub follow: bool,
     /// The least depth of the entries, if one was named.
     pub min: Option<usize>,
     /// The greatest depth, if one was named.
@@ -42,6 +46,7 @@ impl Asked {
             tree: false,
             sort: false,
             hidden: false,
+            follow: false,
             min: None,
             max: None,
         }
@@ -56,6 +61,10 @@ impl Asked {
             Choice::Sort if !self.sort => Some(Asked { sort: true, ..self }),
             Choice::Hidden if !self.hidden => Some(Asked {
                 hidden: true,
+                ..self
+            }),
+            Choice::Follow if !self.follow => Some(Asked {
+                follow: true,
                 ..self
             }),
             Choice::Min(depth) if self.min.is_none() => Some(Asked {

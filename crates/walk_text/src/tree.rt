@@ -21,6 +21,7 @@ fn add<A: Allocator + Copy>(fs: &mut MemoryFs<A>, line: TreeLine<'_>) -> Result<
     match line {
         TreeLine::Dir(path) => fs.add_dir(path),
         TreeLine::File(len, path) => fs.add_file(path, len),
+        TreeLine::Link(target, path) => fs.add_link(path, target),
         TreeLine::Deny(path) => fs.deny(path, ErrorKind::PermissionDenied),
     }
 }

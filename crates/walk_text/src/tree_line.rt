@@ -1,6 +1,6 @@
 //! The lines that a tree is built from.
 ghost use Rattle.std.specs.Prelude.{◌≡◌, ◌≢◌, ℕ, List, [], ◌++◌, codes, IfSome, IfNone, MatchOption};
-ghost use Rattle.walk_text.specs.TreeLine.{Says, HasSizedPath, IsTreeLine};
+ghost use Rattle.walk_text.specs.TreeLine.{Says, HasSizedPath, HasLinkedPath, IsTreeLine};
 
 use crate::number::parse_number;
 
@@ -10,6 +10,8 @@ pub enum TreeLine<'a> {
     Dir(&'a str),
     /// A file of a length in bytes at a path.
     File(u64, &'a str),
+    /// A link to a target, which may be empty, at a path.
+    Link(&'a str, &'a str),
     /// The directory at a path can't be read: permission is denied.
     Deny(&'a str),
 }
@@ -39,8 +41,17 @@ fn parse_file(text: &str) -> Option<TreeLine<'_>>
     Some(TreeLine::File(len, path_in(path)?))
 }
 
-/// Reads a line: `d PATH`, `f LEN PATH` or `x PATH`, with one space behind the letter and behind the length, and a path
-/// that is the whole rest and isn't empty. None for any other text.
+/// Reads what follows the letter of a link. The first tab parts target and path.
+fn parse_link(text: &str) -> Option<TreeLine<'_>>
+    ensures some { IfSome result (Says (codes "l " ++ text.now)) }
+    ensures none { IfNone result (¬ (HasLinkedPath text.now)) }
+{
+    let (target, path) = text.split_once('\t')?;
+    Some(TreeLine::Link(target, path_in(path)?))
+}
+
+/// Reads a line: `d PATH`, `f LEN PATH`, `l TARGET<tab>PATH` or `x PATH`, with one space behind the letter and behind the
+/// length, and a path that is the whole rest and isn't empty. None for any other text.
 pub fn parse_tree_line(text: &str) -> Option<TreeLine<'_>>
     ensures some { IfSome result (Says text.now) }
     ensures none { IfNone result (¬ (IsTreeLine text.now)) }
@@ -50,6 +61,9 @@ pub fn parse_tree_line(text: &str) -> Option<TreeLine<'_>>
     }
     if let Some(path) = rest_after(text, "x ") {
         return Some(TreeLine::Deny(path_in(path)?));
+    }
+    if let Some(link) = rest_after(text, "l ") {
+        return parse_link(link);
     }
     parse_file(rest_after(text, "f ")?)
 }

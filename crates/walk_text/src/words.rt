@@ -40,6 +40,7 @@ fn split_option<A: Allocator>(words: &[String<A>]) -> Option<(Choice, &[String<A
         "--tree" => Some((Choice::Tree, behind)),
         "--sort" => Some((Choice::Sort, behind)),
         "--hidden" => Some((Choice::Hidden, behind)),
+        "--follow" => Some((Choice::Follow, behind)),
         "--min" => {
             let (depth, others) = split_number(behind)?;
             Some((Choice::Min(depth), others))

@@ -5,28 +5,28 @@ use Rattle.walk_text.proofs.Texts.{on_none}
 use Rattle.walk_text.proofs.WordFacts.{lacks_min, lacks_max}
 use Rattle.walk_text.proofs.words.split_option.Goals as goal
 
-pub returns-in_err-depth-in-text-4-clause-none : goal.returns-in_err-depth-in-text-4-clause-none
-returns-in_err-depth-in-text-4-clause-none g c =
-    let words = map string_bytes c.args.words.now in
-    let behind = map string_bytes c.in_ok-name.behind.now in
-    let is : codes "--min" ∷ behind ≡ words = ap (λ name. name ∷ behind) (sym c.in-text-4.is ∙ c.as_str.ensures.value) ∙ ap (map string_bytes) (sym c.in_ok-name.ensures.cases.0) in
-    let none : (choice : Choice) (others : List (List ℕ)) → ¬ (Begin words choice others) = subst (λ ws. (choice : Choice) (others : List (List ℕ)) → ¬ (Begin ws choice others)) is (lacks_min behind c.in_err-depth-in-text-4.ensures.none) in
-    on_none _ none
-
-pub returns-in_ok-depth-in-text-4-clause-some : goal.returns-in_ok-depth-in-text-4-clause-some
-returns-in_ok-depth-in-text-4-clause-some g c =
-    let behind = map string_bytes c.in_ok-name.behind.now in
-    (behind, ap (map string_bytes) c.in_ok-name.ensures.cases.0 ∙ ap (λ name. name ∷ behind) (sym c.as_str.ensures.value ∙ c.in-text-4.is), c.in_ok-depth-in-text-4.ensures.some)
-
 pub returns-in_err-depth-in-text-5-clause-none : goal.returns-in_err-depth-in-text-5-clause-none
 returns-in_err-depth-in-text-5-clause-none g c =
     let words = map string_bytes c.args.words.now in
     let behind = map string_bytes c.in_ok-name.behind.now in
-    let is : codes "--max" ∷ behind ≡ words = ap (λ name. name ∷ behind) (sym c.in-text-5.is ∙ c.as_str.ensures.value) ∙ ap (map string_bytes) (sym c.in_ok-name.ensures.cases.0) in
-    let none : (choice : Choice) (others : List (List ℕ)) → ¬ (Begin words choice others) = subst (λ ws. (choice : Choice) (others : List (List ℕ)) → ¬ (Begin ws choice others)) is (lacks_max behind c.in_err-depth-in-text-5.ensures.none) in
+    let is : codes "--min" ∷ behind ≡ words = ap (λ name. name ∷ behind) (sym c.in-text-5.is ∙ c.as_str.ensures.value) ∙ ap (map string_bytes) (sym c.in_ok-name.ensures.cases.0) in
+    let none : (choice : Choice) (others : List (List ℕ)) → ¬ (Begin words choice others) = subst (λ ws. (choice : Choice) (others : List (List ℕ)) → ¬ (Begin ws choice others)) is (lacks_min behind c.in_err-depth-in-text-5.ensures.none) in
     on_none _ none
 
 pub returns-in_ok-depth-in-text-5-clause-some : goal.returns-in_ok-depth-in-text-5-clause-some
 returns-in_ok-depth-in-text-5-clause-some g c =
     let behind = map string_bytes c.in_ok-name.behind.now in
     (behind, ap (map string_bytes) c.in_ok-name.ensures.cases.0 ∙ ap (λ name. name ∷ behind) (sym c.as_str.ensures.value ∙ c.in-text-5.is), c.in_ok-depth-in-text-5.ensures.some)
+
+pub returns-in_err-depth-in-text-6-clause-none : goal.returns-in_err-depth-in-text-6-clause-none
+returns-in_err-depth-in-text-6-clause-none g c =
+    let words = map string_bytes c.args.words.now in
+    let behind = map string_bytes c.in_ok-name.behind.now in
+    let is : codes "--max" ∷ behind ≡ words = ap (λ name. name ∷ behind) (sym c.in-text-6.is ∙ c.as_str.ensures.value) ∙ ap (map string_bytes) (sym c.in_ok-name.ensures.cases.0) in
+    let none : (choice : Choice) (others : List (List ℕ)) → ¬ (Begin words choice others) = subst (λ ws. (choice : Choice) (others : List (List ℕ)) → ¬ (Begin ws choice others)) is (lacks_max behind c.in_err-depth-in-text-6.ensures.none) in
+    on_none _ none
+
+pub returns-in_ok-depth-in-text-6-clause-some : goal.returns-in_ok-depth-in-text-6-clause-some
+returns-in_ok-depth-in-text-6-clause-some g c =
+    let behind = map string_bytes c.in_ok-name.behind.now in
+    (behind, ap (map string_bytes) c.in_ok-name.ensures.cases.0 ∙ ap (λ name. name ∷ behind) (sym c.as_str.ensures.value ∙ c.in-text-6.is), c.in_ok-depth-in-text-6.ensures.some)
