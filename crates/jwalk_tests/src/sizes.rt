@@ -2,6 +2,7 @@
 use crate::lines::{Walk, builder, fill, is_over, next_entry, walk};
 use crate::watched::{Failing, Watched};
 use jwalk::file_system::{BuildError, FileSystem, MemoryFs};
+use proved_walk::batches::count_in_batches;
 use std::alloc::{AllocError, Global};
 use std::process::Abort;
 use std::sync::Arc;
@@ -80,6 +81,13 @@ fn all_answers_by_one_call(rt: HostRuntime) -> Result<(), Fail> {
         assert_eq!(rt; fill(&mut walk, usize::MAX, &mut found)?, count);
         assert_eq!(rt; found.len(), 5_001);
     }
+    Ok(())
+}
+
+#[test]
+fn answers_counted_a_hundred_at_a_time(rt: HostRuntime) -> Result<(), Fail> {
+    let walk = walk(rt.alloc(), wide_directory(rt.alloc())?, "/d")?;
+    assert_eq!(rt; count_in_batches(rt.alloc(), walk)?, 5_001);
     Ok(())
 }
 

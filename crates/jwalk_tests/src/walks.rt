@@ -1,8 +1,9 @@
 //! Walks over trees in memory.
-use crate::lines::{Builder, builder, is_over, next_are, push_line, root_shows, walk};
+use crate::lines::{Builder, builder, is_over, lines_of, next_are, push_line, root_shows, walk};
 use crate::trees::{empty_directory, grouped_tree, small_tree};
 use jwalk::file_system::MemoryFs;
 use jwalk::{WalkDirGeneric, path_text};
+use proved_walk::whole::walk_whole;
 use std::alloc::{AllocError, Global};
 use std::sync::Arc;
 use std::test::Fail;
@@ -47,6 +48,18 @@ fn a_shared_tree_walked_twice(rt: HostRuntime) -> Result<(), Fail> {
     let wanted = "0 d /r; 1 f /r/b; 1 d /r/s; 2 f /r/s/x; 1 f /r/a";
     root_shows(&rt, fs.clone()?, "/r", wanted)?;
     root_shows(&rt, fs, "/r/s", "0 d /r/s; 1 f /r/s/x")
+}
+
+#[test]
+fn a_whole_walk_in_one_list(rt: HostRuntime) -> Result<(), Fail> {
+    let walk = builder(rt.alloc(), small_tree(rt.alloc())?, "/r")?;
+    let found = walk_whole(rt.alloc(), walk)?;
+    let lines = lines_of(rt.alloc(), found.as_slice())?;
+    assert_eq!(rt;
+        lines.as_str(),
+        "0 d /r; 1 f /r/b; 1 d /r/s; 2 f /r/s/x; 1 f /r/a"
+    );
+    Ok(())
 }
 
 #[test]
