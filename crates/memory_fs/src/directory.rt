@@ -63,7 +63,9 @@ impl<A: Allocator + Copy> Directory<A> {
 
     /// Takes the last child away.
     pub(crate) fn pop(&mut self) -> Option<(String<A>, Child<A>)>
-        ensures cases { MatchOption result (((branch self.old).children ≡ []) × (branch self.new ≡ branch self.old)) (λ p. PopsLast (branch self.old) (string_bytes p.0) (child_seen p.1) (branch self.new)) }
+        ensures cases { MatchOption result
+            (((branch self.old).children ≡ []) × (branch self.new ≡ branch self.old))
+            (λ p. PopsLast (branch self.old) (string_bytes p.0) (child_seen p.1) (branch self.new)) }
     {
         self.children.pop()
     }

@@ -160,7 +160,8 @@ impl<A: Allocator + Copy> MemoryFs<A> {
         links: u32,
     ) -> Result<(Hit<'a>, u32), ErrorKind>
         requires { IsWithin (branches self.now.table) (hit_seen from) }
-        ensures value { LeadsOn (branches self.now.table) links (hit_seen from.entry) (components_left components.entry) result }
+        ensures value { LeadsOn (branches self.now.table) links (hit_seen from.entry)
+            (components_left components.entry) result }
         ensures within { IfOk result (λ r. IsWithin (branches self.now.table) (hit_seen r.0)) }
         ensures fewer { IfOk result (λ r. r.1 ≤ links) }
     {
@@ -238,7 +239,8 @@ impl<A: Allocator + Copy> MemoryFs<A> {
 
     // The directory that the components lead to.
     fn holder(&self, components: Components<'_>) -> Option<usize>
-        ensures value { result ≡ holder_of (from_root (branches self.now.table) true (components_left components.entry)) }
+        ensures value { result
+            ≡ holder_of (from_root (branches self.now.table) true (components_left components.entry)) }
         ensures within { IfSome result (λ index. index < length (branches self.now.table)) }
     {
         match self.reach(components, true) {
@@ -274,7 +276,8 @@ impl<A: Allocator + Copy> MemoryFs<A> {
 
     // The same for a child that is there.
     fn taken_spot<'p>(&self, path: &'p str) -> Option<Spot<'p>>
-        ensures value { MatchOption result (taken_spot (branches self.now.table) (components path.now) ≡ None) (λ s. taken_spot (branches self.now.table) (components path.now) ≡ Some (s.holder, s.name.now)) }
+        ensures value { MatchOption result (taken_spot (branches self.now.table) (components path.now) ≡ None)
+            (λ s. taken_spot (branches self.now.table) (components path.now) ≡ Some (s.holder, s.name.now)) }
         ensures within { IfSome result (λ s. s.holder < length (branches self.now.table)) }
     {
         let spot = self.spot(path)?;

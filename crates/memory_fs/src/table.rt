@@ -60,7 +60,8 @@ impl<A: Allocator + Copy> Table<A> {
     ) -> Result<(), AllocError>
         requires within { holder < length (branches self.old) }
         requires free { child_named (children_at (branches self.old) holder) name.now ≡ None }
-        ensures ok { OnOk result (branches self.new ≡ with_named (branches self.old) holder name.now (child_seen child)) }
+        ensures ok { OnOk result
+            (branches self.new ≡ with_named (branches self.old) holder name.now (child_seen child)) }
         ensures err { OnErr result (branches self.new ≡ branches self.old) }
         ensures kept { free_places self.new ≡ free_places self.old }
         ensures room { vec_capacity self.new.others ≡ vec_capacity self.old.others }
@@ -81,7 +82,8 @@ impl<A: Allocator + Copy> Table<A> {
     ) -> Result<(), AllocError>
         requires within { holder < length (branches self.old) }
         requires free { child_named (children_at (branches self.old) holder) name.now ≡ None }
-        ensures ok { OnOk result (branches self.new ≡ with_named (branches self.old) holder name.now (Link target.now)) }
+        ensures ok { OnOk result
+            (branches self.new ≡ with_named (branches self.old) holder name.now (Link target.now)) }
         ensures err { OnErr result (branches self.new ≡ branches self.old) }
         ensures kept { free_places self.new ≡ free_places self.old }
     {
@@ -96,7 +98,8 @@ impl<A: Allocator + Copy> Table<A> {
         requires within { holder < length (branches self.old) }
         requires free { child_named (children_at (branches self.old) holder) name.now ≡ None }
         requires spare { AreSpare (branches self.old) (free_places self.old) (length (free_places self.old)) }
-        ensures ok { OnOk result (IsDirectoryAdded (branches self.old) (free_places self.old) holder name.now (branches self.new) (free_places self.new)) }
+        ensures ok { OnOk result (IsDirectoryAdded (branches self.old) (free_places self.old) holder name.now
+            (branches self.new) (free_places self.new)) }
         ensures err { OnErr result (branches self.new ≡ branches self.old) }
         ensures err_kept { OnErr result (free_places self.new ≡ free_places self.old) }
     {
@@ -117,8 +120,10 @@ impl<A: Allocator + Copy> Table<A> {
         requires place { place < length (branches self.old) }
         requires within { holder < length (branches self.old) }
         requires free { child_named (children_at (branches self.old) holder) name.now ≡ None }
-        ensures ok { OnOk result (branches self.new ≡ with_parent_at (with_named (branches self.old) holder name.now (Dir place)) place holder) }
-        ensures taken { OnOk result (free_places self.new ≡ take (length (free_places self.old) - 1) (free_places self.old)) }
+        ensures ok { OnOk result (branches self.new
+            ≡ with_parent_at (with_named (branches self.old) holder name.now (Dir place)) place holder) }
+        ensures taken { OnOk result
+            (free_places self.new ≡ take (length (free_places self.old) - 1) (free_places self.old)) }
         ensures err { OnErr result (branches self.new ≡ branches self.old) }
         ensures err_kept { OnErr result (free_places self.new ≡ free_places self.old) }
     {
@@ -132,7 +137,8 @@ impl<A: Allocator + Copy> Table<A> {
     fn add_directory_behind(&mut self, holder: usize, name: &str) -> Result<(), AllocError>
         requires within { holder < length (branches self.old) }
         requires free { child_named (children_at (branches self.old) holder) name.now ≡ None }
-        ensures ok { OnOk result (branches self.new ≡ with_named (branches self.old) holder name.now (Dir (length (branches self.old))) ++ empty_branch holder ∷ []) }
+        ensures ok { OnOk result (branches self.new
+            ≡ with_named (branches self.old) holder name.now (Dir (length (branches self.old))) ++ empty_branch holder ∷ []) }
         ensures err { OnErr result (branches self.new ≡ branches self.old) }
         ensures kept { free_places self.new ≡ free_places self.old }
     {
@@ -152,8 +158,10 @@ impl<A: Allocator + Copy> Table<A> {
         requires within { holder < length (branches self.old) }
         requires sound { IsSound (branches self.old) }
         requires spare { AreSpare (branches self.old) (free_places self.old) (length (free_places self.old)) }
-        requires kept { (k : ℕ) → k < length (free_places self.old) → slice_index_or (free_places self.old) k 0 ≢ holder }
-        ensures ok { OnOk result (IsRemoved (branches self.old) holder name.now (branches self.new) (free_places self.new)) }
+        requires kept { (k : ℕ) → k < length (free_places self.old)
+            → slice_index_or (free_places self.old) k 0 ≢ holder }
+        ensures ok { OnOk result
+            (IsRemoved (branches self.old) holder name.now (branches self.new) (free_places self.new)) }
         ensures err { OnErr result (branches self.new ≡ branches self.old) }
         ensures err_kept { OnErr result (free_places self.new ≡ free_places self.old) }
     {
@@ -186,11 +194,13 @@ impl<A: Allocator + Copy> Table<A> {
         requires sound { IsSound (branches self.old) }
         requires spare { AreSpare (branches self.old) (free_places self.old) (length (free_places self.old)) }
         requires loose { IsLoose (branches self.old) index }
-        requires once { (k : ℕ) → k < length (free_places self.old) → slice_index_or (free_places self.old) k 0 ≢ index }
+        requires once { (k : ℕ) → k < length (free_places self.old)
+            → slice_index_or (free_places self.old) k 0 ≢ index }
         requires room { length (branches self.old) ≤ vec_capacity self.old.free + 1 }
         ensures sound { IsSound (branches self.new) }
         ensures spare { AreSpare (branches self.new) (free_places self.new) (length (free_places self.new)) }
-        ensures tree { (place : Place) → tree_of_table (branches self.new) place ≡ tree_of_table (branches self.old) place }
+        ensures tree { (place : Place)
+            → tree_of_table (branches self.new) place ≡ tree_of_table (branches self.old) place }
     {
         let mut next = self.free.len();
         self.set_free(index);
@@ -227,7 +237,9 @@ impl<A: Allocator + Copy> Table<A> {
     fn pop(&mut self, place: usize) -> Option<(String<A>, Child<A>)>
         requires below_root { 0 < place }
         requires within { place < length (branches self.old) }
-        ensures cases { MatchOption result (children_at (branches self.old) place ≡ []) (λ p. PopsLast (branch_at (branches self.old) place) (string_bytes p.0) (child_seen p.1) (branch_at (branches self.new) place)) }
+        ensures cases { MatchOption result (children_at (branches self.old) place ≡ [])
+            (λ p. PopsLast (branch_at (branches self.old) place) (string_bytes p.0) (child_seen p.1)
+            (branch_at (branches self.new) place)) }
         ensures others { branches self.new ≡ slice_set (branches self.old) place (branch_at (branches self.new) place) }
         ensures kept { free_places self.new ≡ free_places self.old }
         ensures room { vec_capacity self.new.free ≡ vec_capacity self.old.free }
