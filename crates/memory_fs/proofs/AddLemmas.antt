@@ -1,18 +1,21 @@
 -- What is added to the table is added to the tree.
-use Rattle.std.proofs.Common.{◌≡◌, ℕ, ◌<◌, List, [], ◌∷◌, ◌++◌, length, Option, None, Some, Result, Ok, Err, refl, sym, ap, subst, ◌∙◌}
+use Rattle.std.proofs.Common.{◌≡◌, ◌≢◌, ℕ, ◌-◌, ◌<◌, ◌≤◌, List, [], ◌∷◌, ◌++◌, length, take, slice_index_or, Option, None, Some, Result, Ok, Err, refl, sym, ap, subst, ◌∙◌, ◌⊎◌, inl, inr, arith}
 use Rattle.std.specs.declared.alloc.AllocError.{AllocError}
-use Rattle.std.specs.Prelude.{◌↔◌, OnOk, OnErr, is_some, option_and_then, if◌then◌else◌}
+use Rattle.std.proofs.lemmas.List.{length-take-le, get_or-take}
+use Rattle.std.proofs.lemmas.Option.{slice_get_cases, get_or_from_slice_get}
+use Rattle.std.specs.Prelude.{MatchOption, slice_get, ◌↔◌, OnOk, OnErr, is_some, option_and_then, if◌then◌else◌}
 use Rattle.std.specs.Option.{option_map}
 use Rattle.walk_model.specs.Paths.{components}
-use Rattle.walk_model.specs.Tree.{Place, Tree, Node, directory, file, link, Refusal, not_found, already_exists, Spot, spot_of, place_of, with_child as with_node, add_at, add}
-use Rattle.memory_fs.specs.Child.{Child, Dir, File, Link}
+use Rattle.walk_model.specs.Tree.{Place, Tree, Node, directory, Refusal, not_found, already_exists, Spot, spot_of, place_of, with_child as with_node, add_at, add}
+use Rattle.memory_fs.specs.Child.{Child, Dir}
 use Rattle.memory_fs.specs.declared.build_error.BuildError.{BuildError}
 use Rattle.memory_fs.specs.declared.build_error.BuildError.TheVariants.{NotFound, AlreadyExists, Memory}
-use Rattle.memory_fs.specs.Branch.{Branch, child_named, children_at, child_of, at_end, node_of, tree_of_table, if_free, named_spot, free_spot, empty_branch, with_named, IsSound}
+use Rattle.memory_fs.specs.Branch.{Branch, child_named, children_at, child_of, at_end, node_of, tree_of_table, if_free, named_spot, free_spot, branch_at, empty_branch, with_named, with_parent_at, IsSound, IsLoose, IsEmptied, AreSpare, IsDirectoryAdded}
 use Rattle.memory_fs.specs.MemoryFs.{IsBuilt}
 use Rattle.memory_fs.proofs.TableLemmas.{at_end-append}
-use Rattle.memory_fs.proofs.GrowthLemmas.{tree-grown, sound-grown}
-use Rattle.memory_fs.proofs.NewChildLemmas.{grows-leaf, extends-leaf, grows-directory, extends-directory, with_directory, node-directory}
+use Rattle.memory_fs.proofs.SpareLemmas.{not_loose, spare-taken}
+use Rattle.memory_fs.proofs.GrowthLemmas.{Grows, tree-grown, sound-grown, spare-grown}
+use Rattle.memory_fs.proofs.NewChildLemmas.{grows-leaf, extends-leaf, grows-directory, extends-directory, with_directory, node-directory, grows-reused, extends-reused, with_reused, node-reused}
 use Rattle.memory_fs.proofs.SpotLemmas.{SpotsAgree, spots_agree}
 
 -- the spot of the tree is the one of the table
@@ -53,42 +56,12 @@ module _ (table : List Branch) (node : Node) where
   pub add_alike : IsSound table → (path : List ℕ) → AddsAlike table (add node path (tree_of_table table)) node (free_spot table (components path))
   add_alike sound path = alike (spot_of (tree_of_table table) path) (named_spot table (components path)) (spots_agree table sound path)
 
-module _ (table : List Branch) (sound : IsSound table) (holder : ℕ) (name : List ℕ) (lt : holder < length table) where
-  pub built-file : (answer : Result Tree Refusal) (len : ℕ) → IsSpot table answer (file len) holder name → (new : List Branch) → new ≡ with_named table holder name (File len) → IsBuilt answer (tree_of_table new)
-  built-file answer len spot new is =
-      subst (λ (t : List Branch). IsBuilt answer (tree_of_table t)) (sym is)
-      (subst (λ (a : Result Tree Refusal). IsBuilt a (tree_of_table (with_named table holder name (File len)))) (sym spot.answer_is)
-      (tree-grown table (with_named table holder name (File len)) holder name (File len) (grows-leaf table holder name lt spot.free (File len) (λ other. refl)) sound spot.place spot.stands (file len) refl))
-
-  pub sound-file : (answer : Result Tree Refusal) (len : ℕ) → IsSpot table answer (file len) holder name → IsSound (with_named table holder name (File len))
-  sound-file answer len spot =
-      sound-grown table (with_named table holder name (File len)) holder name (File len) (grows-leaf table holder name lt spot.free (File len) (λ other. refl)) sound
-      (extends-leaf table holder name lt spot.free (File len) (λ index e. cc))
-
-  pub built-link : (answer : Result Tree Refusal) (target : List ℕ) → IsSpot table answer (link target) holder name → (new : List Branch) → new ≡ with_named table holder name (Link target)
-      → IsBuilt answer (tree_of_table new)
-  built-link answer target spot new is =
-      subst (λ (t : List Branch). IsBuilt answer (tree_of_table t)) (sym is)
-      (subst (λ (a : Result Tree Refusal). IsBuilt a (tree_of_table (with_named table holder name (Link target)))) (sym spot.answer_is)
-      (tree-grown table (with_named table holder name (Link target)) holder name (Link target) (grows-leaf table holder name lt spot.free (Link target) (λ other. refl)) sound spot.place spot.stands (link target) refl))
-
-  pub sound-link : (answer : Result Tree Refusal) (target : List ℕ) → IsSpot table answer (link target) holder name → IsSound (with_named table holder name (Link target))
-  sound-link answer target spot =
-      sound-grown table (with_named table holder name (Link target)) holder name (Link target) (grows-leaf table holder name lt spot.free (Link target) (λ other. refl)) sound
-      (extends-leaf table holder name lt spot.free (Link target) (λ index e. cc))
-
-  pub built-directory : (answer : Result Tree Refusal) → IsSpot table answer (directory [] None) holder name
-      → (new : List Branch) → new ≡ with_named table holder name (Dir (length table)) ++ empty_branch holder ∷ [] → IsBuilt answer (tree_of_table new)
-  built-directory answer spot new is =
-      subst (λ (t : List Branch). IsBuilt answer (tree_of_table t)) (sym is)
-      (subst (λ (a : Result Tree Refusal). IsBuilt a (tree_of_table (with_directory table holder name lt spot.free))) (sym spot.answer_is)
-      (tree-grown table (with_directory table holder name lt spot.free) holder name (Dir (length table)) (grows-directory table holder name lt spot.free) sound spot.place spot.stands (directory [] None)
-      (node-directory table holder name lt spot.free)))
-
-  pub sound-directory : (answer : Result Tree Refusal) → IsSpot table answer (directory [] None) holder name
-      → IsSound (with_named table holder name (Dir (length table)) ++ empty_branch holder ∷ [])
-  sound-directory answer spot =
-      sound-grown table (with_directory table holder name lt spot.free) holder name (Dir (length table)) (grows-directory table holder name lt spot.free) sound (extends-directory table holder name lt spot.free)
+-- where the new table has the child, the tree has the node
+pub built-grown : (table : List Branch) → IsSound table → (holder : ℕ) (name : List ℕ) (answer : Result Tree Refusal) (node : Node) → IsSpot table answer node holder name
+    → (child : Child) (new more : List Branch) → new ≡ more → Grows table more holder name child → node_of more child ≡ node → IsBuilt answer (tree_of_table new)
+built-grown table sound holder name answer node spot child new more is grows of =
+    subst (λ (t : List Branch). IsBuilt answer (tree_of_table t)) (sym is)
+    (subst (λ (a : Result Tree Refusal). IsBuilt a (tree_of_table more)) (sym spot.answer_is) (tree-grown table more holder name child grows sound spot.place spot.stands node of))
 
 -- ---- refusals
 -- what a refusal says of the tree, and that no other does
@@ -138,7 +111,101 @@ module _ (table : List Branch) (sound : IsSound table) (node : Node) (path : Lis
   pub told-added : (holder : ℕ) (name : List ℕ) → free_spot table (components path) ≡ Ok (holder, name) → IsToldApart (add node path (tree_of_table table)) (Ok tt)
   told-added holder name is = told-ok table (add node path (tree_of_table table)) node holder name (found-spot holder name is)
 
--- the table stays sound, whether the child was added or not
-pub sound-either : (r : Result (Unit {0}) AllocError) (old more new : List Branch) → OnOk r (new ≡ more) → OnErr r (new ≡ old) → IsSound old → IsSound more → IsSound new
-sound-either (Ok u) old more new ok err sound sound' = subst IsSound (sym ok) sound'
-sound-either (Err e) old more new ok err sound sound' = subst IsSound (sym err) sound
+-- ---- what is always so
+-- the table is sound, and its free places are empty
+abbrev pub Holds : List Branch → List ℕ → Type 0
+Holds table free = IsSound table × AreSpare table free (length free)
+
+-- whether the child was added or not
+pub holds-either : (r : Result (Unit {0}) AllocError) (old more new : List Branch) (free left : List ℕ) → OnOk r (new ≡ more) → OnErr r (new ≡ old) → left ≡ free → Holds old free → Holds more free → Holds new left
+holds-either (Ok u) old more new free left ok err kept before after = subst (Holds new) (sym kept) (subst (λ (t : List Branch). Holds t free) (sym ok) after)
+holds-either (Err e) old more new free left ok err kept before after = subst (Holds new) (sym kept) (subst (λ (t : List Branch). Holds t free) (sym err) before)
+
+module _ (table : List Branch) (free : List ℕ) (holds : Holds table free) (holder : ℕ) (name : List ℕ) (lt : holder < length table)
+    (answer : Result Tree Refusal) (node : Node) (spot : IsSpot table answer node holder name) where
+  -- a name leads to the holder, so it isn't free
+  aside : (k : ℕ) → k < length free → slice_index_or free k 0 ≢ holder
+  aside k h e = not_loose table spot.place holder spot.stands (subst (IsLoose table) e (holds.1.loose k h))
+
+  pub holds-leaf : (child : Child) → ((other : List ℕ) → child_of (with_named table holder name child) child other ≡ None) → ((index : ℕ) → child ≢ Dir index) → Holds (with_named table holder name child) free
+  holds-leaf child leaf no_dir =
+      let grows = grows-leaf table holder name lt spot.free child leaf in
+      let more = extends-leaf table holder name lt spot.free child no_dir in (
+        sound-grown table (with_named table holder name child) holder name child grows holds.0 more,
+        spare-grown table (with_named table holder name child) holder name child grows free (length free) (omega arith) more.longer holds.1 (λ k h. no_dir (slice_index_or free k 0)) aside,
+      )
+
+  -- a new directory behind the others
+  holds-behind : Holds (with_directory table holder name lt spot.free) free
+  holds-behind =
+      let grows = grows-directory table holder name lt spot.free in
+      let more = extends-directory table holder name lt spot.free holds.0 in (
+        sound-grown table (with_directory table holder name lt spot.free) holder name (Dir (length table)) grows holds.0 more,
+        spare-grown table (with_directory table holder name lt spot.free) holder name (Dir (length table)) grows free (length free) (omega arith) more.longer holds.1
+            (λ k h e. let same : length table ≡ slice_index_or free k 0 = cc in let w = (holds.1.loose k h).within in omega arith) aside,
+      )
+
+  -- a new directory at the last free place
+  module _ (some : 0 < length free) where
+    abbrev place : ℕ
+    place = slice_index_or free (length free - 1) 0
+
+    loose_place : IsLoose table place
+    loose_place = holds.1.loose (length free - 1) (omega arith)
+
+    empty_place : IsEmptied (branch_at table place)
+    empty_place = holds.1.emptied (length free - 1) (omega arith)
+
+    abbrev reused : List Branch
+    reused = with_reused table holder name lt spot.free place loose_place empty_place (aside (length free - 1) (omega arith))
+
+    holds-reused : Holds reused (take (length free - 1) free)
+    holds-reused =
+        let grows = grows-reused table holder name lt spot.free place loose_place empty_place (aside (length free - 1) (omega arith)) in
+        let more = extends-reused table holder name lt spot.free place loose_place empty_place (aside (length free - 1) (omega arith)) in
+        let fewer : length (take (length free - 1) free) ≡ length free - 1 = length-take-le (length free - 1) free (omega arith) in (
+          sound-grown table reused holder name (Dir place) grows holds.0 more,
+          spare-grown table reused holder name (Dir place) grows (take (length free - 1) free) (length (take (length free - 1) free)) (omega arith) more.longer
+              (spare-taken table free (length free) (length free - 1) holds.1 (omega arith) (omega arith))
+              (λ k h e. let same : place ≡ slice_index_or (take (length free - 1) free) k 0 = cc in holds.1.apart k (length free - 1) (omega arith) (omega arith) (sym (same ∙ get_or-take (length free - 1) free k 0 (omega arith))))
+              (λ k h e. aside k (omega arith) (sym (get_or-take (length free - 1) free k 0 (omega arith)) ∙ e)),
+        )
+
+abbrev AddedBy : List Branch → List ℕ → ℕ → List ℕ → List Branch → List ℕ → Option ℕ → Type 0
+AddedBy table free holder name new left o =
+    MatchOption o ((new ≡ with_named table holder name (Dir (length table)) ++ empty_branch holder ∷ []) × (left ≡ free))
+    (λ place. (new ≡ with_parent_at (with_named table holder name (Dir place)) place holder) × (left ≡ take (length free - 1) free))
+
+-- what is added is added to the tree, and all stays as it has to be
+module _ (table : List Branch) (free : List ℕ) (holds : Holds table free) (holder : ℕ) (name : List ℕ) (lt : holder < length table)
+    (answer : Result Tree Refusal) (spot : IsSpot table answer (directory [] None) holder name) (new : List Branch) (left : List ℕ) where
+  pub directory-added : IsDirectoryAdded table free holder name new left → Holds new left × IsBuilt answer (tree_of_table new)
+  directory-added is = by (slice_get_cases free (length free - 1)).1
+    where
+      by : ((x : ℕ) × (length free - 1 < length free) × (slice_get free (length free - 1) ≡ Some x) × (slice_index_or free (length free - 1) x ≡ x)) ⊎ ((length free ≤ length free - 1) × (slice_get free (length free - 1) ≡ None))
+          → Holds new left × IsBuilt answer (tree_of_table new)
+      by (inl found) =
+          let some : 0 < length free = let h = found.1 in omega arith in
+          let at : slice_index_or free (length free - 1) 0 ≡ found.0 = get_or_from_slice_get free (length free - 1) found.0 0 found.2 in
+          let last = slice_index_or free (length free - 1) 0 in
+          let loose = holds.1.loose (length free - 1) (omega arith) in
+          let empty = holds.1.emptied (length free - 1) (omega arith) in
+          let apart = aside table free holds holder name lt answer (directory [] None) spot (length free - 1) (omega arith) in
+          let both = subst (λ o. AddedBy table free holder name new left o) (found.2 ∙ ap (λ k. Some k) (sym at)) is in (
+            subst (Holds new) (sym both.1) (subst (λ (t : List Branch). Holds t (take (length free - 1) free)) (sym both.0) (holds-reused table free holds holder name lt answer (directory [] None) spot some)),
+            built-grown table holds.0 holder name answer (directory [] None) spot (Dir last) new (with_reused table holder name lt spot.free last loose empty apart) both.0
+                (grows-reused table holder name lt spot.free last loose empty apart) (node-reused table holder name lt spot.free last loose empty apart),
+          )
+      by (inr past) =
+          let both = subst (λ o. AddedBy table free holder name new left o) past.1 is in (
+            subst (Holds new) (sym both.1) (subst (λ (t : List Branch). Holds t free) (sym both.0) (holds-behind table free holds holder name lt answer (directory [] None) spot)),
+            built-grown table holds.0 holder name answer (directory [] None) spot (Dir (length table)) new (with_directory table holder name lt spot.free) both.0
+                (grows-directory table holder name lt spot.free) (node-directory table holder name lt spot.free),
+          )
+
+-- whether the directory was added or not
+pub directory-either : (r : Result (Unit {0}) AllocError) (table : List Branch) (free : List ℕ) → Holds table free → (holder : ℕ) (name : List ℕ) → holder < length table
+    → (answer : Result Tree Refusal) → IsSpot table answer (directory [] None) holder name → (new : List Branch) (left : List ℕ)
+    → OnOk r (IsDirectoryAdded table free holder name new left) → OnErr r (new ≡ table) → OnErr r (left ≡ free) → Holds new left
+directory-either (Ok u) table free holds holder name lt answer spot new left ok err kept = (directory-added table free holds holder name lt answer spot new left ok).0
+directory-either (Err e) table free holds holder name lt answer spot new left ok err kept = subst (Holds new) (sym kept) (subst (λ (t : List Branch). Holds t free) (sym err) holds)

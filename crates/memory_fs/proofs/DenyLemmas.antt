@@ -8,11 +8,12 @@ use Rattle.walk_model.specs.Tree.{Place, Tree, Node, directory, same_place, Refu
 use Rattle.memory_fs.specs.Child.{Child, Dir, File, Link}
 use Rattle.memory_fs.specs.declared.build_error.BuildError.{BuildError}
 use Rattle.memory_fs.specs.declared.build_error.BuildError.TheVariants.{NotFound}
-use Rattle.memory_fs.specs.Branch.{Branch, child_named, children_at, parent_at, denied_at, child_of, at_end, names_of, node_of, tree_of_table, with_denied, with_denial, index_of_child, named_spot, directory_spot, IsHeld, IsSound}
+use Rattle.memory_fs.specs.Branch.{Branch, branch_at, child_named, children_at, parent_at, denied_at, child_of, at_end, names_of, node_of, tree_of_table, with_denied, with_denial, index_of_child, named_spot, directory_spot, IsHeld, IsSound, IsLoose, AreSpare}
 use Rattle.memory_fs.specs.MemoryFs.{IsBuilt}
 use Rattle.memory_fs.proofs.PlaceLemmas.{same_place-refl, same_place-false, place_cases}
 use Rattle.memory_fs.proofs.TableLemmas.{at_end-append, one_place}
 use Rattle.memory_fs.proofs.EditLemmas.{at_edited, at_other, length-edited, kept-edited}
+use Rattle.memory_fs.proofs.SpareLemmas.{not_loose, spare-put}
 use Rattle.memory_fs.proofs.SpotLemmas.{SpotsAgree, spots_agree}
 
 -- ---- tables that differ only in what is denied
@@ -146,3 +147,13 @@ module _ (table : List Branch) (sound : IsSound table) (k : ErrorKind) (path : L
   pub told-denied : (index : ℕ) → Some index ≡ directory_spot table (components path)
       → (◌≡◌ {A = Result (Unit {0}) BuildError} (Ok tt) (Err NotFound)) ↔ (deny k path (tree_of_table table) ≡ Err not_found)
   told-denied index is = (λ h. cc, λ h. let z : ◌≡◌ {A = Result Tree Refusal} (Ok _) (Err not_found) = sym (found-directory index is).answer_is ∙ h in cc)
+
+-- the free places are as they were
+pub spare-denied : (table : List Branch) (free : List ℕ) → IsSound table → AreSpare table free (length free) → (k : ErrorKind) (path : List ℕ) (index : ℕ) → Some index ≡ directory_spot table (components path) → index < length table
+    → (new : List Branch) (left : List ℕ) → new ≡ with_denial table index k → left ≡ free → AreSpare new left (length left)
+spare-denied table free sound spare k path index is lt new left same kept =
+    let d = found-directory table sound k path index is in
+    subst (λ (ks : List ℕ). AreSpare new ks (length ks)) (sym kept)
+    (subst (λ (t : List Branch). AreSpare t free (length free)) (sym same)
+    (spare-put table index (with_denied k (branch_at table index)) lt (λ n c e. e) free (length free) spare
+    (λ i h e. not_loose table d.at index d.stands (subst (IsLoose table) e (spare.loose i h)))))

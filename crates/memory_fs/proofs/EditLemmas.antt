@@ -47,6 +47,16 @@ module _ {A : Type 0} (root : Branch) (items : List (Directory A)) where
       let l : length (map branch items) ≡ length items = length-map items branch in
       suc_edited edit (index - 1) new old (omega arith) stood is ∙ ap (λ k. edited edit (root ∷ map branch items) k) e
 
+  suc_there : (i : ℕ) (old : Directory A) → i < length items → old ≡ get_or items i old → branch_at (root ∷ map branch items) (suc i) ≡ branch old
+  suc_there i old lt stood = get_or-map branch items i old (empty_branch 0) lt ∙ ap branch (sym stood)
+
+  -- where a directory behind the root stands
+  pub branch_there : (index : ℕ) (old : Directory A) → index ≢ 0 → index < length (root ∷ map branch items) → old ≡ get_or items (index - 1) old → branch_at (root ∷ map branch items) index ≡ branch old
+  branch_there index old ne lt stood =
+      let e : suc (index - 1) ≡ index = omega arith in
+      let l : length (map branch items) ≡ length items = length-map items branch in
+      ap (λ k. branch_at (root ∷ map branch items) k) (sym e) ∙ suc_there (index - 1) old (omega arith) stood
+
   -- a directory that is seen as it was
   pub same-set : (i : ℕ) (new old : Directory A) → old ≡ get_or items i old → branch new ≡ branch old → root ∷ map branch (slice_set items i new) ≡ root ∷ map branch items
   same-set i new old stood is = ap (λ (bs : List Branch). root ∷ bs) (map-set_same branch items i new old (is ∙ ap branch stood))

@@ -1,27 +1,27 @@
 -- A table with one more child, and the tree that it is then.
-use Rattle.std.proofs.Common.{◌≡◌, ◌≢◌, ℕ, ◌<◌, ◌≤◌, Bool, true, false, cond, List, [], ◌∷◌, ◌++◌, length, Option, None, Some, refl, sym, ap, ◌∙◌, ◌⊎◌, inl, inr, ⊎_elim, arith}
+use Rattle.std.proofs.Common.{◌≡◌, ◌≢◌, ℕ, ◌<◌, ◌≤◌, Bool, true, false, cond, List, [], ◌∷◌, ◌++◌, length, slice_index_or, is_some, Option, None, Some, refl, sym, ap, ◌∙◌, ◌⊎◌, inl, inr, ⊎_elim, arith}
 use Rattle.std.specs.Prelude.{option_and_then, if◌then◌else◌}
 use Rattle.std.specs.Option.{option_map}
 use Rattle.std.specs.Str.{bytes_eq}
 use Rattle.std.specs.declared.io.ErrorKind.{ErrorKind}
-use Rattle.std.proofs.lemmas.Bool.{cases_eq, cases_lt, cases_Bool, false≢true}
+use Rattle.std.proofs.lemmas.Bool.{cases_eq, cases_lt, cases_Bool}
 use Rattle.std.proofs.lemmas.List.{map-append}
 use Rattle.std.proofs.lemmas.Slice.Eq.{bytes_eq-Decides}
 use Rattle.walk_model.specs.Tree.{Place, Node, directory, file, link, same_place, renamed, with_child as with_node}
 use Rattle.memory_fs.specs.Child.{Child, Dir, File, Link}
-use Rattle.memory_fs.specs.Branch.{Branch, child_named, children_at, parent_at, denied_at, child_of, at_end, names_of, node_of, tree_of_table, IsHeld, IsSound}
-use Rattle.memory_fs.proofs.PlaceLemmas.{by_last, same_front, same_last, longer_place, same_place-refl, same_place-false, place_cases}
+use Rattle.memory_fs.specs.Branch.{Branch, child_named, branch_at, children_at, parent_at, denied_at, child_of, at_end, names_of, node_of, tree_of_table, IsHeld, IsSound, IsLoose, IsEmptied, AreSpare}
+use Rattle.memory_fs.proofs.PlaceLemmas.{by_last, same_front, same_last, longer_place, same_place-refl, same_place-false, place_cases, name_cases}
 use Rattle.memory_fs.proofs.TableLemmas.{at_end-append, one_place, same_dir}
 
-same_branches : {X : Type 0} (b : Bool) (x : X) → x ≡ (if b then x else x)
+pub same_branches : {X : Type 0} (b : Bool) (x : X) → x ≡ (if b then x else x)
 same_branches true x = refl
 same_branches false x = refl
 
-abbrev or_last : Option Child → Option Child → Option Child
+abbrev pub or_last : Option Child → Option Child → Option Child
 or_last None last = last
 or_last (Some child) last = Some child
 
-child_named-append : (children : List (List ℕ × Child)) (name other : List ℕ) (new : Child)
+pub child_named-append : (children : List (List ℕ × Child)) (name other : List ℕ) (new : Child)
     → child_named (children ++ (name, new) ∷ []) other ≡ or_last (child_named children other) (if bytes_eq other name then Some new else None)
 child_named-append [] name other new = refl
 child_named-append (e ∷ es) name other new =
@@ -36,13 +36,29 @@ pub record Grows (old new : List Branch) (holder : ℕ) (name : List ℕ) (child
   pub denials : (index : ℕ) → denied_at new index ≡ denied_at old index
   pub leaf : (other : List ℕ) → child_of new child other ≡ None
 
--- no directory has gone or moved, and a new one stands behind the others
+-- the place of a new directory, for which no name stood
+pub record IsNewPlace (old new : List Branch) (holder index : ℕ) : Type 0 where
+  pub below_root : 0 < index
+  pub within : index < length new
+  pub parent : parent_at new index ≡ holder
+  pub unnamed : (other : ℕ) (name : List ℕ) → child_named (children_at old other) name ≢ Some (Dir index)
+
+-- no directory has gone or moved, and the new child, if it is one, has a place of its own
 pub record Extends (old new : List Branch) (holder : ℕ) (child : Child) : Type 0 where
   pub within : holder < length old
   pub longer : length old ≤ length new
-  pub kept : (index : ℕ) → index < length old → parent_at new index ≡ parent_at old index
-  pub added : (index : ℕ) → length old ≤ index → index < length new → parent_at new index ≡ holder
-  pub new_dir : (index : ℕ) → child ≡ Dir index → (index ≡ length old) × (index < length new)
+  pub kept : (index : ℕ) → index < length old → child ≢ Dir index → parent_at new index ≡ parent_at old index
+  pub added : (index : ℕ) → length old ≤ index → index < length new → child ≡ Dir index
+  pub new_dir : (index : ℕ) → child ≡ Dir index → IsNewPlace old new holder index
+
+is_dir : (c : Child) (i : ℕ) → (c ≡ Dir i) ⊎ (c ≢ Dir i)
+is_dir (Dir j) i = by (cases_eq j i)
+  where
+    by : (j ≡ i) ⊎ (j ≢ i) → (Dir j ≡ Dir i) ⊎ (Dir j ≢ Dir i)
+    by (inl e) = inl (ap (λ k. Dir k) e)
+    by (inr ne) = inr (λ h. ne (let z : j ≡ i = cc in z))
+is_dir (File len) i = inr (λ h. cc)
+is_dir (Link target) i = inr (λ h. cc)
 
 module _ (old new : List Branch) (holder : ℕ) (name : List ℕ) (child : Child) (grows : Grows old new holder name child) where
   pub named_new : child_named (children_at new holder) name ≡ Some child
@@ -62,13 +78,6 @@ module _ (old new : List Branch) (holder : ℕ) (name : List ℕ) (child : Child
       by (inr e) =
           ap (λ (es : List (List ℕ × Child)). child_named es other) grows.here ∙ child_named-append (children_at old holder) name other child
           ∙ ap (λ (b : Bool). or_last (child_named (children_at old holder) other) (if b then Some child else None)) e ∙ or_last-None (child_named (children_at old holder) other)
-
-  name_cases : (a b : List ℕ) → (a ≡ b) ⊎ (a ≢ b)
-  name_cases a b = by (cases_Bool (bytes_eq a b))
-    where
-      by : (bytes_eq a b ≡ true) ⊎ (bytes_eq a b ≡ false) → (a ≡ b) ⊎ (a ≢ b)
-      by (inl e) = inl ((bytes_eq-Decides a b).0 e)
-      by (inr e) = inr (λ h. false≢true (sym e ∙ (bytes_eq-Decides a b).1 h))
 
   module _ (sound : IsSound old) (place : Place) (stands : at_end old (Dir 0) place ≡ Some (Dir holder)) where
     abbrev Claim : Place → Type 0
@@ -185,29 +194,50 @@ module _ (old new : List Branch) (holder : ℕ) (name : List ℕ) (child : Child
   pub sound-grown : IsSound old → Extends old new holder child → IsSound new
   sound-grown sound more = record {
     rooted = let r = sound.rooted in let l = more.longer in omega arith;
-    own_parent = more.kept 0 sound.rooted ∙ sound.own_parent;
-    parents = λ index h. within_new index h (cases_lt index (length old));
+    own_parent = more.kept 0 sound.rooted (λ h. let r = (more.new_dir 0 h).below_root in omega arith) ∙ sound.own_parent;
+    parents = λ index h. within_new index h (cases_lt index (length old)) (is_dir child index);
     held = λ i n j e. held_new i n j (edge_cases i n j e);
   }
     where
-      within_new : (index : ℕ) → index < length new → (index < length old) ⊎ (length old ≤ index) → parent_at new index < length new
-      within_new index h (inl lt) = let k = more.kept index lt in let p = sound.parents index lt in let l = more.longer in omega arith
-      within_new index h (inr le) = let k = more.added index le h in let w = more.within in let l = more.longer in omega arith
+      within_new : (index : ℕ) → index < length new → (index < length old) ⊎ (length old ≤ index) → (child ≡ Dir index) ⊎ (child ≢ Dir index) → parent_at new index < length new
+      within_new index h lt (inl is) = let p = (more.new_dir index is).parent in let w = more.within in let l = more.longer in omega arith
+      within_new index h (inl lt) (inr ne) = let k = more.kept index lt ne in let p = sound.parents index lt in let l = more.longer in omega arith
+      within_new index h (inr le) (inr ne) = absurd (ne (more.added index le h))
 
       held_new : (i : ℕ) (n : List ℕ) (j : ℕ) → (child_named (children_at old i) n ≡ Some (Dir j)) ⊎ ((i ≡ holder) × (n ≡ name) × (child ≡ Dir j)) → IsHeld new i n j
       held_new i n j (inl e) =
           let h = sound.held i n j e in
+          let old_dir : child ≢ Dir j = λ c. (more.new_dir j c).unnamed i n e in
           record {
             within = let w = h.within in let l = more.longer in omega arith;
             below_root = h.below_root;
-            parent = more.kept j h.within ∙ h.parent;
-            only_name = λ other e'. ⊎_elim (λ e''. h.only_name other e'') (λ w. let z = (more.new_dir j w.2).0 in let lt = h.within in absurd (omega arith)) (edge_cases i other j e');
+            parent = more.kept j h.within old_dir ∙ h.parent;
+            only_name = λ other e'. ⊎_elim (λ e''. h.only_name other e'') (λ w. absurd (old_dir w.2)) (edge_cases i other j e');
           }
       held_new i n j (inr w) =
           let d = more.new_dir j w.2 in
           record {
-            within = d.1;
-            below_root = let z = d.0 in let r = sound.rooted in omega arith;
-            parent = more.added j (let z = d.0 in omega arith) d.1 ∙ sym w.0;
-            only_name = λ other e'. ⊎_elim (λ e''. let lt = (sound.held i other j e'').within in let z = d.0 in absurd (omega arith)) (λ v. v.1 ∙ sym w.1) (edge_cases i other j e');
+            within = d.within;
+            below_root = d.below_root;
+            parent = d.parent ∙ sym w.0;
+            only_name = λ other e'. ⊎_elim (λ e''. absurd (d.unnamed i other e'')) (λ v. v.1 ∙ sym w.1) (edge_cases i other j e');
           }
+
+  loose-grown : (i : ℕ) → length old ≤ length new → IsLoose old i → child ≢ Dir i → IsLoose new i
+  loose-grown i longer loose other = record {
+    below_root = loose.below_root;
+    within = let w = loose.within in omega arith;
+    unnamed = λ h n e. ⊎_elim (λ e'. loose.unnamed h n e') (λ w. other w.2) (edge_cases h n i e);
+  }
+
+  emptied-grown : (i : ℕ) → i ≢ holder → IsEmptied (branch_at old i) → IsEmptied (branch_at new i)
+  emptied-grown i ne empty = (ap (λ (es : List (List ℕ × Child)). length es) (grows.others i ne) ∙ empty.0, ap (λ (d : Option ErrorKind). is_some d) (grows.denials i) ∙ empty.1)
+
+  -- so do the free places, if none of them was taken
+  pub spare-grown : (free : List ℕ) (done : ℕ) → done ≤ length free → length old ≤ length new → AreSpare old free done
+      → ((k : ℕ) → k < length free → child ≢ Dir (slice_index_or free k 0)) → ((k : ℕ) → k < length free → slice_index_or free k 0 ≢ holder) → AreSpare new free done
+  spare-grown free done le longer spare other aside = record {
+    apart = spare.apart;
+    loose = λ k h. loose-grown (slice_index_or free k 0) longer (spare.loose k h) (other k h);
+    emptied = λ k h. emptied-grown (slice_index_or free k 0) (aside k (omega arith)) (spare.emptied k h);
+  }

@@ -5,8 +5,11 @@ pub mod LookUpLemmas
 pub mod WalkLemmas
 pub mod AnswerLemmas
 pub mod EditLemmas
+pub mod SpareLemmas
 pub mod GrowthLemmas
 pub mod NewChildLemmas
 pub mod SpotLemmas
 pub mod AddLemmas
 pub mod DenyLemmas
+pub mod RemoveLemmas
+pub mod ReleaseLemmas

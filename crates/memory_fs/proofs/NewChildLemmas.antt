@@ -1,12 +1,12 @@
 -- The table with a new file, and with a new directory.
-use Rattle.std.proofs.Common.{◌≡◌, ◌≢◌, ℕ, zero, suc, ◌+◌, ◌<◌, ◌≤◌, List, [], ◌∷◌, ◌++◌, length, Option, None, refl, sym, ap, ◌∙◌, arith}
+use Rattle.std.proofs.Common.{◌≡◌, ◌≢◌, ℕ, zero, suc, ◌+◌, ◌<◌, ◌≤◌, false, List, [], ◌∷◌, ◌++◌, length, is_some, Option, None, Some, refl, sym, ap, subst, ◌∙◌, arith}
 use Rattle.std.specs.declared.io.ErrorKind.{ErrorKind}
-use Rattle.std.proofs.lemmas.List.{length-append, get_or_past}
+use Rattle.std.proofs.lemmas.List.{length-append, get_or_past, nil_from_length}
 use Rattle.walk_model.specs.Tree.{directory}
 use Rattle.memory_fs.specs.Child.{Child, Dir}
-use Rattle.memory_fs.specs.Branch.{Branch, child_named, branch_at, children_at, parent_at, denied_at, child_of, empty_branch, names_of, node_of, with_child, with_named}
+use Rattle.memory_fs.specs.Branch.{Branch, child_named, branch_at, children_at, parent_at, denied_at, child_of, empty_branch, names_of, node_of, with_child, with_named, with_parent, with_parent_at, IsSound, IsLoose, IsEmptied}
 use Rattle.memory_fs.proofs.EditLemmas.{at_edited, at_other, length-edited, kept-edited}
-use Rattle.memory_fs.proofs.GrowthLemmas.{Grows, Extends}
+use Rattle.memory_fs.proofs.GrowthLemmas.{Grows, IsNewPlace, Extends}
 
 module _ (table : List Branch) (holder : ℕ) (name : List ℕ) (child : Child) (lt : holder < length table) where
   parent-named : (index : ℕ) → parent_at (with_named table holder name child) index ≡ parent_at table index
@@ -41,7 +41,7 @@ module _ (table : List Branch) (holder : ℕ) (name : List ℕ) (lt : holder < l
       record {
         within = lt;
         longer = omega arith;
-        kept = λ index h. parent-named table holder name child lt index;
+        kept = λ index h ne. parent-named table holder name child lt index;
         added = λ index h h'. absurd (omega arith);
         new_dir = λ index e. absurd (no_dir index e);
       }
@@ -103,17 +103,24 @@ module _ (table : List Branch) (holder : ℕ) (name : List ℕ) (lt : holder < l
       let e : index ≡ length (with_named table holder name (Dir (length table))) = let n = length-named table holder name (Dir (length table)) lt in omega arith in
       ap (parent_at with_directory) e ∙ parent-last (with_named table holder name (Dir (length table))) holder
 
-  pub extends-directory : Extends table with_directory holder (Dir (length table))
-  extends-directory =
+  pub extends-directory : IsSound table → Extends table with_directory holder (Dir (length table))
+  extends-directory sound =
       let l = length-directory in
       record {
         within = lt;
         longer = omega arith;
-        kept = λ index h.
+        kept = λ index h ne.
             parent-pushed (with_named table holder name (Dir (length table))) holder index (let n = length-named table holder name (Dir (length table)) lt in omega arith)
             ∙ parent-named table holder name (Dir (length table)) lt index;
-        added = added_parent;
-        new_dir = λ index e. let same : length table ≡ index = cc in (sym same, omega arith);
+        added = λ index h h'. ap (λ k. Dir k) (omega arith);
+        new_dir = λ index e.
+            let same : length table ≡ index = cc in
+            record {
+              below_root = omega arith;
+              within = omega arith;
+              parent = added_parent index (omega arith) (omega arith);
+              unnamed = λ other n is. let w = (sound.held other n index is).within in omega arith;
+            };
       }
 
   -- nothing is in it, and it may be read
@@ -121,3 +128,68 @@ module _ (table : List Branch) (holder : ℕ) (name : List ℕ) (lt : holder < l
   node-directory =
       ap (λ (es : List (List ℕ × Child)). directory (names_of es) (denied_at with_directory (length table))) none_past
       ∙ ap (λ (d : Option ErrorKind). directory [] d) (denied_here (length table) ∙ ap (λ (b : Branch). b.denied) past)
+
+-- ---- an empty directory at a free place
+none_from : {X : Type 0} (o : Option X) → is_some o ≡ false → o ≡ None
+none_from None e = refl
+none_from (Some x) e = cc
+
+module _ (table : List Branch) (holder : ℕ) (name : List ℕ) (lt : holder < length table) (free : child_named (children_at table holder) name ≡ None)
+    (place : ℕ) (loose : IsLoose table place) (empty : IsEmptied (branch_at table place)) (aside : place ≢ holder) where
+  abbrev named : List Branch
+  named = with_named table holder name (Dir place)
+
+  abbrev pub with_reused : List Branch
+  with_reused = with_parent_at named place holder
+
+  length-reused-named : length named ≡ length table
+  length-reused-named = length-named table holder name (Dir place) lt
+
+  within_named : place < length named
+  within_named = let l = length-reused-named in let w = loose.within in omega arith
+
+  children_reused : (index : ℕ) → children_at with_reused index ≡ children_at named index
+  children_reused = kept-edited (with_parent holder) named place (λ (b : Branch). b.children) (λ b. refl) within_named
+
+  denied_reused : (index : ℕ) → denied_at with_reused index ≡ denied_at table index
+  denied_reused index = kept-edited (with_parent holder) named place (λ (b : Branch). b.denied) (λ b. refl) within_named index ∙ denied-named table holder name (Dir place) lt index
+
+  none_reused : children_at with_reused place ≡ []
+  none_reused = children_reused place ∙ children-other table holder name (Dir place) lt place aside ∙ nil_from_length (children_at table place) empty.0
+
+  pub grows-reused : Grows table with_reused holder name (Dir place)
+  grows-reused = record {
+    free = free;
+    here = children_reused holder ∙ children-named table holder name (Dir place) lt;
+    others = λ index ne. children_reused index ∙ children-other table holder name (Dir place) lt index ne;
+    denials = denied_reused;
+    leaf = λ other. ap (λ (es : List (List ℕ × Child)). child_named es other) none_reused;
+  }
+
+  pub length-reused : length with_reused ≡ length table
+  length-reused = length-edited (with_parent holder) named place ∙ length-reused-named
+
+  new_place : IsNewPlace table with_reused holder place
+  new_place = record {
+    below_root = loose.below_root;
+    within = let l = length-reused in let w = loose.within in omega arith;
+    parent = ap (λ (b : Branch). b.parent) (at_edited (with_parent holder) named place within_named);
+    unnamed = loose.unnamed;
+  }
+
+  pub extends-reused : Extends table with_reused holder (Dir place)
+  extends-reused = record {
+    within = lt;
+    longer = let l = length-reused in omega arith;
+    kept = λ index h ne.
+        ap (λ (b : Branch). b.parent) (at_other (with_parent holder) named place index (λ e. ne (ap (λ k. Dir k) (sym e))))
+        ∙ parent-named table holder name (Dir place) lt index;
+    added = λ index h h'. let l = length-reused in absurd (omega arith);
+    new_dir = λ index e. let same : place ≡ index = cc in subst (IsNewPlace table with_reused holder) same new_place;
+  }
+
+  -- nothing is in it, and it may be read
+  pub node-reused : node_of with_reused (Dir place) ≡ directory [] None
+  node-reused =
+      ap (λ (es : List (List ℕ × Child)). directory (names_of es) (denied_at with_reused place)) none_reused
+      ∙ ap (λ (d : Option ErrorKind). directory [] d) (denied_reused place ∙ none_from (denied_at table place) empty.1)

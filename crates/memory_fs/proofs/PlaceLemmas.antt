@@ -65,3 +65,10 @@ place_cases a b = by (same_place a b) refl
     by : (r : Bool) → same_place a b ≡ r → (a ≡ b) ⊎ (a ≢ b)
     by true e = inl (same_place-true a b e)
     by false e = inr (λ h. false≢true (sym e ∙ ap (λ c. same_place a c) (sym h) ∙ same_place-refl a))
+
+pub name_cases : (a b : List ℕ) → (a ≡ b) ⊎ (a ≢ b)
+name_cases a b = by (bytes_eq a b) refl
+  where
+    by : (r : Bool) → bytes_eq a b ≡ r → (a ≡ b) ⊎ (a ≢ b)
+    by true e = inl ((bytes_eq-Decides a b).0 e)
+    by false e = inr (λ h. false≢true (sym e ∙ (bytes_eq-Decides a b).1 h))

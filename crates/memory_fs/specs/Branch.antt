@@ -1,5 +1,5 @@
 -- The table of directories as a list of values: what its names stand for, what a look-up finds in it, and the tree that it is.
-use Rattle.std.specs.Prelude.{◌≡◌, ℕ, zero, suc, ◌<◌, Bool, true, List, [], ◌∷◌, ◌++◌, map, length, slice_index_or, slice_set, Option, Some, None, is_some, Result, Ok, Err, if◌then◌else◌, bytes_eq, option_and_then}
+use Rattle.std.specs.Prelude.{◌≡◌, ◌≢◌, ℕ, zero, suc, ◌<◌, Bool, true, false, List, [], ◌∷◌, ◌++◌, map, filter, not, length, slice_index_or, slice_get, slice_set, take, MatchOption, ◌+◌, ◌-◌, ◌≤◌, Option, Some, None, is_some, Result, Ok, Err, if◌then◌else◌, bytes_eq, option_and_then}
 use Rattle.std.specs.Option.{option_map}
 use Rattle.std.specs.Map.{lookup}
 use Rattle.std.specs.declared.io.ErrorKind.{ErrorKind}
@@ -31,6 +31,14 @@ with_child name child b = record { parent = b.parent; children = b.children ++ (
 abbrev pub with_denied : ErrorKind → Branch → Branch
 with_denied k b = record { parent = b.parent; children = b.children; denied = Some k }
 
+-- the directory in another one
+abbrev pub with_parent : ℕ → Branch → Branch
+with_parent parent b = record { parent = parent; children = b.children; denied = b.denied }
+
+-- the directory without the child of this name
+abbrev pub without_name : List ℕ → Branch → Branch
+without_name name b = record { parent = b.parent; children = filter (λ e. not (bytes_eq e.0 name)) b.children; denied = b.denied }
+
 -- a directory with no children
 abbrev pub empty_branch : ℕ → Branch
 empty_branch parent = record { parent = parent; children = []; denied = None }
@@ -46,6 +54,14 @@ with_named table holder name child = slice_set table holder (with_child name chi
 -- the table in which a directory is denied
 abbrev pub with_denial : List Branch → ℕ → ErrorKind → List Branch
 with_denial table index k = slice_set table index (with_denied k (branch_at table index))
+
+-- the table in which a directory stands in another one
+abbrev pub with_parent_at : List Branch → ℕ → ℕ → List Branch
+with_parent_at table index parent = slice_set table index (with_parent parent (branch_at table index))
+
+-- the table in which a directory has no child of this name
+abbrev pub without_named : List Branch → ℕ → List ℕ → List Branch
+without_named table holder name = slice_set table holder (without_name name (branch_at table holder))
 
 -- its children
 abbrev pub children_at : List Branch → ℕ → List (List ℕ × Child)
@@ -196,6 +212,15 @@ if_free table (Some s) = if is_some (child_named (children_at table s.0) s.1) th
 abbrev pub free_spot : List Branch → List Component → Result (ℕ × List ℕ) BuildError
 free_spot table cs = if_free table (named_spot table cs)
 
+-- the name stands for a child
+abbrev pub if_taken : List Branch → Option (ℕ × List ℕ) → Option (ℕ × List ℕ)
+if_taken table None = None
+if_taken table (Some s) = if is_some (child_named (children_at table s.0) s.1) then Some s else None
+
+-- the directory and the name in it of the child that a path leads to
+abbrev pub taken_spot : List Branch → List Component → Option (ℕ × List ℕ)
+taken_spot table cs = if_taken table (named_spot table cs)
+
 -- the directory, if the child is one
 abbrev pub index_of_child : Option Child → Option ℕ
 index_of_child None = None
@@ -226,3 +251,54 @@ pub record IsSound (table : List Branch) : Type 0 where
   pub own_parent : parent_at table 0 ≡ 0
   pub parents : (index : ℕ) → index < length table → parent_at table index < length table
   pub held : (holder : ℕ) (name : List ℕ) (index : ℕ) → child_named (children_at table holder) name ≡ Some (Dir index) → IsHeld table holder name index
+
+-- no name stands for the directory
+pub record IsLoose (table : List Branch) (index : ℕ) : Type 0 where
+  pub below_root : 0 < index
+  pub within : index < length table
+  pub unnamed : (holder : ℕ) (name : List ℕ) → child_named (children_at table holder) name ≢ Some (Dir index)
+
+-- there is nothing in it, and it may be read
+abbrev pub IsEmptied : Branch → Type 0
+IsEmptied b = (length b.children ≡ 0) × (is_some b.denied ≡ false)
+
+-- the directory had one more child, the last, whose name is gone
+abbrev pub PopsLast : Branch → List ℕ → Child → Branch → Type 0
+PopsLast old name child new = (old ≡ with_child name child new) × (child_named new.children name ≡ None)
+
+-- The places that are free: no name stands for any of them, none is twice among them, and so many from the front are empty.
+pub record AreSpare (table : List Branch) (free : List ℕ) (done : ℕ) : Type 0 where
+  pub apart : (k l : ℕ) → k < l → l < length free → slice_index_or free k 0 ≢ slice_index_or free l 0
+  pub loose : (k : ℕ) → k < length free → IsLoose table (slice_index_or free k 0)
+  pub emptied : (k : ℕ) → k < done → IsEmptied (branch_at table (slice_index_or free k 0))
+
+-- A new directory is the last child of its holder. It stands at the last of the free places, which is free no more, or behind the others.
+abbrev pub IsDirectoryAdded : List Branch → List ℕ → ℕ → List ℕ → List Branch → List ℕ → Type 0
+IsDirectoryAdded old free holder name new left =
+    MatchOption (slice_get free (length free - 1))
+    ((new ≡ with_named old holder name (Dir (length old)) ++ empty_branch holder ∷ []) × (left ≡ free))
+    (λ place. (new ≡ with_parent_at (with_named old holder name (Dir place)) place holder) × (left ≡ take (length free - 1) free))
+
+-- A child is gone, and what it held stands nowhere; the places that came free are among the free ones.
+pub record IsRemoved (old : List Branch) (holder : ℕ) (name : List ℕ) (new : List Branch) (free : List ℕ) : Type 0 where
+  pub sound : IsSound new
+  pub spare : AreSpare new free (length free)
+  pub tree : (place : List (List ℕ)) → tree_of_table new place ≡ tree_of_table (without_named old holder name) place
+
+-- how many children there are in all
+abbrev pub size : List Branch → ℕ
+size [] = 0
+size (b ∷ bs) = length b.children + size bs
+
+-- Directories that no name stands for are being emptied: the tree is the same, and so many of the free places are empty.
+pub record IsReleasing (start now : List Branch) (free : List ℕ) (done : ℕ) : Type 0 where
+  pub sound : IsSound now
+  pub spare : AreSpare now free done
+  pub tree : (place : List (List ℕ)) → tree_of_table now place ≡ tree_of_table start place
+  pub same_length : length now ≡ length start
+
+-- One turn of it leaves less to do.
+pub record IsTurn (old : List Branch) (done : ℕ) (new : List Branch) (free : List ℕ) (more : ℕ) : Type 0 where
+  pub releasing : IsReleasing old new free more
+  pub within : more ≤ length free
+  pub less : size new + (length new - more) < size old + (length old - done)

@@ -1,7 +1,7 @@
 //! A directory of the table. A clause sees it as a `Branch`.
-ghost use Rattle.std.specs.Prelude.{◌≡◌, [], map, None, IfOk, OnOk, OnErr};
+ghost use Rattle.std.specs.Prelude.{◌≡◌, [], map, None, MatchOption, IfOk, OnOk, OnErr, string_bytes};
 ghost use Rattle.std.specs.Option.{option_map};
-ghost use Rattle.memory_fs.specs.Branch.{child_named, with_child, with_denied, listing_of, AreFound};
+ghost use Rattle.memory_fs.specs.Branch.{child_named, with_child, without_name, with_parent, with_denied, listing_of, AreFound, PopsLast};
 ghost use Rattle.memory_fs.specs.Child.{child_seen};
 ghost use Rattle.memory_fs.specs.Directory.{branch};
 ghost use Rattle.walk_fs.specs.Views.{listed};
@@ -51,6 +51,30 @@ impl<A: Allocator + Copy> Directory<A> {
         let text = String::from_str(*self.children.allocator(), name)?;
         self.children.insert(text, child)?;
         Ok(())
+    }
+
+    /// Takes the child of this name away; the others keep their order.
+    pub(crate) fn remove(&mut self, name: &str) -> Option<Child<A>>
+        ensures value { option_map child_seen result ≡ child_named (branch self.old).children name.now }
+        ensures others { branch self.new ≡ without_name name.now (branch self.old) }
+    {
+        self.children.shift_remove(name)
+    }
+
+    /// Takes the last child away.
+    pub(crate) fn pop(&mut self) -> Option<(String<A>, Child<A>)>
+        ensures cases { MatchOption result
+            (((branch self.old).children ≡ []) × (branch self.new ≡ branch self.old))
+            (λ p. PopsLast (branch self.old) (string_bytes p.0) (child_seen p.1) (branch self.new)) }
+    {
+        self.children.pop()
+    }
+
+    /// The directory stands in another one from now on.
+    pub(crate) fn set_parent(&mut self, parent: usize)
+        ensures { branch self.new ≡ with_parent parent (branch self.old) }
+    {
+        self.parent = parent;
     }
 
     /// Reading the directory fails with this kind from now on.

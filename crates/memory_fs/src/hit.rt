@@ -4,7 +4,7 @@ ghost use Rattle.std.specs.Prelude.{◌≡◌};
 use walk_model::file_type::FileType;
 use walk_model::metadata::Metadata;
 
-/// A directory by its index in the table, a file by its length, or a link by the directory that holds it and its target.
+/// A directory by its index in the table, a file by its length, or a link by its holder's index and its target.
 #[derive(Clone, Copy)]
 pub enum Hit<'a> {
     Dir(usize),

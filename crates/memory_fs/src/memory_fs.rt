@@ -1,11 +1,11 @@
 //! The file system. A clause sees it as the tree that its directories are.
-ghost use Rattle.std.specs.Prelude.{◌≡◌};
+ghost use Rattle.std.specs.Prelude.{◌≡◌, length};
 ghost use Rattle.std.specs.Option.{option_copied, option_map};
 ghost use Rattle.std.proofs.Props.{props};
 ghost use Rattle.walk_model.specs.Paths.{name_of};
 ghost use Rattle.walk_model.specs.PathTexts.{component_seen};
-ghost use Rattle.memory_fs.specs.Branch.{IsSound};
-ghost use Rattle.memory_fs.specs.Table.{branches};
+ghost use Rattle.memory_fs.specs.Branch.{IsSound, AreSpare};
+ghost use Rattle.memory_fs.specs.Table.{branches, free_places};
 
 use crate::build_error::BuildError;
 use crate::child::Child;
@@ -29,15 +29,16 @@ const LINK_LIMIT: u32 = 40;
 pub struct MemoryFs<A: Allocator + Copy = Global> {
     table: Table<A>,
     ghost sound: { IsSound (branches table) } by { Prim.hlevel props },
+    ghost spare: { AreSpare (branches table) (free_places table) (length (free_places table)) } by { Prim.hlevel props },
 }
 
 impl<A: Allocator + Copy> MemoryFs<A> {
-    ghost use Rattle.std.specs.Prelude.{◌≡◌, ◌<◌, ◌≤◌, ◌↔◌, true, [], length, None, IfSome, IfOk, IfErr, OnOk, OnErr, MatchOption, MatchResult, Some, Ok, Err};
+    ghost use Rattle.std.specs.Prelude.{◌≡◌, ◌≢◌, ◌<◌, ◌≤◌, ◌↔◌, true, [], None, IfSome, IfOk, IfErr, OnOk, OnErr, MatchOption, MatchResult, Some, Ok, Err};
     ghost use Rattle.walk_model.specs.Paths.{components};
     ghost use Rattle.walk_model.specs.PathTexts.{components_left, component_seen};
-    ghost use Rattle.walk_model.specs.Tree.{Place, only_root, directory, file, link, add, deny, not_found, already_exists};
+    ghost use Rattle.walk_model.specs.Tree.{Place, only_root, directory, file, link, add, deny, remove, not_found, already_exists};
     ghost use Rattle.memory_fs.specs.Hit.{hit_seen, answer_seen};
-    ghost use Rattle.memory_fs.specs.Branch.{next_hit, from_root, found, holder_of, named_spot, free_spot, directory_spot, IsWithin, IsSettled, LeadsOn, LinkLeadsOn};
+    ghost use Rattle.memory_fs.specs.Branch.{next_hit, from_root, found, holder_of, named_spot, free_spot, taken_spot, directory_spot, IsWithin, IsSettled, LeadsOn, LinkLeadsOn};
     ghost use Rattle.memory_fs.specs.MemoryFs.{tree_of, IsSameTree, IsBuilt};
 
     /// The tree with nothing below its root, which needs no memory. The allocator serves all that is added.
@@ -111,6 +112,23 @@ impl<A: Allocator + Copy> MemoryFs<A> {
         Ok(())
     }
 
+    /// Takes away a file, a link, or a directory with all that it holds; the other children of its holder keep their
+    /// order. `NotFound` where `add_dir` answers it, and where nothing has that name; else `Memory` where memory is
+    /// refused. After a refusal the tree is as it was. It costs as much as the holder is wide and what goes is large.
+    pub fn remove(&mut self, path: &str) -> Result<(), BuildError>
+        ensures removed { OnOk result (IsBuilt (remove path.now (tree_of self.old)) (tree_of self.new)) }
+        ensures not_found { (result ≡ Err BuildError.NotFound)
+            ↔ (remove path.now (tree_of self.old) ≡ Err not_found) }
+        ensures never_exists { result ≢ Err BuildError.AlreadyExists }
+        ensures err { OnErr result (IsSameTree (tree_of self.old) (tree_of self.new)) }
+    {
+        let Some(spot) = self.taken_spot(path) else {
+            return Err(BuildError::NotFound);
+        };
+        self.table.remove(spot.holder, spot.name)?;
+        Ok(())
+    }
+
     // One component worked off, from what is no link.
     fn step(&self, hit: Hit<'_>, component: Component<'_>) -> Result<Hit<'_>, ErrorKind>
         requires { IsWithin (branches self.now.table) (hit_seen hit) }
@@ -142,7 +160,8 @@ impl<A: Allocator + Copy> MemoryFs<A> {
         links: u32,
     ) -> Result<(Hit<'a>, u32), ErrorKind>
         requires { IsWithin (branches self.now.table) (hit_seen from) }
-        ensures value { LeadsOn (branches self.now.table) links (hit_seen from.entry) (components_left components.entry) result }
+        ensures value { LeadsOn (branches self.now.table) links (hit_seen from.entry)
+            (components_left components.entry) result }
         ensures within { IfOk result (λ r. IsWithin (branches self.now.table) (hit_seen r.0)) }
         ensures fewer { IfOk result (λ r. r.1 ≤ links) }
     {
@@ -220,7 +239,8 @@ impl<A: Allocator + Copy> MemoryFs<A> {
 
     // The directory that the components lead to.
     fn holder(&self, components: Components<'_>) -> Option<usize>
-        ensures value { result ≡ holder_of (from_root (branches self.now.table) true (components_left components.entry)) }
+        ensures value { result
+            ≡ holder_of (from_root (branches self.now.table) true (components_left components.entry)) }
         ensures within { IfSome result (λ index. index < length (branches self.now.table)) }
     {
         match self.reach(components, true) {
@@ -252,6 +272,17 @@ impl<A: Allocator + Copy> MemoryFs<A> {
             return Err(BuildError::AlreadyExists);
         }
         Ok(spot)
+    }
+
+    // The same for a child that is there.
+    fn taken_spot<'p>(&self, path: &'p str) -> Option<Spot<'p>>
+        ensures value { MatchOption result (taken_spot (branches self.now.table) (components path.now) ≡ None)
+            (λ s. taken_spot (branches self.now.table) (components path.now) ≡ Some (s.holder, s.name.now)) }
+        ensures within { IfSome result (λ s. s.holder < length (branches self.now.table)) }
+    {
+        let spot = self.spot(path)?;
+        self.table.directory(spot.holder).child(spot.name)?;
+        Some(spot)
     }
 
     // The directory there.

@@ -1,6 +1,7 @@
 //! What a small tree answers.
 use crate::build_error::BuildError;
 use crate::memory_fs::MemoryFs;
+use linked_list_allocator::LocalHeap;
 use std::alloc::Global;
 use std::io::ErrorKind;
 use std::test::Fail;
@@ -318,5 +319,49 @@ fn building_through_links(rt: HostRuntime) -> Result<(), Fail> {
     assert_eq!(rt; fs.deny("/slash/d", ErrorKind::PermissionDenied), Ok(()));
     let denied = Some(ErrorKind::PermissionDenied);
     assert_eq!(rt; kind(fs.read_dir(rt.alloc(), "/r/d")), denied);
+    Ok(())
+}
+
+#[test]
+fn removed_children(rt: HostRuntime) -> Result<(), Fail> {
+    let mut fs = linked(rt.alloc())?;
+    for path in ["/", "", "/r/..", "/n/m", "/r/none", "/r/f/x", "/broken/x"] {
+        assert_eq!(rt; fs.remove(path), Err(BuildError::NotFound));
+    }
+    for path in ["/r/f", "/slash/out", "/q"] {
+        assert_eq!(rt; fs.remove(path), Ok(()));
+    }
+    let missing = Err(ErrorKind::NotFound);
+    assert_eq!(rt; answer(fs.symlink_metadata("/r/f")), missing);
+    assert_eq!(rt; names(rt.alloc(), &fs, "/r")?.as_str(), " l whole s");
+    assert_eq!(rt; fs.remove("/r"), Ok(()));
+    assert_eq!(rt; answer(fs.metadata("/slash")), missing);
+    let link = Metadata::new(FileType::Symlink, 5);
+    assert_eq!(rt; answer(fs.symlink_metadata("/slash")), Ok(link));
+    fs.add_dir("/r")?;
+    fs.add_file("/r/g", 9)?;
+    assert_eq!(rt; names(rt.alloc(), &fs, "/slash")?.as_str(), " g");
+    Ok(())
+}
+
+#[test]
+fn what_is_removed_is_freed(rt: HostRuntime) -> Result<(), Fail> {
+    let heap = LocalHeap::new(rt.alloc(), 1 << 16)?;
+    let mut fs = MemoryFs::new(&heap);
+    let mut held = 0;
+    for round in 0..1000u64 {
+        for path in ["/t", "/t/a", "/t/a/b", "/t/c"] {
+            fs.add_dir(path)?;
+        }
+        fs.add_file("/t/a/b/f", round)?;
+        fs.add_link("/t/l", "a/b")?;
+        let file = Metadata::new(FileType::File, round);
+        assert_eq!(rt; answer(fs.metadata("/t/l/f")), Ok(file));
+        fs.remove("/t")?;
+        if round == 1 {
+            held = heap.used();
+        }
+    }
+    assert_eq!(rt; heap.used(), held);
     Ok(())
 }

@@ -2,8 +2,8 @@ use Rattle.std.proofs.Common.{ap, ◌∙◌, Err, [], None}
 use Rattle.std.proofs.lemmas.Result.{err_from_is_err_and}
 use Rattle.walk_model.specs.Tree.{directory, add}
 use Rattle.memory_fs.specs.MemoryFs.{tree_of}
-use Rattle.memory_fs.specs.Table.{branches}
-use Rattle.memory_fs.proofs.AddLemmas.{found-spot, told-no_spot, told-no_memory, told-added, sound-either, sound-directory, built-directory}
+use Rattle.memory_fs.specs.Table.{branches, free_places}
+use Rattle.memory_fs.proofs.AddLemmas.{found-spot, told-no_spot, told-no_memory, told-added, directory-either, directory-added}
 use Rattle.memory_fs.proofs.memory_fs.MemoryFs.add_dir.Goals as goal
 
 pub returns-in_err-spot-clause-not_found : goal.returns-in_err-spot-clause-not_found
@@ -20,13 +20,16 @@ pub add_directory-requires-clause-free : goal.add_directory-requires-clause-free
 add_directory-requires-clause-free g c =
     (found-spot (branches c.args.self.now.table) c.args.self.now.sound (directory [] None) c.args.path.now c.in_ok-spot.spot.holder c.in_ok-spot.spot.name.now c.in_ok-spot.ensures.value).free
 
+pub add_directory-requires-clause-spare : goal.add_directory-requires-clause-spare
+add_directory-requires-clause-spare g c = c.args.self.now.spare
+
 pub invariant_of-self : goal.invariant_of-self
 invariant_of-self g c =
     let spot = found-spot (branches c.args.self.now.table) c.args.self.now.sound (directory [] None) c.args.path.now c.in_ok-spot.spot.holder c.in_ok-spot.spot.name.now c.in_ok-spot.ensures.value in
-    record {
-      sound = sound-either c.add_directory.result (branches c.args.self.now.table) _ (branches c.add_directory.new.self) c.add_directory.ensures.ok c.add_directory.ensures.err c.args.self.now.sound
-          (sound-directory (branches c.args.self.now.table) c.args.self.now.sound c.in_ok-spot.spot.holder c.in_ok-spot.spot.name.now c.in_ok-spot.ensures.within (add (directory [] None) c.args.path.now (tree_of c.args.self.now)) spot);
-    }
+    let holds = directory-either c.add_directory.result (branches c.args.self.now.table) (free_places c.args.self.now.table) (c.args.self.now.sound, c.args.self.now.spare)
+    c.in_ok-spot.spot.holder c.in_ok-spot.spot.name.now c.in_ok-spot.ensures.within (add (directory [] None) c.args.path.now (tree_of c.args.self.now)) spot
+    (branches c.add_directory.new.self) (free_places c.add_directory.new.self) c.add_directory.ensures.ok c.add_directory.ensures.err c.add_directory.ensures.err_kept in
+    record { sound = holds.0; spare = holds.1 }
 
 pub returns-in_err-add_directory-clause-not_found : goal.returns-in_err-add_directory-clause-not_found
 returns-in_err-add_directory-clause-not_found g c =
@@ -43,8 +46,9 @@ returns-in_err-add_directory-clause-already_exists g c =
 pub returns-clause-added : goal.returns-clause-added
 returns-clause-added g c =
     let spot = found-spot (branches c.args.self.now.table) c.args.self.now.sound (directory [] None) c.args.path.now c.in_ok-spot.spot.holder c.in_ok-spot.spot.name.now c.in_ok-spot.ensures.value in
-    built-directory (branches c.args.self.now.table) c.args.self.now.sound c.in_ok-spot.spot.holder c.in_ok-spot.spot.name.now c.in_ok-spot.ensures.within (add (directory [] None) c.args.path.now (tree_of c.args.self.now)) spot
-    (branches c.add_directory.new.self) c.in_ok-add_directory.ensures.ok
+    (directory-added (branches c.args.self.now.table) (free_places c.args.self.now.table) (c.args.self.now.sound, c.args.self.now.spare)
+    c.in_ok-spot.spot.holder c.in_ok-spot.spot.name.now c.in_ok-spot.ensures.within (add (directory [] None) c.args.path.now (tree_of c.args.self.now)) spot
+    (branches c.add_directory.new.self) (free_places c.add_directory.new.self) c.in_ok-add_directory.ensures.ok).1
 
 pub returns-clause-not_found : goal.returns-clause-not_found
 returns-clause-not_found g c =

@@ -1,9 +1,12 @@
-use Rattle.std.proofs.Common.{ap, ◌∙◌, Err}
+use Rattle.std.proofs.Common.{refl, ap, ◌∙◌, Err}
 use Rattle.std.proofs.lemmas.Result.{err_from_is_err_and}
 use Rattle.walk_model.specs.Tree.{file, add}
+use Rattle.memory_fs.specs.Child.{File}
+use Rattle.memory_fs.specs.Branch.{with_named}
 use Rattle.memory_fs.specs.MemoryFs.{tree_of}
-use Rattle.memory_fs.specs.Table.{branches}
-use Rattle.memory_fs.proofs.AddLemmas.{found-spot, told-no_spot, told-no_memory, told-added, sound-either, sound-file, built-file}
+use Rattle.memory_fs.specs.Table.{branches, free_places}
+use Rattle.memory_fs.proofs.AddLemmas.{found-spot, told-no_spot, told-no_memory, told-added, Holds, holds-either, holds-leaf, built-grown}
+use Rattle.memory_fs.proofs.NewChildLemmas.{grows-leaf}
 use Rattle.memory_fs.proofs.memory_fs.MemoryFs.add_file.Goals as goal
 
 pub returns-in_err-spot-clause-not_found : goal.returns-in_err-spot-clause-not_found
@@ -23,10 +26,11 @@ add-requires-clause-free g c =
 pub invariant_of-self : goal.invariant_of-self
 invariant_of-self g c =
     let spot = found-spot (branches c.args.self.now.table) c.args.self.now.sound (file c.args.len) c.args.path.now c.in_ok-spot.spot.holder c.in_ok-spot.spot.name.now c.in_ok-spot.ensures.value in
-    record {
-      sound = sound-either c.add.result (branches c.args.self.now.table) _ (branches c.add.new.self) c.add.ensures.ok c.add.ensures.err c.args.self.now.sound
-          (sound-file (branches c.args.self.now.table) c.args.self.now.sound c.in_ok-spot.spot.holder c.in_ok-spot.spot.name.now c.in_ok-spot.ensures.within (add (file c.args.len) c.args.path.now (tree_of c.args.self.now)) c.args.len spot);
-    }
+    let before : Holds (branches c.args.self.now.table) (free_places c.args.self.now.table) = (c.args.self.now.sound, c.args.self.now.spare) in
+    let holds = holds-either c.add.result (branches c.args.self.now.table) _ (branches c.add.new.self) (free_places c.args.self.now.table) (free_places c.add.new.self) c.add.ensures.ok c.add.ensures.err c.add.ensures.kept before
+    (holds-leaf (branches c.args.self.now.table) (free_places c.args.self.now.table) before c.in_ok-spot.spot.holder c.in_ok-spot.spot.name.now c.in_ok-spot.ensures.within
+    (add (file c.args.len) c.args.path.now (tree_of c.args.self.now)) (file c.args.len) spot (File c.args.len) (λ other. refl) (λ index e. cc)) in
+    record { sound = holds.0; spare = holds.1 }
 
 pub returns-in_err-add-clause-not_found : goal.returns-in_err-add-clause-not_found
 returns-in_err-add-clause-not_found g c =
@@ -43,8 +47,9 @@ returns-in_err-add-clause-already_exists g c =
 pub returns-clause-added : goal.returns-clause-added
 returns-clause-added g c =
     let spot = found-spot (branches c.args.self.now.table) c.args.self.now.sound (file c.args.len) c.args.path.now c.in_ok-spot.spot.holder c.in_ok-spot.spot.name.now c.in_ok-spot.ensures.value in
-    built-file (branches c.args.self.now.table) c.args.self.now.sound c.in_ok-spot.spot.holder c.in_ok-spot.spot.name.now c.in_ok-spot.ensures.within (add (file c.args.len) c.args.path.now (tree_of c.args.self.now)) c.args.len spot
-    (branches c.add.new.self) c.in_ok-add.ensures.ok
+    built-grown (branches c.args.self.now.table) c.args.self.now.sound c.in_ok-spot.spot.holder c.in_ok-spot.spot.name.now (add (file c.args.len) c.args.path.now (tree_of c.args.self.now)) (file c.args.len) spot (File c.args.len)
+    (branches c.add.new.self) (with_named (branches c.args.self.now.table) c.in_ok-spot.spot.holder c.in_ok-spot.spot.name.now (File c.args.len)) c.in_ok-add.ensures.ok
+    (grows-leaf (branches c.args.self.now.table) c.in_ok-spot.spot.holder c.in_ok-spot.spot.name.now c.in_ok-spot.ensures.within spot.free (File c.args.len) (λ other. refl)) refl
 
 pub returns-clause-not_found : goal.returns-clause-not_found
 returns-clause-not_found g c =

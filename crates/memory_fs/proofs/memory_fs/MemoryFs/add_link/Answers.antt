@@ -1,9 +1,12 @@
-use Rattle.std.proofs.Common.{ap, ◌∙◌, Err}
+use Rattle.std.proofs.Common.{refl, ap, ◌∙◌, Err}
 use Rattle.std.proofs.lemmas.Result.{err_from_is_err_and}
 use Rattle.walk_model.specs.Tree.{link, add}
+use Rattle.memory_fs.specs.Child.{Link}
+use Rattle.memory_fs.specs.Branch.{with_named}
 use Rattle.memory_fs.specs.MemoryFs.{tree_of}
-use Rattle.memory_fs.specs.Table.{branches}
-use Rattle.memory_fs.proofs.AddLemmas.{found-spot, told-no_spot, told-no_memory, told-added, sound-either, sound-link, built-link}
+use Rattle.memory_fs.specs.Table.{branches, free_places}
+use Rattle.memory_fs.proofs.AddLemmas.{found-spot, told-no_spot, told-no_memory, told-added, Holds, holds-either, holds-leaf, built-grown}
+use Rattle.memory_fs.proofs.NewChildLemmas.{grows-leaf}
 use Rattle.memory_fs.proofs.memory_fs.MemoryFs.add_link.Goals as goal
 
 pub returns-in_err-spot-clause-not_found : goal.returns-in_err-spot-clause-not_found
@@ -23,10 +26,11 @@ add_link-requires-clause-free g c =
 pub invariant_of-self : goal.invariant_of-self
 invariant_of-self g c =
     let spot = found-spot (branches c.args.self.now.table) c.args.self.now.sound (link c.args.target.now) c.args.path.now c.in_ok-spot.spot.holder c.in_ok-spot.spot.name.now c.in_ok-spot.ensures.value in
-    record {
-      sound = sound-either c.add_link.result (branches c.args.self.now.table) _ (branches c.add_link.new.self) c.add_link.ensures.ok c.add_link.ensures.err c.args.self.now.sound
-          (sound-link (branches c.args.self.now.table) c.args.self.now.sound c.in_ok-spot.spot.holder c.in_ok-spot.spot.name.now c.in_ok-spot.ensures.within (add (link c.args.target.now) c.args.path.now (tree_of c.args.self.now)) c.args.target.now spot);
-    }
+    let before : Holds (branches c.args.self.now.table) (free_places c.args.self.now.table) = (c.args.self.now.sound, c.args.self.now.spare) in
+    let holds = holds-either c.add_link.result (branches c.args.self.now.table) _ (branches c.add_link.new.self) (free_places c.args.self.now.table) (free_places c.add_link.new.self) c.add_link.ensures.ok c.add_link.ensures.err c.add_link.ensures.kept before
+    (holds-leaf (branches c.args.self.now.table) (free_places c.args.self.now.table) before c.in_ok-spot.spot.holder c.in_ok-spot.spot.name.now c.in_ok-spot.ensures.within
+    (add (link c.args.target.now) c.args.path.now (tree_of c.args.self.now)) (link c.args.target.now) spot (Link c.args.target.now) (λ other. refl) (λ index e. cc)) in
+    record { sound = holds.0; spare = holds.1 }
 
 pub returns-in_err-add_link-clause-not_found : goal.returns-in_err-add_link-clause-not_found
 returns-in_err-add_link-clause-not_found g c =
@@ -43,8 +47,9 @@ returns-in_err-add_link-clause-already_exists g c =
 pub returns-clause-added : goal.returns-clause-added
 returns-clause-added g c =
     let spot = found-spot (branches c.args.self.now.table) c.args.self.now.sound (link c.args.target.now) c.args.path.now c.in_ok-spot.spot.holder c.in_ok-spot.spot.name.now c.in_ok-spot.ensures.value in
-    built-link (branches c.args.self.now.table) c.args.self.now.sound c.in_ok-spot.spot.holder c.in_ok-spot.spot.name.now c.in_ok-spot.ensures.within (add (link c.args.target.now) c.args.path.now (tree_of c.args.self.now)) c.args.target.now spot
-    (branches c.add_link.new.self) c.in_ok-add_link.ensures.ok
+    built-grown (branches c.args.self.now.table) c.args.self.now.sound c.in_ok-spot.spot.holder c.in_ok-spot.spot.name.now (add (link c.args.target.now) c.args.path.now (tree_of c.args.self.now)) (link c.args.target.now) spot (Link c.args.target.now)
+    (branches c.add_link.new.self) (with_named (branches c.args.self.now.table) c.in_ok-spot.spot.holder c.in_ok-spot.spot.name.now (Link c.args.target.now)) c.in_ok-add_link.ensures.ok
+    (grows-leaf (branches c.args.self.now.table) c.in_ok-spot.spot.holder c.in_ok-spot.spot.name.now c.in_ok-spot.ensures.within spot.free (Link c.args.target.now) (λ other. refl)) refl
 
 pub returns-clause-not_found : goal.returns-clause-not_found
 returns-clause-not_found g c =

@@ -2,7 +2,7 @@ use Rattle.std.proofs.Common.{arith}
 use Rattle.memory_fs.specs.Child.{Dir}
 use Rattle.memory_fs.specs.Directory.{branch}
 use Rattle.memory_fs.proofs.EditLemmas.{length-others}
-use Rattle.memory_fs.proofs.table.Table.add_directory.Goals as goal
+use Rattle.memory_fs.proofs.table.Table.add_directory_behind.Goals as goal
 
 -- the room was made before
 pub unreachable-requires : goal.unreachable-requires
