@@ -109,10 +109,18 @@ fn options_come_in_any_order_and_the_root_last(rt: HostRuntime) -> Result<(), Fa
         max: Some(2),
     };
     let rows: [&[&str]; 4] = [
-        &["--tree", "--sort", "--follow", "--max", "2", "--min", "1", "/r"],
-        &["--follow", "--sort", "--tree", "--min", "1", "--max", "2", "/r"],
-        &["--min", "01", "--max", "2", "--sort", "--follow", "--tree", "/r"],
-        &["--max", "2", "--tree", "--min", "1", "--follow", "--sort", "/r"],
+        &[
+            "--tree", "--sort", "--follow", "--max", "2", "--min", "1", "/r",
+        ],
+        &[
+            "--follow", "--sort", "--tree", "--min", "1", "--max", "2", "/r",
+        ],
+        &[
+            "--min", "01", "--max", "2", "--sort", "--follow", "--tree", "/r",
+        ],
+        &[
+            "--max", "2", "--tree", "--min", "1", "--follow", "--sort", "/r",
+        ],
     ];
     for words in rows {
         let words = texts(rt.alloc(), words)?;
