@@ -304,7 +304,8 @@ impl<C: ClientState, S: FileSystem, P: ProcessReadDir<C, A>, A: Allocator + Copy
         ensures few { IfOk result (λ r. length (reading r).list < 2 ^ 64) }
         ensures value { (g : _)
             → IsSteadyJob S.FileSystem P.ProcessReadDir C.ReadDirState.Clone C.DirEntryState.Default self.now g
-            → IfOk result (λ r. g.processed (Some of.now.depth) (text of.now.path) (g.read_dir_state of.now.client_read_state)
+            → IfOk result (λ r. g.processed (Some of.now.depth) (text of.now.path)
+            (g.read_dir_state of.now.client_read_state)
             (value.ordered (job_by S.FileSystem g self.now) (counted_spec g (spec of.now)) (map listed listing.items))
             ≡ counted_reading g (reading r)) }
     {

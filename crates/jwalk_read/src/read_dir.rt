@@ -71,7 +71,8 @@ impl<C: ClientState, A: Allocator + Copy> ReadDir<C, A> {
     ///
     /// Fails only for want of memory, met by the list or by the clone of a state.
     pub fn read_children_specs(&self) -> Result<Vec<ReadDirSpec<C, A>, A>, AllocError>
-        ensures { IfOk result (λ v. AreClones C.ReadDirState.is_clone (children (reading self.now)) (map spec v.items)) }
+        ensures { IfOk result (λ v. AreClones C.ReadDirState.is_clone
+            (children (reading self.now)) (map spec v.items)) }
     {
         let mut specs = Vec::new(*self.results_list.allocator());
         for found in &self.results_list {

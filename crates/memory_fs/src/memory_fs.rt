@@ -251,7 +251,8 @@ impl<A: Allocator + Copy> MemoryFs<A> {
 
     // Where a path that is built on leads.
     fn spot<'p>(&self, path: &'p str) -> Option<Spot<'p>>
-        ensures value { MatchOption result (named_spot (branches self.now.table) (components path.now) ≡ None) (λ s. named_spot (branches self.now.table) (components path.now) ≡ Some (s.holder, s.name.now)) }
+        ensures value { MatchOption result (named_spot (branches self.now.table) (components path.now) ≡ None)
+            (λ s. named_spot (branches self.now.table) (components path.now) ≡ Some (s.holder, s.name.now)) }
         ensures within { IfSome result (λ s. s.holder < length (branches self.now.table)) }
     {
         let mut front = Path::new(path).components();
@@ -262,7 +263,9 @@ impl<A: Allocator + Copy> MemoryFs<A> {
 
     // The same for a new child.
     fn free_spot<'p>(&self, path: &'p str) -> Result<Spot<'p>, BuildError>
-        ensures value { MatchResult result (λ s. free_spot (branches self.now.table) (components path.now) ≡ Ok (s.holder, s.name.now)) (λ e. free_spot (branches self.now.table) (components path.now) ≡ Err e) }
+        ensures value { MatchResult result
+            (λ s. free_spot (branches self.now.table) (components path.now) ≡ Ok (s.holder, s.name.now))
+            (λ e. free_spot (branches self.now.table) (components path.now) ≡ Err e) }
         ensures within { IfOk result (λ s. s.holder < length (branches self.now.table)) }
     {
         let Some(spot) = self.spot(path) else {
@@ -314,8 +317,10 @@ impl<A: Allocator + Copy> FileSystem for MemoryFs<A> {
         alloc: B,
         path: &str,
     ) -> Result<Vec<io::Result<Listed<B>>, B>, Fault>
-        ensures value { AnswersValue (λ v. map listed v.items) result ((functions_of (tree_of self.now)).list_of path.now) }
-        ensures errors_need_no_memory { IsErr ((functions_of (tree_of self.now)).list_of path.now) → result ≢ Err Fault.Memory }
+        ensures value { AnswersValue (λ v. map listed v.items) result
+            ((functions_of (tree_of self.now)).list_of path.now) }
+        ensures errors_need_no_memory { IsErr ((functions_of (tree_of self.now)).list_of path.now)
+            → result ≢ Err Fault.Memory }
     {
         match self.look_up(path, true) {
             Ok(Hit::Dir(index)) => {
@@ -353,7 +358,8 @@ impl<A: Allocator + Copy> FileSystem for MemoryFs<A> {
 
     fn read_link<B: Allocator + Copy>(&self, alloc: B, path: &str) -> Result<String<B>, Fault>
         ensures value { AnswersValue string_bytes result ((functions_of (tree_of self.now)).target_of path.now) }
-        ensures errors_need_no_memory { IsErr ((functions_of (tree_of self.now)).target_of path.now) → result ≢ Err Fault.Memory }
+        ensures errors_need_no_memory { IsErr ((functions_of (tree_of self.now)).target_of path.now)
+            → result ≢ Err Fault.Memory }
     {
         match self.look_up(path, false) {
             Ok(Hit::Link(_, target)) => Ok(String::from_str(alloc, target)?),

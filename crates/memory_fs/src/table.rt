@@ -138,7 +138,8 @@ impl<A: Allocator + Copy> Table<A> {
         requires within { holder < length (branches self.old) }
         requires free { child_named (children_at (branches self.old) holder) name.now ≡ None }
         ensures ok { OnOk result (branches self.new
-            ≡ with_named (branches self.old) holder name.now (Dir (length (branches self.old))) ++ empty_branch holder ∷ []) }
+            ≡ with_named (branches self.old) holder name.now (Dir (length (branches self.old)))
+            ++ empty_branch holder ∷ []) }
         ensures err { OnErr result (branches self.new ≡ branches self.old) }
         ensures kept { free_places self.new ≡ free_places self.old }
     {
