@@ -8,5 +8,3 @@ mod hit;
 pub mod memory_fs;
 mod spot;
 mod table;
-#[cfg(test)]
-mod tests;

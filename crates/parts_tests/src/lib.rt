@@ -1,5 +1,5 @@
-//! What the parts do on which a walk stands, by worked examples: addresses, the queue and the board, file systems, and
-//! the program's texts.
+//! What the parts do on which a walk stands, by worked examples: addresses, the queue and the board, file systems and
+//! the tree in memory, and the program's texts.
 #![tactic(auto)]
 
 #[cfg(test)]
@@ -18,3 +18,5 @@ mod rehearsal;
 mod rehearsal_sizes;
 #[cfg(test)]
 mod texts;
+#[cfg(test)]
+mod tree_in_memory;

@@ -1,7 +1,7 @@
-//! What a small tree answers.
-use crate::build_error::BuildError;
-use crate::memory_fs::MemoryFs;
+//! What trees in memory answer, and how they are built.
 use linked_list_allocator::LocalHeap;
+use memory_fs::build_error::BuildError;
+use memory_fs::memory_fs::MemoryFs;
 use std::alloc::Global;
 use std::io::ErrorKind;
 use std::test::Fail;
