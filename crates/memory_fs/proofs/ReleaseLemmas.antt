@@ -147,10 +147,6 @@ first-releasing table free index sound spare loose once = record {
   same_length = refl;
 }
 
--- all places are empty
-pub spare-all : (table : List Branch) (free : List ℕ) (next : ℕ) → AreSpare table free next → length free ≤ next → AreSpare table free (length free)
-spare-all table free next spare le = record { apart = spare.apart; loose = spare.loose; emptied = λ k h. spare.emptied k (omega arith) }
-
 -- the last child of a directory of the table
 pub pops-there : {A : Type 0} (r : Option (String A × CodeChild A)) (old new here there : Branch) → old ≡ here → new ≡ there
     → MatchOption r ((old.children ≡ []) × (new ≡ old)) (λ p. PopsLast old (string_bytes p.0) (child_seen p.1) new)
@@ -217,15 +213,6 @@ module _ (old : List Branch) (free : List ℕ) (done : ℕ) (sound : IsSound old
         let most = spare-length old free done sound.rooted spare in
         omega arith;
   }
-
--- the turns one after another
-pub releasing-on : (start now new : List Branch) (free left : List ℕ) (done more : ℕ) → IsReleasing start now free done → IsReleasing now new left more → IsReleasing start new left more
-releasing-on start now new free left done more first then_on = record {
-  sound = then_on.sound;
-  spare = then_on.spare;
-  tree = λ q. then_on.tree q ∙ first.tree q;
-  same_length = then_on.same_length ∙ first.same_length;
-}
 
 -- there is room for the first
 pub room-first : (table : List Branch) (free : List ℕ) (index capacity : ℕ) → IsSound table → AreSpare table free (length free) → IsLoose table index → ((k : ℕ) → k < length free → place_at free k ≢ index)
