@@ -22,17 +22,13 @@ fn come_in_order(alloc: Global, lists: [&[usize]; 3]) -> Result<bool, AllocError
 
 #[test]
 fn a_heap_gives_the_least_address_first(rt: HostRuntime) -> Result<(), Fail> {
-    let orders: [[&[usize]; 3]; 6] = [
-        [&[0], &[0, 0], &[0, 1]],
-        [&[0], &[0, 1], &[0, 0]],
-        [&[0, 0], &[0], &[0, 1]],
-        [&[0, 0], &[0, 1], &[0]],
-        [&[0, 1], &[0], &[0, 0]],
-        [&[0, 1], &[0, 0], &[0]],
-    ];
-    for lists in orders {
-        assert!(rt; come_in_order(rt.alloc(), lists)?);
-    }
+    let alloc = rt.alloc();
+    assert!(rt; come_in_order(alloc, [&[0], &[0, 0], &[0, 1]])?);
+    assert!(rt; come_in_order(alloc, [&[0], &[0, 1], &[0, 0]])?);
+    assert!(rt; come_in_order(alloc, [&[0, 0], &[0], &[0, 1]])?);
+    assert!(rt; come_in_order(alloc, [&[0, 0], &[0, 1], &[0]])?);
+    assert!(rt; come_in_order(alloc, [&[0, 1], &[0], &[0, 0]])?);
+    assert!(rt; come_in_order(alloc, [&[0, 1], &[0, 0], &[0]])?);
     Ok(())
 }
 

@@ -322,26 +322,62 @@ fn building_through_links(rt: HostRuntime) -> Result<(), Fail> {
     Ok(())
 }
 
+// Takes away what stands at a path.
+fn remove(fs: &mut MemoryFs, path: &str) -> Result<(), BuildError> {
+    fs.remove(path)
+}
+
+// What stands at a path, a link as such.
+fn named(fs: &MemoryFs, path: &str) -> Result<Metadata, ErrorKind> {
+    answer(fs.symlink_metadata(path))
+}
+
+#[test]
+fn only_what_is_there_is_removed(rt: HostRuntime) -> Result<(), Fail> {
+    let mut fs = linked(rt.alloc())?;
+    for path in ["/", "", "/r/..", "/n/m", "/r/none", "/r/f/x", "/broken/x"] {
+        assert_eq!(rt; remove(&mut fs, path), Err(BuildError::NotFound));
+    }
+    Ok(())
+}
+
 #[test]
 fn removed_children(rt: HostRuntime) -> Result<(), Fail> {
     let mut fs = linked(rt.alloc())?;
-    for path in ["/", "", "/r/..", "/n/m", "/r/none", "/r/f/x", "/broken/x"] {
-        assert_eq!(rt; fs.remove(path), Err(BuildError::NotFound));
-    }
     for path in ["/r/f", "/slash/out", "/q"] {
-        assert_eq!(rt; fs.remove(path), Ok(()));
+        assert_eq!(rt; remove(&mut fs, path), Ok(()));
     }
-    let missing = Err(ErrorKind::NotFound);
-    assert_eq!(rt; answer(fs.symlink_metadata("/r/f")), missing);
+    assert_eq!(rt; named(&fs, "/r/f"), Err(ErrorKind::NotFound));
     assert_eq!(rt; names(rt.alloc(), &fs, "/r")?.as_str(), " l whole s");
-    assert_eq!(rt; fs.remove("/r"), Ok(()));
-    assert_eq!(rt; answer(fs.metadata("/slash")), missing);
+    Ok(())
+}
+
+#[test]
+fn a_link_to_a_removed_directory_is_broken(rt: HostRuntime) -> Result<(), Fail> {
+    let mut fs = linked(rt.alloc())?;
+    assert_eq!(rt; remove(&mut fs, "/r"), Ok(()));
+    assert_eq!(rt; answer(fs.metadata("/slash")), Err(ErrorKind::NotFound));
     let link = Metadata::new(FileType::Symlink, 5);
-    assert_eq!(rt; answer(fs.symlink_metadata("/slash")), Ok(link));
+    assert_eq!(rt; named(&fs, "/slash"), Ok(link));
     fs.add_dir("/r")?;
     fs.add_file("/r/g", 9)?;
     assert_eq!(rt; names(rt.alloc(), &fs, "/slash")?.as_str(), " g");
     Ok(())
+}
+
+// Builds a tree, tells what stands behind a link in it, and takes it away.
+fn build_and_remove(
+    fs: &mut MemoryFs<&LocalHeap>,
+    len: u64,
+) -> Result<Result<Metadata, ErrorKind>, BuildError> {
+    for path in ["/t", "/t/a", "/t/a/b", "/t/c"] {
+        fs.add_dir(path)?;
+    }
+    fs.add_file("/t/a/b/f", len)?;
+    fs.add_link("/t/l", "a/b")?;
+    let found = answer(fs.metadata("/t/l/f"));
+    fs.remove("/t")?;
+    Ok(found)
 }
 
 #[test]
@@ -350,14 +386,8 @@ fn what_is_removed_is_freed(rt: HostRuntime) -> Result<(), Fail> {
     let mut fs = MemoryFs::new(&heap);
     let mut held = 0;
     for round in 0..1000u64 {
-        for path in ["/t", "/t/a", "/t/a/b", "/t/c"] {
-            fs.add_dir(path)?;
-        }
-        fs.add_file("/t/a/b/f", round)?;
-        fs.add_link("/t/l", "a/b")?;
         let file = Metadata::new(FileType::File, round);
-        assert_eq!(rt; answer(fs.metadata("/t/l/f")), Ok(file));
-        fs.remove("/t")?;
+        assert_eq!(rt; build_and_remove(&mut fs, round)?, Ok(file));
         if round == 1 {
             held = heap.used();
         }
