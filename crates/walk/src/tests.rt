@@ -232,9 +232,23 @@ const RELATIVE: &str = "d /r\nd /r/a\nd /r/a/b\nd /r/a/b/c\nl ../..\t/r/a/b/c/a-
 /// A link to the directory beside it.
 const BESIDE: &str = "d /r\nd /r/a\nf 0 /r/a/zzz\nl a\t/r/a-link\n";
 
+/// An input, the words of a call, and what is written and the status then.
+type LinkRow<'a> = (&'a str, &'a [&'a str], &'a str, u8);
+
+fn check_links(rt: &(impl Abort + AllocGlobal), rows: &[LinkRow<'_>]) -> Result<(), Fail> {
+    for (input, words, out, status) in rows {
+        check(
+            rt,
+            &run_on(rt.alloc(), words, input.as_bytes())?,
+            (*out, "", *status),
+        );
+    }
+    Ok(())
+}
+
 #[test]
-fn links_are_followed_where_that_is_asked(rt: HostRuntime) -> Result<(), Fail> {
-    let rows: [(&str, &[&str], &str, u8); 13] = [
+fn a_link_to_a_directory_above_is_a_loop(rt: HostRuntime) -> Result<(), Fail> {
+    let rows: [LinkRow<'_>; 4] = [
         (
             LOOP,
             &["--tree", "/r"],
@@ -254,6 +268,19 @@ fn links_are_followed_where_that_is_asked(rt: HostRuntime) -> Result<(), Fail> {
             0,
         ),
         (
+            "d /s\nl /s\t/l\nl /l\t/s/k\n",
+            &["--tree", "--follow", "/l/"],
+            "0 D /l\n! 1 /l/k loop /l\n",
+            1,
+        ),
+    ];
+    check_links(&rt, &rows)
+}
+
+#[test]
+fn a_link_beside_its_directory(rt: HostRuntime) -> Result<(), Fail> {
+    let rows: [LinkRow<'_>; 3] = [
+        (
             BESIDE,
             &["--tree", "/r/a-link"],
             "0 L /r/a-link\n1 f /r/a-link/zzz\n",
@@ -271,12 +298,14 @@ fn links_are_followed_where_that_is_asked(rt: HostRuntime) -> Result<(), Fail> {
             "0 d /r\n1 d /r/a\n2 f /r/a/zzz\n1 D /r/a-link\n2 f /r/a-link/zzz\n",
             0,
         ),
-        (
-            "d /s\nl /s\t/l\nl /l\t/s/k\n",
-            &["--tree", "--follow", "/l/"],
-            "0 D /l\n! 1 /l/k loop /l\n",
-            1,
-        ),
+    ];
+    check_links(&rt, &rows)
+}
+
+#[test]
+fn links_to_files_and_to_nothing(rt: HostRuntime) -> Result<(), Fail> {
+    let itself = "d /r\nl a\t/r/a\n";
+    let rows: [LinkRow<'_>; 6] = [
         (
             "d /r\nf 3 /r/f\nl f\t/r/l\n",
             &["--tree", "--follow", "/r"],
@@ -284,17 +313,12 @@ fn links_are_followed_where_that_is_asked(rt: HostRuntime) -> Result<(), Fail> {
             0,
         ),
         (
-            "d /r\nl a\t/r/a\n",
+            itself,
             &["--tree", "--follow", "/r"],
             "0 d /r\n! 1 /r/a Other\n",
             1,
         ),
-        (
-            "d /r\nl a\t/r/a\n",
-            &["--tree", "/r"],
-            "0 d /r\n1 L /r/a\n",
-            0,
-        ),
+        (itself, &["--tree", "/r"], "0 d /r\n1 L /r/a\n", 0),
         (
             "d /r\nl \t/r/l\n",
             &["--tree", "--follow", "/r"],
@@ -314,14 +338,7 @@ fn links_are_followed_where_that_is_asked(rt: HostRuntime) -> Result<(), Fail> {
             1,
         ),
     ];
-    for (input, words, out, status) in rows {
-        check(
-            &rt,
-            &run_on(rt.alloc(), words, input.as_bytes())?,
-            (out, "", status),
-        );
-    }
-    Ok(())
+    check_links(&rt, &rows)
 }
 
 /// The path that goes so many times through a link.
