@@ -1,6 +1,7 @@
 //! What a walk's user does with each list.
-ghost use Rattle.std.specs.Prelude.{◌≡◌, OnOk, IsOk, map};
-ghost use Rattle.walk_model.specs.ReadDir.{KeepsDepths};
+ghost use Rattle.std.specs.Prelude.{◌≡◌, ◌<◌, ◌^◌, OnOk, IsOk, map};
+ghost use Rattle.walk_model.specs.Entry.{AtDepth};
+ghost use Rattle.walk_model.specs.ReadDir.{list_depth};
 ghost use Rattle.jwalk_read.specs.Entry.{item};
 ghost use Rattle.jwalk_read.specs.Given.{Given, IsProcessed, KeepsLists};
 
@@ -11,7 +12,7 @@ use std::alloc::{AllocError, Allocator};
 
 /// A callback that is given each list before the walk goes on with it.
 pub trait ProcessReadDir<C: ClientState, A: Allocator + Copy>: Drop {
-    /// It may be called, and keeps the depths of a list.
+    /// It may be called.
     ghost IsLawful: { Self → Type 0 };
 
     /// It always makes of a list what is given, as far as states count, unless memory runs out. A callback of which nothing
@@ -31,8 +32,10 @@ pub trait ProcessReadDir<C: ClientState, A: Allocator + Copy>: Drop {
         state: &mut C::ReadDirState,
         list: &mut Vec<Result<DirEntry<C, A>, Error<A>>, A>,
     ) -> Result<(), AllocError>
-        requires { IsLawful self.now }
-        ensures depths { OnOk result (KeepsDepths depth (map item list.old.items) (map item list.new.items)) }
+        requires lawful { IsLawful self.now }
+        requires fits { list_depth depth < 2 ^ 64 }
+        requires depths { AtDepth (list_depth depth) (map item list.old.items) }
+        ensures depths { OnOk result (AtDepth (list_depth depth) (map item list.new.items)) }
         ensures made { (g : _) → Makes self.now g
             → OnOk result (IsProcessed g depth path.now
             state.old (map item list.old.items) state.new (map item list.new.items)) };
@@ -57,7 +60,7 @@ impl<C: ClientState, A: Allocator + Copy> ProcessReadDir<C, A> for NoProcess {
         ensures never_refuses { IsOk result }
         ensures state { _state.new ≡ _state.old }
         ensures list { _list.new.items ≡ _list.old.items }
-        ensures depths { OnOk result (KeepsDepths _depth (map item _list.old.items) (map item _list.new.items)) }
+        ensures depths { AtDepth (list_depth _depth) (map item _list.new.items) }
         ensures made { (g : _) → KeepsLists (Given.processed g)
             → OnOk result (IsProcessed g _depth _path.now
             _state.old (map item _list.old.items) _state.new (map item _list.new.items)) }

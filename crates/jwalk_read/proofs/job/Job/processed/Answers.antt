@@ -9,7 +9,7 @@ use Rattle.jwalk_read.proofs.job.Job.processed.Goals as goal
 pub returns-clause-depth : goal.returns-clause-depth
 returns-clause-depth g c =
     rw (ap (λ (r : Reading g.row.C-ReadDirState.Denot g.row.C-DirEntryState.Denot). r.list) c.new.ensures)
-    (c.in_ok-process.ensures.depths c.in_ok-items.ensures.depth)
+    c.in_ok-process.ensures.depths
 
 pub returns-clause-few : goal.returns-clause-few
 returns-clause-few g c =

@@ -12,10 +12,8 @@ one_item view made start list none added = ap (map view) (added ∙ ap (λ l. l 
 
 pub returns-clause-depth : goal.returns-clause-depth
 returns-clause-depth g c =
-    let items = one_item item c.in_ok-item.field-0.item c.new-items.result.items c.push.new.self.items c.new-items.ensures.items c.in_ok-push.ensures.items in
-    let before = rw (← items) at c.in_ok-item.ensures.depth in
-    let after = c.in_ok-process.ensures.depths before in
-    rw (ap (λ (r : Reading g.row.C-ReadDirState.Denot g.row.C-DirEntryState.Denot). r.list) c.new.ensures) after
+    rw (ap (λ (r : Reading g.row.C-ReadDirState.Denot g.row.C-DirEntryState.Denot). r.list) c.new.ensures)
+    c.in_ok-process.ensures.depths
 
 pub returns-clause-value : goal.returns-clause-value
 returns-clause-value g c = λ given steady.
