@@ -60,7 +60,8 @@ impl<C: ClientState, A: Allocator + Copy> ProcessReadDir<C, A> for NoProcess {
         ensures never_refuses { IsOk result }
         ensures state { _state.new ≡ _state.old }
         ensures list { _list.new.items ≡ _list.old.items }
-        ensures depths { AtDepth (list_depth _depth) (map item _list.new.items) }
+        ensures depths { AtDepth (list_depth _depth) (map item _list.old.items)
+            → OnOk result (AtDepth (list_depth _depth) (map item _list.new.items)) }
         ensures made { (g : _) → KeepsLists (Given.processed g)
             → OnOk result (IsProcessed g _depth _path.now
             _state.old (map item _list.old.items) _state.new (map item _list.new.items)) }

@@ -24,8 +24,9 @@ impl<C: ClientState, A: Allocator + Copy> ReadChildren<C, A> {
     ghost use Rattle.jwalk_read.specs.Error.{failure};
     ghost use Rattle.jwalk_read.specs.Entry.{children};
 
-    /// The directory at a path, not read yet.
-    pub(crate) fn new(path: Arc<String<A>, A>) -> Self
+    /// The directory at a path, not read yet, whose reading begins with the state that its parent's left. The path
+    /// need not be the entry's own.
+    pub fn new(path: Arc<String<A>, A>) -> Self
         ensures { Some (children result) ≡ children_at true (text path) }
     {
         ReadChildren {
@@ -33,6 +34,13 @@ impl<C: ClientState, A: Allocator + Copy> ReadChildren<C, A> {
             error: None,
             client_read_state: None,
         }
+    }
+
+    /// The path of the directory.
+    pub fn path(&self) -> &str
+        ensures { result.now ≡ (children self.now).path }
+    {
+        self.path.as_str()
     }
 
     /// The error that reading the directory ended in.
