@@ -80,7 +80,9 @@ impl<
     A: Allocator + Copy,
     K: Calls<C::ReadDirState, Vec<Result<DirEntry<C, A>, Error<A>>, A>>,
 > ProcessReadDir<C, A> for ByFn<K> {
-    ghost use Rattle.std.specs.Prelude.{map};
+    ghost use Rattle.std.specs.Prelude.{map, OnOk};
+    ghost use Rattle.walk_model.specs.Entry.{AtDepth};
+    ghost use Rattle.jwalk_read.specs.Given.{IsProcessed};
     ghost use Rattle.jwalk_process.specs.ByFn.{Keeps, MakesBy, call_of};
 
     ghost IsLawful = { λ s. K.IsCallable (call_of s) };
@@ -93,10 +95,21 @@ impl<
         path: &str,
         state: &mut C::ReadDirState,
         list: &mut Vec<Result<DirEntry<C, A>, Error<A>>, A>,
-    ) -> Result<(), AllocError> {
+    ) -> Result<(), AllocError>
+        requires lawful { K.IsCallable (call_of self.now) }
+        requires fits { list_depth depth < 2 ^ 64 }
+        requires depths { AtDepth (list_depth depth) (map item list.old.items) }
+        ensures depths { AtDepth (list_depth depth) (map item list.new.items) }
+        ensures made { (g : _) → MakesBy (λ l. map item l.items) (K.gives (call_of self.now)) g
+            → OnOk result (IsProcessed g depth path.now
+            state.old (map item list.old.items) state.new (map item list.new.items)) }
+        ensures answers { (left : _) × K.gives (call_of self.now) depth path.now
+            state.old list.old result state.new left
+            × Keeps item (list_depth depth) left.items list.new.items }
+    {
         let own = depth_below(depth);
-        self.call.call(depth, path, state, list)?;
+        let answer = self.call.call(depth, path, state, list);
         keep_depth(list, own);
-        Ok(())
+        answer
     }
 }
