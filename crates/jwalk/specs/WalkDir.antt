@@ -61,6 +61,14 @@ module _ {C S P A R E : Type 0} where
     pub root : root_of new ≡ root_of old
     pub state : state_of new ≡ state_of old
 
+  -- One that changes the root's state alone.
+  pub record SetsState (set : R) (old new : WalkDirGeneric C S P A R E) : Type 0 where
+    pub state : state_of new ≡ set
+    pub options : options_of new ≡ options_of old
+    pub file_system : file_system_of new ≡ file_system_of old
+    pub callback : callback_of new ≡ callback_of old
+    pub root : root_of new ≡ root_of old
+
   -- what its readings are made of, over a fixed file system and what is given
   abbrev pub job_for : FileSystem.Ghosts S → Given R E → WalkDirGeneric C S P A R E → Job Worth Worth
   job_for files given walk = record {
@@ -78,6 +86,14 @@ module _ {C S P A R E : Type 0} where
     pub within : IsWithin it
     pub sourced : IsSourced it
     pub start : IsRefused it ⊎ AtDepth 0 (items_of it)
+
+-- One that puts another callback in the place of the walk's own, and changes nothing else.
+pub record SetsCallback {C S P Q A R E : Type 0} (process : Q) (old : WalkDirGeneric C S P A R E) (new : WalkDirGeneric C S Q A R E) : Type 0 where
+  pub callback : callback_of new ≡ process
+  pub options : options_of new ≡ options_of old
+  pub file_system : file_system_of new ≡ file_system_of old
+  pub root : root_of new ≡ root_of old
+  pub state : state_of new ≡ state_of old
 
 module _ {C S P A R E : Type 0} (files : FileSystem.Ghosts S) (process : ProcessReadDir.Ghosts P C A R E) (clone : Clone.Ghosts R) (defaults : Default.Ghosts E) where
   -- The iterator holds the root's list.

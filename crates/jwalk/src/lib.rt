@@ -18,6 +18,7 @@
 pub mod dir_entry_iter;
 pub mod file_system;
 mod parallelism;
+pub mod read_dir;
 pub mod read_dir_iter;
 mod serial_walk;
 mod walk_dir;
@@ -28,7 +29,7 @@ pub use jwalk_order::{index_path, ordered, ordered_queue};
 pub use jwalk_read::client_state::ClientState;
 pub use jwalk_read::dir_entry::{DirEntry, ReadChildren};
 pub use jwalk_read::error::{Error, Result};
-pub use jwalk_read::{dir_entry, error, read_dir};
+pub use jwalk_read::{dir_entry, error};
 pub use parallelism::Parallelism;
 pub use walk_dir::WalkDirGeneric;
 pub use walk_paths::path_text;

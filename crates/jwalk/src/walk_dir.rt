@@ -5,13 +5,15 @@ ghost use Rattle.jwalk_read.specs.Error.{failure};
 
 use crate::dir_entry_iter::DirEntryIter;
 use crate::parallelism::Parallelism;
+use jwalk_process::by_fn::ByFn;
+use jwalk_process::calls::Closure;
 use jwalk_read::client_state::ClientState;
 use jwalk_read::dir_entry::DirEntry;
 use jwalk_read::error::Error;
 use jwalk_read::job::Job;
 use jwalk_read::options::Options;
 use jwalk_read::process_read_dir::{NoProcess, ProcessReadDir};
-use std::alloc::{Allocator, Global};
+use std::alloc::{AllocError, Allocator, Global};
 use walk_fs::file_system::FileSystem;
 
 /// A walk that is yet to begin: a root in a file system, and options.
@@ -58,7 +60,7 @@ impl<C: ClientState, S: FileSystem, P: ProcessReadDir<C, A>, A: Allocator + Copy
     A,
 > {
     ghost use Rattle.walk_model.specs.Options.{with_sort, with_skip_hidden, with_follow_links, with_min_depth, with_max_depth, with_parallelism};
-    ghost use Rattle.jwalk.specs.WalkDir.{parallelism_value, callback_of, root_of, options_of, Sets, Starts, Holds};
+    ghost use Rattle.jwalk.specs.WalkDir.{parallelism_value, callback_of, root_of, options_of, Sets, SetsState, SetsCallback, Starts, Holds};
     ghost use Rattle.jwalk.specs.DirEntryIter.{IsRefused};
 
     /// The root's path as it was given.
@@ -125,6 +127,29 @@ impl<C: ClientState, S: FileSystem, P: ProcessReadDir<C, A>, A: Allocator + Copy
         self
     }
 
+    /// The state that the root's list is given to begin with, the default one by default. It goes down the tree: each
+    /// directory's reading begins with a clone of the state that the reading of its parent left.
+    pub fn root_read_dir_state(mut self, state: C::ReadDirState) -> Self
+        ensures { SetsState state self result }
+    {
+        self.root_read_dir_state = state;
+        self
+    }
+
+    /// The same walk with this callback in place of its own. It is given each list before the walk goes on with it: the
+    /// root's first, then that of each directory as it is read, in its order and after links gave way.
+    pub fn process_read_dir<Q: ProcessReadDir<C, A>>(self, process: Q) -> WalkDirGeneric<C, S, Q, A>
+        ensures { SetsCallback process self result }
+    {
+        WalkDirGeneric {
+            fs: self.fs,
+            root: self.root,
+            process,
+            options: self.options,
+            root_read_dir_state: self.root_read_dir_state,
+        }
+    }
+
     /// The walk begun, whether memory was refused or not.
     fn begin(self) -> DirEntryIter<C, S, P, A>
         requires { P.IsLawful (callback_of self) }
@@ -173,6 +198,38 @@ impl<C: ClientState, S: FileSystem, P: ProcessReadDir<C, A>, A: Allocator + Copy
             ⊎ Holds S.FileSystem P.ProcessReadDir C.ReadDirState.Clone C.DirEntryState.Default self result }
     {
         self.begin()
+    }
+}
+
+impl<C: ClientState, S: FileSystem, P: ProcessReadDir<C, Global>> WalkDirGeneric<C, S, P, Global> {
+    ghost use Rattle.jwalk_process.specs.ByFn.{closure_of};
+    ghost use Rattle.jwalk.specs.WalkDir.{callback_of, SetsCallback};
+
+    /// The same walk with a closure as its callback, whose types need not be written. It is called with the depth and
+    /// the path of a directory, the state and the list, and may change the two last; of the root's list the depth is
+    /// `None` and the path the root's parent. An entry whose depth it changes is dropped. It fails for want of memory
+    /// alone, and must be safe to call with whatever the walk finds.
+    ///
+    /// A walk over another allocator than `Global` takes `process_read_dir(ByFn::new(..))`.
+    pub fn process_read_dir_by<
+        F: Fn(
+            Option<usize>,
+            &str,
+            &mut C::ReadDirState,
+            &mut Vec<Result<DirEntry<C, Global>, Error<Global>>, Global>,
+        ) -> Result<(), AllocError>
+            + Drop,
+    >(self, f: F) -> WalkDirGeneric<C, S, ByFn<Closure<F>>, Global>
+        ensures closure { closure_of (callback_of result) ≡ f }
+        ensures rest { SetsCallback (callback_of result) self result }
+    {
+        WalkDirGeneric {
+            fs: self.fs,
+            root: self.root,
+            process: ByFn::of(f),
+            options: self.options,
+            root_read_dir_state: self.root_read_dir_state,
+        }
     }
 }
 
