@@ -1,1 +1,2 @@
 pub mod DepthFilters
+pub mod SkipFacts

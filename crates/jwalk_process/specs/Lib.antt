@@ -1,1 +1,2 @@
 pub mod ByFn
+pub mod SkipNames

@@ -3,3 +3,4 @@
 
 pub mod by_fn;
 pub mod calls;
+pub mod skip_names;
