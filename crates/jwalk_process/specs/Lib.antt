@@ -1,2 +1,3 @@
 pub mod ByFn
+pub mod FilterEntry
 pub mod SkipNames
