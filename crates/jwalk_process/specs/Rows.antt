@@ -25,15 +25,15 @@ Nothing = Unit {0}
 -- an entry of `/r`, with a directory to be read below it or without one
 abbrev entry : List ℕ → FileType → Bool → Item Nothing Nothing
 entry name type entered = Ok (record {
-    depth = 1;
-    file_name = name;
-    file_type = type;
-    client_state = tt;
-    parent_path = codes "/r";
-    through_link = false;
-    ancestors = [];
-    read_children = children_at entered (join (codes "/r") name);
-  })
+  depth = 1;
+  file_name = name;
+  file_type = type;
+  client_state = tt;
+  parent_path = codes "/r";
+  through_link = false;
+  ancestors = [];
+  read_children = children_at entered (join (codes "/r") name);
+})
 
 abbrev fault : Item Nothing Nothing
 fault = Err (io 1 None kind.Other)
@@ -74,11 +74,11 @@ none_dropped_at_the_root = refl
 -- the lines of a walk from a root over a tree, by name
 abbrev walk_with : Processing Nothing Nothing → List ℕ → List (List ℕ)
 walk_with processed root = map line_of (whole_walk (record {
-    fs = tree_by (d (codes "/r") ∷ d (codes "/r/target") ∷ f 1 (codes "/r/target/o") ∷ d (codes "/r/src") ∷ f 1 (codes "/r/src/target") ∷ []);
-    options = sorted;
-    processed = processed;
-    default = tt;
-  }) root tt)
+  fs = tree_by (d (codes "/r") ∷ d (codes "/r/target") ∷ f 1 (codes "/r/target/o") ∷ d (codes "/r/src") ∷ f 1 (codes "/r/src/target") ∷ []);
+  options = sorted;
+  processed = processed;
+  default = tt;
+}) root tt)
 
 walk_that_skips : walk_with (skips (codes "target" ∷ [])) (codes "/r")
     ≡ codes "0 d /r\n" ∷ codes "1 d /r/src\n" ∷ codes "2 f /r/src/target\n" ∷ codes "1 d /r/target\n" ∷ []

@@ -10,7 +10,22 @@ use jwalk_read::process_read_dir::ProcessReadDir;
 use std::alloc::{AllocError, Allocator};
 use walk_model::file_type::FileType;
 
-/// A callback that keeps the entries for which a test of their depth, name and type is true.
+/// A callback that keeps the entries for which a test of their depth, name and type is true, and drops the others with
+/// all that is below them.
+///
+/// ```text
+/// let walk = walk.process_read_dir(FilterEntry::new(|_depth, name, file_type| {
+///     name != "target" || !file_type.is_dir()
+/// }));
+/// ```
+///
+/// The test is asked of each entry of each directory, in order, as the entry stands after hidden names were left out
+/// and links gave way; a name is the last part of a path. What doesn't pass isn't answered, and a directory among it
+/// isn't read. Errors stay. The root is answered and read without being asked about: walkdir's `filter_entry` asks
+/// about the root too, that of the crate `ignore` doesn't.
+///
+/// The test is called once for each entry. No memory is taken, and nothing is refused. Where all answers of the test
+/// are those of one function of the depth, the name and the type, the walk's lists are those that the function filters.
 #[derive(Drop)]
 pub struct FilterEntry<F> {
     test: F,
@@ -20,7 +35,8 @@ impl<F> FilterEntry<F> {
     ghost use Rattle.std.specs.Prelude.{◌≡◌};
     ghost use Rattle.jwalk_process.specs.FilterEntry.{test_of};
 
-    /// The callback that keeps what passes this test.
+    /// The callback that keeps what passes this test. Its user owes that the test may be called, which a closure that
+    /// can't go wrong gives by itself.
     pub fn new(test: F) -> Self
     where
         F: Fn(usize, &str, FileType) -> bool,
@@ -55,10 +71,11 @@ fn keep<C: ClientState, A: Allocator + Copy, F: Fn(usize, &str, FileType) -> boo
     list.retain(|found| passes(test, found));
 }
 
-impl<C: ClientState, A: Allocator + Copy, F: Fn(usize, &str, FileType) -> bool + Drop> ProcessReadDir<
-    C,
-    A,
-> for FilterEntry<F> {
+impl<
+    C: ClientState,
+    A: Allocator + Copy,
+    F: Fn(usize, &str, FileType) -> bool + Drop,
+> ProcessReadDir<C, A> for FilterEntry<F> {
     ghost use Rattle.std.specs.Prelude.{◌≡◌, IsOk};
     ghost use Rattle.jwalk_process.specs.FilterEntry.{FiltersAs, IsLeft, test_of};
 

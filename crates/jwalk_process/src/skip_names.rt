@@ -9,7 +9,23 @@ use jwalk_read::error::Error;
 use jwalk_read::process_read_dir::ProcessReadDir;
 use std::alloc::{AllocError, Allocator, Global};
 
-/// A callback by which directories of some names, as `target` or `.git`, are answered and not entered.
+/// A callback by which directories of some names are answered and not entered.
+///
+/// ```text
+/// let mut names = Vec::new(alloc);
+/// names.push(String::from_str(alloc, "target")?)?;
+/// names.push(String::from_str(alloc, ".git")?)?;
+/// let walk = walk.process_read_dir(SkipNames::new(names));
+/// ```
+///
+/// Wherever a directory of one of these names is listed, it is answered, and nothing below it is. Nothing else changes:
+/// files of these names, other directories and errors are answered as without the callback. The root is entered
+/// whatever its name. A link that gave way to a directory counts by the link's name.
+///
+/// A name is the whole last part of a path, and is compared byte for byte; there are no patterns. Hidden names are left
+/// out by the walk itself unless it is told otherwise, so `.git` matters after `skip_hidden(false)` alone.
+///
+/// Each entry is compared with each name until one is equal. No memory is taken, and nothing is refused.
 #[derive(Drop)]
 pub struct SkipNames<A: Allocator + Copy = Global> {
     names: Vec<String<A>, A>,
@@ -18,7 +34,7 @@ pub struct SkipNames<A: Allocator + Copy = Global> {
 impl<A: Allocator + Copy> SkipNames<A> {
     ghost use Rattle.jwalk_process.specs.SkipNames.{names_of};
 
-    /// The callback that skips directories of these names.
+    /// The callback that skips directories of these names. With no names it changes nothing.
     pub fn new(names: Vec<String<A>, A>) -> Self
         ensures { names_of result ≡ map string_bytes names.items }
     {
@@ -76,8 +92,7 @@ impl<C: ClientState, A: Allocator + Copy> ProcessReadDir<C, A> for SkipNames<A> 
     ) -> Result<(), AllocError>
         ensures never_refuses { IsOk result }
         ensures state { _state.new ≡ _state.old }
-        ensures list {
-            map item list.new.items ≡ skipped_list (names_of self.now) depth (map item list.old.items) }
+        ensures list { map item list.new.items ≡ skipped_list (names_of self.now) depth (map item list.old.items) }
     {
         if depth.is_some() {
             skip_all(&self.names, list);
