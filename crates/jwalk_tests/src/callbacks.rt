@@ -4,7 +4,7 @@ ghost use Rattle.jwalk.specs.WalkDir.{callback_of};
 use crate::lines::{Builder, builder, lines_of, push_line};
 use crate::trees::{Step, grouped_tree, tree};
 use jwalk::file_system::MemoryFs;
-use jwalk::read_dir::ProcessReadDir;
+use jwalk::read_dir::{ByFn, FilterEntry, ProcessReadDir, SkipNames};
 use jwalk::{DirEntry, Error, WalkDirGeneric};
 use proved_walk::marked::walk_marked;
 use std::alloc::{AllocError, Global};
@@ -106,6 +106,67 @@ fn entries_that_are_dropped(rt: HostRuntime) -> Result<(), Fail> {
         groups_dropped(rt.alloc())?.as_str(),
         "0 d /t; 1 f /t/a.txt; 1 f /t/b.txt; 1 f /t/c.txt"
     );
+    Ok(())
+}
+
+// What a walk by name from a root answers where directories of these names aren't entered.
+fn skipping(alloc: Global, root: &str, skipped: &[&str]) -> Result<String, Fail> {
+    let mut names = Vec::new(alloc);
+    for name in skipped {
+        names.push(String::from_str(alloc, name)?)?;
+    }
+    let walk = builder(alloc, grouped_tree(alloc)?, root)?.sort(true);
+    Ok(text_of(alloc, walk.process_read_dir(SkipNames::new(names)))?)
+}
+
+#[test]
+fn directories_skipped_by_name(rt: HostRuntime) -> Result<(), Fail> {
+    let names = ["a.txt", "group 1", "group 2"];
+    assert_eq!(rt;
+        skipping(rt.alloc(), "/t", &names)?.as_str(),
+        "0 d /t; 1 f /t/a.txt; 1 f /t/b.txt; 1 f /t/c.txt; 1 d /t/group 1; 1 d /t/group 2"
+    );
+    assert_eq!(rt;
+        skipping(rt.alloc(), "/t/group 2", &names)?.as_str(),
+        "0 d /t/group 2; 1 f /t/group 2/e.txt"
+    );
+    Ok(())
+}
+
+// What a walk by name from a root answers whose directories are left out.
+fn files_alone(alloc: Global, root: &str) -> Result<String, Fail> {
+    let walk = builder(alloc, grouped_tree(alloc)?, root)?.sort(true);
+    let filter = FilterEntry::new(|depth, name, file_type| {
+        depth == 1 && name != "b.txt" && file_type.is_file()
+    });
+    Ok(text_of(alloc, walk.process_read_dir(filter))?)
+}
+
+#[test]
+fn entries_kept_by_a_test(rt: HostRuntime) -> Result<(), Fail> {
+    assert_eq!(rt;
+        files_alone(rt.alloc(), "/t")?.as_str(),
+        "0 d /t; 1 f /t/a.txt; 1 f /t/c.txt"
+    );
+    Ok(())
+}
+
+// What the walk of a group answers whose callback was made of a closure with its types written.
+fn by_written_types(alloc: Global) -> Result<String, Fail> {
+    let nothing_below = ByFn::new(
+        |depth: Option<usize>, _path: &str, _state: &mut (), list: &mut Items| {
+            if depth.is_some() {
+                list.clear();
+            }
+            Ok(())
+        },
+    );
+    Ok(text_of(alloc, sorted(alloc)?.process_read_dir(nothing_below))?)
+}
+
+#[test]
+fn a_closure_made_a_callback_before_the_walk(rt: HostRuntime) -> Result<(), Fail> {
+    assert_eq!(rt; by_written_types(rt.alloc())?.as_str(), "0 d /t");
     Ok(())
 }
 
