@@ -1,5 +1,5 @@
 -- What the callbacks make of a small list, and walks with them over a small tree, row by row.
-use Rattle.std.specs.Prelude.{◌≡◌, ℕ, ◌==◌, Bool, true, false, not, ◌&&◌, List, [], ◌∷◌, map, Option, Some, None, Ok, Err, bytes_eq, codes, refl}
+use Rattle.std.specs.Prelude.{◌≡◌, ℕ, ◌==◌, Bool, true, false, not, ◌&&◌, List, [], ◌∷◌, map, Some, None, Ok, Err, bytes_eq, codes, refl}
 use Rattle.std.specs.Fmt.{digits}
 use Rattle.std.specs.declared.io.ErrorKind.TheVariants as kind
 use Rattle.walk_model.specs.declared.file_type.FileType.{FileType}
@@ -9,7 +9,7 @@ use Rattle.walk_model.specs.Paths.{join}
 use Rattle.walk_model.specs.Error.{io}
 use Rattle.walk_model.specs.Entry.{Item, children_at}
 use Rattle.walk_model.specs.ReadDir.{Reading}
-use Rattle.walk_model.specs.Job.{Job, Processing}
+use Rattle.walk_model.specs.Job.{Processing}
 use Rattle.walk_model.specs.Listing.{below}
 use Rattle.walk_model.specs.Lines.{line_of}
 use Rattle.walk_model.specs.TreeRows.{d, f}
