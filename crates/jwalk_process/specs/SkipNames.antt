@@ -62,7 +62,3 @@ skipping names = record {
 -- the callback makes of lists what is given
 abbrev pub Skips : {A R E : Type 0} → SkipNames A → Given R E → Type 0
 Skips it given = (depth : Option ℕ) (path : List ℕ) (state : _) (list : _) → given.processed depth path state list ≡ skips (names_of it) depth path state list
-
--- it makes of them what is given where directories of its names aren't entered
-pub skipping-Skips : (R E : Type 0) {A : Type 0} (it : SkipNames A) → Skips {R = R} {E = E} it (skipping (names_of it))
-skipping-Skips R E it depth path state list = refl
