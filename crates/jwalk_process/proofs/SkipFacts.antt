@@ -5,7 +5,6 @@ use Rattle.std.specs.List.{list_any}
 use Rattle.std.proofs.lemmas.List.{map-set, get_or-map, length-map, take_all, drop_all}
 use Rattle.std.proofs.lemmas.List.Edits.{map_over_more}
 use Rattle.walk_model.specs.Entry.{Item}
-use Rattle.walk_model.specs.ReadDir.{Reading}
 use Rattle.walk_model.specs.Counted.{entry_by, item_by, reading_by}
 use Rattle.jwalk_process.specs.SkipNames.{is_one_of, skipped_item, skips}
 

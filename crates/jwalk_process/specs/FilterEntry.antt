@@ -1,5 +1,5 @@
 -- Entries that are kept where a test of them is true.
-use Rattle.std.specs.Prelude.{◌≡◌, ℕ, Bool, true, false, List, [], ◌∷◌, map, Option, Some, None, Ok, Err, cond, refl}
+use Rattle.std.specs.Prelude.{◌≡◌, ℕ, Bool, true, false, List, [], ◌∷◌, Option, Some, None, Ok, Err, cond}
 use Rattle.std.specs.Borrow.{Bor}
 use Rattle.std.specs.List.{filter}
 use Rattle.std.specs.List.Retain.{IsFiltered}
@@ -67,10 +67,6 @@ module _ (answers : ℕ → Bor (List ℕ) → FileType → Bool → Type 0) whe
   abbrev pub FiltersAs : {R E : Type 0} → Given R E → Type 0
   FiltersAs given = (test : Test) × IsTest test
       × ((depth : Option ℕ) (path : List ℕ) (state : _) (list : _) → given.processed depth path state list ≡ filters test depth path state list)
-
-  -- they are those of a test, and what is given filters by it
-  pub filtering-FiltersAs : (R E : Type 0) (test : Test) → IsTest test → FiltersAs {R = R} {E = E} (filtering test)
-  filtering-FiltersAs R E test is = (test, is, λ depth path state list. refl)
 
   module _ {R E : Type 0} where
     -- whether an item stays is an answer where it is an entry; an error stays

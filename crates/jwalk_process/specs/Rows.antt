@@ -1,5 +1,6 @@
 -- What the callbacks make of a small list, and walks with them over a small tree, row by row.
-use Rattle.std.specs.Prelude.{◌≡◌, ℕ, ◌==◌, Bool, true, false, not, ◌&&◌, List, [], ◌∷◌, map, Option, Some, None, Ok, Err, bytes_eq, codes, refl}
+use Rattle.std.specs.Prelude.{◌≡◌, ℕ, ◌==◌, Bool, true, false, not, ◌&&◌, List, [], ◌∷◌, map, Some, None, Ok, Err, bytes_eq, codes, refl}
+use Rattle.std.specs.Borrow.{Bor}
 use Rattle.std.specs.Fmt.{digits}
 use Rattle.std.specs.declared.io.ErrorKind.TheVariants as kind
 use Rattle.walk_model.specs.declared.file_type.FileType.{FileType}
@@ -9,14 +10,15 @@ use Rattle.walk_model.specs.Paths.{join}
 use Rattle.walk_model.specs.Error.{io}
 use Rattle.walk_model.specs.Entry.{Item, children_at}
 use Rattle.walk_model.specs.ReadDir.{Reading}
-use Rattle.walk_model.specs.Job.{Job, Processing}
+use Rattle.walk_model.specs.Job.{Processing}
 use Rattle.walk_model.specs.Listing.{below}
 use Rattle.walk_model.specs.Lines.{line_of}
 use Rattle.walk_model.specs.TreeRows.{d, f}
 use Rattle.walk_model.specs.Walk.{whole_walk}
 use Rattle.walk_model.specs.WalkRows.{tree_by, sorted}
-use Rattle.jwalk_process.specs.SkipNames.{skips}
-use Rattle.jwalk_process.specs.FilterEntry.{Test, filters}
+use Rattle.jwalk_process.specs.declared.skip_names.SkipNames.{SkipNames}
+use Rattle.jwalk_process.specs.SkipNames.{names_of, skips, skipping, Skips}
+use Rattle.jwalk_process.specs.FilterEntry.{Test, filters, filtering, IsTest, FiltersAs}
 
 -- states that say nothing
 abbrev Nothing : Type 0
@@ -98,3 +100,10 @@ walk_from_a_skipped_name = refl
 walk_from_a_dropped_name : walk_with (filters no_target) (codes "/r/target") ≡ codes "0 d /r/target\n" ∷ codes "1 f /r/target/o\n" ∷ []
 unfolding whole_walk below digits
 walk_from_a_dropped_name = refl
+
+-- A callback that skips makes of lists what `skipping` gives, and one whose answers are a test's what `filtering` gives.
+skipping_is_made : (R E : Type 0) {A : Type 0} (it : SkipNames A) → Skips {R = R} {E = E} it (skipping (names_of it))
+skipping_is_made R E it depth path state list = refl
+
+filtering_is_made : (R E : Type 0) (answers : ℕ → Bor (List ℕ) → FileType → Bool → Type 0) (test : Test) → IsTest answers test → FiltersAs answers {R = R} {E = E} (filtering test)
+filtering_is_made R E answers test is = (test, is, λ depth path state list. refl)

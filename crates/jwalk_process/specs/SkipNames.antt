@@ -2,7 +2,7 @@
 use Rattle.std.specs.Prelude.{◌≡◌, ℕ, Bool, true, false, List, [], ◌∷◌, map, Option, Some, None, Ok, Err, if◌then◌else◌, cond, bytes_eq, string_bytes, refl}
 use Rattle.std.specs.List.{list_any}
 use Rattle.walk_model.specs.Entry.{Entry, Item, AtDepth}
-use Rattle.walk_model.specs.ReadDir.{Reading, list_depth}
+use Rattle.walk_model.specs.ReadDir.{list_depth}
 use Rattle.walk_model.specs.Counted.{blank}
 use Rattle.walk_model.specs.Job.{Processing, KeepsDepthsOf}
 use Rattle.jwalk_read.specs.Given.{Given}
@@ -62,7 +62,3 @@ skipping names = record {
 -- the callback makes of lists what is given
 abbrev pub Skips : {A R E : Type 0} → SkipNames A → Given R E → Type 0
 Skips it given = (depth : Option ℕ) (path : List ℕ) (state : _) (list : _) → given.processed depth path state list ≡ skips (names_of it) depth path state list
-
--- it makes of them what is given where directories of its names aren't entered
-pub skipping-Skips : (R E : Type 0) {A : Type 0} (it : SkipNames A) → Skips {R = R} {E = E} it (skipping (names_of it))
-skipping-Skips R E it depth path state list = refl
