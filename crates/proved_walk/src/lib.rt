@@ -2,4 +2,5 @@
 #![tactic(auto)]
 
 pub mod batches;
+pub mod hands_on_names;
 pub mod whole;
