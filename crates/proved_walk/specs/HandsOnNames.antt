@@ -1,6 +1,6 @@
 -- What the callback makes of lists whose states count by their texts.
 use Rattle.std.specs.Prelude.{ℕ, true, false, cond, List, [], ◌∷◌, map, filter, Option, Some, None, option_map, is_some, String, string_bytes, Ok, Err}
-use Rattle.jwalk.specs.walk_model.Entry.{Children, Entry, Item, has_directory, AtDepth}
+use Rattle.jwalk.specs.walk_model.Entry.{Children, Entry, Item, has_directory, path_of, AtDepth}
 use Rattle.jwalk.specs.walk_model.ReadDir.{list_depth}
 use Rattle.jwalk.specs.walk_model.Counted.{Worth, blank, bytes}
 use Rattle.jwalk.specs.walk_model.Job.{Job, Processing}
@@ -57,3 +57,8 @@ names_handed_on = record {
 -- readings of a file system with this callback, in the order of names
 abbrev pub job_handing_on : Functions → Job Worth Worth
 job_handing_on fs = record { fs = fs; options = with_sort true defaults; processed = handed_on; default = blank }
+
+-- an answer's path and its state; an error has none
+abbrev pub path_and_state : Item Worth Worth → Option (List ℕ × Worth)
+path_and_state (Ok e) = Some (path_of e, e.client_state)
+path_and_state (Err f) = None

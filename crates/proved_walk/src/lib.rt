@@ -3,4 +3,5 @@
 
 pub mod batches;
 pub mod hands_on_names;
+pub mod small_tree;
 pub mod whole;
