@@ -3,5 +3,7 @@
 
 pub mod batches;
 pub mod counted;
+pub mod hands_on_names;
 pub mod marked;
+pub mod small_tree;
 pub mod whole;

@@ -1,0 +1,2 @@
+pub mod HandedFacts
+pub mod SmallTreeFacts

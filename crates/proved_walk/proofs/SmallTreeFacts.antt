@@ -1,0 +1,44 @@
+-- Trees built step by step.
+use Rattle.std.proofs.Common.{◌≡◌, ◌∙◌, List, [], ◌∷◌, ◌++◌, map, codes, Some, Result, Ok, Err, refl, ap, subst}
+use Rattle.jwalk.specs.walk_model.Tree.{Tree, Refusal, only_root, functions_of}
+use Rattle.jwalk.specs.walk_model.TreeRows.{Step, built}
+use Rattle.jwalk.specs.memory_fs.MemoryFs.{IsSameTree, IsBuilt}
+use Rattle.jwalk.specs.walk_model.WalkRows.{tree_a, tree_by}
+use Rattle.jwalk.specs.walk_model.Counted.{blank, bytes}
+use Rattle.jwalk.specs.walk_model.Listing.{below}
+use Rattle.jwalk.specs.walk_model.Walk.{whole_walk}
+use Rattle.proved_walk.specs.HandsOnNames.{job_handing_on, path_and_state}
+use Rattle.proved_walk.specs.SmallTree.{IsBuiltBy}
+
+-- trees that have the same at each place are the same
+same_tree : (old new : Tree) → IsSameTree old new → new ≡ old
+same_tree old new same = λ i. λ place. same place i
+
+-- the tree that a step left is the one that it gave
+left : (old new : Tree) (given : Result Tree Refusal) → IsBuilt given new → new ≡ built old ((λ tree. given) ∷ [])
+left old new (Ok tree) same = same_tree tree new same
+left old new (Err refusal) same = absurd same
+
+-- one more step, in front of which others were
+behind : (steps : List Step) (step : Step) (start old new : Tree) → old ≡ built start steps → IsBuilt (step old) new → new ≡ built start (steps ++ step ∷ [])
+behind [] step start old new is now = subst (λ t. new ≡ built t (step ∷ [])) is (left old new (step old) now)
+behind (first ∷ steps) step start old new is now = behind steps step (built start (first ∷ [])) old new is now
+
+pub none : (tree : Tree) → IsSameTree only_root tree → IsBuiltBy [] tree
+unfolding IsBuiltBy
+none tree same = same_tree only_root tree same
+
+pub one_more : (steps : List Step) (step : Step) (old new : Tree) → IsBuiltBy steps old → IsBuilt (step old) new → IsBuiltBy (steps ++ step ∷ []) new
+unfolding IsBuiltBy
+one_more steps step old new is now = behind steps step only_root old new is now
+
+names_over_tree_a : map path_and_state (whole_walk (job_handing_on (tree_by tree_a)) (codes "/t") blank)
+    ≡ Some (codes "/t", blank) ∷ Some (codes "/t/group 1", bytes (codes "t")) ∷ Some (codes "/t/group 2", bytes (codes "t")) ∷ []
+unfolding whole_walk below
+names_over_tree_a = refl
+
+-- what the walk that hands names on answers over the tree that the steps build
+pub names_walked : (tree : Tree) → IsBuiltBy tree_a tree → map path_and_state (whole_walk (job_handing_on (functions_of tree)) (codes "/t") blank)
+    ≡ Some (codes "/t", blank) ∷ Some (codes "/t/group 1", bytes (codes "t")) ∷ Some (codes "/t/group 2", bytes (codes "t")) ∷ []
+unfolding IsBuiltBy
+names_walked tree is = ap (λ t. map path_and_state (whole_walk (job_handing_on (functions_of t)) (codes "/t") blank)) is ∙ names_over_tree_a

@@ -1,0 +1,2 @@
+pub mod HandsOnNames
+pub mod SmallTree
