@@ -1,5 +1,5 @@
 -- Lists of which some items are left.
-use Rattle.std.proofs.Common.{◌≡◌, ℕ, Bool, true, false, cond, List, [], ◌∷◌, map, Option, Some, None, Ok, Err, refl, ap, sym, subst, ◌∙◌, is_some, Bor, true≢false}
+use Rattle.std.proofs.Common.{◌≡◌, ℕ, Bool, true, false, cond, List, [], ◌∷◌, map, Option, Some, None, Ok, Err, refl, ap, sym, subst, ◌∙◌, Bor}
 use Rattle.std.specs.List.{filter, items_where_true}
 use Rattle.std.specs.List.Retain.{IsFiltered, ReturnsInTurn}
 use Rattle.std.proofs.lemmas.List.{length-map}
@@ -8,7 +8,7 @@ use Rattle.walk_model.specs.declared.file_type.FileType.{FileType}
 use Rattle.walk_model.specs.Entry.{Item, AtDepth}
 use Rattle.walk_model.specs.ReadDir.{list_depth}
 use Rattle.walk_model.specs.Counted.{item_by, reading_by}
-use Rattle.jwalk_process.specs.FilterEntry.{Test, stays, filtered_list, filters, IsTest, IsAnswered, IsFilteredBy, IsLeft}
+use Rattle.jwalk_process.specs.FilterEntry.{Test, stays, filtered_list, filters, IsTest, IsAnswered, IsLeft}
 
 module _ {X Y F : Type 0} (view : X → Y) (R : F → X → Bool → F → Type 0) (S : Y → Bool → Type 0) (f : F) (says : (x : X) (b : Bool) (q : F) → R f x b q → S (view x) b × (q ≡ f)) where
   viewed-turn : (q : F) (bs : List Bool) (xs : List X) → ReturnsInTurn R f bs xs q → ReturnsInTurn {P = Unit {0}} (λ _ y b _. S y b) tt bs (map view xs) tt
@@ -39,10 +39,6 @@ module _ {R E : Type 0} (answers : ℕ → Bor (List ℕ) → FileType → Bool 
   pub left-AtDepth : (depth : Option ℕ) (old new : List (Item R E)) → IsLeft answers depth old new → AtDepth (list_depth depth) old → AtDepth (list_depth depth) new
   left-AtDepth None old new left h = rw left h
   left-AtDepth (Some depth) old new left h = rw left.4 (some_left (list_depth (Some depth)) left.0 old h)
-
-  pub left_below_root : (depth : Option ℕ) (old new : List (Item R E)) → is_some depth ≡ true → IsFilteredBy answers old new → IsLeft answers depth old new
-  left_below_root None old new e h = absurd (true≢false (sym e))
-  left_below_root (Some depth) old new e h = h
 
   module _ (test : Test) (is : IsTest answers test) where
     by_test : (x : Item R E) (b : Bool) → IsAnswered answers x b → b ≡ stays test x
