@@ -5,5 +5,6 @@ pub mod batches;
 pub mod counted;
 pub mod hands_on_names;
 pub mod marked;
+pub mod skipping;
 pub mod small_tree;
 pub mod whole;
