@@ -1,2 +1,3 @@
 pub mod HandedFacts
 pub mod SmallTreeFacts
+pub mod RootAloneFacts

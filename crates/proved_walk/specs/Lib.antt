@@ -1,3 +1,4 @@
 pub mod HandsOnNames
 pub mod SmallTree
 pub mod Skipping
+pub mod RootAlone

@@ -5,6 +5,7 @@ pub mod batches;
 pub mod counted;
 pub mod hands_on_names;
 pub mod marked;
+pub mod root_alone;
 pub mod skipping;
 pub mod small_tree;
 pub mod whole;

@@ -1,0 +1,23 @@
+use Rattle.std.proofs.Common.{◌-◌, ◌^◌, ◌≡◌, ◌∙◌, refl, sym, ap, map, subst, arith}
+use Rattle.jwalk.specs.walk_model.Options.{defaults}
+use Rattle.jwalk.specs.jwalk_read.Entry.{item}
+use Rattle.jwalk.specs.WalkDir.{file_system_of, options_of}
+use Rattle.jwalk.proofs.WholeFacts.{whole_filled}
+use Rattle.proved_walk.specs.RootAlone.{emptied, root_alone}
+use Rattle.proved_walk.proofs.RootAloneFacts.{made_empty}
+use Rattle.proved_walk.proofs.root_alone.walk_root_alone.Goals as goal
+
+pub returns : goal.returns
+returns g c = λ fixed none.
+    let walk = c.process_read_dir_by-walk.result in
+    let built = c.process_read_dir_by-walk.ensures.rest in
+    let found = c.fill.new.out in
+    let begun = c.into_iter.ensures in
+    let file_system : file_system_of walk ≡ c.args.fs = built.file_system ∙ c.new.ensures.file_system in
+    let options : options_of walk ≡ defaults = built.options ∙ c.new.ensures.options in
+    let root = built.root ∙ c.new.ensures.root in
+    let fixed_there = subst g.S.FileSystem.IsFixed (sym file_system) fixed in
+    let whole = whole_filled _ _ _ _ root_alone walk c.into_iter.result c.fill.new.self (2 ^ 64 - 1) c.in_ok-fill.field-0 c.new-found.result.items found.items begun.starts begun.holds
+    (record { file_system = fixed_there; callback = λ depth path state state' list list' answer deep gives. made_empty depth path answer state state' (map item list.items) (map item list'.items) (ap (λ v. map item v.items) (sym gives.9) ∙ gives.10.1.1 ∙ ap (λ v. emptied depth (map item v.items)) gives.7); clones = λ x y is. refl; default = λ x is. refl })
+    c.in_ok-fill.ensures c.new-found.ensures.items (omega (arith, found.ok.0, found.ok.1, found.small)) none in
+    rw (file_system, options, root) at whole
