@@ -6,7 +6,12 @@ use crate::trees::{Step, grouped_tree, tree};
 use jwalk::file_system::MemoryFs;
 use jwalk::read_dir::{ByFn, FilterEntry, ProcessReadDir, SkipNames};
 use jwalk::{DirEntry, Error, WalkDirGeneric};
+use proved_walk::counted::Counted;
 use proved_walk::marked::walk_marked;
+use proved_walk::root_alone::walk_root_alone;
+use proved_walk::skipping::small_tree_without_group_1;
+use proved_walk::small_tree::names_in_small_tree;
+use proved_walk::whole::walk_whole;
 use std::alloc::{AllocError, Global};
 use std::cell::Cell;
 use std::sync::Arc;
@@ -202,6 +207,56 @@ fn a_directory_that_was_moved_to_a_file(rt: HostRuntime) -> Result<(), Fail> {
         "0 d /t; 1 f /t/a.txt; 1 f /t/b.txt; 1 f /t/c.txt; 2 f /t/group 1/d.txt; 1 d /t/group 1; \
          1 d /t/group 2; 2 f /t/group 2/e.txt"
     );
+    Ok(())
+}
+
+// Each path with the state of its entry, which is a text or nothing.
+fn names(alloc: Global) -> Result<String, Fail> {
+    let mut text = String::new(alloc);
+    for answer in names_in_small_tree(alloc)? {
+        if let Ok(entry) = answer {
+            text.push_str(entry.path()?.as_str())?;
+            text.push_str(" ")?;
+            text.push_str(entry.client_state.as_deref().unwrap_or("none"))?;
+            text.push_str(";")?;
+        }
+    }
+    Ok(text)
+}
+
+#[test]
+fn names_handed_on_to_the_directories_below(rt: HostRuntime) -> Result<(), Fail> {
+    let wanted = "/t none;/t/group 1 t;/t/group 2 t;";
+    assert_eq!(rt; names(rt.alloc())?.as_str(), wanted);
+    Ok(())
+}
+
+#[test]
+fn a_small_tree_without_one_group(rt: HostRuntime) -> Result<(), Fail> {
+    let found = small_tree_without_group_1(rt.alloc())?;
+    let lines = lines_of(rt.alloc(), found.as_slice())?;
+    assert_eq!(rt;
+        lines.as_str(),
+        "0 d /t; 1 f /t/a.txt; 1 f /t/b.txt; 1 f /t/c.txt; 1 d /t/group 1; 1 d /t/group 2; \
+         2 f /t/group 2/e.txt"
+    );
+    Ok(())
+}
+
+#[test]
+fn a_root_alone(rt: HostRuntime) -> Result<(), Fail> {
+    let root = String::from_str(rt.alloc(), "/t")?;
+    let found = walk_root_alone(rt.alloc(), grouped_tree(rt.alloc())?, root)?;
+    assert_eq!(rt; lines_of(rt.alloc(), found.as_slice())?.as_str(), "0 d /t");
+    Ok(())
+}
+
+#[test]
+fn a_file_system_of_ones_own_that_counts(rt: HostRuntime) -> Result<(), Fail> {
+    let fs = Counted::new(grouped_tree(rt.alloc())?);
+    let found = walk_whole(rt.alloc(), builder(rt.alloc(), &fs, "/t")?)?;
+    assert_eq!(rt; found.len(), 8);
+    assert_eq!(rt; fs.listings(), 3);
     Ok(())
 }
 
