@@ -42,7 +42,7 @@ module _ {R E : Type 0} (answers : ℕ → Bor (List ℕ) → FileType → Bool 
 
   module _ (test : Test) (is : IsTest answers test) where
     by_test : (x : Item R E) (b : Bool) → IsAnswered answers x b → b ≡ stays test x
-    by_test (Ok e) b k = is e.depth k.0 e.file_type b k.2 ∙ ap (λ n. test e.depth n e.file_type) k.1
+    by_test (Ok e) b k = is e.depth k.1 e.file_type b k.0 k.3 k.4 ∙ ap (λ n. test e.depth n e.file_type) k.2
     by_test (Err f) b k = k
 
     -- where every answer is a test's, that filters

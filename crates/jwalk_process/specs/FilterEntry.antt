@@ -1,5 +1,5 @@
 -- Entries that are kept where a test of them is true.
-use Rattle.std.specs.Prelude.{◌≡◌, ℕ, Bool, true, false, List, [], ◌∷◌, Option, Some, None, Ok, Err, cond}
+use Rattle.std.specs.Prelude.{◌≡◌, ◌<◌, ◌^◌, IsUtf8, ℕ, Bool, true, false, List, [], ◌∷◌, Option, Some, None, Ok, Err, cond}
 use Rattle.std.specs.Borrow.{Bor}
 use Rattle.std.specs.List.{filter}
 use Rattle.std.specs.List.Retain.{IsFiltered}
@@ -59,9 +59,9 @@ filtering test = record {
 }
 
 module _ (answers : ℕ → Bor (List ℕ) → FileType → Bool → Type 0) where
-  -- every answer is that of a test
+  -- every answer, at what a depth and a name may be, is that of a test
   abbrev pub IsTest : Test → Type 0
-  IsTest test = (depth : ℕ) (name : Bor (List ℕ)) (type : FileType) (answer : Bool) → answers depth name type answer → answer ≡ test depth name.now type
+  IsTest test = (depth : ℕ) (name : Bor (List ℕ)) (type : FileType) (answer : Bool) → depth < 2 ^ 64 → IsUtf8 name.now → answers depth name type answer → answer ≡ test depth name.now type
 
   -- the callback makes of lists what is given: its answers are those of a test, by which what is given filters
   abbrev pub FiltersAs : {R E : Type 0} → Given R E → Type 0
@@ -71,7 +71,7 @@ module _ (answers : ℕ → Bor (List ℕ) → FileType → Bool → Type 0) whe
   module _ {R E : Type 0} where
     -- whether an item stays is an answer where it is an entry; an error stays
     abbrev pub IsAnswered : Item R E → Bool → Type 0
-    IsAnswered (Ok e) answer = (name : Bor (List ℕ)) × (name.now ≡ e.file_name) × answers e.depth name e.file_type answer
+    IsAnswered (Ok e) answer = (e.depth < 2 ^ 64) × (name : Bor (List ℕ)) × (name.now ≡ e.file_name) × IsUtf8 name.now × answers e.depth name e.file_type answer
     IsAnswered (Err f) answer = answer ≡ true
 
     -- those items are left, in order, that stay by such answers
