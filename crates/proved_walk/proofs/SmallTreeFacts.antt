@@ -1,5 +1,7 @@
 -- Trees built step by step.
-use Rattle.std.proofs.Common.{◌≡◌, ◌∙◌, ℕ, true, List, [], ◌∷◌, ◌++◌, map, codes, Some, Result, Ok, Err, refl, ap, subst}
+use Rattle.std.proofs.Common.{sym, Bool, false, is_ok, ℕ, zero, suc, ◌+◌, ◌<◌, true, Bor, Option, IsOk, length, take, get_or, arith, ◌≡◌, ◌∙◌, List, [], ◌∷◌, ◌++◌, map, codes, Some, Result, Ok, Err, refl, ap, subst}
+use Rattle.std.specs.Prelude.{◌&&◌}
+use Rattle.std.proofs.lemmas.List.{map-append, take_more}
 use Rattle.jwalk.specs.walk_model.Tree.{Tree, Refusal, only_root, functions_of}
 use Rattle.jwalk.specs.walk_model.TreeRows.{Step, built}
 use Rattle.jwalk.specs.memory_fs.MemoryFs.{IsSameTree, IsBuilt}
@@ -12,7 +14,7 @@ use Rattle.jwalk.specs.walk_model.Options.{defaults, with_sort}
 use Rattle.std.specs.Fmt.{digits}
 use Rattle.proved_walk.specs.Skipping.{job_skipping}
 use Rattle.proved_walk.specs.HandsOnNames.{job_handing_on, path_and_state}
-use Rattle.proved_walk.specs.SmallTree.{IsBuiltBy}
+use Rattle.proved_walk.specs.SmallTree.{step_of, all_go, IsBuiltBy}
 
 -- trees that have the same at each place are the same
 same_tree : (old new : Tree) → IsSameTree old new → new ≡ old
@@ -35,6 +37,27 @@ none tree same = same_tree only_root tree same
 pub one_more : (steps : List Step) (step : Step) (old new : Tree) → IsBuiltBy steps old → IsBuilt (step old) new → IsBuiltBy (steps ++ step ∷ []) new
 unfolding IsBuiltBy
 one_more steps step old new is now = behind steps step only_root old new is now
+
+-- one more line
+pub one_line : (lines : List (Bor (List ℕ) × Option ℕ)) (i : ℕ) (d : Bor (List ℕ) × Option ℕ) (old new : Tree) → i < length lines → IsBuiltBy (map step_of (take i lines)) old → IsBuilt (step_of (get_or lines i d) old) new → IsBuiltBy (map step_of (take (i + 1) lines)) new
+one_line lines i d old new within is now =
+    let more : map step_of (take (i + 1) lines) ≡ map step_of (take i lines) ++ step_of (get_or lines i d) ∷ [] = ap (map step_of) (take_more lines i d within) ∙ map-append step_of (take i lines) (get_or lines i d ∷ []) in
+    subst (λ steps. IsBuiltBy steps new) (sym more) (one_more (map step_of (take i lines)) (step_of (get_or lines i d)) old new is now)
+
+both_of : (a b : Bool) → (a && b) ≡ true → (a ≡ true) × (b ≡ true)
+both_of true b h = (refl, h)
+both_of false b h = let no : false ≡ true = h in cc
+
+goes_at : (start : Tree) (lines : List (Bor (List ℕ) × Option ℕ)) (i : ℕ) (d : Bor (List ℕ) × Option ℕ) → i < length lines → all_go start (map step_of lines) ≡ true → IsOk (step_of (get_or lines i d) (built start (map step_of (take i lines))))
+goes_at start [] i d within go = absurd (omega arith)
+goes_at start (line ∷ lines) zero d within go = (both_of (is_ok (step_of line start)) _ go).0
+goes_at start (line ∷ lines) (suc i) d within go =
+    goes_at (built start (step_of line ∷ [])) lines i d (omega (arith, within)) (both_of (is_ok (step_of line start)) _ go).1
+
+-- where no line is refused, this one isn't
+pub line_goes : (lines : List (Bor (List ℕ) × Option ℕ)) (i : ℕ) (d : Bor (List ℕ) × Option ℕ) (old : Tree) → i < length lines → IsBuiltBy (map step_of (take i lines)) old → all_go only_root (map step_of lines) ≡ true → IsOk (step_of (get_or lines i d) old)
+unfolding IsBuiltBy
+line_goes lines i d old within is go = subst (λ t. IsOk (step_of (get_or lines i d) t)) (sym is) (goes_at only_root lines i d within go)
 
 names_over_tree_a : map path_and_state (whole_walk (job_handing_on (tree_by tree_a)) (codes "/t") blank)
     ≡ Some (codes "/t", blank) ∷ Some (codes "/t/group 1", bytes (codes "t")) ∷ Some (codes "/t/group 2", bytes (codes "t")) ∷ []

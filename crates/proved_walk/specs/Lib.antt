@@ -2,3 +2,4 @@ pub mod HandsOnNames
 pub mod SmallTree
 pub mod Skipping
 pub mod RootAlone
+pub mod Filtering

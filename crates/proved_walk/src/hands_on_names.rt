@@ -1,4 +1,21 @@
-//! A callback of one's own, whose states are texts.
+//! A callback of one's own, with its law and its value.
+//!
+//! A callback is a type with the trait `ProcessReadDir`: the method `process`, which is given each list before the walk
+//! goes on with it, and two ghost lines that tell what a proof may rest on.
+//!
+//! - `IsLawful` says when it may be called. Here that is always, so it is `Unit {0}`, which holds of itself. A callback
+//!   that rests on a fact about its fields has this fact here, and whoever begins a walk with it shows it.
+//! - `Makes` says what it makes of lists, as far as states count. It relates the callback to what is `Given`: how a
+//!   directory's and an entry's state count as a `Worth`, what is made of a list whose states count so, that entries
+//!   keep their depths in it, and what a new entry's state counts as. `HandsOnNames` makes what `names_handed_on`
+//!   gives, which stands with its parts in `specs/HandsOnNames.antt`.
+//!
+//! `process` owes the rest, wherever it succeeds: that the entries of the list keep their depth (`depths`), and that
+//! the state and the list which it leaves count as what is given makes of those it was called with (`made`). Then the
+//! walk is known with its states: see `walk_handing_on_names`.
+//!
+//! A callback of which nothing is to be said has `ghost Makes = { λ _ _. ⊥ };`. It owes the depths alone, and of its
+//! walk is known what holds with every callback: order, depths, and what is read.
 ghost use Rattle.std.specs.Prelude.{◌≡◌, IfOk, OnOk, map, filter, string_bytes};
 ghost use Rattle.jwalk.specs.walk_model.Entry.{has_directory};
 ghost use Rattle.jwalk.specs.walk_model.Counted.{blank};
@@ -14,13 +31,15 @@ use jwalk::read_dir::ProcessReadDir;
 use jwalk::{DirEntry, WalkDirGeneric};
 use std::alloc::{AllocError, Global};
 
-/// States that are texts, of a directory and of an entry.
+/// States that are texts, or none: a directory's and an entry's. They start as none.
 pub type Texts = (Option<String>, Option<String>);
 
-/// An item of a list.
+/// An item of a list, and an answer of a walk.
 pub type Found = Answer<DirEntry<Texts>>;
 
-/// Keeps the directories alone, and hands names on.
+/// The callback: of each list it keeps the directories alone. Each gets a copy of the list's state as its own, and its
+/// name as the state that the list below it begins with. So an entry's state is the name of the directory above it, and
+/// the root has the state that the walk begins with.
 #[derive(Clone, Copy, Debug)]
 pub struct HandsOnNames;
 
@@ -92,9 +111,14 @@ impl ProcessReadDir<Texts, Global> for HandsOnNames {
     }
 }
 
-/// All that the walk with this callback answers from a root, by name. Over a file system that always answers the same,
-/// as a `MemoryFs` does, it is the whole walk of the definition, with its states, unless one of the answers tells of
-/// want of memory.
+/// All that a walk with this callback answers from a root, in the order of names, where the root has no state. Over a
+/// file system that always answers the same, as a `MemoryFs` does, it is the whole walk of the definition, with its
+/// states, unless one of the answers tells of want of memory.
+///
+/// Its proof shows what a promise on values takes as given (`IsSteady`): besides the file system and the callback, that
+/// a clone of a text counts as that text, and that an entry begins with no text.
+///
+/// Fails where memory is refused for the answers themselves.
 pub fn walk_handing_on_names<S: FileSystem>(
     alloc: Global,
     fs: S,

@@ -3,6 +3,7 @@
 
 pub mod batches;
 pub mod counted;
+pub mod filtering;
 pub mod hands_on_names;
 pub mod marked;
 pub mod root_alone;

@@ -1,42 +1,75 @@
-//! A small tree, and what a walk that hands names on answers over it.
-ghost use Rattle.std.specs.Prelude.{◌≡◌, IfOk, IfErr, map, Some, codes, [], ◌∷◌};
+//! A small tree, and what a walk that hands names on answers over it: the promise of `walk_handing_on_names`, computed.
+ghost use Rattle.std.specs.Prelude.{◌≡◌, IfOk, IfErr, OnOk, IsOk, map, Some, true, codes, [], ◌∷◌};
 ghost use Rattle.jwalk.specs.walk_model.Counted.{blank, bytes};
+ghost use Rattle.jwalk.specs.walk_model.Tree.{only_root};
 ghost use Rattle.jwalk.specs.walk_model.WalkRows.{tree_a};
-ghost use Rattle.jwalk.specs.memory_fs.MemoryFs.{tree_of};
+ghost use Rattle.jwalk.specs.memory_fs.MemoryFs.{tree_of, IsBuilt};
 ghost use Rattle.jwalk.specs.jwalk_read.Given.{counted_list};
 ghost use Rattle.jwalk.specs.DirEntryIter.{NoneRefused};
 ghost use Rattle.proved_walk.specs.HandsOnNames.{names_handed_on, path_and_state};
-ghost use Rattle.proved_walk.specs.SmallTree.{IsBuiltBy};
+ghost use Rattle.proved_walk.specs.SmallTree.{step_at, step_of, all_go, IsBuiltBy};
 
 use crate::hands_on_names::{Found, walk_handing_on_names};
 use jwalk::file_system::{BuildError, MemoryFs};
 use std::alloc::Global;
 
-/// The tree.
-pub fn small_tree(alloc: Global) -> Result<MemoryFs, BuildError>
-    ensures { IfOk result (λ fs. IsBuiltBy tree_a (tree_of fs)) }
+/// A line of a tree: a path, and the length of the file there, or none where it is a directory.
+type Line<'a> = (&'a str, Option<u64>);
+
+/// Adds what a line says. Where the tree has room for it, only memory can be refused.
+fn add_line(fs: &mut MemoryFs, path: &str, len: Option<u64>) -> Result<(), BuildError>
+    ensures added { OnOk result (IsBuilt (step_at path.now len (tree_of fs.old)) (tree_of fs.new)) }
+    ensures refused { IsOk (step_at path.now len (tree_of fs.old))
+        → IfErr result (λ error. error ≡ BuildError.Memory) }
+{
+    match len {
+        None => fs.add_dir(path),
+        Some(len) => fs.add_file(path, len),
+    }
+}
+
+/// The tree that lines build. Where each has its place, only memory can be refused.
+fn tree_by(alloc: Global, lines: &[Line<'_>]) -> Result<MemoryFs, BuildError>
+    ensures built { IfOk result (λ fs. IsBuiltBy (map step_of lines.now) (tree_of fs)) }
+    ensures refused { all_go only_root (map step_of lines.now) ≡ true
+        → IfErr result (λ error. error ≡ BuildError.Memory) }
 {
     let mut fs = MemoryFs::new(alloc);
-    fs.add_dir("/t")?;
-    fs.add_file("/t/c.txt", 1)?;
-    fs.add_file("/t/a.txt", 2)?;
-    fs.add_dir("/t/group 2")?;
-    fs.add_file("/t/group 2/.hidden_file.txt", 3)?;
-    fs.add_file("/t/group 2/e.txt", 4)?;
-    fs.add_dir("/t/group 1")?;
-    fs.add_file("/t/group 1/d.txt", 5)?;
-    fs.add_file("/t/b.txt", 6)?;
+    for (path, len) in lines {
+        add_line(&mut fs, path, *len)?;
+    }
     Ok(fs)
 }
 
-/// The answers of the walk.
+/// Files and two groups of files below `/t`. Fails only for want of memory.
+pub fn small_tree(alloc: Global) -> Result<MemoryFs, BuildError>
+    ensures built { IfOk result (λ fs. IsBuiltBy tree_a (tree_of fs)) }
+    ensures refused { IfErr result (λ error. error ≡ BuildError.Memory) }
+{
+    let lines = [
+        ("/t", None),
+        ("/t/c.txt", Some(1)),
+        ("/t/a.txt", Some(2)),
+        ("/t/group 2", None),
+        ("/t/group 2/.hidden_file.txt", Some(3)),
+        ("/t/group 2/e.txt", Some(4)),
+        ("/t/group 1", None),
+        ("/t/group 1/d.txt", Some(5)),
+        ("/t/b.txt", Some(6)),
+    ];
+    tree_by(alloc, &lines)
+}
+
+/// What the walk that hands names on answers over this tree, unless one of the answers tells of want of memory: the
+/// three directories, where the root has no state and each group the root's name. Fails only for want of memory.
 pub fn names_in_small_tree(alloc: Global) -> Result<Vec<Found>, BuildError>
-    ensures { IfOk result (λ found. NoneRefused found.items
+    ensures answers { IfOk result (λ found. NoneRefused found.items
         → map path_and_state (counted_list names_handed_on found.items)
         ≡ Some (codes "/t", blank)
         ∷ Some (codes "/t/group 1", bytes (codes "t"))
         ∷ Some (codes "/t/group 2", bytes (codes "t"))
         ∷ []) }
+    ensures refused { IfErr result (λ error. error ≡ BuildError.Memory) }
 {
     let fs = small_tree(alloc)?;
     let root = String::from_str(alloc, "/t")?;

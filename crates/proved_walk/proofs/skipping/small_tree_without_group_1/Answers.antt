@@ -17,4 +17,4 @@ returns c = λ none.
     let options : options_of walk ≡ with_sort true defaults = built.options ∙ c.sort.ensures.options ∙ ap (with_sort true) c.new.ensures.options in
     let root : root_of walk ≡ codes "/t" = built.root ∙ c.sort.ensures.root ∙ c.new.ensures.root ∙ c.in_ok-root.ensures.ok in
     let whole = c.in_ok-walk_skipping.ensures tt none in
-    ap (map line_of) (rw (names, file_system, options, root) at whole) ∙ group_1_skipped (tree_of fs) c.in_ok-small_tree.ensures
+    ap (map line_of) (rw (names, file_system, options, root) at whole) ∙ group_1_skipped (tree_of fs) c.in_ok-small_tree.ensures.built

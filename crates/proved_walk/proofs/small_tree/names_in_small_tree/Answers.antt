@@ -7,9 +7,9 @@ use Rattle.proved_walk.specs.HandsOnNames.{job_handing_on, path_and_state}
 use Rattle.proved_walk.proofs.SmallTreeFacts.{names_walked}
 use Rattle.proved_walk.proofs.small_tree.names_in_small_tree.Goals as goal
 
-pub returns : goal.returns
-returns c = λ none.
+pub returns-clause-answers : goal.returns-clause-answers
+returns-clause-answers c = λ none.
     let tree = tree_of c.in_ok-fs.fs in
     ap (map path_and_state) (c.in_ok-walk_handing_on_names.ensures tt none)
     ∙ ap (λ root. map path_and_state (whole_walk (job_handing_on (functions_of tree)) root blank)) c.in_ok-root.ensures.ok
-    ∙ names_walked tree c.in_ok-fs.ensures
+    ∙ names_walked tree c.in_ok-fs.ensures.built

@@ -1,0 +1,34 @@
+//! Walks whose entries are kept by a test.
+ghost use Rattle.std.specs.Prelude.{◌≡◌, IfOk, string_bytes};
+ghost use Rattle.jwalk.specs.walk_model.Counted.{blank};
+ghost use Rattle.jwalk.specs.walk_model.Walk.{whole_walk};
+ghost use Rattle.jwalk.specs.jwalk_read.Given.{counted_list};
+ghost use Rattle.jwalk.specs.jwalk_process.FilterEntry.{filtering};
+ghost use Rattle.jwalk.specs.DirEntryIter.{NoneRefused};
+ghost use Rattle.proved_walk.specs.Filtering.{no_target, job_without_target};
+
+use jwalk::error::Result as Answer;
+use jwalk::file_system::FileSystem;
+use jwalk::read_dir::FilterEntry;
+use jwalk::{DirEntry, WalkDirGeneric};
+use std::alloc::{AllocError, Global};
+
+/// All that a walk answers which leaves out directories of the name `target` with all below them. Over a file system
+/// that always answers the same it is the whole walk of the definition, unless one of the answers tells of want of
+/// memory.
+pub fn walk_without_target<S: FileSystem>(
+    alloc: Global,
+    fs: S,
+    root: String,
+) -> Result<Vec<Answer<DirEntry<((), ())>>>, AllocError>
+    ensures { IfOk result (λ found. S.IsFixed fs → NoneRefused found.items
+        → counted_list (filtering no_target) found.items
+        ≡ whole_walk (job_without_target (S.functions fs)) (string_bytes root) blank) }
+{
+    let filter =
+        FilterEntry::new(|_depth, name, file_type| name != "target" || !file_type.is_dir());
+    let walk = WalkDirGeneric::<((), ()), _, _, _>::new(fs, root).process_read_dir(filter);
+    let mut found = Vec::new(alloc);
+    walk.into_iter().fill(usize::MAX, &mut found)?;
+    Ok(found)
+}
