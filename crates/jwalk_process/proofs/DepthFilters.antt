@@ -4,10 +4,9 @@ use Rattle.std.specs.Prelude.{◌==◌, Option, Result, OnOk}
 use Rattle.std.specs.List.{filter}
 use Rattle.std.proofs.lemmas.Bool.Decides.{nat_tests}
 use Rattle.walk_model.specs.Entry.{Item, AtDepth}
-use Rattle.walk_model.specs.Counted.{item_by}
 use Rattle.walk_model.specs.ReadDir.{list_depth}
-use Rattle.walk_model.proofs.CountedFacts.{counted-AtDepth}
-use Rattle.jwalk_read.specs.Given.{Given, counted_item, IsProcessed}
+use Rattle.jwalk_read.specs.Given.{Given, IsProcessed}
+use Rattle.jwalk_read.proofs.GivenFacts.{depth_of_made}
 use Rattle.jwalk_process.specs.ByFn.{is_at, Keeps}
 
 test_of : {depth : ℕ} (d : ℕ) → d ≡ depth → (d == depth) ≡ true
@@ -36,12 +35,6 @@ module _ {R E X : Type 0} (view : X → Item R E) (depth : ℕ) where
   none_dropped [] h = refl
   none_dropped (x ∷ xs) h = let k = stays_at x (view x) xs refl h in rw k.0 (ap (λ l. x ∷ l) (none_dropped xs k.1))
 
--- a list is at the depth that it is at when its states are counted
-pub uncounted-AtDepth : {R E V W : Type 0} (view : R → V) (mark : E → W) (depth : ℕ) (l : List (Item R E)) → AtDepth depth (map (item_by view mark) l) → AtDepth depth l
-uncounted-AtDepth view mark depth [] h = tt
-uncounted-AtDepth view mark depth (Ok e ∷ l) h = (h.0, uncounted-AtDepth view mark depth l h.1)
-uncounted-AtDepth view mark depth (Err f ∷ l) h = uncounted-AtDepth view mark depth l h
-
 -- what is kept of a list that was left, by the depth that was counted
 pub keeps : {R E X : Type 0} (view : X → Item R E) (own depth : ℕ) (left kept : List X) → own ≡ depth → kept ≡ filter (λ x. is_at own (view x)) left → Keeps view depth left kept
 keeps view own depth left kept same is =
@@ -54,8 +47,5 @@ pub made_at_depth : {R E X F : Type 0} (view : X → Item R E) (given : Given R 
     → OnOk answer (IsProcessed given depth path state (map view list) state' (map view left)) → Keeps view (list_depth depth) left kept
     → OnOk answer (IsProcessed given depth path state (map view list) state' (map view kept))
 made_at_depth view given depth path (Ok done) state state' list left kept deep made keeps =
-    let before = counted-AtDepth given.read_dir_state given.dir_entry_state (list_depth depth) (map view list) deep in
-    let after = given.keeps_depths depth path (given.read_dir_state state) (map (counted_item given) (map view list)) before in
-    let counted = rw made at after in
-    rw (keeps.all (uncounted-AtDepth given.read_dir_state given.dir_entry_state (list_depth depth) (map view left) counted)) made
+    rw (keeps.all (depth_of_made given depth path (Ok {F = Unit {0}} done) state state' (map view list) (map view left) made deep)) made
 made_at_depth view given depth path (Err failed) state state' list left kept deep made keeps = tt

@@ -1,3 +1,4 @@
 pub mod ListFacts
 mod ReadingFacts
 pub mod TieFacts
+pub mod GivenFacts

@@ -1,13 +1,12 @@
 -- Lists on which names were handed on.
 use Rattle.std.proofs.Common.{◌≡◌, ◌∙◌, ◌<◌, ℕ, suc, true, false, List, [], ◌∷◌, map, length, get_or, cond, Option, Some, None, option_map, String, Result, Ok, Err, OnOk, refl, ap, subst, sym, arith}
 use Rattle.std.specs.Prelude.{filter, is_some}
-use Rattle.jwalk.specs.walk_model.Entry.{Item, AtDepth, has_directory}
-use Rattle.jwalk.specs.walk_model.ReadDir.{list_depth}
+use Rattle.jwalk.specs.walk_model.Entry.{Item, has_directory}
 use Rattle.jwalk.specs.walk_model.Counted.{children_by, item_by}
 use Rattle.jwalk.specs.jwalk_read.declared.dir_entry.DirEntry.{DirEntry}
 use Rattle.jwalk.specs.jwalk_read.declared.error.Error.{Error}
 use Rattle.jwalk.specs.jwalk_read.Entry.{item}
-use Rattle.jwalk.specs.jwalk_read.Given.{Given, counted_item, counted_list, IsProcessed}
+use Rattle.jwalk.specs.jwalk_read.Given.{Given, counted_list, IsProcessed}
 use Rattle.proved_walk.specs.HandsOnNames.{worth_of, handed, names_handed_on}
 
 -- lists that are as long as each other, of which each item of one is seen as that of the other changed
@@ -18,28 +17,6 @@ all_changed item view change (x ∷ old) [] long each = absurd (omega arith)
 all_changed item view change (x ∷ old) (y ∷ new) long each =
     ap (λ v. v ∷ map view (map item new)) (each 0 y (omega arith))
     ∙ ap (λ l. change (view (item x)) ∷ l) (all_changed item view change old new (omega (arith, long)) (λ k d within. each (suc k) d (omega (arith, within))))
-
-module _ {R E V W : Type 0} (view : R → V) (mark : E → W) where
-  -- a list has a depth as its states count if it has it
-  counted_depth : (depth : ℕ) (l : List (Item R E)) → AtDepth depth l → AtDepth depth (map (item_by view mark) l)
-  counted_depth depth [] h = tt
-  counted_depth depth (Ok e ∷ l) h = (h.0, counted_depth depth l h.1)
-  counted_depth depth (Err f ∷ l) h = counted_depth depth l h
-
-  -- and only then
-  own_depth : (depth : ℕ) (l : List (Item R E)) → AtDepth depth (map (item_by view mark) l) → AtDepth depth l
-  own_depth depth [] h = tt
-  own_depth depth (Ok e ∷ l) h = (h.0, own_depth depth l h.1)
-  own_depth depth (Err f ∷ l) h = own_depth depth l h
-
--- what is made as is given has the list's depth
-pub depth_of_made : {R E F : Type 0} (given : Given R E) (depth : Option ℕ) (path : List ℕ) (answer : Result (Unit {0}) F) (state state' : R) (list list' : List (Item R E))
-    → OnOk answer (IsProcessed given depth path state list state' list') → AtDepth (list_depth depth) list → OnOk answer (AtDepth (list_depth depth) list')
-depth_of_made given depth path (Err refused) state state' list list' made deep = tt
-depth_of_made given depth path (Ok done) state state' list list' made deep =
-    let before = counted_depth given.read_dir_state given.dir_entry_state (list_depth depth) list deep in
-    let after = given.keeps_depths depth path (given.read_dir_state state) (map (counted_item given) list) before in
-    own_depth given.read_dir_state given.dir_entry_state (list_depth depth) list' (rw made at after)
 
 module _ {R E V W : Type 0} (view : R → V) (mark : E → W) where
   -- an item has a directory as its states count if it has one, and only then

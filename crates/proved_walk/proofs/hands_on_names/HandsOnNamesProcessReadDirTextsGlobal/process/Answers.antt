@@ -1,7 +1,8 @@
 use Rattle.std.proofs.Common.{map}
 use Rattle.jwalk.specs.jwalk_read.Entry.{item}
 use Rattle.proved_walk.specs.HandsOnNames.{names_handed_on}
-use Rattle.proved_walk.proofs.HandedFacts.{depth_of_made, made_by, made_for}
+use Rattle.jwalk.proofs.GivenFacts.{depth_of_made}
+use Rattle.proved_walk.proofs.HandedFacts.{made_by, made_for}
 use Rattle.proved_walk.proofs.hands_on_names.HandsOnNamesProcessReadDirTextsGlobal.process.Goals as goal
 
 pub returns-clause-depths : goal.returns-clause-depths
