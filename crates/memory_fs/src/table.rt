@@ -88,7 +88,7 @@ impl<A: Allocator + Copy> Table<A> {
         ensures kept { free_places self.new ≡ free_places self.old }
     {
         let alloc = *self.others.allocator();
-        let target = Box::new(alloc, String::from_str(alloc, target)?)?;
+        let target = String::from_str(alloc, target)?;
         self.add(holder, name, Child::Link(target))
     }
 
