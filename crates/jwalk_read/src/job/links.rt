@@ -1,11 +1,13 @@
 // Entries made from paths, and what a link that is followed gives way to.
-ghost use Rattle.std.specs.Prelude.{◌≡◌, ◌&&◌, ◌∷◌, [], true, Ok, Err, IfOk, if◌then◌else◌};
-ghost use Rattle.walk_model.specs.Entry.{AtDepth, path_of};
+ghost use Rattle.std.specs.Prelude.{◌≡◌, ◌&&◌, ◌∷◌, [], true, Ok, Err, IfOk, MatchResult, if◌then◌else◌};
+ghost use Rattle.walk_model.specs.Counted.{Worth};
+ghost use Rattle.walk_model.specs.Entry.{AtDepth, Entry, path_of};
 ghost use Rattle.walk_model.specs.FileType.{is_symlink};
 ghost use Rattle.walk_model.specs.Job as value;
 ghost use Rattle.walk_fs.specs.Views.{AnswersValue};
 ghost use Rattle.jwalk_read.specs.Text.{text};
 ghost use Rattle.jwalk_read.specs.Ancestors.{texts};
+ghost use Rattle.jwalk_read.specs.Error.{failure};
 ghost use Rattle.jwalk_read.specs.Entry.{entry, item};
 ghost use Rattle.jwalk_read.specs.ReadDir.{spec};
 ghost use Rattle.jwalk_read.specs.Given.{Given, counted_spec, counted_item, counted_entry};
@@ -133,6 +135,34 @@ impl<C: ClientState, S: FileSystem, P: ProcessReadDir<C, A>, A: Allocator + Copy
         }
     }
 
+    /// Whether what a link at a path led to, of this type, is reached: not if it is a directory above the link, as the
+    /// link's text tells, nor if the text of the link to a directory can't be read.
+    fn admitted(
+        &self,
+        link: &DirEntry<C, A>,
+        path: Arc<String<A>, A>,
+        file_type: FileType,
+    ) -> Result<Result<(), Error<A>>, AllocError>
+        requires { text path ≡ path_of (entry link.now) }
+        ensures { (g : Given C.ReadDirState C.DirEntryState) → S.IsFixed (file_system self.now)
+            → (x : Entry Worth Worth) → x.file_type ≡ file_type → IfOk result (λ r. MatchResult r
+            (λ _. value.reached (job_by S.FileSystem g self.now) (counted_entry g (entry link.now)) x ≡ Ok x)
+            (λ e. value.reached (job_by S.FileSystem g self.now) (counted_entry g (entry link.now)) x
+            ≡ Err (failure e))) }
+    {
+        if !file_type.is_dir() {
+            return Ok(Ok(()));
+        }
+        match self.fs.read_link(self.alloc, path.as_str()) {
+            Ok(target) => match link.ancestors.nearest(target.as_str())? {
+                Some(ancestor) => Ok(Err(Error::from_loop(link.depth, ancestor, path))),
+                None => Ok(Ok(())),
+            },
+            Err(Fault::Io(err)) => Ok(Err(Error::from_io(link.depth, err))),
+            Err(Fault::Memory) => Err(AllocError),
+        }
+    }
+
     /// The entry that a link at a path led to, unless it is a directory above the link, as the link's text tells.
     fn reached(
         &self,
@@ -148,17 +178,8 @@ impl<C: ClientState, S: FileSystem, P: ProcessReadDir<C, A>, A: Allocator + Copy
             ≡ value.reached (job_by S.FileSystem g self.now)
             (counted_entry g (entry link.now)) (counted_entry g (entry found))) }
     {
-        if !found.file_type.is_dir() {
-            return Ok(Ok(found));
-        }
-        match self.fs.read_link(self.alloc, path.as_str()) {
-            Ok(target) => match link.ancestors.nearest(target.as_str())? {
-                Some(ancestor) => Ok(Err(Error::from_loop(link.depth, ancestor, path))),
-                None => Ok(Ok(found)),
-            },
-            Err(Fault::Io(err)) => Ok(Err(Error::from_io(link.depth, err))),
-            Err(Fault::Memory) => Err(AllocError),
-        }
+        let admitted = self.admitted(link, path, found.file_type)?;
+        Ok(admitted.and(Ok(found)))
     }
 
     /// What a link gives way to.
