@@ -64,11 +64,27 @@ impl<C: ClientState, S: FileSystem, P: ProcessReadDir<C, A>, A: Allocator + Copy
         of.ancestors.with(self.alloc, of.path.clone()?)
     }
 
+    /// The parent of an entry made from a path: a handle of a text near by, where that is the same text.
+    fn parent_of(
+        &self,
+        path: &str,
+        near: &Arc<String<A>, A>,
+    ) -> Result<Arc<String<A>, A>, AllocError>
+        ensures { IfOk result (λ parent. text parent ≡ value.own_parent path.now) }
+    {
+        let parent = own_parent(path);
+        if parent == near.as_str() {
+            return Ok(near.clone()?);
+        }
+        Ok(Arc::new(self.alloc, String::from_str(self.alloc, parent)?)?)
+    }
+
     /// The entry of a path with this metadata.
     fn entry_at(
         &self,
         depth: usize,
         path: Arc<String<A>, A>,
+        near: &Arc<String<A>, A>,
         through_link: bool,
         ancestors: Ancestors<A>,
         metadata: Metadata,
@@ -81,7 +97,7 @@ impl<C: ClientState, S: FileSystem, P: ProcessReadDir<C, A>, A: Allocator + Copy
     {
         let file_type = metadata.file_type();
         let file_name = String::from_str(self.alloc, own_name(path.as_str()))?;
-        let parent_path = String::from_str(self.alloc, own_parent(path.as_str()))?;
+        let parent_path = self.parent_of(path.as_str(), near)?;
         let read_children = if file_type.is_dir() {
             Some(ReadChildren::new(path))
         } else {
@@ -92,7 +108,7 @@ impl<C: ClientState, S: FileSystem, P: ProcessReadDir<C, A>, A: Allocator + Copy
             file_name,
             file_type,
             client_state: C::DirEntryState::default(),
-            parent_path: Arc::new(self.alloc, parent_path)?,
+            parent_path,
             read_children,
             through_link,
             ancestors,
@@ -112,11 +128,12 @@ impl<C: ClientState, S: FileSystem, P: ProcessReadDir<C, A>, A: Allocator + Copy
         }
     }
 
-    /// The entry of a path, or the error with its depth and path.
+    /// The entry of a path, or the error with its depth and path. A text near by may be that of its parent.
     pub(super) fn made(
         &self,
         depth: usize,
         path: Arc<String<A>, A>,
+        near: &Arc<String<A>, A>,
         through_link: bool,
         ancestors: Ancestors<A>,
     ) -> Result<Result<DirEntry<C, A>, Error<A>>, AllocError>
@@ -127,7 +144,7 @@ impl<C: ClientState, S: FileSystem, P: ProcessReadDir<C, A>, A: Allocator + Copy
     {
         match self.metadata_of(path.as_str(), through_link) {
             Ok(metadata) => {
-                let found = self.entry_at(depth, path, through_link, ancestors, metadata)?;
+                let found = self.entry_at(depth, path, near, through_link, ancestors, metadata)?;
                 Ok(Ok(found))
             }
             Err(Fault::Io(err)) => Ok(Err(Error::from_path(depth, path, err))),
@@ -192,7 +209,14 @@ impl<C: ClientState, S: FileSystem, P: ProcessReadDir<C, A>, A: Allocator + Copy
             (path_of (entry link.now)) true (texts link.now.ancestors))) }
     {
         let path = Arc::new(self.alloc, link.path()?)?;
-        match self.made(link.depth, path.clone()?, true, link.ancestors.share()?)? {
+        let ancestors = link.ancestors.share()?;
+        match self.made(
+            link.depth,
+            path.clone()?,
+            &link.parent_path,
+            true,
+            ancestors,
+        )? {
             Ok(found) => self.reached(link, path, found),
             Err(error) => Ok(Err(error)),
         }

@@ -116,7 +116,7 @@ impl<C: ClientState, S: FileSystem, P: ProcessReadDir<C, A>, A: Allocator + Copy
     {
         let shared = Arc::new(self.alloc, String::from_str(self.alloc, path)?)?;
         let ancestors = self.root_ancestors(&shared)?;
-        match self.made(0, shared, false, ancestors)? {
+        match self.made(0, shared.clone()?, &shared, false, ancestors)? {
             Ok(found) => {
                 let parent_path = found.parent_path.clone()?;
                 let item = self.root_target(found)?;
