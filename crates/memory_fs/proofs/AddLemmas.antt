@@ -11,7 +11,7 @@ use Rattle.memory_fs.specs.Child.{Child, Dir}
 use Rattle.memory_fs.specs.declared.build_error.BuildError.{BuildError}
 use Rattle.memory_fs.specs.declared.build_error.BuildError.TheVariants.{NotFound, AlreadyExists, Memory}
 use Rattle.memory_fs.specs.Branch.{Branch, child_named, children_at, child_of, at_end, node_of, tree_of_table, if_free, named_spot, free_spot, branch_at, empty_branch, with_named, with_parent_at, IsSound, IsLoose, IsEmptied, AreSpare, IsDirectoryAdded}
-use Rattle.memory_fs.specs.MemoryFs.{IsBuilt}
+use Rattle.memory_fs.specs.MemoryFs.{IsBuilt, IsAddition}
 use Rattle.memory_fs.proofs.TableLemmas.{at_end-append}
 use Rattle.memory_fs.proofs.SpareLemmas.{not_loose, spare-taken}
 use Rattle.memory_fs.proofs.GrowthLemmas.{Grows, tree-grown, sound-grown, spare-grown}
@@ -97,19 +97,24 @@ module _ (table : List Branch) (sound : IsSound table) (node : Node) (path : Lis
   found-spot holder name is = subst (AddsAlike table (add node path (tree_of_table table)) node) is (add_alike table node sound path)
 
   -- where the spot was refused
-  pub told-no_spot : (e : BuildError) (result : Result (Unit {0}) BuildError) → free_spot table (components path) ≡ Err e → result ≡ Err e → IsToldApart (add node path (tree_of_table table)) result
-  told-no_spot e result is was =
-      subst (IsToldApart (add node path (tree_of_table table))) (sym was)
-      (told-refusal table (add node path (tree_of_table table)) node e (subst (AddsAlike table (add node path (tree_of_table table)) node) is (add_alike table node sound path)))
+  pub refused-spot : (e : BuildError) (result : Result (Unit {0}) BuildError) → free_spot table (components path) ≡ Err e → result ≡ Err e → IsAddition node path (tree_of_table table) result (tree_of_table table)
+  refused-spot e result is was =
+      let told = told-refusal table (add node path (tree_of_table table)) node e (subst (AddsAlike table (add node path (tree_of_table table)) node) is (add_alike table node sound path)) in
+      subst (λ (r : Result (Unit {0}) BuildError). IsAddition node path (tree_of_table table) r (tree_of_table table)) (sym was)
+      (record { added = tt; not_found = told.not_found; already_exists = told.already_exists; err = λ place. refl })
 
-  -- where memory was refused
-  pub told-no_memory : (holder : ℕ) (name : List ℕ) (result : Result (Unit {0}) BuildError) → free_spot table (components path) ≡ Ok (holder, name) → result ≡ Err Memory
-      → IsToldApart (add node path (tree_of_table table)) result
-  told-no_memory holder name result is was =
-      subst (IsToldApart (add node path (tree_of_table table))) (sym was) (told-memory table (add node path (tree_of_table table)) node holder name (found-spot holder name is))
+  module _ (holder : ℕ) (name : List ℕ) (is : free_spot table (components path) ≡ Ok (holder, name)) where
+    -- where memory was refused
+    pub refused-memory : (result : Result (Unit {0}) BuildError) (new : List Branch) → result ≡ Err Memory → new ≡ table → IsAddition node path (tree_of_table table) result (tree_of_table new)
+    refused-memory result new was same =
+        let told = told-memory table (add node path (tree_of_table table)) node holder name (found-spot holder name is) in
+        subst (λ (r : Result (Unit {0}) BuildError). IsAddition node path (tree_of_table table) r (tree_of_table new)) (sym was)
+        (record { added = tt; not_found = told.not_found; already_exists = told.already_exists; err = λ place. ap (λ (t : List Branch). tree_of_table t place) same })
 
-  pub told-added : (holder : ℕ) (name : List ℕ) → free_spot table (components path) ≡ Ok (holder, name) → IsToldApart (add node path (tree_of_table table)) (Ok tt)
-  told-added holder name is = told-ok table (add node path (tree_of_table table)) node holder name (found-spot holder name is)
+    pub was-added : (new : List Branch) → IsBuilt (add node path (tree_of_table table)) (tree_of_table new) → IsAddition node path (tree_of_table table) (Ok tt) (tree_of_table new)
+    was-added new built =
+        let told = told-ok table (add node path (tree_of_table table)) node holder name (found-spot holder name is) in
+        record { added = built; not_found = told.not_found; already_exists = told.already_exists; err = tt }
 
 -- ---- what is always so
 -- the table is sound, and its free places are empty

@@ -5,7 +5,7 @@ use Rattle.std.specs.Option.{option_map, option_copied}
 use Rattle.std.specs.String.{string_eq}
 use Rattle.std.specs.Str.{bytes_eq}
 use Rattle.std.specs.List.{AllByRecursion, IsDistinct}
-use Rattle.std.specs.Prelude.{IsSome, IfSome, MatchOption, ◌↔◌, option_to_list, filter, not}
+use Rattle.std.specs.Prelude.{IsSome, IfSome, MatchOption, ◌↔◌, option_to_list, not}
 use Rattle.std.specs.Map.{lookup, keys_of, remove_entry}
 use Rattle.std.proofs.lemmas.Bool.{false≢true, cases_lt}
 use Rattle.std.proofs.lemmas.Map.Keys.{IsDistinct-head, IsDistinct-tail}
@@ -16,7 +16,7 @@ use Rattle.indexmap.proofs.CallerLemmas.{insert_entry-new}
 use Rattle.std.specs.declared.io.ErrorKind.{ErrorKind}
 use Rattle.memory_fs.specs.declared.child.Child.{Child as CodeChild}
 use Rattle.memory_fs.specs.Child.{Child, child_seen}
-use Rattle.memory_fs.specs.Branch.{Branch, child_named, AreFound, PopsLast}
+use Rattle.memory_fs.specs.Branch.{Branch, child_named, without, AreFound, PopsLast}
 
 abbrev pub named : {A : Type 0} → List (String A × CodeChild A) → List (List ℕ × Child)
 named es = map (λ e. (string_bytes e.0, child_seen e.1)) es
@@ -73,9 +73,6 @@ found-named (e ∷ es) distinct = (
 -- ---- a name that goes
 abbrev is_name : {A : Type 0} → List ℕ → String A → Bool
 is_name name k = bytes_eq name (string_bytes k)
-
-abbrev without : List ℕ → List (List ℕ × Child) → List (List ℕ × Child)
-without name es = filter (λ e. not (bytes_eq e.0 name)) es
 
 bytes_eq-sym : (a b : List ℕ) → bytes_eq a b ≡ bytes_eq b a
 bytes_eq-sym a b = by (bytes_eq b a) refl

@@ -1,19 +1,17 @@
 -- Directories that no name stands for are emptied one child after another, and their places come free.
-use Rattle.std.proofs.Common.{◌≡◌, ◌≢◌, ℕ, zero, suc, ◌+◌, ◌-◌, ◌<◌, ◌≤◌, Bool, List, [], ◌∷◌, ◌++◌, length, slice_index_or, Option, None, Some, refl, sym, ap, subst, ◌∙◌, String, string_bytes, arith}
+use Rattle.std.proofs.Common.{◌≡◌, ◌≢◌, ℕ, zero, suc, ◌+◌, ◌-◌, ◌<◌, ◌≤◌, Bool, List, [], ◌∷◌, ◌++◌, length, Option, None, Some, refl, sym, ap, subst, ◌∙◌, String, string_bytes, arith}
 use Rattle.std.specs.Prelude.{MatchOption, slice_set, if◌then◌else◌}
 use Rattle.std.specs.Str.{bytes_eq}
 use Rattle.std.proofs.lemmas.List.{length-append}
 use Rattle.std.proofs.lemmas.Slice.Eq.{bytes_eq-Decides}
 use Rattle.memory_fs.specs.declared.child.Child.{Child as CodeChild}
 use Rattle.memory_fs.specs.Child.{Child, Dir, child_seen}
-use Rattle.memory_fs.specs.Branch.{Branch, child_named, branch_at, children_at, parent_at, empty_branch, without_name, without_named, IsHeld, IsSound, IsLoose, IsEmptied, AreSpare, PopsLast, IsRemoved, size, IsReleasing, IsTurn}
+use Rattle.memory_fs.specs.Branch.{Branch, child_named, branch_at, children_at, parent_at, empty_branch, without_name, without_named, IsHeld, IsSound, IsLoose, IsEmptied, AreSpare, PopsLast, IsRemoved}
 use Rattle.memory_fs.proofs.EditLemmas.{kept-edited}
 use Rattle.memory_fs.proofs.GrowthLemmas.{child_named-append, or_last}
-use Rattle.memory_fs.proofs.SpareLemmas.{at_put, at_others, length-put, named_before, sound-put, spare-put, tree-put, spare-pushed, spare-emptied, spare-length}
+use Rattle.memory_fs.specs.Table.{size, IsReleasing, IsTurn}
+use Rattle.memory_fs.proofs.SpareLemmas.{place_at, at_put, at_others, length-put, named_before, sound-put, spare-put, tree-put, spare-pushed, spare-emptied, spare-length}
 use Rattle.memory_fs.proofs.RemoveLemmas.{gone, narrows-without}
-
-abbrev place_at : List ℕ → ℕ → ℕ
-place_at free k = slice_index_or free k 0
 
 module _ (start now : List Branch) (free : List ℕ) (next : ℕ) (so_far : IsReleasing start now free next) (lt : next < length free) where
   abbrev d : ℕ

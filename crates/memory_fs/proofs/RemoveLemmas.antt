@@ -9,7 +9,7 @@ use Rattle.std.proofs.lemmas.Slice.Eq.{bytes_eq-Decides}
 use Rattle.walk_model.specs.Paths.{components}
 use Rattle.walk_model.specs.Tree.{Place, directory, file, link, same_place, is_within, renamed, Tree, Refusal, not_found, Spot, spot_of, place_of, without_child, remove_at, remove}
 use Rattle.memory_fs.specs.Child.{Child, Dir, File, Link}
-use Rattle.memory_fs.specs.Branch.{Branch, child_named, branch_at, children_at, denied_at, child_of, at_end, names_of, node_of, tree_of_table, without_name, without_named, if_taken, named_spot, taken_spot, IsSound, IsLoose, AreSpare, IsRemoved}
+use Rattle.memory_fs.specs.Branch.{Branch, child_named, branch_at, children_at, denied_at, child_of, at_end, names_of, node_of, tree_of_table, without, without_name, without_named, if_taken, named_spot, taken_spot, IsSound, IsLoose, AreSpare, IsRemoved}
 use Rattle.memory_fs.specs.declared.build_error.BuildError.{BuildError}
 use Rattle.memory_fs.specs.declared.build_error.BuildError.TheVariants.{NotFound}
 use Rattle.memory_fs.specs.MemoryFs.{IsBuilt}
@@ -20,9 +20,6 @@ use Rattle.memory_fs.proofs.SpareLemmas.{not_loose, at_put, at_others}
 use Rattle.memory_fs.proofs.SpotLemmas.{SpotsAgree, spots_agree}
 
 -- ---- children without one of a name
-abbrev without : List ℕ → List (List ℕ × Child) → List (List ℕ × Child)
-without name es = filter (λ e. not (bytes_eq e.0 name)) es
-
 abbrev unless : Bool → List ℕ × Child → List (List ℕ × Child) → List (List ℕ × Child)
 unless b e es = if not b then e ∷ es else es
 
@@ -268,11 +265,11 @@ module _ (table : List Branch) (sound : IsSound table) (path : List ℕ) where
 -- whether the child was removed or not
 pub sound-left : (r : Result (Unit {0}) AllocError) (table : List Branch) (holder : ℕ) (name : List ℕ) (new : List Branch) (left : List ℕ) → IsSound table
     → OnOk r (IsRemoved table holder name new left) → OnErr r (new ≡ table) → IsSound new
-sound-left (Ok u) table holder name new left sound ok err = ok.sound
-sound-left (Err e) table holder name new left sound ok err = subst IsSound (sym err) sound
+sound-left (Ok u) table holder name after left sound ok err = ok.sound
+sound-left (Err e) table holder name after left sound ok err = subst IsSound (sym err) sound
 
 pub spare-left : (r : Result (Unit {0}) AllocError) (table : List Branch) (free : List ℕ) (holder : ℕ) (name : List ℕ) (new : List Branch) (left : List ℕ) → AreSpare table free (length free)
     → OnOk r (IsRemoved table holder name new left) → OnErr r (new ≡ table) → OnErr r (left ≡ free) → AreSpare new left (length left)
-spare-left (Ok u) table free holder name new left spare ok err kept = ok.spare
-spare-left (Err e) table free holder name new left spare ok err kept =
-    subst (λ (ks : List ℕ). AreSpare new ks (length ks)) (sym kept) (subst (λ (t : List Branch). AreSpare t free (length free)) (sym err) spare)
+spare-left (Ok u) table free holder name after left spare ok err kept = ok.spare
+spare-left (Err e) table free holder name after left spare ok err kept =
+    subst (λ (ks : List ℕ). AreSpare after ks (length ks)) (sym kept) (subst (λ (t : List Branch). AreSpare t free (length free)) (sym err) spare)

@@ -109,7 +109,7 @@ module _ (table : List Branch) (d : ℕ) (b : Branch) (lt : d < length table) wh
         by (Some (Dir k)) e = ap (λ (x : Branch). Some (directory (names_of x.children) x.denied)) (at_others k (aside q k e))
 
 -- ---- the list of free places
-abbrev place_at : List ℕ → ℕ → ℕ
+abbrev pub place_at : List ℕ → ℕ → ℕ
 place_at free k = slice_index_or free k 0
 
 -- a place is free only once, so there are no more than directories behind the root

@@ -1,5 +1,5 @@
 -- The table of directories as a list of values: what its names stand for, what a look-up finds in it, and the tree that it is.
-use Rattle.std.specs.Prelude.{◌≡◌, ◌≢◌, ℕ, zero, suc, ◌<◌, Bool, true, false, List, [], ◌∷◌, ◌++◌, map, filter, not, length, slice_index_or, slice_get, slice_set, take, MatchOption, ◌+◌, ◌-◌, ◌≤◌, Option, Some, None, is_some, Result, Ok, Err, if◌then◌else◌, bytes_eq, option_and_then}
+use Rattle.std.specs.Prelude.{◌≡◌, ◌≢◌, ℕ, zero, suc, ◌<◌, Bool, true, false, List, [], ◌∷◌, ◌++◌, map, filter, not, length, slice_index_or, slice_get, slice_set, take, MatchOption, ◌-◌, Option, Some, None, is_some, Result, Ok, Err, if◌then◌else◌, bytes_eq, option_and_then}
 use Rattle.std.specs.Option.{option_map}
 use Rattle.std.specs.Map.{lookup}
 use Rattle.std.specs.declared.io.ErrorKind.{ErrorKind}
@@ -35,9 +35,13 @@ with_denied k b = record { parent = b.parent; children = b.children; denied = So
 abbrev pub with_parent : ℕ → Branch → Branch
 with_parent parent b = record { parent = parent; children = b.children; denied = b.denied }
 
+-- the children but the one of this name
+abbrev pub without : List ℕ → List (List ℕ × Child) → List (List ℕ × Child)
+without name children = filter (λ e. not (bytes_eq e.0 name)) children
+
 -- the directory without the child of this name
 abbrev pub without_name : List ℕ → Branch → Branch
-without_name name b = record { parent = b.parent; children = filter (λ e. not (bytes_eq e.0 name)) b.children; denied = b.denied }
+without_name name b = record { parent = b.parent; children = without name b.children; denied = b.denied }
 
 -- a directory with no children
 abbrev pub empty_branch : ℕ → Branch
@@ -284,21 +288,3 @@ pub record IsRemoved (old : List Branch) (holder : ℕ) (name : List ℕ) (new :
   pub sound : IsSound new
   pub spare : AreSpare new free (length free)
   pub tree : (place : List (List ℕ)) → tree_of_table new place ≡ tree_of_table (without_named old holder name) place
-
--- how many children there are in all
-abbrev pub size : List Branch → ℕ
-size [] = 0
-size (b ∷ bs) = length b.children + size bs
-
--- Directories that no name stands for are being emptied: the tree is the same, and so many of the free places are empty.
-pub record IsReleasing (start now : List Branch) (free : List ℕ) (done : ℕ) : Type 0 where
-  pub sound : IsSound now
-  pub spare : AreSpare now free done
-  pub tree : (place : List (List ℕ)) → tree_of_table now place ≡ tree_of_table start place
-  pub same_length : length now ≡ length start
-
--- One turn of it leaves less to do.
-pub record IsTurn (old : List Branch) (done : ℕ) (new : List Branch) (free : List ℕ) (more : ℕ) : Type 0 where
-  pub releasing : IsReleasing old new free more
-  pub within : more ≤ length free
-  pub less : size new + (length new - more) < size old + (length old - done)

@@ -14,7 +14,7 @@ pub data Child : Type 0 where
 abbrev pub child_seen : {A : Type 0} → CodeChild A → Child
 child_seen (code.Dir index) = Dir index
 child_seen (code.File len) = File len
-child_seen (code.Link target) = Link (string_bytes target.value)
+child_seen (code.Link target) = Link (string_bytes target)
 
 abbrev pub type_of : Child → FileType
 type_of (Dir index) = type.Dir

@@ -1,6 +1,9 @@
 -- The tree that a file system in memory is.
-use Rattle.std.specs.Prelude.{◌≡◌, Result, Ok, Err}
-use Rattle.walk_model.specs.Tree.{Place, Tree, Refusal}
+use Rattle.std.specs.Prelude.{◌≡◌, ◌↔◌, List, ℕ, Result, Ok, Err, OnOk, OnErr}
+use Rattle.walk_model.specs.Tree.{Place, Tree, Node, Refusal, add}
+use Rattle.walk_model.specs.Tree as refusal
+use Rattle.memory_fs.specs.declared.build_error.BuildError.{BuildError}
+use Rattle.memory_fs.specs.declared.build_error.BuildError.TheVariants.{NotFound, AlreadyExists}
 use Rattle.memory_fs.specs.declared.memory_fs.MemoryFs.{MemoryFs}
 use Rattle.memory_fs.specs.Branch.{tree_of_table}
 use Rattle.memory_fs.specs.Table.{branches}
@@ -17,3 +20,10 @@ IsSameTree old new = (place : Place) → new place ≡ old place
 abbrev pub IsBuilt : Result Tree Refusal → Tree → Type 0
 IsBuilt (Ok tree) new = IsSameTree tree new
 IsBuilt (Err refusal) new = ⊥
+
+-- What adding a node at a path answered, and the tree after it: the one with the node, or a refusal that the definition knows or that is for want of memory, and the tree as it was.
+pub record IsAddition (node : Node) (path : List ℕ) (old : Tree) (result : Result (Unit {0}) BuildError) (new : Tree) : Type 0 where
+  pub added : OnOk result (IsBuilt (add node path old) new)
+  pub not_found : (result ≡ Err NotFound) ↔ (add node path old ≡ Err refusal.not_found)
+  pub already_exists : (result ≡ Err AlreadyExists) ↔ (add node path old ≡ Err refusal.already_exists)
+  pub err : OnErr result (IsSameTree old new)

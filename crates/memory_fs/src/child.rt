@@ -10,7 +10,7 @@ use walk_model::file_type::FileType;
 pub enum Child<A: Allocator + Copy> {
     Dir(usize),
     File(u64),
-    Link(Box<String<A>, A>),
+    Link(String<A>),
 }
 
 impl<A: Allocator + Copy> Child<A> {

@@ -36,10 +36,10 @@ impl<A: Allocator + Copy> MemoryFs<A> {
     ghost use Rattle.std.specs.Prelude.{◌≡◌, ◌≢◌, ◌<◌, ◌≤◌, ◌↔◌, true, [], None, IfSome, IfOk, IfErr, OnOk, OnErr, MatchOption, MatchResult, Some, Ok, Err};
     ghost use Rattle.walk_model.specs.Paths.{components};
     ghost use Rattle.walk_model.specs.PathTexts.{components_left, component_seen};
-    ghost use Rattle.walk_model.specs.Tree.{Place, only_root, directory, file, link, add, deny, remove, not_found, already_exists};
+    ghost use Rattle.walk_model.specs.Tree.{Place, only_root, directory, file, link, deny, remove, not_found};
     ghost use Rattle.memory_fs.specs.Hit.{hit_seen, answer_seen};
     ghost use Rattle.memory_fs.specs.Branch.{next_hit, from_root, found, holder_of, named_spot, free_spot, taken_spot, directory_spot, IsWithin, IsSettled, LeadsOn, LinkLeadsOn};
-    ghost use Rattle.memory_fs.specs.MemoryFs.{tree_of, IsSameTree, IsBuilt};
+    ghost use Rattle.memory_fs.specs.MemoryFs.{tree_of, IsSameTree, IsBuilt, IsAddition};
 
     /// The tree with nothing below its root, which needs no memory. The allocator serves all that is added.
     pub fn new(alloc: A) -> Self
@@ -54,12 +54,7 @@ impl<A: Allocator + Copy> MemoryFs<A> {
     /// name or the ones before it lead to no directory, from the root; `AlreadyExists` where the name is taken; else `Memory`
     /// where memory is refused. After a refusal the tree is as it was.
     pub fn add_dir(&mut self, path: &str) -> Result<(), BuildError>
-        ensures added { OnOk result (IsBuilt (add (directory [] None) path.now (tree_of self.old)) (tree_of self.new)) }
-        ensures not_found { (result ≡ Err BuildError.NotFound)
-            ↔ (add (directory [] None) path.now (tree_of self.old) ≡ Err not_found) }
-        ensures already_exists { (result ≡ Err BuildError.AlreadyExists)
-            ↔ (add (directory [] None) path.now (tree_of self.old) ≡ Err already_exists) }
-        ensures err { OnErr result (IsSameTree (tree_of self.old) (tree_of self.new)) }
+        ensures { IsAddition (directory [] None) path.now (tree_of self.old) result (tree_of self.new) }
     {
         let spot = self.free_spot(path)?;
         self.table.add_directory(spot.holder, spot.name)?;
@@ -68,12 +63,7 @@ impl<A: Allocator + Copy> MemoryFs<A> {
 
     /// Adds a file of a length in bytes, where `add_dir` would add a directory, with the same refusals.
     pub fn add_file(&mut self, path: &str, len: u64) -> Result<(), BuildError>
-        ensures added { OnOk result (IsBuilt (add (file len) path.now (tree_of self.old)) (tree_of self.new)) }
-        ensures not_found { (result ≡ Err BuildError.NotFound)
-            ↔ (add (file len) path.now (tree_of self.old) ≡ Err not_found) }
-        ensures already_exists { (result ≡ Err BuildError.AlreadyExists)
-            ↔ (add (file len) path.now (tree_of self.old) ≡ Err already_exists) }
-        ensures err { OnErr result (IsSameTree (tree_of self.old) (tree_of self.new)) }
+        ensures { IsAddition (file len) path.now (tree_of self.old) result (tree_of self.new) }
     {
         let spot = self.free_spot(path)?;
         self.table.add(spot.holder, spot.name, Child::File(len))?;
@@ -83,12 +73,7 @@ impl<A: Allocator + Copy> MemoryFs<A> {
     /// Adds a link to a target, which may lead nowhere, where `add_dir` would add a directory, with the same refusals. A
     /// relative target starts at the directory that holds the link.
     pub fn add_link(&mut self, path: &str, target: &str) -> Result<(), BuildError>
-        ensures added { OnOk result (IsBuilt (add (link target.now) path.now (tree_of self.old)) (tree_of self.new)) }
-        ensures not_found { (result ≡ Err BuildError.NotFound)
-            ↔ (add (link target.now) path.now (tree_of self.old) ≡ Err not_found) }
-        ensures already_exists { (result ≡ Err BuildError.AlreadyExists)
-            ↔ (add (link target.now) path.now (tree_of self.old) ≡ Err already_exists) }
-        ensures err { OnErr result (IsSameTree (tree_of self.old) (tree_of self.new)) }
+        ensures { IsAddition (link target.now) path.now (tree_of self.old) result (tree_of self.new) }
     {
         let spot = self.free_spot(path)?;
         self.table.add_link(spot.holder, spot.name, target)?;

@@ -3,9 +3,9 @@ ghost use Rattle.std.specs.Prelude.{◌≡◌, ◌≢◌, ℕ, ◌+◌, ◌-◌,
 ghost use Rattle.std.specs.Option.{option_map};
 ghost use Rattle.walk_model.specs.Tree.{Place};
 ghost use Rattle.memory_fs.specs.Child.{Dir, Link, child_seen};
-ghost use Rattle.memory_fs.specs.Branch.{children_at, child_named, branch_at, empty_branch, with_named, without_named, with_parent_at, with_denial, tree_of_table, IsSound, IsLoose, AreSpare, PopsLast, IsDirectoryAdded, IsRemoved, IsTurn};
+ghost use Rattle.memory_fs.specs.Branch.{children_at, child_named, branch_at, empty_branch, with_named, without_named, with_parent_at, with_denial, tree_of_table, IsSound, IsLoose, AreSpare, PopsLast, IsDirectoryAdded, IsRemoved};
 ghost use Rattle.memory_fs.specs.Directory.{branch};
-ghost use Rattle.memory_fs.specs.Table.{branches, free_places};
+ghost use Rattle.memory_fs.specs.Table.{branches, free_places, IsTurn};
 
 use crate::child::Child;
 use crate::directory::Directory;
@@ -88,7 +88,7 @@ impl<A: Allocator + Copy> Table<A> {
         ensures kept { free_places self.new ≡ free_places self.old }
     {
         let alloc = *self.others.allocator();
-        let target = Box::new(alloc, String::from_str(alloc, target)?)?;
+        let target = String::from_str(alloc, target)?;
         self.add(holder, name, Child::Link(target))
     }
 

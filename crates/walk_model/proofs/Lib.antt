@@ -1,3 +1,4 @@
+pub mod AncestorFacts
 pub mod CloneFacts
 pub mod CountedFacts
 pub mod DepthFacts

@@ -1,11 +1,13 @@
 // Entries made from paths, and what a link that is followed gives way to.
-ghost use Rattle.std.specs.Prelude.{◌≡◌, ◌&&◌, ◌∷◌, [], true, Ok, Err, IfOk, if◌then◌else◌};
-ghost use Rattle.walk_model.specs.Entry.{AtDepth, path_of};
+ghost use Rattle.std.specs.Prelude.{◌≡◌, ◌&&◌, ◌∷◌, [], true, Ok, Err, IfOk, MatchResult, if◌then◌else◌};
+ghost use Rattle.walk_model.specs.Counted.{Worth};
+ghost use Rattle.walk_model.specs.Entry.{AtDepth, Entry, path_of};
 ghost use Rattle.walk_model.specs.FileType.{is_symlink};
 ghost use Rattle.walk_model.specs.Job as value;
 ghost use Rattle.walk_fs.specs.Views.{AnswersValue};
 ghost use Rattle.jwalk_read.specs.Text.{text};
 ghost use Rattle.jwalk_read.specs.Ancestors.{texts};
+ghost use Rattle.jwalk_read.specs.Error.{failure};
 ghost use Rattle.jwalk_read.specs.Entry.{entry, item};
 ghost use Rattle.jwalk_read.specs.ReadDir.{spec};
 ghost use Rattle.jwalk_read.specs.Given.{Given, counted_spec, counted_item, counted_entry};
@@ -62,11 +64,27 @@ impl<C: ClientState, S: FileSystem, P: ProcessReadDir<C, A>, A: Allocator + Copy
         of.ancestors.with(self.alloc, of.path.clone()?)
     }
 
+    /// The parent of an entry made from a path: a handle of a text near by, where that is the same text.
+    fn parent_of(
+        &self,
+        path: &str,
+        near: &Arc<String<A>, A>,
+    ) -> Result<Arc<String<A>, A>, AllocError>
+        ensures { IfOk result (λ parent. text parent ≡ value.own_parent path.now) }
+    {
+        let parent = own_parent(path);
+        if parent == near.as_str() {
+            return Ok(near.clone()?);
+        }
+        Ok(Arc::new(self.alloc, String::from_str(self.alloc, parent)?)?)
+    }
+
     /// The entry of a path with this metadata.
     fn entry_at(
         &self,
         depth: usize,
         path: Arc<String<A>, A>,
+        near: &Arc<String<A>, A>,
         through_link: bool,
         ancestors: Ancestors<A>,
         metadata: Metadata,
@@ -79,7 +97,7 @@ impl<C: ClientState, S: FileSystem, P: ProcessReadDir<C, A>, A: Allocator + Copy
     {
         let file_type = metadata.file_type();
         let file_name = String::from_str(self.alloc, own_name(path.as_str()))?;
-        let parent_path = String::from_str(self.alloc, own_parent(path.as_str()))?;
+        let parent_path = self.parent_of(path.as_str(), near)?;
         let read_children = if file_type.is_dir() {
             Some(ReadChildren::new(path))
         } else {
@@ -90,7 +108,7 @@ impl<C: ClientState, S: FileSystem, P: ProcessReadDir<C, A>, A: Allocator + Copy
             file_name,
             file_type,
             client_state: C::DirEntryState::default(),
-            parent_path: Arc::new(self.alloc, parent_path)?,
+            parent_path,
             read_children,
             through_link,
             ancestors,
@@ -110,11 +128,12 @@ impl<C: ClientState, S: FileSystem, P: ProcessReadDir<C, A>, A: Allocator + Copy
         }
     }
 
-    /// The entry of a path, or the error with its depth and path.
+    /// The entry of a path, or the error with its depth and path. A text near by may be that of its parent.
     pub(super) fn made(
         &self,
         depth: usize,
         path: Arc<String<A>, A>,
+        near: &Arc<String<A>, A>,
         through_link: bool,
         ancestors: Ancestors<A>,
     ) -> Result<Result<DirEntry<C, A>, Error<A>>, AllocError>
@@ -125,10 +144,38 @@ impl<C: ClientState, S: FileSystem, P: ProcessReadDir<C, A>, A: Allocator + Copy
     {
         match self.metadata_of(path.as_str(), through_link) {
             Ok(metadata) => {
-                let found = self.entry_at(depth, path, through_link, ancestors, metadata)?;
+                let found = self.entry_at(depth, path, near, through_link, ancestors, metadata)?;
                 Ok(Ok(found))
             }
             Err(Fault::Io(err)) => Ok(Err(Error::from_path(depth, path, err))),
+            Err(Fault::Memory) => Err(AllocError),
+        }
+    }
+
+    /// Whether what a link at a path led to, of this type, is reached: not if it is a directory above the link, as the
+    /// link's text tells, nor if the text of the link to a directory can't be read.
+    fn admitted(
+        &self,
+        link: &DirEntry<C, A>,
+        path: Arc<String<A>, A>,
+        file_type: FileType,
+    ) -> Result<Result<(), Error<A>>, AllocError>
+        requires { text path ≡ path_of (entry link.now) }
+        ensures { (g : Given C.ReadDirState C.DirEntryState) → S.IsFixed (file_system self.now)
+            → (x : Entry Worth Worth) → x.file_type ≡ file_type → IfOk result (λ r. MatchResult r
+            (λ _. value.reached (job_by S.FileSystem g self.now) (counted_entry g (entry link.now)) x ≡ Ok x)
+            (λ e. value.reached (job_by S.FileSystem g self.now) (counted_entry g (entry link.now)) x
+            ≡ Err (failure e))) }
+    {
+        if !file_type.is_dir() {
+            return Ok(Ok(()));
+        }
+        match self.fs.read_link(self.alloc, path.as_str()) {
+            Ok(target) => match link.ancestors.nearest(target.as_str())? {
+                Some(ancestor) => Ok(Err(Error::from_loop(link.depth, ancestor, path))),
+                None => Ok(Ok(())),
+            },
+            Err(Fault::Io(err)) => Ok(Err(Error::from_io(link.depth, err))),
             Err(Fault::Memory) => Err(AllocError),
         }
     }
@@ -148,17 +195,8 @@ impl<C: ClientState, S: FileSystem, P: ProcessReadDir<C, A>, A: Allocator + Copy
             ≡ value.reached (job_by S.FileSystem g self.now)
             (counted_entry g (entry link.now)) (counted_entry g (entry found))) }
     {
-        if !found.file_type.is_dir() {
-            return Ok(Ok(found));
-        }
-        match self.fs.read_link(self.alloc, path.as_str()) {
-            Ok(target) => match link.ancestors.nearest(target.as_str())? {
-                Some(ancestor) => Ok(Err(Error::from_loop(link.depth, ancestor, path))),
-                None => Ok(Ok(found)),
-            },
-            Err(Fault::Io(err)) => Ok(Err(Error::from_io(link.depth, err))),
-            Err(Fault::Memory) => Err(AllocError),
-        }
+        let admitted = self.admitted(link, path, found.file_type)?;
+        Ok(admitted.and(Ok(found)))
     }
 
     /// What a link gives way to.
@@ -171,7 +209,14 @@ impl<C: ClientState, S: FileSystem, P: ProcessReadDir<C, A>, A: Allocator + Copy
             (path_of (entry link.now)) true (texts link.now.ancestors))) }
     {
         let path = Arc::new(self.alloc, link.path()?)?;
-        match self.made(link.depth, path.clone()?, true, link.ancestors.share()?)? {
+        let ancestors = link.ancestors.share()?;
+        match self.made(
+            link.depth,
+            path.clone()?,
+            &link.parent_path,
+            true,
+            ancestors,
+        )? {
             Ok(found) => self.reached(link, path, found),
             Err(error) => Ok(Err(error)),
         }

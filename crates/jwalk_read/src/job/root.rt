@@ -1,9 +1,11 @@
 // The list that a walk begins with.
-ghost use Rattle.std.specs.Prelude.{◌≡◌, ◌∷◌, [], Ok, Err, IfOk, if◌then◌else◌};
-ghost use Rattle.walk_model.specs.Entry.{AtDepth};
+ghost use Rattle.std.specs.Prelude.{◌≡◌, ◌∷◌, [], Some, Ok, Err, IfOk, MatchResult, if◌then◌else◌};
+ghost use Rattle.walk_model.specs.Error.{io};
+ghost use Rattle.walk_model.specs.Entry.{AtDepth, path_of};
 ghost use Rattle.walk_model.specs.Job as value;
 ghost use Rattle.jwalk_read.specs.Text.{text};
 ghost use Rattle.jwalk_read.specs.Ancestors.{texts};
+ghost use Rattle.jwalk_read.specs.Error.{failure};
 ghost use Rattle.jwalk_read.specs.Entry.{entry, item};
 ghost use Rattle.jwalk_read.specs.ReadDir.{reading};
 ghost use Rattle.jwalk_read.specs.Given.{Given, counted_item, counted_reading, counted_entry};
@@ -20,12 +22,20 @@ use std::alloc::{AllocError, Allocator};
 use std::sync::Arc;
 use walk_fs::fault::Fault;
 use walk_fs::file_system::FileSystem;
+use walk_model::metadata::Metadata;
 
 /// The item of a root before the callback, and the path that the callback is given with it.
 #[derive(Drop)]
 struct RootItem<C: ClientState, A: Allocator + Copy> {
     item: Result<DirEntry<C, A>, Error<A>>,
     parent_path: Arc<String<A>, A>,
+}
+
+/// What stands behind a root that is a link, and the link's path.
+#[derive(Drop)]
+struct Behind<A: Allocator + Copy> {
+    path: Arc<String<A>, A>,
+    metadata: Metadata,
 }
 
 impl<C: ClientState, S: FileSystem, P: ProcessReadDir<C, A>, A: Allocator + Copy> Job<C, S, P, A> {
@@ -38,6 +48,22 @@ impl<C: ClientState, S: FileSystem, P: ProcessReadDir<C, A>, A: Allocator + Copy
             return Ok(Ancestors::none());
         }
         Ancestors::none().with(self.alloc, path.clone()?)
+    }
+
+    /// What stands behind a root that is a link, or the error of one that is broken.
+    fn behind_root(&self, link: &DirEntry<C, A>) -> Result<Result<Behind<A>, Error<A>>, AllocError>
+        ensures path { IfOk result (λ r. IfOk r (λ b. text b.path ≡ path_of (entry link.now))) }
+        ensures value { S.IsFixed (file_system self.now) → IfOk result (λ r. MatchResult r
+            (λ b. (S.functions (file_system self.now)).meta_of (path_of (entry link.now)) ≡ Ok b.metadata)
+            (λ e. value.either Ok (λ kind. Err (io 0 (Some (path_of (entry link.now))) kind))
+            ((S.functions (file_system self.now)).meta_of (path_of (entry link.now))) ≡ Err (failure e))) }
+    {
+        let path = Arc::new(self.alloc, link.path()?)?;
+        match self.fs.metadata(path.as_str()) {
+            Ok(metadata) => Ok(Ok(Behind { path, metadata })),
+            Err(Fault::Io(err)) => Ok(Err(Error::from_path(0, path, err))),
+            Err(Fault::Memory) => Err(AllocError),
+        }
     }
 
     /// A root's entry with what stands behind it, if it is a link: a directory there is to be read.
@@ -53,11 +79,12 @@ impl<C: ClientState, S: FileSystem, P: ProcessReadDir<C, A>, A: Allocator + Copy
         if !found.file_type.is_symlink() {
             return Ok(Ok(found));
         }
-        let path = Arc::new(self.alloc, found.path()?)?;
-        match self.fs.metadata(path.as_str()) {
-            Ok(metadata) => Ok(Ok(found.with_directory(path, metadata))),
-            Err(Fault::Io(err)) => Ok(Err(Error::from_path(0, path, err))),
-            Err(Fault::Memory) => Err(AllocError),
+        match self.behind_root(&found)? {
+            Ok(behind) => Ok(Ok(found.with_directory(behind.path, behind.metadata))),
+            Err(broken) => {
+                drop(found);
+                Ok(Err(broken))
+            }
         }
     }
 
@@ -89,7 +116,7 @@ impl<C: ClientState, S: FileSystem, P: ProcessReadDir<C, A>, A: Allocator + Copy
     {
         let shared = Arc::new(self.alloc, String::from_str(self.alloc, path)?)?;
         let ancestors = self.root_ancestors(&shared)?;
-        match self.made(0, shared, false, ancestors)? {
+        match self.made(0, shared.clone()?, &shared, false, ancestors)? {
             Ok(found) => {
                 let parent_path = found.parent_path.clone()?;
                 let item = self.root_target(found)?;

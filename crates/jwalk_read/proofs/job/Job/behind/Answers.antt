@@ -9,12 +9,12 @@ pub returns-in-Ok-clause-value : goal.returns-in-Ok-clause-value
 returns-in-Ok-clause-value g c = λ given fixed default.
     let named : text c.in_ok-path-2.path ≡ path_of (entry c.args.link.now) = ap string_bytes c.in_ok-path-2.ensures.ok ∙ c.in_ok-path.ensures in
     let shared : text c.in_ok-clone.field-0 ≡ text c.in_ok-path-2.path = ap string_bytes c.in_ok-clone.ensures.cases in
-    let made = rw (c.in-Ok.is, shared, named, c.in_ok-share.ensures) at (c.in_ok-found.ensures.value given fixed default) in
+    let made = rw (c.in-Ok.is, shared, named, c.in_ok-ancestors.ensures) at (c.in_ok-found.ensures.value given fixed default) in
     rw (← made) (c.reached.ensures.value given fixed)
 
 pub returns-in-Err-clause-value : goal.returns-in-Err-clause-value
 returns-in-Err-clause-value g c = λ given fixed default.
     let named : text c.in_ok-path-2.path ≡ path_of (entry c.args.link.now) = ap string_bytes c.in_ok-path-2.ensures.ok ∙ c.in_ok-path.ensures in
     let shared : text c.in_ok-clone.field-0 ≡ text c.in_ok-path-2.path = ap string_bytes c.in_ok-clone.ensures.cases in
-    let made = rw (c.in-Err.is, shared, named, c.in_ok-share.ensures) at (c.in_ok-found.ensures.value given fixed default) in
+    let made = rw (c.in-Err.is, shared, named, c.in_ok-ancestors.ensures) at (c.in_ok-found.ensures.value given fixed default) in
     rw (← made) refl

@@ -5,19 +5,9 @@ use Rattle.memory_fs.specs.Child.{Link}
 use Rattle.memory_fs.specs.Branch.{with_named}
 use Rattle.memory_fs.specs.MemoryFs.{tree_of}
 use Rattle.memory_fs.specs.Table.{branches, free_places}
-use Rattle.memory_fs.proofs.AddLemmas.{found-spot, told-no_spot, told-no_memory, told-added, Holds, holds-either, holds-leaf, built-grown}
+use Rattle.memory_fs.proofs.AddLemmas.{found-spot, refused-spot, refused-memory, was-added, Holds, holds-either, holds-leaf, built-grown}
 use Rattle.memory_fs.proofs.NewChildLemmas.{grows-leaf}
 use Rattle.memory_fs.proofs.memory_fs.MemoryFs.add_link.Goals as goal
-
-pub returns-in_err-spot-clause-not_found : goal.returns-in_err-spot-clause-not_found
-returns-in_err-spot-clause-not_found g c =
-    let p = err_from_is_err_and c.from_residual.result c.from_residual.ensures.1 in
-    (told-no_spot (branches c.args.self.now.table) c.args.self.now.sound (link c.args.target.now) c.args.path.now c.in_err-spot.field-0.0 c.from_residual.result c.in_err-spot.ensures.value (p.1 ∙ ap (λ e. Err e) p.2)).not_found
-
-pub returns-in_err-spot-clause-already_exists : goal.returns-in_err-spot-clause-already_exists
-returns-in_err-spot-clause-already_exists g c =
-    let p = err_from_is_err_and c.from_residual.result c.from_residual.ensures.1 in
-    (told-no_spot (branches c.args.self.now.table) c.args.self.now.sound (link c.args.target.now) c.args.path.now c.in_err-spot.field-0.0 c.from_residual.result c.in_err-spot.ensures.value (p.1 ∙ ap (λ e. Err e) p.2)).already_exists
 
 pub add_link-requires-clause-free : goal.add_link-requires-clause-free
 add_link-requires-clause-free g c =
@@ -32,29 +22,21 @@ invariant_of-self g c =
     (add (link c.args.target.now) c.args.path.now (tree_of c.args.self.now)) (link c.args.target.now) spot (Link c.args.target.now) (λ other. refl) (λ index e. cc)) in
     record { sound = holds.0; spare = holds.1 }
 
-pub returns-in_err-add_link-clause-not_found : goal.returns-in_err-add_link-clause-not_found
-returns-in_err-add_link-clause-not_found g c =
-    let p = err_from_is_err_and c.from_residual-in_err-add_link.result c.from_residual-in_err-add_link.ensures.1 in
-    (told-no_memory (branches c.args.self.now.table) c.args.self.now.sound (link c.args.target.now) c.args.path.now c.in_ok-spot.spot.holder c.in_ok-spot.spot.name.now c.from_residual-in_err-add_link.result c.in_ok-spot.ensures.value
-    (p.1 ∙ ap (λ e. Err e) p.2)).not_found
+pub returns-in_err-spot : goal.returns-in_err-spot
+returns-in_err-spot g c =
+    let p = err_from_is_err_and c.from_residual.result c.from_residual.ensures.1 in
+    refused-spot (branches c.args.self.now.table) c.args.self.now.sound (link c.args.target.now) c.args.path.now c.in_err-spot.field-0.0 c.from_residual.result c.in_err-spot.ensures.value (p.1 ∙ ap (λ e. Err e) p.2)
 
-pub returns-in_err-add_link-clause-already_exists : goal.returns-in_err-add_link-clause-already_exists
-returns-in_err-add_link-clause-already_exists g c =
+pub returns-in_err-add_link : goal.returns-in_err-add_link
+returns-in_err-add_link g c =
     let p = err_from_is_err_and c.from_residual-in_err-add_link.result c.from_residual-in_err-add_link.ensures.1 in
-    (told-no_memory (branches c.args.self.now.table) c.args.self.now.sound (link c.args.target.now) c.args.path.now c.in_ok-spot.spot.holder c.in_ok-spot.spot.name.now c.from_residual-in_err-add_link.result c.in_ok-spot.ensures.value
-    (p.1 ∙ ap (λ e. Err e) p.2)).already_exists
+    refused-memory (branches c.args.self.now.table) c.args.self.now.sound (link c.args.target.now) c.args.path.now c.in_ok-spot.spot.holder c.in_ok-spot.spot.name.now c.in_ok-spot.ensures.value
+    c.from_residual-in_err-add_link.result (branches c.add_link.new.self) (p.1 ∙ ap (λ e. Err e) p.2) c.in_err-add_link.ensures.err
 
-pub returns-clause-added : goal.returns-clause-added
-returns-clause-added g c =
+pub returns : goal.returns
+returns g c =
     let spot = found-spot (branches c.args.self.now.table) c.args.self.now.sound (link c.args.target.now) c.args.path.now c.in_ok-spot.spot.holder c.in_ok-spot.spot.name.now c.in_ok-spot.ensures.value in
-    built-grown (branches c.args.self.now.table) c.args.self.now.sound c.in_ok-spot.spot.holder c.in_ok-spot.spot.name.now (add (link c.args.target.now) c.args.path.now (tree_of c.args.self.now)) (link c.args.target.now) spot (Link c.args.target.now)
+    was-added (branches c.args.self.now.table) c.args.self.now.sound (link c.args.target.now) c.args.path.now c.in_ok-spot.spot.holder c.in_ok-spot.spot.name.now c.in_ok-spot.ensures.value (branches c.add_link.new.self)
+    (built-grown (branches c.args.self.now.table) c.args.self.now.sound c.in_ok-spot.spot.holder c.in_ok-spot.spot.name.now (add (link c.args.target.now) c.args.path.now (tree_of c.args.self.now)) (link c.args.target.now) spot (Link c.args.target.now)
     (branches c.add_link.new.self) (with_named (branches c.args.self.now.table) c.in_ok-spot.spot.holder c.in_ok-spot.spot.name.now (Link c.args.target.now)) c.in_ok-add_link.ensures.ok
-    (grows-leaf (branches c.args.self.now.table) c.in_ok-spot.spot.holder c.in_ok-spot.spot.name.now c.in_ok-spot.ensures.within spot.free (Link c.args.target.now) (λ other. refl)) refl
-
-pub returns-clause-not_found : goal.returns-clause-not_found
-returns-clause-not_found g c =
-    (told-added (branches c.args.self.now.table) c.args.self.now.sound (link c.args.target.now) c.args.path.now c.in_ok-spot.spot.holder c.in_ok-spot.spot.name.now c.in_ok-spot.ensures.value).not_found
-
-pub returns-clause-already_exists : goal.returns-clause-already_exists
-returns-clause-already_exists g c =
-    (told-added (branches c.args.self.now.table) c.args.self.now.sound (link c.args.target.now) c.args.path.now c.in_ok-spot.spot.holder c.in_ok-spot.spot.name.now c.in_ok-spot.ensures.value).already_exists
+    (grows-leaf (branches c.args.self.now.table) c.in_ok-spot.spot.holder c.in_ok-spot.spot.name.now c.in_ok-spot.ensures.within spot.free (Link c.args.target.now) (λ other. refl)) refl)

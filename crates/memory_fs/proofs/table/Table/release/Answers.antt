@@ -1,8 +1,8 @@
 use Rattle.std.proofs.Common.{◌≡◌, ℕ, ◌+◌, List, [], ◌∷◌, ◌++◌, length, sym, ap, subst, ◌∙◌, arith}
 use Rattle.std.specs.Prelude.{vec_capacity}
 use Rattle.std.proofs.lemmas.List.{length-append}
-use Rattle.memory_fs.specs.Branch.{Branch, IsReleasing}
-use Rattle.memory_fs.specs.Table.{branches, free_places}
+use Rattle.memory_fs.specs.Branch.{Branch}
+use Rattle.memory_fs.specs.Table.{branches, free_places, IsReleasing}
 use Rattle.memory_fs.proofs.ReleaseLemmas.{first-releasing, room-first}
 use Rattle.memory_fs.proofs.table.Table.release.Goals as goal
 

@@ -1,7 +1,6 @@
 use Rattle.std.proofs.Common.{◌+◌, ◌-◌, ◌≤◌, length}
 use Rattle.std.specs.Prelude.{vec_capacity}
-use Rattle.memory_fs.specs.Table.{branches, free_places}
-use Rattle.memory_fs.specs.Branch.{IsReleasing, size}
+use Rattle.memory_fs.specs.Table.{branches, free_places, IsReleasing, size}
 use Rattle.memory_fs.proofs.table.Table.release.Given as goal
 
 -- each turn takes a child away or passes an empty directory

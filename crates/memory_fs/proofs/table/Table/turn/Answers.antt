@@ -2,8 +2,8 @@ use Rattle.std.proofs.Common.{◌≡◌, ℕ, List, [], ◌∷◌, ◌++◌, len
 use Rattle.std.specs.Prelude.{slice_set, vec_capacity}
 use Rattle.std.proofs.lemmas.Grind.{get_or_default_zero}
 use Rattle.memory_fs.specs.Child.{child_seen}
-use Rattle.memory_fs.specs.Branch.{branch_at, children_at, empty_branch, PopsLast, IsTurn}
-use Rattle.memory_fs.specs.Table.{branches, free_places}
+use Rattle.memory_fs.specs.Branch.{branch_at, children_at, empty_branch, PopsLast}
+use Rattle.memory_fs.specs.Table.{branches, free_places, IsTurn}
 use Rattle.memory_fs.proofs.ReleaseLemmas.{set-twice, turn-leaf, turn-directory, turn-empty, room-directory}
 use Rattle.memory_fs.proofs.table.Table.turn.Goals as goal
 use Rattle.memory_fs.proofs.table.Table.turn.Goals.{in-Dir, in-File, in-Link}
