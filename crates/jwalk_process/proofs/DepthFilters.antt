@@ -47,5 +47,5 @@ pub made_at_depth : {R E X F : Type 0} (view : X → Item R E) (given : Given R 
     → OnOk answer (IsProcessed given depth path state (map view list) state' (map view left)) → Keeps view (list_depth depth) left kept
     → OnOk answer (IsProcessed given depth path state (map view list) state' (map view kept))
 made_at_depth view given depth path (Ok done) state state' list left kept deep made keeps =
-    rw (keeps.all (depth_of_made given depth path (Ok {F = Unit {0}} done) state state' (map view list) (map view left) made deep)) made
+    rw (keeps.all (depth_of_made {F = Unit {0}} given depth path (Ok done) state state' (map view list) (map view left) made deep)) made
 made_at_depth view given depth path (Err failed) state state' list left kept deep made keeps = tt
