@@ -1,6 +1,7 @@
 //! Functions over walks, callbacks and a file system, with contracts of their own.
 #![tactic(auto)]
 
+pub mod anywhere;
 pub mod batches;
 pub mod counted;
 pub mod filtering;
