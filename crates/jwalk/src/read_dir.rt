@@ -1,6 +1,8 @@
 //! One reading of a directory, and the callbacks that are given its list.
 pub use jwalk_process::by_fn::ByFn;
 pub use jwalk_process::calls::{Calls, Closure};
+pub use jwalk_process::filter_entry::FilterEntry;
+pub use jwalk_process::skip_names::SkipNames;
 pub use jwalk_read::job::Job;
 pub use jwalk_read::process_read_dir::{NoProcess, ProcessReadDir};
 pub use jwalk_read::read_dir::ReadDir;

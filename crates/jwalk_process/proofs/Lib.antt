@@ -1,1 +1,3 @@
 pub mod DepthFilters
+pub mod FilterFacts
+pub mod SkipFacts

@@ -1,1 +1,4 @@
 pub mod ByFn
+pub mod FilterEntry
+pub mod Rows
+pub mod SkipNames

@@ -3,3 +3,5 @@
 
 pub mod by_fn;
 pub mod calls;
+pub mod filter_entry;
+pub mod skip_names;

@@ -2,6 +2,8 @@
 #![tactic(auto)]
 
 #[cfg(test)]
+mod callbacks;
+#[cfg(test)]
 mod error_texts;
 #[cfg(test)]
 mod faults;

@@ -9,6 +9,10 @@ use Rattle.jwalk.specs.walk_model.WalkRows.{tree_a, tree_by}
 use Rattle.jwalk.specs.walk_model.Counted.{blank, bytes}
 use Rattle.jwalk.specs.walk_model.Listing.{below}
 use Rattle.jwalk.specs.walk_model.Walk.{whole_walk}
+use Rattle.jwalk.specs.walk_model.Lines.{line_of}
+use Rattle.jwalk.specs.walk_model.Options.{defaults, with_sort}
+use Rattle.std.specs.Fmt.{digits}
+use Rattle.proved_walk.specs.Skipping.{job_skipping}
 use Rattle.proved_walk.specs.HandsOnNames.{job_handing_on, path_and_state}
 use Rattle.proved_walk.specs.SmallTree.{step_of, all_go, IsBuiltBy}
 
@@ -65,3 +69,16 @@ pub names_walked : (tree : Tree) → IsBuiltBy tree_a tree → map path_and_stat
     ≡ Some (codes "/t", blank) ∷ Some (codes "/t/group 1", bytes (codes "t")) ∷ Some (codes "/t/group 2", bytes (codes "t")) ∷ []
 unfolding IsBuiltBy
 names_walked tree is = ap (λ t. map path_and_state (whole_walk (job_handing_on (functions_of t)) (codes "/t") blank)) is ∙ names_over_tree_a
+
+abbrev without_group_1 : List (List ℕ)
+without_group_1 = codes "0 d /t\n" ∷ codes "1 f /t/a.txt\n" ∷ codes "1 f /t/b.txt\n" ∷ codes "1 f /t/c.txt\n"
+    ∷ codes "1 d /t/group 1\n" ∷ codes "1 d /t/group 2\n" ∷ codes "2 f /t/group 2/e.txt\n" ∷ []
+
+skipped_over_tree_a : map line_of (whole_walk (job_skipping (codes "group 1" ∷ []) (tree_by tree_a) (with_sort true defaults)) (codes "/t") blank) ≡ without_group_1
+unfolding whole_walk below digits
+skipped_over_tree_a = refl
+
+-- what the walk that doesn't enter `group 1` answers over the tree that the steps build
+pub group_1_skipped : (tree : Tree) → IsBuiltBy tree_a tree → map line_of (whole_walk (job_skipping (codes "group 1" ∷ []) (functions_of tree) (with_sort true defaults)) (codes "/t") blank) ≡ without_group_1
+unfolding IsBuiltBy
+group_1_skipped tree is = ap (λ t. map line_of (whole_walk (job_skipping (codes "group 1" ∷ []) (functions_of t) (with_sort true defaults)) (codes "/t") blank)) is ∙ skipped_over_tree_a

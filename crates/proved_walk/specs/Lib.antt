@@ -1,2 +1,3 @@
 pub mod HandsOnNames
 pub mod SmallTree
+pub mod Skipping

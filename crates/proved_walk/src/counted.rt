@@ -1,0 +1,59 @@
+//! A file system of one's own.
+ghost use Rattle.std.specs.Prelude.{◌≡◌};
+
+use jwalk::file_system::{Fault, FileSystem, Listed, Metadata};
+use std::alloc::Allocator;
+use std::cell::Cell;
+use std::io;
+
+/// A file system that answers what another does, and counts how often a directory is listed.
+#[derive(Drop)]
+pub struct Counted<S: FileSystem> {
+    fs: S,
+    listings: Cell<usize>,
+}
+
+impl<S: FileSystem> Counted<S> {
+    /// The same file system, counted from 0.
+    pub fn new(fs: S) -> Self
+        ensures { result.fs ≡ fs }
+    {
+        Counted {
+            fs,
+            listings: Cell::new(0),
+        }
+    }
+
+    /// How often a directory was listed, by the calls that were made so far.
+    pub fn listings(&self) -> usize {
+        self.listings.get()
+    }
+}
+
+impl<S: FileSystem> FileSystem for Counted<S> {
+    // It is fixed where the other is, and answers at each path what that does.
+    ghost IsFixed = { λ s. S.IsFixed s.fs };
+
+    ghost functions = { λ s. S.functions s.fs };
+
+    fn read_dir<A: Allocator + Copy>(
+        &self,
+        alloc: A,
+        path: &str,
+    ) -> Result<Vec<io::Result<Listed<A>>, A>, Fault> {
+        self.listings.set(self.listings.get().saturating_add(1));
+        self.fs.read_dir(alloc, path)
+    }
+
+    fn metadata(&self, path: &str) -> Result<Metadata, Fault> {
+        self.fs.metadata(path)
+    }
+
+    fn symlink_metadata(&self, path: &str) -> Result<Metadata, Fault> {
+        self.fs.symlink_metadata(path)
+    }
+
+    fn read_link<A: Allocator + Copy>(&self, alloc: A, path: &str) -> Result<String<A>, Fault> {
+        self.fs.read_link(alloc, path)
+    }
+}
