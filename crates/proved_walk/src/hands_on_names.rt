@@ -25,6 +25,7 @@ ghost use Rattle.jwalk.specs.jwalk_read.Given.{counted_entry, counted_item, coun
 ghost use Rattle.jwalk.specs.DirEntryIter.{NoneRefused};
 ghost use Rattle.proved_walk.specs.HandsOnNames.{worth_of, handed, with_states, names_handed_on, job_handing_on};
 
+use crate::whole::walk_given;
 use jwalk::error::Result as Answer;
 use jwalk::file_system::FileSystem;
 use jwalk::read_dir::ProcessReadDir;
@@ -115,8 +116,8 @@ impl ProcessReadDir<Texts, Global> for HandsOnNames {
 /// file system that always answers the same, as a `MemoryFs` does, it is the whole walk of the definition, with its
 /// states, unless one of the answers tells of want of memory.
 ///
-/// Its proof shows what a promise on values takes as given (`IsSteady`): besides the file system and the callback, that
-/// a clone of a text counts as that text, and that an entry begins with no text.
+/// Its proof shows what `walk_given` takes as given: besides the file system and the callback, that a clone of a text
+/// counts as that text, and that an entry begins with no text.
 ///
 /// Fails where memory is refused for the answers themselves.
 pub fn walk_handing_on_names<S: FileSystem>(
@@ -131,7 +132,5 @@ pub fn walk_handing_on_names<S: FileSystem>(
     let walk = WalkDirGeneric::<Texts, _, _, _>::new(fs, root)
         .sort(true)
         .process_read_dir(HandsOnNames);
-    let mut found = Vec::new(alloc);
-    walk.into_iter().fill(usize::MAX, &mut found)?;
-    Ok(found)
+    walk_given(alloc, walk)
 }

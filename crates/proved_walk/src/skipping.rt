@@ -10,6 +10,7 @@ ghost use Rattle.jwalk.specs.DirEntryIter.{NoneRefused};
 ghost use Rattle.proved_walk.specs.Skipping.{job_skipping};
 
 use crate::small_tree::small_tree;
+use crate::whole::walk_given;
 use jwalk::error::Result as Answer;
 use jwalk::file_system::{BuildError, FileSystem};
 use jwalk::read_dir::SkipNames;
@@ -27,9 +28,7 @@ pub fn walk_skipping<C: ClientState, S: FileSystem, A: Allocator + Copy>(
         ≡ whole_walk (job_skipping (names_of (callback_of walk)) (S.functions (file_system_of walk)) (options_of walk))
         (root_of walk) blank) }
 {
-    let mut found = Vec::new(alloc);
-    walk.into_iter().fill(usize::MAX, &mut found)?;
-    Ok(found)
+    walk_given(alloc, walk)
 }
 
 /// The callback that doesn't enter `group 1`.
