@@ -1,11 +1,12 @@
-//! A tree in memory that counts how often it is listed, and that may fail at a path.
+//! A tree in memory that counts how often it is asked, and that may fail at a path.
 ghost use Rattle.walk_model.specs.Tree.{functions_of, only_root};
 
 use jwalk::file_system::{Fault, FileSystem, Listed, MemoryFs, Metadata};
-use std::alloc::Allocator;
+use std::alloc::{AllocError, Allocator, Global};
 use std::cell::Cell;
 use std::io;
 use std::io::ErrorKind;
+use std::sync::Arc;
 
 /// At which path a tree fails, and how.
 #[derive(Clone, Copy)]
@@ -24,6 +25,12 @@ pub struct Watched {
     fs: MemoryFs,
     failing: Failing,
     lists: Cell<usize>,
+    looks: Cell<usize>,
+    follows: Cell<usize>,
+}
+
+fn count(calls: &Cell<usize>) {
+    calls.set(calls.get().wrapping_add(1));
 }
 
 impl Watched {
@@ -32,12 +39,29 @@ impl Watched {
             fs,
             failing,
             lists: Cell::new(0),
+            looks: Cell::new(0),
+            follows: Cell::new(0),
         }
+    }
+
+    /// A tree that never fails, to be shared with a walk.
+    pub fn shared(alloc: Global, fs: MemoryFs) -> Result<Arc<Self>, AllocError> {
+        Ok(Arc::new(alloc, Watched::new(fs, Failing::Never))?)
     }
 
     /// How often a listing was asked for.
     pub fn lists(&self) -> usize {
         self.lists.get()
+    }
+
+    /// How often it was asked what stands at a path.
+    pub fn looks(&self) -> usize {
+        self.looks.get()
+    }
+
+    /// How often it was asked what a path leads to, or what the text of a link is.
+    pub fn follows(&self) -> usize {
+        self.follows.get()
     }
 
     fn list_fault(&self, path: &str) -> Option<Fault> {
@@ -59,7 +83,7 @@ impl FileSystem for Watched {
         alloc: A,
         path: &str,
     ) -> Result<Vec<io::Result<Listed<A>>, A>, Fault> {
-        self.lists.set(self.lists.get().wrapping_add(1));
+        count(&self.lists);
         match self.list_fault(path) {
             Some(fault) => Err(fault),
             None => self.fs.read_dir(alloc, path),
@@ -67,10 +91,12 @@ impl FileSystem for Watched {
     }
 
     fn metadata(&self, path: &str) -> Result<Metadata, Fault> {
+        count(&self.follows);
         self.fs.metadata(path)
     }
 
     fn symlink_metadata(&self, path: &str) -> Result<Metadata, Fault> {
+        count(&self.looks);
         match self.failing {
             Failing::MetadataForMemory(at) if at == path => Err(Fault::Memory),
             _ => self.fs.symlink_metadata(path),
@@ -78,6 +104,7 @@ impl FileSystem for Watched {
     }
 
     fn read_link<A: Allocator + Copy>(&self, alloc: A, path: &str) -> Result<String<A>, Fault> {
+        count(&self.follows);
         self.fs.read_link(alloc, path)
     }
 }
