@@ -127,9 +127,14 @@ fn is_told(alloc: Global, failing: Failing) -> Result<bool, AllocError> {
 
 #[test]
 fn errors_keep_their_own_texts(rt: HostRuntime) -> Result<(), AllocError> {
-    assert!(rt; is_told(rt.alloc(), Failing::Item)?);
-    assert!(rt; is_told(rt.alloc(), Failing::Type)?);
-    assert!(rt; is_told(rt.alloc(), Failing::Listing)?);
-    assert!(rt; is_told(rt.alloc(), Failing::Root)?);
+    const ALL: &[Failing] = &[
+        Failing::Item,
+        Failing::Type,
+        Failing::Listing,
+        Failing::Root,
+    ];
+    for failing in ALL {
+        assert!(rt; is_told(rt.alloc(), *failing)?);
+    }
     Ok(())
 }

@@ -6,7 +6,6 @@ use crate::watched::{Failing, Watched};
 use jwalk::file_system::FileType;
 use std::io::ErrorKind;
 use std::process::Abort;
-use std::sync::Arc;
 use std::test::Fail;
 
 fn directory<'a>(items: &'a [Item]) -> ListedDirectory<'a> {
@@ -73,7 +72,7 @@ fn want_of_memory_ends_a_walk(rt: HostRuntime) -> Result<(), Fail> {
 }
 
 /// After each of the next entries there were so many listings, and then the walk is over.
-fn are_listed(walk: &mut Walk<Arc<Watched>>, fs: &Watched, counts: &[usize]) -> bool {
+fn are_listed(walk: &mut Walk<&Watched>, fs: &Watched, counts: &[usize]) -> bool {
     for count in counts {
         if next_entry(walk).is_none() || fs.lists() != *count {
             return false;
@@ -84,8 +83,8 @@ fn are_listed(walk: &mut Walk<Arc<Watched>>, fs: &Watched, counts: &[usize]) -> 
 
 #[test]
 fn one_listing_for_each_directory_entered(rt: HostRuntime) -> Result<(), Fail> {
-    let fs = Watched::shared(rt.alloc(), grouped_tree(rt.alloc())?)?;
-    let mut walk = walk(rt.alloc(), fs.clone()?, "/t")?;
+    let fs = Watched::new(grouped_tree(rt.alloc())?, Failing::Never);
+    let mut walk = walk(rt.alloc(), &fs, "/t")?;
     assert!(rt; fs.lists() == 0);
     assert!(rt; are_listed(&mut walk, &fs, &[1, 1, 1, 2, 2, 3, 3, 3]));
     assert!(rt; fs.lists() == 3);

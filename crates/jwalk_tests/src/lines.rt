@@ -3,7 +3,8 @@
 //! An error is `! DEPTH PATH KIND`, where the path is `-` if there is none and the kind `memory` for want of memory; a
 //! loop has `loop ANCESTOR` for the kind. An entry is `DEPTH LETTER PATH`, followed by the error of its directory where
 //! that could not be read.
-use jwalk::file_system::{FileSystem, FileType};
+use crate::watched::{Calls, Failing, Watched};
+use jwalk::file_system::{FileSystem, FileType, MemoryFs};
 use jwalk::read_dir::NoProcess;
 use jwalk::{DirEntry, DirEntryIter, Error, WalkDirGeneric};
 use std::alloc::{AllocError, Global};
@@ -145,6 +146,15 @@ fn push(text: &mut String, part: &str) -> Result<(), AllocError> {
     text.push_str(part)
 }
 
+/// Whether an answer could be added to a text, as its line or by its getters.
+fn pushes(text: &mut String, answer: &Result<Entry, Error>, by_getters: bool) -> bool {
+    if by_getters {
+        push_getters(text, answer).is_ok()
+    } else {
+        push_line(text, answer).is_ok()
+    }
+}
+
 /// The answers of a walk that is yet to begin, parted by `; `, as their lines or by their getters.
 fn in_a_for_loop<S: FileSystem>(
     alloc: Global,
@@ -152,31 +162,28 @@ fn in_a_for_loop<S: FileSystem>(
     by_getters: bool,
 ) -> Result<String, AllocError> {
     let mut text = String::new(alloc);
+    let mut is_whole = true;
     for answer in walk {
-        if by_getters {
-            push_getters(&mut text, &answer)?;
-        } else {
-            push_line(&mut text, &answer)?;
-        }
+        is_whole &= pushes(&mut text, &answer, by_getters);
     }
-    Ok(text)
+    if is_whole { Ok(text) } else { Err(AllocError) }
 }
 
-/// Adds all answers that are still to come to a text.
-fn push_answers<S: FileSystem>(walk: &mut Walk<S>, text: &mut String) -> Result<(), AllocError> {
+/// Whether all answers that are still to come could be added to a text.
+fn pushes_all<S: FileSystem>(walk: &mut Walk<S>, text: &mut String) -> bool {
+    let mut is_whole = true;
     for answer in walk.by_ref() {
-        push_line(text, &answer)?;
+        is_whole &= pushes(text, &answer, false);
     }
-    Ok(())
+    is_whole
 }
 
 /// All answers of a walk that is yet to begin, parted by `; `, once it was seen that `None` stays.
 fn answers_of<S: FileSystem>(alloc: Global, walk: Builder<S>) -> Result<String, AllocError> {
     let mut walk = walk.into_iter();
     let mut text = String::new(alloc);
-    push_answers(&mut walk, &mut text)?;
-    let end = if is_over(&mut walk) { "" } else { "; not over" };
-    text.push_str(end)?;
+    let is_whole = pushes_all(&mut walk, &mut text) && is_over(&mut walk);
+    text.push_str(if is_whole { "" } else { "; not over" })?;
     Ok(text)
 }
 
@@ -199,6 +206,19 @@ pub fn root_shows<S: FileSystem>(
     wanted: &str,
 ) -> Result<(), Fail> {
     shows(rt, builder(rt.alloc(), fs, root)?, wanted)
+}
+
+/// This is what a walk to some depth answers, and so often it asks its tree.
+pub fn calls_shown(
+    rt: &(impl Abort + AllocGlobal),
+    tree: MemoryFs,
+    root: &str,
+    depth: usize,
+    wanted: &str,
+) -> Result<Calls, Fail> {
+    let fs = Watched::new(tree, Failing::Never);
+    shows(rt, builder(rt.alloc(), &fs, root)?.max_depth(depth), wanted)?;
+    Ok(fs.calls())
 }
 
 /// This is what a `for` loop over a walk comes by.

@@ -1,12 +1,21 @@
 //! Walks over links.
-use crate::lines::{Builder, Entry, builder, fill, root_shows, shows};
+use crate::lines::{Builder, Entry, builder, calls_shown, fill, shows};
 use crate::trees::{Step, tree};
-use crate::watched::Watched;
 use jwalk::Error;
 use jwalk::file_system::MemoryFs;
 use std::alloc::{AllocError, Global};
 use std::process::Abort;
 use std::test::Fail;
+
+fn show_one(
+    rt: &(impl Abort + AllocGlobal),
+    fs: &MemoryFs,
+    follow: bool,
+    wanted: &str,
+) -> Result<(), Fail> {
+    let walk = builder(rt.alloc(), fs, "/r")?;
+    shows(rt, walk.follow_links(follow), wanted)
+}
 
 /// What a walk answers that follows links, and what one answers that doesn't.
 fn show(
@@ -16,16 +25,8 @@ fn show(
     links: &str,
 ) -> Result<(), Fail> {
     let fs = tree(rt.alloc(), steps)?;
-    shows(
-        rt,
-        builder(rt.alloc(), &fs, "/r")?.follow_links(true),
-        followed,
-    )?;
-    shows(
-        rt,
-        builder(rt.alloc(), &fs, "/r")?.follow_links(false),
-        links,
-    )
+    show_one(rt, &fs, true, followed)?;
+    show_one(rt, &fs, false, links)
 }
 
 #[test]
@@ -109,11 +110,6 @@ fn a_link_to_its_own_directory_ends_at_the_41st(rt: HostRuntime) -> Result<(), F
     Ok(())
 }
 
-/// So often it is asked for a listing, for what stands at a path, and for what that leads to.
-fn are_asked(fs: &Watched, lists: usize, looks: usize, follows: usize) -> bool {
-    fs.lists() == lists && fs.looks() == looks && fs.follows() == follows
-}
-
 #[test]
 fn links_cost_no_call_where_none_is_followed(rt: HostRuntime) -> Result<(), Fail> {
     const STEPS: &[Step] = &[
@@ -127,10 +123,9 @@ fn links_cost_no_call_where_none_is_followed(rt: HostRuntime) -> Result<(), Fail
         Step::Link("s", "/r/to_s"),
         Step::Dir("/r/e"),
     ];
-    let fs = Watched::shared(rt.alloc(), tree(rt.alloc(), STEPS)?)?;
     let wanted = "0 d /r; 1 f /r/f; 1 L /r/to_f; 1 d /r/s; 2 f /r/s/x; 2 L /r/s/to_f; \
                   2 L /r/s/to_r; 1 L /r/to_s; 1 d /r/e";
-    root_shows(&rt, fs.clone()?, "/r", wanted)?;
-    assert!(rt; are_asked(&fs, 3, 1, 0));
+    let calls = calls_shown(&rt, tree(rt.alloc(), STEPS)?, "/r", usize::MAX, wanted)?;
+    assert!(rt; calls.lists == 3 && calls.looks == 1 && calls.follows == 0);
     Ok(())
 }

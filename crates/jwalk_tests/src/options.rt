@@ -1,13 +1,14 @@
 //! Walks with options.
-use crate::lines::{Builder, Entry, Walk, builder, fill, is_over, lines_of, next_entry, shows};
+use crate::lines::{
+    Builder, Entry, Walk, builder, calls_shown, fill, is_over, lines_of, next_entry, shows,
+};
 use crate::listed_directory::{Item, ListedDirectory};
 use crate::trees::{denied_tree, forked_tree, grouped_tree};
-use crate::watched::Watched;
+use crate::watched::{Failing, Watched};
 use jwalk::file_system::{BuildError, FileType, MemoryFs};
 use jwalk::{Error, Parallelism};
 use std::alloc::{AllocError, Global};
 use std::io::ErrorKind;
-use std::sync::Arc;
 use std::test::Fail;
 
 // A walk by name over the groups of files.
@@ -141,16 +142,15 @@ fn a_long_listing_of_names_that_begin_alike(rt: HostRuntime) -> Result<(), Fail>
 
 #[test]
 fn nothing_below_the_greatest_depth_is_listed(rt: HostRuntime) -> Result<(), Fail> {
-    let fs = Watched::shared(rt.alloc(), grouped_tree(rt.alloc())?)?;
-    let walk = builder(rt.alloc(), fs.clone()?, "/t")?.max_depth(1);
+    let fs = grouped_tree(rt.alloc())?;
     let wanted = "0 d /t; 1 f /t/c.txt; 1 f /t/a.txt; 1 d /t/group 2; 1 d /t/group 1; 1 f /t/b.txt";
-    shows(&rt, walk, wanted)?;
-    assert!(rt; fs.lists() == 1);
+    let calls = calls_shown(&rt, fs, "/t", 1, wanted)?;
+    assert!(rt; calls.lists == 1);
     Ok(())
 }
 
 // Each of the next entries is a directory read alone, and then the walk is over.
-fn reads_in_turn(walk: &mut Walk<Arc<Watched>>, fs: &Watched, directories: usize) -> bool {
+fn reads_in_turn(walk: &mut Walk<&Watched>, fs: &Watched, directories: usize) -> bool {
     for before in 0..directories {
         let is_alone = next_entry(walk).is_some() && walk.ahead() == 0;
         if !is_alone || fs.lists() != before.wrapping_add(1) {
@@ -162,8 +162,8 @@ fn reads_in_turn(walk: &mut Walk<Arc<Watched>>, fs: &Watched, directories: usize
 
 #[test]
 fn a_serial_walk_reads_one_directory_at_a_time(rt: HostRuntime) -> Result<(), Fail> {
-    let fs = Watched::shared(rt.alloc(), forked_tree(rt.alloc())?)?;
-    let walk = builder(rt.alloc(), fs.clone()?, "/r")?;
+    let fs = Watched::new(forked_tree(rt.alloc())?, Failing::Never);
+    let walk = builder(rt.alloc(), &fs, "/r")?;
     let mut walk = walk.parallelism(Parallelism::Serial).into_iter();
     assert!(rt; reads_in_turn(&mut walk, &fs, 7));
     Ok(())
@@ -186,15 +186,37 @@ fn fills(
     Ok(filled == count && lines.as_str() == wanted)
 }
 
+// How many answers more are asked for and come, and what is there then.
+const PARTS: &[(usize, usize, &str)] = &[
+    (3, 3, "0 d /t; 1 f /t/a.txt; 1 f /t/b.txt"),
+    (
+        100,
+        5,
+        "0 d /t; 1 f /t/a.txt; 1 f /t/b.txt; 1 f /t/c.txt; 1 d /t/group 1; \
+         2 f /t/group 1/d.txt; 1 d /t/group 2; 2 f /t/group 2/e.txt",
+    ),
+    (
+        100,
+        0,
+        "0 d /t; 1 f /t/a.txt; 1 f /t/b.txt; 1 f /t/c.txt; 1 d /t/group 1; \
+         2 f /t/group 1/d.txt; 1 d /t/group 2; 2 f /t/group 2/e.txt",
+    ),
+];
+
+fn comes_in_parts(alloc: Global, walk: &mut Walk<MemoryFs>) -> Result<bool, AllocError> {
+    let mut found = Vec::new(alloc);
+    for (n, count, wanted) in PARTS {
+        if !fills(walk, &mut found, *n, *count, wanted)? {
+            return Ok(false);
+        }
+    }
+    Ok(true)
+}
+
 #[test]
 fn answers_in_three_parts(rt: HostRuntime) -> Result<(), Fail> {
     let mut walk = begun(rt.alloc()).ok_or("refused")?;
-    let mut found = Vec::new(rt.alloc());
-    let first = "0 d /t; 1 f /t/a.txt; 1 f /t/b.txt";
-    let all = "0 d /t; 1 f /t/a.txt; 1 f /t/b.txt; 1 f /t/c.txt; 1 d /t/group 1; \
-               2 f /t/group 1/d.txt; 1 d /t/group 2; 2 f /t/group 2/e.txt";
-    assert!(rt; fills(&mut walk, &mut found, 3, 3, first)?);
-    assert!(rt; fills(&mut walk, &mut found, 100, 5, all)?);
-    assert!(rt; fills(&mut walk, &mut found, 100, 0, all)?);
+    let is_right = comes_in_parts(rt.alloc(), &mut walk)?;
+    assert!(rt; is_right);
     Ok(())
 }

@@ -2,7 +2,7 @@
 ghost use Rattle.jwalk_read.specs.Job.{callback};
 
 use crate::trees::grouped_tree;
-use crate::watched::Watched;
+use crate::watched::{Failing, Watched};
 use jwalk::file_system::{FileSystem, MemoryFs};
 use jwalk::read_dir::{Job, NoProcess, ProcessReadDir, ReadDirSpec};
 use jwalk::{ClientState, DirEntry, Error};
@@ -79,10 +79,17 @@ fn are_groups(specs: &[ReadDirSpec<Noted>]) -> bool {
     }
 }
 
-// Whether the root is this one, and its directories are the two groups.
-fn has_groups(job: &Job<Noted, MemoryFs, NotesNames>, root: &ReadDirSpec<Noted>) -> bool {
+fn leads_to_groups(job: &Job<Noted, MemoryFs, NotesNames>, root: &ReadDirSpec<Noted>) -> bool {
     match specs_in(job, root) {
         Some(specs) => root.path.as_str() == "/t" && are_groups(specs.as_slice()),
+        None => false,
+    }
+}
+
+// Whether the root is the one that was named, and its directories are the two groups.
+fn has_groups(job: &Job<Noted, MemoryFs, NotesNames>) -> bool {
+    match root_spec(job) {
+        Some(root) => leads_to_groups(job, &root),
         None => false,
     }
 }
@@ -91,23 +98,25 @@ fn has_groups(job: &Job<Noted, MemoryFs, NotesNames>, root: &ReadDirSpec<Noted>)
 fn a_reading_has_its_items_and_directories_in_order(rt: HostRuntime) -> Result<(), Fail> {
     let fs = grouped_tree(rt.alloc())?;
     let job = Job::<Noted, _, _>::new(rt.alloc(), fs, NotesNames, false, true, false, usize::MAX);
-    let root = root_spec(&job).ok_or("no root")?;
-    assert!(rt; has_groups(&job, &root));
+    assert!(rt; has_groups(&job));
     Ok(())
 }
 
 // Whether the root has no directories, as far as a job reads.
 fn has_none<S: FileSystem>(job: &Job<((), ()), S, NoProcess>) -> bool {
-    match root_spec(job) {
-        Some(root) => specs_in(job, &root).is_some_and(|specs| specs.is_empty()),
+    let Some(root) = root_spec(job) else {
+        return false;
+    };
+    match specs_in(job, &root) {
+        Some(specs) => specs.is_empty(),
         None => false,
     }
 }
 
 #[test]
 fn nothing_is_read_at_the_greatest_depth(rt: HostRuntime) -> Result<(), Fail> {
-    let fs = Watched::shared(rt.alloc(), grouped_tree(rt.alloc())?)?;
-    let job = Job::<((), ()), _, _>::new(rt.alloc(), fs.clone()?, NoProcess, false, true, false, 0);
+    let fs = Watched::new(grouped_tree(rt.alloc())?, Failing::Never);
+    let job = Job::<((), ()), _, _>::new(rt.alloc(), &fs, NoProcess, false, true, false, 0);
     assert!(rt; has_none(&job));
     assert!(rt; fs.lists() == 0);
     Ok(())
@@ -129,10 +138,17 @@ fn root_of_the_grouped_tree(alloc: Global) -> Result<DirEntry<((), ())>, Fail> {
     Ok(root_of(&job).ok_or("not one root")?)
 }
 
+fn is_at(entry: &DirEntry<((), ())>, wanted: &str) -> bool {
+    match entry.path() {
+        Ok(path) => path.as_str() == wanted,
+        Err(_) => false,
+    }
+}
+
 #[test]
 fn a_reading_gives_its_list_out(rt: HostRuntime) -> Result<(), Fail> {
     let root = root_of_the_grouped_tree(rt.alloc())?;
-    assert_eq!(rt; root.path()?.as_str(), "/t");
+    assert!(rt; is_at(&root, "/t"));
     Ok(())
 }
 

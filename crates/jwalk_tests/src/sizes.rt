@@ -1,6 +1,6 @@
 //! Walks over trees of size.
 use crate::lines::{Entry, Walk, builder, fill, is_over, next_entry, next_path, walk};
-use crate::watched::Watched;
+use crate::watched::{Failing, Watched};
 use jwalk::Error;
 use jwalk::file_system::{BuildError, FileSystem, MemoryFs};
 use proved_walk::batches::count_in_batches;
@@ -56,9 +56,8 @@ fn files_are_next<S: FileSystem>(alloc: Global, walk: &mut Walk<S>, by_name: boo
 
 /// A walk has the directory and all its files, of one listing.
 fn has_all_files(alloc: Global, by_name: bool) -> Result<bool, Fail> {
-    let fs = Watched::shared(alloc, wide_directory(alloc)?)?;
-    let walk = builder(alloc, fs.clone()?, "/d")?.sort(by_name);
-    let mut walk = walk.into_iter();
+    let fs = Watched::new(wide_directory(alloc)?, Failing::Never);
+    let mut walk = builder(alloc, &fs, "/d")?.sort(by_name).into_iter();
     let is_first = next_entry(&mut walk).is_some();
     Ok(is_first && files_are_next(alloc, &mut walk, by_name) && fs.lists() == 1)
 }
@@ -84,12 +83,17 @@ fn fills(
     Ok(fill(walk, usize::MAX, found)? == count && found.len() == 5_001)
 }
 
+/// A first call gives all answers, and a second none.
+fn comes_at_once(alloc: Global, walk: &mut Walk<MemoryFs>) -> Result<bool, AllocError> {
+    let mut found = Vec::new(alloc);
+    Ok(fills(walk, &mut found, 5_001)? && fills(walk, &mut found, 0)?)
+}
+
 #[test]
 fn all_answers_by_one_call(rt: HostRuntime) -> Result<(), Fail> {
     let mut walk = walk(rt.alloc(), wide_directory(rt.alloc())?, "/d")?;
-    let mut found = Vec::new(rt.alloc());
-    assert!(rt; fills(&mut walk, &mut found, 5_001)?);
-    assert!(rt; fills(&mut walk, &mut found, 0)?);
+    let is_whole = comes_at_once(rt.alloc(), &mut walk)?;
+    assert!(rt; is_whole);
     Ok(())
 }
 
@@ -134,8 +138,8 @@ fn depths_are_next<S: FileSystem>(walk: &mut Walk<S>, depths: usize) -> bool {
 
 #[test]
 fn a_chain_of_directories(rt: HostRuntime) -> Result<(), Fail> {
-    let fs = Watched::shared(rt.alloc(), chain(rt.alloc())?)?;
-    let mut walk = walk(rt.alloc(), fs.clone()?, "/c")?;
+    let fs = Watched::new(chain(rt.alloc())?, Failing::Never);
+    let mut walk = walk(rt.alloc(), &fs, "/c")?;
     assert!(rt; depths_are_next(&mut walk, 31));
     assert!(rt; fs.lists() == 31);
     Ok(())

@@ -2,11 +2,10 @@
 ghost use Rattle.walk_model.specs.Tree.{functions_of, only_root};
 
 use jwalk::file_system::{Fault, FileSystem, Listed, MemoryFs, Metadata};
-use std::alloc::{AllocError, Allocator, Global};
+use std::alloc::Allocator;
 use std::cell::Cell;
 use std::io;
 use std::io::ErrorKind;
-use std::sync::Arc;
 
 /// At which path a tree fails, and how.
 #[derive(Clone, Copy)]
@@ -18,6 +17,17 @@ pub enum Failing {
     ListForMemory(&'static str),
     /// Want of memory in place of metadata.
     MetadataForMemory(&'static str),
+}
+
+/// How often a tree was asked.
+#[derive(Clone, Copy)]
+pub struct Calls {
+    /// For a listing.
+    pub lists: usize,
+    /// For what stands at a path.
+    pub looks: usize,
+    /// For what a path leads to, or for the text of a link.
+    pub follows: usize,
 }
 
 #[derive(Drop)]
@@ -44,24 +54,18 @@ impl Watched {
         }
     }
 
-    /// A tree that never fails, to be shared with a walk.
-    pub fn shared(alloc: Global, fs: MemoryFs) -> Result<Arc<Self>, AllocError> {
-        Ok(Arc::new(alloc, Watched::new(fs, Failing::Never))?)
-    }
-
     /// How often a listing was asked for.
     pub fn lists(&self) -> usize {
         self.lists.get()
     }
 
-    /// How often it was asked what stands at a path.
-    pub fn looks(&self) -> usize {
-        self.looks.get()
-    }
-
-    /// How often it was asked what a path leads to, or what the text of a link is.
-    pub fn follows(&self) -> usize {
-        self.follows.get()
+    /// How often each was asked for.
+    pub fn calls(&self) -> Calls {
+        Calls {
+            lists: self.lists.get(),
+            looks: self.looks.get(),
+            follows: self.follows.get(),
+        }
     }
 
     fn list_fault(&self, path: &str) -> Option<Fault> {

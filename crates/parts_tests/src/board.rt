@@ -26,8 +26,8 @@ enum Step {
     Stops,
 }
 
-// What a step does. None of it promises anything: a test that calls the board itself carries each call's contract to its
-// end.
+// What a step does. None of it promises anything: a test that calls the board itself carries each call's contract to
+// its end.
 
 fn path(alloc: Global, indices: &[usize]) -> Result<IndexPath, AllocError> {
     Ok(IndexPath::new(Vec::from_slice(alloc, indices)?))

@@ -41,8 +41,8 @@ enum Step {
     ReadsNone(&'static str, ErrorKind),
 }
 
-// What the steps do. None of it promises anything: a test that calls the tree itself carries each call's contract to its
-// end.
+// What the steps do. None of it promises anything: a test that calls the tree itself carries each call's contract to
+// its end.
 
 fn changes<A: Allocator + Copy>(fs: &mut MemoryFs<A>, it: &Change) -> Result<(), BuildError> {
     match it {
