@@ -1,13 +1,12 @@
 //! The texts of a file system's errors.
 ghost use Rattle.walk_model.specs.Tree.{functions_of, only_root};
 
-use crate::lines::{Entry, walk};
+use crate::lines::{Entry, fill, walk};
 use jwalk::Error;
 use jwalk::file_system::{Fault, FileSystem, FileType, Listed, Metadata};
 use std::alloc::{AllocError, Allocator, Global};
 use std::io;
 use std::io::ErrorKind;
-use std::test::Fail;
 
 /// What of a file system fails.
 #[derive(Clone, Copy)]
@@ -93,40 +92,49 @@ fn error_of(answer: &Result<Entry, Error>) -> Option<&Error> {
     }
 }
 
-/// The text of an answer's error, if it has one.
-fn text_of(alloc: Global, answer: &Result<Entry, Error>) -> Result<Option<String>, AllocError> {
-    let Some(error) = error_of(answer) else {
-        return Ok(None);
-    };
-    match error.io_error() {
-        Some(err) => Ok(Some(format!(in alloc; "{err}")?)),
-        None => Ok(None),
+/// Adds the text of an answer's error to a text, if it has one.
+fn push_text(text: &mut String, answer: &Result<Entry, Error>) -> Result<(), AllocError> {
+    if let Some(error) = error_of(answer) {
+        push_error(text, error)?;
     }
+    Ok(())
 }
 
-/// The texts of all errors among a walk's answers.
-fn told(alloc: Global, fs: Telling) -> Result<String, AllocError> {
+fn push_error(text: &mut String, error: &Error) -> Result<(), AllocError> {
+    if let Some(err) = error.io_error() {
+        text.push_str(format!(in *text.allocator(); "{err}")?.as_str())?;
+    }
+    Ok(())
+}
+
+/// The texts of all errors among answers.
+fn texts_of(alloc: Global, answers: &[Result<Entry, Error>]) -> Result<String, AllocError> {
     let mut texts = String::new(alloc);
-    for answer in walk(alloc, fs, "/d")? {
-        if let Some(text) = text_of(alloc, &answer)? {
-            texts.push_str(text.as_str())?;
-        }
+    for answer in answers {
+        push_text(&mut texts, answer)?;
     }
     Ok(texts)
 }
 
-#[test]
-fn errors_keep_their_own_texts(rt: HostRuntime) -> Result<(), Fail> {
+/// Whether a walk tells the text of the one error that it meets.
+fn is_told(alloc: Global, failing: Failing) -> Result<bool, AllocError> {
     let text = "block 17 can't be read";
-    let rows = [
-        (Failing::Item, "an item"),
-        (Failing::Type, "a type"),
-        (Failing::Listing, "a listing"),
-        (Failing::Root, "a root"),
+    let mut walk = walk(alloc, Telling { failing, text }, "/d")?;
+    let mut found = Vec::new(alloc);
+    fill(&mut walk, usize::MAX, &mut found)?;
+    Ok(texts_of(alloc, found.as_slice())?.as_str() == text)
+}
+
+#[test]
+fn errors_keep_their_own_texts(rt: HostRuntime) -> Result<(), AllocError> {
+    const ALL: &[Failing] = &[
+        Failing::Item,
+        Failing::Type,
+        Failing::Listing,
+        Failing::Root,
     ];
-    for (failing, what) in rows {
-        let told = told(rt.alloc(), Telling { failing, text })?;
-        assert_eq!(rt; told.as_str(), text, "{what}");
+    for failing in ALL {
+        assert!(rt; is_told(rt.alloc(), *failing)?);
     }
     Ok(())
 }

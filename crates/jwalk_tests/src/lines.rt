@@ -1,8 +1,10 @@
 //! A walk's answers as one text, to be compared with the text that is wanted.
 //!
-//! An error is `! DEPTH PATH KIND`, where the path is `-` if there is none and the kind `memory` for want of memory; a loop has `loop ANCESTOR` for the kind. An
-//! entry is `DEPTH LETTER PATH`, followed by the error of its directory where that could not be read.
-use jwalk::file_system::{FileSystem, FileType};
+//! An error is `! DEPTH PATH KIND`, where the path is `-` if there is none and the kind `memory` for want of memory; a
+//! loop has `loop ANCESTOR` for the kind. An entry is `DEPTH LETTER PATH`, followed by the error of its directory where
+//! that could not be read.
+use crate::watched::{Calls, Failing, Watched};
+use jwalk::file_system::{FileSystem, FileType, MemoryFs};
 use jwalk::read_dir::NoProcess;
 use jwalk::{DirEntry, DirEntryIter, Error, WalkDirGeneric};
 use std::alloc::{AllocError, Global};
@@ -32,6 +34,11 @@ pub fn next_entry<S: FileSystem>(walk: &mut Walk<S>) -> Option<Entry> {
     walk.next()?.ok()
 }
 
+/// The path of the next answer, if it is an entry.
+pub fn next_path<S: FileSystem>(walk: &mut Walk<S>) -> Option<String> {
+    next_entry(walk)?.path().ok()
+}
+
 /// What the getters of an entry answer: depth, name, parent, the letter of its type, and `+` where it has a directory
 /// to be read.
 fn getters(alloc: Global, entry: &Entry) -> Result<String, AllocError> {
@@ -47,34 +54,13 @@ fn getters(alloc: Global, entry: &Entry) -> Result<String, AllocError> {
     format!(in alloc; "{depth} {name} in {parent} {letter}{mark}")
 }
 
-/// The getters of the next answer, if it is an entry.
-fn next_getters<S: FileSystem>(
-    alloc: Global,
-    walk: &mut Walk<S>,
-) -> Result<Option<String>, AllocError> {
-    match next_entry(walk) {
-        Some(entry) => Ok(Some(getters(alloc, &entry)?)),
-        None => Ok(None),
-    }
-}
-
-/// The next answers are entries, and this is what their getters answer.
-pub fn next_are<S: FileSystem>(
-    rt: &(impl Abort + AllocGlobal),
-    walk: &mut Walk<S>,
-    wanted: &[&str],
-) -> Result<(), Fail> {
-    for text in wanted {
-        let found = next_getters(rt.alloc(), walk)?.ok_or("no entry")?;
-        assert_eq!(rt; found.as_str(), *text);
-    }
-    Ok(())
+fn is_none<S: FileSystem>(walk: &mut Walk<S>) -> bool {
+    walk.next().is_none()
 }
 
 /// The next two answers are none.
 pub fn is_over<S: FileSystem>(walk: &mut Walk<S>) -> bool {
-    let first = walk.next().is_none();
-    walk.next().is_none() && first
+    is_none(walk) && is_none(walk)
 }
 
 /// The letter of a type, a capital where a link was met.
@@ -142,22 +128,62 @@ pub fn lines_of(alloc: Global, answers: &[Result<Entry, Error>]) -> Result<Strin
 
 /// Adds one answer to a text.
 pub fn push_line(text: &mut String, answer: &Result<Entry, Error>) -> Result<(), AllocError> {
-    if !text.is_empty() {
-        text.push_str("; ")?;
+    push(text, line(*text.allocator(), answer)?.as_str())
+}
+
+/// Adds the getters of an answer to a text.
+fn push_getters(text: &mut String, answer: &Result<Entry, Error>) -> Result<(), AllocError> {
+    match answer {
+        Ok(entry) => push(text, getters(*text.allocator(), entry)?.as_str()),
+        Err(_) => push(text, "an error"),
     }
-    text.push_str(line(*text.allocator(), answer)?.as_str())
+}
+
+/// Adds one part to a text.
+fn push(text: &mut String, part: &str) -> Result<(), AllocError> {
+    let mark = if text.is_empty() { "" } else { "; " };
+    text.push_str(mark)?;
+    text.push_str(part)
+}
+
+/// Whether an answer could be added to a text, as its line or by its getters.
+fn pushes(text: &mut String, answer: &Result<Entry, Error>, by_getters: bool) -> bool {
+    if by_getters {
+        push_getters(text, answer).is_ok()
+    } else {
+        push_line(text, answer).is_ok()
+    }
+}
+
+/// The answers of a walk that is yet to begin, parted by `; `, as their lines or by their getters.
+fn in_a_for_loop<S: FileSystem>(
+    alloc: Global,
+    walk: Builder<S>,
+    by_getters: bool,
+) -> Result<String, AllocError> {
+    let mut text = String::new(alloc);
+    let mut is_whole = true;
+    for answer in walk {
+        is_whole &= pushes(&mut text, &answer, by_getters);
+    }
+    if is_whole { Ok(text) } else { Err(AllocError) }
+}
+
+/// Whether all answers that are still to come could be added to a text.
+fn pushes_all<S: FileSystem>(walk: &mut Walk<S>, text: &mut String) -> bool {
+    let mut is_whole = true;
+    for answer in walk.by_ref() {
+        is_whole &= pushes(text, &answer, false);
+    }
+    is_whole
 }
 
 /// All answers of a walk that is yet to begin, parted by `; `, once it was seen that `None` stays.
 fn answers_of<S: FileSystem>(alloc: Global, walk: Builder<S>) -> Result<String, AllocError> {
     let mut walk = walk.into_iter();
     let mut text = String::new(alloc);
-    for answer in walk.by_ref() {
-        push_line(&mut text, &answer)?;
-    }
-    if !is_over(&mut walk) {
-        text.push_str("; not over")?;
-    }
+    let is_whole = pushes_all(&mut walk, &mut text) && is_over(&mut walk);
+    text.push_str(if is_whole { "" } else { "; not over" })?;
     Ok(text)
 }
 
@@ -180,6 +206,41 @@ pub fn root_shows<S: FileSystem>(
     wanted: &str,
 ) -> Result<(), Fail> {
     shows(rt, builder(rt.alloc(), fs, root)?, wanted)
+}
+
+/// This is what a walk to some depth answers, and so often it asks its tree.
+pub fn calls_shown(
+    rt: &(impl Abort + AllocGlobal),
+    tree: MemoryFs,
+    root: &str,
+    depth: usize,
+    wanted: &str,
+) -> Result<Calls, Fail> {
+    let fs = Watched::new(tree, Failing::Never);
+    shows(rt, builder(rt.alloc(), &fs, root)?.max_depth(depth), wanted)?;
+    Ok(fs.calls())
+}
+
+/// This is what a `for` loop over a walk comes by.
+pub fn loop_shows<S: FileSystem>(
+    rt: &(impl Abort + AllocGlobal),
+    walk: Builder<S>,
+    by_getters: bool,
+    wanted: &str,
+) -> Result<(), Fail> {
+    let found = in_a_for_loop(rt.alloc(), walk, by_getters)?;
+    assert_eq!(rt; found.as_str(), wanted);
+    Ok(())
+}
+
+/// These are the getters of all entries of a walk with the options as they are.
+pub fn root_has<S: FileSystem>(
+    rt: &(impl Abort + AllocGlobal),
+    fs: S,
+    root: &str,
+    wanted: &str,
+) -> Result<(), Fail> {
+    loop_shows(rt, builder(rt.alloc(), fs, root)?, true, wanted)
 }
 
 /// Fills a list with some answers of a walk.

@@ -1,5 +1,5 @@
 //! Walks from roots that need care.
-use crate::lines::{next_are, root_shows, walk};
+use crate::lines::{root_has, root_shows};
 use crate::listed_directory::{Item, ListedDirectory};
 use crate::trees::{Step, empty_directory, grouped_tree, tree};
 use jwalk::file_system::FileType;
@@ -21,37 +21,40 @@ fn stands_alone(
     rt: &(impl Abort + AllocGlobal),
     root: &str,
     wanted: &str,
-    getters: &[&str],
+    getters: &str,
 ) -> Result<(), Fail> {
     root_shows(rt, empty_directory(rt.alloc(), "/r")?, root, wanted)?;
-    let mut walk = walk(rt.alloc(), empty_directory(rt.alloc(), "/r")?, root)?;
-    next_are(rt, &mut walk, getters)
+    root_has(rt, empty_directory(rt.alloc(), "/r")?, root, getters)
 }
 
 #[test]
 fn roots_that_have_no_file_name(rt: HostRuntime) -> Result<(), Fail> {
-    let rows = [
-        (".", "0 d .; 1 d ./r", ["0 . in  d+", "1 r in . d+"]),
-        ("..", "0 d ..; 1 d ../r", ["0 .. in  d+", "1 r in .. d+"]),
+    const ROWS: &[(&str, &str, &str)] = &[
+        (".", "0 d .; 1 d ./r", "0 . in  d+; 1 r in . d+"),
+        ("..", "0 d ..; 1 d ../r", "0 .. in  d+; 1 r in .. d+"),
         (
             "../..",
             "0 d ../..; 1 d ../../r",
-            ["0 ../.. in  d+", "1 r in ../.. d+"],
+            "0 ../.. in  d+; 1 r in ../.. d+",
         ),
-        ("/", "0 d /; 1 d /r", ["0 / in  d+", "1 r in / d+"]),
+        ("/", "0 d /; 1 d /r", "0 / in  d+; 1 r in / d+"),
     ];
-    for (root, wanted, getters) in rows {
-        stands_alone(&rt, root, wanted, &getters)?;
+    for (root, wanted, getters) in ROWS {
+        stands_alone(&rt, root, wanted, getters)?;
     }
     Ok(())
 }
 
 #[test]
 fn a_root_that_ends_with_a_slash(rt: HostRuntime) -> Result<(), Fail> {
-    let steps = [Step::Dir("/a"), Step::File(1, "/a/x")];
-    root_shows(&rt, tree(rt.alloc(), &steps)?, "a/", "0 d a; 1 f a/x")?;
-    let mut walk = walk(rt.alloc(), tree(rt.alloc(), &steps)?, "a/")?;
-    next_are(&rt, &mut walk, &["0 a in  d+", "1 x in a/ f"])
+    const STEPS: &[Step] = &[Step::Dir("/a"), Step::File(1, "/a/x")];
+    root_shows(&rt, tree(rt.alloc(), STEPS)?, "a/", "0 d a; 1 f a/x")?;
+    root_has(
+        &rt,
+        tree(rt.alloc(), STEPS)?,
+        "a/",
+        "0 a in  d+; 1 x in a/ f",
+    )
 }
 
 // A link to a directory that holds these items.
@@ -66,10 +69,10 @@ fn link_to<'a>(items: &'a [Item]) -> ListedDirectory<'a> {
 
 #[test]
 fn a_root_that_is_a_link_to_a_directory(rt: HostRuntime) -> Result<(), Fail> {
-    let items = [Item::Typed("zzz", FileType::File)];
+    const ITEMS: &[Item] = &[Item::Typed("zzz", FileType::File)];
     let wanted = "0 L /r/a-link; 1 f /r/a-link/zzz";
-    root_shows(&rt, link_to(&items), "/r/a-link", wanted)?;
-    root_shows(&rt, link_to(&items), "/r/a-link/", wanted)
+    root_shows(&rt, link_to(ITEMS), "/r/a-link", wanted)?;
+    root_shows(&rt, link_to(ITEMS), "/r/a-link/", wanted)
 }
 
 #[test]

@@ -1,11 +1,10 @@
 //! Walks over trees of size.
-use crate::lines::{Walk, builder, fill, is_over, next_entry, walk};
+use crate::lines::{Entry, Walk, builder, fill, is_over, next_entry, next_path, walk};
 use crate::watched::{Failing, Watched};
+use jwalk::Error;
 use jwalk::file_system::{BuildError, FileSystem, MemoryFs};
 use proved_walk::batches::count_in_batches;
 use std::alloc::{AllocError, Global};
-use std::process::Abort;
-use std::sync::Arc;
 use std::test::Fail;
 
 /// How many files the wide directory holds.
@@ -22,72 +21,90 @@ fn scrambled(place: usize) -> usize {
     place.wrapping_mul(1_237) % FILES
 }
 
+fn add_file(fs: &mut MemoryFs, path: String) -> Result<(), BuildError> {
+    fs.add_file(path.as_str(), 1)
+}
+
 /// A directory of many files.
 fn wide_directory(alloc: Global) -> Result<MemoryFs, BuildError> {
     let mut fs = MemoryFs::new(alloc);
     fs.add_dir("/d")?;
     for place in 0..FILES {
-        fs.add_file(file_path(alloc, scrambled(place))?.as_str(), 1)?;
+        add_file(&mut fs, file_path(alloc, scrambled(place))?)?;
     }
     Ok(fs)
 }
 
 /// The next answer is the file of this number.
-fn file_is_next<S: FileSystem>(
-    rt: &(impl Abort + AllocGlobal),
-    walk: &mut Walk<S>,
-    number: usize,
-) -> Result<(), Fail> {
-    let entry = next_entry(walk).ok_or("no entry")?;
-    let wanted = file_path(rt.alloc(), number)?;
-    assert_eq!(rt; entry.path()?.as_str(), wanted.as_str());
-    Ok(())
+fn file_is_next<S: FileSystem>(alloc: Global, walk: &mut Walk<S>, number: usize) -> bool {
+    match (next_path(walk), file_path(alloc, number)) {
+        (Some(found), Ok(wanted)) => found.as_str() == wanted.as_str(),
+        _ => false,
+    }
+}
+
+/// The next answers are all files, by name or as they were made, and then the walk is over.
+fn files_are_next<S: FileSystem>(alloc: Global, walk: &mut Walk<S>, by_name: bool) -> bool {
+    for place in 0..FILES {
+        let number = if by_name { place } else { scrambled(place) };
+        if !file_is_next(alloc, walk, number) {
+            return false;
+        }
+    }
+    is_over(walk)
+}
+
+/// A walk has the directory and all its files, of one listing.
+fn has_all_files(alloc: Global, by_name: bool) -> Result<bool, Fail> {
+    let fs = Watched::new(wide_directory(alloc)?, Failing::Never);
+    let mut walk = builder(alloc, &fs, "/d")?.sort(by_name).into_iter();
+    let is_first = next_entry(&mut walk).is_some();
+    Ok(is_first && files_are_next(alloc, &mut walk, by_name) && fs.lists() == 1)
 }
 
 #[test]
 fn many_files_as_they_were_made(rt: HostRuntime) -> Result<(), Fail> {
-    let fs = Watched::new(wide_directory(rt.alloc())?, Failing::Never);
-    let fs = Arc::new(rt.alloc(), fs)?;
-    let mut walk = walk(rt.alloc(), fs.clone()?, "/d")?;
-    assert!(rt; next_entry(&mut walk).is_some());
-    for place in 0..FILES {
-        file_is_next(&rt, &mut walk, scrambled(place))?;
-    }
-    assert!(rt; is_over(&mut walk));
-    assert_eq!(rt; fs.lists(), 1);
+    assert!(rt; has_all_files(rt.alloc(), false)?);
     Ok(())
 }
 
 #[test]
 fn many_files_by_name(rt: HostRuntime) -> Result<(), Fail> {
-    let fs = Watched::new(wide_directory(rt.alloc())?, Failing::Never);
-    let fs = Arc::new(rt.alloc(), fs)?;
-    let walk = builder(rt.alloc(), fs.clone()?, "/d")?.sort(true);
-    let mut walk = walk.into_iter();
-    assert!(rt; next_entry(&mut walk).is_some());
-    for number in 0..FILES {
-        file_is_next(&rt, &mut walk, number)?;
-    }
-    assert!(rt; is_over(&mut walk));
-    assert_eq!(rt; fs.lists(), 1);
+    assert!(rt; has_all_files(rt.alloc(), true)?);
     Ok(())
+}
+
+/// A call for all answers gives so many, and 5001 are then there.
+fn fills(
+    walk: &mut Walk<MemoryFs>,
+    found: &mut Vec<Result<Entry, Error>>,
+    count: usize,
+) -> Result<bool, AllocError> {
+    Ok(fill(walk, usize::MAX, found)? == count && found.len() == 5_001)
+}
+
+/// A first call gives all answers, and a second none.
+fn comes_at_once(alloc: Global, walk: &mut Walk<MemoryFs>) -> Result<bool, AllocError> {
+    let mut found = Vec::new(alloc);
+    Ok(fills(walk, &mut found, 5_001)? && fills(walk, &mut found, 0)?)
 }
 
 #[test]
 fn all_answers_by_one_call(rt: HostRuntime) -> Result<(), Fail> {
     let mut walk = walk(rt.alloc(), wide_directory(rt.alloc())?, "/d")?;
-    let mut found = Vec::new(rt.alloc());
-    for count in [5_001, 0] {
-        assert_eq!(rt; fill(&mut walk, usize::MAX, &mut found)?, count);
-        assert_eq!(rt; found.len(), 5_001);
-    }
+    let is_whole = comes_at_once(rt.alloc(), &mut walk)?;
+    assert!(rt; is_whole);
     Ok(())
+}
+
+fn count(alloc: Global, walk: Walk<MemoryFs>) -> Result<usize, AllocError> {
+    count_in_batches(alloc, walk)
 }
 
 #[test]
 fn answers_counted_a_hundred_at_a_time(rt: HostRuntime) -> Result<(), Fail> {
     let walk = walk(rt.alloc(), wide_directory(rt.alloc())?, "/d")?;
-    assert_eq!(rt; count_in_batches(rt.alloc(), walk)?, 5_001);
+    assert!(rt; count(rt.alloc(), walk)? == 5_001);
     Ok(())
 }
 
@@ -102,16 +119,28 @@ fn chain(alloc: Global) -> Result<MemoryFs, BuildError> {
     Ok(fs)
 }
 
+fn depth_is_next<S: FileSystem>(walk: &mut Walk<S>, depth: usize) -> bool {
+    match next_entry(walk) {
+        Some(entry) => entry.depth() == depth,
+        None => false,
+    }
+}
+
+/// The next answers lie deeper and deeper, and then the walk is over.
+fn depths_are_next<S: FileSystem>(walk: &mut Walk<S>, depths: usize) -> bool {
+    for depth in 0..depths {
+        if !depth_is_next(walk, depth) {
+            return false;
+        }
+    }
+    is_over(walk)
+}
+
 #[test]
 fn a_chain_of_directories(rt: HostRuntime) -> Result<(), Fail> {
     let fs = Watched::new(chain(rt.alloc())?, Failing::Never);
-    let fs = Arc::new(rt.alloc(), fs)?;
-    let mut walk = walk(rt.alloc(), fs.clone()?, "/c")?;
-    for depth in 0..31 {
-        let entry = next_entry(&mut walk).ok_or("no entry")?;
-        assert_eq!(rt; entry.depth(), depth);
-    }
-    assert!(rt; is_over(&mut walk));
-    assert_eq!(rt; fs.lists(), 31);
+    let mut walk = walk(rt.alloc(), &fs, "/c")?;
+    assert!(rt; depths_are_next(&mut walk, 31));
+    assert!(rt; fs.lists() == 31);
     Ok(())
 }

@@ -39,19 +39,19 @@ pub fn tree(alloc: Global, steps: &[Step]) -> Result<MemoryFs, BuildError> {
 
 /// A directory with two files and a directory between them.
 pub fn small_tree(alloc: Global) -> Result<MemoryFs, BuildError> {
-    let steps = [
+    const STEPS: &[Step] = &[
         Step::Dir("/r"),
         Step::File(3, "/r/b"),
         Step::Dir("/r/s"),
         Step::File(1, "/r/s/x"),
         Step::File(2, "/r/a"),
     ];
-    tree(alloc, &steps)
+    tree(alloc, STEPS)
 }
 
 /// Files and two groups of files, one of which has a hidden name.
 pub fn grouped_tree(alloc: Global) -> Result<MemoryFs, BuildError> {
-    let steps = [
+    const STEPS: &[Step] = &[
         Step::Dir("/t"),
         Step::File(1, "/t/c.txt"),
         Step::File(2, "/t/a.txt"),
@@ -62,7 +62,7 @@ pub fn grouped_tree(alloc: Global) -> Result<MemoryFs, BuildError> {
         Step::File(5, "/t/group 1/d.txt"),
         Step::File(6, "/t/b.txt"),
     ];
-    tree(alloc, &steps)
+    tree(alloc, STEPS)
 }
 
 /// The same tree, where one group may not be listed.
@@ -74,7 +74,7 @@ pub fn denied_tree(alloc: Global) -> Result<MemoryFs, BuildError> {
 
 /// A directory with three directories, each with one more.
 pub fn forked_tree(alloc: Global) -> Result<MemoryFs, BuildError> {
-    let steps = [
+    const STEPS: &[Step] = &[
         Step::Dir("/r"),
         Step::Dir("/r/a"),
         Step::Dir("/r/a/x"),
@@ -83,7 +83,7 @@ pub fn forked_tree(alloc: Global) -> Result<MemoryFs, BuildError> {
         Step::Dir("/r/c"),
         Step::Dir("/r/c/x"),
     ];
-    tree(alloc, &steps)
+    tree(alloc, STEPS)
 }
 
 /// One directory that is empty.

@@ -1,4 +1,4 @@
-//! A tree in memory that counts how often it is listed, and that may fail at a path.
+//! A tree in memory that counts how often it is asked, and that may fail at a path.
 ghost use Rattle.walk_model.specs.Tree.{functions_of, only_root};
 
 use jwalk::file_system::{Fault, FileSystem, Listed, MemoryFs, Metadata};
@@ -19,11 +19,28 @@ pub enum Failing {
     MetadataForMemory(&'static str),
 }
 
+/// How often a tree was asked.
+#[derive(Clone, Copy)]
+pub struct Calls {
+    /// For a listing.
+    pub lists: usize,
+    /// For what stands at a path.
+    pub looks: usize,
+    /// For what a path leads to, or for the text of a link.
+    pub follows: usize,
+}
+
 #[derive(Drop)]
 pub struct Watched {
     fs: MemoryFs,
     failing: Failing,
     lists: Cell<usize>,
+    looks: Cell<usize>,
+    follows: Cell<usize>,
+}
+
+fn count(calls: &Cell<usize>) {
+    calls.set(calls.get().wrapping_add(1));
 }
 
 impl Watched {
@@ -32,12 +49,23 @@ impl Watched {
             fs,
             failing,
             lists: Cell::new(0),
+            looks: Cell::new(0),
+            follows: Cell::new(0),
         }
     }
 
     /// How often a listing was asked for.
     pub fn lists(&self) -> usize {
         self.lists.get()
+    }
+
+    /// How often each was asked for.
+    pub fn calls(&self) -> Calls {
+        Calls {
+            lists: self.lists.get(),
+            looks: self.looks.get(),
+            follows: self.follows.get(),
+        }
     }
 
     fn list_fault(&self, path: &str) -> Option<Fault> {
@@ -59,7 +87,7 @@ impl FileSystem for Watched {
         alloc: A,
         path: &str,
     ) -> Result<Vec<io::Result<Listed<A>>, A>, Fault> {
-        self.lists.set(self.lists.get().wrapping_add(1));
+        count(&self.lists);
         match self.list_fault(path) {
             Some(fault) => Err(fault),
             None => self.fs.read_dir(alloc, path),
@@ -67,10 +95,12 @@ impl FileSystem for Watched {
     }
 
     fn metadata(&self, path: &str) -> Result<Metadata, Fault> {
+        count(&self.follows);
         self.fs.metadata(path)
     }
 
     fn symlink_metadata(&self, path: &str) -> Result<Metadata, Fault> {
+        count(&self.looks);
         match self.failing {
             Failing::MetadataForMemory(at) if at == path => Err(Fault::Memory),
             _ => self.fs.symlink_metadata(path),
@@ -78,6 +108,7 @@ impl FileSystem for Watched {
     }
 
     fn read_link<A: Allocator + Copy>(&self, alloc: A, path: &str) -> Result<String<A>, Fault> {
+        count(&self.follows);
         self.fs.read_link(alloc, path)
     }
 }

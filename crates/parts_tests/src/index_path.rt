@@ -2,48 +2,101 @@
 use jwalk_order::index_path::IndexPath;
 use std::alloc::{AllocError, Global};
 use std::collections::BinaryHeap;
-use std::test::Fail;
 
 fn path(alloc: Global, indices: &[usize]) -> Result<IndexPath, AllocError> {
     Ok(IndexPath::new(Vec::from_slice(alloc, indices)?))
 }
 
-// Whether a greatest-first heap of these gives a root, its first child and its second.
-fn come_in_order(alloc: Global, lists: [&[usize]; 3]) -> Result<bool, AllocError> {
+fn is(address: &IndexPath, indices: &[usize]) -> bool {
+    address.indices.as_slice() == indices
+}
+
+type Three<'a> = (&'a [usize], &'a [usize], &'a [usize]);
+
+fn heap_of(alloc: Global, lists: &Three<'_>) -> Result<BinaryHeap<IndexPath>, AllocError> {
     let mut heap = BinaryHeap::new(alloc);
-    for indices in lists {
-        heap.push(path(alloc, indices)?)?;
+    heap.push(path(alloc, lists.0)?)?;
+    heap.push(path(alloc, lists.1)?)?;
+    heap.push(path(alloc, lists.2)?)?;
+    Ok(heap)
+}
+
+fn gives(heap: &mut BinaryHeap<IndexPath>, indices: &[usize]) -> bool {
+    match heap.pop() {
+        Some(address) => is(&address, indices),
+        None => false,
     }
-    let first = heap.pop() == Some(path(alloc, &[0])?);
-    let second = heap.pop() == Some(path(alloc, &[0, 0])?);
-    let third = heap.pop() == Some(path(alloc, &[0, 1])?);
-    Ok(first && second && third)
 }
 
-#[test]
-fn a_heap_gives_the_least_address_first(rt: HostRuntime) -> Result<(), Fail> {
-    let alloc = rt.alloc();
-    assert!(rt; come_in_order(alloc, [&[0], &[0, 0], &[0, 1]])?);
-    assert!(rt; come_in_order(alloc, [&[0], &[0, 1], &[0, 0]])?);
-    assert!(rt; come_in_order(alloc, [&[0, 0], &[0], &[0, 1]])?);
-    assert!(rt; come_in_order(alloc, [&[0, 0], &[0, 1], &[0]])?);
-    assert!(rt; come_in_order(alloc, [&[0, 1], &[0], &[0, 0]])?);
-    assert!(rt; come_in_order(alloc, [&[0, 1], &[0, 0], &[0]])?);
-    Ok(())
+// Whether a greatest-first heap of these gives a root, its first child and its second.
+fn come_in_order(alloc: Global, lists: &Three<'_>) -> bool {
+    match heap_of(alloc, lists) {
+        Ok(mut heap) => {
+            gives(&mut heap, &[0]) && gives(&mut heap, &[0, 0]) && gives(&mut heap, &[0, 1])
+        }
+        Err(_) => false,
+    }
 }
 
+const ORDERS: &[Three<'static>] = &[
+    (&[0], &[0, 0], &[0, 1]),
+    (&[0], &[0, 1], &[0, 0]),
+    (&[0, 0], &[0], &[0, 1]),
+    (&[0, 0], &[0, 1], &[0]),
+    (&[0, 1], &[0], &[0, 0]),
+    (&[0, 1], &[0, 0], &[0]),
+];
+
 #[test]
-fn an_address_goes_down_and_up(rt: HostRuntime) -> Result<(), Fail> {
-    let mut address = path(rt.alloc(), &[0])?;
-    assert_eq!(rt; address.adding(2)?.indices.as_slice(), [0, 2].as_slice());
-    assert!(rt; address.try_clone()? == address);
-    address.push(1)?;
-    assert_eq!(rt; address.indices.as_slice(), [0, 1].as_slice());
+fn a_heap_gives_the_least_address_first(rt: HostRuntime) {
+    for lists in ORDERS {
+        assert!(rt; come_in_order(rt.alloc(), lists));
+    }
+}
+
+fn has_child(address: &IndexPath, index: usize, indices: &[usize]) -> bool {
+    match address.adding(index) {
+        Ok(child) => is(&child, indices),
+        Err(_) => false,
+    }
+}
+
+fn has_clone(address: &IndexPath) -> bool {
+    match address.try_clone() {
+        Ok(copy) => copy == *address,
+        Err(_) => false,
+    }
+}
+
+// Goes to the child 1 of the root 0, and on to the next.
+fn goes_down(address: &mut IndexPath) -> bool {
+    if address.push(1).is_err() {
+        return false;
+    }
+    let is_there = is(address, &[0, 1]);
     address.increment_last();
-    for index in [Some(2), Some(0), None] {
-        assert_eq!(rt; address.pop(), index);
-    }
-    assert!(rt; address.is_empty());
+    is_there
+}
+
+// Goes up from the child 2 of the root 0.
+fn goes_up(address: &mut IndexPath) -> bool {
+    address.pop() == Some(2)
+        && address.pop() == Some(0)
+        && address.pop().is_none()
+        && address.is_empty()
+}
+
+fn goes_about(mut address: IndexPath) -> bool {
+    has_child(&address, 2, &[0, 2])
+        && has_clone(&address)
+        && goes_down(&mut address)
+        && goes_up(&mut address)
+}
+
+#[test]
+fn an_address_goes_down_and_up(rt: HostRuntime) -> Result<(), AllocError> {
+    let address = path(rt.alloc(), &[0])?;
+    assert!(rt; goes_about(address));
     Ok(())
 }
 
@@ -65,13 +118,16 @@ fn pushed(alloc: Global, indices: &[usize]) -> Result<IndexPath, AllocError> {
     Ok(address)
 }
 
+// Whether both ways lead down these indices.
+fn lead_down(alloc: Global, indices: &[usize]) -> Result<bool, AllocError> {
+    let address = pushed(alloc, indices)?;
+    let same = added(alloc, indices)?;
+    Ok(is(&address, indices) && same == address && has_clone(&address))
+}
+
 #[test]
-fn an_address_may_be_long(rt: HostRuntime) -> Result<(), Fail> {
-    let alloc = rt.alloc();
-    let indices: Vec<usize> = (0..300).rev().collect(alloc)?;
-    let address = pushed(alloc, indices.as_slice())?;
-    assert!(rt; address.indices.as_slice() == indices.as_slice());
-    assert!(rt; added(alloc, indices.as_slice())? == address);
-    assert!(rt; address.try_clone()? == address);
+fn an_address_may_be_long(rt: HostRuntime) -> Result<(), AllocError> {
+    let indices: Vec<usize> = (0..300).rev().collect(rt.alloc())?;
+    assert!(rt; lead_down(rt.alloc(), indices.as_slice())?);
     Ok(())
 }

@@ -3,8 +3,6 @@ use jwalk_board::board::{Move, Plan, Refused, Rehearsal, rehearse};
 use jwalk_order::index_path::IndexPath;
 use jwalk_order::ordered::Ordered;
 use std::alloc::Global;
-use std::process::Abort;
-use std::test::Fail;
 
 // A root 0 with the children 1 and 2, and 1 with the one child 3. A reading is the number.
 struct Family;
@@ -42,7 +40,7 @@ impl Plan<Global> for Family {
     }
 }
 
-const MOVES: [Move; 16] = [
+const MOVES: &[Move] = &[
     Move::Take(0),
     Move::Finish(0),
     Move::Take(1),
@@ -61,20 +59,26 @@ const MOVES: [Move; 16] = [
     Move::HandOut,
 ];
 
-// It promises nothing: what comes back is compared, and no test carries the contract of a rehearsal to its end.
+// What comes of a rehearsal.
+struct Outcome {
+    taken: &'static [&'static [usize]],
+    // What is handed out: its address, its value and the number of its children.
+    handed_out: &'static [(&'static [usize], u8, usize)],
+    // How many are left queued, in hand, ready and pending.
+    left: [usize; 4],
+}
+
+// None of these promises anything: what comes back is compared, and no test carries the contract of a rehearsal to its
+// end.
+
 fn played(
     alloc: Global,
     roots: &[u8],
     workers: usize,
     moves: &[Move],
 ) -> Result<Rehearsal<u8, u8>, Refused> {
-    rehearse(
-        alloc,
-        &Family,
-        Vec::from_slice(alloc, roots)?,
-        workers,
-        moves,
-    )
+    let roots = Vec::from_slice(alloc, roots)?;
+    rehearse(alloc, &Family, roots, workers, moves)
 }
 
 fn counts(made: &Rehearsal<u8, u8>) -> [usize; 4] {
@@ -87,67 +91,99 @@ fn counts(made: &Rehearsal<u8, u8>) -> [usize; 4] {
     ]
 }
 
-fn are_taken(taken: &[IndexPath], indices: &[&[usize]]) -> bool {
-    taken.len() == indices.len()
-        && taken
-            .iter()
-            .zip(indices)
-            .all(|(path, at)| path.indices.as_slice() == *at)
+fn are_taken(taken: &[IndexPath], wanted: &[&[usize]]) -> bool {
+    for (i, path) in taken.iter().enumerate() {
+        if wanted.get(i) != Some(&path.indices.as_slice()) {
+            return false;
+        }
+    }
+    taken.len() == wanted.len()
 }
 
-fn is(item: &Ordered<u8>, indices: &[usize], value: u8, child_count: usize) -> bool {
-    item.index_path.indices.as_slice() == indices
-        && item.value == value
-        && item.child_count() == child_count
+fn is(item: &Ordered<u8>, wanted: &(&[usize], u8, usize)) -> bool {
+    item.index_path.indices.as_slice() == wanted.0
+        && item.value == wanted.1
+        && item.child_count() == wanted.2
 }
 
-#[test]
-fn a_rehearsal_plays_every_move(rt: HostRuntime) -> Result<(), Fail> {
-    let made = played(rt.alloc(), &[0], 2, MOVES.as_slice())?;
-    let items = made.handed_out.as_slice();
-    assert_eq!(rt; items.len(), 4);
-    assert!(rt; is(&items[0], &[0], 0, 2));
-    assert!(rt; is(&items[1], &[0, 0], 1, 1));
-    assert!(rt; is(&items[2], &[0, 0, 0], 3, 0));
-    assert!(rt; is(&items[3], &[0, 1], 2, 0));
-    assert!(rt; are_taken(made.taken.as_slice(), &[&[0], &[0, 0], &[0, 1], &[0, 0, 0]]));
-    assert_eq!(rt; counts(&made), [0, 0, 0, 0]);
-    Ok(())
+fn are_handed_out(items: &[Ordered<u8>], wanted: &[(&[usize], u8, usize)]) -> bool {
+    for (i, item) in items.iter().enumerate() {
+        match wanted.get(i) {
+            Some(wanted) if is(item, wanted) => {}
+            _ => return false,
+        }
+    }
+    items.len() == wanted.len()
 }
 
-#[test]
-fn a_rehearsal_leaves_the_board_as_the_moves_did(rt: HostRuntime) -> Result<(), Fail> {
-    let made = played(rt.alloc(), &[0], 2, &MOVES[..9])?;
-    let items = made.handed_out.as_slice();
-    assert_eq!(rt; items.len(), 1);
-    assert!(rt; is(&items[0], &[0], 0, 2));
-    assert!(rt; are_taken(made.taken.as_slice(), &[&[0], &[0, 0], &[0, 1]]));
-    assert_eq!(rt; counts(&made), [0, 1, 1, 1]);
-    Ok(())
-}
-
-fn nothing_moves(
-    rt: &(impl Abort + AllocGlobal),
+// Whether so many workers come to this outcome by these moves.
+fn comes_to(
+    alloc: Global,
     roots: &[u8],
     workers: usize,
-    left: [usize; 4],
-) -> Result<(), Fail> {
-    let moves = [Move::Take(0), Move::HandOut];
-    let made = played(rt.alloc(), roots, workers, moves.as_slice())?;
-    assert!(rt; made.handed_out.is_empty() && made.taken.is_empty());
-    assert_eq!(rt; counts(&made), left);
+    moves: &[Move],
+    wanted: &Outcome,
+) -> Result<bool, Refused> {
+    let made = played(alloc, roots, workers, moves)?;
+    Ok(
+        are_taken(made.taken.as_slice(), wanted.taken)
+            && are_handed_out(made.handed_out.as_slice(), wanted.handed_out)
+            && counts(&made) == wanted.left,
+    )
+}
+
+static WHOLE: Outcome = Outcome {
+    taken: &[&[0], &[0, 0], &[0, 1], &[0, 0, 0]],
+    handed_out: &[
+        (&[0], 0, 2),
+        (&[0, 0], 1, 1),
+        (&[0, 0, 0], 3, 0),
+        (&[0, 1], 2, 0),
+    ],
+    left: [0, 0, 0, 0],
+};
+
+#[test]
+fn a_rehearsal_plays_every_move(rt: HostRuntime) -> Result<(), Refused> {
+    assert!(rt; comes_to(rt.alloc(), &[0], 2, MOVES, &WHOLE)?);
+    Ok(())
+}
+
+static PART: Outcome = Outcome {
+    taken: &[&[0], &[0, 0], &[0, 1]],
+    handed_out: &[(&[0], 0, 2)],
+    left: [0, 1, 1, 1],
+};
+
+#[test]
+fn a_rehearsal_leaves_the_board_as_the_moves_did(rt: HostRuntime) -> Result<(), Refused> {
+    assert!(rt; comes_to(rt.alloc(), &[0], 2, &MOVES[..9], &PART)?);
+    Ok(())
+}
+
+static WITHOUT_WORKERS: Outcome = Outcome {
+    taken: &[],
+    handed_out: &[],
+    left: [1, 0, 0, 1],
+};
+
+static WITHOUT_ROOTS: Outcome = Outcome {
+    taken: &[],
+    handed_out: &[],
+    left: [0, 0, 0, 0],
+};
+
+#[test]
+fn without_workers_or_roots_nothing_moves(rt: HostRuntime) -> Result<(), Refused> {
+    const BOTH: &[Move] = &[Move::Take(0), Move::HandOut];
+    assert!(rt; comes_to(rt.alloc(), &[0], 0, BOTH, &WITHOUT_WORKERS)?);
+    assert!(rt; comes_to(rt.alloc(), &[], 2, BOTH, &WITHOUT_ROOTS)?);
     Ok(())
 }
 
 #[test]
-fn without_workers_or_roots_nothing_moves(rt: HostRuntime) -> Result<(), Fail> {
-    nothing_moves(&rt, &[0], 0, [1, 0, 0, 1])?;
-    nothing_moves(&rt, &[], 2, [0, 0, 0, 0])
-}
-
-#[test]
-fn a_worker_may_finish_out_of_turn(rt: HostRuntime) -> Result<(), Fail> {
-    let moves = [
+fn a_worker_may_finish_out_of_turn(rt: HostRuntime) -> Result<(), Refused> {
+    const TURNED: &[Move] = &[
         Move::Take(0),
         Move::Finish(0),
         Move::Take(0),
@@ -156,10 +192,6 @@ fn a_worker_may_finish_out_of_turn(rt: HostRuntime) -> Result<(), Fail> {
         Move::HandOut,
         Move::HandOut,
     ];
-    let made = played(rt.alloc(), &[0], 2, moves.as_slice())?;
-    assert_eq!(rt; made.handed_out.len(), 1);
-    assert!(rt; is(&made.handed_out[0], &[0], 0, 2));
-    assert!(rt; are_taken(made.taken.as_slice(), &[&[0], &[0, 0], &[0, 1]]));
-    assert_eq!(rt; counts(&made), [0, 1, 1, 1]);
+    assert!(rt; comes_to(rt.alloc(), &[0], 2, TURNED, &PART)?);
     Ok(())
 }

@@ -2,13 +2,11 @@
 use std::alloc::{AllocError, Global};
 use std::io;
 use std::io::{ErrorKind, Read};
-use std::process::Abort;
-use std::test::Fail;
 use walk_text::asked::Asked;
 use walk_text::failure::Failure;
 use walk_text::input::read_tree;
 use walk_text::tree::build_tree;
-use walk_text::words::{Request, parse_words};
+use walk_text::words::parse_words;
 
 fn texts(alloc: Global, words: &[&str]) -> Result<Vec<String>, AllocError> {
     let mut texts = Vec::new(alloc);
@@ -18,9 +16,16 @@ fn texts(alloc: Global, words: &[&str]) -> Result<Vec<String>, AllocError> {
     Ok(texts)
 }
 
+fn are_bad(alloc: Global, words: &[&str]) -> bool {
+    match texts(alloc, words) {
+        Ok(words) => parse_words(words.as_slice()).is_none(),
+        Err(_) => false,
+    }
+}
+
 #[test]
-fn other_words_are_bad(rt: HostRuntime) -> Result<(), Fail> {
-    let rows: [&[&str]; 22] = [
+fn other_words_are_bad(rt: HostRuntime) {
+    const ROWS: &[&[&str]] = &[
         &[],
         &["/r"],
         &["--tree"],
@@ -44,16 +49,25 @@ fn other_words_are_bad(rt: HostRuntime) -> Result<(), Fail> {
         &["--tree", "--batch", "2", "/r"],
         &["--tree", "--usage", "/r"],
     ];
-    for words in rows {
-        let words = texts(rt.alloc(), words)?;
-        assert!(rt; parse_words(words.as_slice()).is_none());
+    for words in ROWS {
+        assert!(rt; are_bad(rt.alloc(), words));
     }
-    Ok(())
+}
+
+fn is_no_number(alloc: Global, number: &str) -> bool {
+    are_bad(alloc, &["--min", number, "--tree", "/t"])
+        && are_bad(alloc, &["--max", number, "--tree", "/t"])
+}
+
+// The greatest depth that a number asks for.
+fn greatest(alloc: Global, number: &str) -> Option<usize> {
+    let words = texts(alloc, &["--max", number, "--tree", "/t"]).ok()?;
+    parse_words(words.as_slice())?.asked.max
 }
 
 #[test]
-fn numbers_have_up_to_20_digits_and_fit(rt: HostRuntime) -> Result<(), Fail> {
-    let bad = [
+fn numbers_have_up_to_20_digits_and_fit(rt: HostRuntime) {
+    const BAD: &[&str] = &[
         "",
         "+1",
         "-1",
@@ -64,51 +78,61 @@ fn numbers_have_up_to_20_digits_and_fit(rt: HostRuntime) -> Result<(), Fail> {
         "18446744073709551616",
         "99999999999999999999",
     ];
-    for number in bad {
-        for option in ["--min", "--max"] {
-            let words = texts(rt.alloc(), &[option, number, "--tree", "/t"])?;
-            assert!(rt; parse_words(words.as_slice()).is_none());
-        }
+    for number in BAD {
+        assert!(rt; is_no_number(rt.alloc(), number));
     }
-    let good: [(&str, usize); 4] = [
+    const GOOD: &[(&str, usize)] = &[
         ("0", 0),
         ("00000000000000000000", 0),
         ("00000000000000000002", 2),
         ("18446744073709551615", usize::MAX),
     ];
-    for (number, value) in good {
-        let words = texts(rt.alloc(), &["--max", number, "--tree", "/t"])?;
-        let greatest = parse_words(words.as_slice()).and_then(|request| request.asked.max);
-        assert_eq!(rt; greatest, Some(value));
+    for (number, value) in GOOD {
+        assert!(rt; greatest(rt.alloc(), number) == Some(*value));
     }
-    Ok(())
 }
 
-fn check_asked(rt: &impl Abort, request: Option<Request<'_>>, want: (Asked, &str)) {
-    let (asked, root) = want;
-    let Some(request) = request else {
-        panic!(rt; "the words of {root} are bad");
-    };
-    assert!(rt; request.root == root);
-    assert_eq!(rt; request.asked.tree, asked.tree);
-    assert_eq!(rt; request.asked.sort, asked.sort);
-    assert_eq!(rt; request.asked.hidden, asked.hidden);
-    assert_eq!(rt; request.asked.follow, asked.follow);
-    assert_eq!(rt; request.asked.min, asked.min);
-    assert_eq!(rt; request.asked.max, asked.max);
+fn are_same(asked: &Asked, wanted: &Asked) -> bool {
+    asked.tree == wanted.tree
+        && asked.sort == wanted.sort
+        && asked.hidden == wanted.hidden
+        && asked.follow == wanted.follow
+        && asked.min == wanted.min
+        && asked.max == wanted.max
 }
+
+// Whether words ask for this, and for a walk from this root.
+fn ask_for(alloc: Global, words: &[&str], wanted: &Asked, root: &str) -> bool {
+    let Ok(words) = texts(alloc, words) else {
+        return false;
+    };
+    match parse_words(words.as_slice()) {
+        Some(request) => request.root == root && are_same(&request.asked, wanted),
+        None => false,
+    }
+}
+
+static ORDERED: Asked = Asked {
+    tree: true,
+    sort: true,
+    hidden: false,
+    follow: true,
+    min: Some(1),
+    max: Some(2),
+};
+
+static HIDDEN: Asked = Asked {
+    tree: true,
+    sort: false,
+    hidden: true,
+    follow: false,
+    min: None,
+    max: None,
+};
 
 #[test]
-fn options_come_in_any_order_and_the_root_last(rt: HostRuntime) -> Result<(), Fail> {
-    let asked = Asked {
-        tree: true,
-        sort: true,
-        hidden: false,
-        follow: true,
-        min: Some(1),
-        max: Some(2),
-    };
-    let rows: [&[&str]; 4] = [
+fn options_come_in_any_order_and_the_root_last(rt: HostRuntime) {
+    const ROWS: &[&[&str]] = &[
         &[
             "--tree", "--sort", "--follow", "--max", "2", "--min", "1", "/r",
         ],
@@ -122,28 +146,22 @@ fn options_come_in_any_order_and_the_root_last(rt: HostRuntime) -> Result<(), Fa
             "--max", "2", "--tree", "--min", "1", "--follow", "--sort", "/r",
         ],
     ];
-    for words in rows {
-        let words = texts(rt.alloc(), words)?;
-        check_asked(&rt, parse_words(words.as_slice()), (asked, "/r"));
+    for words in ROWS {
+        assert!(rt; ask_for(rt.alloc(), words, &ORDERED, "/r"));
     }
-    let hidden = Asked {
-        tree: true,
-        sort: false,
-        hidden: true,
-        follow: false,
-        min: None,
-        max: None,
-    };
-    for root in ["--tree", "--min", "3"] {
-        let words = texts(rt.alloc(), &["--hidden", "--tree", root])?;
-        check_asked(&rt, parse_words(words.as_slice()), (hidden, root));
+    const ROOTS: &[&str] = &["--tree", "--min", "3"];
+    for root in ROOTS {
+        assert!(rt; ask_for(rt.alloc(), &["--hidden", "--tree", root], &HIDDEN, root));
     }
-    Ok(())
+}
+
+fn is_bad_at(alloc: Global, lines: &[u8], number: usize) -> bool {
+    build_tree(alloc, lines).err() == Some(Failure::BadTree(number))
 }
 
 #[test]
-fn the_first_bad_line_is_named(rt: HostRuntime) -> Result<(), Fail> {
-    let first: [&[u8]; 28] = [
+fn the_first_bad_line_is_named(rt: HostRuntime) {
+    const FIRST: &[&[u8]] = &[
         b"d",
         b"d ",
         b"f",
@@ -173,11 +191,10 @@ fn the_first_bad_line_is_named(rt: HostRuntime) -> Result<(), Fail> {
         b"d /n/m\nd /r",
         b"d /",
     ];
-    for lines in first {
-        let failure = build_tree(rt.alloc(), lines).err();
-        assert_eq!(rt; failure, Some(Failure::BadTree(1)));
+    for lines in FIRST {
+        assert!(rt; is_bad_at(rt.alloc(), lines, 1));
     }
-    let rows = [
+    const ROWS: &[(&str, usize)] = &[
         ("d /r\nd /r\n", 2),
         ("d /r\n\nf 1\n", 3),
         ("d /r\nf 1 /r/a\nf 1 /r/a/b", 3),
@@ -185,11 +202,9 @@ fn the_first_bad_line_is_named(rt: HostRuntime) -> Result<(), Fail> {
         ("d /r\n\nx /n\nx /r\n", 3),
         ("d /r\nx /r\nd /r\nx /n", 3),
     ];
-    for (lines, number) in rows {
-        let failure = build_tree(rt.alloc(), lines.as_bytes()).err();
-        assert_eq!(rt; failure, Some(Failure::BadTree(number)));
+    for (lines, number) in ROWS {
+        assert!(rt; is_bad_at(rt.alloc(), lines.as_bytes(), *number));
     }
-    Ok(())
 }
 
 /// Can't be read: each call fails with an error of this kind.
@@ -202,32 +217,34 @@ impl Read for Broken {
     }
 }
 
-#[test]
-fn an_input_is_read_whole_or_told(rt: HostRuntime) -> Result<(), Fail> {
-    let good = read_tree(
-        rt.alloc(),
-        &mut "d /r\n\nl \t/r/l\nf 18446744073709551615 /r/a b".as_bytes(),
-    );
-    assert!(rt; good.is_ok());
-    let unread = read_tree(rt.alloc(), &mut Broken(ErrorKind::Other)).err();
-    assert_eq!(rt; unread, Some(Failure::BadTree(0)));
-    let refused = read_tree(rt.alloc(), &mut Broken(ErrorKind::OutOfMemory)).err();
-    assert_eq!(rt; refused, Some(Failure::Memory));
-    Ok(())
+fn failure_of<R: Read>(alloc: Global, input: &mut R) -> Option<Failure> {
+    read_tree(alloc, input).err()
 }
 
 #[test]
-fn each_failure_has_its_text_and_status(rt: HostRuntime) -> Result<(), Fail> {
-    let rows = [
+fn an_input_is_read_whole_or_told(rt: HostRuntime) {
+    let mut good = "d /r\n\nl \t/r/l\nf 18446744073709551615 /r/a b".as_bytes();
+    assert!(rt; failure_of(rt.alloc(), &mut good).is_none());
+    let unread = failure_of(rt.alloc(), &mut Broken(ErrorKind::Other));
+    assert!(rt; unread == Some(Failure::BadTree(0)));
+    let refused = failure_of(rt.alloc(), &mut Broken(ErrorKind::OutOfMemory));
+    assert!(rt; refused == Some(Failure::Memory));
+}
+
+fn reports(alloc: Global, failure: Failure, text: &str, status: u8) -> bool {
+    let mut err = Vec::new(alloc);
+    failure.report(&mut err) == status && err.as_slice() == text.as_bytes()
+}
+
+#[test]
+fn each_failure_has_its_text_and_status(rt: HostRuntime) {
+    const ROWS: &[(Failure, &str, u8)] = &[
         (Failure::BadWords, "walk: bad words\n", 2),
         (Failure::BadTree(3), "walk: bad tree, line 3\n", 2),
         (Failure::Memory, "walk: memory refused\n", 1),
         (Failure::Output, "", 1),
     ];
-    for (failure, text, status) in rows {
-        let mut err = Vec::new(rt.alloc());
-        assert_eq!(rt; failure.report(&mut err), status);
-        assert!(rt; err.as_slice() == text.as_bytes());
+    for (failure, text, status) in ROWS {
+        assert!(rt; reports(rt.alloc(), *failure, text, *status));
     }
-    Ok(())
 }

@@ -8,12 +8,17 @@ use std::alloc::{AllocError, Allocator, Global};
 use std::io;
 use std::io::{ErrorKind, Read, Write};
 use std::process::Abort;
-use std::test::Fail;
 
 const TREE_A: &str =
     "d /t\nf 1 /t/c.txt\nf 2 /t/a.txt\nd /t/group 2\nf 3 /t/group 2/.hidden_file.txt\nf 4 /t/group 2/e.txt\nd /t/group 1\nf 5 /t/group 1/d.txt\nf 6 /t/b.txt\n";
 
-const BAD_WORDS: (&str, &str, u8) = ("", "walk: bad words\n", 2);
+/// What is written on standard output and on standard error, and the status.
+type Want<'a> = (&'a str, &'a str, u8);
+
+const BAD_WORDS: Want<'static> = ("", "walk: bad words\n", 2);
+
+/// The words of a call, its input, and what comes of it.
+type Row<'a> = (&'a [&'a str], &'a str, Want<'a>);
 
 /// What a run wrote, and its status.
 #[derive(Drop)]
@@ -31,40 +36,52 @@ fn texts(alloc: Global, words: &[&str]) -> Result<Vec<String>, AllocError> {
     Ok(texts)
 }
 
-fn run_on<R: Read>(alloc: Global, words: &[&str], mut input: R) -> Result<Ran, AllocError>
-where
-    R: Drop,
-{
-    let words = texts(alloc, words)?;
+fn outcome<R: Read>(alloc: Global, words: &[String], input: &mut R) -> Ran {
     let mut out = Vec::new(alloc);
     let mut err = Vec::new(alloc);
-    let status = run(alloc, words.as_slice(), &mut input, &mut out, &mut err);
-    Ok(Ran { out, err, status })
+    let status = run(alloc, words, input, &mut out, &mut err);
+    Ran { out, err, status }
 }
 
-fn check(rt: &impl Abort, ran: &Ran, want: (&str, &str, u8)) {
-    let (out, err, status) = want;
-    assert!(rt;
-        ran.out.as_slice() == out.as_bytes(),
-        "the output is not {out}"
-    );
-    assert!(rt;
-        ran.err.as_slice() == err.as_bytes(),
-        "the error is not {err}"
-    );
-    assert!(rt; ran.status == status, "the status is not {status}");
+fn is(ran: &Ran, want: &Want<'_>) -> bool {
+    ran.out.as_slice() == want.0.as_bytes()
+        && ran.err.as_slice() == want.1.as_bytes()
+        && ran.status == want.2
+}
+
+/// Whether this comes of a call.
+fn comes<R: Read>(alloc: Global, words: &[&str], input: &mut R, want: &Want<'_>) -> bool {
+    match texts(alloc, words) {
+        Ok(words) => is(&outcome(alloc, words.as_slice(), input), want),
+        Err(_) => false,
+    }
+}
+
+/// The number of the first row that comes otherwise.
+fn first_wrong(alloc: Global, rows: &[Row<'_>]) -> Option<usize> {
+    for (number, (words, input, want)) in rows.iter().enumerate() {
+        if !comes(alloc, words, &mut input.as_bytes(), want) {
+            return Some(number);
+        }
+    }
+    None
+}
+
+/// Each row comes as is said.
+fn all_come(rt: &(impl Abort + AllocGlobal), rows: &[Row<'_>]) {
+    assert_eq!(rt; first_wrong(rt.alloc(), rows), None);
 }
 
 #[test]
-fn answers_come_in_order(rt: HostRuntime) -> Result<(), Fail> {
-    let rows = [
+fn answers_come_in_order(rt: HostRuntime) {
+    const ROWS: &[Row<'static>] = &[
         (
-            "/r",
+            &["--tree", "/r"],
             "d /r\nf 3 /r/b\nd /r/s\nf 1 /r/s/x\nf 2 /r/a\n",
             ("0 d /r\n1 f /r/b\n1 d /r/s\n2 f /r/s/x\n1 f /r/a\n", "", 0),
         ),
         (
-            "/t",
+            &["--tree", "/t"],
             TREE_A,
             (
                 "0 d /t\n1 f /t/c.txt\n1 f /t/a.txt\n1 d /t/group 2\n2 f /t/group 2/e.txt\n1 d /t/group 1\n2 f /t/group 1/d.txt\n1 f /t/b.txt\n",
@@ -72,155 +89,157 @@ fn answers_come_in_order(rt: HostRuntime) -> Result<(), Fail> {
                 0,
             ),
         ),
-        ("/none", TREE_A, ("! 0 /none NotFound\n", "", 1)),
-        ("", TREE_A, ("! 0  NotFound\n", "", 1)),
-        ("/t/a.txt", TREE_A, ("0 f /t/a.txt\n", "", 0)),
-        ("/e", "d /e\n", ("0 d /e\n", "", 0)),
-        ("/", "", ("0 d /\n", "", 0)),
-        ("--tree", "", ("! 0 --tree NotFound\n", "", 1)),
         (
-            "/r",
+            &["--tree", "/none"],
+            TREE_A,
+            ("! 0 /none NotFound\n", "", 1),
+        ),
+        (&["--tree", ""], TREE_A, ("! 0  NotFound\n", "", 1)),
+        (&["--tree", "/t/a.txt"], TREE_A, ("0 f /t/a.txt\n", "", 0)),
+        (&["--tree", "/e"], "d /e\n", ("0 d /e\n", "", 0)),
+        (&["--tree", "/"], "", ("0 d /\n", "", 0)),
+        (&["--tree", "--tree"], "", ("! 0 --tree NotFound\n", "", 1)),
+        (
+            &["--tree", "/r"],
             "d /r\nf 18446744073709551615 /r/last",
             ("0 d /r\n1 f /r/last\n", "", 0),
         ),
         (
-            "/r",
+            &["--tree", "/r"],
             "\n\nd /r\n\nf 00000000000000000007 /r/a b\n\n",
             ("0 d /r\n1 f /r/a b\n", "", 0),
         ),
     ];
-    for (root, input, want) in rows {
-        check(
-            &rt,
-            &run_on(rt.alloc(), &["--tree", root], input.as_bytes())?,
-            want,
-        );
-    }
-    Ok(())
+    all_come(&rt, ROWS);
 }
 
 #[test]
-fn other_words_are_bad(rt: HostRuntime) -> Result<(), Fail> {
-    let rows: [&[&str]; 4] = [
-        &[],
-        &["--sort", "--sort", "/r"],
-        &["--min", "x", "/r"],
-        &["/r"],
+fn other_words_are_bad(rt: HostRuntime) {
+    const ROWS: &[Row<'static>] = &[
+        (&[], "d /r", BAD_WORDS),
+        (&["--sort", "--sort", "/r"], "d /r", BAD_WORDS),
+        (&["--min", "x", "/r"], "d /r", BAD_WORDS),
+        (&["/r"], "d /r", BAD_WORDS),
     ];
-    for words in rows {
-        check(
-            &rt,
-            &run_on(rt.alloc(), words, "d /r".as_bytes())?,
-            BAD_WORDS,
-        );
-    }
-    Ok(())
+    all_come(&rt, ROWS);
 }
 
 #[test]
-fn depths_have_up_to_20_digits(rt: HostRuntime) -> Result<(), Fail> {
-    let rows: [(&[&str], &str); 3] = [
+fn depths_have_up_to_20_digits(rt: HostRuntime) {
+    const ROWS: &[Row<'static>] = &[
         (
             &["--max", "00000000000000000000", "--tree", "/t"],
-            "0 d /t\n",
+            TREE_A,
+            ("0 d /t\n", "", 0),
         ),
         (
             &["--min", "00000000000000000002", "--tree", "/t"],
-            "2 f /t/group 2/e.txt\n2 f /t/group 1/d.txt\n",
+            TREE_A,
+            ("2 f /t/group 2/e.txt\n2 f /t/group 1/d.txt\n", "", 0),
         ),
-        (&["--min", "18446744073709551615", "--tree", "/t"], ""),
+        (
+            &["--min", "18446744073709551615", "--tree", "/t"],
+            TREE_A,
+            ("", "", 0),
+        ),
     ];
-    for (words, out) in rows {
-        check(
-            &rt,
-            &run_on(rt.alloc(), words, TREE_A.as_bytes())?,
-            (out, "", 0),
-        );
-    }
-    Ok(())
+    all_come(&rt, ROWS);
 }
 
 #[test]
-fn entries_come_by_name_where_that_is_asked(rt: HostRuntime) -> Result<(), Fail> {
-    let sorted =
-        "0 d /t\n1 f /t/a.txt\n1 f /t/b.txt\n1 f /t/c.txt\n1 d /t/group 1\n2 f /t/group 1/d.txt\n1 d /t/group 2\n2 f /t/group 2/e.txt\n";
-    let hidden =
-        "0 d /t\n1 f /t/a.txt\n1 f /t/b.txt\n1 f /t/c.txt\n1 d /t/group 1\n2 f /t/group 1/d.txt\n1 d /t/group 2\n2 f /t/group 2/.hidden_file.txt\n2 f /t/group 2/e.txt\n";
-    let rows: [(&[&str], &str); 3] = [
-        (&["--tree", "--sort", "/t"], sorted),
-        (&["--tree", "--sort", "--hidden", "/t"], hidden),
-        (&["--tree", "--sort", "--max", "0", "/t"], "0 d /t\n"),
+fn entries_come_by_name_where_that_is_asked(rt: HostRuntime) {
+    const ROWS: &[Row<'static>] = &[
+        (
+            &["--tree", "--sort", "/t"],
+            TREE_A,
+            (
+                "0 d /t\n1 f /t/a.txt\n1 f /t/b.txt\n1 f /t/c.txt\n1 d /t/group 1\n2 f /t/group 1/d.txt\n1 d /t/group 2\n2 f /t/group 2/e.txt\n",
+                "",
+                0,
+            ),
+        ),
+        (
+            &["--tree", "--sort", "--hidden", "/t"],
+            TREE_A,
+            (
+                "0 d /t\n1 f /t/a.txt\n1 f /t/b.txt\n1 f /t/c.txt\n1 d /t/group 1\n2 f /t/group 1/d.txt\n1 d /t/group 2\n2 f /t/group 2/.hidden_file.txt\n2 f /t/group 2/e.txt\n",
+                "",
+                0,
+            ),
+        ),
+        (
+            &["--tree", "--sort", "--max", "0", "/t"],
+            TREE_A,
+            ("0 d /t\n", "", 0),
+        ),
     ];
-    for (words, out) in rows {
-        check(
-            &rt,
-            &run_on(rt.alloc(), words, TREE_A.as_bytes())?,
-            (out, "", 0),
-        );
-    }
-    Ok(())
+    all_come(&rt, ROWS);
 }
 
+/// The first tree, where one group may not be listed.
+const DENIED: &str =
+    "d /t\nf 1 /t/c.txt\nf 2 /t/a.txt\nd /t/group 2\nf 3 /t/group 2/.hidden_file.txt\nf 4 /t/group 2/e.txt\nd /t/group 1\nf 5 /t/group 1/d.txt\nf 6 /t/b.txt\nx /t/group 2\n";
+
 #[test]
-fn a_denied_directory_is_answered_with_its_error(rt: HostRuntime) -> Result<(), Fail> {
-    let mut denied = String::from_str(rt.alloc(), TREE_A)?;
-    denied.push_str("x /t/group 2\n")?;
-    let all =
-        "0 d /t\n1 f /t/a.txt\n1 f /t/b.txt\n1 f /t/c.txt\n1 d /t/group 1\n2 f /t/group 1/d.txt\n1 d /t/group 2 ! PermissionDenied\n";
-    let unread =
-        "0 d /t\n1 f /t/a.txt\n1 f /t/b.txt\n1 f /t/c.txt\n1 d /t/group 1\n1 d /t/group 2\n";
-    let rows: [(&[&str], &str); 3] = [
-        (&["--tree", "--sort", "/t"], all),
-        (&["--tree", "--sort", "--max", "1", "/t"], unread),
+fn a_denied_directory_is_answered_with_its_error(rt: HostRuntime) {
+    const ROWS: &[Row<'static>] = &[
+        (
+            &["--tree", "--sort", "/t"],
+            DENIED,
+            (
+                "0 d /t\n1 f /t/a.txt\n1 f /t/b.txt\n1 f /t/c.txt\n1 d /t/group 1\n2 f /t/group 1/d.txt\n1 d /t/group 2 ! PermissionDenied\n",
+                "",
+                0,
+            ),
+        ),
+        (
+            &["--tree", "--sort", "--max", "1", "/t"],
+            DENIED,
+            (
+                "0 d /t\n1 f /t/a.txt\n1 f /t/b.txt\n1 f /t/c.txt\n1 d /t/group 1\n1 d /t/group 2\n",
+                "",
+                0,
+            ),
+        ),
         (
             &["--tree", "--sort", "--min", "2", "/t"],
-            "2 f /t/group 1/d.txt\n",
+            DENIED,
+            ("2 f /t/group 1/d.txt\n", "", 0),
         ),
-    ];
-    for (words, out) in rows {
-        check(
-            &rt,
-            &run_on(rt.alloc(), words, denied.as_bytes())?,
-            (out, "", 0),
-        );
-    }
-    let rows = [
         (
-            "/r",
+            &["--tree", "/r"],
             "d /r\nx /r\nf 1 /r/a\nx /r\n",
-            "0 d /r ! PermissionDenied\n",
+            ("0 d /r ! PermissionDenied\n", "", 0),
         ),
-        ("/r/a", "d /r\nx /r\nf 1 /r/a\n", "0 f /r/a\n"),
         (
-            "/",
+            &["--tree", "/r/a"],
+            "d /r\nx /r\nf 1 /r/a\n",
+            ("0 f /r/a\n", "", 0),
+        ),
+        (
+            &["--tree", "/"],
             "d /r\nd /x y\nx /x y",
-            "0 d /\n1 d /r\n1 d /x y ! PermissionDenied\n",
+            ("0 d /\n1 d /r\n1 d /x y ! PermissionDenied\n", "", 0),
         ),
     ];
-    for (root, input, out) in rows {
-        check(
-            &rt,
-            &run_on(rt.alloc(), &["--tree", root], input.as_bytes())?,
-            (out, "", 0),
-        );
-    }
-    Ok(())
+    all_come(&rt, ROWS);
 }
 
 #[test]
-fn the_least_depth_is_set_before_the_greatest(rt: HostRuntime) -> Result<(), Fail> {
-    let rows: [&[&str]; 2] = [
-        &["--tree", "--sort", "--min", "5", "--max", "2", "/t"],
-        &["--tree", "--sort", "--max", "2", "--min", "5", "/t"],
-    ];
-    for words in rows {
-        check(
-            &rt,
-            &run_on(rt.alloc(), words, TREE_A.as_bytes())?,
+fn the_least_depth_is_set_before_the_greatest(rt: HostRuntime) {
+    const ROWS: &[Row<'static>] = &[
+        (
+            &["--tree", "--sort", "--min", "5", "--max", "2", "/t"],
+            TREE_A,
             ("", "", 0),
-        );
-    }
-    Ok(())
+        ),
+        (
+            &["--tree", "--sort", "--max", "2", "--min", "5", "/t"],
+            TREE_A,
+            ("", "", 0),
+        ),
+    ];
+    all_come(&rt, ROWS);
 }
 
 /// A link to a directory above it.
@@ -232,113 +251,105 @@ const RELATIVE: &str = "d /r\nd /r/a\nd /r/a/b\nd /r/a/b/c\nl ../..\t/r/a/b/c/a-
 /// A link to the directory beside it.
 const BESIDE: &str = "d /r\nd /r/a\nf 0 /r/a/zzz\nl a\t/r/a-link\n";
 
-/// An input, the words of a call, and what is written and the status then.
-type LinkRow<'a> = (&'a str, &'a [&'a str], &'a str, u8);
-
-fn check_links(rt: &(impl Abort + AllocGlobal), rows: &[LinkRow<'_>]) -> Result<(), Fail> {
-    for (input, words, out, status) in rows {
-        check(
-            rt,
-            &run_on(rt.alloc(), words, input.as_bytes())?,
-            (*out, "", *status),
-        );
-    }
-    Ok(())
-}
+/// A link to itself.
+const ITSELF: &str = "d /r\nl a\t/r/a\n";
 
 #[test]
-fn a_link_to_a_directory_above_is_a_loop(rt: HostRuntime) -> Result<(), Fail> {
-    let rows: [LinkRow<'_>; 4] = [
+fn a_link_to_a_directory_above_is_a_loop(rt: HostRuntime) {
+    const ROWS: &[Row<'static>] = &[
         (
-            LOOP,
             &["--tree", "/r"],
-            "0 d /r\n1 d /r/a\n2 d /r/a/b\n3 d /r/a/b/c\n4 L /r/a/b/c/a-link\n",
-            0,
-        ),
-        (
             LOOP,
-            &["--tree", "--follow", "/r"],
-            "0 d /r\n1 d /r/a\n2 d /r/a/b\n3 d /r/a/b/c\n! 4 /r/a/b/c/a-link loop /r/a\n",
-            1,
+            (
+                "0 d /r\n1 d /r/a\n2 d /r/a/b\n3 d /r/a/b/c\n4 L /r/a/b/c/a-link\n",
+                "",
+                0,
+            ),
         ),
         (
-            RELATIVE,
+            &["--tree", "--follow", "/r"],
+            LOOP,
+            (
+                "0 d /r\n1 d /r/a\n2 d /r/a/b\n3 d /r/a/b/c\n! 4 /r/a/b/c/a-link loop /r/a\n",
+                "",
+                1,
+            ),
+        ),
+        (
             &["--tree", "--follow", "--max", "6", "/r"],
-            "0 d /r\n1 d /r/a\n2 d /r/a/b\n3 d /r/a/b/c\n4 D /r/a/b/c/a-link\n5 d /r/a/b/c/a-link/b\n6 d /r/a/b/c/a-link/b/c\n",
-            0,
+            RELATIVE,
+            (
+                "0 d /r\n1 d /r/a\n2 d /r/a/b\n3 d /r/a/b/c\n4 D /r/a/b/c/a-link\n5 d /r/a/b/c/a-link/b\n6 d /r/a/b/c/a-link/b/c\n",
+                "",
+                0,
+            ),
         ),
         (
-            "d /s\nl /s\t/l\nl /l\t/s/k\n",
             &["--tree", "--follow", "/l/"],
-            "0 D /l\n! 1 /l/k loop /l\n",
-            1,
+            "d /s\nl /s\t/l\nl /l\t/s/k\n",
+            ("0 D /l\n! 1 /l/k loop /l\n", "", 1),
         ),
     ];
-    check_links(&rt, &rows)
+    all_come(&rt, ROWS);
 }
 
 #[test]
-fn a_link_beside_its_directory(rt: HostRuntime) -> Result<(), Fail> {
-    let rows: [LinkRow<'_>; 3] = [
+fn a_link_beside_its_directory(rt: HostRuntime) {
+    const ROWS: &[Row<'static>] = &[
         (
-            BESIDE,
             &["--tree", "/r/a-link"],
-            "0 L /r/a-link\n1 f /r/a-link/zzz\n",
-            0,
+            BESIDE,
+            ("0 L /r/a-link\n1 f /r/a-link/zzz\n", "", 0),
         ),
         (
-            BESIDE,
             &["--follow", "--tree", "/r/a-link"],
-            "0 D /r/a-link\n1 f /r/a-link/zzz\n",
-            0,
+            BESIDE,
+            ("0 D /r/a-link\n1 f /r/a-link/zzz\n", "", 0),
         ),
         (
-            BESIDE,
             &["--tree", "--follow", "/r"],
-            "0 d /r\n1 d /r/a\n2 f /r/a/zzz\n1 D /r/a-link\n2 f /r/a-link/zzz\n",
-            0,
+            BESIDE,
+            (
+                "0 d /r\n1 d /r/a\n2 f /r/a/zzz\n1 D /r/a-link\n2 f /r/a-link/zzz\n",
+                "",
+                0,
+            ),
         ),
     ];
-    check_links(&rt, &rows)
+    all_come(&rt, ROWS);
 }
 
 #[test]
-fn links_to_files_and_to_nothing(rt: HostRuntime) -> Result<(), Fail> {
-    let itself = "d /r\nl a\t/r/a\n";
-    let rows: [LinkRow<'_>; 6] = [
+fn links_to_files_and_to_nothing(rt: HostRuntime) {
+    const ROWS: &[Row<'static>] = &[
         (
+            &["--tree", "--follow", "/r"],
             "d /r\nf 3 /r/f\nl f\t/r/l\n",
-            &["--tree", "--follow", "/r"],
-            "0 d /r\n1 f /r/f\n1 F /r/l\n",
-            0,
+            ("0 d /r\n1 f /r/f\n1 F /r/l\n", "", 0),
         ),
         (
-            itself,
             &["--tree", "--follow", "/r"],
-            "0 d /r\n! 1 /r/a Other\n",
-            1,
+            ITSELF,
+            ("0 d /r\n! 1 /r/a Other\n", "", 1),
         ),
-        (itself, &["--tree", "/r"], "0 d /r\n1 L /r/a\n", 0),
+        (&["--tree", "/r"], ITSELF, ("0 d /r\n1 L /r/a\n", "", 0)),
         (
+            &["--tree", "--follow", "/r"],
             "d /r\nl \t/r/l\n",
-            &["--tree", "--follow", "/r"],
-            "0 d /r\n! 1 /r/l NotFound\n",
-            1,
+            ("0 d /r\n! 1 /r/l NotFound\n", "", 1),
         ),
         (
-            "d /r\nl \t/r/a\tb",
             &["--tree", "/r"],
-            "0 d /r\n1 L /r/a\tb\n",
-            0,
+            "d /r\nl \t/r/a\tb",
+            ("0 d /r\n1 L /r/a\tb\n", "", 0),
         ),
         (
-            "l /nowhere\t/x\n",
             &["--tree", "/x"],
-            "! 0 /x NotFound\n",
-            1,
+            "l /nowhere\t/x\n",
+            ("! 0 /x NotFound\n", "", 1),
         ),
     ];
-    check_links(&rt, &rows)
+    all_come(&rt, ROWS);
 }
 
 /// The path that goes so many times through a link.
@@ -350,35 +361,53 @@ fn path_of_links(alloc: Global, count: usize) -> Result<String, AllocError> {
     Ok(path)
 }
 
-#[test]
-fn links_are_gone_round_until_a_look_up_refuses(rt: HostRuntime) -> Result<(), Fail> {
-    let mut out = String::from_str(rt.alloc(), "0 d /r\n")?;
-    for depth in 1..41 {
-        let path = path_of_links(rt.alloc(), depth)?;
-        out.push_str(&format!(in rt.alloc(); "{depth} D {path}\n")?)?;
+/// The line of the path that goes so many times through a link.
+fn line_of_links(alloc: Global, count: usize) -> Result<String, AllocError> {
+    let path = path_of_links(alloc, count)?;
+    if count < 41 {
+        format!(in alloc; "{count} D {path}\n")
+    } else {
+        format!(in alloc; "! {count} {path} Other\n")
     }
-    let last = path_of_links(rt.alloc(), 41)?;
-    out.push_str(&format!(in rt.alloc(); "! 41 {last} Other\n")?)?;
-    let input = "d /r\nl .\t/r/l\n".as_bytes();
-    let ran = run_on(rt.alloc(), &["--tree", "--follow", "/r"], input)?;
-    check(&rt, &ran, (&out, "", 1));
+}
+
+fn lines_of_links(alloc: Global) -> Result<String, AllocError> {
+    let mut out = String::from_str(alloc, "0 d /r\n")?;
+    for depth in 1..42 {
+        out.push_str(line_of_links(alloc, depth)?.as_str())?;
+    }
+    Ok(out)
+}
+
+#[test]
+fn links_are_gone_round_until_a_look_up_refuses(rt: HostRuntime) -> Result<(), AllocError> {
+    let out = lines_of_links(rt.alloc())?;
+    all_come(
+        &rt,
+        &[(
+            &["--tree", "--follow", "/r"],
+            "d /r\nl .\t/r/l\n",
+            (out.as_str(), "", 1),
+        )],
+    );
     Ok(())
 }
 
 #[test]
-fn the_first_bad_line_is_named(rt: HostRuntime) -> Result<(), Fail> {
-    let rows = [
-        ("d /r\nd /r\n", "walk: bad tree, line 2\n"),
-        ("d /r\n\nf 1\n", "walk: bad tree, line 3\n"),
+fn the_first_bad_line_is_named(rt: HostRuntime) {
+    const ROWS: &[Row<'static>] = &[
+        (
+            &["--tree", "/r"],
+            "d /r\nd /r\n",
+            ("", "walk: bad tree, line 2\n", 2),
+        ),
+        (
+            &["--tree", "/r"],
+            "d /r\n\nf 1\n",
+            ("", "walk: bad tree, line 3\n", 2),
+        ),
     ];
-    for (input, err) in rows {
-        check(
-            &rt,
-            &run_on(rt.alloc(), &["--tree", "/r"], input.as_bytes())?,
-            ("", err, 2),
-        );
-    }
-    Ok(())
+    all_come(&rt, ROWS);
 }
 
 /// Neither reads nor writes: each call fails with an error of this kind.
@@ -401,36 +430,40 @@ impl Write for Broken {
     }
 }
 
-#[test]
-fn an_input_that_cannot_be_read_is_told(rt: HostRuntime) -> Result<(), Fail> {
-    let broken = run_on(rt.alloc(), &["--tree", "/r"], Broken(ErrorKind::Other))?;
-    check(&rt, &broken, ("", "walk: bad tree, line 0\n", 2));
-    let refused = run_on(
-        rt.alloc(),
-        &["--tree", "/r"],
-        Broken(ErrorKind::OutOfMemory),
-    )?;
-    check(&rt, &refused, ("", "walk: memory refused\n", 1));
-    let unread = run_on(rt.alloc(), &["/r"], Broken(ErrorKind::Other))?;
-    check(&rt, &unread, BAD_WORDS);
-    Ok(())
+fn comes_unread(alloc: Global, words: &[&str], kind: ErrorKind, want: &Want<'_>) -> bool {
+    comes(alloc, words, &mut Broken(kind), want)
 }
 
 #[test]
-fn an_output_that_cannot_be_written_ends_the_walk(rt: HostRuntime) -> Result<(), Fail> {
-    let words = texts(rt.alloc(), &["--tree", "/t"])?;
-    let mut input = TREE_A.as_bytes();
-    let mut err = Vec::new(rt.alloc());
-    let status = run(
-        rt.alloc(),
+fn an_input_that_cannot_be_read_is_told(rt: HostRuntime) {
+    let broken = ("", "walk: bad tree, line 0\n", 2);
+    let refused = ("", "walk: memory refused\n", 1);
+    let words = &["--tree", "/r"];
+    assert!(rt; comes_unread(rt.alloc(), words, ErrorKind::Other, &broken));
+    assert!(rt; comes_unread(rt.alloc(), words, ErrorKind::OutOfMemory, &refused));
+    assert!(rt; comes_unread(rt.alloc(), &["/r"], ErrorKind::Other, &BAD_WORDS));
+}
+
+/// Whether a call that writes there ends with this status and tells of nothing.
+fn ends<W: Write>(alloc: Global, words: &[&str], input: &str, out: &mut W, status: u8) -> bool {
+    let Ok(words) = texts(alloc, words) else {
+        return false;
+    };
+    let mut err = Vec::new(alloc);
+    let found = run(
+        alloc,
         words.as_slice(),
-        &mut input,
-        &mut Broken(ErrorKind::BrokenPipe),
+        &mut input.as_bytes(),
+        out,
         &mut err,
     );
-    assert_eq!(rt; status, 1);
-    assert!(rt; err.is_empty());
-    Ok(())
+    found == status && err.is_empty()
+}
+
+#[test]
+fn an_output_that_cannot_be_written_ends_the_walk(rt: HostRuntime) {
+    let mut out = Broken(ErrorKind::BrokenPipe);
+    assert!(rt; ends(rt.alloc(), &["--tree", "/t"], TREE_A, &mut out, 1));
 }
 
 /// Keeps what is written until it is flushed.
@@ -452,20 +485,27 @@ impl Write for Kept {
     }
 }
 
+/// Whether this was flushed, and no more was written.
+fn is_kept(kept: &Kept, flushed: &str) -> bool {
+    kept.written.is_empty() && kept.flushed.as_slice() == flushed.as_bytes()
+}
+
 #[test]
-fn the_output_is_flushed_at_the_end(rt: HostRuntime) -> Result<(), Fail> {
-    let words = texts(rt.alloc(), &["--tree", "/r"])?;
-    let mut input = "d /r\nf 1 /r/a\n".as_bytes();
+fn the_output_is_flushed_at_the_end(rt: HostRuntime) {
     let mut out = Kept {
         written: Vec::new(rt.alloc()),
         flushed: Vec::new(rt.alloc()),
     };
-    let mut err = Vec::new(rt.alloc());
-    let status = run(rt.alloc(), words.as_slice(), &mut input, &mut out, &mut err);
-    assert_eq!(rt; status, 0);
-    assert!(rt; out.written.is_empty());
-    assert!(rt; out.flushed.as_slice() == "0 d /r\n1 f /r/a\n".as_bytes());
-    Ok(())
+    assert!(rt;
+        ends(
+            rt.alloc(),
+            &["--tree", "/r"],
+            "d /r\nf 1 /r/a\n",
+            &mut out,
+            0
+        )
+    );
+    assert!(rt; is_kept(&out, "0 d /r\n1 f /r/a\n"));
 }
 
 /// Gives a text in pieces, which end anywhere in a line.
@@ -482,18 +522,38 @@ impl<'t> Read for Pieces<'t> {
     }
 }
 
-#[test]
-fn a_long_input_is_read_whole(rt: HostRuntime) -> Result<(), Fail> {
-    let mut input = String::from_str(rt.alloc(), "d /r\n")?;
-    let mut out = String::from_str(rt.alloc(), "0 d /r\n")?;
-    for number in 0..6000 {
-        input.push_str(&format!(in rt.alloc(); "f {number} /r/file number {number}\n")?)?;
-        out.push_str(&format!(in rt.alloc(); "1 f /r/file number {number}\n")?)?;
+/// Adds the line of a file to an input, and that of its entry to an output.
+fn push_file(input: &mut String, out: &mut String, number: u64) -> Result<(), AllocError> {
+    let alloc = *input.allocator();
+    input.push_str(format!(in alloc; "f {number} /r/file number {number}\n")?.as_str())?;
+    out.push_str(format!(in alloc; "1 f /r/file number {number}\n")?.as_str())
+}
+
+fn push_files(input: &mut String, out: &mut String, count: u64) -> Result<(), AllocError> {
+    input.push_str("d /r\n")?;
+    out.push_str("0 d /r\n")?;
+    for number in 0..count {
+        push_file(input, out, number)?;
     }
+    Ok(())
+}
+
+fn comes_of_pieces(alloc: Global, input: &str, out: &str) -> bool {
+    comes(
+        alloc,
+        &["--tree", "/r"],
+        &mut Pieces(input.as_bytes()),
+        &(out, "", 0),
+    )
+}
+
+#[test]
+fn a_long_input_is_read_whole(rt: HostRuntime) -> Result<(), AllocError> {
+    let mut input = String::new(rt.alloc());
+    let mut out = String::new(rt.alloc());
+    push_files(&mut input, &mut out, 6000)?;
     assert!(rt; input.len() > 100000);
-    let ran = run_on(rt.alloc(), &["--tree", "/r"], Pieces(input.as_bytes()))?;
-    assert_eq!(rt; ran.status, 0);
-    assert!(rt; ran.out.as_slice() == out.as_bytes());
+    assert!(rt; comes_of_pieces(rt.alloc(), input.as_str(), out.as_str()));
     Ok(())
 }
 
@@ -587,38 +647,31 @@ fn printed(alloc: Global, walk: OddWalk) -> Ran {
     Ran { out, err, status }
 }
 
+/// Whether this is printed of a walk.
+fn prints(alloc: Global, walk: OddWalk, out: &str, status: u8) -> bool {
+    is(&printed(alloc, walk), &(out, "", status))
+}
+
 #[test]
-fn each_sort_of_answer_has_its_line(rt: HostRuntime) -> Result<(), Fail> {
+fn each_sort_of_answer_has_its_line(rt: HostRuntime) -> Result<(), AllocError> {
     let odd =
         "0 d /odd\n1 L /odd/link\n1 o /odd/socket\n1 d /odd/denied ! PermissionDenied\n! 1 - Other\n";
-    check(
-        &rt,
-        &printed(rt.alloc(), odd_walk(rt.alloc(), "/odd")?),
-        (odd, "", 1),
-    );
-    check(
-        &rt,
-        &printed(rt.alloc(), odd_walk(rt.alloc(), "/denied")?),
-        ("0 d /denied ! PermissionDenied\n", "", 0),
-    );
-    check(
-        &rt,
-        &printed(rt.alloc(), odd_walk(rt.alloc(), "/wide")?),
-        ("! 0 - memory\n", "", 1),
-    );
+    let walk = odd_walk(rt.alloc(), "/odd")?;
+    assert!(rt; prints(rt.alloc(), walk, odd, 1));
+    let walk = odd_walk(rt.alloc(), "/denied")?;
+    assert!(rt; prints(rt.alloc(), walk, "0 d /denied ! PermissionDenied\n", 0));
+    let walk = odd_walk(rt.alloc(), "/wide")?;
+    assert!(rt; prints(rt.alloc(), walk, "! 0 - memory\n", 1));
     Ok(())
 }
 
 #[test]
-fn errors_come_last_and_whatever_their_depth(rt: HostRuntime) -> Result<(), Fail> {
+fn errors_come_last_and_whatever_their_depth(rt: HostRuntime) -> Result<(), AllocError> {
     let all = "0 d /d\n1 f /d/a\n1 f /d/b\n! 1 /d/.x PermissionDenied\n! 1 - InvalidData\n";
     let walk = odd_walk(rt.alloc(), "/d")?.sort(true);
-    check(&rt, &printed(rt.alloc(), walk), (all, "", 1));
+    assert!(rt; prints(rt.alloc(), walk, all, 1));
     let errors = "! 1 /d/.x PermissionDenied\n! 1 - InvalidData\n";
-    let walk = odd_walk(rt.alloc(), "/d")?
-        .sort(true)
-        .min_depth(5)
-        .max_depth(5);
-    check(&rt, &printed(rt.alloc(), walk), (errors, "", 1));
+    let walk = odd_walk(rt.alloc(), "/d")?.sort(true);
+    assert!(rt; prints(rt.alloc(), walk.min_depth(5).max_depth(5), errors, 1));
     Ok(())
 }

@@ -95,81 +95,112 @@ pub fn same_path(a: &str, b: &str) -> bool
 #[cfg(test)]
 mod tests {
     use super::*;
-    use std::test::Fail;
+    use std::alloc::Global;
+
+    // A path, its name and its parent.
+    const NAMES: &[(&str, Option<&str>, Option<&str>)] = &[
+        ("", None, None),
+        ("/", None, None),
+        ("/.", None, None),
+        (".", None, Some("")),
+        ("..", None, Some("")),
+        ("../..", None, Some("..")),
+        ("a", Some("a"), Some("")),
+        ("a/.", Some("a"), Some("")),
+        ("/a", Some("a"), Some("/")),
+        ("//a", Some("a"), Some("/")),
+        ("//x/y", Some("y"), Some("//x")),
+        ("a/b/", Some("b"), Some("a")),
+        ("a//b", Some("b"), Some("a")),
+        ("a/./b", Some("b"), Some("a")),
+        ("./a", Some("a"), Some(".")),
+        ("a/..", None, Some("a")),
+    ];
+
+    // The path of the first row that is wrong.
+    fn wrongly_named() -> Option<&'static str> {
+        for (text, name, above) in NAMES {
+            if file_name(text) != *name || parent(text) != *above {
+                return Some(*text);
+            }
+        }
+        None
+    }
 
     #[test]
     fn names_and_parents_of_texts(rt: HostRuntime) {
-        let rows = [
-            ("", None, None),
-            ("/", None, None),
-            ("/.", None, None),
-            (".", None, Some("")),
-            ("..", None, Some("")),
-            ("../..", None, Some("..")),
-            ("a", Some("a"), Some("")),
-            ("a/.", Some("a"), Some("")),
-            ("/a", Some("a"), Some("/")),
-            ("//a", Some("a"), Some("/")),
-            ("//x/y", Some("y"), Some("//x")),
-            ("a/b/", Some("b"), Some("a")),
-            ("a//b", Some("b"), Some("a")),
-            ("a/./b", Some("b"), Some("a")),
-            ("./a", Some("a"), Some(".")),
-            ("a/..", None, Some("a")),
-        ];
-        for (text, name, above) in rows {
-            assert_eq!(rt; file_name(text), name, "at {text}");
-            assert_eq!(rt; parent(text), above, "at {text}");
+        assert_eq!(rt; wrongly_named(), None);
+    }
+
+    const PAIRS: &[(&str, &str, bool)] = &[
+        ("a//b/", "a/b", true),
+        ("/a/./b", "/a/b", true),
+        ("./a", "a", false),
+        ("a/../b", "b", false),
+        ("", ".", false),
+    ];
+
+    fn wrongly_compared() -> Option<&'static str> {
+        for (a, b, same) in PAIRS {
+            if same_path(a, b) != *same || same_path(b, a) != *same {
+                return Some(*a);
+            }
         }
+        None
     }
 
     #[test]
     fn texts_of_the_same_path(rt: HostRuntime) {
-        let rows = [
-            ("a//b/", "a/b", true),
-            ("/a/./b", "/a/b", true),
-            ("./a", "a", false),
-            ("a/../b", "b", false),
-            ("", ".", false),
-        ];
-        for (a, b, same) in rows {
-            assert_eq!(rt; same_path(a, b), same, "of {a} and {b}");
-            assert_eq!(rt; same_path(b, a), same, "of {b} and {a}");
+        assert_eq!(rt; wrongly_compared(), None);
+    }
+
+    // Two paths, the parts of their join, and the join.
+    const JOINS: &[(&str, &str, (&str, &str, &str), &str)] = &[
+        ("a", "b", ("a", "/", "b"), "a/b"),
+        ("a/", "b", ("a/", "", "b"), "a/b"),
+        ("", "b", ("", "", "b"), "b"),
+        ("/", "b", ("/", "", "b"), "/b"),
+        ("a", "/b", ("", "", "/b"), "/b"),
+        ("a", "", ("a", "/", ""), "a/"),
+    ];
+
+    fn have_parts(a: &str, b: &str, parts: &(&str, &str, &str)) -> bool {
+        let (front, slash, name) = join_parts(a, b);
+        front == parts.0 && slash == parts.1 && name == parts.2
+    }
+
+    fn wrongly_parted() -> Option<&'static str> {
+        for (a, b, parts, whole) in JOINS {
+            if !have_parts(a, b, parts) {
+                return Some(*whole);
+            }
         }
+        None
     }
 
     #[test]
     fn parts_of_joined_texts(rt: HostRuntime) {
-        let rows = [
-            ("a", "b", ("a", "/", "b")),
-            ("a/", "b", ("a/", "", "b")),
-            ("", "b", ("", "", "b")),
-            ("/", "b", ("/", "", "b")),
-            ("a", "/b", ("", "", "/b")),
-            ("a", "", ("a", "/", "")),
-        ];
-        for (a, b, parts) in rows {
-            let (front, slash, name) = join_parts(a, b);
-            assert_eq!(rt; front, parts.0, "at {a} and {b}");
-            assert_eq!(rt; slash, parts.1, "at {a} and {b}");
-            assert_eq!(rt; name, parts.2, "at {a} and {b}");
+        assert_eq!(rt; wrongly_parted(), None);
+    }
+
+    fn are_joined(alloc: Global, a: &str, b: &str, whole: &str) -> bool {
+        match join(alloc, a, b) {
+            Ok(path) => path.as_str() == whole,
+            Err(_) => false,
         }
     }
 
-    #[test]
-    fn joins_with_one_slash(rt: HostRuntime) -> Result<(), Fail> {
-        let rows = [
-            ("a", "b", "a/b"),
-            ("a/", "b", "a/b"),
-            ("", "b", "b"),
-            ("/", "b", "/b"),
-            ("a", "/b", "/b"),
-            ("a", "", "a/"),
-        ];
-        for (a, b, whole) in rows {
-            let joined = join(rt.alloc(), a, b)?;
-            assert_eq!(rt; joined.as_str(), whole, "at {a} and {b}");
+    fn wrongly_joined(alloc: Global) -> Option<&'static str> {
+        for (a, b, _, whole) in JOINS {
+            if !are_joined(alloc, a, b, whole) {
+                return Some(*whole);
+            }
         }
-        Ok(())
+        None
+    }
+
+    #[test]
+    fn joins_with_one_slash(rt: HostRuntime) {
+        assert_eq!(rt; wrongly_joined(rt.alloc()), None);
     }
 }
