@@ -3,27 +3,7 @@ use crate::digest::Digest;
 use crate::failure::Failure;
 use crate::tree::Tree;
 use jwalk_board::board::Board;
-use jwalk_order::ordered::Ordered;
 use std::alloc::Global;
-
-/// Takes a directory, finishes it with so many children and hands it out.
-fn hand_next_out(
-    alloc: Global,
-    board: &mut Board<i32, i32>,
-    count: usize,
-) -> Result<Ordered<i32>, Failure> {
-    let children = vec![in alloc; 0; count]?;
-    let Ok(taken) = board.take() else {
-        return Err(Failure::Refused);
-    };
-    let Ok(()) = board.finish(taken.index_path, taken.value, children) else {
-        return Err(Failure::Refused);
-    };
-    let Ok(out) = board.hand_out() else {
-        return Err(Failure::Refused);
-    };
-    Ok(out)
-}
 
 /// Takes each directory of a tree, finishes it with its children and hands it out.
 pub fn run_board(alloc: Global, tree: &Tree) -> Result<Digest, Failure> {
@@ -32,7 +12,16 @@ pub fn run_board(alloc: Global, tree: &Tree) -> Result<Digest, Failure> {
     };
     let mut digest = Digest::new();
     for count in tree.child_counts.iter() {
-        let out = hand_next_out(alloc, &mut board, *count)?;
+        let Ok(taken) = board.take() else {
+            return Err(Failure::Refused);
+        };
+        let children = vec![in alloc; 0; *count]?;
+        let Ok(()) = board.finish(taken.index_path, taken.value, children) else {
+            return Err(Failure::Refused);
+        };
+        let Ok(out) = board.hand_out() else {
+            return Err(Failure::Refused);
+        };
         digest.add(out.index_path.indices.as_slice());
     }
     Ok(digest)

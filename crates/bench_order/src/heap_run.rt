@@ -8,18 +8,6 @@ use std::alloc::{AllocError, Global};
 use std::cmp::Reverse;
 use std::collections::BinaryHeap;
 
-/// A heap that gives the least address first.
-type Heap = BinaryHeap<Reverse<Vec<usize>>>;
-
-/// Adds the least address to a digest, and gives it.
-fn pop(heap: &mut Heap, digest: &mut Digest) -> Result<Vec<usize>, Failure> {
-    let Some(Reverse(indices)) = heap.pop() else {
-        return Err(Failure::Refused);
-    };
-    digest.add(indices.as_slice());
-    Ok(indices)
-}
-
 /// Pushes all addresses and then pops them all.
 pub fn run_heap(alloc: Global, addresses: Vec<Vec<usize>>) -> Result<Digest, Failure> {
     let count = addresses.len();
@@ -29,7 +17,10 @@ pub fn run_heap(alloc: Global, addresses: Vec<Vec<usize>>) -> Result<Digest, Fai
     }
     let mut digest = Digest::new();
     for _address in 0..count {
-        pop(&mut heap, &mut digest)?;
+        let Some(Reverse(indices)) = heap.pop() else {
+            return Err(Failure::Refused);
+        };
+        digest.add(indices.as_slice());
     }
     Ok(digest)
 }
@@ -44,27 +35,21 @@ fn child(alloc: Global, parent: &[usize], index: usize) -> Result<Vec<usize>, Al
     Ok(indices)
 }
 
-/// Pushes the addresses of so many children.
-fn push_children(
-    alloc: Global,
-    heap: &mut Heap,
-    parent: &[usize],
-    count: usize,
-) -> Result<(), Failure> {
-    for i in 0..count {
-        heap.push(Reverse(child(alloc, parent, i)?))?;
-    }
-    Ok(())
-}
-
 /// Pushes the roots of a tree, and then pops each directory and pushes its children.
 pub fn run_tree_heap(alloc: Global, tree: &Tree) -> Result<Digest, Failure> {
     let mut heap = BinaryHeap::new(alloc);
-    push_children(alloc, &mut heap, &[], tree.roots)?;
+    for i in 0..tree.roots {
+        heap.push(Reverse(child(alloc, &[], i)?))?;
+    }
     let mut digest = Digest::new();
     for count in tree.child_counts.iter() {
-        let indices = pop(&mut heap, &mut digest)?;
-        push_children(alloc, &mut heap, indices.as_slice(), *count)?;
+        let Some(Reverse(indices)) = heap.pop() else {
+            return Err(Failure::Refused);
+        };
+        digest.add(indices.as_slice());
+        for i in 0..*count {
+            heap.push(Reverse(child(alloc, indices.as_slice(), i)?))?;
+        }
     }
     Ok(digest)
 }

@@ -58,15 +58,6 @@ fn run_job(alloc: Global, words: &[String]) -> Result<Digest, Failure> {
     }
 }
 
-/// Prints the line of a job.
-fn print_line(rt: &HostRuntime, words: &[String], digest: Digest) -> Result<(), Failure> {
-    for word in words {
-        print!(rt; "{word} ")?;
-    }
-    println!(rt; "{}", digest.value())?;
-    Ok(())
-}
-
 /// Does the jobs one after another, and prints a line for each.
 fn run(rt: &HostRuntime) -> Result<(), Failure> {
     let Ok(args) = env::args(rt) else {
@@ -74,7 +65,11 @@ fn run(rt: &HostRuntime) -> Result<(), Failure> {
     };
     let words: Vec<String> = args.skip(1).collect(rt.alloc())?;
     for job in words.chunks(3) {
-        print_line(rt, job, run_job(rt.alloc(), job)?)?;
+        let digest = run_job(rt.alloc(), job)?;
+        for word in job {
+            print!(rt; "{word} ")?;
+        }
+        println!(rt; "{}", digest.value())?;
     }
     Ok(())
 }
