@@ -158,14 +158,14 @@ fn entries_kept_by_a_test(rt: HostRuntime) -> Result<(), Fail> {
 
 // What the walk of a group answers whose callback was made of a closure with its types written.
 fn by_written_types(alloc: Global) -> Result<String, Fail> {
-    let nothing_below = ByFn::new(
-        |depth: Option<usize>, _path: &str, _state: &mut (), list: &mut Items| {
-            if depth.is_some() {
-                list.clear();
-            }
-            Ok(())
-        },
-    );
+    let nothing_below = ByFn::new(|depth: Option<
+        usize,
+    >, _path: &str, _state: &mut (), list: &mut Items| {
+        if depth.is_some() {
+            list.clear();
+        }
+        Ok(())
+    });
     Ok(text_of(alloc, sorted(alloc)?.process_read_dir(nothing_below))?)
 }
 
@@ -267,7 +267,11 @@ fn marks(alloc: Global) -> Result<String, Fail> {
     for answer in found {
         if let Ok(entry) = answer {
             text.push_str(entry.path()?.as_str())?;
-            text.push_str(if entry.client_state { " true;" } else { " false;" })?;
+            text.push_str(if entry.client_state {
+                " true;"
+            } else {
+                " false;"
+            })?;
         }
     }
     Ok(text)
@@ -320,6 +324,9 @@ fn in_a_for_loop(alloc: Global) -> Result<String, Fail> {
 
 #[test]
 fn a_walk_with_a_callback_in_a_for_loop(rt: HostRuntime) -> Result<(), Fail> {
-    assert_eq!(rt; in_a_for_loop(rt.alloc())?.as_str(), "0 d /t; 1 f /t/a.txt; 1 f /t/b.txt");
+    assert_eq!(rt;
+        in_a_for_loop(rt.alloc())?.as_str(),
+        "0 d /t; 1 f /t/a.txt; 1 f /t/b.txt"
+    );
     Ok(())
 }

@@ -11,15 +11,13 @@ pub fn walk_turned<S: FileSystem, A: Allocator + Copy>(
     fs: S,
     root: String<A>,
 ) -> Result<Vec<Answer<DirEntry<((), ()), A>, A>, A>, AllocError> {
-    let turned = ByFn::new(
-        |_depth: Option<usize>,
-         _path: &str,
-         _state: &mut (),
-         list: &mut Vec<Answer<DirEntry<((), ()), A>, A>, A>| {
-            list.reverse();
-            Ok(())
-        },
-    );
+    let turned = ByFn::new(|_depth: Option<usize>, _path: &str, _state: &mut (), list: &mut Vec<
+        Answer<DirEntry<((), ()), A>, A>,
+        A,
+    >| {
+        list.reverse();
+        Ok(())
+    });
     let walk = WalkDirGeneric::<((), ()), _, _, _>::new(fs, root).process_read_dir(turned);
     let mut found = Vec::new(alloc);
     walk.into_iter().fill(usize::MAX, &mut found)?;

@@ -25,8 +25,8 @@ pub fn walk_without_target<S: FileSystem>(
         → counted_list (filtering no_target) found.items
         ≡ whole_walk (job_without_target (S.functions fs)) (string_bytes root) blank) }
 {
-    let filter =
-        FilterEntry::new(|_depth, name, file_type| name != "target" || !file_type.is_dir());
+    let filter = FilterEntry::new(|_depth, name, file_type| name != "target"
+        || !file_type.is_dir());
     let walk = WalkDirGeneric::<((), ()), _, _, _>::new(fs, root).process_read_dir(filter);
     let mut found = Vec::new(alloc);
     walk.into_iter().fill(usize::MAX, &mut found)?;
