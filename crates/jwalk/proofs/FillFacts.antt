@@ -1,5 +1,5 @@
 -- What calls of a walk's `next` answer, one after another.
-use Rattle.std.proofs.Common.{◌≡◌, ◌≢◌, ◌≤◌, ◌<◌, ◌⊎◌, ◌∙◌, true, false, ℕ, ◌+◌, List, [], ◌∷◌, ◌++◌, map, length, append_assoc, append-nil, Option, Some, None, Result, Ok, Err, inl, inr, refl, sym, ap, subst, arith}
+use Rattle.std.proofs.Common.{◌≡◌, ◌≢◌, ◌≤◌, ◌<◌, ◌⊎◌, ◌∙◌, true, false, ℕ, ◌+◌, List, [], ◌∷◌, ◌++◌, map, length, append_assoc, Option, Some, None, Result, Ok, Err, inl, inr, refl, sym, ap, subst, arith}
 use lib.ListN.{length-append}
 use Rattle.std.specs.Prelude.{IsErr}
 use Rattle.std.specs.Iterator.{Yields, Drains}
@@ -119,9 +119,6 @@ module _ {C S P A R E : Type 0} (files : FileSystem.Ghosts S) (process : Process
     pub number : filled ≡ length answered
     pub few : filled ≤ n
     pub calls : Yields (Answers files process clone defaults) old answered new
-
-  pub nothing_filled : Filled 0 before old
-  nothing_filled = record { answered = []; appended = sym (append-nil before); number = refl; few = omega arith; calls = refl }
 
   pub one_filled : (filled : ℕ) (now : List (Result (DirEntry C A R E) (Error A))) (mid new : DirEntryIter C S P A R E) (x : Result (DirEntry C A R E) (Error A)) → Filled filled now mid → filled < n → Answers files process clone defaults mid (Some x) new → Filled (filled + 1) (now ++ x ∷ []) new
   one_filled filled now mid new x sofar less step = record {

@@ -6,7 +6,7 @@ use Rattle.std.specs.Prelude.{flat_map, option_map}
 use Rattle.walk_model.specs.Entry.{Entry, Item, has_directory, AtDepth}
 use Rattle.walk_model.specs.ReadDir.{Spec, Outcome, spec_of, spec_below, children_of, list_of, IsLawful, AreClones}
 use Rattle.walk_model.proofs.CloneFacts.{depths, same_depths}
-use Rattle.walk_model.specs.Listing.{Pair, Source, nothing, unread, was_read, source_of, pair, paired, pairs_of, after_reading, levels_of, stands, below, listing}
+use Rattle.walk_model.specs.Listing.{Pair, nothing, unread, source_of, pair, paired, pairs_of, after_reading, levels_of, stands, below, listing}
 use Rattle.walk_model.specs.Held.{first_source, after_first, pair_up, is_plain, bound, source_weight, weight, sources, AreSourced}
 
 module _ {R E : Type 0} where
@@ -91,12 +91,6 @@ heavy_source E max_depth true [] = omega arith
 heavy_source E max_depth true (s ∷ ss) = bound_pos (max_depth - s.depth)
 
 module _ {R E : Type 0} where
-  -- a source stands for an answer at least
-  pub heavy_source_of : (max_depth : ℕ) (source : Source R E) → 1 ≤ source_weight max_depth source
-  heavy_source_of max_depth nothing = omega arith
-  heavy_source_of max_depth (unread spec) = bound_pos (max_depth - spec.depth)
-  heavy_source_of max_depth (was_read spec outcome) = bound_pos (max_depth - spec.depth)
-
   -- what is held isn't nothing
   pub heavy : (max_depth : ℕ) (x : Item R E) (xs : List (Item R E)) (ss : List (Spec R)) → 0 < weight max_depth (pair_up (x ∷ xs) ss)
   heavy max_depth x xs ss = omega (arith, heavy_source E max_depth (has_directory x) ss)

@@ -1,5 +1,5 @@
 -- The components of `std::path` are those of `specs/Paths.antt`.
-use Rattle.std.proofs.Common.{◌≡◌, ◌≢◌, ℕ, Bool, true, false, T, cond, ◌||◌, ◌&&◌, eqb, List, [], ◌∷◌, ◌++◌, length, slice_index_or, map, filter, flat_map, bytes_eq, Option, Some, None, MatchOption, refl, sym, ap, ap₂, subst, ◌∙◌, arith, ne_eqb}
+use Rattle.std.proofs.Common.{◌≡◌, ◌≢◌, ℕ, Bool, true, false, cond, ◌||◌, ◌&&◌, eqb, List, [], ◌∷◌, ◌++◌, length, slice_index_or, map, filter, flat_map, bytes_eq, Option, Some, None, MatchOption, refl, sym, ap, ap₂, subst, ◌∙◌, arith, ne_eqb}
 use Rattle.std.specs.List.{onto_first}
 use Rattle.std.specs.Path.{dot as dot_byte, HasNoSlash, root_dir, cur_dir, parent_dir, first_piece, later_pieces, is_name, is_dot_at, leading_components, path_names, path_components, component_bytes, IsWellFormedComponent, IsNextComponent, IsLastComponent}
 use Rattle.std.specs.declared.path.components.Component.{Component as StdComponent}
@@ -71,9 +71,6 @@ unfolding path_components path_names
 path_components-texts text = parts_texts text ∙ ap (λ ps. map component_text (components_of ps)) (sym (parts_are text))
 
 -- ---- a component read back
-
-T-false : (b : Bool) → b ≡ false → T b → ⊥
-T-false b e h = subst T e h
 
 no_slash_first_piece : (text : List ℕ) → HasNoSlash (first_piece text)
 no_slash_first_piece [] = tt

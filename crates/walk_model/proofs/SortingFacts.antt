@@ -1,18 +1,14 @@
 -- The stable order of a list: the insertion sort has it, and no other list has.
 use Rattle.std.proofs.Common.{◌≡◌, ℕ, zero, suc, ◌<◌, ◌≤◌, Bool, true, false, cond, not, ◌&&◌, List, [], ◌∷◌, map, length, get_or, refl, sym, ap, ◌∙◌, subst, add-one, arith, Ok, Err}
 use Rattle.std.specs.List.{filter, AllByRecursion}
-use Rattle.std.specs.List.Sorted.{IsPermutation, IsSortedBy, IsStableBy, IsSortedByClosure, IsStableByClosure, ties}
+use Rattle.std.specs.List.Sorted.{IsPermutation, IsSortedBy, IsStableBy, ties}
 use Rattle.std.specs.Cmp.{IsStrictWeakOrder}
 use Rattle.std.specs.Cmp.Lexicographic.{slice_cmp}
-use Rattle.std.specs.Fn.{Called}
 use Rattle.std.specs.Ordering.{nat_cmp, is_lt}
-use Rattle.std.specs.declared.cmp.Ordering.{Ordering}
-use denote.Param.Members.{Mut}
-use denote.Ref.{Bor}
 use Rattle.std.proofs.lemmas.Cmp.{nat_list_cmp_total}
 use Rattle.walk_model.specs.Entry.{Entry, Item}
 use Rattle.walk_model.specs.Sorting.{stands_before, IsSorted, arranged, OrdersAreArranged}
-use Rattle.std.proofs.lemmas.List.Sorted.{ranks_by, answers_always, sorted_far, IsPermutation-refl, IsPermutation-cons, IsPermutation-middle, IsPermutation-sym, IsPermutation-trans}
+use Rattle.std.proofs.lemmas.List.Sorted.{ranks_by, sorted_far, IsPermutation-refl, IsPermutation-cons, IsPermutation-middle, IsPermutation-sym, IsPermutation-trans}
 
 first_false : (a b : Bool) → (not a && not b) ≡ true → a ≡ false
 first_false false b h = refl
@@ -241,13 +237,3 @@ module _ {R E : Type 0} where
   arranged-map item l m h k =
       ap (map item) (insertion_sorted-unique (λ a b. stands_before (item a) (item b)) (stands_before-through item) l m h k)
       ∙ map-insertion_sorted stands_before item l
-
-  -- from the clauses of `sort_by`, where each call answers `Less` just where the one item has to stand before the other
-  pub arranged-from_sort_by : {T F : Type 0} {g : Mut F (Bor T × (Bor T × Unit {0})) Ordering} {f : F} (item : T → Item R E) (l m : List T)
-      → IsSortedByClosure g f m
-      → IsStableByClosure g f l m
-      → ((q : F) (a : Bor T × (Bor T × Unit {0})) (r : Ordering) (q' : F) → Called g q a r q' → is_lt r ≡ stands_before (item a.0.now) (item a.1.0.now))
-      → map item m ≡ arranged (map item l)
-  arranged-from_sort_by {g = g} {f = f} item l m sorted stable calls =
-      let compares = answers_always g (λ a r. is_lt r ≡ stands_before (item a.0.now) (item a.1.0.now)) f calls in
-      arranged-map item l m (sorted _ (stands_before-through item) compares) (stable _ (stands_before-through item) compares)
