@@ -1,5 +1,5 @@
 -- Lists that a callback makes as is given.
-use Rattle.std.proofs.Common.{◌≡◌, ℕ, List, [], ◌∷◌, Option, Result, Ok, Err, map}
+use Rattle.std.proofs.Common.{ℕ, List, [], ◌∷◌, Option, Result, Ok, Err, map}
 use Rattle.std.specs.Prelude.{OnOk}
 use Rattle.walk_model.specs.Entry.{Item, AtDepth}
 use Rattle.walk_model.specs.ReadDir.{list_depth}

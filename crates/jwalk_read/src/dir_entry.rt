@@ -2,15 +2,19 @@
 use crate::ancestors::Ancestors;
 use crate::client_state::ClientState;
 use crate::error::Error;
+use crate::metadata::metadata_at;
 pub use crate::read_children::ReadChildren;
 use std::alloc::{AllocError, Allocator, Global};
 use std::sync::Arc;
+use walk_fs::fault::Fault;
+use walk_fs::file_system::FileSystem;
 use walk_model::file_type::FileType;
 use walk_model::metadata::Metadata;
 use walk_paths::path_text;
 
 /// A file, a directory, a link or anything else that a walk came to.
 #[derive(Drop)]
+#[derive_where(Debug)]
 pub struct DirEntry<C: ClientState, A: Allocator + Copy = Global> {
     /// The depth below the root, which has depth 0.
     pub depth: usize,
@@ -25,16 +29,17 @@ pub struct DirEntry<C: ClientState, A: Allocator + Copy = Global> {
     /// The directory to be read below the entry: set where it is one, unless a callback took it away.
     pub read_children: Option<ReadChildren<C, A>>,
     pub(crate) through_link: bool,
+    #[derive_where(skip)]
     pub(crate) ancestors: Ancestors<A>,
 }
 
 impl<C: ClientState, A: Allocator + Copy> DirEntry<C, A> {
-    ghost use Rattle.std.specs.Prelude.{◌≡◌, ◌||◌, true, Ok, IfOk, string_bytes, if◌then◌else◌};
-    ghost use Rattle.walk_model.specs.Entry.{path_of, with_error, children_at};
+    ghost use Rattle.std.specs.Prelude.{◌≡◌, ◌||◌, true, Ok, Err, IfOk, IfErr, IfSome, MatchResult, string_bytes, if◌then◌else◌};
+    ghost use Rattle.walk_model.specs.Entry.{path_of, metadata_of, IsErrorOf, with_error, children_at};
     ghost use Rattle.walk_model.specs.FileType.{is_dir, is_symlink};
     ghost use Rattle.walk_model.specs.Metadata.{type_of};
     ghost use Rattle.jwalk_read.specs.Text.{text};
-    ghost use Rattle.jwalk_read.specs.Error.{failure};
+    ghost use Rattle.jwalk_read.specs.Error.{failure, kind_of};
     ghost use Rattle.jwalk_read.specs.Entry.{entry};
 
     /// The depth below the root, which has depth 0.
@@ -80,6 +85,44 @@ impl<C: ClientState, A: Allocator + Copy> DirEntry<C, A> {
     {
         let alloc = *self.file_name.allocator();
         path_text::join(alloc, self.parent_path.as_str(), self.file_name.as_str())
+    }
+
+    /// What the file system answers of the entry's path, or its error.
+    fn asked<S: FileSystem>(&self, fs: &S) -> Result<Result<Metadata, Error<A>>, AllocError>
+        ensures value { S.IsFixed fs.now → IfOk result (λ r. MatchResult r
+            (λ m. metadata_of (S.functions fs.now) (entry self.now) ≡ Ok m)
+            (λ e. IfSome (kind_of (failure e))
+            (λ kind. metadata_of (S.functions fs.now) (entry self.now) ≡ Err kind))) }
+        ensures error { IfOk result (λ r. IfErr r (λ e. IsErrorOf (entry self.now) (failure e))) }
+    {
+        let path = self.path()?;
+        match metadata_at(fs, path.as_str(), self.through_link) {
+            Ok(metadata) => Ok(Ok(metadata)),
+            Err(Fault::Io(err)) => {
+                let path = Arc::new(*path.allocator(), path)?;
+                Ok(Err(Error::from_path(self.depth, path, err)))
+            }
+            Err(Fault::Memory) => Err(AllocError),
+        }
+    }
+
+    /// The type and the length of what stands at the entry's path. Where the entry is that of a link which was
+    /// followed, they are those of what the link leads to (`metadata` of the file system, else `symlink_metadata`). The
+    /// file system is asked once, at each call: so the type may be another than the entry's.
+    ///
+    /// An error of the file system has the entry's depth and path. Want of memory, the file system's or for the path,
+    /// is the error with `is_memory`.
+    pub fn metadata<S: FileSystem>(&self, fs: &S) -> Result<Metadata, Error<A>>
+        ensures value { S.IsFixed fs.now → MatchResult result
+            (λ m. metadata_of (S.functions fs.now) (entry self.now) ≡ Ok m)
+            (λ e. IfSome (kind_of (failure e))
+            (λ kind. metadata_of (S.functions fs.now) (entry self.now) ≡ Err kind)) }
+        ensures error { IfErr result (λ e. IsErrorOf (entry self.now) (failure e)) }
+    {
+        match self.asked(fs) {
+            Ok(answer) => answer,
+            Err(AllocError) => Err(Error::memory()),
+        }
     }
 
     /// The entry of a link, where the directory at its path is to be read, if it leads to one.

@@ -1,9 +1,12 @@
 //! The errors of a walk.
+mod text;
+
 use std::alloc::{Allocator, Global};
 use std::io;
 use std::sync::Arc;
 
 #[derive(Drop)]
+#[derive_where(Debug)]
 pub(crate) enum ErrorInner<A: Allocator + Copy> {
     Io {
         path: Option<Arc<String<A>, A>>,
@@ -13,12 +16,21 @@ pub(crate) enum ErrorInner<A: Allocator + Copy> {
         ancestor: Arc<String<A>, A>,
         child: Arc<String<A>, A>,
     },
+    Busy,
     Memory,
+    Lost,
 }
 
 /// An error met on a walk: an `io::Error` with the depth at which it came and, mostly, a path; a link that was followed
-/// and leads back to a directory above it; or want of memory.
+/// and leads back to a directory above it; want of memory; or one of the two errors of a crew.
+///
+/// It is told by its text where `?` makes an `anyhow::Error` of it. That of an `io::Error` with a path is
+///
+/// ```text
+/// IO error for operation on /t/group 2: permission denied
+/// ```
 #[derive(Drop)]
+#[derive_where(Debug)]
 pub struct Error<A: Allocator + Copy = Global> {
     depth: usize,
     inner: ErrorInner<A>,
@@ -31,7 +43,7 @@ impl<A: Allocator + Copy> Error<A> {
     ghost use Rattle.std.specs.Prelude.{◌≡◌, ◌↔◌, Some, None, option_map, IsTrue, string_bytes};
     ghost use Rattle.std.specs.Option.{option_copied};
     ghost use Rattle.std.specs.IoError.{error_kind};
-    ghost use Rattle.walk_model.specs.Error.{io, looped, memory};
+    ghost use Rattle.walk_model.specs.Error.{io, looped, busy, memory, lost};
     ghost use Rattle.jwalk_read.specs.Text.{text};
     ghost use Rattle.jwalk_read.specs.Error.{failure, depth_of, path_of, ancestor_of, kind_of};
 
@@ -72,6 +84,16 @@ impl<A: Allocator + Copy> Error<A> {
         }
     }
 
+    /// The error of a walk that a crew has no place for.
+    pub fn busy() -> Self
+        ensures { failure result ≡ busy }
+    {
+        Error {
+            depth: 0,
+            inner: ErrorInner::Busy,
+        }
+    }
+
     /// The error that tells of want of memory.
     pub fn memory() -> Self
         ensures { failure result ≡ memory }
@@ -82,8 +104,18 @@ impl<A: Allocator + Copy> Error<A> {
         }
     }
 
-    /// The path that the error came with, of a loop that of the link. There is none for want of memory, where an item
-    /// of a listing had no name, and where the text of a link could not be read.
+    /// The error of a walk whose crew gave no reading, or a wrong one, of a directory that was entered.
+    pub fn lost() -> Self
+        ensures { failure result ≡ lost }
+    {
+        Error {
+            depth: 0,
+            inner: ErrorInner::Lost,
+        }
+    }
+
+    /// The path that the error came with, of a loop that of the link. There is none where an item of a listing had no
+    /// name, where the text of a link could not be read, for want of memory, and where a crew is the cause.
     pub fn path(&self) -> Option<&str>
         ensures { option_copied result ≡ path_of (failure self.now) }
     {
@@ -108,13 +140,13 @@ impl<A: Allocator + Copy> Error<A> {
         }
     }
 
-    /// The depth at which the error came: 0 for the root, and for want of memory.
+    /// The depth at which the error came: 0 for the root, for want of memory, and where a crew is the cause.
     pub fn depth(&self) -> usize
         ensures { result ≡ depth_of (failure self.now) }
     {
         match &self.inner {
             ErrorInner::Io { .. } | ErrorInner::Loop { .. } => self.depth,
-            ErrorInner::Memory => 0,
+            ErrorInner::Busy | ErrorInner::Memory | ErrorInner::Lost => 0,
         }
     }
 
@@ -128,10 +160,34 @@ impl<A: Allocator + Copy> Error<A> {
         }
     }
 
+    /// The same, taken out of the error.
+    pub fn into_io_error(self) -> Option<io::Error>
+        ensures { option_map error_kind result ≡ kind_of (failure self) }
+    {
+        match self.inner {
+            ErrorInner::Io { err, .. } => Some(err),
+            _ => None,
+        }
+    }
+
+    /// Whether a crew had no place for the walk.
+    pub fn is_busy(&self) -> bool
+        ensures { IsTrue result ↔ (failure self.now ≡ busy) }
+    {
+        matches!(self.inner, ErrorInner::Busy)
+    }
+
     /// Whether it is want of memory.
     pub fn is_memory(&self) -> bool
         ensures { IsTrue result ↔ (failure self.now ≡ memory) }
     {
         matches!(self.inner, ErrorInner::Memory)
+    }
+
+    /// Whether a crew gave no reading, or a wrong one, of a directory that was entered.
+    pub fn is_lost(&self) -> bool
+        ensures { IsTrue result ↔ (failure self.now ≡ lost) }
+    {
+        matches!(self.inner, ErrorInner::Lost)
     }
 }

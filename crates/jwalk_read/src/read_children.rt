@@ -8,6 +8,7 @@ use std::sync::Arc;
 ///
 /// A callback may take it away, so that the directory isn't read, or move it to another entry.
 #[derive(Drop)]
+#[derive_where(Debug)]
 pub struct ReadChildren<C: ClientState, A: Allocator + Copy = Global> {
     pub(crate) path: Arc<String<A>, A>,
     pub(crate) error: Option<Error<A>>,

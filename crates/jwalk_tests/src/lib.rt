@@ -6,6 +6,8 @@ mod callbacks;
 #[cfg(test)]
 mod error_texts;
 #[cfg(test)]
+mod errors;
+#[cfg(test)]
 mod faults;
 #[cfg(test)]
 mod lines;

@@ -1,7 +1,10 @@
 -- Entries as values. R is the type of a directory's client state, E that of an entry's.
-use Rattle.std.specs.Prelude.{◌≡◌, ◌≤◌, ℕ, Bool, false, List, [], ◌∷◌, Option, Some, None, Result, Ok, Err, if◌then◌else◌, option_map, is_some, ◌==◌}
+use Rattle.std.specs.Prelude.{◌≡◌, ◌≤◌, ◌⊎◌, ℕ, Bool, false, List, [], ◌∷◌, Option, Some, None, Result, Ok, Err, if◌then◌else◌, option_map, is_some, ◌==◌}
+use Rattle.std.specs.declared.io.ErrorKind.{ErrorKind}
 use Rattle.walk_model.specs.declared.file_type.FileType.{FileType}
-use Rattle.walk_model.specs.Error.{Failure}
+use Rattle.walk_model.specs.declared.metadata.Metadata.{Metadata}
+use Rattle.walk_model.specs.FileSystem.{Functions, metadata_at}
+use Rattle.walk_model.specs.Error.{Failure, io, memory}
 use Rattle.walk_model.specs.Paths.{join}
 
 -- what an entry holds of the directory to be read below it: its path, the error of its reading, and the state that the reading is to begin with
@@ -42,6 +45,14 @@ module _ {R E : Type 0} where
   -- the path of an entry
   abbrev pub path_of : Entry R E → List ℕ
   path_of e = join e.parent_path e.file_name
+
+  -- its metadata, asked for as the entry was made: through a link or not
+  abbrev pub metadata_of : Functions → Entry R E → Result Metadata ErrorKind
+  metadata_of fs e = metadata_at fs e.through_link (path_of e)
+
+  -- An error that comes of asking for it: want of memory, or one of the file system with the entry's depth and path.
+  abbrev pub IsErrorOf : Entry R E → Failure → Type 0
+  IsErrorOf e f = (f ≡ memory) ⊎ ((kind : ErrorKind) × (f ≡ io e.depth (Some (path_of e)) kind))
 
   -- whether an item has a directory to be read
   abbrev pub has_directory : Item R E → Bool

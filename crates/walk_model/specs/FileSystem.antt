@@ -1,5 +1,5 @@
 -- A file system whose answers are four functions of the path.
-use Rattle.std.specs.Prelude.{ℕ, List, Result}
+use Rattle.std.specs.Prelude.{ℕ, Bool, List, Result, if◌then◌else◌}
 use Rattle.std.specs.declared.io.ErrorKind.{ErrorKind}
 use Rattle.walk_model.specs.declared.file_type.FileType.{FileType}
 use Rattle.walk_model.specs.declared.metadata.Metadata.{Metadata}
@@ -19,3 +19,7 @@ pub record Functions : Type 0 where
   pub meta_of : List ℕ → Result Metadata ErrorKind
   pub link_meta_of : List ℕ → Result Metadata ErrorKind
   pub target_of : List ℕ → Result (List ℕ) ErrorKind
+
+-- what is known of a path: through its last link, or of that link itself
+abbrev pub metadata_at : Functions → Bool → List ℕ → Result Metadata ErrorKind
+metadata_at fs through path = if through then fs.meta_of path else fs.link_meta_of path

@@ -4,7 +4,7 @@ use Rattle.walk_model.specs.declared.file_type.FileType.{FileType}
 use Rattle.walk_model.specs.declared.metadata.Metadata.{Metadata}
 use Rattle.walk_model.specs.FileType.{is_dir, is_symlink}
 use Rattle.walk_model.specs.Metadata.{type_of}
-use Rattle.walk_model.specs.FileSystem.{Named, Listed, Functions}
+use Rattle.walk_model.specs.FileSystem.{Named, Listed, Functions, metadata_at}
 use Rattle.walk_model.specs.Paths.{join, parent, file_name, same_path}
 use Rattle.walk_model.specs.Error.{io, looped}
 use Rattle.walk_model.specs.Entry.{Entry, Item, children_at, is_hidden, path_of}
@@ -61,7 +61,7 @@ module _ {R E : Type 0} (job : Job R E) where
   made depth path through ancestors = either
       (λ m. Ok (made_of depth path through ancestors m))
       (λ kind. Err (io depth (Some path) kind))
-      (if through then job.fs.meta_of path else job.fs.link_meta_of path)
+      (metadata_at job.fs through path)
 
   -- the entry x behind the link e, unless x is an ancestor
   abbrev pub unless_looped : Entry R E → Entry R E → Option (List ℕ) → Item R E

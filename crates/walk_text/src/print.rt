@@ -1,10 +1,10 @@
 //! Answers as lines.
-ghost use Rattle.std.specs.Prelude.{◌≡◌, decimal, OnOk, option_map};
+ghost use Rattle.std.specs.Prelude.{◌≡◌, None, decimal, OnOk, option_map};
 ghost use Rattle.std.specs.Io.KnownBytes.{Appends};
 ghost use Rattle.walk_model.specs.Error.{looped};
 ghost use Rattle.walk_model.specs.Paths.{join};
 ghost use Rattle.jwalk_read.specs.Entry.{children, entry, item};
-ghost use Rattle.jwalk_read.specs.Error.{failure};
+ghost use Rattle.jwalk_read.specs.Error.{failure, ancestor_of, kind_of};
 ghost use Rattle.walk_model.specs.Lines.{kind_name, letter_of, failure_name, reading_part, entry_line, failure_line, line_of};
 
 use itoa::Buffer;
@@ -129,6 +129,21 @@ fn print_loop<W: Write>(out: &mut W, depth: usize, ancestor: &str, child: &str) 
     out.write_all(b"\n")
 }
 
+/// The line of an error that is neither one of the file system nor a loop.
+fn bare_line<A: Allocator + Copy>(error: &Error<A>) -> &'static str
+    requires no_kind { kind_of (failure error.now) ≡ None }
+    requires no_loop { ancestor_of (failure error.now) ≡ None }
+    ensures { result.now ≡ failure_line (failure error.now) }
+{
+    if error.is_busy() {
+        "! 0 - busy\n"
+    } else if error.is_lost() {
+        "! 0 - lost\n"
+    } else {
+        "! 0 - memory\n"
+    }
+}
+
 /// Writes the line of an error.
 fn print_error<W: Write, A: Allocator + Copy>(out: &mut W, error: &Error<A>) -> io::Result<()>
     ensures { OnOk result (Appends (W.contents out.old) (W.contents out.new) (failure_line (failure error.now))) }
@@ -138,7 +153,7 @@ fn print_error<W: Write, A: Allocator + Copy>(out: &mut W, error: &Error<A>) -> 
         return print_loop(out, error.depth(), ancestor, child);
     }
     let Some(err) = error.io_error() else {
-        return out.write_all(b"! 0 - memory\n");
+        return out.write_all(bare_line(error).as_bytes());
     };
     out.write_all(b"! ")?;
     write_number(out, error.depth())?;

@@ -4,7 +4,6 @@ ghost use Rattle.walk_model.specs.Counted.{Worth};
 ghost use Rattle.walk_model.specs.Entry.{AtDepth, Entry, path_of};
 ghost use Rattle.walk_model.specs.FileType.{is_symlink};
 ghost use Rattle.walk_model.specs.Job as value;
-ghost use Rattle.walk_fs.specs.Views.{AnswersValue};
 ghost use Rattle.jwalk_read.specs.Text.{text};
 ghost use Rattle.jwalk_read.specs.Ancestors.{texts};
 ghost use Rattle.jwalk_read.specs.Error.{failure};
@@ -18,6 +17,7 @@ use crate::ancestors::Ancestors;
 use crate::client_state::ClientState;
 use crate::dir_entry::DirEntry;
 use crate::error::Error;
+use crate::metadata::metadata_at;
 use crate::process_read_dir::ProcessReadDir;
 use crate::read_children::ReadChildren;
 use crate::read_dir_spec::ReadDirSpec;
@@ -115,19 +115,6 @@ impl<C: ClientState, S: FileSystem, P: ProcessReadDir<C, A>, A: Allocator + Copy
         })
     }
 
-    /// What the file system knows of a path, through its last link or not.
-    fn metadata_of(&self, path: &str, through_link: bool) -> Result<Metadata, Fault>
-        ensures { S.IsFixed (file_system self.now) → AnswersValue (λ m. m) result
-            (if through_link then (S.functions (file_system self.now)).meta_of path.now
-            else (S.functions (file_system self.now)).link_meta_of path.now) }
-    {
-        if through_link {
-            self.fs.metadata(path)
-        } else {
-            self.fs.symlink_metadata(path)
-        }
-    }
-
     /// The entry of a path, or the error with its depth and path. A text near by may be that of its parent.
     pub(super) fn made(
         &self,
@@ -142,7 +129,7 @@ impl<C: ClientState, S: FileSystem, P: ProcessReadDir<C, A>, A: Allocator + Copy
             → IfOk result (λ r. counted_item g (item r)
             ≡ value.made (job_by S.FileSystem g self.now) depth (text path) through_link (texts ancestors)) }
     {
-        match self.metadata_of(path.as_str(), through_link) {
+        match metadata_at(&self.fs, path.as_str(), through_link) {
             Ok(metadata) => {
                 let found = self.entry_at(depth, path, near, through_link, ancestors, metadata)?;
                 Ok(Ok(found))
