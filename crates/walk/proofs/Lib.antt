@@ -1,2 +1,2 @@
 pub mod LineFacts
-pub mod TreeWalkFacts
+pub mod AskedWalkFacts

@@ -3,10 +3,10 @@
 #![tactic(auto)]
 
 mod answers;
+mod asked_walk;
 mod run;
 #[cfg(test)]
 mod tests;
-mod tree_walk;
 
 use crate::run::run;
 use std::io::ErrorKind;
@@ -29,6 +29,7 @@ fn main(rt: HostRuntime) -> ExitCode {
     let status = match words_of(&rt) {
         Ok(words) => run(
             rt.alloc(),
+            jwalk::file_system::MemoryFs::new(rt.alloc()),
             words.as_slice(),
             &mut rt.reader(),
             &mut io::writer(&rt),
