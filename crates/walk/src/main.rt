@@ -1,5 +1,6 @@
-//! Walks a tree and prints one line for each answer:
-//! `walk --tree [--sort] [--hidden] [--follow] [--min N] [--max N] ROOT`, with the lines of the tree on standard input.
+//! Walks the disk and prints one line for each answer:
+//! `walk [--tree] [--sort] [--hidden] [--follow] [--min N] [--max N] ROOT`. With `--tree` it walks the tree that the lines
+//! on standard input say.
 #![tactic(auto)]
 
 mod answers;
@@ -9,6 +10,7 @@ mod run;
 mod tests;
 
 use crate::run::run;
+use jwalk::file_system::RealFs;
 use std::io::ErrorKind;
 use std::process::ExitCode;
 use std::{env, io};
@@ -29,7 +31,7 @@ fn main(rt: HostRuntime) -> ExitCode {
     let status = match words_of(&rt) {
         Ok(words) => run(
             rt.alloc(),
-            jwalk::file_system::MemoryFs::new(rt.alloc()),
+            RealFs::new(&rt),
             words.as_slice(),
             &mut rt.reader(),
             &mut io::writer(&rt),
