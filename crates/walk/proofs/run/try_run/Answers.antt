@@ -8,7 +8,12 @@ pub returns-then-request-clause-begins : goal.returns-then-request-clause-begins
 returns-then-request-clause-begins g c =
     let request = c.in-Some.request in
     let begun : BeginsWalk (map string_bytes c.args.words.now) (g.R.Read.remaining c.args.input.now) = record {
-      asked = request.asked; root = request.root.now; ask = c.in-Some.ensures.some; tree = Some (tree_of c.in_ok-tree.tree); wanted = sym c.if-request.true; builds = c.in_ok-tree.ensures.built;
+      asked = request.asked;
+      root = request.root.now;
+      ask = c.in-Some.ensures.some;
+      tree = Some (tree_of c.in_ok-tree.tree);
+      wanted = sym c.if-request.true;
+      builds = c.in_ok-tree.ensures.built;
     } in
     IfOk-weaker c.print_walk.result (λ status. status ≤ 1) (λ _. BeginsWalk (map string_bytes c.args.words.now) (g.R.Read.remaining c.args.input.now)) (λ status small. begun) c.print_walk.ensures.status
 
