@@ -1,17 +1,12 @@
-//! A first walk: a small tree in memory, and the path of each of its entries.
+//! A first walk: the path of all that stands below a folder, by name.
 #![tactic(auto)]
 
-use jwalk::WalkDirGeneric;
-use jwalk::file_system::MemoryFs;
+use jwalk::WalkDir;
+use jwalk::file_system::RealFs;
 
 fn main(rt: HostRuntime) -> anyhow::Result<()> {
-    let alloc = rt.alloc();
-    let mut fs = MemoryFs::new(alloc);
-    fs.add_dir("/photos")?;
-    fs.add_file("/photos/sea.jpg", 1200)?;
-    fs.add_file("/notes.txt", 300)?;
-    let root = String::from_str(alloc, "/")?;
-    for answer in WalkDirGeneric::<((), ()), _, _, _>::new(fs, root).sort(true) {
+    let root = String::from_str(rt.alloc(), "photos")?;
+    for answer in WalkDir::new(RealFs::new(&rt), root).sort(true) {
         if let Ok(entry) = answer {
             println!(rt; "{}", entry.path()?)?;
         }

@@ -31,5 +31,5 @@ pub use jwalk_read::dir_entry::{DirEntry, ReadChildren};
 pub use jwalk_read::error::{Error, Result};
 pub use jwalk_read::{dir_entry, error};
 pub use parallelism::Parallelism;
-pub use walk_dir::WalkDirGeneric;
+pub use walk_dir::{WalkDir, WalkDirGeneric};
 pub use walk_paths::path_text;

@@ -13,7 +13,9 @@ use jwalk_read::error::Error;
 use jwalk_read::job::Job;
 use jwalk_read::options::Options;
 use jwalk_read::process_read_dir::{NoProcess, ProcessReadDir};
+use real_fs::real_fs::RealFs;
 use std::alloc::{AllocError, Allocator, Global};
+use std::rt::HostRuntime;
 use walk_fs::file_system::FileSystem;
 
 /// A walk that is yet to begin: a root in a file system, and options.
@@ -30,6 +32,9 @@ pub struct WalkDirGeneric<
     options: Options,
     root_read_dir_state: C::ReadDirState,
 }
+
+/// A walk of the file system that a runtime reaches, without states beside directories and entries.
+pub type WalkDir<R = HostRuntime, A = Global> = WalkDirGeneric<((), ()), RealFs<R>, NoProcess, A>;
 
 impl<C: ClientState, S: FileSystem, A: Allocator + Copy> WalkDirGeneric<C, S, NoProcess, A> {
     ghost use Rattle.walk_model.specs.Options.{defaults};

@@ -27,26 +27,24 @@ fn are_bad(alloc: Global, words: &[&str]) -> bool {
 fn other_words_are_bad(rt: HostRuntime) {
     const ROWS: &[&[&str]] = &[
         &[],
-        &["/r"],
-        &["--tree"],
-        &["--sort", "/r"],
         &["--sort", "--sort", "/r"],
         &["--tree", "--tree", "/r"],
         &["--tree", "--sort", "--hidden", "--sort", "/r"],
-        &["--tree", "--min", "1", "--min", "2", "/r"],
+        &["--min", "1", "--min", "2", "/r"],
         &["--tree", "--max", "1", "--sort", "--max", "1", "/r"],
         &["--min", "x", "/r"],
         &["--tree", "--min", "x", "/r"],
         &["--min", "3"],
         &["--tree", "--min", "3"],
         &["--min", "--tree"],
-        &["--tree", "--max", "--sort", "/r"],
-        &["--tree", "/r", "/r"],
+        &["--max", "--sort", "/r"],
+        &["/r", "/r"],
         &["--tree", "", "/r"],
+        &["/r", "--sort", "/r"],
         &["--tree", "/r", "--sort", "/r"],
-        &["--tree", "--sorted", "/r"],
-        &["--tree", "--follow", "--follow", "/r"],
-        &["--tree", "--batch", "2", "/r"],
+        &["--sorted", "/r"],
+        &["--follow", "--follow", "/r"],
+        &["--batch", "2", "/r"],
         &["--tree", "--usage", "/r"],
     ];
     for words in ROWS {
@@ -122,7 +120,7 @@ static ORDERED: Asked = Asked {
 };
 
 static HIDDEN: Asked = Asked {
-    tree: true,
+    tree: false,
     sort: false,
     hidden: true,
     follow: false,
@@ -149,9 +147,9 @@ fn options_come_in_any_order_and_the_root_last(rt: HostRuntime) {
     for words in ROWS {
         assert!(rt; ask_for(rt.alloc(), words, &ORDERED, "/r"));
     }
-    const ROOTS: &[&str] = &["--tree", "--min", "3"];
+    const ROOTS: &[&str] = &["--tree", "--hidden", "--min", "3"];
     for root in ROOTS {
-        assert!(rt; ask_for(rt.alloc(), &["--hidden", "--tree", root], &HIDDEN, root));
+        assert!(rt; ask_for(rt.alloc(), &["--hidden", root], &HIDDEN, root));
     }
 }
 

@@ -1,2 +1,3 @@
 pub mod LineFacts
-pub mod TreeWalkFacts
+pub mod AskedWalkFacts
+pub mod RunFacts

@@ -1,3 +1,3 @@
 pub mod Answers
-pub mod TreeWalk
+pub mod AskedWalk
 pub mod Run

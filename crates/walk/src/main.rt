@@ -1,14 +1,16 @@
-//! Walks a tree and prints one line for each answer:
-//! `walk --tree [--sort] [--hidden] [--follow] [--min N] [--max N] ROOT`, with the lines of the tree on standard input.
+//! Walks the disk and prints one line for each answer:
+//! `walk [--tree] [--sort] [--hidden] [--follow] [--min N] [--max N] ROOT`. With `--tree` it walks the tree that the lines
+//! on standard input say.
 #![tactic(auto)]
 
 mod answers;
+mod asked_walk;
 mod run;
 #[cfg(test)]
 mod tests;
-mod tree_walk;
 
 use crate::run::run;
+use jwalk::file_system::RealFs;
 use std::io::ErrorKind;
 use std::process::ExitCode;
 use std::{env, io};
@@ -29,6 +31,7 @@ fn main(rt: HostRuntime) -> ExitCode {
     let status = match words_of(&rt) {
         Ok(words) => run(
             rt.alloc(),
+            RealFs::new(&rt),
             words.as_slice(),
             &mut rt.reader(),
             &mut io::writer(&rt),

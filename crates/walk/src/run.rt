@@ -1,9 +1,10 @@
 //! A call of the program.
 ghost use Rattle.std.specs.Prelude.{◌≡◌, ◌≤◌, Err, map, string_bytes, IfOk, IfErr, OnOk, OnErr};
-ghost use Rattle.walk_text.specs.Words.{AreGood};
+ghost use Rattle.walk_text.specs.Words.{AreGood, AskForTree};
 ghost use Rattle.walk.specs.Run.{BeginsWalk, PrintsWalk, TellsOfCall, IsBadCall, Ends};
 
-use crate::tree_walk::print_tree;
+use crate::asked_walk::print_walk;
+use jwalk::file_system::FileSystem;
 use std::alloc::Allocator;
 use std::io::{Read, Write};
 use walk_text::failure::Failure;
@@ -11,8 +12,9 @@ use walk_text::input::read_tree;
 use walk_text::words::parse_words;
 
 /// Walks as the words ask, and prints one line for each answer.
-fn print_walk<A: Allocator + Copy, R: Read, W: Write, E: Write>(
+fn try_run<S: FileSystem, A: Allocator + Copy, R: Read, W: Write, E: Write>(
     alloc: A,
+    disk: S,
     words: &[String<A>],
     input: &mut R,
     out: &mut W,
@@ -23,23 +25,29 @@ fn print_walk<A: Allocator + Copy, R: Read, W: Write, E: Write>(
     ensures bad_words { ¬ (AreGood (map string_bytes words.now)) → result ≡ Err Failure.BadWords }
     ensures told { IfErr result (TellsOfCall (map string_bytes words.now) (R.remaining input.old)) }
     ensures untouched { OnErr result (W.contents out.new ≡ W.contents out.old) }
-    ensures printed { IfOk result (λ status. status ≡ 0 → PrintsWalk (map string_bytes words.now)
+    ensures unread { ¬ (AskForTree (map string_bytes words.now)) → input.new ≡ input.old }
+    ensures printed { IfOk result (λ status. status ≡ 0 → PrintsWalk S.FileSystem disk (map string_bytes words.now)
         (R.remaining input.old) (W.contents out.old) (W.contents out.new)) }
 {
     let Some(request) = parse_words(words) else {
         return Err(Failure::BadWords);
     };
-    let fs = read_tree(alloc, input)?;
-    let root = String::from_str(alloc, request.root)?;
-    Ok(print_tree(alloc, fs, root, request.asked, out, err))
+    if request.asked.tree {
+        let tree = read_tree(alloc, input)?;
+        return print_walk(alloc, tree, &request, out, err);
+    }
+    print_walk(alloc, disk, &request, out, err)
 }
 
-/// Walks as the words ask over the tree that the input says, prints one line for each answer, and answers the status:
-/// 0 where the walk ended and no answer was an error; 1 where one was, where memory was refused, or where the output
-/// can't be written; 2 for bad words or a bad tree, and then nothing is printed. What is wrong is told on `err`, unless
-/// the output can't be written.
-pub fn run<A: Allocator + Copy, R: Read, W: Write, E: Write>(
+/// Walks as the words ask, prints one line for each answer, and answers the status: 0 where the walk ended and no answer
+/// was an error; 1 where one was, where memory was refused, or where the output can't be written; 2 for bad words or a bad
+/// tree, and then nothing is printed. What is wrong is told on `err`, unless the output can't be written.
+///
+/// The walk goes over the tree that the input says, if the words ask for that, and over the disk otherwise; the input
+/// isn't read then.
+pub fn run<S: FileSystem, A: Allocator + Copy, R: Read, W: Write, E: Write>(
     alloc: A,
+    disk: S,
     words: &[String<A>],
     input: &mut R,
     out: &mut W,
@@ -50,10 +58,11 @@ pub fn run<A: Allocator + Copy, R: Read, W: Write, E: Write>(
     ensures bad_words { ¬ (AreGood (map string_bytes words.now)) → result ≡ 2 }
     ensures only_bad { result ≡ 2 → IsBadCall (map string_bytes words.now) (R.remaining input.old) }
     ensures untouched { result ≡ 2 → W.contents out.new ≡ W.contents out.old }
-    ensures printed { result ≡ 0 → PrintsWalk (map string_bytes words.now)
+    ensures unread { ¬ (AskForTree (map string_bytes words.now)) → input.new ≡ input.old }
+    ensures printed { result ≡ 0 → PrintsWalk S.FileSystem disk (map string_bytes words.now)
         (R.remaining input.old) (W.contents out.old) (W.contents out.new) }
 {
-    match print_walk(alloc, words, input, out, err) {
+    match try_run(alloc, disk, words, input, out, err) {
         Ok(status) => status,
         Err(failure) => failure.report(err),
     }

@@ -2,12 +2,15 @@
 use crate::answers::print_answers;
 use crate::run::run;
 use jwalk::WalkDirGeneric;
-use jwalk::file_system::{Fault, FileSystem, FileType, Listed, Metadata};
+use jwalk::file_system::{Fault, FileSystem, FileType, Listed, MemoryFs, Metadata};
 use jwalk::read_dir::NoProcess;
 use std::alloc::{AllocError, Allocator, Global};
+use std::cell::Cell;
 use std::io;
 use std::io::{ErrorKind, Read, Write};
 use std::process::Abort;
+use walk_text::failure::Failure;
+use walk_text::tree::build_tree;
 
 const TREE_A: &str =
     "d /t\nf 1 /t/c.txt\nf 2 /t/a.txt\nd /t/group 2\nf 3 /t/group 2/.hidden_file.txt\nf 4 /t/group 2/e.txt\nd /t/group 1\nf 5 /t/group 1/d.txt\nf 6 /t/b.txt\n";
@@ -17,7 +20,7 @@ type Want<'a> = (&'a str, &'a str, u8);
 
 const BAD_WORDS: Want<'static> = ("", "walk: bad words\n", 2);
 
-/// The words of a call, its input, and what comes of it.
+/// The words of a call, the lines of a tree, and what comes of it.
 type Row<'a> = (&'a [&'a str], &'a str, Want<'a>);
 
 /// What a run wrote, and its status.
@@ -28,18 +31,26 @@ struct Ran {
     status: u8,
 }
 
-fn texts(alloc: Global, words: &[&str]) -> Result<Vec<String>, AllocError> {
-    let mut texts = Vec::new(alloc);
+fn push_texts(texts: &mut Vec<String>, words: &[&str]) -> Result<(), AllocError> {
+    let alloc = *texts.allocator();
     for word in words {
         texts.push(String::from_str(alloc, word)?)?;
     }
+    Ok(())
+}
+
+/// Some words and then others.
+fn texts(alloc: Global, front: &[&str], words: &[&str]) -> Result<Vec<String>, AllocError> {
+    let mut texts = Vec::new(alloc);
+    push_texts(&mut texts, front)?;
+    push_texts(&mut texts, words)?;
     Ok(texts)
 }
 
-fn outcome<R: Read>(alloc: Global, words: &[String], input: &mut R) -> Ran {
+fn outcome<S: FileSystem, R: Read>(alloc: Global, disk: S, words: &[String], input: &mut R) -> Ran {
     let mut out = Vec::new(alloc);
     let mut err = Vec::new(alloc);
-    let status = run(alloc, words, input, &mut out, &mut err);
+    let status = run(alloc, disk, words, input, &mut out, &mut err);
     Ran { out, err, status }
 }
 
@@ -49,15 +60,58 @@ fn is(ran: &Ran, want: &Want<'_>) -> bool {
         && ran.status == want.2
 }
 
-/// Whether this comes of a call.
+/// Whether this comes of a call, where the disk is empty.
 fn comes<R: Read>(alloc: Global, words: &[&str], input: &mut R, want: &Want<'_>) -> bool {
-    match texts(alloc, words) {
-        Ok(words) => is(&outcome(alloc, words.as_slice(), input), want),
+    match texts(alloc, &[], words) {
+        Ok(words) => is(
+            &outcome(alloc, MemoryFs::new(alloc), words.as_slice(), input),
+            want,
+        ),
         Err(_) => false,
     }
 }
 
-/// The number of the first row that comes otherwise.
+/// Counts how often it is read, and gives nothing.
+#[derive(Drop)]
+struct Unread {
+    reads: usize,
+}
+
+impl Read for Unread {
+    fn read(&mut self, _buf: &mut [u8]) -> io::Result<usize> {
+        self.reads = self.reads.wrapping_add(1);
+        Ok(0)
+    }
+}
+
+/// Whether this comes of a call over a disk of these lines, and the input isn't read.
+fn comes_of_disk(
+    alloc: Global,
+    words: &[&str],
+    lines: &str,
+    want: &Want<'_>,
+) -> Result<bool, Failure> {
+    let words = texts(alloc, &[], words)?;
+    let disk = build_tree(alloc, lines.as_bytes())?;
+    let mut input = Unread { reads: 0 };
+    let ran = outcome(alloc, disk, words.as_slice(), &mut input);
+    Ok(is(&ran, want) && input.reads == 0)
+}
+
+/// Whether this comes of a call with `--tree` in front whose input has these lines, while the disk is empty.
+fn comes_of_tree(
+    alloc: Global,
+    words: &[&str],
+    lines: &str,
+    want: &Want<'_>,
+) -> Result<bool, Failure> {
+    let words = texts(alloc, &["--tree"], words)?;
+    let disk = MemoryFs::new(alloc);
+    let ran = outcome(alloc, disk, words.as_slice(), &mut lines.as_bytes());
+    Ok(is(&ran, want))
+}
+
+/// The number of the first row that comes otherwise of its words, where the lines are the input.
 fn first_wrong(alloc: Global, rows: &[Row<'_>]) -> Option<usize> {
     for (number, (words, input, want)) in rows.iter().enumerate() {
         if !comes(alloc, words, &mut input.as_bytes(), want) {
@@ -67,21 +121,38 @@ fn first_wrong(alloc: Global, rows: &[Row<'_>]) -> Option<usize> {
     None
 }
 
-/// Each row comes as is said.
+/// The number of the first row that comes otherwise over the tree of its lines, be that the input's or the disk's.
+fn first_wrong_over_tree(alloc: Global, rows: &[Row<'_>]) -> Result<Option<usize>, Failure> {
+    for (number, (words, lines, want)) in rows.iter().enumerate() {
+        let of_tree = comes_of_tree(alloc, words, lines, want)?;
+        if !of_tree || !comes_of_disk(alloc, words, lines, want)? {
+            return Ok(Some(number));
+        }
+    }
+    Ok(None)
+}
+
+/// Each row comes of its words as is said, where the lines are the input and the disk is empty.
 fn all_come(rt: &(impl Abort + AllocGlobal), rows: &[Row<'_>]) {
     assert_eq!(rt; first_wrong(rt.alloc(), rows), None);
+}
+
+/// Each row comes as is said over the tree of its lines: with `--tree` in front of its words and the lines on the input,
+/// and without it over a disk that is the same tree.
+fn all_come_over_tree(rt: &(impl Abort + AllocGlobal), rows: &[Row<'_>]) {
+    assert_eq!(rt; first_wrong_over_tree(rt.alloc(), rows), Ok(None));
 }
 
 #[test]
 fn answers_come_in_order(rt: HostRuntime) {
     const ROWS: &[Row<'static>] = &[
         (
-            &["--tree", "/r"],
+            &["/r"],
             "d /r\nf 3 /r/b\nd /r/s\nf 1 /r/s/x\nf 2 /r/a\n",
             ("0 d /r\n1 f /r/b\n1 d /r/s\n2 f /r/s/x\n1 f /r/a\n", "", 0),
         ),
         (
-            &["--tree", "/t"],
+            &["/t"],
             TREE_A,
             (
                 "0 d /t\n1 f /t/c.txt\n1 f /t/a.txt\n1 d /t/group 2\n2 f /t/group 2/e.txt\n1 d /t/group 1\n2 f /t/group 1/d.txt\n1 f /t/b.txt\n",
@@ -89,28 +160,23 @@ fn answers_come_in_order(rt: HostRuntime) {
                 0,
             ),
         ),
+        (&["/none"], TREE_A, ("! 0 /none NotFound\n", "", 1)),
+        (&[""], TREE_A, ("! 0  NotFound\n", "", 1)),
+        (&["/t/a.txt"], TREE_A, ("0 f /t/a.txt\n", "", 0)),
+        (&["/e"], "d /e\n", ("0 d /e\n", "", 0)),
+        (&["/"], "", ("0 d /\n", "", 0)),
         (
-            &["--tree", "/none"],
-            TREE_A,
-            ("! 0 /none NotFound\n", "", 1),
-        ),
-        (&["--tree", ""], TREE_A, ("! 0  NotFound\n", "", 1)),
-        (&["--tree", "/t/a.txt"], TREE_A, ("0 f /t/a.txt\n", "", 0)),
-        (&["--tree", "/e"], "d /e\n", ("0 d /e\n", "", 0)),
-        (&["--tree", "/"], "", ("0 d /\n", "", 0)),
-        (&["--tree", "--tree"], "", ("! 0 --tree NotFound\n", "", 1)),
-        (
-            &["--tree", "/r"],
+            &["/r"],
             "d /r\nf 18446744073709551615 /r/last",
             ("0 d /r\n1 f /r/last\n", "", 0),
         ),
         (
-            &["--tree", "/r"],
+            &["/r"],
             "\n\nd /r\n\nf 00000000000000000007 /r/a b\n\n",
             ("0 d /r\n1 f /r/a b\n", "", 0),
         ),
     ];
-    all_come(&rt, ROWS);
+    all_come_over_tree(&rt, ROWS);
 }
 
 #[test]
@@ -118,8 +184,40 @@ fn other_words_are_bad(rt: HostRuntime) {
     const ROWS: &[Row<'static>] = &[
         (&[], "d /r", BAD_WORDS),
         (&["--sort", "--sort", "/r"], "d /r", BAD_WORDS),
+        (&["--tree", "--tree", "/r"], "d /r", BAD_WORDS),
+        (&["--batch", "2", "--crew", "2", "/r"], "d /r", BAD_WORDS),
         (&["--min", "x", "/r"], "d /r", BAD_WORDS),
-        (&["/r"], "d /r", BAD_WORDS),
+        (&["--min", "3"], "d /r", BAD_WORDS),
+        (&["/r", "/r"], "d /r", BAD_WORDS),
+    ];
+    all_come(&rt, ROWS);
+}
+
+#[test]
+fn the_last_word_is_the_root_whatever_it_looks_like(rt: HostRuntime) {
+    const ROWS: &[Row<'static>] = &[
+        (&["--tree", "/"], "", ("0 d /\n", "", 0)),
+        (&["--tree", "--tree"], "", ("! 0 --tree NotFound\n", "", 1)),
+        (&["--tree"], "", ("! 0 --tree NotFound\n", "", 1)),
+        (&["--sort"], "", ("! 0 --sort NotFound\n", "", 1)),
+    ];
+    all_come(&rt, ROWS);
+}
+
+#[test]
+fn a_walk_goes_over_the_tree_where_that_is_asked_and_else_over_the_disk(rt: HostRuntime) {
+    const ROWS: &[Row<'static>] = &[
+        (
+            &["--hidden", "--tree", "--max", "1", "/"],
+            "d /.r\nd /.r/a\n",
+            ("0 d /\n1 d /.r\n", "", 0),
+        ),
+        (
+            &["--hidden", "--max", "1", "/"],
+            "d /.r\nd /.r/a\n",
+            ("0 d /\n", "", 0),
+        ),
+        (&["/"], "no line of a tree", ("0 d /\n", "", 0)),
     ];
     all_come(&rt, ROWS);
 }
@@ -128,29 +226,29 @@ fn other_words_are_bad(rt: HostRuntime) {
 fn depths_have_up_to_20_digits(rt: HostRuntime) {
     const ROWS: &[Row<'static>] = &[
         (
-            &["--max", "00000000000000000000", "--tree", "/t"],
+            &["--max", "00000000000000000000", "/t"],
             TREE_A,
             ("0 d /t\n", "", 0),
         ),
         (
-            &["--min", "00000000000000000002", "--tree", "/t"],
+            &["--min", "00000000000000000002", "/t"],
             TREE_A,
             ("2 f /t/group 2/e.txt\n2 f /t/group 1/d.txt\n", "", 0),
         ),
         (
-            &["--min", "18446744073709551615", "--tree", "/t"],
+            &["--min", "18446744073709551615", "/t"],
             TREE_A,
             ("", "", 0),
         ),
     ];
-    all_come(&rt, ROWS);
+    all_come_over_tree(&rt, ROWS);
 }
 
 #[test]
 fn entries_come_by_name_where_that_is_asked(rt: HostRuntime) {
     const ROWS: &[Row<'static>] = &[
         (
-            &["--tree", "--sort", "/t"],
+            &["--sort", "/t"],
             TREE_A,
             (
                 "0 d /t\n1 f /t/a.txt\n1 f /t/b.txt\n1 f /t/c.txt\n1 d /t/group 1\n2 f /t/group 1/d.txt\n1 d /t/group 2\n2 f /t/group 2/e.txt\n",
@@ -159,7 +257,7 @@ fn entries_come_by_name_where_that_is_asked(rt: HostRuntime) {
             ),
         ),
         (
-            &["--tree", "--sort", "--hidden", "/t"],
+            &["--sort", "--hidden", "/t"],
             TREE_A,
             (
                 "0 d /t\n1 f /t/a.txt\n1 f /t/b.txt\n1 f /t/c.txt\n1 d /t/group 1\n2 f /t/group 1/d.txt\n1 d /t/group 2\n2 f /t/group 2/.hidden_file.txt\n2 f /t/group 2/e.txt\n",
@@ -167,13 +265,9 @@ fn entries_come_by_name_where_that_is_asked(rt: HostRuntime) {
                 0,
             ),
         ),
-        (
-            &["--tree", "--sort", "--max", "0", "/t"],
-            TREE_A,
-            ("0 d /t\n", "", 0),
-        ),
+        (&["--sort", "--max", "0", "/t"], TREE_A, ("0 d /t\n", "", 0)),
     ];
-    all_come(&rt, ROWS);
+    all_come_over_tree(&rt, ROWS);
 }
 
 /// The first tree, where one group may not be listed.
@@ -184,7 +278,7 @@ const DENIED: &str =
 fn a_denied_directory_is_answered_with_its_error(rt: HostRuntime) {
     const ROWS: &[Row<'static>] = &[
         (
-            &["--tree", "--sort", "/t"],
+            &["--sort", "/t"],
             DENIED,
             (
                 "0 d /t\n1 f /t/a.txt\n1 f /t/b.txt\n1 f /t/c.txt\n1 d /t/group 1\n2 f /t/group 1/d.txt\n1 d /t/group 2 ! PermissionDenied\n",
@@ -193,7 +287,7 @@ fn a_denied_directory_is_answered_with_its_error(rt: HostRuntime) {
             ),
         ),
         (
-            &["--tree", "--sort", "--max", "1", "/t"],
+            &["--sort", "--max", "1", "/t"],
             DENIED,
             (
                 "0 d /t\n1 f /t/a.txt\n1 f /t/b.txt\n1 f /t/c.txt\n1 d /t/group 1\n1 d /t/group 2\n",
@@ -202,44 +296,40 @@ fn a_denied_directory_is_answered_with_its_error(rt: HostRuntime) {
             ),
         ),
         (
-            &["--tree", "--sort", "--min", "2", "/t"],
+            &["--sort", "--min", "2", "/t"],
             DENIED,
             ("2 f /t/group 1/d.txt\n", "", 0),
         ),
         (
-            &["--tree", "/r"],
+            &["/r"],
             "d /r\nx /r\nf 1 /r/a\nx /r\n",
             ("0 d /r ! PermissionDenied\n", "", 0),
         ),
+        (&["/r/a"], "d /r\nx /r\nf 1 /r/a\n", ("0 f /r/a\n", "", 0)),
         (
-            &["--tree", "/r/a"],
-            "d /r\nx /r\nf 1 /r/a\n",
-            ("0 f /r/a\n", "", 0),
-        ),
-        (
-            &["--tree", "/"],
+            &["/"],
             "d /r\nd /x y\nx /x y",
             ("0 d /\n1 d /r\n1 d /x y ! PermissionDenied\n", "", 0),
         ),
     ];
-    all_come(&rt, ROWS);
+    all_come_over_tree(&rt, ROWS);
 }
 
 #[test]
 fn the_least_depth_is_set_before_the_greatest(rt: HostRuntime) {
     const ROWS: &[Row<'static>] = &[
         (
-            &["--tree", "--sort", "--min", "5", "--max", "2", "/t"],
+            &["--sort", "--min", "5", "--max", "2", "/t"],
             TREE_A,
             ("", "", 0),
         ),
         (
-            &["--tree", "--sort", "--max", "2", "--min", "5", "/t"],
+            &["--sort", "--max", "2", "--min", "5", "/t"],
             TREE_A,
             ("", "", 0),
         ),
     ];
-    all_come(&rt, ROWS);
+    all_come_over_tree(&rt, ROWS);
 }
 
 /// A link to a directory above it.
@@ -258,7 +348,7 @@ const ITSELF: &str = "d /r\nl a\t/r/a\n";
 fn a_link_to_a_directory_above_is_a_loop(rt: HostRuntime) {
     const ROWS: &[Row<'static>] = &[
         (
-            &["--tree", "/r"],
+            &["/r"],
             LOOP,
             (
                 "0 d /r\n1 d /r/a\n2 d /r/a/b\n3 d /r/a/b/c\n4 L /r/a/b/c/a-link\n",
@@ -267,7 +357,7 @@ fn a_link_to_a_directory_above_is_a_loop(rt: HostRuntime) {
             ),
         ),
         (
-            &["--tree", "--follow", "/r"],
+            &["--follow", "/r"],
             LOOP,
             (
                 "0 d /r\n1 d /r/a\n2 d /r/a/b\n3 d /r/a/b/c\n! 4 /r/a/b/c/a-link loop /r/a\n",
@@ -276,7 +366,7 @@ fn a_link_to_a_directory_above_is_a_loop(rt: HostRuntime) {
             ),
         ),
         (
-            &["--tree", "--follow", "--max", "6", "/r"],
+            &["--follow", "--max", "6", "/r"],
             RELATIVE,
             (
                 "0 d /r\n1 d /r/a\n2 d /r/a/b\n3 d /r/a/b/c\n4 D /r/a/b/c/a-link\n5 d /r/a/b/c/a-link/b\n6 d /r/a/b/c/a-link/b/c\n",
@@ -285,29 +375,29 @@ fn a_link_to_a_directory_above_is_a_loop(rt: HostRuntime) {
             ),
         ),
         (
-            &["--tree", "--follow", "/l/"],
+            &["--follow", "/l/"],
             "d /s\nl /s\t/l\nl /l\t/s/k\n",
             ("0 D /l\n! 1 /l/k loop /l\n", "", 1),
         ),
     ];
-    all_come(&rt, ROWS);
+    all_come_over_tree(&rt, ROWS);
 }
 
 #[test]
 fn a_link_beside_its_directory(rt: HostRuntime) {
     const ROWS: &[Row<'static>] = &[
         (
-            &["--tree", "/r/a-link"],
+            &["/r/a-link"],
             BESIDE,
             ("0 L /r/a-link\n1 f /r/a-link/zzz\n", "", 0),
         ),
         (
-            &["--follow", "--tree", "/r/a-link"],
+            &["--follow", "/r/a-link"],
             BESIDE,
             ("0 D /r/a-link\n1 f /r/a-link/zzz\n", "", 0),
         ),
         (
-            &["--tree", "--follow", "/r"],
+            &["--follow", "/r"],
             BESIDE,
             (
                 "0 d /r\n1 d /r/a\n2 f /r/a/zzz\n1 D /r/a-link\n2 f /r/a-link/zzz\n",
@@ -316,40 +406,36 @@ fn a_link_beside_its_directory(rt: HostRuntime) {
             ),
         ),
     ];
-    all_come(&rt, ROWS);
+    all_come_over_tree(&rt, ROWS);
 }
 
 #[test]
 fn links_to_files_and_to_nothing(rt: HostRuntime) {
     const ROWS: &[Row<'static>] = &[
         (
-            &["--tree", "--follow", "/r"],
+            &["--follow", "/r"],
             "d /r\nf 3 /r/f\nl f\t/r/l\n",
             ("0 d /r\n1 f /r/f\n1 F /r/l\n", "", 0),
         ),
         (
-            &["--tree", "--follow", "/r"],
+            &["--follow", "/r"],
             ITSELF,
             ("0 d /r\n! 1 /r/a Other\n", "", 1),
         ),
-        (&["--tree", "/r"], ITSELF, ("0 d /r\n1 L /r/a\n", "", 0)),
+        (&["/r"], ITSELF, ("0 d /r\n1 L /r/a\n", "", 0)),
         (
-            &["--tree", "--follow", "/r"],
+            &["--follow", "/r"],
             "d /r\nl \t/r/l\n",
             ("0 d /r\n! 1 /r/l NotFound\n", "", 1),
         ),
         (
-            &["--tree", "/r"],
+            &["/r"],
             "d /r\nl \t/r/a\tb",
             ("0 d /r\n1 L /r/a\tb\n", "", 0),
         ),
-        (
-            &["--tree", "/x"],
-            "l /nowhere\t/x\n",
-            ("! 0 /x NotFound\n", "", 1),
-        ),
+        (&["/x"], "l /nowhere\t/x\n", ("! 0 /x NotFound\n", "", 1)),
     ];
-    all_come(&rt, ROWS);
+    all_come_over_tree(&rt, ROWS);
 }
 
 /// The path that goes so many times through a link.
@@ -382,10 +468,10 @@ fn lines_of_links(alloc: Global) -> Result<String, AllocError> {
 #[test]
 fn links_are_gone_round_until_a_look_up_refuses(rt: HostRuntime) -> Result<(), AllocError> {
     let out = lines_of_links(rt.alloc())?;
-    all_come(
+    all_come_over_tree(
         &rt,
         &[(
-            &["--tree", "--follow", "/r"],
+            &["--follow", "/r"],
             "d /r\nl .\t/r/l\n",
             (out.as_str(), "", 1),
         )],
@@ -441,17 +527,20 @@ fn an_input_that_cannot_be_read_is_told(rt: HostRuntime) {
     let words = &["--tree", "/r"];
     assert!(rt; comes_unread(rt.alloc(), words, ErrorKind::Other, &broken));
     assert!(rt; comes_unread(rt.alloc(), words, ErrorKind::OutOfMemory, &refused));
-    assert!(rt; comes_unread(rt.alloc(), &["/r"], ErrorKind::Other, &BAD_WORDS));
+    let bad_words = &["--tree", "--min", "/r"];
+    assert!(rt; comes_unread(rt.alloc(), bad_words, ErrorKind::Other, &BAD_WORDS));
+    assert!(rt; comes_unread(rt.alloc(), &["/"], ErrorKind::Other, &("0 d /\n", "", 0)));
 }
 
 /// Whether a call that writes there ends with this status and tells of nothing.
 fn ends<W: Write>(alloc: Global, words: &[&str], input: &str, out: &mut W, status: u8) -> bool {
-    let Ok(words) = texts(alloc, words) else {
+    let Ok(words) = texts(alloc, &[], words) else {
         return false;
     };
     let mut err = Vec::new(alloc);
     let found = run(
         alloc,
+        MemoryFs::new(alloc),
         words.as_slice(),
         &mut input.as_bytes(),
         out,
@@ -464,6 +553,118 @@ fn ends<W: Write>(alloc: Global, words: &[&str], input: &str, out: &mut W, statu
 fn an_output_that_cannot_be_written_ends_the_walk(rt: HostRuntime) {
     let mut out = Broken(ErrorKind::BrokenPipe);
     assert!(rt; ends(rt.alloc(), &["--tree", "/t"], TREE_A, &mut out, 1));
+}
+
+/// A tree in memory that counts how often it is asked.
+#[derive(Drop)]
+struct Watched {
+    fs: MemoryFs,
+    calls: Cell<usize>,
+}
+
+impl Watched {
+    fn count(&self) {
+        self.calls.set(self.calls.get().wrapping_add(1));
+    }
+}
+
+impl FileSystem for Watched {
+    ghost use Rattle.walk_model.specs.Tree.{functions_of, only_root};
+
+    ghost IsFixed = { λ _. ⊥ };
+
+    ghost functions = { λ _. functions_of only_root };
+
+    fn read_dir<A: Allocator + Copy>(
+        &self,
+        alloc: A,
+        path: &str,
+    ) -> Result<Vec<io::Result<Listed<A>>, A>, Fault> {
+        self.count();
+        self.fs.read_dir(alloc, path)
+    }
+
+    fn metadata(&self, path: &str) -> Result<Metadata, Fault> {
+        self.count();
+        self.fs.metadata(path)
+    }
+
+    fn symlink_metadata(&self, path: &str) -> Result<Metadata, Fault> {
+        self.count();
+        self.fs.symlink_metadata(path)
+    }
+
+    fn read_link<A: Allocator + Copy>(&self, alloc: A, path: &str) -> Result<String<A>, Fault> {
+        self.count();
+        self.fs.read_link(alloc, path)
+    }
+}
+
+/// Takes some writes, and fails from then on. It notes how often a disk had been asked by then, and counts its failures.
+#[derive(Drop)]
+struct Closed<'d> {
+    takes: usize,
+    disk: &'d Watched,
+    calls: usize,
+    failures: usize,
+}
+
+impl<'d> Write for Closed<'d> {
+    fn write(&mut self, buf: &[u8]) -> io::Result<usize> {
+        if self.takes > 0 {
+            self.takes -= 1;
+            return Ok(buf.len());
+        }
+        self.calls = self.disk.calls.get();
+        self.failures = self.failures.wrapping_add(1);
+        Err(io::Error::from(ErrorKind::BrokenPipe))
+    }
+
+    fn flush(&mut self) -> io::Result<()> {
+        Ok(())
+    }
+}
+
+/// Lines of so many directories beside one another.
+fn dir_lines(alloc: Global, count: u64) -> Result<String, AllocError> {
+    let mut lines = String::from_str(alloc, "d /r\n")?;
+    for number in 0..count {
+        lines.push_str(format!(in alloc; "d /r/directory number {number}\n")?.as_str())?;
+    }
+    Ok(lines)
+}
+
+fn watched_over(alloc: Global, lines: &str) -> Result<Watched, Failure> {
+    Ok(Watched {
+        fs: build_tree(alloc, lines.as_bytes())?,
+        calls: Cell::new(0),
+    })
+}
+
+#[test]
+fn nothing_is_asked_once_a_write_has_failed(rt: HostRuntime) -> Result<(), Failure> {
+    let alloc = rt.alloc();
+    let words = texts(alloc, &[], &["/r"])?;
+    let disk = watched_over(alloc, dir_lines(alloc, 6000)?.as_str())?;
+    let mut out = Closed {
+        takes: 2,
+        disk: &disk,
+        calls: 0,
+        failures: 0,
+    };
+    let (mut input, mut err) = (Unread { reads: 0 }, Vec::new(alloc));
+    let status = run(
+        alloc,
+        &disk,
+        words.as_slice(),
+        &mut input,
+        &mut out,
+        &mut err,
+    );
+    assert!(rt; status == 1 && err.is_empty());
+    assert!(rt; out.takes == 0 && out.failures == 1);
+    assert!(rt; out.calls == disk.calls.get() && out.calls < 3000);
+    Ok(())
 }
 
 /// Keeps what is written until it is flushed.

@@ -1,5 +1,5 @@
 -- The words of a call, option by option.
-use Rattle.std.proofs.Common.{◌≡◌, ◌≢◌, ℕ, List, [], ◌∷◌, ◌++◌, Option, Some, None, codes, if◌then◌else◌, bytes_eq, Bool, true, false, not, MatchOption, unwrap_or, ap, refl, sym, subst, ◌∙◌}
+use Rattle.std.proofs.Common.{◌≡◌, ◌≢◌, ℕ, List, [], ◌∷◌, ◌++◌, Option, Some, None, codes, if◌then◌else◌, bytes_eq, MatchOption, unwrap_or, ap, refl, sym, subst, ◌∙◌}
 use Rattle.std.proofs.lemmas.List.{same_from_push}
 use Rattle.walk_text.specs.Number.{value_of}
 use Rattle.walk_text.specs.Asked.{nothing, also}
@@ -138,30 +138,14 @@ asks_only old words asked alike new add = ended (alike.back new add)
     ended (c ∷ choices, (rest, m, first, adds, more)) = absurd (none_begins c rest first)
 
 -- what words ask for, by the last of them and the others
-asks_by_last : (words options : List (List ℕ)) (last : List ℕ) → words ≡ options ++ last ∷ [] → (asked : Asked) (root : List ℕ) → Ask words asked root → (root ≡ last) × Add options nothing asked × (asked.tree ≡ true)
-asks_by_last words options last is asked root (front, front_is, add, tree) =
+asks_by_last : (words options : List (List ℕ)) (last : List ℕ) → words ≡ options ++ last ∷ [] → (asked : Asked) (root : List ℕ) → Ask words asked root → (root ≡ last) × Add options nothing asked
+asks_by_last words options last is asked root (front, front_is, add) =
     let same : (front ≡ options) × (root ≡ last) = same_from_push front options root last (sym front_is ∙ is) in
-    (same.1, subst (λ ws. Add ws nothing asked) same.0 add, tree)
+    (same.1, subst (λ ws. Add ws nothing asked) same.0 add)
 
 -- words whose others ask for nothing are bad ones
 pub bad_options : (words options : List (List ℕ)) (last : List ℕ) → words ≡ options ++ last ∷ [] → ((asked : Asked) → ¬ (Add options nothing asked)) → ¬ (AreGood words)
 bad_options words options last is none (asked, root, ask) = none asked (asks_by_last words options last is asked root ask).1
-
--- and so are those that don't ask for the tree
-pub no_tree : (words options : List (List ℕ)) (last : List ℕ) → words ≡ options ++ last ∷ [] → (asked : Asked) → ((other : Asked) → Add options nothing other → other ≡ asked) → not asked.tree ≡ true → ¬ (AreGood words)
-no_tree words options last is asked only none (other, root, ask) =
-    let asks = asks_by_last words options last is other root ask in
-    let same : other ≡ asked = only other asks.1 in
-    let tree : asked.tree ≡ true = subst (λ (o : Asked). o.tree ≡ true) same asks.2 in
-    cc
-
--- words whose others ask for the tree, among other things, ask for these
-pub asks : (words options : List (List ℕ)) (last : List ℕ) → words ≡ options ++ last ∷ [] → (asked : Asked) → Add options nothing asked → not asked.tree ≡ false → Ask words asked last
-asks words options last is asked add tree = (options, is, add, unnegated asked.tree tree)
-  where
-    unnegated : (b : Bool) → not b ≡ false → b ≡ true
-    unnegated true e = refl
-    unnegated false e = sym e
 
 -- what the words ask for is all that they ask for
 pub asks_one : (words options : List (List ℕ)) (last : List ℕ) → words ≡ options ++ last ∷ [] → (asked : Asked) → ((other : Asked) → Add options nothing other → other ≡ asked) → (other : Asked) (root : List ℕ) → Ask words other root → (other ≡ asked) × (root ≡ last)

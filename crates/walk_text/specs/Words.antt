@@ -33,10 +33,14 @@ AddAll (choice ∷ choices) words old new =
 abbrev pub Add : List (List ℕ) → Asked → Asked → Type 0
 Add words old new = (choices : List Choice) × AddAll choices words old new
 
--- the words ask for this and name the root: options come first, and the last word is the root; the tree has to be asked for
+-- the words ask for this and name the root: options come first, and the last word is the root
 abbrev pub Ask : List (List ℕ) → Asked → List ℕ → Type 0
-Ask words asked root = (options : List (List ℕ)) × (words ≡ options ++ root ∷ []) × Add options nothing asked × (asked.tree ≡ true)
+Ask words asked root = (options : List (List ℕ)) × (words ≡ options ++ root ∷ []) × Add options nothing asked
 
 -- the words ask for a walk
 abbrev pub AreGood : List (List ℕ) → Type 0
 AreGood words = (asked : Asked) × (root : List ℕ) × Ask words asked root
+
+-- the words ask for a walk over a tree
+abbrev pub AskForTree : List (List ℕ) → Type 0
+AskForTree words = (asked : Asked) × (root : List ℕ) × Ask words asked root × (asked.tree ≡ true)

@@ -71,7 +71,7 @@ fn parse_options<A: Allocator>(words: &[String<A>]) -> Option<Asked>
 }
 
 /// Reads the words: options, in any order and each at most once, and then the root, whatever it looks like. None for
-/// any other words, and where the tree isn't asked for.
+/// any other words.
 pub fn parse_words<A: Allocator>(words: &[String<A>]) -> Option<Request<'_>>
     ensures some { IfSome result (λ r. Ask (map string_bytes words.now) r.asked r.root.now) }
     ensures only { IfSome result (λ r. (asked : Asked) → (root : List ℕ)
@@ -80,9 +80,6 @@ pub fn parse_words<A: Allocator>(words: &[String<A>]) -> Option<Request<'_>>
 {
     let (root, options) = words.split_last()?;
     let asked = parse_options(options)?;
-    if !asked.tree {
-        return None;
-    }
     Some(Request {
         asked,
         root: root.as_str(),

@@ -1,7 +1,7 @@
 use Rattle.std.proofs.Common.{[], ◌∷◌, ◌++◌, map, string_bytes, ap, sym, ◌∙◌}
 use Rattle.std.proofs.lemmas.List.{map-append}
 use Rattle.walk_text.proofs.Texts.{on_none}
-use Rattle.walk_text.proofs.WordFacts.{bad_options, no_tree, asks, asks_one}
+use Rattle.walk_text.proofs.WordFacts.{bad_options, asks_one}
 use Rattle.walk_text.proofs.words.parse_words.Goals as goal
 
 pub returns-in_err-asked-clause-none : goal.returns-in_err-asked-clause-none
@@ -11,19 +11,12 @@ returns-in_err-asked-clause-none g c =
     let is = ap (map string_bytes) c.in_ok-root.ensures.cases.0 ∙ map-append string_bytes options (last ∷ []) in
     on_none _ (bad_options (map string_bytes c.args.words.now) (map string_bytes options) (string_bytes last) is c.in_err-asked.ensures.none)
 
-pub returns-then-not-asked-clause-none : goal.returns-then-not-asked-clause-none
-returns-then-not-asked-clause-none g c =
-    let options = c.in_ok-root.options.now in
-    let last = c.in_ok-root.root.now in
-    let is = ap (map string_bytes) c.in_ok-root.ensures.cases.0 ∙ map-append string_bytes options (last ∷ []) in
-    no_tree (map string_bytes c.args.words.now) (map string_bytes options) (string_bytes last) is c.in_ok-asked.asked c.in_ok-asked.ensures.only c.if-not-asked.true
-
 pub returns-clause-some : goal.returns-clause-some
 returns-clause-some g c =
     let options = c.in_ok-root.options.now in
     let last = c.in_ok-root.root.now in
     let is = ap (map string_bytes) c.in_ok-root.ensures.cases.0 ∙ (map-append string_bytes options (last ∷ []) ∙ ap (λ l. map string_bytes options ++ l ∷ []) (sym c.as_str.ensures.value)) in
-    asks (map string_bytes c.args.words.now) (map string_bytes options) c.as_str.result.now is c.in_ok-asked.asked c.in_ok-asked.ensures.some c.if-not-asked.false
+    (map string_bytes options, is, c.in_ok-asked.ensures.some)
 
 pub returns-clause-only : goal.returns-clause-only
 returns-clause-only g c = λ asked root ask.

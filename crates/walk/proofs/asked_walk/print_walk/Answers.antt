@@ -1,24 +1,24 @@
-use Rattle.std.proofs.Common.{◌∙◌, refl, sym, ap, subst, map, string_bytes, is_ok}
+use Rattle.std.proofs.Common.{◌∙◌, refl, sym, ap, subst, map, is_ok}
 use Rattle.std.specs.List.{list_all}
 use Rattle.std.specs.Io.KnownBytes.{Appends}
-use Rattle.walk_model.specs.Tree.{functions_of}
 use Rattle.walk_model.specs.Lines.{lines_of}
-use Rattle.memory_fs.specs.MemoryFs.{tree_of}
 use Rattle.jwalk_read.specs.Entry.{item}
 use Rattle.jwalk.specs.WalkDir.{stateless}
 use Rattle.jwalk.proofs.WholeFacts.{whole, entries_tell, stateless_of}
 use Rattle.walk_text.specs.Asked.{options_for}
-use Rattle.walk.proofs.TreeWalkFacts.{all_entries, same_lines}
-use Rattle.walk.proofs.tree_walk.print_tree.Goals as goal
+use Rattle.walk.proofs.AskedWalkFacts.{all_entries, same_lines}
+use Rattle.walk.proofs.asked_walk.print_walk.Goals as goal
 
 pub returns-clause-printed : goal.returns-clause-printed
-returns-clause-printed g c = λ clean.
+returns-clause-printed g c = λ clean fixed.
+    let request = c.args.request.now in
     let walk = c.walk_of.result in
     let all = c.print_answers.ensures.printed clean in
     let begun = c.into_iter-walk.ensures in
-    let listed = whole _ _ _ _ stateless walk c.into_iter-walk.result all.0 begun.starts begun.holds (record { file_system = tt; callback = λ depth path state list. refl; clones = λ x y is. refl; default = λ x is. refl }) all.1 (entries_tell all.0 (sym all.2)) in
     let built = c.walk_of.ensures in
-    let asked = listed ∙ stateless_of (λ f. functions_of (tree_of f)) walk c.args.fs (options_for c.args.asked) (string_bytes c.args.root) built.file_system built.options built.root in
+    let steady = subst (g.S.FileSystem.IsFixed) (sym built.file_system) fixed in
+    let listed = whole _ _ _ _ stateless walk c.into_iter-walk.result all.0 begun.starts begun.holds (record { file_system = steady; callback = λ depth path state list. refl; clones = λ x y is. refl; default = λ x is. refl }) all.1 (entries_tell all.0 (sym all.2)) in
+    let asked = listed ∙ stateless_of g.S.FileSystem.functions walk c.args.fs (options_for request.asked) request.root.now built.file_system built.options (built.root ∙ c.in_ok-root.ensures.ok) in
     record {
       prints = subst (λ l. Appends (g.W.Write.contents c.args.out.now) (g.W.Write.contents c.print_answers.new.out) l) (sym (same_lines stateless (map item all.0)) ∙ ap lines_of asked) all.3;
       clean = ap (list_all is_ok) (sym asked) ∙ (all_entries stateless all.0 ∙ sym all.2);

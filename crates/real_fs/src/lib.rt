@@ -1,0 +1,6 @@
+//! The file system that a runtime reaches.
+#![tactic(auto)]
+
+mod listing;
+pub mod real_fs;
+mod seen;

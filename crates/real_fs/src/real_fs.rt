@@ -1,0 +1,56 @@
+//! The file system as the standard library's calls show it.
+use crate::{listing, seen};
+use std::alloc::Allocator;
+use std::io;
+use std::rt::{Files, HostRuntime};
+use walk_fs::fault::Fault;
+use walk_fs::file_system::FileSystem;
+use walk_fs::listed::Listed;
+use walk_model::metadata::Metadata;
+
+/// The file system that a runtime reaches: the disk, where that is the host's. It is made with the runtime that `main` is
+/// given, or with a `&` of it.
+///
+/// It answers what stands there when it is asked, and nothing is promised of that.
+#[derive(Drop)]
+pub struct RealFs<R: Files + Drop = HostRuntime> {
+    rt: R,
+}
+
+impl<R: Files + Drop> RealFs<R> {
+    /// The file system that this runtime reaches. Nothing is asked of it yet.
+    pub fn new(rt: R) -> Self {
+        RealFs { rt }
+    }
+}
+
+impl<R: Files + Drop> FileSystem for RealFs<R> {
+    ghost use Rattle.walk_model.specs.Tree.{functions_of, only_root};
+
+    ghost IsFixed = { λ _. ⊥ };
+
+    ghost functions = { λ _. functions_of only_root };
+
+    fn read_dir<A: Allocator + Copy>(
+        &self,
+        alloc: A,
+        path: &str,
+    ) -> Result<Vec<io::Result<Listed<A>>, A>, Fault> {
+        listing::read_dir(&self.rt, alloc, path)
+    }
+
+    fn metadata(&self, path: &str) -> Result<Metadata, Fault> {
+        seen::metadata(self.rt.metadata(path))
+    }
+
+    fn symlink_metadata(&self, path: &str) -> Result<Metadata, Fault> {
+        seen::metadata(self.rt.symlink_metadata(path))
+    }
+
+    fn read_link<A: Allocator + Copy>(&self, alloc: A, path: &str) -> Result<String<A>, Fault> {
+        match self.rt.read_link(alloc, path) {
+            Ok(target) => Ok(target.into_string()),
+            Err(error) => Err(seen::fault(error)),
+        }
+    }
+}

@@ -1,0 +1,41 @@
+use Rattle.std.proofs.Common.{◌≡◌, ◌≤◌, true, false, Some, None, sym, map, string_bytes}
+use Rattle.std.proofs.lemmas.Result.{IfOk-weaker}
+use Rattle.memory_fs.specs.MemoryFs.{tree_of}
+use Rattle.walk.specs.Run.{BeginsWalk, PrintsWalk}
+use Rattle.walk.proofs.run.try_run.Goals as goal
+
+pub returns-then-request-clause-begins : goal.returns-then-request-clause-begins
+returns-then-request-clause-begins g c =
+    let request = c.in-Some.request in
+    let begun : BeginsWalk (map string_bytes c.args.words.now) (g.R.Read.remaining c.args.input.now) = record {
+      asked = request.asked;
+      root = request.root.now;
+      ask = c.in-Some.ensures.some;
+      tree = Some (tree_of c.in_ok-tree.tree);
+      wanted = sym c.if-request.true;
+      builds = c.in_ok-tree.ensures.built;
+    } in
+    IfOk-weaker c.print_walk.result (λ status. status ≤ 1) (λ _. BeginsWalk (map string_bytes c.args.words.now) (g.R.Read.remaining c.args.input.now)) (λ status small. begun) c.print_walk.ensures.status
+
+pub returns-then-request-clause-unread : goal.returns-then-request-clause-unread
+returns-then-request-clause-unread g c = λ unasked.
+    let request = c.in-Some.request in
+    absurd (unasked (request.asked, request.root.now, c.in-Some.ensures.some, c.if-request.true))
+
+pub returns-then-request-clause-printed : goal.returns-then-request-clause-printed
+returns-then-request-clause-printed g c =
+    let request = c.in-Some.request in
+    IfOk-weaker c.print_walk.result _ _ (λ status prints clean. record {
+      walk = record { asked = request.asked; root = request.root.now; ask = c.in-Some.ensures.some; tree = Some (tree_of c.in_ok-tree.tree); wanted = sym c.if-request.true; builds = c.in_ok-tree.ensures.built };
+      over_tree = prints clean tt;
+      over_disk = tt;
+    }) c.print_walk.ensures.printed
+
+pub returns-clause-printed : goal.returns-clause-printed
+returns-clause-printed g c =
+    let request = c.in-Some.request in
+    IfOk-weaker c.print_walk-2.result _ _ (λ status prints clean. record {
+      walk = record { asked = request.asked; root = request.root.now; ask = c.in-Some.ensures.some; tree = None; wanted = sym c.if-request.false; builds = tt };
+      over_tree = tt;
+      over_disk = prints clean;
+    }) c.print_walk-2.ensures.printed
