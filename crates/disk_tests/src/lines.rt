@@ -3,6 +3,7 @@ use jwalk::file_system::FileSystem;
 use jwalk::read_dir::NoProcess;
 use jwalk::{DirEntry, DirEntryIter, Error, WalkDirGeneric};
 use std::alloc::{AllocError, Global};
+use std::io::ErrorKind;
 use std::str::from_utf8;
 use walk_text::print::print_answer;
 
@@ -52,4 +53,21 @@ fn error_in(answer: &Answer) -> Option<&Error> {
 /// The first error of a directory that is answered as an entry.
 pub fn inner_error(answers: &[Answer]) -> Option<&Error> {
     answers.iter().find_map(error_in)
+}
+
+/// Whether an error is of this depth, path and kind.
+fn is(error: &Error, depth: usize, path: &str, kind: ErrorKind) -> bool {
+    let is_kind = match error.io_error() {
+        Some(err) => err.kind() == kind,
+        None => false,
+    };
+    is_kind && error.depth() == depth && error.path() == Some(path)
+}
+
+/// Whether the first error of a directory that is answered as an entry is of this depth, path and kind.
+pub fn has_inner_error(answers: &[Answer], depth: usize, path: &str, kind: ErrorKind) -> bool {
+    match inner_error(answers) {
+        Some(error) => is(error, depth, path, kind),
+        None => false,
+    }
 }

@@ -1,7 +1,6 @@
 //! Walks over a disk whose answers are written down.
-use crate::lines::{Answer, Walk, builder, inner_error, lines, rest};
+use crate::lines::{Answer, Walk, builder, has_inner_error, lines, rest};
 use crate::told::{Call, Calls, Readings, Told, ToldDisk};
-use jwalk::Error;
 use jwalk::file_system::RealFs;
 use std::alloc::{AllocError, Global};
 use std::io::ErrorKind;
@@ -147,28 +146,14 @@ fn want_of_memory_in_each_call(rt: HostRuntime) {
     assert!(rt; are_so(rt.alloc(), ROWS, ErrorKind::OutOfMemory));
 }
 
-/// Whether an error is that of a directory in the root, which may not be read.
-fn is_denied(error: &Error, path: &str) -> bool {
-    let is_kind = match error.io_error() {
-        Some(err) => err.kind() == ErrorKind::PermissionDenied,
-        None => false,
-    };
-    is_kind && error.depth() == 1 && error.path() == Some(path)
-}
-
-fn holds_denied(answers: &[Answer], path: &str) -> bool {
-    match inner_error(answers) {
-        Some(error) => answers.len() == 4 && is_denied(error, path),
-        None => false,
-    }
-}
-
 #[test]
 fn a_directory_that_may_not_be_read_is_answered(rt: HostRuntime) -> Result<(), AllocError> {
     const FAILING: &[Failing] = &[(Call::Open, "/t/s/")];
     let told = failing(FAILING, ErrorKind::PermissionDenied);
     let found = answers(rt.alloc(), told, false)?;
-    assert!(rt; holds_denied(found.as_slice(), "/t/s"));
+    let found = found.as_slice();
+    assert!(rt; found.len() == 4);
+    assert!(rt; has_inner_error(found, 1, "/t/s", ErrorKind::PermissionDenied));
     Ok(())
 }
 

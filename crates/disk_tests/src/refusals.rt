@@ -1,22 +1,12 @@
 //! Walks over directories on the disk that can't be read.
 use crate::folder::{Step, make, path_in, remove};
-use crate::lines::{Answer, inner_error, lines};
+use crate::lines::{Answer, has_inner_error, lines};
 use crate::real::{by_name, found_from};
-use jwalk::Error;
 use std::io::ErrorKind;
 use std::os::unix::fs::PermissionsExt;
 use std::rt::Files;
 use std::test::Fail;
 use std::{fs, io};
-
-/// Whether an error is that of a directory in the root, which was not found.
-fn is_lost(error: &Error, path: &str) -> bool {
-    let is_kind = match error.io_error() {
-        Some(err) => err.kind() == ErrorKind::NotFound,
-        None => false,
-    };
-    is_kind && error.depth() == 1 && error.path() == Some(path)
-}
 
 /// The answers of a walk from a folder, one directory of which is removed once the folder is answered.
 fn answers_around_removal(
@@ -30,13 +20,6 @@ fn answers_around_removal(
     remove(rt, removed)?;
     walk.fill(usize::MAX, &mut found)?;
     Ok(found)
-}
-
-fn is_lost_among(answers: &[Answer], path: &str) -> bool {
-    match inner_error(answers) {
-        Some(error) => is_lost(error, path),
-        None => false,
-    }
 }
 
 #[test]
@@ -54,8 +37,9 @@ fn a_directory_that_is_removed_under_way(rt: HostRuntime) -> Result<(), Fail> {
     let found = answers_around_removal(&rt, folder.as_str(), removed.as_str());
     remove(&rt, folder.as_str())?;
     let found = found?;
-    assert!(rt; is_lost_among(found.as_slice(), removed.as_str()));
-    let lines = lines(rt.alloc(), found.as_slice(), folder.as_str())?;
+    let found = found.as_slice();
+    assert!(rt; has_inner_error(found, 1, removed.as_str(), ErrorKind::NotFound));
+    let lines = lines(rt.alloc(), found, folder.as_str())?;
     assert_eq!(rt;
         lines.as_str(),
         "0 d /t\n1 d /t/a\n2 f /t/a/x\n1 d /t/b ! NotFound\n1 d /t/c\n2 f /t/c/x\n"

@@ -5,13 +5,13 @@ use crate::real::by_name;
 use std::test::Fail;
 use std::{fs, io};
 
-/// How many files the wide directory holds: more than one reading of it gives.
+/// How many files the wide directory holds. Their names are longer together than what one reading of it gives.
 const FILES: usize = 5_000;
 
-/// Names in the order of their numbers.
+/// The name of a file of the wide directory, behind a slash. Names are in the order of their numbers.
 fn name_of(rt: &HostRuntime, number: usize) -> io::Result<String> {
     let number = number.wrapping_add(10_000);
-    Ok(format!(in rt.alloc(); "/{number}")?)
+    Ok(format!(in rt.alloc(); "/{number} of the files of one wide directory")?)
 }
 
 fn make_files(rt: &HostRuntime, folder: &str) -> io::Result<()> {
