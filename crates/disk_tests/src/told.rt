@@ -1,0 +1,252 @@
+//! A disk whose answers are written down.
+ghost use Rattle.std.specs.Io.{ReadsAtMost};
+
+use std::alloc::Allocator;
+use std::cell::Cell;
+use std::fs::{File, Metadata, OpenOptions};
+use std::io::{self, ErrorKind, Read};
+use std::path::PathBuf;
+use std::rc::Rc;
+use std::rt::Files;
+
+/// What one reading of a directory gives.
+#[derive(Clone, Copy)]
+enum Part {
+    /// Names, each ended by a NUL.
+    Names(&'static [u8]),
+    Fails(ErrorKind),
+}
+
+/// What the readings of a directory give, one after the other.
+#[derive(Clone, Copy)]
+pub enum Readings {
+    Nothing,
+    /// `a`, `l`, `s` and `.h`.
+    FourNames,
+    /// The directory itself and the one above it, `b`, a name that is no text, and `c`; then another one, and `d`.
+    NamesThatAreNoTexts,
+    /// `b` and `a`; then `c`; then an error.
+    FaultAfterThreeNames,
+    /// `b`, and then `a`, with interruptions before and between.
+    Interrupted,
+    /// `b` and `a`; then want of memory.
+    NoMemoryAfterTwoNames,
+}
+
+/// A call that is made of a disk.
+#[derive(Clone, Copy, PartialEq, Eq)]
+pub enum Call {
+    /// A directory is opened. Its path ends in a slash.
+    Open,
+    /// What stands at a path is looked at.
+    Look,
+    /// What a path leads to is looked at.
+    Follow,
+    /// The text of a link is read.
+    Text,
+}
+
+/// What is written down of a disk. It has the directory `/t`, in which the directory `/t/s` is empty and the link `/t/l`
+/// leads to an empty directory elsewhere. All else is a file.
+#[derive(Clone, Copy)]
+pub struct Told {
+    /// What is read of `/t`.
+    pub readings: Readings,
+    /// The calls that fail, each at a path.
+    pub failing: &'static [(Call, &'static str)],
+    /// How they fail.
+    pub kind: ErrorKind,
+}
+
+/// How often each call was made.
+#[derive(Drop)]
+pub struct Calls {
+    opens: Cell<usize>,
+    looks: Cell<usize>,
+    follows: Cell<usize>,
+    texts: Cell<usize>,
+}
+
+/// A disk whose answers are written down. Its calls are counted where others see it.
+#[derive(Drop)]
+pub struct ToldDisk {
+    told: Told,
+    calls: Rc<Calls>,
+}
+
+/// A directory that is being read.
+#[derive(Drop)]
+pub struct ToldDir {
+    readings: Readings,
+    next: usize,
+}
+
+impl Readings {
+    fn parts(self) -> &'static [Part] {
+        const FOUR: &[Part] = &[Part::Names(b"a\0l\0s\0.h\0")];
+        const NO_TEXTS: &[Part] = &[
+            Part::Names(b".\0..\0b\0a\xff\0c\0"),
+            Part::Names(b"\xc3\0d\0"),
+        ];
+        const FAULT: &[Part] = &[
+            Part::Names(b"b\0a\0"),
+            Part::Names(b"c\0"),
+            Part::Fails(ErrorKind::InvalidData),
+        ];
+        const INTERRUPTED: &[Part] = &[
+            Part::Fails(ErrorKind::Interrupted),
+            Part::Names(b"b\0"),
+            Part::Fails(ErrorKind::Interrupted),
+            Part::Fails(ErrorKind::Interrupted),
+            Part::Names(b"a\0"),
+        ];
+        const NO_MEMORY: &[Part] = &[Part::Names(b"b\0a\0"), Part::Fails(ErrorKind::OutOfMemory)];
+        match self {
+            Readings::Nothing => &[],
+            Readings::FourNames => FOUR,
+            Readings::NamesThatAreNoTexts => NO_TEXTS,
+            Readings::FaultAfterThreeNames => FAULT,
+            Readings::Interrupted => INTERRUPTED,
+            Readings::NoMemoryAfterTwoNames => NO_MEMORY,
+        }
+    }
+}
+
+/// Copies names to the start of a buffer.
+fn fill(mut names: &[u8], buf: &mut [u8]) -> io::Result<usize>
+    ensures { ReadsAtMost result buf.new }
+{
+    names.read(buf)
+}
+
+impl Read for ToldDir {
+    fn read(&mut self, buf: &mut [u8]) -> io::Result<usize> {
+        let Some(part) = self.readings.parts().get(self.next) else {
+            return Ok(0);
+        };
+        self.next = self.next.wrapping_add(1);
+        match *part {
+            Part::Names(names) => fill(names, buf),
+            Part::Fails(kind) => Err(io::Error::from(kind)),
+        }
+    }
+}
+
+impl Calls {
+    pub fn none() -> Self {
+        Calls {
+            opens: Cell::new(0),
+            looks: Cell::new(0),
+            follows: Cell::new(0),
+            texts: Cell::new(0),
+        }
+    }
+
+    fn counter(&self, call: Call) -> &Cell<usize> {
+        match call {
+            Call::Open => &self.opens,
+            Call::Look => &self.looks,
+            Call::Follow => &self.follows,
+            Call::Text => &self.texts,
+        }
+    }
+
+    fn add(&self, call: Call) {
+        let counter = self.counter(call);
+        counter.set(counter.get().wrapping_add(1));
+    }
+
+    /// How often a directory was opened, what stands at a path looked at, what a path leads to, and the text of a link.
+    pub fn counts(&self) -> (usize, usize, usize, usize) {
+        (
+            self.opens.get(),
+            self.looks.get(),
+            self.follows.get(),
+            self.texts.get(),
+        )
+    }
+}
+
+fn unsupported<T>() -> io::Result<T> {
+    Err(io::Error::from(ErrorKind::Unsupported))
+}
+
+impl ToldDisk {
+    pub fn new(told: Told, calls: Rc<Calls>) -> Self {
+        ToldDisk { told, calls }
+    }
+
+    /// Counts a call, which may fail.
+    fn called(&self, call: Call, path: &str) -> io::Result<()> {
+        self.calls.add(call);
+        for (failing, at) in self.told.failing {
+            if *failing == call && *at == path {
+                return Err(io::Error::from(self.told.kind));
+            }
+        }
+        Ok(())
+    }
+}
+
+impl Files for ToldDisk {
+    type File = File;
+
+    type Dir = ToldDir;
+
+    fn open_file(&self, _how: &OpenOptions, _path: &str) -> io::Result<File> {
+        unsupported()
+    }
+
+    fn open_dir(&self, path: &str) -> io::Result<ToldDir> {
+        self.called(Call::Open, path)?;
+        let readings = if path == "/t/" {
+            self.told.readings
+        } else {
+            Readings::Nothing
+        };
+        Ok(ToldDir { readings, next: 0 })
+    }
+
+    fn metadata(&self, path: &str) -> io::Result<Metadata> {
+        self.called(Call::Follow, path)?;
+        Ok(Metadata::of_dir())
+    }
+
+    fn symlink_metadata(&self, path: &str) -> io::Result<Metadata> {
+        self.called(Call::Look, path)?;
+        match path {
+            "/t" | "/t/s" => Ok(Metadata::of_dir()),
+            "/t/l" => Ok(Metadata::of_symlink(1)),
+            _ => Ok(Metadata::of_file(1)),
+        }
+    }
+
+    fn copy(&self, _from: &str, _to: &str) -> io::Result<u64> {
+        unsupported()
+    }
+
+    fn rename(&self, _from: &str, _to: &str) -> io::Result<()> {
+        unsupported()
+    }
+
+    fn remove_file(&self, _path: &str) -> io::Result<()> {
+        unsupported()
+    }
+
+    fn create_dir(&self, _path: &str) -> io::Result<()> {
+        unsupported()
+    }
+
+    fn remove_dir(&self, _path: &str) -> io::Result<()> {
+        unsupported()
+    }
+
+    fn remove_dir_all<B: Allocator>(&self, _alloc: B, _path: &str) -> io::Result<()> {
+        unsupported()
+    }
+
+    fn read_link<B: Allocator>(&self, alloc: B, path: &str) -> io::Result<PathBuf<B>> {
+        self.called(Call::Text, path)?;
+        Ok(PathBuf::from_str(alloc, "elsewhere")?)
+    }
+}
