@@ -1,10 +1,13 @@
 -- A listing under way.
-use Rattle.std.specs.Prelude.{◌≡◌, ◌++◌, ℕ, List, map, Result, Ok, Err, if◌then◌else◌}
+use Rattle.std.specs.Prelude.{◌≡◌, ◌≢◌, ◌++◌, ◌==◌, ℕ, Bool, true, false, not, List, [], ◌∷◌, map, take, Result, Ok, Err, if◌then◌else◌}
 use Rattle.std.specs.Str.{is_utf8}
+use Rattle.std.specs.IoError.{error_kind}
+use Rattle.std.specs.declared.io.Error.{Error}
 use Rattle.std.specs.declared.io.ErrorKind.{ErrorKind}
-use Rattle.std.specs.declared.io.ErrorKind.TheVariants.{InvalidFilename}
+use Rattle.std.specs.declared.io.ErrorKind.TheVariants.{InvalidFilename, Interrupted}
 use Rattle.walk_model.specs.FileSystem as value
 use Rattle.walk_fs.specs.Views.{listed}
+use Rattle.real_fs.specs.Texts.{children}
 use Rattle.real_fs.specs.declared.listing.Listing.{Listing}
 
 -- the name of an item, or the kind of the error that stands in its place
@@ -23,3 +26,13 @@ told name = if is_utf8 name then Ok name else Err InvalidFilename
 -- Items are added, one for each name, in order.
 abbrev pub Adds : {A : Type 0} → List (List ℕ) → Listing A → Listing A → Type 0
 Adds names old new = names_of new ≡ names_of old ++ map told names
+
+-- An error adds nothing where a read was interrupted, and then there may be more; else it is the last item.
+pub record AddsError {A : Type 0} (e : Error) (more : Bool) (old new : Listing A) : Type 0 where
+  pub interrupted : error_kind e ≡ Interrupted → (more ≡ true) × (names_of new ≡ names_of old)
+  pub ended : error_kind e ≢ Interrupted → (more ≡ false) × (new.items.items ≡ old.items.items ++ Err e ∷ [])
+
+-- One read into a buffer adds the names that it gave, and there may be more unless it gave nothing.
+abbrev pub AddsRead : {A : Type 0} → Result ℕ Error → List ℕ → Bool → Listing A → Listing A → Type 0
+AddsRead (Ok count) buffer more old new = (more ≡ not (count == 0)) × Adds (children (take count buffer)) old new
+AddsRead (Err e) buffer more old new = AddsError e more old new

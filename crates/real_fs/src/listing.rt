@@ -43,7 +43,8 @@ fn type_at<R: Files>(rt: &R, path: &str) -> Result<io::Result<FileType>, Fault>
 
 impl<A: Allocator + Copy> Listing<A> {
     ghost use Rattle.std.specs.Prelude.{◌++◌};
-    ghost use Rattle.real_fs.specs.Listing.{Adds};
+    ghost use Rattle.std.specs.Io.{ReadsAtMost};
+    ghost use Rattle.real_fs.specs.Listing.{Adds, AddsRead};
 
     fn new(alloc: A) -> Self {
         Listing {
@@ -53,6 +54,7 @@ impl<A: Allocator + Copy> Listing<A> {
     }
 
     /// Adds an item. Fails where there are as many as there may be, and for want of memory.
+    #[inline]
     fn push(&mut self, item: io::Result<Listed<A>>) -> Result<(), Fault>
         ensures { OnOk result (self.new.items.items ≡ self.old.items.items ++ item ∷ []) }
     {
@@ -102,16 +104,39 @@ impl<A: Allocator + Copy> Listing<A> {
         }
     }
 
+    /// Adds what one read of a directory's names gave, and tells whether there may be more. An error ends the reading
+    /// and is its last item, but for a read that was interrupted, which gave nothing.
+    fn add_read<R: Files>(
+        &mut self,
+        rt: &R,
+        dir: &str,
+        names: &[u8],
+        read: io::Result<usize>,
+    ) -> Result<bool, Fault>
+        requires { ReadsAtMost read names.now }
+        ensures { IfOk result (λ more. AddsRead read names.now more self.old self.new) }
+    {
+        match read {
+            Ok(count) => {
+                self.add_all(rt, dir, &names[..count])?;
+                Ok(count > 0)
+            }
+            Err(error) if error.kind() == ErrorKind::Interrupted => Ok(true),
+            Err(error) => {
+                self.end(error)?;
+                Ok(false)
+            }
+        }
+    }
+
     /// Adds the items of all names of an open directory. No read ends inside a name, which the standard library says of
     /// what `open_dir` opens, so names need not be put together.
     fn add_rest<R: Files>(&mut self, rt: &R, dir: &str, names: &mut R::Dir) -> Result<(), Fault> {
         let mut buffer = [0; BUFFER];
         for _ in 0..u64::MAX {
-            match names.read(&mut buffer) {
-                Ok(0) => return Ok(()),
-                Ok(count) => self.add_all(rt, dir, &buffer[..count])?,
-                Err(error) if error.kind() == ErrorKind::Interrupted => {}
-                Err(error) => return self.end(error),
+            let read = names.read(&mut buffer);
+            if !self.add_read(rt, dir, &buffer, read)? {
+                return Ok(());
             }
         }
         Err(Fault::Io(io::Error::from(ErrorKind::Other)))
