@@ -2,11 +2,9 @@
 #![tactic(auto)]
 
 use jwalk::WalkDir;
-use jwalk::file_system::RealFs;
 
 fn main(rt: HostRuntime) -> anyhow::Result<()> {
-    let root = String::from_str(rt.alloc(), "photos")?;
-    for answer in WalkDir::new(RealFs::new(&rt), root).sort(true) {
+    for answer in WalkDir::at(&rt, "photos")?.sort(true) {
         if let Ok(entry) = answer {
             println!(rt; "{}", entry.path()?)?;
         }

@@ -4,10 +4,7 @@
 //! same however it reads. A directory that could not be read is still answered, with its error inside.
 //!
 //! ```text
-//! let mut fs = MemoryFs::new(alloc);
-//! fs.add_dir("/r")?;
-//! fs.add_file("/r/a", 3)?;
-//! for answer in WalkDirGeneric::<((), ()), _, _, _>::new(fs, String::from_str(alloc, "/r")?) {
+//! for answer in WalkDir::at(&rt, "/usr")?.sort(true) {
 //!     if let Ok(entry) = answer {
 //!         println!(rt; "{}", entry.path()?)?;
 //!     }

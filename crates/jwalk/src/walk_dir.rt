@@ -15,7 +15,7 @@ use jwalk_read::options::Options;
 use jwalk_read::process_read_dir::{NoProcess, ProcessReadDir};
 use real_fs::real_fs::RealFs;
 use std::alloc::{AllocError, Allocator, Global};
-use std::rt::HostRuntime;
+use std::rt::{Files, HostRuntime};
 use walk_fs::file_system::FileSystem;
 
 /// A walk that is yet to begin: a root in a file system, and options.
@@ -55,6 +55,24 @@ impl<C: ClientState, S: FileSystem, A: Allocator + Copy> WalkDirGeneric<C, S, No
             options: Options::new(),
             root_read_dir_state: C::ReadDirState::default(),
         }
+    }
+}
+
+impl<'a, R: Files + Alloc + Drop> WalkDirGeneric<((), ()), RealFs<&'a R>, NoProcess, R::A>
+where
+    R::A: Copy,
+{
+    ghost use Rattle.walk_model.specs.Options.{defaults};
+    ghost use Rattle.jwalk.specs.WalkDir.{root_of, options_of};
+
+    /// A walk of the file system that a runtime reaches, from a root: `WalkDir::at(&rt, "/usr")?`.
+    ///
+    /// Fails only for want of memory.
+    pub fn at(rt: &'a R, root: &str) -> Result<Self, AllocError>
+        ensures root { IfOk result (λ walk. root_of walk ≡ root.now) }
+        ensures options { IfOk result (λ walk. options_of walk ≡ defaults) }
+    {
+        Ok(WalkDirGeneric::new(RealFs::new(rt), String::from_str(rt.alloc(), root)?))
     }
 }
 

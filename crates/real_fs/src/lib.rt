@@ -4,3 +4,4 @@
 mod listing;
 pub mod real_fs;
 mod seen;
+mod texts;

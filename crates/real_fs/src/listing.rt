@@ -1,42 +1,37 @@
 //! The listing of one directory.
+ghost use Rattle.std.specs.Prelude.{◌≡◌, ◌⊎◌, ◌≢◌, ◌≤◌, [], ◌∷◌, length, Err, IfOk, IfErr, OnOk};
+ghost use Rattle.std.specs.IoError.{error_kind};
+ghost use Rattle.real_fs.specs.Texts.{children};
+
 use crate::seen::{fault, file_type};
-use std::alloc::{AllocError, Allocator};
-use std::io;
+use crate::texts::{is_child, slash_ended, split_name};
+use std::alloc::Allocator;
 use std::io::{ErrorKind, Read};
 use std::rt::Files;
+use std::{io, str};
 use walk_fs::fault::Fault;
 use walk_fs::listed::Listed;
 use walk_model::file_type::FileType;
 
 /// The most items of one listing.
-const MAX_ITEMS: usize = 4_294_967_295;
+const MOST_ITEMS: usize = 4_294_967_295;
 
-/// How many bytes of names are read at once.
-const BUFFER: usize = 16_384;
+/// How many bytes of names are asked for at once. It has room for any name that a system of files lets be made.
+const BUFFER: usize = 8192;
 
 /// A listing under way: the items so far, and room for the path of an entry.
 #[derive(Drop)]
-pub struct Listing<A: Allocator + Copy> {
+struct Listing<A: Allocator + Copy> {
     items: Vec<io::Result<Listed<A>>, A>,
     path: String<A>,
+    ghost within: { length items.items ≤ 4294967295 },
 }
 
-/// The path of a directory, ended by a slash: then a link that stands there is followed.
-fn with_slash<A: Allocator + Copy>(alloc: A, path: &str) -> Result<String<A>, AllocError> {
-    let mut dir = String::from_str(alloc, path)?;
-    if !path.is_empty() && !path.ends_with('/') {
-        dir.push('/')?;
-    }
-    Ok(dir)
-}
-
-/// Whether a name is that of a child: it isn't empty, and neither `.` nor `..`.
-fn is_child(name: &[u8]) -> bool {
-    !matches!(name, [] | [b'.'] | [b'.', b'.'])
-}
-
-/// The type of what stands at a path. An error of the system is the item's; want of memory is the listing's.
-fn type_at<R: Files>(rt: &R, path: &str) -> Result<io::Result<FileType>, Fault> {
+/// The type of what stands at a path, no link followed. Fails only for want of memory: any other error is the answer.
+fn type_at<R: Files>(rt: &R, path: &str) -> Result<io::Result<FileType>, Fault>
+    ensures answer { IfOk result (λ found. IfErr found (λ e. error_kind e ≢ ErrorKind.OutOfMemory)) }
+    ensures memory { IfErr result (λ f. f ≡ Fault.Memory) }
+{
     match rt.symlink_metadata(path) {
         Ok(found) => Ok(Ok(file_type(&found))),
         Err(error) => match fault(error) {
@@ -47,44 +42,104 @@ fn type_at<R: Files>(rt: &R, path: &str) -> Result<io::Result<FileType>, Fault> 
 }
 
 impl<A: Allocator + Copy> Listing<A> {
+    ghost use Rattle.std.specs.Prelude.{◌++◌};
+    ghost use Rattle.std.specs.Io.{ReadsAtMost};
+    ghost use Rattle.real_fs.specs.Listing.{Adds, AddsRead};
+
+    fn new(alloc: A) -> Self {
+        Listing {
+            items: Vec::new(alloc),
+            path: String::new(alloc),
+        }
+    }
+
+    /// Adds an item. Fails where there are as many as there may be, and for want of memory.
+    #[inline]
+    fn push(&mut self, item: io::Result<Listed<A>>) -> Result<(), Fault>
+        ensures { OnOk result (self.new.items.items ≡ self.old.items.items ++ item ∷ []) }
+    {
+        if self.items.len() >= MOST_ITEMS {
+            return Err(Fault::Io(io::Error::from(ErrorKind::Other)));
+        }
+        self.items.push(item).map_err(|_| Fault::Memory)
+    }
+
     /// Adds the item of a name in a directory: an error where it isn't UTF-8.
-    fn add<R: Files>(&mut self, rt: &R, alloc: A, dir: &str, name: &[u8]) -> Result<(), Fault> {
-        let Ok(name) = std::str::from_utf8(name) else {
-            let refused = io::Error::from(ErrorKind::InvalidFilename);
-            return Ok(self.items.push(Err(refused)).map_err(|_| Fault::Memory)?);
+    fn add<R: Files>(&mut self, rt: &R, dir: &str, name: &[u8]) -> Result<(), Fault>
+        ensures { OnOk result (Adds (name.now ∷ []) self.old self.new) }
+    {
+        let Ok(name) = str::from_utf8(name) else {
+            return self.push(Err(io::Error::from(ErrorKind::InvalidFilename)));
         };
         self.path.clear();
         self.path.push_str(dir)?;
         self.path.push_str(name)?;
         let file_type = type_at(rt, self.path.as_str())?;
-        let name = String::from_str(alloc, name)?;
-        self.items
-            .push(Ok(Listed { name, file_type }))
-            .map_err(|_| Fault::Memory)
+        let name = String::from_str(*self.items.allocator(), name)?;
+        self.push(Ok(Listed { name, file_type }))
     }
 
     /// Adds the items of names that were read together, each ended by a NUL.
-    fn add_all<R: Files>(
-        &mut self,
-        rt: &R,
-        alloc: A,
-        dir: &str,
-        names: &[u8],
-    ) -> Result<(), Fault> {
-        for name in names.split(|byte| *byte == 0) {
+    fn add_all<R: Files>(&mut self, rt: &R, dir: &str, names: &[u8]) -> Result<(), Fault>
+        ensures { OnOk result (Adds (children names.now) self.old self.new) }
+    {
+        let mut left = names;
+        while !left.is_empty() {
+            let (name, others) = split_name(left);
             if is_child(name) {
-                self.add(rt, alloc, dir, name)?;
+                self.add(rt, dir, name)?;
             }
+            left = others;
         }
         Ok(())
     }
 
-    /// Adds an error that ended the listing.
-    fn end(&mut self, error: io::Error) -> Result<(), Fault> {
+    /// Adds an error that ended the reading. Fails where that is want of memory.
+    fn end(&mut self, error: io::Error) -> Result<(), Fault>
+        ensures { OnOk result (self.new.items.items ≡ self.old.items.items ++ Err error ∷ []) }
+    {
         match fault(error) {
-            Fault::Io(error) => self.items.push(Err(error)).map_err(|_| Fault::Memory),
+            Fault::Io(error) => self.push(Err(error)),
             Fault::Memory => Err(Fault::Memory),
         }
+    }
+
+    /// Adds what one read of a directory's names gave, and tells whether there may be more. An error ends the reading
+    /// and is its last item, but for a read that was interrupted, which gave nothing.
+    fn add_read<R: Files>(
+        &mut self,
+        rt: &R,
+        dir: &str,
+        names: &[u8],
+        read: io::Result<usize>,
+    ) -> Result<bool, Fault>
+        requires { ReadsAtMost read names.now }
+        ensures { IfOk result (λ more. AddsRead read names.now more self.old self.new) }
+    {
+        match read {
+            Ok(count) => {
+                self.add_all(rt, dir, &names[..count])?;
+                Ok(count > 0)
+            }
+            Err(error) if error.kind() == ErrorKind::Interrupted => Ok(true),
+            Err(error) => {
+                self.end(error)?;
+                Ok(false)
+            }
+        }
+    }
+
+    /// Adds the items of all names of an open directory. No read ends inside a name, which the standard library says of
+    /// what `open_dir` opens, so names need not be put together.
+    fn add_rest<R: Files>(&mut self, rt: &R, dir: &str, names: &mut R::Dir) -> Result<(), Fault> {
+        let mut buffer = [0; BUFFER];
+        for _ in 0..u64::MAX {
+            let read = names.read(&mut buffer);
+            if !self.add_read(rt, dir, &buffer, read)? {
+                return Ok(());
+            }
+        }
+        Err(Fault::Io(io::Error::from(ErrorKind::Other)))
     }
 }
 
@@ -93,27 +148,12 @@ pub fn read_dir<R: Files, A: Allocator + Copy>(
     rt: &R,
     alloc: A,
     path: &str,
-) -> Result<Vec<io::Result<Listed<A>>, A>, Fault> {
-    let dir = with_slash(alloc, path)?;
+) -> Result<Vec<io::Result<Listed<A>>, A>, Fault>
+    ensures { IfOk result (λ v. length v.items ≤ 4294967295) }
+{
+    let dir = slash_ended(alloc, path)?;
     let mut names = rt.open_dir(dir.as_str()).map_err(fault)?;
-    let mut buffer = [0; BUFFER];
-    let mut listing = Listing {
-        items: Vec::new(alloc),
-        path: String::new(alloc),
-    };
-    for _ in 0..u64::MAX {
-        match names.read(&mut buffer) {
-            Ok(0) => break,
-            Ok(count) => listing.add_all(rt, alloc, dir.as_str(), &buffer[..count])?,
-            Err(error) if error.kind() == ErrorKind::Interrupted => {}
-            Err(error) => {
-                listing.end(error)?;
-                break;
-            }
-        }
-        if listing.items.len() > MAX_ITEMS {
-            return Err(Fault::Io(io::Error::from(ErrorKind::Other)));
-        }
-    }
+    let mut listing = Listing::new(alloc);
+    listing.add_rest(rt, dir.as_str(), &mut names)?;
     Ok(listing.items)
 }

@@ -18,8 +18,13 @@ pub struct RealFs<R: Files + Drop = HostRuntime> {
 }
 
 impl<R: Files + Drop> RealFs<R> {
+    ghost use Rattle.std.specs.Prelude.{◌≡◌};
+    ghost use Rattle.real_fs.specs.RealFs.{runtime_of};
+
     /// The file system that this runtime reaches. Nothing is asked of it yet.
-    pub fn new(rt: R) -> Self {
+    pub fn new(rt: R) -> Self
+        ensures { runtime_of result ≡ rt }
+    {
         RealFs { rt }
     }
 }

@@ -1,12 +1,17 @@
 //! What the standard library answers, as a walk sees it.
+ghost use Rattle.std.specs.Prelude.{◌≡◌};
+ghost use Rattle.real_fs.specs.Seen.{type_seen, IsFault, IsSeen};
+
 use std::io::ErrorKind;
 use std::{fs, io};
 use walk_fs::fault::Fault;
 use walk_model::file_type::FileType;
 use walk_model::metadata::Metadata;
 
-/// An error of the system as a fault: want of memory where it says so.
-pub fn fault(error: io::Error) -> Fault {
+/// An error of the system as a fault.
+pub fn fault(error: io::Error) -> Fault
+    ensures { IsFault error result }
+{
     if error.kind() == ErrorKind::OutOfMemory {
         Fault::Memory
     } else {
@@ -14,14 +19,16 @@ pub fn fault(error: io::Error) -> Fault {
     }
 }
 
-/// The type that is found; whatever is no directory, no file and no link is something else.
-pub fn file_type(found: &fs::Metadata) -> FileType {
-    let file_type = found.file_type();
-    if file_type.is_dir() {
+/// The type that is found.
+pub fn file_type(found: &fs::Metadata) -> FileType
+    ensures { result ≡ type_seen found.now }
+{
+    let found = found.file_type();
+    if found.is_dir() {
         FileType::Dir
-    } else if file_type.is_file() {
+    } else if found.is_file() {
         FileType::File
-    } else if file_type.is_symlink() {
+    } else if found.is_symlink() {
         FileType::Symlink
     } else {
         FileType::Other
@@ -29,7 +36,9 @@ pub fn file_type(found: &fs::Metadata) -> FileType {
 }
 
 /// The type and the length that are found.
-pub fn metadata(found: io::Result<fs::Metadata>) -> Result<Metadata, Fault> {
+pub fn metadata(found: io::Result<fs::Metadata>) -> Result<Metadata, Fault>
+    ensures { IsSeen found result }
+{
     match found {
         Ok(found) => Ok(Metadata::new(file_type(&found), found.len())),
         Err(error) => Err(fault(error)),

@@ -1,0 +1,134 @@
+#!/usr/bin/env python3
+"""Times `walk` on the real disk beside `find`, and beside `fd` and `bfs` where they are installed.
+
+    python3 bench/real.py [FOLDER [PROGRAM]]
+
+Build the program first: (cd crates/walk && rt run). FOLDER holds the trees that the script makes (a temporary folder where
+none is given). All of a tree's programs take turns, each with its output in a file, and the tree is warm: the first turn
+doesn't count. A time is the best of five turns, and its ratio that of two such times; the ratio of processor times is the
+median of the turns' ratios. A peak of memory is that of the last turn, and no less than this script's own. The walk by name
+of /usr takes turns with the walk in the disk's order. In brackets is what the walk is to take at most.
+"""
+import os
+import shutil
+import subprocess
+import sys
+import tempfile
+import time
+from statistics import median
+
+PROGRAM = os.path.join(os.path.dirname(os.path.abspath(__file__)), "..", "crates", "walk", "out", "walk")
+TURNS = 5
+
+
+def wide(folder):
+    """200,000 files in one directory."""
+    for i in range(200_000):
+        open(f"{folder}/file-{i:07d}", "w").close()
+
+
+def flat(folder):
+    """10,000 directories of 20 files."""
+    for directory in range(10_000):
+        os.mkdir(f"{folder}/dir-{directory:05d}")
+        for i in range(20):
+            open(f"{folder}/dir-{directory:05d}/file-{i:02d}", "w").close()
+
+
+def trees(folder):
+    """Each tree's name, its root, and the most of find's time that a walk of it may take."""
+    for make, bound in (wide, 2.3), (flat, 1.9):
+        root = os.path.join(folder, make.__name__)
+        if not os.path.isdir(root):
+            os.mkdir(root)
+            make(root)
+        yield make.__name__, root, bound
+    yield "/usr", "/usr", 1.9
+
+
+def programs(walk, root):
+    """The programs that list all that stands below a root, hidden names too."""
+    yield "walk", [walk, "--hidden", root]
+    yield "find", ["find", root]
+    for name in "fd", "fdfind":
+        if shutil.which(name):
+            yield name, [name, "-uu", ".", root]
+            break
+    if shutil.which("bfs"):
+        yield "bfs", ["bfs", root]
+
+
+def run(words, output_path):
+    """The seconds, the processor seconds and the peak memory in KiB of one run."""
+    with open(output_path, "wb") as out:
+        start = time.perf_counter()
+        child = subprocess.Popen(words, stdin=subprocess.DEVNULL, stdout=out)
+        _, status, usage = os.wait4(child.pid, 0)
+        seconds = time.perf_counter() - start
+    if status != 0:
+        sys.exit(f"{words} ended with {status}")
+    return seconds, usage.ru_utime + usage.ru_stime, usage.ru_maxrss
+
+
+def turns(commands, output_path):
+    """The runs of each command, but for its first, and the lines that it printed."""
+    runs = {name: [] for name, _ in commands}
+    lines = {}
+    for turn in range(TURNS + 1):
+        for name, words in commands:
+            measured = run(words, output_path)
+            if turn > 0:
+                runs[name].append(measured)
+                continue
+            with open(output_path, "rb") as file:
+                lines[name] = sum(1 for _ in file)
+    return runs, lines
+
+
+def best(runs):
+    return min(seconds for seconds, _, _ in runs)
+
+
+def processor_ratio(runs, beside):
+    """The median of the turns' ratios, which a machine that is busy for a while leaves as it is."""
+    return median(one[1] / other[1] for one, other in zip(runs, beside))
+
+
+def compare(tree, root, bound, walk, output):
+    runs, lines = turns(list(programs(walk, root)), output)
+    if lines["walk"] != lines["find"]:
+        sys.exit(f"{tree}: walk printed {lines['walk']} lines, find {lines['find']}")
+    find = runs["find"]
+    for name, of in runs.items():
+        most = f"  (at most {bound})" if name == "walk" else ""
+        print(
+            f"{tree:<6}{name:<8}{lines[name]:>9}{best(of) * 1e3:>10.1f}{best(of) / best(find):>8.2f}"
+            f"{processor_ratio(of, find):>8.2f}{of[-1][2] / 1024:>8.1f}{most}"
+        )
+
+
+def by_name(walk, output):
+    commands = [("as it is", [walk, "--hidden", "/usr"]), ("by name", [walk, "--hidden", "--sort", "/usr"])]
+    runs, _ = turns(commands, output)
+    before, after = runs["as it is"], runs["by name"]
+    print(
+        f"/usr by name: {best(after) * 1e3:.1f} ms beside {best(before) * 1e3:.1f} ms, "
+        f"{best(after) / best(before):.3f} times, of processor {processor_ratio(after, before):.3f} (at most 1.05)"
+    )
+
+
+def main():
+    folder = sys.argv[1] if len(sys.argv) > 1 else tempfile.mkdtemp(prefix="walk-real-")
+    walk = sys.argv[2] if len(sys.argv) > 2 else PROGRAM
+    output = os.path.join(folder, "out.txt")
+    print(f"{os.cpu_count()} cores, best of {TURNS}")
+    print(f"{'tree':<6}{'program':<8}{'lines':>9}{'ms':>10}{'x find':>8}{'cpu x':>8}{'MiB':>8}")
+    for tree, root, bound in trees(folder):
+        compare(tree, root, bound, walk, output)
+    by_name(walk, output)
+    if len(sys.argv) < 2:
+        subprocess.run(["rm", "-rf", folder], check=True)
+
+
+if __name__ == "__main__":
+    main()

@@ -1,0 +1,26 @@
+use Rattle.std.proofs.Common.{◌++◌, [], ◌∷◌, sym, ◌∙◌}
+use Rattle.real_fs.proofs.ListingFacts.{adds_on, gone_child, gone_other}
+use Rattle.real_fs.proofs.listing.Listing.add_all.Goals as goal
+
+pub loop-left-preserved-in_ok-add : goal.loop-left-preserved-in_ok-add
+loop-left-preserved-in_ok-add g c =
+    let so_far = c.loop-left.invariant in
+    let name = c.split_name.result.0.now in
+    let test = sym c.is_child.ensures ∙ c.if-is_child.true in (
+      so_far.0 ++ name ∷ [],
+      (
+        adds_on so_far.0 (name ∷ []) c.args.self.now c.loop-left.self c.add.new.self so_far.1.0 c.in_ok-add.ensures,
+        gone_child so_far.0 c.args.names.now c.loop-left.left.now name c.split_name.result.1.now so_far.1.1 c.split_name.ensures.name c.split_name.ensures.rest test,
+      ),
+    )
+
+pub loop-left-preserved : goal.loop-left-preserved
+loop-left-preserved g c =
+    let so_far = c.loop-left.invariant in
+    let test = sym c.is_child.ensures ∙ c.if-is_child.false in (
+      so_far.0,
+      (
+        so_far.1.0,
+        gone_other so_far.0 c.args.names.now c.loop-left.left.now c.split_name.result.0.now c.split_name.result.1.now so_far.1.1 c.split_name.ensures.name c.split_name.ensures.rest test,
+      ),
+    )

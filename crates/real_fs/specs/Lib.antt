@@ -1,0 +1,4 @@
+pub mod Texts
+pub mod Seen
+pub mod Listing
+pub mod RealFs
