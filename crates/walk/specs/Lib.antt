@@ -1,3 +1,4 @@
 pub mod Answers
 pub mod AskedWalk
+pub mod Source
 pub mod Run

@@ -6,6 +6,7 @@
 mod answers;
 mod asked_walk;
 mod run;
+mod source;
 #[cfg(test)]
 mod tests;
 

@@ -4,6 +4,7 @@ ghost use Rattle.walk_text.specs.Words.{AreGood, AskForTree};
 ghost use Rattle.walk.specs.Run.{BeginsWalk, PrintsWalk, TellsOfCall, IsBadCall, Ends};
 
 use crate::asked_walk::print_walk;
+use crate::source::Source;
 use jwalk::file_system::FileSystem;
 use std::alloc::Allocator;
 use std::io::{Read, Write};
@@ -34,9 +35,9 @@ fn try_run<S: FileSystem, A: Allocator + Copy, R: Read, W: Write, E: Write>(
     };
     if request.asked.tree {
         let tree = read_tree(alloc, input)?;
-        return print_walk(alloc, tree, &request, out, err);
+        return print_walk(alloc, Source::<S, A>::Tree(tree), &request, out, err);
     }
-    print_walk(alloc, disk, &request, out, err)
+    print_walk(alloc, Source::<S, A>::Disk(disk), &request, out, err)
 }
 
 /// Walks as the words ask, prints one line for each answer, and answers the status: 0 where the walk ended and no answer

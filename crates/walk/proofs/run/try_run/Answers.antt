@@ -1,7 +1,7 @@
-use Rattle.std.proofs.Common.{◌≡◌, ◌≤◌, true, false, Some, None, sym, map, string_bytes}
+use Rattle.std.proofs.Common.{◌≤◌, Some, None, sym, map, string_bytes}
 use Rattle.std.proofs.lemmas.Result.{IfOk-weaker}
 use Rattle.memory_fs.specs.MemoryFs.{tree_of}
-use Rattle.walk.specs.Run.{BeginsWalk, PrintsWalk}
+use Rattle.walk.specs.Run.{BeginsWalk}
 use Rattle.walk.proofs.run.try_run.Goals as goal
 
 pub returns-then-request-clause-begins : goal.returns-then-request-clause-begins
