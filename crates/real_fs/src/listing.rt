@@ -1,5 +1,5 @@
 //! The listing of one directory.
-ghost use Rattle.std.specs.Prelude.{◌≡◌, ◌⊎◌, ◌≢◌, ◌≤◌, [], ◌∷◌, length, Err, IfOk, IfErr, OnOk};
+ghost use Rattle.std.specs.Prelude.{◌≡◌, ◌≢◌, ◌≤◌, [], ◌∷◌, length, Err, IfOk, IfErr, OnOk};
 ghost use Rattle.std.specs.IoError.{error_kind};
 ghost use Rattle.real_fs.specs.Texts.{children};
 
@@ -16,7 +16,7 @@ use walk_model::file_type::FileType;
 /// The most items of one listing.
 const MOST_ITEMS: usize = 4_294_967_295;
 
-/// How many bytes of names are asked for at once. It has room for any name that a system of files lets be made.
+/// How many bytes of names are asked for at once: room for many names, of which none has more than 255 bytes.
 const BUFFER: usize = 8192;
 
 /// A listing under way: the items so far, and room for the path of an entry.
