@@ -1,5 +1,5 @@
 //! Values by address, the least first.
-ghost use Rattle.std.specs.Prelude.{◌≡◌, ◌+◌, ◌<◌, ◌≤◌, ◌^◌, ◌∷◌, [], length, IfNone, IfSome, OnOk, map, slice_index_or};
+ghost use Rattle.std.specs.Prelude.{◌≡◌, ◌+◌, ◌<◌, ◌≤◌, ◌^◌, ◌∷◌, [], length, IfNone, IfSome, OnOk, OnSome, map, slice_index_or};
 ghost use Rattle.std.specs.List.Sorted.{IsPermutation};
 ghost use Rattle.jwalk_order.specs.Ordered.{address_of};
 ghost use Rattle.jwalk_board.specs.Addressed.{addressed, addresses_of, IsFirst};
@@ -82,7 +82,9 @@ impl<T, A: Allocator + Copy> AddressHeap<T, A> {
     pub(super) fn pop(&mut self) -> Option<Ordered<T, A>>
         ensures items { IfSome result (λ item. IsPermutation self.old.items (addressed item ∷ self.new.items)) }
         ensures top { IfSome result (λ item. addressed item ≡ slice_index_or self.old.items 0 (addressed item)) }
+        ensures room { OnSome result (0 < self.new.room) }
         ensures none { IfNone result (self.old.items ≡ []) }
+        ensures unchanged { IfNone result (self.new.items ≡ self.old.items) }
     {
         self.items.pop()
     }
