@@ -1,5 +1,5 @@
 //! A set of addresses.
-ghost use Rattle.std.specs.Prelude.{◌≡◌, ◌<◌, ◌^◌, ◌∷◌, [], ◌↔◌, length, IsTrue, OnErr, OnOk};
+ghost use Rattle.std.specs.Prelude.{◌≡◌, ◌≤◌, ◌^◌, ◌∷◌, [], ◌↔◌, length, IsTrue, OnErr, OnOk};
 ghost use Rattle.std.specs.List.Sorted.{IsPermutation};
 ghost use Rattle.jwalk_order.specs.IndexPath.{address};
 ghost use Rattle.jwalk_board.specs.Addresses.{times, IsAmong};
@@ -9,18 +9,20 @@ use std::alloc::{AllocError, Allocator};
 use std::collections::BTreeSet;
 use std::marker::Model;
 
+// One is kept apart, where there is one, so that a set of one takes no memory.
 #[derive(Drop)]
 pub(super) struct AddressSet<A: Allocator + Copy> {
-    paths: BTreeSet<IndexPath<A>, A>,
+    apart: Option<IndexPath<A>>,
+    others: BTreeSet<IndexPath<A>, A>,
 }
 
 impl<A: Allocator + Copy> Model for AddressSet<A> {
-    ghost use Rattle.std.specs.Prelude.{ℕ, List, map};
+    ghost use Rattle.std.specs.Prelude.{ℕ, List, ◌++◌, map, option_to_list};
     ghost use Rattle.jwalk_order.specs.IndexPath.{address};
 
     ghost Value = { List (List ℕ) };
 
-    ghost view = { λ s. map address s.paths.keys };
+    ghost view = { λ s. map address (option_to_list s.apart ++ s.others.keys) };
 }
 
 impl<A: Allocator + Copy> AddressSet<A> {
@@ -28,21 +30,28 @@ impl<A: Allocator + Copy> AddressSet<A> {
         ensures { result ≡ [] }
     {
         AddressSet {
-            paths: BTreeSet::new(alloc),
+            apart: None,
+            others: BTreeSet::new(alloc),
         }
     }
 
     pub(super) fn len(&self) -> usize
         ensures len { result ≡ length self.now }
-        ensures small { result < 2 ^ 63 }
+        ensures small { result ≤ 2 ^ 63 }
     {
-        self.paths.len()
+        match &self.apart {
+            Some(_) => self.others.len() + 1,
+            None => self.others.len(),
+        }
     }
 
     pub(super) fn contains(&self, path: &IndexPath<A>) -> bool
         ensures { IsTrue result ↔ IsAmong (address path.now) self.now }
     {
-        self.paths.contains(path)
+        match &self.apart {
+            Some(apart) if apart == path => true,
+            _ => self.others.contains(path),
+        }
     }
 
     pub(super) fn insert(&mut self, path: IndexPath<A>) -> Result<(), AllocError>
@@ -50,7 +59,11 @@ impl<A: Allocator + Copy> AddressSet<A> {
         ensures added { OnOk result (IsPermutation (address path ∷ self.old) self.new) }
         ensures unchanged { OnErr result (self.new ≡ self.old) }
     {
-        self.paths.insert(path)?;
+        if self.apart.is_none() {
+            self.apart = Some(path);
+            return Ok(());
+        }
+        self.others.insert(path)?;
         Ok(())
     }
 
@@ -58,6 +71,11 @@ impl<A: Allocator + Copy> AddressSet<A> {
         requires { IsAmong (address path.now) self.old }
         ensures { IsPermutation self.old (address path.now ∷ self.new) }
     {
-        self.paths.remove(path);
+        match &self.apart {
+            Some(apart) if apart == path => self.apart = None,
+            _ => {
+                self.others.remove(path);
+            }
+        }
     }
 }

@@ -1,10 +1,10 @@
-use Rattle.std.proofs.Common.{rules, ◌≡◌, ◌<◌, ◌∷◌, ◌-◌, [], get_or, length, refl, ap, arith}
+use Rattle.std.proofs.Common.{◌≡◌, ◌<◌, ◌∷◌, length, refl, ap, arith}
 use Rattle.std.proofs.lemmas.List.Elements.{All-head}
 use Rattle.std.proofs.lemmas.List.Sorted.{All-permutation, length_permutation}
 use Rattle.std.specs.Vec.Iter.{into_iter_items}
 use Rattle.jwalk_order.specs.IndexPath.{address}
 use Rattle.jwalk_board.specs.Addressed.{addressed}
-use Rattle.jwalk_board.specs.Siblings.{AreSiblings, all_siblings, last_index}
+use Rattle.jwalk_board.specs.Siblings.{AreSiblings}
 use Rattle.jwalk_board.proofs.Siblings.{Leaves, leaves_last, leaves_some, mine_are, some_queued}
 use Rattle.jwalk_board.proofs.board.sibling_queue.SiblingQueue.pop.Goals as goal
 use Rattle.jwalk_board.proofs.board.sibling_queue.SiblingQueue.pop.Goals.{then-len-gt0, else-len-gt0}

@@ -1,8 +1,8 @@
-use Rattle.std.proofs.Common.{◌≡◌, ◌+◌, ◌<◌, ◌++◌, ◌^◌, length, arith, length-append}
+use Rattle.std.proofs.Common.{◌≡◌, ◌+◌, ◌<◌, ◌^◌, length, arith, length-append}
 use Rattle.std.proofs.lemmas.List.Sorted.{length_permutation}
 use Rattle.std.specs.Vec.Iter.{into_iter_items}
 use Rattle.jwalk_order.specs.IndexPath.{address}
-use Rattle.jwalk_board.specs.Addressed.{addressed, addresses_of, numbered}
+use Rattle.jwalk_board.specs.Addressed.{addressed, numbered}
 use Rattle.jwalk_board.specs.Siblings.{all_siblings}
 use Rattle.jwalk_board.proofs.Children.{length-numbered}
 use Rattle.jwalk_board.proofs.Siblings.{Joins, joins}
