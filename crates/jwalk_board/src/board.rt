@@ -268,7 +268,7 @@ fn queue_children<T: Drop, R, A: Allocator + Copy>(
     ensures handed_back { IfErr result (λ refused. refused ≡ children) }
     ensures unchanged { OnErr result (queued.new ≡ queued.old) }
 {
-    match ready.reserve(1) {
+    match ready.reserve_one() {
         Ok(()) => queued.push_children(address, children),
         Err(_) => Err(children),
     }

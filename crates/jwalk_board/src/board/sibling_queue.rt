@@ -70,7 +70,7 @@ impl<T: Drop, A: Allocator + Copy> SiblingQueue<T, A> {
         if len > usize::MAX / 2 {
             return Err(values);
         }
-        let (Ok(first), Ok(())) = (parent.adding(0), self.entries.reserve(1)) else {
+        let (Ok(first), Ok(())) = (parent.adding(0), self.entries.reserve_one()) else {
             return Err(values);
         };
         self.entries

@@ -11,7 +11,7 @@ invariant_of-self-2 g c =
     keeps_finished _ c.self.invariant (indices_of c.args.address) c.args.reading c.args.children.items _ _ _ (record {
       running = c.if-self.false;
       in_hand = c.remove.ensures;
-      ready = pushed_as _ _ _ _ _ item-is c.queue_children.ensures.ready c.push_reserved.ensures.items;
+      ready = pushed_as _ _ _ _ _ item-is c.queue_children.ensures.ready c.push_reserved.ensures;
       queued = c.in_default.ensures.queued;
       others = refl;
     })
@@ -23,7 +23,7 @@ returns-clause-finished g c =
     rw (← c.self.view_is) (record {
       running = c.if-self.false;
       in_hand = c.remove.ensures;
-      ready = pushed_as _ _ _ _ _ item-is c.queue_children.ensures.ready c.push_reserved.ensures.items;
+      ready = pushed_as _ _ _ _ _ item-is c.queue_children.ensures.ready c.push_reserved.ensures;
       queued = c.in_default.ensures.queued;
       others = refl;
     })

@@ -18,11 +18,13 @@ returns-in_default g c =
       | in_default-via-in-Some+else-eq w ↦
           let other : address w.in-Some.apart ≢ a = search rules in
           let as_often = apart-other address a w.in-Some.apart ks other in
-          rw w.in-Some.is
-          ((λ h. omega (arith, as_often, list_any-times address a ks (sym c.contains.ensures ∙ h))),
-          (λ h. c.contains.ensures ∙ times-list_any address a ks (omega (arith, as_often, h))))
+          rw w.in-Some.is (
+            (λ h. omega (arith, as_often, list_any-times address a ks (sym c.contains.ensures ∙ h))),
+            (λ h. c.contains.ensures ∙ times-list_any address a ks (omega (arith, as_often, h))),
+          )
       | in_default-via-in_default w ↦
-          rw w.in_default.is
-          ((λ h. list_any-times address a ks (sym c.contains.ensures ∙ h)),
-          (λ h. c.contains.ensures ∙ times-list_any address a ks h))
+          rw w.in_default.is (
+            (λ h. list_any-times address a ks (sym c.contains.ensures ∙ h)),
+            (λ h. c.contains.ensures ∙ times-list_any address a ks h),
+          )
     ])

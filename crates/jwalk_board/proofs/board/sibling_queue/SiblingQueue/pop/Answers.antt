@@ -49,7 +49,7 @@ invariant_of-self-then-len-gt0 g c =
     let some : 0 < length (into_iter_items c.next.new.self) = grind (arith, c.next.new.self.rest.ok.0) in
     let l : Leaves into_iter_items c.in_ok-value.value c.self.inside.entries.items c.push_reserved.new.self.items =
     leaves_some into_iter_items (addressed c.in_ok-entry.entry) c.in_ok-value.value (into_iter_items c.next.new.self) c.self.inside.entries.items c.pop.new.self.items
-    c.self.invariant.0 c.in_ok-entry.ensures.items c.in_ok-entry.ensures.top c.in_ok-value.ensures.items (address c.increment_last.new.self) c.next.new.self _ c.push_reserved.new.self.items c.increment_last.ensures refl some c.push_reserved.ensures.items in
+    c.self.invariant.0 c.in_ok-entry.ensures.items c.in_ok-entry.ensures.top c.in_ok-value.ensures.items (address c.increment_last.new.self) c.next.new.self _ c.push_reserved.new.self.items c.increment_last.ensures refl some c.push_reserved.ensures in
     let fewer = length_permutation _ _ l.permutation in
     (l.are, omega (arith, fewer, c.self.invariant.1), omega (arith, c.self.invariant.2))
 
@@ -69,7 +69,7 @@ returns-clause-some g c =
       | then-len-gt0 w ↦
           let some : 0 < length (into_iter_items c.next.new.self) = grind (arith, c.next.new.self.rest.ok.0, w.if-len-gt0) in
           let l = leaves_some into_iter_items (addressed c.in_ok-entry.entry) c.in_ok-value.value (into_iter_items c.next.new.self) c.self.inside.entries.items c.pop.new.self.items
-          c.self.invariant.0 c.in_ok-entry.ensures.items c.in_ok-entry.ensures.top c.in_ok-value.ensures.items (address w.increment_last.new.self) c.next.new.self _ w.push_reserved.new.self.items w.increment_last.ensures refl some w.push_reserved.ensures.items in
+          c.self.invariant.0 c.in_ok-entry.ensures.items c.in_ok-entry.ensures.top c.in_ok-value.ensures.items (address w.increment_last.new.self) c.next.new.self _ w.push_reserved.new.self.items w.increment_last.ensures refl some w.push_reserved.ensures in
           rw w.self-is l.permutation
       | else-len-gt0 w ↦
           let none : length (into_iter_items c.next.new.self) ≡ 0 = grind (arith, c.next.new.self.rest.ok.0, w.if-len-gt0) in
