@@ -109,10 +109,10 @@ impl<T: Drop, R: Drop, A: Allocator + Copy> Board<T, R, A> {
                 TakeRefusal::Empty
             });
         };
-        let (Ok(path), Ok(held)) = (least.try_clone(), least.try_clone()) else {
+        let Ok(path) = least.try_clone() else {
             return Err(TakeRefusal::Memory);
         };
-        let Ok(()) = self.in_hand.insert(held) else {
+        let Ok(()) = self.in_hand.insert(&path) else {
             return Err(TakeRefusal::Memory);
         };
         match self.queued.pop() {

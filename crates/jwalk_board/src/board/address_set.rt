@@ -9,20 +9,22 @@ use std::alloc::{AllocError, Allocator};
 use std::collections::BTreeSet;
 use std::marker::Model;
 
-// One is kept apart, where there is one, so that a set of one takes no memory.
+// One is kept apart, in memory that is used again, so that a set of one seldom takes any.
 #[derive(Drop)]
 pub(super) struct AddressSet<A: Allocator + Copy> {
-    apart: Option<IndexPath<A>>,
+    apart: IndexPath<A>,
+    // Whether that one is in the set.
+    has_apart: bool,
     others: BTreeSet<IndexPath<A>, A>,
 }
 
 impl<A: Allocator + Copy> Model for AddressSet<A> {
-    ghost use Rattle.std.specs.Prelude.{ℕ, List, ◌++◌, map, option_to_list};
+    ghost use Rattle.std.specs.Prelude.{ℕ, List, ◌++◌, ◌∷◌, [], cond, map};
     ghost use Rattle.jwalk_order.specs.IndexPath.{address};
 
     ghost Value = { List (List ℕ) };
 
-    ghost view = { λ s. map address (option_to_list s.apart ++ s.others.keys) };
+    ghost view = { λ s. map address (cond s.has_apart (s.apart ∷ []) [] ++ s.others.keys) };
 }
 
 impl<A: Allocator + Copy> AddressSet<A> {
@@ -30,7 +32,8 @@ impl<A: Allocator + Copy> AddressSet<A> {
         ensures { result ≡ [] }
     {
         AddressSet {
-            apart: None,
+            apart: IndexPath::new(Vec::new(alloc)),
+            has_apart: false,
             others: BTreeSet::new(alloc),
         }
     }
@@ -39,31 +42,36 @@ impl<A: Allocator + Copy> AddressSet<A> {
         ensures len { result ≡ length self.now }
         ensures small { result ≤ 2 ^ 63 }
     {
-        match &self.apart {
-            Some(_) => self.others.len() + 1,
-            None => self.others.len(),
+        if self.has_apart {
+            self.others.len() + 1
+        } else {
+            self.others.len()
         }
     }
 
     pub(super) fn contains(&self, path: &IndexPath<A>) -> bool
         ensures { IsTrue result ↔ IsAmong (address path.now) self.now }
     {
-        match &self.apart {
-            Some(apart) if apart == path => true,
-            _ => self.others.contains(path),
+        if self.has_apart && self.apart == *path {
+            return true;
         }
+        self.others.contains(path)
     }
 
-    pub(super) fn insert(&mut self, path: IndexPath<A>) -> Result<(), AllocError>
-        requires { times (address path) self.old ≡ 0 }
-        ensures added { OnOk result (IsPermutation (address path ∷ self.old) self.new) }
+    pub(super) fn insert(&mut self, path: &IndexPath<A>) -> Result<(), AllocError>
+        requires { times (address path.now) self.old ≡ 0 }
+        ensures added { OnOk result (IsPermutation (address path.now ∷ self.old) self.new) }
         ensures unchanged { OnErr result (self.new ≡ self.old) }
     {
-        if self.apart.is_none() {
-            self.apart = Some(path);
+        if self.has_apart {
+            self.others.insert(path.try_clone()?)?;
             return Ok(());
         }
-        self.others.insert(path)?;
+        self.apart.indices.clear();
+        self.apart
+            .indices
+            .extend_from_slice(path.indices.as_slice())?;
+        self.has_apart = true;
         Ok(())
     }
 
@@ -71,11 +79,10 @@ impl<A: Allocator + Copy> AddressSet<A> {
         requires { IsAmong (address path.now) self.old }
         ensures { IsPermutation self.old (address path.now ∷ self.new) }
     {
-        match &self.apart {
-            Some(apart) if apart == path => self.apart = None,
-            _ => {
-                self.others.remove(path);
-            }
+        if self.has_apart && self.apart == *path {
+            self.has_apart = false;
+            return;
         }
+        self.others.remove(path);
     }
 }
