@@ -1,17 +1,16 @@
 -- How often an address stands among children.
-use Rattle.std.proofs.Common.{◌≡◌, ℕ, zero, suc, ◌+◌, ◌<◌, ◌≤◌, Bool, true, false, cond, List, [], ◌∷◌, ◌++◌, length, map, refl, sym, ap, ◌∙◌, arith, subst, ⊎_elim, Contains, get_or, All}
+use Rattle.std.proofs.Common.{◌≡◌, ℕ, zero, suc, ◌+◌, ◌<◌, ◌≤◌, Bool, true, false, cond, List, [], ◌∷◌, ◌++◌, length, refl, sym, ap, ◌∙◌, arith, subst, ⊎_elim, Contains, get_or, All}
 use Rattle.std.specs.List.{sum_by}
 use Rattle.std.specs.List.Sorted.{IsPermutation}
 use Rattle.std.proofs.Math.Nat.{eq-zero-or-pos}
 use Rattle.std.proofs.lemmas.Bool.{cases_lt}
-use Rattle.std.proofs.lemmas.List.{length-map, same_from_push}
-use Rattle.std.proofs.lemmas.List.FromFn.{length-map-range_with_len}
+use Rattle.std.proofs.lemmas.List.{same_from_push}
 use Rattle.std.proofs.lemmas.List.Elements.{All-nil, All-cons, Contains-append_right}
-use Rattle.std.proofs.lemmas.List.Sorted.{sum_by-IsPermutation, IsPermutation-append_right, IsPermutation-middle, IsPermutation-sym, IsPermutation-trans}
+use Rattle.std.proofs.lemmas.List.Sorted.{sum_by-IsPermutation}
 use Rattle.std.proofs.lemmas.List.Sums.{sum_by-cons}
 use Rattle.jwalk_order.specs.Frontier.{children_from}
 use Rattle.jwalk_board.specs.Addresses.{is_same, times}
-use Rattle.jwalk_board.specs.Addressed.{Addressed, addresses_of, child_addresses, numbered, at_addresses}
+use Rattle.jwalk_board.specs.Addressed.{Addressed, addresses_of, child_addresses, numbered}
 use Rattle.jwalk_board.proofs.Sets.{same, times-append, times-itself, among_cases}
 
 -- The address is that of a child with an index from `i` on.
@@ -131,22 +130,6 @@ module _ {V : Type 0} where
   unread-numbered a i (x ∷ xs) =
       All-cons (λ y. y.child_count ≡ 0) (record { at = a ++ i ∷ []; value = x; child_count = 0 }) (numbered a (i + 1) xs) refl (unread-numbered a (i + 1) xs)
 
-  pub at_addresses-children : (a : List ℕ) (i : ℕ) (xs : List V) → at_addresses (children_from i a (length xs)) xs ≡ numbered a i xs
-  at_addresses-children a i [] = refl
-  at_addresses-children a i (x ∷ xs) = ap (λ z. record { at = a ++ i ∷ []; value = x; child_count = 0 } ∷ z) (at_addresses-children a (i + 1) xs)
-
-  -- A value goes from those to be queued to those that are.
-  pub queues : (start : List (Addressed V)) (a : List ℕ) (addresses : List (List ℕ)) (x : V) (xs : List V) (item : Addressed V) (old new : List (Addressed V))
-      → item ≡ record { at = a; value = x; child_count = 0 } → IsPermutation start (at_addresses (a ∷ addresses) (x ∷ xs) ++ old) → IsPermutation (item ∷ old) new
-      → IsPermutation start (at_addresses addresses xs ++ new)
-  queues start a addresses x xs item old new is p q =
-      let rest : List (Addressed V) = at_addresses addresses xs in
-      IsPermutation-trans start (item ∷ (rest ++ old)) (rest ++ new)
-      (subst (λ z. IsPermutation start (z ∷ (rest ++ old))) (sym is) p)
-      (IsPermutation-trans (item ∷ (rest ++ old)) (rest ++ item ∷ old) (rest ++ new)
-      (IsPermutation-sym (rest ++ item ∷ old) (item ∷ (rest ++ old)) (IsPermutation-middle rest item old))
-      (IsPermutation-append_right rest (item ∷ old) new q))
-
--- as many addresses as there are children
-pub length-children : {X : Type 0} (f : X → List ℕ) (xs : List X) (a : List ℕ) (n : ℕ) → map f xs ≡ children_from 0 a n → length xs ≡ n
-length-children f xs a n e = sym (length-map xs f) ∙ ap length e ∙ length-map-range_with_len (λ i. a ++ i ∷ []) 0 n
+  pub length-numbered : (a : List ℕ) (i : ℕ) (xs : List V) → length (numbered a i xs) ≡ length xs
+  length-numbered a i [] = refl
+  length-numbered a i (x ∷ xs) = omega (arith, length-numbered a (i + 1) xs)

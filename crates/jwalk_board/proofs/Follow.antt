@@ -18,7 +18,7 @@ use Rattle.jwalk_board.specs.Board.{Board, on_board, IsNew}
 use Rattle.jwalk_board.specs.Addressed.{Addressed, addresses_of, child_addresses, numbered, IsFirst}
 use Rattle.jwalk_board.specs.Plan.{PlanTree, Falls, forest, node, read, subtree, specs_in_preorder, readings_in_preorder}
 use Rattle.jwalk_board.specs.Rehearsal.{Stage, MatchesRun, IsInOrder, Follows, trees}
-use Rattle.jwalk_board.specs.Run.{Run, is_among, parent_address, is_queued, moved, move, taken_by, take_first, take_by, finish_by, hand_out_next, in_hands}
+use Rattle.jwalk_board.specs.Run.{Run, is_among, parent_address, is_queued, moved, move, taken_by, take_first, take_by, finish_by, hand_out_next}
 use Rattle.jwalk_board.specs.declared.board.moves.Move.{Move}
 use Rattle.jwalk_board.proofs.Children.{IsChild, HasParent, has_parent, child_from_times, times_from_child, times-contains, times-child_addresses, addresses_of-numbered}
 use Rattle.jwalk_board.proofs.Hands.{in_hands-taken, in_hands-finished, in_hands-none, get_set_cases, get_replicate, Splits, splits, get_past, contains_map, find_first, find_none, times-filter}

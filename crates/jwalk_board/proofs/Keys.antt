@@ -1,7 +1,8 @@
 -- The keys of a set of addresses, after a change.
-use Rattle.std.proofs.Common.{◌≡◌, ℕ, ◌+◌, ◌<◌, true, false, Bool, cond, ◌||◌, List, [], ◌∷◌, map, refl, sym, arith, subst}
+use Rattle.std.proofs.Common.{◌≡◌, ◌≢◌, ℕ, ◌+◌, ◌<◌, true, false, Bool, cond, ◌||◌, List, [], ◌∷◌, ◌++◌, map, refl, sym, ap, arith, subst}
 use Rattle.std.proofs.lemmas.Bool.{false≢true}
-use Rattle.std.proofs.lemmas.List.Sorted.{IsPermutation-refl, IsPermutation-cons, IsPermutation-trans, IsPermutation-middle}
+use Rattle.std.proofs.lemmas.List.Sorted.{IsPermutation-refl, IsPermutation-cons, IsPermutation-trans, IsPermutation-middle, IsPermutation-sym, IsPermutation-append_right}
+use Rattle.std.proofs.lemmas.List.{map-append}
 use Rattle.std.specs.BTreeMap.{is_at}
 use Rattle.std.specs.BTreeSet.{insert_key}
 use Rattle.std.specs.List.{list_any}
@@ -11,6 +12,7 @@ use Rattle.std.specs.Set.{remove_key}
 use Rattle.std.specs.declared.cmp.Ordering.{Ordering}
 use Rattle.std.specs.declared.cmp.Ordering.TheVariants.{Less, Equal, Greater}
 use Rattle.jwalk_board.specs.Addresses.{is_same, times}
+use Rattle.jwalk_board.proofs.Sets.{same, times-append, times-itself}
 
 pub insert_key-permutation : {K : Type 0} (cmp : K → K → Ordering) (k : K) (ks : List K) → list_any (is_at (cmp k)) ks ≡ false → IsPermutation (k ∷ ks) (insert_key cmp ks k)
 insert_key-permutation cmp k [] h = IsPermutation-refl (k ∷ [])
@@ -60,3 +62,27 @@ list_any-absent f a (x ∷ xs) h =
       | true ↦ λ k. absurd (omega arith)
       | false ↦ λ k. list_any-absent f a xs (omega arith)
     ] h
+
+-- Some keys are kept apart from the others.
+module _ {K : Type 0} (f : K → List ℕ) (a : List ℕ) where
+  pub apart-same : (p : K) (ks : List K) → f p ≡ a → 0 < times a (map f (p ∷ ks))
+  apart-same p ks is = subst (λ z. 0 < times a (z ∷ map f ks)) (sym is) (omega (arith, times-itself a (map f ks)))
+
+  pub apart-other : (p : K) (ks : List K) → f p ≢ a → times a (map f (p ∷ ks)) ≡ times a (map f ks)
+  apart-other p ks other =
+      elim (is_same a (f p)) as (λ b. is_same a (f p) ≡ b → cond b 1 0 + times a (map f ks) ≡ times a (map f ks)) [
+        | true ↦ λ e. absurd (other (same a (f p) e))
+        | false ↦ λ e. omega arith
+      ] refl
+
+  pub apart-absent : (apart ks : List K) → times a (map f (apart ++ ks)) ≡ 0 → times a (map f ks) ≡ 0
+  apart-absent apart ks none = omega (arith, ap (times a) (map-append f apart ks), times-append a (map f apart) (map f ks))
+
+  pub apart-removed : (apart ks rest : List K) → IsPermutation (map f ks) (a ∷ map f rest) → IsPermutation (map f (apart ++ ks)) (a ∷ map f (apart ++ rest))
+  apart-removed apart ks rest p =
+      rw (map-append f apart ks, map-append f apart rest)
+      (IsPermutation-trans _ _ _ (IsPermutation-append_right (map f apart) _ _ p) (IsPermutation-middle (map f apart) a (map f rest)))
+
+pub apart-added : {K : Type 0} (apart : List K) (x : K) (ks new : List K) → IsPermutation (x ∷ ks) new → IsPermutation (x ∷ (apart ++ ks)) (apart ++ new)
+apart-added apart x ks new p =
+    IsPermutation-trans _ _ _ (IsPermutation-sym _ _ (IsPermutation-middle apart x ks)) (IsPermutation-append_right apart _ _ p)

@@ -7,6 +7,7 @@ pub mod Opens
 pub mod Plays
 pub mod Preorders
 pub mod Sets
+pub mod Siblings
 pub mod Steps
 pub mod Tops
 pub mod UnderWay

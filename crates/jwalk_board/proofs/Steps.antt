@@ -1,18 +1,16 @@
 -- What each step of a board answers and leaves.
-use Rattle.std.proofs.Common.{◌≡◌, ◌≢◌, ℕ, ◌<◌, false, List, [], ◌∷◌, ◌++◌, get_or, length, refl, sym, ap, ◌∙◌, arith, subst, ⊎_elim, ◌⊎◌, inl, inr}
+use Rattle.std.proofs.Common.{◌≡◌, ◌≢◌, ℕ, ◌<◌, false, List, [], ◌∷◌, get_or, length, refl, sym, ap, ◌∙◌, arith, subst, ⊎_elim, ◌⊎◌, inl, inr}
 use Rattle.std.proofs.Math.Nat.{eq-zero-or-pos}
 use Rattle.std.proofs.lemmas.List.Elements.{All-head, All-tail}
-use Rattle.std.proofs.lemmas.List.Sorted.{All-permutation}
 use Rattle.std.specs.List.Sorted.{IsPermutation}
-use Rattle.jwalk_order.specs.Frontier.{children_from, next_address, passed}
+use Rattle.jwalk_order.specs.Frontier.{next_address, passed}
 use Rattle.jwalk_order.specs.IndexPath.{is_before}
 use Rattle.jwalk_order.specs.Ordered.{address_of, child_count_of}
 use Rattle.jwalk_order.specs.declared.ordered.Ordered.{Ordered}
 use Rattle.jwalk_order.proofs.AddressOrder.{same_address}
 use Rattle.jwalk_board.specs.Addresses.{times}
 use Rattle.jwalk_board.specs.Board.{Board, on_board, IsWhole, Takes, Finishes, HandsOut}
-use Rattle.jwalk_board.specs.Addressed.{Addressed, addressed, addresses_of, numbered, at_addresses, IsFirst}
-use Rattle.jwalk_board.proofs.Children.{at_addresses-children}
+use Rattle.jwalk_board.specs.Addressed.{Addressed, addressed, addresses_of, IsFirst}
 use Rattle.jwalk_board.proofs.Opens.{times-on_board, next_there, next_least, whole_taken, whole_finished, whole_handed_out}
 use Rattle.jwalk_board.proofs.Sets.{among_cases}
 
@@ -30,13 +28,6 @@ module _ {V : Type 0} where
   same_top x y a (z ∷ zs) some x-is y-is = x-is ∙ sym y-is
 
 module _ {V : Type 0} where
-  pub queued_as : (a : List ℕ) (specs : List V) (paths : List (List ℕ)) (n : ℕ) (old was new : List (Addressed V)) → n ≡ length specs → paths ≡ children_from 0 a n → was ≡ old
-      → IsPermutation (at_addresses paths specs ++ was) new → IsPermutation (numbered a 0 specs ++ old) new
-  queued_as a specs paths n old was new count paths-is was-is p =
-      let addresses_of-is : at_addresses paths specs ≡ numbered a 0 specs =
-      ap (λ z. at_addresses z specs) (paths-is ∙ ap (children_from 0 a) count) ∙ at_addresses-children a 0 specs in
-      subst (λ z. IsPermutation z new) (ap (λ z. z ++ was) addresses_of-is ∙ ap (λ z. numbered a 0 specs ++ z) was-is) p
-
   pub pushed_as : (x y : Addressed V) (old was new : List (Addressed V)) → x ≡ y → was ≡ old → IsPermutation (x ∷ was) new → IsPermutation (y ∷ old) new
   pushed_as x y old was new x-is was-is p = subst (λ z. IsPermutation z new) (ap (λ z. z ∷ was) x-is ∙ ap (λ z. y ∷ z) was-is) p
 
@@ -54,19 +45,20 @@ module _ {T R : Type 0} where
       whole_finished b (record { at = a; value = reading; child_count = length children }) children queued in_hand ready w refl f.in_hand f.ready f.queued
 
   module _ {A : Type 0} where
-    pub takes : (b : Board T R) → IsWhole b → (top item : Ordered T A) (path : List ℕ) (queued : List (Addressed T)) (in_hand : List (List ℕ)) → b.stopped ≡ false
-        → 0 < times (address_of top) (addresses_of b.queued) → addressed top ≡ get_or b.queued 0 (addressed top) → IsFirst (address_of top) b.queued → path ≡ address_of top
-        → IsPermutation (path ∷ b.in_hand) in_hand → IsPermutation b.queued (addressed item ∷ queued) → addressed item ≡ get_or b.queued 0 (addressed item)
+    pub takes : (b : Board T R) → IsWhole b → (item : Ordered T A) (path held : List ℕ) (value : T) (queued : List (Addressed T)) (in_hand : List (List ℕ)) → b.stopped ≡ false
+        → path ≡ next_address (addresses_of b.queued) → IsFirst path b.queued → addressed item ≡ record { at = path; value = value; child_count = 0 } → held ≡ path
+        → IsPermutation (held ∷ b.in_hand) in_hand → IsPermutation b.queued (record { at = next_address (addresses_of b.queued); value = value; child_count = 0 } ∷ queued)
         → Takes item b (record b { queued = queued; in_hand = in_hand })
-    takes b w top item path queued in_hand running some top-is first path-is h q item-is =
-        let same : addressed top ≡ addressed item = same_top (addressed top) (addressed item) (address_of top) b.queued some top-is item-is in
-        let at : address_of top ≡ address_of item = ap (λ z. z.at) same in
+    takes b w item path held value queued in_hand running next first item-is held-is h q =
+        let at : path ≡ address_of item = ap (λ z. z.at) (sym item-is) in
+        let same : record { at = next_address (addresses_of b.queued); value = value; child_count = 0 } ≡ addressed item =
+        ap (λ a. record { at = a; value = value; child_count = 0 }) (sym next) ∙ sym item-is in
         record {
           running = running;
-          queued = q;
+          queued = subst (λ z. IsPermutation b.queued (z ∷ queued)) same q;
           least = subst (λ z. IsFirst z b.queued) at first;
-          unread = All-head (λ y. y.child_count ≡ 0) (addressed item) queued (All-permutation (λ y. y.child_count ≡ 0) b.queued (addressed item ∷ queued) q w.unread);
-          in_hand = subst (λ z. IsPermutation (z ∷ b.in_hand) in_hand) (path-is ∙ at) h;
+          unread = ap (λ z. z.child_count) item-is;
+          in_hand = subst (λ z. IsPermutation (z ∷ b.in_hand) in_hand) (held-is ∙ at) h;
           others = refl;
         }
 

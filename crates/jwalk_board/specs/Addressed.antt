@@ -33,9 +33,3 @@ module _ {V : Type 0} where
   abbrev pub numbered : List ℕ → ℕ → List V → List (Addressed V)
   numbered a i [] = []
   numbered a i (x ∷ xs) = record { at = a ++ i ∷ []; value = x; child_count = 0 } ∷ numbered a (i + 1) xs
-
-  -- values at these addresses
-  abbrev pub at_addresses : List (List ℕ) → List V → List (Addressed V)
-  at_addresses [] xs = []
-  at_addresses (a ∷ addresses) [] = []
-  at_addresses (a ∷ addresses) (x ∷ xs) = record { at = a; value = x; child_count = 0 } ∷ at_addresses addresses xs

@@ -9,4 +9,5 @@ pub mod Rehearsal
 pub mod Rows
 pub mod Run
 pub mod Seen
+pub mod Siblings
 pub mod Stage

@@ -1,6 +1,8 @@
 //! Work and results of a tree, by address.
-ghost use Rattle.std.specs.Prelude.{◌≡◌, ◌+◌, length, true, IfErr, IfOk, OnErr, OnOk};
+ghost use Rattle.std.specs.Prelude.{◌≡◌, ◌+◌, ◌<◌, ◌++◌, length, true, IfErr, IfOk, OnErr, OnOk};
+ghost use Rattle.std.specs.List.Sorted.{IsPermutation};
 ghost use Rattle.jwalk_order.specs.IndexPath.{address as indices_of};
+ghost use Rattle.jwalk_board.specs.Addressed.{numbered};
 ghost use Rattle.jwalk_board.specs.Board.{Finishes, HandsOut, HoldsOpen, IsNew, IsWhole, Takes};
 ghost use Rattle.jwalk_board.specs.Refusal.{RefusesFinish, RefusesHandOut, RefusesTake};
 
@@ -9,7 +11,7 @@ use address_set::AddressSet;
 use jwalk_order::index_path::IndexPath;
 use jwalk_order::ordered::Ordered;
 use jwalk_order::ordered_queue::OrderedMatcher;
-use room::{child_paths, make_room, queue_all};
+use sibling_queue::SiblingQueue;
 use std::alloc::{Allocator, Global};
 use std::marker::Model;
 
@@ -19,7 +21,7 @@ mod moves;
 mod plan;
 mod refusal;
 mod rehearsal;
-mod room;
+mod sibling_queue;
 mod stage;
 
 pub use moves::Move;
@@ -32,7 +34,7 @@ pub use rehearsal::{Rehearsal, rehearse};
 /// out. Readings are handed out a parent first, then its children in order, each with all that lies below it.
 #[derive(Drop)]
 pub struct Board<T, R, A: Allocator + Copy = Global> {
-    queued: AddressHeap<T, A>,
+    queued: SiblingQueue<T, A>,
     in_hand: AddressSet<A>,
     ready: AddressHeap<R, A>,
     matcher: OrderedMatcher<A>,
@@ -45,7 +47,7 @@ impl<T, R, A: Allocator + Copy> Model for Board<T, R, A> {
     ghost Value = { State T R };
 
     ghost view = { λ b. record {
-      queued = b.queued.items;
+      queued = b.queued;
       in_hand = b.in_hand;
       ready = b.ready.items;
       frontier = b.matcher;
@@ -53,7 +55,7 @@ impl<T, R, A: Allocator + Copy> Model for Board<T, R, A> {
     } };
 
     ghost invariant = { λ b. IsWhole {T = T} {R = R} (record {
-      queued = b.queued.items;
+      queued = b.queued;
       in_hand = b.in_hand;
       ready = b.ready.items;
       frontier = b.matcher;
@@ -72,16 +74,11 @@ impl<T: Drop, R: Drop, A: Allocator + Copy> Board<T, R, A> {
         ensures handed_back { IfErr result (λ refused. refused ≡ roots) }
     {
         let alloc = *roots.allocator();
-        let count = roots.len();
-        let mut queued = AddressHeap::new(alloc);
-        let (Ok(()), Ok(paths), Ok(matcher)) = (
-            queued.reserve(count),
-            child_paths(&IndexPath::new(Vec::new(alloc)), count),
-            OrderedMatcher::with_roots(alloc, count),
-        ) else {
+        let Ok(matcher) = OrderedMatcher::with_roots(alloc, roots.len()) else {
             return Err(roots);
         };
-        queue_all(&mut queued, roots, paths);
+        let mut queued = SiblingQueue::new(alloc);
+        queued.push_children(&IndexPath::new(Vec::new(alloc)), roots)?;
         Ok(Board {
             queued,
             in_hand: AddressSet::new(alloc),
@@ -105,21 +102,21 @@ impl<T: Drop, R: Drop, A: Allocator + Copy> Board<T, R, A> {
         if self.stopped {
             return Err(TakeRefusal::Stopped);
         }
-        let Some(least) = self.queued.peek() else {
+        let Some(least) = self.queued.least() else {
             return Err(if self.in_hand.len() == 0 {
                 TakeRefusal::Done
             } else {
                 TakeRefusal::Empty
             });
         };
-        let Ok(path) = least.index_path.try_clone() else {
+        let Ok(path) = least.try_clone() else {
             return Err(TakeRefusal::Memory);
         };
-        let Ok(()) = self.in_hand.insert(path) else {
+        let Ok(()) = self.in_hand.insert(&path) else {
             return Err(TakeRefusal::Memory);
         };
         match self.queued.pop() {
-            Some(item) => Ok(item),
+            Some(value) => Ok(Ordered::new(value, path, 0)),
             None => unreachable!(),
         }
     }
@@ -161,18 +158,22 @@ impl<T: Drop, R: Drop, A: Allocator + Copy> Board<T, R, A> {
             });
         }
         let count = children.len();
-        let Ok(paths) = make_room(&mut self.queued, &mut self.ready, &address, count) else {
+        if let Err(refused) = queue_children(
+            &mut self.queued,
+            &mut self.ready,
+            &address,
+            children,
+        ) {
             return Err(FinishFault {
                 cause: FinishRefusal::Memory,
                 address,
                 reading,
-                children,
+                children: refused,
             });
-        };
+        }
         self.in_hand.remove(&address);
         self.ready
             .push_reserved(Ordered::new(reading, address, count));
-        queue_all(&mut self.queued, children, paths);
         Ok(())
     }
 
@@ -250,5 +251,25 @@ impl<T: Drop, R: Drop, A: Allocator + Copy> Board<T, R, A> {
         ensures whole { IsWhole self.now }
     {
         self.queued.len() + self.in_hand.len()
+    }
+}
+
+// Queues the children of an address, and makes room for its reading.
+fn queue_children<T: Drop, R, A: Allocator + Copy>(
+    queued: &mut SiblingQueue<T, A>,
+    ready: &mut AddressHeap<R, A>,
+    address: &IndexPath<A>,
+    children: Vec<T, A>,
+) -> Result<(), Vec<T, A>>
+    ensures queued { OnOk result (IsPermutation (numbered (indices_of address.now) 0 children.items ++ queued.old)
+        queued.new) }
+    ensures room { OnOk result (0 < ready.new.room) }
+    ensures ready { ready.new.items ≡ ready.old.items }
+    ensures handed_back { IfErr result (λ refused. refused ≡ children) }
+    ensures unchanged { OnErr result (queued.new ≡ queued.old) }
+{
+    match ready.reserve_one() {
+        Ok(()) => queued.push_children(address, children),
+        Err(_) => Err(children),
     }
 }

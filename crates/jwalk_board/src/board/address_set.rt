@@ -1,5 +1,5 @@
 //! A set of addresses.
-ghost use Rattle.std.specs.Prelude.{◌≡◌, ◌<◌, ◌^◌, ◌∷◌, [], ◌↔◌, length, IsTrue, OnErr, OnOk};
+ghost use Rattle.std.specs.Prelude.{◌≡◌, ◌≤◌, ◌^◌, ◌∷◌, [], ◌↔◌, length, IsTrue, OnErr, OnOk};
 ghost use Rattle.std.specs.List.Sorted.{IsPermutation};
 ghost use Rattle.jwalk_order.specs.IndexPath.{address};
 ghost use Rattle.jwalk_board.specs.Addresses.{times, IsAmong};
@@ -9,18 +9,22 @@ use std::alloc::{AllocError, Allocator};
 use std::collections::BTreeSet;
 use std::marker::Model;
 
+// One is kept apart, in memory that is used again, so that a set of one seldom takes any.
 #[derive(Drop)]
 pub(super) struct AddressSet<A: Allocator + Copy> {
-    paths: BTreeSet<IndexPath<A>, A>,
+    apart: IndexPath<A>,
+    // Whether that one is in the set.
+    has_apart: bool,
+    others: BTreeSet<IndexPath<A>, A>,
 }
 
 impl<A: Allocator + Copy> Model for AddressSet<A> {
-    ghost use Rattle.std.specs.Prelude.{ℕ, List, map};
+    ghost use Rattle.std.specs.Prelude.{ℕ, List, ◌++◌, ◌∷◌, [], cond, map};
     ghost use Rattle.jwalk_order.specs.IndexPath.{address};
 
     ghost Value = { List (List ℕ) };
 
-    ghost view = { λ s. map address s.paths.keys };
+    ghost view = { λ s. map address (cond s.has_apart (s.apart ∷ []) [] ++ s.others.keys) };
 }
 
 impl<A: Allocator + Copy> AddressSet<A> {
@@ -28,29 +32,46 @@ impl<A: Allocator + Copy> AddressSet<A> {
         ensures { result ≡ [] }
     {
         AddressSet {
-            paths: BTreeSet::new(alloc),
+            apart: IndexPath::new(Vec::new(alloc)),
+            has_apart: false,
+            others: BTreeSet::new(alloc),
         }
     }
 
     pub(super) fn len(&self) -> usize
         ensures len { result ≡ length self.now }
-        ensures small { result < 2 ^ 63 }
+        ensures small { result ≤ 2 ^ 63 }
     {
-        self.paths.len()
+        if self.has_apart {
+            self.others.len() + 1
+        } else {
+            self.others.len()
+        }
     }
 
     pub(super) fn contains(&self, path: &IndexPath<A>) -> bool
         ensures { IsTrue result ↔ IsAmong (address path.now) self.now }
     {
-        self.paths.contains(path)
+        if self.has_apart && self.apart == *path {
+            return true;
+        }
+        self.others.contains(path)
     }
 
-    pub(super) fn insert(&mut self, path: IndexPath<A>) -> Result<(), AllocError>
-        requires { times (address path) self.old ≡ 0 }
-        ensures added { OnOk result (IsPermutation (address path ∷ self.old) self.new) }
+    pub(super) fn insert(&mut self, path: &IndexPath<A>) -> Result<(), AllocError>
+        requires { times (address path.now) self.old ≡ 0 }
+        ensures added { OnOk result (IsPermutation (address path.now ∷ self.old) self.new) }
         ensures unchanged { OnErr result (self.new ≡ self.old) }
     {
-        self.paths.insert(path)?;
+        if self.has_apart {
+            self.others.insert(path.try_clone()?)?;
+            return Ok(());
+        }
+        self.apart.indices.clear();
+        self.apart
+            .indices
+            .extend_from_slice(path.indices.as_slice())?;
+        self.has_apart = true;
         Ok(())
     }
 
@@ -58,6 +79,10 @@ impl<A: Allocator + Copy> AddressSet<A> {
         requires { IsAmong (address path.now) self.old }
         ensures { IsPermutation self.old (address path.now ∷ self.new) }
     {
-        self.paths.remove(path);
+        if self.has_apart && self.apart == *path {
+            self.has_apart = false;
+            return;
+        }
+        self.others.remove(path);
     }
 }
