@@ -5,9 +5,7 @@ use jwalk::WalkDir;
 
 fn main(rt: HostRuntime) -> anyhow::Result<()> {
     for answer in WalkDir::at(&rt, "photos")?.sort(true) {
-        if let Ok(entry) = answer {
-            println!(rt; "{}", entry.path()?)?;
-        }
+        println!(rt; "{}", answer?.path()?)?;
     }
     Ok(())
 }
