@@ -5,9 +5,7 @@
 //!
 //! ```text
 //! for answer in WalkDir::at(&rt, "/usr")?.sort(true) {
-//!     if let Ok(entry) = answer {
-//!         println!(rt; "{}", entry.path()?)?;
-//!     }
+//!     println!(rt; "{}", answer?.path()?)?;
 //! }
 //! ```
 #![tactic(auto)]
