@@ -27,6 +27,13 @@ struct Seen {
     at_path: Cell<bool>,
 }
 
+impl Seen {
+    fn note(&self, at_path: bool) {
+        self.calls.set(self.calls.get().wrapping_add(1));
+        self.at_path.set(at_path);
+    }
+}
+
 #[derive(Drop)]
 struct Sees {
     seen: Arc<Seen>,
@@ -44,15 +51,17 @@ impl ProcessReadDir<((), ()), Global> for Sees {
         _state: &mut (),
         _list: &mut Items,
     ) -> Result<(), AllocError> {
-        let seen = &*self.seen;
-        seen.calls.set(seen.calls.get().wrapping_add(1));
-        seen.at_path.set(depth.is_none() && path == seen.path);
+        self.seen.note(depth.is_none() && path == self.seen.path);
         Ok(())
     }
 }
 
+fn by_name(alloc: Global, fs: MemoryFs, root: &str) -> Result<Builder<MemoryFs>, AllocError> {
+    Ok(builder(alloc, fs, root)?.sort(true))
+}
+
 fn sorted(alloc: Global) -> Result<Builder<MemoryFs>, Fail> {
-    Ok(builder(alloc, grouped_tree(alloc)?, "/t")?.sort(true))
+    Ok(by_name(alloc, grouped_tree(alloc)?, "/t")?)
 }
 
 // The answers of a walk as one text.
@@ -120,7 +129,7 @@ fn skipping(alloc: Global, root: &str, skipped: &[&str]) -> Result<String, Fail>
     for name in skipped {
         names.push(String::from_str(alloc, name)?)?;
     }
-    let walk = builder(alloc, grouped_tree(alloc)?, root)?.sort(true);
+    let walk = by_name(alloc, grouped_tree(alloc)?, root)?;
     Ok(text_of(alloc, walk.process_read_dir(SkipNames::new(names)))?)
 }
 
@@ -140,7 +149,7 @@ fn directories_skipped_by_name(rt: HostRuntime) -> Result<(), Fail> {
 
 // What a walk by name from a root answers whose directories are left out.
 fn files_alone(alloc: Global, root: &str) -> Result<String, Fail> {
-    let walk = builder(alloc, grouped_tree(alloc)?, root)?.sort(true);
+    let walk = by_name(alloc, grouped_tree(alloc)?, root)?;
     let filter = FilterEntry::new(|depth, name, file_type| {
         depth == 1 && name != "b.txt" && file_type.is_file()
     });
@@ -251,39 +260,53 @@ fn a_root_alone(rt: HostRuntime) -> Result<(), Fail> {
     Ok(())
 }
 
+fn count_answers(alloc: Global, fs: &Counted<MemoryFs>) -> Result<usize, AllocError> {
+    Ok(walk_whole(alloc, builder(alloc, fs, "/t")?)?.len())
+}
+
 #[test]
 fn a_file_system_of_ones_own_that_counts(rt: HostRuntime) -> Result<(), Fail> {
     let fs = Counted::new(grouped_tree(rt.alloc())?);
-    let found = walk_whole(rt.alloc(), builder(rt.alloc(), &fs, "/t")?)?;
-    assert_eq!(rt; found.len(), 8);
-    assert_eq!(rt; fs.listings(), 3);
+    assert!(rt; count_answers(rt.alloc(), &fs)? == 8);
+    assert!(rt; fs.listings() == 3);
     Ok(())
 }
 
-// Each path with the state of its entry.
-fn marks(alloc: Global) -> Result<String, Fail> {
+type Marked = Result<DirEntry<(usize, bool)>, Error>;
+
+// Adds the path of an entry and its state to a text.
+fn push_mark(text: &mut String, answer: &Marked) -> Result<(), AllocError> {
+    if let Ok(entry) = answer {
+        text.push_str(entry.path()?.as_str())?;
+        text.push_str(if entry.client_state {
+            " true;"
+        } else {
+            " false;"
+        })?;
+    }
+    Ok(())
+}
+
+fn push_marks(text: &mut String, answers: &[Marked]) -> bool {
+    let mut is_whole = true;
+    for answer in answers {
+        is_whole &= push_mark(text, answer).is_ok();
+    }
+    is_whole
+}
+
+// Whether this is each path with the state of its entry.
+fn is_marked(alloc: Global, wanted: &str) -> Result<bool, Fail> {
     let found = walk_marked(alloc, grouped_tree(alloc)?, String::from_str(alloc, "/t")?)?;
     let mut text = String::new(alloc);
-    for answer in found {
-        if let Ok(entry) = answer {
-            text.push_str(entry.path()?.as_str())?;
-            text.push_str(if entry.client_state {
-                " true;"
-            } else {
-                " false;"
-            })?;
-        }
-    }
-    Ok(text)
+    Ok(push_marks(&mut text, found.as_slice()) && text.as_str() == wanted)
 }
 
 #[test]
 fn the_first_entry_of_each_list_is_marked(rt: HostRuntime) -> Result<(), Fail> {
-    assert_eq!(rt;
-        marks(rt.alloc())?.as_str(),
-        "/t true;/t/a.txt true;/t/b.txt false;/t/c.txt false;/t/group 1 false;\
-         /t/group 1/d.txt true;/t/group 2 false;/t/group 2/e.txt true;"
-    );
+    let wanted = "/t true;/t/a.txt true;/t/b.txt false;/t/c.txt false;/t/group 1 false;\
+                  /t/group 1/d.txt true;/t/group 2 false;/t/group 2/e.txt true;";
+    assert!(rt; is_marked(rt.alloc(), wanted)?);
     Ok(())
 }
 
@@ -310,16 +333,27 @@ fn a_broken_root_link_is_given_with_its_parent(rt: HostRuntime) -> Result<(), Fa
     Ok(())
 }
 
+// The answers that a `for` loop over a walk comes by, as one text.
+fn loop_text_of<P: ProcessReadDir<((), ()), Global>>(
+    alloc: Global,
+    walk: WalkDirGeneric<((), ()), MemoryFs, P>,
+) -> Result<String, AllocError>
+    requires { P.IsLawful (callback_of walk) }
+{
+    let mut text = String::new(alloc);
+    let mut is_whole = true;
+    for answer in walk.into_iter() {
+        is_whole &= push_line(&mut text, &answer).is_ok();
+    }
+    if is_whole { Ok(text) } else { Err(AllocError) }
+}
+
 fn in_a_for_loop(alloc: Global) -> Result<String, Fail> {
     let walk = sorted(alloc)?.process_read_dir_by(|_depth, _path, _state, list| {
         list.truncate(2);
         Ok(())
     });
-    let mut text = String::new(alloc);
-    for answer in walk.into_iter() {
-        push_line(&mut text, &answer)?;
-    }
-    Ok(text)
+    Ok(loop_text_of(alloc, walk)?)
 }
 
 #[test]
@@ -328,5 +362,65 @@ fn a_walk_with_a_callback_in_a_for_loop(rt: HostRuntime) -> Result<(), Fail> {
         in_a_for_loop(rt.alloc())?.as_str(),
         "0 d /t; 1 f /t/a.txt; 1 f /t/b.txt"
     );
+    Ok(())
+}
+
+// A callback that is refused memory for the list of the root, or for those of directories at a depth.
+#[derive(Drop)]
+struct RefusedAt {
+    at: Option<usize>,
+}
+
+impl ProcessReadDir<((), ()), Global> for RefusedAt {
+    ghost IsLawful = { λ _. Unit {0} };
+
+    ghost Makes = { λ _ _. ⊥ };
+
+    fn process(
+        &self,
+        depth: Option<usize>,
+        _path: &str,
+        _state: &mut (),
+        _list: &mut Items,
+    ) -> Result<(), AllocError> {
+        if depth == self.at {
+            Err(AllocError)
+        } else {
+            Ok(())
+        }
+    }
+}
+
+type RefusedWalk = WalkDirGeneric<((), ()), MemoryFs, RefusedAt>;
+
+fn refused_walk(walk: Builder<MemoryFs>, at: Option<usize>) -> RefusedWalk {
+    walk.process_read_dir(RefusedAt { at })
+}
+
+// Whether this is what a walk by name answers whose callback is refused memory.
+fn refused_shows(alloc: Global, at: Option<usize>, wanted: &str) -> Result<bool, Fail> {
+    let walk = refused_walk(sorted(alloc)?, at);
+    Ok(text_of(alloc, walk)?.as_str() == wanted)
+}
+
+#[test]
+fn a_callback_that_is_refused_memory(rt: HostRuntime) -> Result<(), Fail> {
+    let told = "0 d /t; 1 f /t/a.txt; 1 f /t/b.txt; 1 f /t/c.txt; ! 0 - memory";
+    assert!(rt; refused_shows(rt.alloc(), None, "! 0 - memory")?);
+    assert!(rt; refused_shows(rt.alloc(), Some(0), "! 0 - memory")?);
+    assert!(rt; refused_shows(rt.alloc(), Some(1), told)?);
+    Ok(())
+}
+
+fn is_not_begun(walk: RefusedWalk) -> bool {
+    match walk.try_into_iter() {
+        Ok(_) => false,
+        Err(error) => error.is_memory(),
+    }
+}
+
+#[test]
+fn a_walk_that_is_not_begun_without_memory(rt: HostRuntime) -> Result<(), Fail> {
+    assert!(rt; is_not_begun(refused_walk(sorted(rt.alloc())?, None)));
     Ok(())
 }

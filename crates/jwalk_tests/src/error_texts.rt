@@ -1,7 +1,7 @@
 //! The texts of a file system's errors.
 ghost use Rattle.walk_model.specs.Tree.{functions_of, only_root};
 
-use crate::lines::{Entry, fill, walk};
+use crate::lines::{Entry, all_answers, walk};
 use jwalk::Error;
 use jwalk::file_system::{Fault, FileSystem, FileType, Listed, Metadata};
 use std::alloc::{AllocError, Allocator, Global};
@@ -119,9 +119,8 @@ fn texts_of(alloc: Global, answers: &[Result<Entry, Error>]) -> Result<String, A
 /// Whether a walk tells the text of the one error that it meets.
 fn is_told(alloc: Global, failing: Failing) -> Result<bool, AllocError> {
     let text = "block 17 can't be read";
-    let mut walk = walk(alloc, Telling { failing, text }, "/d")?;
-    let mut found = Vec::new(alloc);
-    fill(&mut walk, usize::MAX, &mut found)?;
+    let walk = walk(alloc, Telling { failing, text }, "/d")?;
+    let found = all_answers(alloc, walk)?;
     Ok(texts_of(alloc, found.as_slice())?.as_str() == text)
 }
 

@@ -4,6 +4,7 @@ use crate::listed_directory::{Item, ListedDirectory};
 use crate::trees::{grouped_tree, small_tree};
 use crate::watched::{Failing, Watched};
 use jwalk::file_system::FileType;
+use std::alloc::{AllocError, Global};
 use std::io::ErrorKind;
 use std::process::Abort;
 use std::test::Fail;
@@ -81,12 +82,16 @@ fn are_listed(walk: &mut Walk<&Watched>, fs: &Watched, counts: &[usize]) -> bool
     is_over(walk)
 }
 
+/// A walk makes a listing for each directory that it enters, once it does.
+fn lists_as_it_enters(alloc: Global, fs: &Watched) -> Result<bool, AllocError> {
+    let mut walk = walk(alloc, fs, "/t")?;
+    Ok(fs.lists() == 0 && are_listed(&mut walk, fs, &[1, 1, 1, 2, 2, 3, 3, 3]))
+}
+
 #[test]
 fn one_listing_for_each_directory_entered(rt: HostRuntime) -> Result<(), Fail> {
     let fs = Watched::new(grouped_tree(rt.alloc())?, Failing::Never);
-    let mut walk = walk(rt.alloc(), &fs, "/t")?;
-    assert!(rt; fs.lists() == 0);
-    assert!(rt; are_listed(&mut walk, &fs, &[1, 1, 1, 2, 2, 3, 3, 3]));
+    assert!(rt; lists_as_it_enters(rt.alloc(), &fs)?);
     assert!(rt; fs.lists() == 3);
     Ok(())
 }

@@ -120,10 +120,11 @@ fn line(alloc: Global, answer: &Result<Entry, Error>) -> Result<String, AllocErr
 /// Answers parted by `; `.
 pub fn lines_of(alloc: Global, answers: &[Result<Entry, Error>]) -> Result<String, AllocError> {
     let mut text = String::new(alloc);
-    for answer in answers {
-        push_line(&mut text, answer)?;
+    if pushes_each(answers, &mut text) {
+        Ok(text)
+    } else {
+        Err(AllocError)
     }
-    Ok(text)
 }
 
 /// Adds one answer to a text.
@@ -153,6 +154,15 @@ fn pushes(text: &mut String, answer: &Result<Entry, Error>, by_getters: bool) ->
     } else {
         push_line(text, answer).is_ok()
     }
+}
+
+/// Whether all of these answers could be added to a text.
+fn pushes_each(answers: &[Result<Entry, Error>], text: &mut String) -> bool {
+    let mut is_whole = true;
+    for answer in answers {
+        is_whole &= pushes(text, answer, false);
+    }
+    is_whole
 }
 
 /// The answers of a walk that is yet to begin, parted by `; `, as their lines or by their getters.
@@ -250,4 +260,14 @@ pub fn fill<S: FileSystem>(
     found: &mut Vec<Result<Entry, Error>>,
 ) -> Result<usize, AllocError> {
     walk.fill(n, found)
+}
+
+/// All answers of a walk.
+pub fn all_answers<S: FileSystem>(
+    alloc: Global,
+    mut walk: Walk<S>,
+) -> Result<Vec<Result<Entry, Error>>, AllocError> {
+    let mut found = Vec::new(alloc);
+    walk.fill(usize::MAX, &mut found)?;
+    Ok(found)
 }

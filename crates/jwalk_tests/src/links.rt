@@ -1,9 +1,8 @@
 //! Walks over links.
-use crate::lines::{Builder, Entry, builder, calls_shown, fill, shows};
+use crate::lines::{Entry, all_answers, builder, calls_shown, shows};
 use crate::trees::{Step, tree};
 use jwalk::Error;
 use jwalk::file_system::MemoryFs;
-use std::alloc::{AllocError, Global};
 use std::process::Abort;
 use std::test::Fail;
 
@@ -75,17 +74,6 @@ fn links_to_files_directories_and_nothing(rt: HostRuntime) -> Result<(), Fail> {
     show(&rt, STEPS, followed, links)
 }
 
-/// All answers of a walk that follows links.
-fn followed(
-    alloc: Global,
-    walk: Builder<MemoryFs>,
-) -> Result<Vec<Result<Entry, Error>>, AllocError> {
-    let mut walk = walk.follow_links(true).into_iter();
-    let mut found = Vec::new(alloc);
-    fill(&mut walk, usize::MAX, &mut found)?;
-    Ok(found)
-}
-
 fn is_at(error: &Error, depth: usize, length: usize) -> bool {
     match error.path() {
         Some(path) => error.depth() == depth && path.len() == length,
@@ -105,7 +93,7 @@ fn end(found: &[Result<Entry, Error>], count: usize, depth: usize, length: usize
 fn a_link_to_its_own_directory_ends_at_the_41st(rt: HostRuntime) -> Result<(), Fail> {
     const STEPS: &[Step] = &[Step::Dir("/r"), Step::Link(".", "/r/l")];
     let walk = builder(rt.alloc(), tree(rt.alloc(), STEPS)?, "/r")?;
-    let found = followed(rt.alloc(), walk)?;
+    let found = all_answers(rt.alloc(), walk.follow_links(true).into_iter())?;
     assert!(rt; end(found.as_slice(), 42, 41, 84));
     Ok(())
 }

@@ -25,13 +25,18 @@ fn add_file(fs: &mut MemoryFs, path: String) -> Result<(), BuildError> {
     fs.add_file(path.as_str(), 1)
 }
 
+fn add_files(alloc: Global, fs: &mut MemoryFs) -> Result<(), BuildError> {
+    for place in 0..FILES {
+        add_file(fs, file_path(alloc, scrambled(place))?)?;
+    }
+    Ok(())
+}
+
 /// A directory of many files.
 fn wide_directory(alloc: Global) -> Result<MemoryFs, BuildError> {
     let mut fs = MemoryFs::new(alloc);
     fs.add_dir("/d")?;
-    for place in 0..FILES {
-        add_file(&mut fs, file_path(alloc, scrambled(place))?)?;
-    }
+    add_files(alloc, &mut fs)?;
     Ok(fs)
 }
 
@@ -136,11 +141,15 @@ fn depths_are_next<S: FileSystem>(walk: &mut Walk<S>, depths: usize) -> bool {
     is_over(walk)
 }
 
+fn goes_down(alloc: Global, fs: &Watched, depths: usize) -> Result<bool, AllocError> {
+    let mut walk = walk(alloc, fs, "/c")?;
+    Ok(depths_are_next(&mut walk, depths))
+}
+
 #[test]
 fn a_chain_of_directories(rt: HostRuntime) -> Result<(), Fail> {
     let fs = Watched::new(chain(rt.alloc())?, Failing::Never);
-    let mut walk = walk(rt.alloc(), &fs, "/c")?;
-    assert!(rt; depths_are_next(&mut walk, 31));
+    assert!(rt; goes_down(rt.alloc(), &fs, 31)?);
     assert!(rt; fs.lists() == 31);
     Ok(())
 }
