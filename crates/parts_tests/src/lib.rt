@@ -5,6 +5,8 @@
 #[cfg(test)]
 mod board;
 #[cfg(test)]
+mod board_walk;
+#[cfg(test)]
 mod file_system;
 #[cfg(test)]
 mod index_path;

@@ -1,0 +1,4 @@
+pub mod Found
+pub mod Steps
+pub mod ReadFacts
+pub mod BatchFacts

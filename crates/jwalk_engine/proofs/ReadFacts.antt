@@ -1,0 +1,107 @@
+-- A specification that is taken, read and finished.
+use Rattle.std.proofs.Common.{◌≡◌, ◌+◌, ◌≤◌, ℕ, false, List, [], ◌∷◌, ◌++◌, length, map, refl, sym, ap, ◌∙◌, arith, subst}
+use Rattle.std.specs.Prelude.{All, OnOk, OnErr, Result, Ok, Err}
+use Rattle.std.specs.declared.clone.Clone as Clone
+use Rattle.std.specs.declared.default.Default as Default
+use Rattle.std.specs.List.Sorted.{IsPermutation}
+use Rattle.std.proofs.lemmas.List.Elements.{All-nil, All-cons, All-head, All-tail, All-append}
+use lib.ListN.{length-append}
+use Rattle.std.proofs.lemmas.List.{nil_from_length}
+use Rattle.std.proofs.lemmas.List.Sorted.{IsPermutation-refl, length_permutation, All-permutation}
+use Rattle.walk_model.specs.ReadDir.{Spec, children_of, AreClones}
+use Rattle.walk_fs.specs.declared.file_system.FileSystem as FileSystem
+use Rattle.jwalk_order.specs.Ordered.{address_of}
+use Rattle.jwalk_order.specs.declared.ordered.Ordered.{Ordered}
+use Rattle.jwalk_board.specs.Addresses.{times}
+use Rattle.jwalk_board.specs.Board.{Board, IsWhole, Takes, Finishes}
+use Rattle.jwalk_board.specs.Addressed.{addressed}
+use Rattle.jwalk_board.proofs.Sets.{times-permutation}
+use Rattle.jwalk_board.proofs.Opens.{whole_taken, whole_finished}
+use Rattle.jwalk_read.specs.declared.process_read_dir.ProcessReadDir as ProcessReadDir
+use Rattle.jwalk_read.specs.declared.read_dir_spec.ReadDirSpec.{ReadDirSpec}
+use Rattle.jwalk_read.specs.declared.job.Job.{Job}
+use Rattle.jwalk_read.specs.ReadDir.{spec, outcome}
+use Rattle.jwalk_read.specs.Job.{IsReadingOf}
+use Rattle.jwalk_engine.specs.declared.read.Read.{Read}
+use Rattle.jwalk_engine.specs.ToGive.{ToGive, IsHeld, HandsOn}
+use Rattle.jwalk_engine.specs.Reads.{spec_of, to_give, IsSound, ReadsSome, ReadsFirst}
+use Rattle.jwalk_engine.specs.BoardWalk.{Keeps}
+use Rattle.jwalk_engine.proofs.Steps.{gives-taken, gives-finished}
+
+pub on_ok : {X F : Type 0} (r : Result X F) {P Q : Type 0} → (P → Q) → OnOk r P → OnOk r Q
+on_ok (Ok x) f h = f h
+on_ok (Err e) f h = tt
+
+pub on_err_always : {X F : Type 0} (r : Result X F) {P : Type 0} → P → OnErr r P
+on_err_always (Ok x) p = tt
+on_err_always (Err e) p = p
+
+module _ {C S P A R E : Type 0} (files : FileSystem.Ghosts S) (process : ProcessReadDir.Ghosts P C A R E) (clone : Clone.Ghosts R) (defaults : Default.Ghosts E) (job : Job C S P A R E) where
+  -- nothing is read
+  pub reads_none : (width : ℕ) (at : ToGive (Read C A R E) (Spec R)) → ReadsSome files process clone defaults job width at at
+  reads_none width at = record { readings = []; few = omega arith; sound = All-nil _; same = refl; join = IsPermutation-refl at.made }
+
+  module _ (b m c : Board (ReadDirSpec C A R E) (Read C A R E)) (item : Ordered (ReadDirSpec C A R E) A) (q : Read C A R E) (children : List (ReadDirSpec C A R E)) (none : b.in_hand ≡ [])
+      (whole : IsWhole b) (t : Takes item b m) (f : Finishes (address_of item) q children m c) (of : q.of ≡ item.value) where
+    whole_m : IsWhole m
+    whole_m = subst IsWhole (sym t.others) (whole_taken b (addressed item) m.queued m.in_hand whole t.queued t.in_hand)
+
+    whole_c : IsWhole c
+    whole_c = subst IsWhole (sym f.others) (whole_finished m (record { at = address_of item; value = q; child_count = length children }) children c.queued c.in_hand c.ready whole_m refl f.in_hand f.ready f.queued)
+
+    held_m : IsHeld m (addressed item ∷ [])
+    held_m a = times-permutation a (address_of item ∷ b.in_hand) m.in_hand t.in_hand ∙ ap (λ l. times a (address_of item ∷ l)) none
+
+    -- then nothing is in hand again
+    pub none_left : c.in_hand ≡ []
+    none_left = nil_from_length c.in_hand (omega (arith, length_permutation m.in_hand (address_of item ∷ c.in_hand) f.in_hand, length_permutation (address_of item ∷ b.in_hand) m.in_hand t.in_hand, ap length none))
+
+    -- one reading is made
+    pub reads_one : IsReadingOf files process clone defaults job (spec item.value) (outcome q.outcome) → AreClones clone.is_clone (children_of (outcome q.outcome)) (map spec children)
+      → ReadsSome files process clone defaults job 1 (to_give b []) (to_give c [])
+    reads_one reading clones =
+        let taken : to_give m (addressed item ∷ []) ≡ to_give b [] = gives-taken spec spec_of b m item [] whole t in
+        let made = gives-finished spec spec_of m c (addressed item) [] q children whole_m whole_c held_m f (ap spec of) in
+        record {
+          readings = (q, map spec children) ∷ [];
+          few = omega arith;
+          sound = All-cons (IsSound files process clone defaults job) (q, map spec children) [] (record { reading = subst (λ s. IsReadingOf files process clone defaults job s (outcome q.outcome)) (ap spec (sym of)) reading; clones = clones }) (All-nil _);
+          same = made.same ∙ ap (λ g. g.to_read) taken;
+          join = subst (λ g. IsPermutation ((q, map spec children) ∷ g.made) (to_give c []).made) taken made.joins;
+        }
+
+  -- the readings that are made stay sound
+  pub some_sound : (width : ℕ) (old new : ToGive (Read C A R E) (Spec R)) → ReadsSome files process clone defaults job width old new → All (IsSound files process clone defaults job) old.made → All (IsSound files process clone defaults job) new.made
+  some_sound width old new some sound = All-permutation (IsSound files process clone defaults job) (some.readings ++ old.made) new.made some.join (All-append (IsSound files process clone defaults job) some.readings old.made some.sound sound)
+
+  module _ (old new : ToGive (Read C A R E) (Spec R)) (q : Read C A R E) (hands : HandsOn spec_of old q new) (sound : All (IsSound files process clone defaults job) old.made) where
+    all_of : All (IsSound files process clone defaults job) ((q, hands.front) ∷ new.made)
+    all_of = All-permutation (IsSound files process clone defaults job) old.made ((q, hands.front) ∷ new.made) hands.leaves sound
+
+    pub hands_sound : All (IsSound files process clone defaults job) new.made
+    hands_sound = All-tail (IsSound files process clone defaults job) (q, hands.front) new.made all_of
+
+    -- what is handed on is a reading of the first
+    pub hands_first : ReadsFirst files process clone defaults job old.to_read (outcome q.outcome) new.to_read
+    hands_first =
+        let mine = All-head (IsSound files process clone defaults job) (q, hands.front) new.made all_of in
+        record { first = spec_of q; rest = hands.rest; took = hands.took; reading = mine.reading; stacks = record { front = hands.front; left = hands.left; clones = mine.clones } }
+
+  -- What is handed on leaves the board as it is between calls.
+  pub hands_keep : (b c : Board (ReadDirSpec C A R E) (Read C A R E)) (q : Read C A R E) → HandsOn spec_of (to_give b []) q (to_give c []) → c.stopped ≡ false → c.in_hand ≡ [] → All (IsSound files process clone defaults job) (to_give b []).made
+      → Keeps files process clone defaults job c
+  hands_keep b c q hands running none sound = record { running = running; none_in_hand = none; sound = hands_sound (to_give b []) (to_give c []) q hands sound }
+
+  -- What is handed on after some readings were made is a reading of what was the first before.
+  pub first_after : (width : ℕ) (old mid new : ToGive (Read C A R E) (Spec R)) (q : Read C A R E) → ReadsSome files process clone defaults job width old mid → HandsOn spec_of mid q new → All (IsSound files process clone defaults job) old.made
+      → ReadsFirst files process clone defaults job old.to_read (outcome q.outcome) new.to_read
+  first_after width old mid new q some hands sound =
+      subst (λ l. ReadsFirst files process clone defaults job l (outcome q.outcome) new.to_read) some.same (hands_first mid new q hands (some_sound width old mid some sound))
+
+  -- one fewer is left
+  pub hands_less : (old new : ToGive (Read C A R E) (Spec R)) (q : Read C A R E) → HandsOn spec_of old q new → length new.made + 1 ≡ length old.made
+  hands_less old new q hands = omega (arith, length_permutation old.made ((q, hands.front) ∷ new.made) hands.leaves)
+
+  -- and so many more at most are made
+  pub some_more : (width : ℕ) (old new : ToGive (Read C A R E) (Spec R)) → ReadsSome files process clone defaults job width old new → length new.made ≤ width + length old.made
+  some_more width old new some = omega (arith, some.few, length_permutation (some.readings ++ old.made) new.made some.join, length-append some.readings old.made)

@@ -1,0 +1,20 @@
+use Rattle.std.proofs.Common.{◌≡◌, ◌++◌, false, length, map}
+use Rattle.std.specs.List.Sorted.{IsPermutation}
+use Rattle.jwalk_engine.specs.ToGive.{IsHeld}
+use Rattle.jwalk_engine.specs.Reads.{to_give}
+use Rattle.jwalk_engine.specs.Batch.{held_by, with_children}
+use Rattle.jwalk_engine.proofs.batch.finish_batch.Given as goal
+
+abbrev pub invariant-loop-one : goal.invariant-loop-one
+invariant-loop-one g l =
+    let old = to_give l.fn.board (held_by l.fn.made.items) in
+    let now = to_give l.board (held_by l.made.items) in
+    record {
+      held : IsHeld l.board (held_by l.made.items);
+      same : now.to_read ≡ old.to_read;
+      join : IsPermutation (map with_children l.fn.made.items ++ old.made) (map with_children l.made.items ++ now.made);
+      running : l.board.stopped ≡ false;
+    }
+
+abbrev pub decreases-loop-one : goal.decreases-loop-one
+decreases-loop-one g l = length l.made.items

@@ -1,0 +1,37 @@
+-- What is taken together, read, and finished.
+use Rattle.std.specs.Prelude.{◌≡◌, ℕ, List, [], map, reverse, All}
+use Rattle.std.specs.declared.clone.Clone as Clone
+use Rattle.std.specs.declared.default.Default as Default
+use Rattle.walk_model.specs.ReadDir.{Spec}
+use Rattle.walk_fs.specs.declared.file_system.FileSystem as FileSystem
+use Rattle.jwalk_order.specs.IndexPath.{address}
+use Rattle.jwalk_order.specs.Ordered.{address_of}
+use Rattle.jwalk_order.specs.declared.ordered.Ordered.{Ordered}
+use Rattle.jwalk_board.specs.Addressed.{Addressed, addressed}
+use Rattle.jwalk_read.specs.declared.process_read_dir.ProcessReadDir as ProcessReadDir
+use Rattle.jwalk_read.specs.declared.read_dir_spec.ReadDirSpec.{ReadDirSpec}
+use Rattle.jwalk_read.specs.declared.job.Job.{Job}
+use Rattle.jwalk_read.specs.ReadDir.{spec}
+use Rattle.jwalk_engine.specs.declared.read.Read.{Read}
+use Rattle.jwalk_engine.specs.declared.batch.Made.{Made}
+use Rattle.jwalk_engine.specs.Reads.{IsSound}
+
+module _ {C A R E : Type 0} where
+  -- what was taken is in hand, the last first
+  abbrev pub hand_of : List (Ordered (ReadDirSpec C A R E) A) → List (Addressed (ReadDirSpec C A R E))
+  hand_of taken = map addressed (reverse taken)
+
+  -- so is what was read of it, until it is finished
+  abbrev pub held_by : List (Made C A R E) → List (Addressed (ReadDirSpec C A R E))
+  held_by made = map (λ m. record { at = address m.address; value = m.read.of; child_count = 0 }) (reverse made)
+
+  -- a reading with the directories below it
+  abbrev pub with_children : Made C A R E → Read C A R E × List (Spec R)
+  with_children m = (m.read, map spec m.children.items)
+
+module _ {C S P A R E : Type 0} (files : FileSystem.Ghosts S) (process : ProcessReadDir.Ghosts P C A R E) (clone : Clone.Ghosts R) (defaults : Default.Ghosts E) where
+  -- It is what came of a directory that was taken: at its address, a reading of it.
+  pub record IsMadeOf (job : Job C S P A R E) (taken : Ordered (ReadDirSpec C A R E) A) (made : Made C A R E) : Type 0 where
+    pub at : address made.address ≡ address_of taken
+    pub of : made.read.of ≡ taken.value
+    pub sound : IsSound files process clone defaults job (with_children made)

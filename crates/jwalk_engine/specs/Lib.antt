@@ -1,0 +1,4 @@
+pub mod ToGive
+pub mod Reads
+pub mod BoardWalk
+pub mod Batch

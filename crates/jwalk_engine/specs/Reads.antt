@@ -1,0 +1,59 @@
+-- Readings on a board: what is still to be read, and what a reading leaves.
+use Rattle.std.specs.Prelude.{◌≡◌, ◌≤◌, ℕ, List, [], ◌∷◌, ◌++◌, length, All, Option, Some, None}
+use Rattle.std.specs.List.Sorted.{IsPermutation}
+use Rattle.std.specs.declared.clone.Clone as Clone
+use Rattle.std.specs.declared.default.Default as Default
+use Rattle.walk_model.specs.ReadDir.{Spec, Outcome, children_of, AreClones}
+use Rattle.walk_fs.specs.declared.file_system.FileSystem as FileSystem
+use Rattle.jwalk_board.specs.Board.{Board}
+use Rattle.jwalk_board.specs.Addressed.{Addressed}
+use Rattle.jwalk_read.specs.declared.process_read_dir.ProcessReadDir as ProcessReadDir
+use Rattle.jwalk_read.specs.declared.read_dir_spec.ReadDirSpec.{ReadDirSpec}
+use Rattle.jwalk_read.specs.declared.job.Job.{Job}
+use Rattle.jwalk_read.specs.ReadDir.{spec, outcome}
+use Rattle.jwalk_read.specs.Job.{IsReadingOf}
+use Rattle.jwalk_engine.specs.declared.read.Read.{Read}
+use Rattle.jwalk_engine.specs.ToGive as board
+use Rattle.jwalk_engine.specs.ToGive.{ToGive}
+
+module _ {C A R E : Type 0} where
+  -- which directory a reading is of
+  abbrev pub spec_of : Read C A R E → Spec R
+  spec_of q = spec q.of
+
+  -- what a board has still to give, while its takers hold these
+  abbrev pub to_give : Board (ReadDirSpec C A R E) (Read C A R E) → List (Addressed (ReadDirSpec C A R E)) → ToGive (Read C A R E) (Spec R)
+  to_give = board.to_give spec spec_of
+
+-- the specifications of an outcome's directories, with clones of their states, stand in front of the old ones
+pub record StacksChildren {R E : Type 0} (clone : Clone.Ghosts R) (old : List (Spec R)) (read : Outcome R E) (new : List (Spec R)) : Type 0 where
+  pub front : List (Spec R)
+  pub left : new ≡ front ++ old
+  pub clones : AreClones clone.is_clone (children_of read) front
+
+module _ {C S P A R E : Type 0} (files : FileSystem.Ghosts S) (process : ProcessReadDir.Ghosts P C A R E) (clone : Clone.Ghosts R) (defaults : Default.Ghosts E) where
+  -- The first of the specifications is read, and gives way to those of the directories in its outcome.
+  pub record ReadsFirst (job : Job C S P A R E) (old : List (Spec R)) (read : Outcome R E) (new : List (Spec R)) : Type 0 where
+    pub first : Spec R
+    pub rest : List (Spec R)
+    pub took : old ≡ first ∷ rest
+    pub reading : IsReadingOf files process clone defaults job first read
+    pub stacks : StacksChildren clone rest read new
+
+  -- the first is read, or nothing was left to be read
+  abbrev pub ReadsNext : Job C S P A R E → List (Spec R) → Option (Outcome R E) → List (Spec R) → Type 0
+  ReadsNext job old None new = (old ≡ []) × (new ≡ [])
+  ReadsNext job old (Some read) new = ReadsFirst job old read new
+
+  -- It is a reading of its directory, and with it stand the directories of its list, with clones of their states.
+  pub record IsSound (job : Job C S P A R E) (made : Read C A R E × List (Spec R)) : Type 0 where
+    pub reading : IsReadingOf files process clone defaults job (spec_of made.0) (outcome made.0.outcome)
+    pub clones : AreClones clone.is_clone (children_of (outcome made.0.outcome)) made.1
+
+  -- Some readings are made, so many at most, and what is to be read stays the same.
+  pub record ReadsSome (job : Job C S P A R E) (width : ℕ) (old new : ToGive (Read C A R E) (Spec R)) : Type 0 where
+    pub readings : List (Read C A R E × List (Spec R))
+    pub few : length readings ≤ width
+    pub sound : All (IsSound job) readings
+    pub same : new.to_read ≡ old.to_read
+    pub join : IsPermutation (readings ++ old.made) new.made

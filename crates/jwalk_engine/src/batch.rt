@@ -1,0 +1,176 @@
+//! Directories that are taken, read and finished, one or several together.
+ghost use Rattle.std.specs.Prelude.{◌≡◌, [], false, length, min, map, IfOk, OnOk, All};
+ghost use Rattle.std.specs.List.{AllZip};
+ghost use Rattle.jwalk_order.specs.Ordered.{child_count_of};
+ghost use Rattle.jwalk_read.specs.Job.{callback};
+ghost use Rattle.jwalk_engine.specs.ToGive.{IsHeld, MakesAll};
+ghost use Rattle.jwalk_engine.specs.Reads.{to_give, ReadsSome};
+ghost use Rattle.jwalk_engine.specs.Batch.{hand_of, held_by, with_children, IsMadeOf};
+
+use crate::read::{Read, directories_of, finish};
+use jwalk_board::board::{Board, TakeRefusal};
+use jwalk_order::index_path::IndexPath;
+use jwalk_order::ordered::Ordered;
+use jwalk_read::client_state::ClientState;
+use jwalk_read::job::Job;
+use jwalk_read::process_read_dir::ProcessReadDir;
+use jwalk_read::read_dir_spec::ReadDirSpec;
+use std::alloc::{AllocError, Allocator};
+use walk_fs::file_system::FileSystem;
+
+/// A reading that was taken from the board and isn't finished yet: where it stands, what came of it, and the directories
+/// below it.
+#[derive(Drop)]
+pub(crate) struct Made<C: ClientState, A: Allocator + Copy> {
+    pub(crate) address: IndexPath<A>,
+    pub(crate) read: Read<C, A>,
+    pub(crate) children: Vec<ReadDirSpec<C, A>, A>,
+}
+
+/// Takes the least specifications that are queued: so many, or all if there are fewer.
+pub(crate) fn take_batch<C: ClientState, A: Allocator + Copy>(
+    alloc: A,
+    board: &mut Board<ReadDirSpec<C, A>, Read<C, A>, A>,
+    width: usize,
+) -> Result<Vec<Ordered<ReadDirSpec<C, A>, A>, A>, AllocError>
+    requires none_in_hand { board.old.in_hand ≡ [] }
+    requires running { board.old.stopped ≡ false }
+    ensures number { IfOk result (λ v. length v.items ≡ min width (length board.old.queued)) }
+    ensures held { IfOk result (λ v. IsHeld board.new (hand_of v.items)) }
+    ensures unread { IfOk result (λ v. All (λ item. child_count_of item ≡ 0) v.items) }
+    ensures same { IfOk result (λ v. to_give board.new (hand_of v.items) ≡ to_give board.old []) }
+    ensures running { OnOk result (board.new.stopped ≡ false) }
+{
+    let count = width.min(board.queued());
+    let mut taken = Vec::with_capacity(alloc, count)?;
+    for _ in 0..count {
+        let _pending = board.pending();
+        match board.take() {
+            Ok(item) => taken.push_reserved(item),
+            Err(TakeRefusal::Memory) => return Err(AllocError),
+            // So many are queued, and nothing stops the board.
+            Err(_) => unreachable!(),
+        }
+    }
+    Ok(taken)
+}
+
+/// Reads a directory that was taken.
+fn make<C: ClientState, S: FileSystem, P: ProcessReadDir<C, A>, A: Allocator + Copy>(
+    alloc: A,
+    job: &Job<C, S, P, A>,
+    taken: Ordered<ReadDirSpec<C, A>, A>,
+) -> Result<Made<C, A>, AllocError>
+    requires { P.IsLawful (callback job.now) }
+    ensures { IfOk result (IsMadeOf S.FileSystem P.ProcessReadDir C.ReadDirState.Clone C.DirEntryState.Default
+        job.now taken) }
+{
+    let Ordered {
+        value: of,
+        index_path: address,
+        ..
+    } = taken;
+    let outcome = job.read_one(&of)?;
+    let children = directories_of(alloc, &outcome)?;
+    Ok(Made {
+        address,
+        read: Read { of, outcome },
+        children,
+    })
+}
+
+/// Reads the directories that were taken, one after another.
+pub(crate) fn read_in_turn<
+    C: ClientState,
+    S: FileSystem,
+    P: ProcessReadDir<C, A>,
+    A: Allocator + Copy,
+>(
+    alloc: A,
+    job: &Job<C, S, P, A>,
+    taken: Vec<Ordered<ReadDirSpec<C, A>, A>, A>,
+) -> Result<Vec<Made<C, A>, A>, AllocError>
+    requires { P.IsLawful (callback job.now) }
+    ensures { IfOk result (λ v. AllZip (IsMadeOf S.FileSystem P.ProcessReadDir C.ReadDirState.Clone
+        C.DirEntryState.Default job.now) taken.items v.items) }
+{
+    let mut made = Vec::with_capacity(alloc, taken.len())?;
+    for item in taken {
+        made.push(make(alloc, job, item)?)?;
+    }
+    Ok(made)
+}
+
+/// Finishes what was made, the last first, so that the directories below come in order of their addresses.
+pub(crate) fn finish_batch<C: ClientState, A: Allocator + Copy>(
+    board: &mut Board<ReadDirSpec<C, A>, Read<C, A>, A>,
+    mut made: Vec<Made<C, A>, A>,
+) -> Result<(), AllocError>
+    requires held { IsHeld board.old (held_by made.items) }
+    requires running { board.old.stopped ≡ false }
+    ensures made { OnOk result (MakesAll (map with_children made.items)
+        (to_give board.old (held_by made.items)) (to_give board.new [])) }
+    ensures held { OnOk result (IsHeld board.new []) }
+    ensures running { OnOk result (board.new.stopped ≡ false) }
+{
+    while let Some(one) = made.pop() {
+        let _pending = board.pending();
+        finish(board, one.address, one.read, one.children)?;
+    }
+    Ok(())
+}
+
+/// Takes a batch of the least specifications, reads their directories one after another, and finishes them all.
+pub(crate) fn read_batch<
+    C: ClientState,
+    S: FileSystem,
+    P: ProcessReadDir<C, A>,
+    A: Allocator + Copy,
+>(
+    alloc: A,
+    job: &Job<C, S, P, A>,
+    board: &mut Board<ReadDirSpec<C, A>, Read<C, A>, A>,
+    width: usize,
+) -> Result<(), AllocError>
+    requires lawful { P.IsLawful (callback job.now) }
+    requires none_in_hand { board.old.in_hand ≡ [] }
+    requires running { board.old.stopped ≡ false }
+    ensures reads { OnOk result (ReadsSome S.FileSystem P.ProcessReadDir C.ReadDirState.Clone C.DirEntryState.Default
+        job.now width (to_give board.old []) (to_give board.new [])) }
+    ensures none_in_hand { OnOk result (board.new.in_hand ≡ []) }
+    ensures running { OnOk result (board.new.stopped ≡ false) }
+{
+    let taken = take_batch(alloc, board, width)?;
+    let made = read_in_turn(alloc, job, taken)?;
+    finish_batch(board, made)
+}
+
+/// Takes the least specification, reads its directory and finishes it. Does nothing where none is queued.
+pub(crate) fn read_least<C: ClientState, S: FileSystem, P: ProcessReadDir<C, A>, A: Allocator + Copy>(
+    alloc: A,
+    job: &Job<C, S, P, A>,
+    board: &mut Board<ReadDirSpec<C, A>, Read<C, A>, A>,
+) -> Result<(), AllocError>
+    requires lawful { P.IsLawful (callback job.now) }
+    requires none_in_hand { board.old.in_hand ≡ [] }
+    requires running { board.old.stopped ≡ false }
+    ensures reads { OnOk result (ReadsSome S.FileSystem P.ProcessReadDir C.ReadDirState.Clone C.DirEntryState.Default
+        job.now 1 (to_give board.old []) (to_give board.new [])) }
+    ensures none_in_hand { OnOk result (board.new.in_hand ≡ []) }
+    ensures running { OnOk result (board.new.stopped ≡ false) }
+{
+    let _pending = board.pending();
+    let item = match board.take() {
+        Ok(item) => item,
+        Err(TakeRefusal::Memory) => return Err(AllocError),
+        Err(_) => return Ok(()),
+    };
+    let Ordered {
+        value: of,
+        index_path: address,
+        ..
+    } = item;
+    let outcome = job.read_one(&of)?;
+    let children = directories_of(alloc, &outcome)?;
+    finish(board, address, Read { of, outcome }, children)
+}
