@@ -2,3 +2,4 @@ pub mod ListFacts
 mod ReadingFacts
 pub mod TieFacts
 pub mod GivenFacts
+mod OrderedFacts

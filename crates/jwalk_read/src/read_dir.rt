@@ -1,6 +1,9 @@
 //! A directory that was read.
-ghost use Rattle.std.specs.Prelude.{◌≡◌, ◌++◌, List, IfOk, OnOk, map, option_to_list};
+ghost use Rattle.std.specs.Prelude.{◌≡◌, ◌++◌, List, All, IfOk, OnOk, length, map, option_to_list};
 ghost use Rattle.walk_model.specs.ReadDir.{Spec, spec_of, children, AreClones};
+ghost use Rattle.jwalk_order.specs.Frontier.{children_from};
+ghost use Rattle.jwalk_order.specs.IndexPath.{address as indices_of};
+ghost use Rattle.jwalk_order.specs.Ordered.{address_of, child_count_of};
 ghost use Rattle.jwalk_read.specs.Entry.{item};
 ghost use Rattle.jwalk_read.specs.ReadDir.{spec, reading};
 
@@ -10,6 +13,8 @@ use crate::error::Error;
 pub use crate::job::Job;
 pub use crate::process_read_dir::{NoProcess, ProcessReadDir};
 pub use crate::read_dir_spec::ReadDirSpec;
+use jwalk_order::index_path::IndexPath;
+use jwalk_order::ordered::Ordered;
 use std::alloc::{AllocError, Allocator, Global};
 
 /// What a directory's reading gave: its list, and the state that it left.
@@ -79,5 +84,27 @@ impl<C: ClientState, A: Allocator + Copy> ReadDir<C, A> {
             push_spec(&mut specs, &self.read_dir_state, found)?;
         }
         Ok(specs)
+    }
+    /// The same directories, each at its address: child `i` of the directory at `address`. Their own directories aren't
+    /// known yet, so each has the child count 0. The addresses are made with the allocator of `address`.
+    ///
+    /// Fails only for want of memory, met by the lists, by an address or by the clone of a state.
+    pub fn ordered_read_children_specs(
+        &self,
+        address: &IndexPath<A>,
+    ) -> Result<Vec<Ordered<ReadDirSpec<C, A>, A>, A>, AllocError>
+        ensures specs { IfOk result (λ v. AreClones C.ReadDirState.is_clone
+            (children (reading self.now)) (map (λ x. spec x.value) v.items)) }
+        ensures addresses { IfOk result (λ v. map address_of v.items
+            ≡ children_from 0 (indices_of address.now) (length v.items)) }
+        ensures unread { IfOk result (λ v. All (λ x. child_count_of x ≡ 0) v.items) }
+    {
+        let specs = self.read_children_specs()?;
+        let mut ordered = Vec::with_capacity(*self.results_list.allocator(), specs.len())?;
+        for spec in specs {
+            let child = address.adding(ordered.len())?;
+            ordered.push(Ordered::new(spec, child, 0))?;
+        }
+        Ok(ordered)
     }
 }
