@@ -3,3 +3,4 @@ mod ReadingFacts
 pub mod TieFacts
 pub mod GivenFacts
 mod OrderedFacts
+mod PlanTies

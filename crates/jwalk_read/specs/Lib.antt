@@ -7,3 +7,5 @@ pub mod Options
 pub mod Given
 pub mod Job
 pub mod Sorting
+pub mod Plan
+pub mod PlanFacts

@@ -17,6 +17,7 @@ ghost use Rattle.jwalk_read.specs.Given.{counted_spec, counted_reading, counted_
 ghost use Rattle.jwalk_read.specs.Job.{file_system, callback, options_of, DefaultsCount, job_by, IsSteadyJob, IsReadingOf};
 
 mod links;
+mod plan;
 mod root;
 
 use crate::ancestors::Ancestors;

@@ -85,6 +85,7 @@ impl<C: ClientState, A: Allocator + Copy> ReadDir<C, A> {
         }
         Ok(specs)
     }
+
     /// The same directories, each at its address: child `i` of the directory at `address`. Their own directories aren't
     /// known yet, so each has the child count 0. The addresses are made with the allocator of `address`.
     ///

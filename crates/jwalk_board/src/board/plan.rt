@@ -13,19 +13,25 @@ pub trait Plan<A: Allocator + Copy> {
 
     type Reading: Drop;
 
-    // What counts of a specification and of a reading.
+    // What a promise on values takes to be given: nothing, or how states count and what comes of them.
+    ghost Given: { Type 0 };
+
+    // What a specification and a reading count as.
     ghost SpecValue: { Type 0 };
 
     ghost ReadingValue: { Type 0 };
 
-    ghost spec_value: { Self.Spec → SpecValue };
+    ghost spec_value: { Given → Self.Spec → SpecValue };
 
-    ghost reading_value: { Self.Reading → ReadingValue };
+    ghost reading_value: { Given → Self.Reading → ReadingValue };
 
-    // Whether its answers are those of its tree, wherever it answers.
-    ghost IsFixed: { Self → Type 0 };
+    // It may be asked for readings.
+    ghost IsLawful: { Self → Type 0 };
 
-    ghost tree: { Self → PlanTree SpecValue ReadingValue };
+    // Whether its answers are those of its tree, wherever it answers, by what is given.
+    ghost IsFixed: { Self → Given → Type 0 };
+
+    ghost tree: { Self → Given → PlanTree SpecValue ReadingValue };
 
     /// The reading of a specification, and its children in order.
     ///
@@ -37,10 +43,11 @@ pub trait Plan<A: Allocator + Copy> {
         alloc: A,
         spec: &Self::Spec,
     ) -> Result<(Self::Reading, Vec<Self::Spec, A>), Refused>
-        ensures reading { IsFixed self.now
-            → IfOk result (λ r. reading_value r.0 ≡ (tree self.now).reading (spec_value spec.now)) }
-        ensures children { IsFixed self.now
-            → IfOk result (λ r. map spec_value r.1.items ≡ (tree self.now).children (spec_value spec.now)) };
+        requires { IsLawful self.now }
+        ensures reading { (given : Given) → IsFixed self.now given → IfOk result (λ r.
+            reading_value given r.0 ≡ (tree self.now given).reading (spec_value given spec.now)) }
+        ensures children { (given : Given) → IsFixed self.now given → IfOk result (λ r.
+            map (spec_value given) r.1.items ≡ (tree self.now given).children (spec_value given spec.now)) };
 
-    ghost falls: { (p : Self) → IsFixed p → Falls (tree p) };
+    ghost falls: { (p : Self) (given : Given) → IsFixed p given → Falls (tree p given) };
 }

@@ -40,13 +40,15 @@ pub fn rehearse<P: Plan<A>, A: Allocator + Copy>(
     workers: usize,
     moves: &[Move],
 ) -> Result<Rehearsal<P::Spec, P::Reading, A>, Refused>
-    ensures matches_run { P.IsFixed plan.now → IfOk result (λ made. let roots = map P.spec_value roots.items in
-        MatchesRun (P.tree plan.now) roots
-        (run_of_moves (addresses_of (specs_in_preorder (P.tree plan.now) roots)) workers moves.now)
-        (rehearsed P.spec_value P.reading_value made)) }
-    ensures in_order { P.IsFixed plan.now → IfOk result (λ made.
-        IsInOrder (readings_in_preorder (P.tree plan.now) (map P.spec_value roots.items))
-        (rehearsed P.spec_value P.reading_value made)) }
+    requires { P.IsLawful plan.now }
+    ensures matches_run { (given : P.Given) → P.IsFixed plan.now given
+        → IfOk result (λ made. let roots = map (P.spec_value given) roots.items in
+        MatchesRun (P.tree plan.now given) roots
+        (run_of_moves (addresses_of (specs_in_preorder (P.tree plan.now given) roots)) workers moves.now)
+        (rehearsed (P.spec_value given) (P.reading_value given) made)) }
+    ensures in_order { (given : P.Given) → P.IsFixed plan.now given → IfOk result (λ made.
+        IsInOrder (readings_in_preorder (P.tree plan.now given) (map (P.spec_value given) roots.items))
+        (rehearsed (P.spec_value given) (P.reading_value given) made)) }
     ensures running { IfOk result (λ made. made.board.stopped ≡ false) }
 {
     let hands = empty_hands(alloc, workers)?;

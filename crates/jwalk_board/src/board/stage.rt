@@ -25,10 +25,10 @@ fn take<P: Plan<A>, A: Allocator + Copy>(
 ) -> Result<(), Refused>
     requires { IsUnderWay stage.old.hands.items stage.old.done.board }
     ensures kept { OnOk result (IsUnderWay stage.new.hands.items stage.new.done.board) }
-    ensures follows { (t : PlanTree P.SpecValue P.ReadingValue) (roots : List P.SpecValue) (r : Run) → Falls t
-        → Follows t roots r (stage_of P.spec_value P.reading_value stage.old)
+    ensures follows { (given : P.Given) (t : PlanTree P.SpecValue P.ReadingValue) (roots : List P.SpecValue) (r : Run)
+        → Falls t → Follows t roots r (stage_of (P.spec_value given) (P.reading_value given) stage.old)
         → OnOk result (Follows t roots (move (addresses_of (specs_in_preorder t roots)) r (Move.Take worker))
-        (stage_of P.spec_value P.reading_value stage.new)) }
+        (stage_of (P.spec_value given) (P.reading_value given) stage.new)) }
 {
     if worker >= stage.hands.len() {
         return Ok(());
@@ -52,10 +52,10 @@ fn hand_out<P: Plan<A>, A: Allocator + Copy>(
 ) -> Result<(), Refused>
     requires { IsUnderWay stage.old.hands.items stage.old.done.board }
     ensures kept { OnOk result (IsUnderWay stage.new.hands.items stage.new.done.board) }
-    ensures follows { (t : PlanTree P.SpecValue P.ReadingValue) (roots : List P.SpecValue) (r : Run) → Falls t
-        → Follows t roots r (stage_of P.spec_value P.reading_value stage.old)
+    ensures follows { (given : P.Given) (t : PlanTree P.SpecValue P.ReadingValue) (roots : List P.SpecValue) (r : Run)
+        → Falls t → Follows t roots r (stage_of (P.spec_value given) (P.reading_value given) stage.old)
         → OnOk result (Follows t roots (move (addresses_of (specs_in_preorder t roots)) r Move.HandOut)
-        (stage_of P.spec_value P.reading_value stage.new)) }
+        (stage_of (P.spec_value given) (P.reading_value given) stage.new)) }
 {
     match stage.done.board.hand_out() {
         Ok(item) => Ok(stage.done.handed_out.push(item)?),
@@ -70,13 +70,14 @@ fn finish<P: Plan<A>, A: Allocator + Copy>(
     plan: &P,
     worker: usize,
 ) -> Result<(), Refused>
-    requires { IsUnderWay stage.old.hands.items stage.old.done.board }
+    requires lawful { P.IsLawful plan.now }
+    requires under_way { IsUnderWay stage.old.hands.items stage.old.done.board }
     ensures kept { OnOk result (IsUnderWay stage.new.hands.items stage.new.done.board) }
-    ensures follows { P.IsFixed plan.now → (roots : List P.SpecValue) (r : Run)
-        → Follows (P.tree plan.now) roots r (stage_of P.spec_value P.reading_value stage.old)
-        → OnOk result (Follows (P.tree plan.now) roots
-        (move (addresses_of (specs_in_preorder (P.tree plan.now) roots)) r (Move.Finish worker))
-        (stage_of P.spec_value P.reading_value stage.new)) }
+    ensures follows { (given : P.Given) → P.IsFixed plan.now given → (roots : List P.SpecValue) (r : Run)
+        → Follows (P.tree plan.now given) roots r (stage_of (P.spec_value given) (P.reading_value given) stage.old)
+        → OnOk result (Follows (P.tree plan.now given) roots
+        (move (addresses_of (specs_in_preorder (P.tree plan.now given) roots)) r (Move.Finish worker))
+        (stage_of (P.spec_value given) (P.reading_value given) stage.new)) }
 {
     if worker >= stage.hands.len() {
         return Ok(());
@@ -99,13 +100,14 @@ pub(super) fn play<P: Plan<A>, A: Allocator + Copy>(
     plan: &P,
     next: Move,
 ) -> Result<(), Refused>
-    requires { IsUnderWay stage.old.hands.items stage.old.done.board }
+    requires lawful { P.IsLawful plan.now }
+    requires under_way { IsUnderWay stage.old.hands.items stage.old.done.board }
     ensures kept { OnOk result (IsUnderWay stage.new.hands.items stage.new.done.board) }
-    ensures follows { P.IsFixed plan.now → (roots : List P.SpecValue) (r : Run)
-        → Follows (P.tree plan.now) roots r (stage_of P.spec_value P.reading_value stage.old)
-        → OnOk result (Follows (P.tree plan.now) roots
-        (move (addresses_of (specs_in_preorder (P.tree plan.now) roots)) r next)
-        (stage_of P.spec_value P.reading_value stage.new)) }
+    ensures follows { (given : P.Given) → P.IsFixed plan.now given → (roots : List P.SpecValue) (r : Run)
+        → Follows (P.tree plan.now given) roots r (stage_of (P.spec_value given) (P.reading_value given) stage.old)
+        → OnOk result (Follows (P.tree plan.now given) roots
+        (move (addresses_of (specs_in_preorder (P.tree plan.now given) roots)) r next)
+        (stage_of (P.spec_value given) (P.reading_value given) stage.new)) }
 {
     match next {
         Move::Take(worker) => take::<P, A>(stage, worker),

@@ -17,12 +17,12 @@ use Rattle.jwalk_board.proofs.board.rehearsal.rehearse.Goals as goal
 pub loop-next-init : goal.loop-next-init
 loop-next-init g c = (
   begins c.args.roots.items c.in-Ok.board c.args.workers _ c.in-Ok.ensures.made c.in_ok-hands.ensures,
-  λ fixed.
-      let t = g.P.Plan.tree c.args.plan.now in
-      let falls = g.met.P.Plan.falls c.args.plan.now fixed in
-      let v = g.P.Plan.spec_value in
-      let w = g.P.Plan.reading_value in
-      let roots = map g.P.Plan.spec_value c.args.roots.items in
+  λ given fixed.
+      let t = g.P.Plan.tree c.args.plan.now given in
+      let falls = g.met.P.Plan.falls c.args.plan.now given fixed in
+      let v = (g.P.Plan.spec_value given) in
+      let w = (g.P.Plan.reading_value given) in
+      let roots = map (g.P.Plan.spec_value given) c.args.roots.items in
       stage_as t roots (run_of_moves (addresses_of (specs_in_preorder t roots)) c.args.workers []) _ _ _ _ _ _ _ _
       (ap (map (option_map (seen_item v))) c.in_ok-hands.ensures ∙ map_none (seen_item v) c.args.workers) (ap (map (seen_item w)) c.new-2.ensures.items) (ap (map address) c.new-3.ensures.items) refl
       (follows_start t roots falls c.args.workers (seen_board v w c.in-Ok.board) (seen_new v w c.args.roots.items c.in-Ok.board c.in-Ok.ensures.made)),
@@ -31,9 +31,9 @@ loop-next-init g c = (
 pub loop-next-preserved : goal.loop-next-preserved
 loop-next-preserved g c = (
   c.in_ok-play.ensures.kept,
-  λ fixed.
-      let t = g.P.Plan.tree c.args.plan.now in
-      let roots = map g.P.Plan.spec_value c.args.roots.items in
+  λ given fixed.
+      let t = g.P.Plan.tree c.args.plan.now given in
+      let roots = map (g.P.Plan.spec_value given) c.args.roots.items in
       let all = addresses_of (specs_in_preorder t roots) in
       let moves = c.args.moves.now in
       let i = c.loop-next.next-index in
@@ -41,18 +41,18 @@ loop-next-preserved g c = (
       let more : take (i + 1) moves ≡ take i moves ++ next ∷ [] = take_more moves i (Take 0) c.loop-next-test.true in
       let run : run_of_moves all c.args.workers (take (i + 1) moves) ≡ move all (run_of_moves all c.args.workers (take i moves)) next =
       ap (run_of_moves all c.args.workers) more ∙ moved-push all (run_of_moves all c.args.workers []) (take i moves) next in
-      subst (λ r. Follows t roots r (stage_of g.P.Plan.spec_value g.P.Plan.reading_value c.play.new.stage)) (sym run)
-      (c.in_ok-play.ensures.follows fixed roots (run_of_moves all c.args.workers (take i moves)) (c.loop-next.invariant.1 fixed)),
+      subst (λ r. Follows t roots r (stage_of (g.P.Plan.spec_value given) (g.P.Plan.reading_value given) c.play.new.stage)) (sym run)
+      (c.in_ok-play.ensures.follows given fixed roots (run_of_moves all c.args.workers (take i moves)) (c.loop-next.invariant.1 given fixed)),
 )
 
 pub returns-clause-matches_run : goal.returns-clause-matches_run
-returns-clause-matches_run g c = λ fixed.
-    let t = g.P.Plan.tree c.args.plan.now in
-    let roots = map g.P.Plan.spec_value c.args.roots.items in
+returns-clause-matches_run g c = λ given fixed.
+    let t = g.P.Plan.tree c.args.plan.now given in
+    let roots = map (g.P.Plan.spec_value given) c.args.roots.items in
     let whole = take_all c.loop-next.next-index c.args.moves.now c.loop-next-test.false in
-    subst (λ ms. MatchesRun t roots (run_of_moves (addresses_of (specs_in_preorder t roots)) c.args.workers ms) (rehearsed g.P.Plan.spec_value g.P.Plan.reading_value c.loop-next.stage.done)) whole
-    (matches_run t (g.met.P.Plan.falls c.args.plan.now fixed) roots _ _ (c.loop-next.invariant.1 fixed))
+    subst (λ ms. MatchesRun t roots (run_of_moves (addresses_of (specs_in_preorder t roots)) c.args.workers ms) (rehearsed (g.P.Plan.spec_value given) (g.P.Plan.reading_value given) c.loop-next.stage.done)) whole
+    (matches_run t (g.met.P.Plan.falls c.args.plan.now given fixed) roots _ _ (c.loop-next.invariant.1 given fixed))
 
 pub returns-clause-in_order : goal.returns-clause-in_order
-returns-clause-in_order g c = λ fixed.
-    in_order (g.P.Plan.tree c.args.plan.now) (g.met.P.Plan.falls c.args.plan.now fixed) (map g.P.Plan.spec_value c.args.roots.items) _ _ (c.loop-next.invariant.1 fixed)
+returns-clause-in_order g c = λ given fixed.
+    in_order (g.P.Plan.tree c.args.plan.now given) (g.met.P.Plan.falls c.args.plan.now given fixed) (map (g.P.Plan.spec_value given) c.args.roots.items) _ _ (c.loop-next.invariant.1 given fixed)

@@ -8,6 +8,7 @@ use Rattle.jwalk_board.proofs.board.rehearsal.rehearse.Given as goal
 
 abbrev pub invariant-loop-next : goal.invariant-loop-next
 invariant-loop-next g l =
-    let t = g.P.Plan.tree l.plan in
-    let roots = map g.P.Plan.spec_value l.fn.roots.items in
-    IsUnderWay l.stage.hands.items l.stage.done.board × (g.P.Plan.IsFixed l.plan → Follows t roots (run_of_moves (addresses_of (specs_in_preorder t roots)) l.workers (take l.next-index l.moves)) (stage_of g.P.Plan.spec_value g.P.Plan.reading_value l.stage))
+    IsUnderWay l.stage.hands.items l.stage.done.board × ((given : g.P.Plan.Given) → g.P.Plan.IsFixed l.plan given →
+    let t = g.P.Plan.tree l.plan given in
+    let roots = map (g.P.Plan.spec_value given) l.fn.roots.items in
+    Follows t roots (run_of_moves (addresses_of (specs_in_preorder t roots)) l.workers (take l.next-index l.moves)) (stage_of (g.P.Plan.spec_value given) (g.P.Plan.reading_value given) l.stage))

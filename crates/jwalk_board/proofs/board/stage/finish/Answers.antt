@@ -18,7 +18,7 @@ unreachable-requires g c =
     let hands = c.args.stage.now.hands in
     let there : c.args.worker < length hands.items = omega (arith, hands.ok.0, c.len.ensures) in
     let holds = get_read hands.items c.args.worker c.index_mut.result.now there c.index_mut.ensures.value ∙ ap Some (sym c.take.ensures.value ∙ c.in-Some.is) in
-    let wanting = only_memory hands.items c.args.stage.now.done.board c.requires c.args.worker c.in-Some.item holds c.in-Err.fault.cause c.in-Err.ensures.refused in
+    let wanting = only_memory hands.items c.args.stage.now.done.board c.requires.under_way c.args.worker c.in-Some.item holds c.in-Err.fault.cause c.in-Err.ensures.refused in
     false≢true (sym c.if-is_memory.false ∙ c.is_memory.ensures.1 wanting)
 
 pub returns-in-Ok-clause-kept : goal.returns-in-Ok-clause-kept
@@ -28,14 +28,14 @@ returns-in-Ok-clause-kept g c =
     let there : c.args.worker < length hands.items = omega (arith, hands.ok.0, c.len.ensures) in
     let holds = get_read hands.items c.args.worker c.index_mut.result.now there c.index_mut.ensures.value ∙ ap Some (sym c.take.ensures.value ∙ c.in-Some.is) in
     subst (λ z. IsUnderWay (set hands.items c.args.worker z) c.finish.new.self) (sym c.take.ensures.after)
-    (finished hands.items board c.finish.new.self c.requires c.args.worker c.in-Some.item c.in_ok-reading.reading c.in_ok-reading.children.items holds c.in-Ok.ensures.finished)
+    (finished hands.items board c.finish.new.self c.requires.under_way c.args.worker c.in-Some.item c.in_ok-reading.reading c.in_ok-reading.children.items holds c.in-Ok.ensures.finished)
 
 pub returns-in_default-clause-follows : goal.returns-in_default-clause-follows
-returns-in_default-clause-follows g c = λ fixed roots r f.
-    let v = g.P.Plan.spec_value in
-    let w = g.P.Plan.reading_value in
-    let t = g.P.Plan.tree c.args.plan.now in
-    let falls = g.met.P.Plan.falls c.args.plan.now fixed in
+returns-in_default-clause-follows g c = λ given fixed roots r f.
+    let v = (g.P.Plan.spec_value given) in
+    let w = (g.P.Plan.reading_value given) in
+    let t = g.P.Plan.tree c.args.plan.now given in
+    let falls = g.met.P.Plan.falls c.args.plan.now given fixed in
     let hands = c.args.stage.now.hands in
     let done = c.args.stage.now.done in
     let k = c.args.worker in
@@ -47,11 +47,11 @@ returns-in_default-clause-follows g c = λ fixed roots r f.
     (subst (λ z. Follows t roots z (stage_of v w c.args.stage.now)) (sym (free_finish t falls roots r _ f k e)) f)
 
 pub returns-in-Ok-clause-follows : goal.returns-in-Ok-clause-follows
-returns-in-Ok-clause-follows g c = λ fixed roots r f.
-    let v = g.P.Plan.spec_value in
-    let w = g.P.Plan.reading_value in
-    let t = g.P.Plan.tree c.args.plan.now in
-    let falls = g.met.P.Plan.falls c.args.plan.now fixed in
+returns-in-Ok-clause-follows g c = λ given fixed roots r f.
+    let v = (g.P.Plan.spec_value given) in
+    let w = (g.P.Plan.reading_value given) in
+    let t = g.P.Plan.tree c.args.plan.now given in
+    let falls = g.met.P.Plan.falls c.args.plan.now given fixed in
     let hands = c.args.stage.now.hands in
     let done = c.args.stage.now.done in
     let k = c.args.worker in
@@ -59,4 +59,4 @@ returns-in-Ok-clause-follows g c = λ fixed roots r f.
     let holds = get_read hands.items k c.index_mut.result.now there c.index_mut.ensures.value ∙ ap Some (sym c.take.ensures.value ∙ c.in-Some.is) in
     stage_as t roots (finish_by r k (slice_get r.hands k)) _ _ _ _ _ _ _ _ (ap (λ z. map (option_map (seen_item v)) (set hands.items k z)) c.take.ensures.after) refl refl refl
     (played_finish v w t falls roots r hands.items (map (seen_item w) done.handed_out.items) (map address done.taken.items) done.board c.finish.new.self k c.in-Some.item
-    c.in_ok-reading.reading c.in_ok-reading.children.items f holds (c.in_ok-reading.ensures.reading fixed) (c.in_ok-reading.ensures.children fixed) c.in-Ok.ensures.finished)
+    c.in_ok-reading.reading c.in_ok-reading.children.items f holds (c.in_ok-reading.ensures.reading given fixed) (c.in_ok-reading.ensures.children given fixed) c.in-Ok.ensures.finished)

@@ -24,9 +24,9 @@ returns-in_ok-push-in-Ok-clause-kept g c =
     taken hands.items c.args.stage.now.done.board c.take.new.self c.requires c.args.worker c.in-Ok.item free c.in-Ok.ensures.taken
 
 pub returns-then-is_some-clause-follows : goal.returns-then-is_some-clause-follows
-returns-then-is_some-clause-follows g c = λ t roots r falls f.
-    let v = g.P.Plan.spec_value in
-    let w = g.P.Plan.reading_value in
+returns-then-is_some-clause-follows g c = λ given t roots r falls f.
+    let v = (g.P.Plan.spec_value given) in
+    let w = (g.P.Plan.reading_value given) in
     let hands = c.args.stage.now.hands in
     let k = c.args.worker in
     let there : k < length hands.items = omega (arith, hands.ok.0, c.len.ensures) in
@@ -36,9 +36,9 @@ returns-then-is_some-clause-follows g c = λ t roots r falls f.
     subst (λ z. Follows t roots z (stage_of v w c.args.stage.now)) (sym (busy_take t falls roots r _ f k (seen_item v x.0) e)) f
 
 pub returns-in_ok-push-in-Ok-clause-follows : goal.returns-in_ok-push-in-Ok-clause-follows
-returns-in_ok-push-in-Ok-clause-follows g c = λ t roots r falls f.
-    let v = g.P.Plan.spec_value in
-    let w = g.P.Plan.reading_value in
+returns-in_ok-push-in-Ok-clause-follows g c = λ given t roots r falls f.
+    let v = (g.P.Plan.spec_value given) in
+    let w = (g.P.Plan.reading_value given) in
     let done = c.args.stage.now.done in
     let k = c.args.worker in
     let hands = c.args.stage.now.hands in
@@ -50,9 +50,9 @@ returns-in_ok-push-in-Ok-clause-follows g c = λ t roots r falls f.
     (address c.in_ok-try_clone-in-Ok.field-0) f free c.in-Ok.ensures.taken c.in_ok-try_clone-in-Ok.ensures)
 
 pub returns-in-Err-2-clause-follows : goal.returns-in-Err-2-clause-follows
-returns-in-Err-2-clause-follows g c = λ t roots r falls f.
-    let v = g.P.Plan.spec_value in
-    let w = g.P.Plan.reading_value in
+returns-in-Err-2-clause-follows g c = λ given t roots r falls f.
+    let v = (g.P.Plan.spec_value given) in
+    let w = (g.P.Plan.reading_value given) in
     let hands = c.args.stage.now.hands in
     let k = c.args.worker in
     let there : k < length hands.items = omega (arith, hands.ok.0, c.len.ensures) in
