@@ -11,6 +11,8 @@ mod file_system;
 #[cfg(test)]
 mod index_path;
 #[cfg(test)]
+mod job_rehearsal;
+#[cfg(test)]
 mod ordered_matcher;
 #[cfg(test)]
 mod ordered_queue;

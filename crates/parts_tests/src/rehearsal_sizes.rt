@@ -18,19 +18,23 @@ impl Plan<Global> for Levels {
 
     type Reading = u8;
 
+    ghost Given = { Unit {0} };
+
     ghost SpecValue = { ℕ };
 
     ghost ReadingValue = { ℕ };
 
-    ghost spec_value = { λ s. s };
+    ghost spec_value = { λ _ s. s };
 
-    ghost reading_value = { λ r. r };
+    ghost reading_value = { λ _ r. r };
 
-    ghost IsFixed = { λ _. ⊥ };
+    ghost IsLawful = { λ _. Unit {0} };
 
-    ghost tree = { λ _. family };
+    ghost IsFixed = { λ _ _. ⊥ };
 
-    ghost falls = { λ _ _. family-falls };
+    ghost tree = { λ _ _. family };
+
+    ghost falls = { λ _ _ _. family-falls };
 
     fn read(&self, alloc: Global, spec: &u8) -> Result<(u8, Vec<u8>), Refused> {
         self.reads.set(self.reads.get().wrapping_add(1));
