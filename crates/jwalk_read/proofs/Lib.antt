@@ -4,3 +4,4 @@ pub mod TieFacts
 pub mod GivenFacts
 mod OrderedFacts
 mod PlanTies
+mod WalkedTrees

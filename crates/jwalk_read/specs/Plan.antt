@@ -1,8 +1,9 @@
 -- A job as a plan.
-use Rattle.std.specs.Prelude.{◌-◌}
+use Rattle.std.specs.Prelude.{◌≡◌, ◌-◌, List, map}
 use Rattle.walk_model.specs.ReadDir.{Spec, Outcome, children_of}
 use Rattle.walk_model.specs.Job.{Job, reading}
-use Rattle.jwalk_board.specs.Plan.{PlanTree}
+use Rattle.walk_model.specs.Preorder.{preorder}
+use Rattle.jwalk_board.specs.Plan.{PlanTree, readings_in_preorder}
 
 -- the tree of a job's readings: how far a directory is above the greatest depth is its height
 abbrev pub tree_of : {R E : Type 0} → Job R E → PlanTree (Spec R) (Outcome R E)
@@ -11,3 +12,8 @@ tree_of job = record {
   children = λ spec. children_of (reading job spec);
   height = λ spec. job.options.max_depth - spec.depth;
 }
+
+-- the readings of jobs' trees, without their addresses, are those that a walk goes over, in its order
+abbrev pub TreesAreWalked : Type 0 → Type 0 → Type 0
+TreesAreWalked R E = (job : Job R E) (roots : List (Spec R)) →
+    map (λ x. x.value) (readings_in_preorder (tree_of job) roots) ≡ preorder (reading job) job.options.max_depth roots

@@ -6,6 +6,7 @@ pub mod client_state;
 pub mod dir_entry;
 pub mod error;
 pub mod job;
+pub mod laws;
 mod metadata;
 pub mod options;
 pub mod process_read_dir;
