@@ -5,7 +5,7 @@ use Rattle.walk_model.specs.Job.{Job, reading}
 use Rattle.walk_model.specs.Preorder.{preorder}
 use Rattle.jwalk_board.specs.Plan.{PlanTree, readings_in_preorder}
 
--- the tree of a job's readings: how far a directory is above the greatest depth is its height
+-- the tree of a job's readings; a directory's height is the greatest depth less its own, or 0
 abbrev pub tree_of : {R E : Type 0} → Job R E → PlanTree (Spec R) (Outcome R E)
 tree_of job = record {
   reading = reading job;

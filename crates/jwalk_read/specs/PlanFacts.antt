@@ -10,11 +10,12 @@ use Rattle.walk_model.proofs.ReadingFacts.{readings_lawful}
 use Rattle.jwalk_board.specs.Plan.{Falls}
 use Rattle.jwalk_read.specs.Plan.{tree_of}
 
--- nearer to the greatest depth
+-- Each of these directories is nearer to the greatest depth than this one.
 abbrev AreNearer : {R : Type 0} → ℕ → Spec R → List (Spec R) → Type 0
 AreNearer max_depth s specs = All (λ c. max_depth - c.depth < max_depth - s.depth) specs
 
 module _ {R E : Type 0} where
+  -- the directory of an entry is as deep as the entry
   one_deeper : (depth : ℕ) (state : R) (e : Entry R E) → e.depth ≡ depth → All (λ s. s.depth ≡ depth) (option_to_list (spec_of {E = E} state (Ok e)))
   one_deeper depth state e h =
       elim e.read_children as (λ o. All (λ (s : Spec R). s.depth ≡ depth) (option_to_list (option_map (spec_below state e) o))) [
@@ -22,20 +23,23 @@ module _ {R E : Type 0} where
         | Some c ↦ All-cons (λ (s : Spec R). s.depth ≡ depth) (spec_below state e c) [] h (All-nil _)
       ]
 
-  children_at : (depth : ℕ) (state : R) (l : List (Item R E)) → AtDepth depth l → All (λ s. s.depth ≡ depth) (flat_map (λ item. option_to_list (spec_of state item)) l)
-  children_at depth state [] h = All-nil _
-  children_at depth state (Err f ∷ l) h = children_at depth state l h
-  children_at depth state (Ok e ∷ l) h = All-append (λ (s : Spec R). s.depth ≡ depth) (option_to_list (spec_of {E = E} state (Ok e))) _ (one_deeper depth state e h.0) (children_at depth state l h.1)
+  -- those of a list are as deep as its entries
+  children_deeper : (depth : ℕ) (state : R) (l : List (Item R E)) → AtDepth depth l → All (λ s. s.depth ≡ depth) (flat_map (λ item. option_to_list (spec_of state item)) l)
+  children_deeper depth state [] h = All-nil _
+  children_deeper depth state (Err f ∷ l) h = children_deeper depth state l h
+  children_deeper depth state (Ok e ∷ l) h = All-append (λ (s : Spec R). s.depth ≡ depth) (option_to_list (spec_of {E = E} state (Ok e))) _ (one_deeper depth state e h.0) (children_deeper depth state l h.1)
 
+  -- those of a lawful list are nearer to the greatest depth than the directory that was listed
   nearer_below : (max_depth : ℕ) (s : Spec R) (r : Reading R E) → IsLawful {E = E} max_depth s (Ok r) → AreNearer max_depth s (children r)
   nearer_below max_depth s r lawful =
       elim (leb_tells max_depth s.depth) [
         | inl deep ↦ rw (lawful.1 deep.1) (All-nil _)
         | inr higher ↦
             All-weaker (λ (c : Spec R). c.depth ≡ s.depth + 1) (λ c. max_depth - c.depth < max_depth - s.depth) (λ c is. omega (arith, is, higher.1)) (children r)
-            (children_at (s.depth + 1) r.state r.list lawful.0)
+            (children_deeper (s.depth + 1) r.state r.list lawful.0)
       ]
 
+  -- and so are those of any lawful outcome
   nearer_of : (max_depth : ℕ) (s : Spec R) (outcome : Outcome R E) → IsLawful max_depth s outcome → AreNearer max_depth s (children_of outcome)
   nearer_of max_depth s (Ok r) lawful = nearer_below max_depth s r lawful
   nearer_of max_depth s (Err f) lawful = All-nil _

@@ -17,7 +17,8 @@ use jwalk_board::board::{Plan, Refused};
 use std::alloc::Allocator;
 use walk_fs::file_system::FileSystem;
 
-/// The readings of a job, by what came of them. Directories are read with the job's own allocator.
+/// A job reads directories by `read_one`, with its own allocator. A reading is what came of it, a list or an error, and its
+/// children are the directories of the list.
 impl<C: ClientState, S: FileSystem, P: ProcessReadDir<C, A>, A: Allocator + Copy> Plan<A>
     for Job<C, S, P, A> {
     type Spec = ReadDirSpec<C, A>;
