@@ -14,7 +14,7 @@ use Rattle.walk_fs.specs.declared.file_system.FileSystem as FileSystem
 use Rattle.jwalk_order.specs.IndexPath.{address, is_before}
 use Rattle.jwalk_order.specs.Ordered.{address_of, child_count_of}
 use Rattle.jwalk_order.specs.declared.ordered.Ordered.{Ordered}
-use Rattle.jwalk_board.specs.Board.{Board, IsWhole, Takes, Finishes}
+use Rattle.jwalk_board.specs.Board.{Board, IsWhole, IsNew, Takes, Finishes}
 use Rattle.jwalk_board.specs.Addressed.{Addressed, addressed, addresses_of, numbered, IsFirst}
 use Rattle.jwalk_board.specs.Seen.{seen, seen_item}
 use Rattle.jwalk_read.specs.declared.process_read_dir.ProcessReadDir as ProcessReadDir
@@ -27,7 +27,7 @@ use Rattle.jwalk_engine.specs.declared.batch.Made.{Made}
 use Rattle.jwalk_engine.specs.ToGive.{IsHeld, MakesAll}
 use Rattle.jwalk_engine.specs.Reads.{to_give, IsSound}
 use Rattle.jwalk_engine.specs.Batch.{hand_of, held_by, with_children, IsMadeOf, seen_taken, made_at}
-use Rattle.jwalk_engine.specs.ReadAhead.{ReadAhead, ahead_on, unread, below, Joins, LeastLeave, ReadsLeast}
+use Rattle.jwalk_engine.specs.ReadAhead.{ReadAhead, ahead_on, unread, below, BeginsWith, Joins, LeastLeave, ReadsLeast}
 use Rattle.jwalk_engine.specs.BoardWalk.{ReadsBatch}
 use Rattle.jwalk_engine.proofs.BatchFacts.{reads_batch, as_many, none_held}
 use Rattle.jwalk_engine.proofs.ReadFacts.{reads_none, reads_one, none_left}
@@ -38,6 +38,13 @@ numbered-seen v a i [] = refl
 numbered-seen v a i (x ∷ xs) = ap (λ l. record { at = a ++ i ∷ []; value = v x; child_count = 0 } ∷ l) (numbered-seen v a (i + 1) xs)
 
 module _ {C A R E : Type 0} where
+  -- A new board begins with its roots.
+  pub begins : (specs : List (ReadDirSpec C A R E)) (b : Board (ReadDirSpec C A R E) (Read C A R E)) → IsNew specs b → BeginsWith (map spec specs) (ahead_on b)
+  begins specs b new = record {
+    queue = subst (λ l. IsPermutation l (ahead_on b).queue) (numbered-seen spec [] 0 specs) (IsPermutation-map (seen spec) (numbered [] 0 specs) b.queued new.queued);
+    done = ap addresses_of new.ready;
+  }
+
   -- nothing has left yet
   pub none_leave : (b : Board (ReadDirSpec C A R E) (Read C A R E)) → LeastLeave [] (ahead_on b) (ahead_on b)
   none_leave b = record { queue = IsPermutation-refl _; least = All-nil _; done = refl }
@@ -82,7 +89,7 @@ module _ {C A R E : Type 0} where
         }
 
   -- nothing joins
-  pub none_join : (b : Board (ReadDirSpec C A R E) (Read C A R E)) → Joins [] (ahead_on b) (ahead_on b)
+  pub none_join : (b : Board (ReadDirSpec C A R E) (Read C A R E)) → Joins {C = C} {A = A} {R = R} {E = E} [] (ahead_on b) (ahead_on b)
   none_join b = record { queue = IsPermutation-refl _; done = IsPermutation-refl _ }
 
 module _ {C S P A R E : Type 0} (files : FileSystem.Ghosts S) (process : ProcessReadDir.Ghosts P C A R E) (clone : Clone.Ghosts R) (defaults : Default.Ghosts E) (job : Job C S P A R E) where

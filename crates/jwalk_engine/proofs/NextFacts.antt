@@ -28,6 +28,10 @@ use Rattle.jwalk_engine.specs.BoardWalk.{Keeps, ReadsBatch, HandsOnNext, HandsOn
 use Rattle.jwalk_engine.proofs.Steps.{some_to_read, gives-handed_out}
 use Rattle.jwalk_engine.proofs.ReadFacts.{hands_keep, hands_first, some_sound, first_after, hands_less, some_more}
 
+-- what is handed on was done
+was_done : {R : Type 0} (at : List ℕ) (old new : ReadAhead R) → HandsOnAt at old new → IsAmong at old.done
+was_done at old new h = omega (arith, times-permutation at old.done (at ∷ new.done) h.done, times-itself at new.done)
+
 module _ {C A R E : Type 0} where
   -- What a board hands out is handed on.
   pub handed_on : (old new : Board (ReadDirSpec C A R E) (Read C A R E)) (item : Ordered (Read C A R E) A) → IsWhole old → old.in_hand ≡ [] → HandsOut item old new → HandsOnNext old (outcome item.value.outcome) new
@@ -35,7 +39,7 @@ module _ {C A R E : Type 0} where
       record {
         read = item.value;
         of = refl;
-        hands_on = gives-handed_out spec spec_of old new item [] whole h (λ a. ap (times a) none);
+        hands_on = gives-handed_out spec spec_of old new [] item whole h (λ a. ap (times a) none);
         at = record {
           queue = ap (λ z. map (seen spec) z.queued) h.others;
           done = subst (λ a. IsPermutation (addresses_of old.ready) (a ∷ addresses_of new.ready)) h.next (IsPermutation-map (λ (x : Addressed (Read C A R E)). x.at) old.ready (addressed item ∷ new.ready) h.ready);
@@ -43,10 +47,6 @@ module _ {C A R E : Type 0} where
         none_in_hand = ap (λ z. z.in_hand) h.others ∙ none;
         running = ap (λ z. z.stopped) h.others ∙ h.running;
       }
-
-  -- what is handed on was done
-  was_done : (at : List ℕ) (old new : ReadAhead R) → HandsOnAt at old new → IsAmong at old.done
-  was_done at old new h = omega (arith, times-permutation at old.done (at ∷ new.done) h.done, times-itself at new.done)
 
   -- what has still to be read is not done
   not_done : (b : Board (ReadDirSpec C A R E) (Read C A R E)) → IsWhole b → b.in_hand ≡ [] → RefusesHandOut b NotReady → ¬ IsAmong (next_address b.frontier) (ahead_on b).done

@@ -1,6 +1,6 @@
 -- A specification that is taken, read and finished.
 use Rattle.std.proofs.Common.{◌≡◌, ◌+◌, ◌≤◌, ℕ, false, List, [], ◌∷◌, ◌++◌, length, map, refl, sym, ap, ◌∙◌, arith, subst}
-use Rattle.std.specs.Prelude.{All, OnOk, OnErr, Result, Ok, Err}
+use Rattle.std.specs.Prelude.{All, OnOk, OnErr, IfOk, Result, Ok, Err}
 use Rattle.std.specs.declared.clone.Clone as Clone
 use Rattle.std.specs.declared.default.Default as Default
 use Rattle.std.specs.List.Sorted.{IsPermutation}
@@ -31,6 +31,14 @@ use Rattle.jwalk_engine.proofs.Steps.{gives-taken, gives-finished}
 pub on_ok : {X F : Type 0} (r : Result X F) {P Q : Type 0} → (P → Q) → OnOk r P → OnOk r Q
 on_ok (Ok x) f h = f h
 on_ok (Err e) f h = tt
+
+pub on_err : {X F : Type 0} (r : Result X F) {P Q : Type 0} → (P → Q) → OnErr r P → OnErr r Q
+on_err (Ok x) f h = tt
+on_err (Err e) f h = f h
+
+pub if_ok : {X F : Type 0} (r : Result X F) {P Q : X → Type 0} → ((x : X) → P x → Q x) → IfOk r P → IfOk r Q
+if_ok (Ok x) f h = f x h
+if_ok (Err e) f h = tt
 
 pub on_err_always : {X F : Type 0} (r : Result X F) {P : Type 0} → P → OnErr r P
 on_err_always (Ok x) p = tt

@@ -277,8 +277,9 @@ pub(crate) fn read_least<C: ClientState, S: FileSystem, P: ProcessReadDir<C, A>,
     let item = match board.take() {
         Ok(item) => item,
         Err(TakeRefusal::Memory) => return Err(AllocError),
-        Err(TakeRefusal::Empty | TakeRefusal::Done) => return Ok(()),
-        // Nothing stops the board.
+        Err(TakeRefusal::Done) => return Ok(()),
+        // Nothing is in hand, and nothing stops the board.
+        Err(TakeRefusal::Empty) => unreachable!(),
         Err(TakeRefusal::Stopped) => unreachable!(),
     };
     let made = make(alloc, job, item)?;

@@ -38,7 +38,8 @@ fn hand_on<C: ClientState, A: Allocator + Copy>(
 fn answer_ready<C: ClientState, A: Allocator + Copy>(
     board: &mut Board<ReadDirSpec<C, A>, Read<C, A>, A>,
 ) -> Option<Result<Option<Outcome<C, A>>, AllocError>>
-    requires { board.old.in_hand ≡ [] }
+    requires none_in_hand { board.old.in_hand ≡ [] }
+    requires running { board.old.stopped ≡ false }
     ensures answer { IfSome result (λ answer. IfOk answer (λ o. HandsOnIfAny board.old (option_map outcome o)
         board.new)) }
     ensures some { IfSome result (λ answer. OnErr answer (board.old.frontier ≢ [])) }
@@ -301,11 +302,13 @@ impl<C: ClientState, S: FileSystem, P: ProcessReadDir<C, A>, A: Allocator + Copy
         let Some(board) = &mut self.board else {
             return Ok(None);
         };
-        let read = read_next(self.alloc, &self.job, board, self.width);
-        if read.is_err() {
-            self.board = None;
+        match read_next(self.alloc, &self.job, board, self.width) {
+            Ok(read) => Ok(read),
+            Err(refused) => {
+                self.board = None;
+                Err(refused)
+            }
         }
-        read
     }
 
     /// How many readings were made and not handed on.
@@ -368,10 +371,12 @@ where
         let Some(board) = &mut self.board else {
             return Ok(None);
         };
-        let read = read_next_on(rt, self.alloc, &self.job, board, self.width);
-        if read.is_err() {
-            self.board = None;
+        match read_next_on(rt, self.alloc, &self.job, board, self.width) {
+            Ok(read) => Ok(read),
+            Err(refused) => {
+                self.board = None;
+                Err(refused)
+            }
         }
-        read
     }
 }
