@@ -157,7 +157,7 @@ module _ {C S P A R E : Type 0} (files : FileSystem.Ghosts S) (process : Process
       let f_there = subst (λ a. Finishes a made.read made.children.items mid c) is.at f in
       let leave = one_leaves (ahead_on b) b mid [] item t (none_leave b) in
       let join = joins_with_last [] made mid c f (ahead_on c) (none_join c) in
-      let some : length (ahead_on b).queue ≡ 1 + length mid.queued = length-map b.queued (seen spec) ∙ length_permutation b.queued (addressed item ∷ mid.queued) t.queued in
+      let some : length (ahead_on b).queue ≡ 1 + length mid.queued = omega (arith, length-map b.queued (seen spec), length_permutation b.queued (addressed item ∷ mid.queued) t.queued) in
       record {
         reads = reads_one files process clone defaults job b mid c item made.read made.children.items none whole t f_there is.of (subst (λ s. IsReadingOf files process clone defaults job s (outcome made.read.outcome)) (ap spec is.of) is.sound.reading) is.sound.clones;
         least = least_read 1 (ahead_on b) (ahead_on mid) (ahead_on c) (item ∷ []) (made ∷ []) (omega (arith, some)) (All-cons (λ x. child_count_of x ≡ 0) item [] t.unread (All-nil _)) (is, tt) leave join;
