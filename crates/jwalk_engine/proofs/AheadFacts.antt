@@ -62,7 +62,7 @@ module _ {C A R E : Type 0} where
       record {
         queue = subst (IsPermutation first.queue) is (IsPermutation-trans first.queue (map seen_taken taken ++ (ahead_on b).queue) (map seen_taken taken ++ one ∷ now) so_far.queue (IsPermutation-append_right (map seen_taken taken) (ahead_on b).queue (one ∷ now) left));
         least = subst (All IsLeft) (sym (map-append seen_taken taken (item ∷ []))) (All-append IsLeft (map seen_taken taken) (one ∷ []) (All-weaker (λ x. IsFirst x.at (ahead_on b).queue) IsLeft goes (map seen_taken taken) so_far.least)
-        (All-cons IsLeft one [] (goes one (All-map (λ (y : Addressed (Spec R)). is_before y.at one.at ≡ false) (seen spec) b.queued t.least)) (All-nil _)));
+            (All-cons IsLeft one [] (goes one (All-map (λ (y : Addressed (Spec R)). is_before y.at one.at ≡ false) (seen spec) b.queued t.least)) (All-nil _)));
         done = ap (λ z. addresses_of z.ready) t.others ∙ so_far.done;
       }
 

@@ -85,7 +85,7 @@ module _ {C S P A R E : Type 0} (files : FileSystem.Ghosts S) (process : Process
 
     -- What is handed on after some were read goes on.
     pub made_goes_on : IsWhole old → RefusesHandOut old NotReady → (mid new : Board (ReadDirSpec C A R E) (Read C A R E)) (given : Outcome R E) → ReadsBatch files process clone defaults job width old mid → HandsOnNext mid given new
-      → GoesOn files process clone defaults job width old (Some given) new
+        → GoesOn files process clone defaults job width old (Some given) new
     made_goes_on whole refused mid new given reads h =
         let sound = some_sound files process clone defaults job width (to_give old []) (to_give mid []) reads.reads keeps.sound in
         let less = hands_less files process clone defaults job (to_give mid []) (to_give new []) h.read h.hands_on in

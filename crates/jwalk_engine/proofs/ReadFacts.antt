@@ -66,7 +66,7 @@ module _ {C S P A R E : Type 0} (files : FileSystem.Ghosts S) (process : Process
 
     -- one reading is made
     pub reads_one : IsReadingOf files process clone defaults job (spec item.value) (outcome q.outcome) → AreClones clone.is_clone (children_of (outcome q.outcome)) (map spec children)
-      → ReadsSome files process clone defaults job 1 (to_give b []) (to_give c [])
+        → ReadsSome files process clone defaults job 1 (to_give b []) (to_give c [])
     reads_one reading clones =
         let taken : to_give m (addressed item ∷ []) ≡ to_give b [] = gives-taken spec spec_of b m item [] whole t in
         let made = gives-finished spec spec_of m c (addressed item) [] q children whole_m whole_c held_m f (ap spec of) in

@@ -262,7 +262,12 @@ where
 }
 
 /// Takes the least specification, reads its directory and finishes it. Does nothing where none is queued.
-pub(crate) fn read_least<C: ClientState, S: FileSystem, P: ProcessReadDir<C, A>, A: Allocator + Copy>(
+pub(crate) fn read_least<
+    C: ClientState,
+    S: FileSystem,
+    P: ProcessReadDir<C, A>,
+    A: Allocator + Copy,
+>(
     alloc: A,
     job: &Job<C, S, P, A>,
     board: &mut Board<ReadDirSpec<C, A>, Read<C, A>, A>,

@@ -178,26 +178,43 @@ fn threads_read_a_wide_batch_in_order(rt: HostRuntime) -> Result<(), Fail> {
     Ok(())
 }
 
-/// A refusal in a batch ends the walk, with nothing ahead.
-fn ends_refused(refused: bool, walk: &mut Walk<'_>) -> bool {
-    refused && walk.ahead() == 0 && matches!(walk.read_next(), Ok(None))
+/// Nothing is left, also nothing that was read early.
+fn is_over(walk: &mut Walk<'_>) -> bool {
+    walk.ahead() == 0 && matches!(walk.read_next(), Ok(None))
+}
+
+/// The first reading comes, the second is refused, and then the walk is over.
+fn ends_refused(alloc: Global, fs: &Refusing, width: usize) -> bool
+    requires { 1 ≤ width }
+{
+    let Some(mut walk) = walk(alloc, fs, width) else {
+        return false;
+    };
+    matches!(walk.read_next(), Ok(Some(Ok(_)))) && walk.read_next().is_err() && is_over(&mut walk)
+}
+
+/// The same, read on threads.
+fn ends_refused_on(
+    rt: &(impl Threads + Sync),
+    alloc: Global,
+    fs: &Refusing,
+    width: usize,
+) -> bool
+    requires { 1 ≤ width }
+{
+    let Some(mut walk) = walk(alloc, fs, width) else {
+        return false;
+    };
+    matches!(walk.read_next_on(rt), Ok(Some(Ok(_))))
+        && walk.read_next_on(rt).is_err()
+        && is_over(&mut walk)
 }
 
 #[test]
 fn a_refusal_in_the_middle_of_a_batch_ends_the_walk(rt: HostRuntime) -> Result<(), Fail> {
     let alloc = rt.alloc();
     let fs = tree(alloc, &MANY, "/r/e")?;
-    let Some(mut in_turn) = walk(alloc, &fs, 16) else {
-        return Err(Fail);
-    };
-    assert!(rt; matches!(in_turn.read_next(), Ok(Some(Ok(_)))));
-    let refused = in_turn.read_next().is_err();
-    assert!(rt; ends_refused(refused, &mut in_turn));
-    let Some(mut on_threads) = walk(alloc, &fs, 16) else {
-        return Err(Fail);
-    };
-    assert!(rt; matches!(on_threads.read_next_on(&rt), Ok(Some(Ok(_)))));
-    let refused = on_threads.read_next_on(&rt).is_err();
-    assert!(rt; ends_refused(refused, &mut on_threads));
+    assert!(rt; ends_refused(alloc, &fs, 16));
+    assert!(rt; ends_refused_on(&rt, alloc, &fs, 16));
     Ok(())
 }
