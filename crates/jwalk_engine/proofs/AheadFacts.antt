@@ -1,5 +1,5 @@
 -- What is read ahead, step by step.
-use Rattle.std.proofs.Common.{◌≡◌, ℕ, ◌+◌, ◌<◌, ◌≤◌, min, List, [], ◌∷◌, ◌++◌, map, length, refl, sym, ap, subst, ◌∙◌, arith, append_assoc}
+use Rattle.std.proofs.Common.{◌≡◌, ℕ, ◌+◌, min, List, [], ◌∷◌, ◌++◌, map, length, refl, sym, ap, subst, ◌∙◌, arith, append_assoc}
 use Rattle.std.specs.Prelude.{All, flat_map, OnOk, Result, Ok, Err, false}
 use Rattle.std.specs.List.{AllZip}
 use Rattle.std.specs.List.Sorted.{IsPermutation}
@@ -12,11 +12,11 @@ use Rattle.std.proofs.lemmas.List.Sorted.{IsPermutation-refl, IsPermutation-map,
 use Rattle.walk_model.specs.ReadDir.{Spec}
 use Rattle.walk_fs.specs.declared.file_system.FileSystem as FileSystem
 use Rattle.jwalk_order.specs.IndexPath.{address, is_before}
-use Rattle.jwalk_order.specs.Ordered.{address_of, child_count_of}
+use Rattle.jwalk_order.specs.Ordered.{child_count_of}
 use Rattle.jwalk_order.specs.declared.ordered.Ordered.{Ordered}
 use Rattle.jwalk_board.specs.Board.{Board, IsWhole, IsNew, Takes, Finishes}
 use Rattle.jwalk_board.specs.Addressed.{Addressed, addressed, addresses_of, numbered, IsFirst}
-use Rattle.jwalk_board.specs.Seen.{seen, seen_item}
+use Rattle.jwalk_board.specs.Seen.{seen}
 use Rattle.jwalk_read.specs.declared.process_read_dir.ProcessReadDir as ProcessReadDir
 use Rattle.jwalk_read.specs.declared.read_dir_spec.ReadDirSpec.{ReadDirSpec}
 use Rattle.jwalk_read.specs.declared.job.Job.{Job}

@@ -1,11 +1,11 @@
 -- What one call answers, from what a board hands on.
-use Rattle.std.proofs.Common.{◌≡◌, ◌≢◌, ◌+◌, ◌<◌, ◌≤◌, ℕ, false, List, [], ◌∷◌, length, map, refl, sym, ap, ◌∙◌, arith, subst, ⊎_elim, inl, inr}
-use Rattle.std.specs.Prelude.{All, IfOk, Result, Ok, Err, Option, Some, None, option_map}
+use Rattle.std.proofs.Common.{◌≡◌, ◌≢◌, ◌≤◌, ℕ, List, [], ◌∷◌, map, refl, sym, ap, ◌∙◌, arith, subst, ⊎_elim, inl, inr}
+use Rattle.std.specs.Prelude.{Option, Some, None}
 use Rattle.std.specs.List.Sorted.{IsPermutation}
 use Rattle.std.proofs.lemmas.List.Sorted.{IsPermutation-map}
 use Rattle.std.specs.declared.clone.Clone as Clone
 use Rattle.std.specs.declared.default.Default as Default
-use Rattle.walk_model.specs.ReadDir.{Spec, Outcome}
+use Rattle.walk_model.specs.ReadDir.{Outcome}
 use Rattle.walk_fs.specs.declared.file_system.FileSystem as FileSystem
 use Rattle.jwalk_order.specs.Frontier.{next_address}
 use Rattle.jwalk_board.specs.Addresses.{times, IsAmong}
@@ -22,8 +22,8 @@ use Rattle.jwalk_read.specs.declared.read_dir_spec.ReadDirSpec.{ReadDirSpec}
 use Rattle.jwalk_read.specs.declared.job.Job.{Job}
 use Rattle.jwalk_read.specs.ReadDir.{spec, outcome}
 use Rattle.jwalk_engine.specs.declared.read.Read.{Read}
-use Rattle.jwalk_engine.specs.Reads.{spec_of, to_give, ReadsNext, ReadsFirst}
-use Rattle.jwalk_engine.specs.ReadAhead.{ReadAhead, ahead_on, HandsOnAt, Enters}
+use Rattle.jwalk_engine.specs.Reads.{spec_of, to_give, ReadsFirst}
+use Rattle.jwalk_engine.specs.ReadAhead.{ReadAhead, ahead_on, HandsOnAt}
 use Rattle.jwalk_engine.specs.BoardWalk.{Keeps, ReadsBatch, HandsOnNext, HandsOnIfAny, GoesOn}
 use Rattle.jwalk_engine.proofs.Steps.{some_to_read, gives-handed_out}
 use Rattle.jwalk_engine.proofs.ReadFacts.{hands_keep, hands_first, some_sound, first_after, hands_less, some_more}

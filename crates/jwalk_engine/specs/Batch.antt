@@ -1,5 +1,5 @@
 -- What is taken together, read, and finished.
-use Rattle.std.specs.Prelude.{◌≡◌, ℕ, List, [], map, length, reverse, All, IfOk, Result}
+use Rattle.std.specs.Prelude.{◌≡◌, List, map, length, reverse, IfOk, Result}
 use Rattle.std.specs.declared.alloc.AllocError.{AllocError}
 use Rattle.std.specs.declared.clone.Clone as Clone
 use Rattle.std.specs.declared.default.Default as Default

@@ -1,4 +1,4 @@
-use Rattle.std.proofs.Common.{◌≡◌, ◌+◌, ◌∷◌, [], length, map, ap, sym, ◌∙◌, arith, subst}
+use Rattle.std.proofs.Common.{◌≡◌, ◌∷◌, [], map, ap, sym, ◌∙◌, arith, subst}
 use Rattle.std.specs.Prelude.{All}
 use Rattle.std.proofs.lemmas.List.Elements.{All-nil, All-cons, All-append}
 use Rattle.jwalk_order.specs.Ordered.{child_count_of}
@@ -7,7 +7,7 @@ use Rattle.jwalk_engine.specs.Reads.{to_give}
 use Rattle.jwalk_engine.specs.ReadAhead.{ahead_on, LeastLeave}
 use Rattle.jwalk_engine.specs.Batch.{hand_of, seen_taken}
 use Rattle.jwalk_engine.proofs.BatchFacts.{held_more, same_more, fewer_queued}
-use Rattle.jwalk_engine.proofs.AheadFacts.{none_leave, one_leaves}
+use Rattle.jwalk_engine.proofs.AheadFacts.{one_leaves}
 use Rattle.jwalk_engine.proofs.batch.take_batch.Goals as goal
 
 pub loop-preserved : goal.loop-preserved

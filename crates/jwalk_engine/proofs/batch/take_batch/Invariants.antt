@@ -1,4 +1,4 @@
-use Rattle.std.proofs.Common.{◌≡◌, ◌≤◌, ◌+◌, [], false, length, map, min}
+use Rattle.std.proofs.Common.{◌≡◌, ◌≤◌, ◌+◌, [], false, length, map}
 use Rattle.std.specs.Prelude.{All}
 use Rattle.jwalk_order.specs.Ordered.{child_count_of}
 use Rattle.jwalk_engine.specs.ToGive.{IsHeld}

@@ -1,5 +1,3 @@
-use Rattle.std.proofs.Common.{[], ap, refl, ◌∙◌, arith}
-use Rattle.jwalk_board.specs.Addresses.{times}
 use Rattle.jwalk_engine.proofs.NextFacts.{handed_on}
 use Rattle.jwalk_engine.proofs.board_walk.hand_on.Goals as goal
 

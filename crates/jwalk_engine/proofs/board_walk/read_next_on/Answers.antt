@@ -1,4 +1,4 @@
-use Rattle.std.proofs.Common.{subst, sym}
+use Rattle.std.proofs.Common.{subst}
 use Rattle.std.specs.Prelude.{option_map}
 use Rattle.jwalk_read.specs.ReadDir.{outcome}
 use Rattle.jwalk_engine.specs.BoardWalk.{ReadsBatch}
