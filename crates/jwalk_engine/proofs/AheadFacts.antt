@@ -1,6 +1,10 @@
 -- What is read ahead, step by step.
-use Rattle.std.proofs.Common.{◌≡◌, ℕ, ◌+◌, min, List, [], ◌∷◌, ◌++◌, map, length, refl, sym, ap, subst, ◌∙◌, arith, append_assoc}
+use Rattle.std.proofs.Common.{◌≡◌, ℕ, ◌+◌, min, List, [], ◌∷◌, ◌++◌, map, length, refl, sym, ap, subst, ◌∙◌, arith, append_assoc, true, cond, ◌<◌, ◌≤◌}
 use Rattle.std.specs.Prelude.{All, flat_map, OnOk, Result, Ok, Err, false}
+use Rattle.std.specs.Cmp.Lexicographic.{slice_cmp, nat_list_cmp_total}
+use Rattle.std.specs.Ordering.{nat_cmp, is_lt, is_eq, ordering_reverse}
+use Rattle.std.specs.declared.cmp.Ordering.{Ordering}
+use Rattle.std.specs.declared.cmp.Ordering.TheVariants.{Less, Equal, Greater}
 use Rattle.std.specs.List.{AllZip}
 use Rattle.std.specs.List.Sorted.{IsPermutation}
 use Rattle.std.specs.declared.clone.Clone as Clone
@@ -12,10 +16,13 @@ use Rattle.std.proofs.lemmas.List.Sorted.{IsPermutation-refl, IsPermutation-map,
 use Rattle.walk_model.specs.ReadDir.{Spec}
 use Rattle.walk_fs.specs.declared.file_system.FileSystem as FileSystem
 use Rattle.jwalk_order.specs.IndexPath.{address, is_before}
-use Rattle.jwalk_order.specs.Ordered.{child_count_of}
+use Rattle.jwalk_order.specs.Ordered.{address_of, child_count_of}
 use Rattle.jwalk_order.specs.declared.ordered.Ordered.{Ordered}
 use Rattle.jwalk_board.specs.Board.{Board, IsWhole, IsNew, Takes, Finishes}
 use Rattle.jwalk_board.specs.Addressed.{Addressed, addressed, addresses_of, numbered, IsFirst}
+use Rattle.jwalk_board.specs.Addresses.{is_same, times}
+use Rattle.jwalk_board.proofs.Opens.{times-addresses_of, times-on_board}
+use Rattle.jwalk_board.proofs.Sets.{times-itself}
 use Rattle.jwalk_board.specs.Seen.{seen}
 use Rattle.jwalk_read.specs.declared.process_read_dir.ProcessReadDir as ProcessReadDir
 use Rattle.jwalk_read.specs.declared.read_dir_spec.ReadDirSpec.{ReadDirSpec}
@@ -27,7 +34,7 @@ use Rattle.jwalk_engine.specs.declared.batch.Made.{Made}
 use Rattle.jwalk_engine.specs.ToGive.{IsHeld, MakesAll}
 use Rattle.jwalk_engine.specs.Reads.{to_give, IsSound}
 use Rattle.jwalk_engine.specs.Batch.{hand_of, held_by, with_children, IsMadeOf, seen_taken, made_at}
-use Rattle.jwalk_engine.specs.ReadAhead.{ReadAhead, ahead_on, unread, below, BeginsWith, Joins, LeastLeave, ReadsLeast}
+use Rattle.jwalk_engine.specs.ReadAhead.{ReadAhead, ahead_on, unread, below, BeginsWith, Joins, LeastLeave, StandsBefore, ReadsLeast}
 use Rattle.jwalk_engine.specs.BoardWalk.{ReadsBatch}
 use Rattle.jwalk_engine.proofs.BatchFacts.{reads_batch, as_many, none_held}
 use Rattle.jwalk_engine.proofs.ReadFacts.{reads_none, reads_one, none_left}
@@ -36,6 +43,31 @@ use Rattle.jwalk_engine.proofs.ReadFacts.{reads_none, reads_one, none_left}
 numbered-seen : {T V : Type 0} (v : T → V) (a : List ℕ) (i : ℕ) (xs : List T) → map (seen v) (numbered a i xs) ≡ numbered a i (map v xs)
 numbered-seen v a i [] = refl
 numbered-seen v a i (x ∷ xs) = ap (λ l. record { at = a ++ i ∷ []; value = v x; child_count = 0 } ∷ l) (numbered-seen v a (i + 1) xs)
+
+reversed : (o : Ordering) → is_lt o ≡ false → is_eq o ≡ false → is_lt (ordering_reverse o) ≡ true
+reversed Less h k = sym h
+reversed Equal h k = sym k
+reversed Greater h k = refl
+
+-- of two addresses one stands before the other
+before_other : (x y : List ℕ) → is_before y x ≡ false → is_same x y ≡ false → is_before x y ≡ true
+before_other x y h k = ap is_lt (nat_list_cmp_total.antisymm x y) ∙ reversed (slice_cmp nat_cmp y x) h k
+
+first_of_others : {V : Type 0} (a : List ℕ) (ys : List (Addressed V)) → IsFirst a ys → times a (addresses_of ys) ≡ 0 → All (λ y. is_before a y.at ≡ true) ys
+first_of_others a [] first none = All-nil _
+first_of_others a (y ∷ ys) first none =
+    elim (is_same a y.at) as (λ s. is_same a y.at ≡ s → cond s 1 0 + times a (addresses_of ys) ≡ 0 → All (λ y. is_before a y.at ≡ true) (y ∷ ys)) [
+      | true ↦ λ e k. absurd (omega (arith, k))
+      | false ↦ λ e k. All-cons (λ y. is_before a y.at ≡ true) y ys (before_other a y.at (All-head (λ y. is_before y.at a ≡ false) y ys first) e) (first_of_others a ys (All-tail (λ y. is_before y.at a ≡ false) y ys first) (omega (arith, k)))
+    ] refl none
+
+-- What is taken stands before all that stays.
+taken_first : {T Q A : Type 0} (b c : Board T Q) (item : Ordered T A) → IsWhole b → Takes item b c → All (λ y. is_before (address_of item) y.at ≡ true) c.queued
+taken_first b c item whole t =
+    let a = address_of item in
+    first_of_others a c.queued
+    (All-tail (λ y. is_before y.at a ≡ false) (addressed item) c.queued (All-permutation (λ y. is_before y.at a ≡ false) b.queued (addressed item ∷ c.queued) t.queued t.least))
+    (omega (arith, whole.once a, times-on_board a b, times-addresses_of a b.queued (addressed item ∷ c.queued) t.queued, times-itself a (addresses_of c.queued)))
 
 module _ {C A R E : Type 0} where
   -- A new board begins with its roots.
@@ -51,18 +83,19 @@ module _ {C A R E : Type 0} where
 
   -- one more leaves
   pub one_leaves : (first : ReadAhead R) (b c : Board (ReadDirSpec C A R E) (Read C A R E)) (taken : List (Ordered (ReadDirSpec C A R E) A)) (item : Ordered (ReadDirSpec C A R E) A)
-      → Takes item b c → LeastLeave (map seen_taken taken) first (ahead_on b) → LeastLeave (map seen_taken (taken ++ item ∷ [])) first (ahead_on c)
-  one_leaves first b c taken item t so_far =
+      → IsWhole b → Takes item b c → LeastLeave (map seen_taken taken) first (ahead_on b) → LeastLeave (map seen_taken (taken ++ item ∷ [])) first (ahead_on c)
+  one_leaves first b c taken item whole t so_far =
+      let before = (ahead_on b).queue in
       let now = (ahead_on c).queue in
-      let IsLeft : Addressed (Spec R) → Type 0 = λ x. IsFirst x.at now in
       let one = seen_taken item in
-      let left : IsPermutation (ahead_on b).queue (one ∷ now) = IsPermutation-map (seen spec) b.queued (addressed item ∷ c.queued) t.queued in
+      let more : IsPermutation before (one ∷ now) = IsPermutation-map (seen spec) b.queued (addressed item ∷ c.queued) t.queued in
       let is : map seen_taken taken ++ one ∷ now ≡ map seen_taken (taken ++ item ∷ []) ++ now = sym (ap (λ l. l ++ now) (map-append seen_taken taken (item ∷ [])) ∙ append_assoc (map seen_taken taken) (one ∷ []) now) in
-      let goes : (x : Addressed (Spec R)) → IsFirst x.at (ahead_on b).queue → IsLeft x = λ x it_is. All-tail (λ y. is_before y.at x.at ≡ false) one now (All-permutation (λ y. is_before y.at x.at ≡ false) (ahead_on b).queue (one ∷ now) left it_is) in
+      let still : (x : Addressed (Spec R)) → StandsBefore x before → StandsBefore x now = λ x first_of. All-tail (λ y. is_before x.at y.at ≡ true) one now (All-permutation (λ y. is_before x.at y.at ≡ true) before (one ∷ now) more first_of) in
       record {
-        queue = subst (IsPermutation first.queue) is (IsPermutation-trans first.queue (map seen_taken taken ++ (ahead_on b).queue) (map seen_taken taken ++ one ∷ now) so_far.queue (IsPermutation-append_right (map seen_taken taken) (ahead_on b).queue (one ∷ now) left));
-        least = subst (All IsLeft) (sym (map-append seen_taken taken (item ∷ []))) (All-append IsLeft (map seen_taken taken) (one ∷ []) (All-weaker (λ x. IsFirst x.at (ahead_on b).queue) IsLeft goes (map seen_taken taken) so_far.least)
-            (All-cons IsLeft one [] (goes one (All-map (λ (y : Addressed (Spec R)). is_before y.at one.at ≡ false) (seen spec) b.queued t.least)) (All-nil _)));
+        queue = subst (IsPermutation first.queue) is (IsPermutation-trans first.queue (map seen_taken taken ++ before) (map seen_taken taken ++ one ∷ now) so_far.queue (IsPermutation-append_right (map seen_taken taken) before (one ∷ now) more));
+        least = subst (All (λ x. StandsBefore x now)) (sym (map-append seen_taken taken (item ∷ []))) (All-append (λ x. StandsBefore x now) (map seen_taken taken) (one ∷ [])
+            (All-weaker (λ x. StandsBefore x before) (λ x. StandsBefore x now) still (map seen_taken taken) so_far.least)
+            (All-cons (λ x. StandsBefore x now) one [] (All-map (λ y. is_before one.at y.at ≡ true) (seen spec) c.queued (taken_first b c item whole t)) (All-nil _)));
         done = ap (λ z. addresses_of z.ready) t.others ∙ so_far.done;
       }
 
@@ -155,7 +188,7 @@ module _ {C S P A R E : Type 0} (files : FileSystem.Ghosts S) (process : Process
       → OnOk r (Finishes (address made.address) made.read made.children.items mid c) → OnOk r (ReadsBatch files process clone defaults job 1 b c)
   one_read (Ok x) b mid c item made whole none t is f =
       let f_there = subst (λ a. Finishes a made.read made.children.items mid c) is.at f in
-      let leave = one_leaves (ahead_on b) b mid [] item t (none_leave b) in
+      let leave = one_leaves (ahead_on b) b mid [] item whole t (none_leave b) in
       let join = joins_with_last [] made mid c f (ahead_on c) (none_join c) in
       let some : length (ahead_on b).queue ≡ 1 + length mid.queued = omega (arith, length-map b.queued (seen spec), length_permutation b.queued (addressed item ∷ mid.queued) t.queued) in
       record {

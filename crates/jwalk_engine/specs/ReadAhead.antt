@@ -1,13 +1,14 @@
 -- What a walk has read ahead, and what one directory that is entered does to it.
-use Rattle.std.specs.Prelude.{◌≡◌, ◌⊎◌, ℕ, min, List, [], ◌∷◌, ◌++◌, length, map, flat_map, All, Option, Some, None}
+use Rattle.std.specs.Prelude.{◌≡◌, ◌⊎◌, ℕ, true, min, List, [], ◌∷◌, ◌++◌, length, map, flat_map, All, Option, Some, None}
 use Rattle.std.specs.List.Sorted.{IsPermutation}
 use Rattle.std.specs.declared.clone.Clone as Clone
 use Rattle.std.specs.declared.default.Default as Default
 use Rattle.walk_model.specs.ReadDir.{Spec}
 use Rattle.walk_fs.specs.declared.file_system.FileSystem as FileSystem
+use Rattle.jwalk_order.specs.IndexPath.{is_before}
 use Rattle.jwalk_board.specs.Addresses.{IsAmong}
 use Rattle.jwalk_board.specs.Board.{Board}
-use Rattle.jwalk_board.specs.Addressed.{Addressed, addresses_of, numbered, IsFirst}
+use Rattle.jwalk_board.specs.Addressed.{Addressed, addresses_of, numbered}
 use Rattle.jwalk_board.specs.Seen.{seen}
 use Rattle.jwalk_read.specs.declared.process_read_dir.ProcessReadDir as ProcessReadDir
 use Rattle.jwalk_read.specs.declared.read_dir_spec.ReadDirSpec.{ReadDirSpec}
@@ -50,10 +51,14 @@ module _ {R : Type 0} where
     pub queue : IsPermutation (numbered [] 0 roots) new.queue
     pub done : new.done ≡ []
 
-  -- The least of the queue leave it: none of those that stay stands before one of them.
+  -- the address of the first stands before all of these
+  abbrev pub StandsBefore : Addressed (Spec R) → List (Addressed (Spec R)) → Type 0
+  StandsBefore x others = All (λ y. is_before x.at y.at ≡ true) others
+
+  -- The least of the queue leave it: each stands before all that stay.
   pub record LeastLeave (taken : List (Addressed (Spec R))) (old new : ReadAhead R) : Type 0 where
     pub queue : IsPermutation old.queue (taken ++ new.queue)
-    pub least : All (λ x. IsFirst x.at new.queue) taken
+    pub least : All (λ x. StandsBefore x new.queue) taken
     pub done : new.done ≡ old.done
 
   -- The reading at an address is handed on: it leaves those that are done.

@@ -66,9 +66,7 @@ fn tree(alloc: Global, dirs: &[&str], at: &'static str) -> Result<Refusing, Buil
 }
 
 /// Three directories with one in each.
-const TWINS: [&str; 7] = [
-    "/r", "/r/a", "/r/a/x", "/r/b", "/r/b/x", "/r/c", "/r/c/x",
-];
+const TWINS: [&str; 7] = ["/r", "/r/a", "/r/a/x", "/r/b", "/r/b/x", "/r/c", "/r/c/x"];
 
 /// Nine directories with one in each, which are enough for two threads.
 const MANY: [&str; 19] = [
@@ -79,7 +77,11 @@ const MANY: [&str; 19] = [
 const DIGITS: [&str; 10] = ["0", "1", "2", "3", "4", "5", "6", "7", "8", "9"];
 
 /// Adds the names in a reading, and how many others are ahead.
-fn push_reading(text: &mut String, read: &ReadDir<((), ())>, ahead: usize) -> Result<(), AllocError> {
+fn push_reading(
+    text: &mut String,
+    read: &ReadDir<((), ())>,
+    ahead: usize,
+) -> Result<(), AllocError> {
     for found in read.results_list() {
         if let Ok(entry) = found {
             text.push_str(entry.file_name())?;
@@ -103,11 +105,7 @@ fn push_next(text: &mut String, walk: &mut Walk<'_>) -> Option<()> {
     push_reading(text, &read, walk.ahead()).ok()
 }
 
-fn push_next_on(
-    rt: &(impl Threads + Sync),
-    text: &mut String,
-    walk: &mut Walk<'_>,
-) -> Option<()> {
+fn push_next_on(rt: &(impl Threads + Sync), text: &mut String, walk: &mut Walk<'_>) -> Option<()> {
     let read = walk.read_next_on(rt).ok()??.ok()?;
     push_reading(text, &read, walk.ahead()).ok()
 }
@@ -194,12 +192,7 @@ fn ends_refused(alloc: Global, fs: &Refusing, width: usize) -> bool
 }
 
 /// The same, read on threads.
-fn ends_refused_on(
-    rt: &(impl Threads + Sync),
-    alloc: Global,
-    fs: &Refusing,
-    width: usize,
-) -> bool
+fn ends_refused_on(rt: &(impl Threads + Sync), alloc: Global, fs: &Refusing, width: usize) -> bool
     requires { 1 ≤ width }
 {
     let Some(mut walk) = walk(alloc, fs, width) else {
