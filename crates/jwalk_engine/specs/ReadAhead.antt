@@ -76,7 +76,8 @@ module _ {C S P A R E : Type 0} (files : FileSystem.Ghosts S) (process : Process
     pub leave : LeastLeave (map unread batch) old left
     pub join : Joins batch left new
 
-  -- The directory at an address is entered: its reading was made before, and no other is, or else the least are read first.
+  -- The directory at an address is entered: its reading was made before and nothing is read, or else the least are read
+  -- first. Then its reading is handed on.
   abbrev pub Enters : Job C S P A R E → ℕ → List ℕ → ReadAhead R → ReadAhead R → Type 0
   Enters job width at old new =
       (IsAmong at old.done × HandsOnAt at old new)

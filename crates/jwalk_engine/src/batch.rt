@@ -28,7 +28,7 @@ const LEAST_PIECE: usize = 4;
 /// Into how many pieces a batch is split at most: each starts a thread of its own, which no pool keeps.
 const MOST_PIECES: usize = 8;
 
-/// A reading that was taken from the board and isn't finished yet: where it stands, what came of it, and the directories
+/// A directory that was taken and read, and isn't finished yet: where it stands, what came of it, and the directories
 /// below it.
 #[derive(Drop)]
 pub(crate) struct Made<C: ClientState, A: Allocator + Copy> {

@@ -1,5 +1,6 @@
 //! Readings of directories in preorder.
-ghost use Rattle.std.specs.Prelude.{◌≡◌, ◌≢◌, ◌≤◌, ◌+◌, [], false, length, map, IfOk, IfErr, IfSome, OnOk, OnErr, IfNone, option_map};
+ghost use Rattle.std.specs.Prelude.{◌≡◌, ◌≢◌, ◌≤◌, ◌+◌, [], false, length, map, option_map};
+ghost use Rattle.std.specs.Prelude.{IfOk, IfErr, IfSome, IfNone, OnOk, OnErr};
 ghost use Rattle.jwalk_board.specs.Refusal.{RefusesHandOut};
 ghost use Rattle.jwalk_board.specs.declared.board.refusal.HandOutRefusal.TheVariants.{NotReady};
 ghost use Rattle.jwalk_read.specs.ReadDir.{spec, outcome};
