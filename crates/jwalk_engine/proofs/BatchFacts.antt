@@ -1,6 +1,6 @@
 -- What is taken together.
 use Rattle.std.proofs.Common.{◌≡◌, ℕ, suc, ◌+◌, min, List, [], ◌∷◌, ◌++◌, map, length, reverse, refl, sym, ap, subst, ◌∙◌, arith, append_assoc}
-use Rattle.std.specs.Prelude.{All}
+use Rattle.std.specs.Prelude.{All, Ok}
 use Rattle.std.specs.List.{AllZip}
 use Rattle.std.specs.declared.clone.Clone as Clone
 use Rattle.std.specs.declared.default.Default as Default
@@ -25,7 +25,7 @@ use Rattle.jwalk_read.specs.ReadDir.{spec}
 use Rattle.jwalk_engine.specs.declared.read.Read.{Read}
 use Rattle.jwalk_engine.specs.ToGive.{IsHeld, Makes, MakesAll}
 use Rattle.jwalk_engine.specs.Reads.{spec_of, to_give, IsSound, ReadsSome}
-use Rattle.jwalk_engine.specs.Batch.{hand_of, held_by, with_children, IsMadeOf}
+use Rattle.jwalk_engine.specs.Batch.{hand_of, held_by, with_children, IsMadeOf, MakesOf}
 use Rattle.jwalk_engine.specs.declared.batch.Made.{Made}
 use Rattle.jwalk_engine.proofs.Steps.{gives-taken, gives-finished}
 
@@ -101,6 +101,13 @@ none_held b held =
 module _ {C S P A R E : Type 0} (files : FileSystem.Ghosts S) (process : ProcessReadDir.Ghosts P C A R E) (clone : Clone.Ghosts R) (defaults : Default.Ghosts E) (job : Job C S P A R E) where
   abbrev IsOf : Ordered (ReadDirSpec C A R E) A → Made C A R E → Type 0
   IsOf = IsMadeOf files process clone defaults job
+
+  -- Where none was refused, all are made of what was taken.
+  pub none_refused : (taken : List (Ordered (ReadDirSpec C A R E) A)) (made : List (Made C A R E)) → AllZip (MakesOf files process clone defaults job) taken (map Ok made) → AllZip IsOf taken made
+  none_refused [] [] all = tt
+  none_refused [] (m ∷ made) all = absurd all
+  none_refused (x ∷ taken) [] all = absurd all
+  none_refused (x ∷ taken) (m ∷ made) all = (all.0, none_refused taken made all.1)
 
   -- as many are made as were taken
   pub as_many : (taken : List (Ordered (ReadDirSpec C A R E) A)) (made : List (Made C A R E)) → AllZip IsOf taken made → length made ≡ length taken

@@ -48,6 +48,7 @@ module _ {X V : Type 0} (v : X → V) where
         | true ↦ λ e k n. All-cons (λ y. is_same a y.at ≡ true → v y.value ≡ z) x xs (λ _. let same : v x.value ≡ z = cc in same) (nowhere xs a z (omega (arith, n)))
         | false ↦ λ e k n. All-cons (λ y. is_same a y.at ≡ true → v y.value ≡ z) x xs (λ is. let no : true ≡ false = sym is ∙ e in cc) (has_value xs a z k (omega (arith, n)))
       ] refl h once
+
   -- where it stands there once and all there have the value, the value is found
   finds_value : (ys : List (Addressed X)) (a : List ℕ) (z : V) → All (λ y. is_same a y.at ≡ true → v y.value ≡ z) ys → times a (addresses_of ys) ≡ 1 → found_at v ys a ≡ z ∷ []
   finds_value [] a z all h = absurd (omega (arith, h))

@@ -1,6 +1,6 @@
 -- A specification that is taken, read and finished.
 use Rattle.std.proofs.Common.{◌≡◌, ◌+◌, ◌≤◌, ℕ, false, List, [], ◌∷◌, ◌++◌, length, map, refl, sym, ap, ◌∙◌, arith, subst}
-use Rattle.std.specs.Prelude.{All, OnOk, OnErr, Result, Ok, Err}
+use Rattle.std.specs.Prelude.{All, OnOk, OnErr, IfOk, Result, Ok, Err}
 use Rattle.std.specs.declared.clone.Clone as Clone
 use Rattle.std.specs.declared.default.Default as Default
 use Rattle.std.specs.List.Sorted.{IsPermutation}
@@ -32,6 +32,14 @@ pub on_ok : {X F : Type 0} (r : Result X F) {P Q : Type 0} → (P → Q) → OnO
 on_ok (Ok x) f h = f h
 on_ok (Err e) f h = tt
 
+pub on_err : {X F : Type 0} (r : Result X F) {P Q : Type 0} → (P → Q) → OnErr r P → OnErr r Q
+on_err (Ok x) f h = tt
+on_err (Err e) f h = f h
+
+pub if_ok : {X F : Type 0} (r : Result X F) {P Q : X → Type 0} → ((x : X) → P x → Q x) → IfOk r P → IfOk r Q
+if_ok (Ok x) f h = f x h
+if_ok (Err e) f h = tt
+
 pub on_err_always : {X F : Type 0} (r : Result X F) {P : Type 0} → P → OnErr r P
 on_err_always (Ok x) p = tt
 on_err_always (Err e) p = p
@@ -58,7 +66,7 @@ module _ {C S P A R E : Type 0} (files : FileSystem.Ghosts S) (process : Process
 
     -- one reading is made
     pub reads_one : IsReadingOf files process clone defaults job (spec item.value) (outcome q.outcome) → AreClones clone.is_clone (children_of (outcome q.outcome)) (map spec children)
-      → ReadsSome files process clone defaults job 1 (to_give b []) (to_give c [])
+        → ReadsSome files process clone defaults job 1 (to_give b []) (to_give c [])
     reads_one reading clones =
         let taken : to_give m (addressed item ∷ []) ≡ to_give b [] = gives-taken spec spec_of b m item [] whole t in
         let made = gives-finished spec spec_of m c (addressed item) [] q children whole_m whole_c held_m f (ap spec of) in

@@ -1,16 +1,19 @@
 -- A walk over a board, as a value.
-use Rattle.std.specs.Prelude.{◌≡◌, ℕ, false, Option, None, Some, List, [], All}
+use Rattle.std.specs.Prelude.{◌≡◌, ◌≤◌, ◌+◌, ℕ, false, Option, None, Some, List, [], length, All}
 use Rattle.std.specs.declared.clone.Clone as Clone
 use Rattle.std.specs.declared.default.Default as Default
-use Rattle.walk_model.specs.ReadDir.{Spec}
+use Rattle.walk_model.specs.ReadDir.{Spec, Outcome}
 use Rattle.walk_fs.specs.declared.file_system.FileSystem as FileSystem
+use Rattle.jwalk_order.specs.Frontier.{next_address}
 use Rattle.jwalk_board.specs.Board.{Board}
 use Rattle.jwalk_read.specs.declared.process_read_dir.ProcessReadDir as ProcessReadDir
 use Rattle.jwalk_read.specs.declared.read_dir_spec.ReadDirSpec.{ReadDirSpec}
 use Rattle.jwalk_read.specs.declared.job.Job.{Job}
+use Rattle.jwalk_read.specs.ReadDir.{outcome}
 use Rattle.jwalk_engine.specs.declared.read.Read.{Read}
-use Rattle.jwalk_engine.specs.ToGive.{ToGive}
-use Rattle.jwalk_engine.specs.Reads.{to_give, IsSound}
+use Rattle.jwalk_engine.specs.ToGive.{ToGive, HandsOn}
+use Rattle.jwalk_engine.specs.Reads.{spec_of, to_give, IsSound, ReadsSome, ReadsNext}
+use Rattle.jwalk_engine.specs.ReadAhead.{ReadAhead, nothing_ahead, ahead_on, HandsOnAt, ReadsLeast, EntersNext}
 
 -- What it reads with, how many directories are read together, and its board, which is gone once it was stopped.
 pub record BoardWalk (C S P A R E : Type 0) : Type 0 where
@@ -23,6 +26,31 @@ abbrev pub left_on : {C A R E : Type 0} → Option (Board (ReadDirSpec C A R E) 
 left_on None = record { to_read = []; made = [] }
 left_on (Some b) = to_give b []
 
+-- what it has read ahead: nothing once it was stopped
+abbrev pub ahead_of : {C A R E : Type 0} → Option (Board (ReadDirSpec C A R E) (Read C A R E)) → ReadAhead R
+ahead_of None = nothing_ahead
+ahead_of (Some b) = ahead_on b
+
+-- the address that it enters next, the empty one where there is none
+abbrev pub entered_next : {C A R E : Type 0} → Option (Board (ReadDirSpec C A R E) (Read C A R E)) → List ℕ
+entered_next None = []
+entered_next (Some b) = next_address b.frontier
+
+module _ {C A R E : Type 0} where
+  -- The reading at the next address is handed on.
+  pub record HandsOnNext (old : Board (ReadDirSpec C A R E) (Read C A R E)) (given : Outcome R E) (new : Board (ReadDirSpec C A R E) (Read C A R E)) : Type 0 where
+    pub read : Read C A R E
+    pub of : outcome read.outcome ≡ given
+    pub hands_on : HandsOn spec_of (to_give old []) read (to_give new [])
+    pub at : HandsOnAt (next_address old.frontier) (ahead_on old) (ahead_on new)
+    pub none_in_hand : new.in_hand ≡ []
+    pub running : new.stopped ≡ false
+
+  -- It is handed on, or nothing is left to be read and all stays as it is.
+  abbrev pub HandsOnIfAny : Board (ReadDirSpec C A R E) (Read C A R E) → Option (Outcome R E) → Board (ReadDirSpec C A R E) (Read C A R E) → Type 0
+  HandsOnIfAny old (Some given) new = HandsOnNext old given new
+  HandsOnIfAny old None new = (old.frontier ≡ []) × (new ≡ old)
+
 module _ {C S P A R E : Type 0} (w : BoardWalk C S P A R E) where
   -- the specifications whose readings are still to be given, the next one first; those below them aren't among them
   abbrev pub to_read : List (Spec R)
@@ -32,9 +60,32 @@ module _ {C S P A R E : Type 0} (w : BoardWalk C S P A R E) where
   abbrev pub early_of : List (Read C A R E × List (Spec R))
   early_of = (left_on w.board).made
 
+  -- what is queued and what is done
+  abbrev pub read_ahead : ReadAhead R
+  read_ahead = ahead_of w.board
+
+  -- the address of the next reading
+  abbrev pub next_of : List ℕ
+  next_of = entered_next w.board
+
 module _ {C S P A R E : Type 0} (files : FileSystem.Ghosts S) (process : ProcessReadDir.Ghosts P C A R E) (clone : Clone.Ghosts R) (defaults : Default.Ghosts E) where
   -- What holds of a board between calls: it is running, nothing is in hand, and what is ready is sound.
   pub record Keeps (job : Job C S P A R E) (b : Board (ReadDirSpec C A R E) (Read C A R E)) : Type 0 where
     pub running : b.stopped ≡ false
     pub none_in_hand : b.in_hand ≡ []
     pub sound : All (IsSound files process clone defaults job) (to_give b []).made
+
+  -- Some of the least directories are read, so many at most, and nothing is handed on.
+  pub record ReadsBatch (job : Job C S P A R E) (width : ℕ) (old new : Board (ReadDirSpec C A R E) (Read C A R E)) : Type 0 where
+    pub reads : ReadsSome files process clone defaults job width (to_give old []) (to_give new [])
+    pub least : ReadsLeast files process clone defaults job width (ahead_on old) (ahead_on new)
+    pub frontier : new.frontier ≡ old.frontier
+    pub none_in_hand : new.in_hand ≡ []
+    pub running : new.stopped ≡ false
+
+  -- One call answers and goes on.
+  pub record GoesOn (job : Job C S P A R E) (width : ℕ) (old : Board (ReadDirSpec C A R E) (Read C A R E)) (answer : Option (Outcome R E)) (new : Board (ReadDirSpec C A R E) (Read C A R E)) : Type 0 where
+    pub keeps : Keeps job new
+    pub ahead : length (to_give new []).made + 1 ≤ length (to_give old []).made + width
+    pub next : ReadsNext files process clone defaults job (to_give old []).to_read answer (to_give new []).to_read
+    pub enters : EntersNext files process clone defaults job width (next_address old.frontier) (ahead_on old) answer (ahead_on new)

@@ -1,11 +1,13 @@
 //! Directories that are taken, read and finished, one or several together.
-ghost use Rattle.std.specs.Prelude.{◌≡◌, [], false, length, min, map, IfOk, OnOk, All};
+ghost use Rattle.std.specs.Prelude.{◌≡◌, [], false, length, min, map, Ok, IfOk, OnOk, All};
 ghost use Rattle.std.specs.List.{AllZip};
 ghost use Rattle.jwalk_order.specs.Ordered.{child_count_of};
 ghost use Rattle.jwalk_read.specs.Job.{callback};
 ghost use Rattle.jwalk_engine.specs.ToGive.{IsHeld, MakesAll};
-ghost use Rattle.jwalk_engine.specs.Reads.{to_give, ReadsSome};
-ghost use Rattle.jwalk_engine.specs.Batch.{hand_of, held_by, with_children, IsMadeOf};
+ghost use Rattle.jwalk_engine.specs.Reads.{to_give};
+ghost use Rattle.jwalk_engine.specs.ReadAhead.{ahead_on, LeastLeave, Joins};
+ghost use Rattle.jwalk_engine.specs.Batch.{hand_of, held_by, with_children, made_at, seen_taken, IsMadeOf, MakesOf};
+ghost use Rattle.jwalk_engine.specs.BoardWalk.{ReadsBatch};
 
 use crate::read::{Read, directories_of, finish};
 use jwalk_board::board::{Board, TakeRefusal};
@@ -15,10 +17,18 @@ use jwalk_read::client_state::ClientState;
 use jwalk_read::job::Job;
 use jwalk_read::process_read_dir::ProcessReadDir;
 use jwalk_read::read_dir_spec::ReadDirSpec;
+use rayon::prelude::*;
 use std::alloc::{AllocError, Allocator};
+use std::thread::Threads;
 use walk_fs::file_system::FileSystem;
 
-/// A reading that was taken from the board and isn't finished yet: where it stands, what came of it, and the directories
+/// How few readings are worth a thread: to start one costs as much as to read some small directories of a disk.
+const LEAST_PIECE: usize = 4;
+
+/// Into how many pieces a batch is split at most: each starts a thread of its own, which no pool keeps.
+const MOST_PIECES: usize = 8;
+
+/// A directory that was taken and read, and isn't finished yet: where it stands, what came of it, and the directories
 /// below it.
 #[derive(Drop)]
 pub(crate) struct Made<C: ClientState, A: Allocator + Copy> {
@@ -39,6 +49,8 @@ pub(crate) fn take_batch<C: ClientState, A: Allocator + Copy>(
     ensures held { IfOk result (λ v. IsHeld board.new (hand_of v.items)) }
     ensures unread { IfOk result (λ v. All (λ item. child_count_of item ≡ 0) v.items) }
     ensures same { IfOk result (λ v. to_give board.new (hand_of v.items) ≡ to_give board.old []) }
+    ensures least { IfOk result (λ v. LeastLeave (map seen_taken v.items) (ahead_on board.old) (ahead_on board.new)) }
+    ensures frontier { OnOk result (board.new.frontier ≡ board.old.frontier) }
     ensures running { OnOk result (board.new.stopped ≡ false) }
 {
     let count = width.min(board.queued());
@@ -101,6 +113,82 @@ pub(crate) fn read_in_turn<
     Ok(made)
 }
 
+/// Reads the directories that were taken, each by itself, on several threads where there are enough of them. What came
+/// of each is there, also where another was refused memory.
+fn read_each_on<
+    R: Threads + Sync,
+    C: ClientState + Send,
+    S: FileSystem + Send + Sync,
+    P: ProcessReadDir<C, A> + Send + Sync,
+    A: Allocator + Copy + Send + Sync,
+>(
+    rt: &R,
+    alloc: A,
+    job: &Job<C, S, P, A>,
+    taken: Vec<Ordered<ReadDirSpec<C, A>, A>, A>,
+) -> Result<Vec<Result<Made<C, A>, AllocError>, A>, AllocError>
+where
+    C::ReadDirState: Send,
+    C::DirEntryState: Send,
+    requires { P.IsLawful (callback job.now) }
+    ensures { IfOk result (λ v. AllZip (MakesOf S.FileSystem P.ProcessReadDir C.ReadDirState.Clone
+        C.DirEntryState.Default job.now) taken.items v.items) }
+{
+    let piece = taken.len().div_ceil(MOST_PIECES).max(LEAST_PIECE);
+    taken
+        .into_par_iter()
+        .with_min_len(piece)
+        .map(
+            |item: Ordered<ReadDirSpec<C, A>, A>| -> Result<Made<C, A>, AllocError>
+                requires { P.IsLawful (callback job.now) }
+                ensures { MakesOf S.FileSystem P.ProcessReadDir C.ReadDirState.Clone C.DirEntryState.Default
+                    job.entry.now item result }
+            { make(alloc, job, item) },
+        )
+        .collect(rt, alloc)
+}
+
+/// What was made, unless one of them was refused memory.
+fn all_made<C: ClientState, A: Allocator + Copy>(
+    alloc: A,
+    results: Vec<Result<Made<C, A>, AllocError>, A>,
+) -> Result<Vec<Made<C, A>, A>, AllocError>
+    ensures { IfOk result (λ v. map Ok v.items ≡ results.items) }
+{
+    let mut made = Vec::with_capacity(alloc, results.len())?;
+    for one in results {
+        made.push(one?)?;
+    }
+    Ok(made)
+}
+
+/// Reads the directories that were taken, on several threads where there are enough of them.
+pub(crate) fn read_on_threads<
+    R: Threads + Sync,
+    C: ClientState + Send,
+    S: FileSystem + Send + Sync,
+    P: ProcessReadDir<C, A> + Send + Sync,
+    A: Allocator + Copy + Send + Sync,
+>(
+    rt: &R,
+    alloc: A,
+    job: &Job<C, S, P, A>,
+    taken: Vec<Ordered<ReadDirSpec<C, A>, A>, A>,
+) -> Result<Vec<Made<C, A>, A>, AllocError>
+where
+    C::ReadDirState: Send,
+    C::DirEntryState: Send,
+    requires { P.IsLawful (callback job.now) }
+    ensures { IfOk result (λ v. AllZip (IsMadeOf S.FileSystem P.ProcessReadDir C.ReadDirState.Clone
+        C.DirEntryState.Default job.now) taken.items v.items) }
+{
+    if taken.len() < 2 * LEAST_PIECE {
+        return read_in_turn(alloc, job, taken);
+    }
+    let results = read_each_on(rt, alloc, job, taken)?;
+    all_made(alloc, results)
+}
+
 /// Finishes what was made, the last first, so that the directories below come in order of their addresses.
 pub(crate) fn finish_batch<C: ClientState, A: Allocator + Copy>(
     board: &mut Board<ReadDirSpec<C, A>, Read<C, A>, A>,
@@ -110,6 +198,8 @@ pub(crate) fn finish_batch<C: ClientState, A: Allocator + Copy>(
     requires running { board.old.stopped ≡ false }
     ensures made { OnOk result (MakesAll (map with_children made.items)
         (to_give board.old (held_by made.items)) (to_give board.new [])) }
+    ensures join { OnOk result (Joins (map made_at made.items) (ahead_on board.old) (ahead_on board.new)) }
+    ensures frontier { OnOk result (board.new.frontier ≡ board.old.frontier) }
     ensures held { OnOk result (IsHeld board.new []) }
     ensures running { OnOk result (board.new.stopped ≡ false) }
 {
@@ -135,18 +225,49 @@ pub(crate) fn read_batch<
     requires lawful { P.IsLawful (callback job.now) }
     requires none_in_hand { board.old.in_hand ≡ [] }
     requires running { board.old.stopped ≡ false }
-    ensures reads { OnOk result (ReadsSome S.FileSystem P.ProcessReadDir C.ReadDirState.Clone C.DirEntryState.Default
-        job.now width (to_give board.old []) (to_give board.new [])) }
-    ensures none_in_hand { OnOk result (board.new.in_hand ≡ []) }
-    ensures running { OnOk result (board.new.stopped ≡ false) }
+    ensures { OnOk result (ReadsBatch S.FileSystem P.ProcessReadDir C.ReadDirState.Clone C.DirEntryState.Default
+        job.now width board.old board.new) }
 {
     let taken = take_batch(alloc, board, width)?;
     let made = read_in_turn(alloc, job, taken)?;
     finish_batch(board, made)
 }
 
+/// Takes a batch of the least specifications, reads their directories on several threads, and finishes them all.
+pub(crate) fn read_batch_on<
+    R: Threads + Sync,
+    C: ClientState + Send,
+    S: FileSystem + Send + Sync,
+    P: ProcessReadDir<C, A> + Send + Sync,
+    A: Allocator + Copy + Send + Sync,
+>(
+    rt: &R,
+    alloc: A,
+    job: &Job<C, S, P, A>,
+    board: &mut Board<ReadDirSpec<C, A>, Read<C, A>, A>,
+    width: usize,
+) -> Result<(), AllocError>
+where
+    C::ReadDirState: Send,
+    C::DirEntryState: Send,
+    requires lawful { P.IsLawful (callback job.now) }
+    requires none_in_hand { board.old.in_hand ≡ [] }
+    requires running { board.old.stopped ≡ false }
+    ensures { OnOk result (ReadsBatch S.FileSystem P.ProcessReadDir C.ReadDirState.Clone C.DirEntryState.Default
+        job.now width board.old board.new) }
+{
+    let taken = take_batch(alloc, board, width)?;
+    let made = read_on_threads(rt, alloc, job, taken)?;
+    finish_batch(board, made)
+}
+
 /// Takes the least specification, reads its directory and finishes it. Does nothing where none is queued.
-pub(crate) fn read_least<C: ClientState, S: FileSystem, P: ProcessReadDir<C, A>, A: Allocator + Copy>(
+pub(crate) fn read_least<
+    C: ClientState,
+    S: FileSystem,
+    P: ProcessReadDir<C, A>,
+    A: Allocator + Copy,
+>(
     alloc: A,
     job: &Job<C, S, P, A>,
     board: &mut Board<ReadDirSpec<C, A>, Read<C, A>, A>,
@@ -154,23 +275,18 @@ pub(crate) fn read_least<C: ClientState, S: FileSystem, P: ProcessReadDir<C, A>,
     requires lawful { P.IsLawful (callback job.now) }
     requires none_in_hand { board.old.in_hand ≡ [] }
     requires running { board.old.stopped ≡ false }
-    ensures reads { OnOk result (ReadsSome S.FileSystem P.ProcessReadDir C.ReadDirState.Clone C.DirEntryState.Default
-        job.now 1 (to_give board.old []) (to_give board.new [])) }
-    ensures none_in_hand { OnOk result (board.new.in_hand ≡ []) }
-    ensures running { OnOk result (board.new.stopped ≡ false) }
+    ensures { OnOk result (ReadsBatch S.FileSystem P.ProcessReadDir C.ReadDirState.Clone C.DirEntryState.Default
+        job.now 1 board.old board.new) }
 {
     let _pending = board.pending();
     let item = match board.take() {
         Ok(item) => item,
         Err(TakeRefusal::Memory) => return Err(AllocError),
-        Err(_) => return Ok(()),
+        Err(TakeRefusal::Done) => return Ok(()),
+        // Nothing is in hand, and nothing stops the board.
+        Err(TakeRefusal::Empty) => unreachable!(),
+        Err(TakeRefusal::Stopped) => unreachable!(),
     };
-    let Ordered {
-        value: of,
-        index_path: address,
-        ..
-    } = item;
-    let outcome = job.read_one(&of)?;
-    let children = directories_of(alloc, &outcome)?;
-    finish(board, address, Read { of, outcome }, children)
+    let made = make(alloc, job, item)?;
+    finish(board, made.address, made.read, made.children)
 }

@@ -1,13 +1,15 @@
 //! Readings of directories in preorder.
-ghost use Rattle.std.specs.Prelude.{◌≡◌, ◌≢◌, ◌≤◌, ◌+◌, [], false, length, map, IfOk, IfErr, OnOk, OnErr, option_map};
+ghost use Rattle.std.specs.Prelude.{◌≡◌, ◌≢◌, ◌≤◌, ◌+◌, [], false, length, map, option_map};
+ghost use Rattle.std.specs.Prelude.{IfOk, IfErr, IfSome, IfNone, OnOk, OnErr};
 ghost use Rattle.jwalk_board.specs.Refusal.{RefusesHandOut};
+ghost use Rattle.jwalk_board.specs.declared.board.refusal.HandOutRefusal.TheVariants.{NotReady};
 ghost use Rattle.jwalk_read.specs.ReadDir.{spec, outcome};
 ghost use Rattle.jwalk_read.specs.Job.{callback};
-ghost use Rattle.jwalk_engine.specs.ToGive.{HandsOn};
-ghost use Rattle.jwalk_engine.specs.Reads.{spec_of, to_give, ReadsSome, ReadsNext};
-ghost use Rattle.jwalk_engine.specs.BoardWalk.{Keeps};
+ghost use Rattle.jwalk_engine.specs.Reads.{to_give, ReadsNext};
+ghost use Rattle.jwalk_engine.specs.ReadAhead.{nothing_ahead, BeginsWith, EntersNext};
+ghost use Rattle.jwalk_engine.specs.BoardWalk.{Keeps, ReadsBatch, HandsOnNext, HandsOnIfAny, GoesOn};
 
-use crate::batch::{read_batch, read_least};
+use crate::batch::{read_batch, read_batch_on, read_least};
 use crate::read::{Outcome, Read};
 use jwalk_board::board::{Board, HandOutRefusal};
 use jwalk_read::client_state::ClientState;
@@ -16,22 +18,43 @@ use jwalk_read::process_read_dir::ProcessReadDir;
 use jwalk_read::read_dir_spec::ReadDirSpec;
 use std::alloc::{AllocError, Allocator, Global};
 use std::marker::Model;
+use std::thread::Threads;
 use walk_fs::file_system::FileSystem;
 
 /// Hands on the next reading, if it is ready.
 fn hand_on<C: ClientState, A: Allocator + Copy>(
     board: &mut Board<ReadDirSpec<C, A>, Read<C, A>, A>,
-) -> Result<Read<C, A>, HandOutRefusal>
+) -> Result<Outcome<C, A>, HandOutRefusal>
     requires { board.old.in_hand ≡ [] }
-    ensures hands_on { IfOk result (λ q. HandsOn spec_of (to_give board.old []) q (to_give board.new [])) }
-    ensures running { OnOk result (board.new.stopped ≡ false) }
-    ensures none_in_hand { OnOk result (board.new.in_hand ≡ []) }
+    ensures hands_on { IfOk result (λ o. HandsOnNext board.old (outcome o) board.new) }
     ensures refused { IfErr result (RefusesHandOut board.old) }
     ensures unchanged { OnErr result (board.new ≡ board.old) }
 {
     let _pending = board.pending();
     let item = board.hand_out()?;
-    Ok(item.value)
+    Ok(item.value.outcome)
+}
+
+/// What a walk answers without a reading that isn't made yet: none of it where such a reading is next.
+fn answer_ready<C: ClientState, A: Allocator + Copy>(
+    board: &mut Board<ReadDirSpec<C, A>, Read<C, A>, A>,
+) -> Option<Result<Option<Outcome<C, A>>, AllocError>>
+    requires none_in_hand { board.old.in_hand ≡ [] }
+    requires running { board.old.stopped ≡ false }
+    ensures answer { IfSome result (λ answer. IfOk answer (λ o. HandsOnIfAny board.old (option_map outcome o)
+        board.new)) }
+    ensures some { IfSome result (λ answer. OnErr answer (board.old.frontier ≢ [])) }
+    ensures unread { IfNone result (RefusesHandOut board.old NotReady) }
+    ensures unchanged { IfNone result (board.new ≡ board.old) }
+{
+    match hand_on(board) {
+        Ok(outcome) => Some(Ok(Some(outcome))),
+        Err(HandOutRefusal::Done) => Some(Ok(None)),
+        Err(HandOutRefusal::NotReady) => None,
+        Err(HandOutRefusal::Memory) => Some(Err(AllocError)),
+        // Nothing stops the board.
+        Err(HandOutRefusal::Stopped) => unreachable!(),
+    }
 }
 
 /// Reads so many of the least directories, or all if there are fewer. One alone is read without a list.
@@ -44,15 +67,43 @@ fn read_some<C: ClientState, S: FileSystem, P: ProcessReadDir<C, A>, A: Allocato
     requires lawful { P.IsLawful (callback job.now) }
     requires none_in_hand { board.old.in_hand ≡ [] }
     requires running { board.old.stopped ≡ false }
-    ensures reads { OnOk result (ReadsSome S.FileSystem P.ProcessReadDir C.ReadDirState.Clone C.DirEntryState.Default
-        job.now width (to_give board.old []) (to_give board.new [])) }
-    ensures none_in_hand { OnOk result (board.new.in_hand ≡ []) }
-    ensures running { OnOk result (board.new.stopped ≡ false) }
+    ensures { OnOk result (ReadsBatch S.FileSystem P.ProcessReadDir C.ReadDirState.Clone C.DirEntryState.Default
+        job.now width board.old board.new) }
 {
     if width == 1 {
         read_least(alloc, job, board)
     } else {
         read_batch(alloc, job, board, width)
+    }
+}
+
+/// The same on several threads, where there are enough.
+fn read_some_on<
+    R: Threads + Sync,
+    C: ClientState + Send,
+    S: FileSystem + Send + Sync,
+    P: ProcessReadDir<C, A> + Send + Sync,
+    A: Allocator + Copy + Send + Sync,
+>(
+    rt: &R,
+    alloc: A,
+    job: &Job<C, S, P, A>,
+    board: &mut Board<ReadDirSpec<C, A>, Read<C, A>, A>,
+    width: usize,
+) -> Result<(), AllocError>
+where
+    C::ReadDirState: Send,
+    C::DirEntryState: Send,
+    requires lawful { P.IsLawful (callback job.now) }
+    requires none_in_hand { board.old.in_hand ≡ [] }
+    requires running { board.old.stopped ≡ false }
+    ensures { OnOk result (ReadsBatch S.FileSystem P.ProcessReadDir C.ReadDirState.Clone C.DirEntryState.Default
+        job.now width board.old board.new) }
+{
+    if width == 1 {
+        read_least(alloc, job, board)
+    } else {
+        read_batch_on(rt, alloc, job, board, width)
     }
 }
 
@@ -67,27 +118,53 @@ fn read_next<C: ClientState, S: FileSystem, P: ProcessReadDir<C, A>, A: Allocato
     requires keeps { Keeps S.FileSystem P.ProcessReadDir C.ReadDirState.Clone C.DirEntryState.Default
         job.now board.old }
     requires width { 1 ≤ width }
-    ensures keeps { OnOk result (Keeps S.FileSystem P.ProcessReadDir C.ReadDirState.Clone C.DirEntryState.Default
-        job.now board.new) }
     ensures some { OnErr result ((to_give board.old []).to_read ≢ []) }
-    ensures ahead { OnOk result (length (to_give board.new []).made + 1
-        ≤ length (to_give board.old []).made + width) }
-    ensures next { IfOk result (λ o. ReadsNext S.FileSystem P.ProcessReadDir C.ReadDirState.Clone
-        C.DirEntryState.Default job.now
-        (to_give board.old []).to_read (option_map outcome o) (to_give board.new []).to_read) }
+    ensures goes_on { IfOk result (λ o. GoesOn S.FileSystem P.ProcessReadDir C.ReadDirState.Clone
+        C.DirEntryState.Default job.now width board.old (option_map outcome o) board.new) }
 {
     let _pending = board.pending();
-    match hand_on(board) {
-        Ok(read) => return Ok(Some(read.outcome)),
-        Err(HandOutRefusal::Done) => return Ok(None),
-        Err(HandOutRefusal::NotReady) => {}
-        Err(HandOutRefusal::Memory) => return Err(AllocError),
-        // Nothing stops the board.
-        Err(HandOutRefusal::Stopped) => unreachable!(),
+    if let Some(answer) = answer_ready(board) {
+        return answer;
     }
     read_some(alloc, job, board, width)?;
     match hand_on(board) {
-        Ok(read) => Ok(Some(read.outcome)),
+        Ok(outcome) => Ok(Some(outcome)),
+        Err(_) => Err(AllocError),
+    }
+}
+
+/// The same, with the directories read on several threads.
+fn read_next_on<
+    R: Threads + Sync,
+    C: ClientState + Send,
+    S: FileSystem + Send + Sync,
+    P: ProcessReadDir<C, A> + Send + Sync,
+    A: Allocator + Copy + Send + Sync,
+>(
+    rt: &R,
+    alloc: A,
+    job: &Job<C, S, P, A>,
+    board: &mut Board<ReadDirSpec<C, A>, Read<C, A>, A>,
+    width: usize,
+) -> Result<Option<Outcome<C, A>>, AllocError>
+where
+    C::ReadDirState: Send,
+    C::DirEntryState: Send,
+    requires lawful { P.IsLawful (callback job.now) }
+    requires keeps { Keeps S.FileSystem P.ProcessReadDir C.ReadDirState.Clone C.DirEntryState.Default
+        job.now board.old }
+    requires width { 1 ≤ width }
+    ensures some { OnErr result ((to_give board.old []).to_read ≢ []) }
+    ensures goes_on { IfOk result (λ o. GoesOn S.FileSystem P.ProcessReadDir C.ReadDirState.Clone
+        C.DirEntryState.Default job.now width board.old (option_map outcome o) board.new) }
+{
+    let _pending = board.pending();
+    if let Some(answer) = answer_ready(board) {
+        return answer;
+    }
+    read_some_on(rt, alloc, job, board, width)?;
+    match hand_on(board) {
+        Ok(outcome) => Ok(Some(outcome)),
         Err(_) => Err(AllocError),
     }
 }
@@ -128,11 +205,56 @@ impl<C: ClientState, S: FileSystem, P: ProcessReadDir<C, A>, A: Allocator + Copy
     P,
     A,
 > {
-    ghost use Rattle.jwalk_engine.specs.BoardWalk.{to_read, early_of};
+    ghost use Rattle.jwalk_engine.specs.BoardWalk.{to_read, early_of, read_ahead, next_of};
+
+    /// A walk with nothing to read yet, which is to read so many directories together.
+    pub fn new(alloc: A, job: Job<C, S, P, A>, width: usize) -> Self
+        requires { 1 ≤ width }
+        ensures job { result.job ≡ job }
+        ensures width { result.width ≡ width }
+        ensures to_read { to_read result ≡ [] }
+        ensures early { early_of result ≡ [] }
+        ensures read_ahead { read_ahead result ≡ nothing_ahead }
+    {
+        BoardWalk {
+            alloc,
+            job,
+            width,
+            board: None,
+        }
+    }
+
+    /// Begins anew, with these directories to read and what is below them.
+    ///
+    /// # Errors
+    ///
+    /// If memory runs out. Nothing is left to be read then.
+    pub fn begin(&mut self, roots: Vec<ReadDirSpec<C, A>, A>) -> Result<(), AllocError>
+        ensures job { self.new.job ≡ self.old.job }
+        ensures width { self.new.width ≡ self.old.width }
+        ensures to_read { OnOk result (to_read self.new ≡ map spec roots.items) }
+        ensures early { early_of self.new ≡ [] }
+        ensures read_ahead { OnOk result (BeginsWith (map spec roots.items) (read_ahead self.new)) }
+        ensures stopped { OnErr result (to_read self.new ≡ []) }
+        ensures nothing_ahead { OnErr result (read_ahead self.new ≡ nothing_ahead) }
+    {
+        match Board::new(roots) {
+            Ok(board) => {
+                self.board = Some(board);
+                Ok(())
+            }
+            Err(_) => {
+                self.board = None;
+                Err(AllocError)
+            }
+        }
+    }
 
     /// A walk that is to read these directories and what is below them, so many together.
     ///
-    /// Fails only for want of memory.
+    /// # Errors
+    ///
+    /// If memory runs out.
     pub fn try_new(
         alloc: A,
         job: Job<C, S, P, A>,
@@ -144,16 +266,11 @@ impl<C: ClientState, S: FileSystem, P: ProcessReadDir<C, A>, A: Allocator + Copy
         ensures width { IfOk result (λ walk. walk.width ≡ width) }
         ensures to_read { IfOk result (λ walk. to_read walk ≡ map spec roots.items) }
         ensures early { IfOk result (λ walk. early_of walk ≡ []) }
+        ensures read_ahead { IfOk result (λ walk. BeginsWith (map spec roots.items) (read_ahead walk)) }
     {
-        let Ok(board) = Board::new(roots) else {
-            return Err(AllocError);
-        };
-        Ok(BoardWalk {
-            alloc,
-            job,
-            width,
-            board: Some(board),
-        })
+        let mut walk = BoardWalk::new(alloc, job, width);
+        walk.begin(roots)?;
+        Ok(walk)
     }
 
     /// What it reads with.
@@ -163,32 +280,42 @@ impl<C: ClientState, S: FileSystem, P: ProcessReadDir<C, A>, A: Allocator + Copy
         &self.job
     }
 
-    /// The next reading.
+    /// The next reading, or none where all was read. Where it isn't made yet, the least of the unread directories are
+    /// read, as many as are read together, one after another.
     ///
-    /// Fails only for want of memory, met by any of the readings that are made together; then nothing is left to be read.
+    /// # Errors
+    ///
+    /// If any of these readings meets a want of memory. Nothing is left to be read then.
     pub fn read_next(&mut self) -> Result<Option<Outcome<C, A>>, AllocError>
         requires { P.IsLawful (callback self.old.job) }
         ensures job { self.new.job ≡ self.old.job }
         ensures width { self.new.width ≡ self.old.width }
         ensures ahead { length (early_of self.new) + 1 ≤ length (early_of self.old) + self.old.width }
         ensures stopped { OnErr result (to_read self.new ≡ []) }
+        ensures nothing_ahead { OnErr result (read_ahead self.new ≡ nothing_ahead) }
         ensures some { OnErr result (to_read self.old ≢ []) }
         ensures next { IfOk result (λ o. ReadsNext S.FileSystem P.ProcessReadDir C.ReadDirState.Clone
             C.DirEntryState.Default self.old.job (to_read self.old) (option_map outcome o) (to_read self.new)) }
+        ensures enters { IfOk result (λ o. EntersNext S.FileSystem P.ProcessReadDir C.ReadDirState.Clone
+            C.DirEntryState.Default self.old.job self.old.width (next_of self.old) (read_ahead self.old)
+            (option_map outcome o) (read_ahead self.new)) }
     {
         let Some(board) = &mut self.board else {
             return Ok(None);
         };
-        let read = read_next(self.alloc, &self.job, board, self.width);
-        if read.is_err() {
-            self.board = None;
+        match read_next(self.alloc, &self.job, board, self.width) {
+            Ok(read) => Ok(read),
+            Err(refused) => {
+                self.board = None;
+                Err(refused)
+            }
         }
-        read
     }
 
     /// How many readings were made and not handed on.
     pub fn ahead(&self) -> usize
-        ensures { result ≡ length (early_of self.now) }
+        ensures early { result ≡ length (early_of self.now) }
+        ensures done { result ≡ length (read_ahead self.now).done }
     {
         match &self.board {
             Some(board) => board.ready(),
@@ -201,7 +328,56 @@ impl<C: ClientState, S: FileSystem, P: ProcessReadDir<C, A>, A: Allocator + Copy
         ensures job { self.new.job ≡ self.old.job }
         ensures to_read { to_read self.new ≡ [] }
         ensures early { early_of self.new ≡ [] }
+        ensures read_ahead { read_ahead self.new ≡ nothing_ahead }
     {
         self.board = None;
+    }
+}
+
+impl<
+    C: ClientState + Send,
+    S: FileSystem + Send + Sync,
+    P: ProcessReadDir<C, A> + Send + Sync,
+    A: Allocator + Copy + Send + Sync,
+> BoardWalk<C, S, P, A>
+where
+    C::ReadDirState: Send,
+    C::DirEntryState: Send,
+{
+    ghost use Rattle.jwalk_engine.specs.BoardWalk.{to_read, early_of, read_ahead, next_of};
+
+    /// The same as [`read_next`](BoardWalk::read_next), with the directories read on several threads where there are
+    /// enough of them to be worth it.
+    ///
+    /// # Errors
+    ///
+    /// If any of these readings meets a want of memory. Nothing is left to be read then.
+    pub fn read_next_on<R: Threads + Sync>(
+        &mut self,
+        rt: &R,
+    ) -> Result<Option<Outcome<C, A>>, AllocError>
+        requires { P.IsLawful (callback self.old.job) }
+        ensures job { self.new.job ≡ self.old.job }
+        ensures width { self.new.width ≡ self.old.width }
+        ensures ahead { length (early_of self.new) + 1 ≤ length (early_of self.old) + self.old.width }
+        ensures stopped { OnErr result (to_read self.new ≡ []) }
+        ensures nothing_ahead { OnErr result (read_ahead self.new ≡ nothing_ahead) }
+        ensures some { OnErr result (to_read self.old ≢ []) }
+        ensures next { IfOk result (λ o. ReadsNext S.FileSystem P.ProcessReadDir C.ReadDirState.Clone
+            C.DirEntryState.Default self.old.job (to_read self.old) (option_map outcome o) (to_read self.new)) }
+        ensures enters { IfOk result (λ o. EntersNext S.FileSystem P.ProcessReadDir C.ReadDirState.Clone
+            C.DirEntryState.Default self.old.job self.old.width (next_of self.old) (read_ahead self.old)
+            (option_map outcome o) (read_ahead self.new)) }
+    {
+        let Some(board) = &mut self.board else {
+            return Ok(None);
+        };
+        match read_next_on(rt, self.alloc, &self.job, board, self.width) {
+            Ok(read) => Ok(read),
+            Err(refused) => {
+                self.board = None;
+                Err(refused)
+            }
+        }
     }
 }

@@ -33,7 +33,7 @@ use crate::sorting::in_order;
 use std::alloc::{AllocError, Allocator, Global};
 use std::io;
 use std::marker::PhantomData;
-use std::sync::Arc;
+use std::sync::{Arc, Mutex};
 use walk_fs::fault::Fault;
 use walk_fs::file_system::FileSystem;
 use walk_fs::listed::Listed;
@@ -52,7 +52,8 @@ pub struct Job<
     process: P,
     options: Options,
     alloc: A,
-    of: PhantomData<C>,
+    // Behind a lock, since a job may be shared where the states themselves may not.
+    of: PhantomData<Mutex<C>>,
 }
 
 /// Whether a name starts with a dot.

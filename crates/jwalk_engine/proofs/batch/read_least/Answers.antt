@@ -1,27 +1,15 @@
-use Rattle.std.proofs.Common.{[], refl, sym, ap, ◌∙◌, subst}
-use Rattle.jwalk_engine.specs.Reads.{to_give, ReadsSome}
-use Rattle.jwalk_engine.proofs.ReadFacts.{reads_none, reads_one, none_left, on_ok}
+use Rattle.std.proofs.Common.{sym, subst}
+use Rattle.jwalk_board.specs.Refusal.{RefusesTake}
+use Rattle.jwalk_engine.specs.BoardWalk.{ReadsBatch}
+use Rattle.jwalk_engine.proofs.AheadFacts.{nothing_read, one_read}
 use Rattle.jwalk_engine.proofs.batch.read_least.Goals as goal
 
-pub returns-in-Err : goal.returns-in-Err
-returns-in-Err g c =
-    let same = c.in-Err.ensures.unchanged in
-    record {
-      reads = subst (λ b. ReadsSome g.S.FileSystem g.P.ProcessReadDir g.C.ReadDirState.Clone g.C.DirEntryState.Default c.args.job.now 1 (to_give c.args.board.now []) (to_give b [])) (sym same) (reads_none _ _ _ _ c.args.job.now 1 (to_give c.args.board.now []));
-      none_in_hand = ap (λ b. b.in_hand) same ∙ c.requires.none_in_hand;
-      running = ap (λ b. b.stopped) same ∙ c.requires.running;
-    }
+pub returns : goal.returns
+returns g c =
+    one_read g.S.FileSystem g.P.ProcessReadDir g.C.ReadDirState.Clone g.C.DirEntryState.Default c.args.job.now c.finish.result c.args.board.now c.take.new.self c.finish.new.board c.in-Ok.item c.in_ok-made.made
+    c.pending-pending.ensures.whole c.requires.none_in_hand c.in-Ok.ensures.taken c.in_ok-made.ensures c.finish.ensures
 
-pub returns-clause-reads : goal.returns-clause-reads
-returns-clause-reads g c =
-    on_ok c.finish.result
-    (λ f. reads_one g.S.FileSystem g.P.ProcessReadDir g.C.ReadDirState.Clone g.C.DirEntryState.Default c.args.job.now c.args.board.now c.take.new.self c.finish.new.board c.in-Ok.item (record { of = c.in-Ok.item.value; outcome = c.in_ok-outcome.outcome }) c.in_ok-children.children.items c.requires.none_in_hand
-    c.pending-pending.ensures.whole c.in-Ok.ensures.taken f refl c.in_ok-outcome.ensures c.in_ok-children.ensures)
-    c.finish.ensures
-
-pub returns-clause-none_in_hand : goal.returns-clause-none_in_hand
-returns-clause-none_in_hand g c =
-    on_ok c.finish.result
-    (λ f. none_left g.S.FileSystem g.P.ProcessReadDir g.C.ReadDirState.Clone g.C.DirEntryState.Default c.args.job.now c.args.board.now c.take.new.self c.finish.new.board c.in-Ok.item (record { of = c.in-Ok.item.value; outcome = c.in_ok-outcome.outcome }) c.in_ok-children.children.items c.requires.none_in_hand
-    c.pending-pending.ensures.whole c.in-Ok.ensures.taken f refl)
-    c.finish.ensures
+pub returns-in-Err-Done : goal.returns-in-Err-Done
+returns-in-Err-Done g c =
+    let refused = subst (RefusesTake c.args.board.now) c.in-Err-Done.field-0-is c.in-Err-Done.ensures.refused in
+    subst (ReadsBatch g.S.FileSystem g.P.ProcessReadDir g.C.ReadDirState.Clone g.C.DirEntryState.Default c.args.job.now 1 c.args.board.now) (sym c.in-Err-Done.ensures.unchanged) (nothing_read g.S.FileSystem g.P.ProcessReadDir g.C.ReadDirState.Clone g.C.DirEntryState.Default c.args.job.now c.args.board.now refused.1 c.requires.none_in_hand c.requires.running)

@@ -1,9 +1,10 @@
-use Rattle.std.proofs.Common.{◌≡◌, ◌≤◌, ◌+◌, [], false, length, min}
+use Rattle.std.proofs.Common.{◌≡◌, ◌≤◌, ◌+◌, [], false, length, map}
 use Rattle.std.specs.Prelude.{All}
 use Rattle.jwalk_order.specs.Ordered.{child_count_of}
 use Rattle.jwalk_engine.specs.ToGive.{IsHeld}
 use Rattle.jwalk_engine.specs.Reads.{to_give}
-use Rattle.jwalk_engine.specs.Batch.{hand_of}
+use Rattle.jwalk_engine.specs.ReadAhead.{ahead_on, LeastLeave}
+use Rattle.jwalk_engine.specs.Batch.{hand_of, seen_taken}
 use Rattle.jwalk_engine.proofs.batch.take_batch.Given as goal
 
 abbrev pub invariant-loop : goal.invariant-loop
@@ -15,5 +16,7 @@ invariant-loop g l = record {
   held : IsHeld l.board (hand_of l.taken.items);
   unread : All (λ item. child_count_of item ≡ 0) l.taken.items;
   same : to_give l.board (hand_of l.taken.items) ≡ to_give l.fn.board [];
+  least : LeastLeave (map seen_taken l.taken.items) (ahead_on l.fn.board) (ahead_on l.board);
+  frontier : l.board.frontier ≡ l.fn.board.frontier;
   running : l.board.stopped ≡ false;
 }

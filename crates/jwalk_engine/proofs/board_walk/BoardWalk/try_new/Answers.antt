@@ -1,8 +1,0 @@
-use Rattle.std.proofs.Common.{ap}
-use Rattle.jwalk_read.specs.ReadDir.{spec}
-use Rattle.jwalk_engine.specs.Reads.{spec_of}
-use Rattle.jwalk_engine.proofs.Steps.{gives-new}
-use Rattle.jwalk_engine.proofs.board_walk.BoardWalk.try_new.Goals as goal
-
-pub returns-clause-to_read : goal.returns-clause-to_read
-returns-clause-to_read g c = ap (λ left. left.to_read) (gives-new spec spec_of c.args.roots.items c.in-Ok.board c.in-Ok.ensures.made)
