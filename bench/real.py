@@ -1,5 +1,6 @@
 #!/usr/bin/env python3
-"""Times `walk` on the real disk beside `find`, and beside `fd` and `bfs` where they are installed.
+"""Times `walk` on the real disk beside `find`, and beside `fd` and `bfs` where they are installed; and in batches beside
+the walk that reads a directory at a time.
 
     python3 bench/real.py [FOLDER [PROGRAM]]
 
@@ -7,7 +8,8 @@ Build the program first: (cd crates/walk && rt run). FOLDER holds the trees that
 none is given). All of a tree's programs take turns, each with its output in a file, and the tree is warm: the first turn
 doesn't count. A time is the best of five turns, and its ratio that of two such times; the ratio of processor times is the
 median of the turns' ratios. A peak of memory is that of the last turn, and no less than this script's own. The walk by name
-of /usr takes turns with the walk in the disk's order. In brackets is what the walk is to take at most.
+of /usr takes turns with the walk in the disk's order. In brackets is what the walk is to take at most. Walks in batches of
+each width take turns with the serial one.
 """
 import os
 import shutil
@@ -19,6 +21,7 @@ from statistics import median
 
 PROGRAM = os.path.join(os.path.dirname(os.path.abspath(__file__)), "..", "crates", "walk", "out", "walk")
 TURNS = 5
+WIDTHS = (1, 4, 16, 64, 256)
 
 
 def wide(folder):
@@ -117,6 +120,20 @@ def by_name(walk, output):
     )
 
 
+def batches(tree, root, walk, output):
+    ways = [[]] + [["--batch", str(width)] for width in WIDTHS]
+    commands = [(" ".join(way) or "serial", [walk, "--hidden", *way, root]) for way in ways]
+    runs, lines = turns(commands, output)
+    if len(set(lines.values())) > 1:
+        sys.exit(f"{tree}: batches print other lines: {lines}")
+    serial = runs["serial"]
+    for name, of in runs.items():
+        print(
+            f"{tree:<6}{name:<12}{best(of) * 1e3:>10.1f}{best(of) / best(serial):>9.2f}"
+            f"{processor_ratio(of, serial):>8.2f}{of[-1][2] / 1024:>8.1f}"
+        )
+
+
 def main():
     folder = sys.argv[1] if len(sys.argv) > 1 else tempfile.mkdtemp(prefix="walk-real-")
     walk = sys.argv[2] if len(sys.argv) > 2 else PROGRAM
@@ -126,6 +143,9 @@ def main():
     for tree, root, bound in trees(folder):
         compare(tree, root, bound, walk, output)
     by_name(walk, output)
+    print(f"{'tree':<6}{'way':<12}{'ms':>10}{'x serial':>9}{'cpu x':>8}{'MiB':>8}")
+    for tree, root, _ in trees(folder):
+        batches(tree, root, walk, output)
     if len(sys.argv) < 2:
         subprocess.run(["rm", "-rf", folder], check=True)
 

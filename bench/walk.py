@@ -1,6 +1,6 @@
 #!/usr/bin/env python3
 """Times `walk --tree` on trees in memory, beside `cat` of the same input and `find` over the same tree on disk; and beside
-itself: by name and in the order of creation, over links and over files, and with links followed.
+itself: by name and in the order of creation, over links and over files, with links followed, and in batches.
 
     python3 bench/walk.py [FOLDER]
 
@@ -8,7 +8,9 @@ Build the program first: (cd crates/walk && rt run). FOLDER holds the inputs and
 where none is given). Each time of a tree is the best of three warm runs with the output in a file, and the peak memory is
 that of the last one. Two walks that are compared take turns: their times are processor times, the medians of 25 turns, and
 so is the ratio of the two of a turn, which a machine that is slow for a while leaves as it is. The walks by name go over
-names that differ early, and over names of 24 bytes whose first 16 are the same.
+names that differ early, and over names of 24 bytes whose first 16 are the same. Walks in batches take turns with the one
+that reads a directory at a time, and print what it prints; both ratios, of the time that passed and of processor times,
+are the medians of nine turns. All times have the reading of the input and the making of the tree in them.
 """
 import os
 import random
@@ -49,6 +51,24 @@ def chain(count):
         yield "d", path
 
 
+def directories(count):
+    """One directory with empty directories alone."""
+    yield "d", "/r"
+    for i in range(count - 1):
+        yield "d", f"/r/dir-{i:07d}"
+
+
+def tenfold(count):
+    """Directories of ten directories each, one level after another."""
+    yield "d", "/r"
+    level, left = ["/r"], count - 1
+    while left > 0:
+        level = [f"{path}/{digit}" for path in level for digit in range(10)][:left]
+        left -= len(level)
+        for path in level:
+            yield "d", path
+
+
 def linked(count):
     """A file, and one directory with links to it."""
     yield "f", "/f"
@@ -69,7 +89,11 @@ TREES = [
     ("bushy", 200_000, bushy, "/r"),
     ("chain", 250, chain, "/a"),
     ("chain", 1_000, chain, "/a"),
+    ("dirs", 200_000, directories, "/r"),
+    ("tenfold", 111_111, tenfold, "/r"),
 ]
+
+WIDTHS = (1, 4, 16, 64, 256)
 
 
 def scrambled(entries):
@@ -146,6 +170,32 @@ def links(folder, output, count=200_000):
     print(f"    4 times the chain takes {times[1] / times[0]:.1f} times the time with links followed")
 
 
+def in_turns(ways, root, listed, output, turns):
+    """The runs of a walk in each way, turn by turn, but for the first turn, which looks whether all print the same."""
+    words = [[PROGRAM, "--tree", *way, root] for way in ways]
+    printed = set()
+    for of in words:
+        run(of, listed, output)
+        with open(output, "rb") as file:
+            printed.add(file.read())
+    if len(printed) > 1:
+        sys.exit(f"{listed}: batches print other lines")
+    return [[run(of, listed, output) for of in words] for _ in range(turns)]
+
+
+def batches(folder, output, turns=9):
+    """Walks in batches beside the walk that reads a directory at a time, of each tree of 100,000 lines or more."""
+    ways = [[]] + [["--batch", str(width)] for width in WIDTHS]
+    print(f"{'tree':<8}{'lines':>9}{'batch':>7}{'x serial':>10}{'cpu x':>8}{'MiB x':>8}")
+    for name, count, _, root in TREES:
+        if count < 100_000:
+            continue
+        rows = in_turns(ways, root, os.path.join(folder, f"{name}-{count}.txt"), output, turns)
+        for way, width in enumerate(WIDTHS, 1):
+            passed, cpu, memory = (median(turn[way][part] / turn[0][part] for turn in rows) for part in range(3))
+            print(f"{name:<8}{count:>9}{width:>7}{passed:>10.2f}{cpu:>8.2f}{memory:>8.2f}")
+
+
 def on_disk(folder, entries):
     for letter, path in entries:
         if letter == "d":
@@ -182,6 +232,7 @@ def main():
     sorting(folder, output, "scrambled", "file-{:07d}")
     sorting(folder, output, "scrambled and alike", "file-of-archive-{:08d}")
     links(folder, output)
+    batches(folder, output)
     if len(sys.argv) < 2:
         subprocess.run(["rm", "-rf", folder], check=True)
 

@@ -1,16 +1,16 @@
 -- One call of a walk's `next`, case by case.
-use Rattle.std.proofs.Common.{◌≡◌, ◌∙◌, ◌<◌, ℕ, Bool, true, false, List, [], ◌∷◌, ◌++◌, map, length, append-nil, Option, Some, None, Result, Ok, Err, IfSome, OnSome, inl, inr, refl, sym, ap, arith}
-use Rattle.std.specs.Prelude.{option_map}
+use Rattle.std.proofs.Common.{◌≡◌, ◌∙◌, ◌<◌, ℕ, Bool, true, false, List, [], ◌∷◌, ◌++◌, map, length, append-nil, Option, Some, None, Result, Ok, Err, IfSome, IsSomeAnd, OnSome, ◌⊎◌, subst, inl, inr, refl, sym, ap, arith}
+use Rattle.std.specs.Prelude.{MatchBool, option_map}
 use Rattle.std.specs.declared.clone.Clone as Clone
 use Rattle.std.specs.declared.default.Default as Default
 use Rattle.walk_model.specs.Error.{memory}
 use Rattle.walk_model.specs.Entry.{Item, AtDepth, NoDeeper}
-use Rattle.walk_model.specs.ReadDir.{Spec, Reading, children_of}
+use Rattle.walk_model.specs.ReadDir.{Spec, Reading, children, children_of, AreClones}
 use Rattle.walk_model.specs.Counted.{Worth}
 use Rattle.walk_model.specs.Job.{reading}
 use Rattle.walk_model.specs.Listing.{Pair, nothing, paired, answers, listing}
 use Rattle.walk_model.specs.Held as value
-use Rattle.walk_model.specs.Held.{pair_up, weight, sources, AreSourced, AnswersPlainly}
+use Rattle.walk_model.specs.Held.{pair_up, weight, AnswersPlainly}
 use Rattle.walk_model.proofs.CloneFacts.{same_length, counted_clones}
 use Rattle.walk_model.proofs.CountedFacts.{counted-is_answered, counted-children_of}
 use Rattle.walk_model.proofs.HeldFacts.{directories, as_many_of, sourced, sourced_count, alone, heavy, pair_up-outcome}
@@ -25,9 +25,9 @@ use Rattle.jwalk_read.specs.Entry.{item}
 use Rattle.jwalk_read.specs.Given.{Given, counted_item, counted_spec, counted_reading}
 use Rattle.jwalk_read.specs.Job.{options_of, greatest_depth, job_by, ClonesCount}
 use Rattle.jwalk.specs.declared.dir_entry_iter.DirEntryIter.{DirEntryIter}
-use Rattle.jwalk.specs.ReadDirIter.{StacksChildren}
 use Rattle.jwalk.specs.Step.{ReadsUpTo, IsAtDirectory, StopsAtDirectory}
-use Rattle.jwalk.specs.DirEntryIter.{job_of, min_depth_of, items_of, unread_of, held, held_by, refusal, to_come, IsSourced, Refuses, Answers}
+use Rattle.jwalk_engine.specs.ReadAhead.{nothing_ahead}
+use Rattle.jwalk.specs.DirEntryIter.{job_of, min_depth_of, items_of, unread_of, width_of, read_ahead, GoesAhead, GrowsAhead, held, held_by, refusal, to_come, IsSourced, Refuses, Answers}
 use Rattle.jwalk.proofs.StepFacts.{next_within, next_lighter, next_count, next_plain, next_listed, left_within, left_lighter, left_count, left_plain, left_to_come}
 
 -- at a directory nothing is said of the answer but what its reading tells
@@ -46,35 +46,35 @@ nothing_by given true items specs h = absurd cc
 nothing_by given false [] specs h = refl
 nothing_by given false (x ∷ items) specs h = absurd cc
 
-module _ {C S P A R E : Type 0} where
-  held_rest : (it : DirEntryIter C S P A R E) → it.refused ≡ false → held it ≡ pair_up (items_of it) (unread_of it)
+module _ {C S P A T R E : Type 0} where
+  held_rest : (it : DirEntryIter C S P A T R E) → it.refused ≡ false → held it ≡ pair_up (items_of it) (unread_of it)
   held_rest it started = rw started refl
 
-  held_nothing : (it : DirEntryIter C S P A R E) → it.refused ≡ false → items_of it ≡ [] → held it ≡ []
+  held_nothing : (it : DirEntryIter C S P A T R E) → it.refused ≡ false → items_of it ≡ [] → held it ≡ []
   held_nothing it started none = held_rest it started ∙ ap (λ l. pair_up l (unread_of it)) none
 
-  held_refused : (it : DirEntryIter C S P A R E) → it.refused ≡ true → held it ≡ record { item = Err memory; source = nothing } ∷ pair_up (items_of it) (unread_of it)
+  held_refused : (it : DirEntryIter C S P A T R E) → it.refused ≡ true → held it ≡ record { item = Err memory; source = nothing } ∷ pair_up (items_of it) (unread_of it)
   held_refused it refused = rw refused refl
 
-  held_by_rest : (given : Given R E) (it : DirEntryIter C S P A R E) → it.refused ≡ false → held_by given it ≡ pair_up (map (counted_item given) (items_of it)) (map (counted_spec given) (unread_of it))
+  held_by_rest : (given : Given R E) (it : DirEntryIter C S P A T R E) → it.refused ≡ false → held_by given it ≡ pair_up (map (counted_item given) (items_of it)) (map (counted_spec given) (unread_of it))
   held_by_rest given it started = rw started refl
 
-  held_by_refused : (given : Given R E) (it : DirEntryIter C S P A R E) → it.refused ≡ true → held_by given it ≡ record { item = Err memory; source = nothing } ∷ pair_up (map (counted_item given) (items_of it)) (map (counted_spec given) (unread_of it))
+  held_by_refused : (given : Given R E) (it : DirEntryIter C S P A T R E) → it.refused ≡ true → held_by given it ≡ record { item = Err memory; source = nothing } ∷ pair_up (map (counted_item given) (items_of it)) (map (counted_spec given) (unread_of it))
   held_by_refused given it refused = rw refused refl
 
   -- where nothing is held, nothing counts
-  pub held_by_nothing : (given : Given R E) (it : DirEntryIter C S P A R E) → held it ≡ [] → held_by given it ≡ []
+  pub held_by_nothing : (given : Given R E) (it : DirEntryIter C S P A T R E) → held it ≡ [] → held_by given it ≡ []
   held_by_nothing given it none = nothing_by given it.refused (items_of it) (unread_of it) none
 
-  sourced_rest : (it : DirEntryIter C S P A R E) → it.refused ≡ false → IsSourced it → length (unread_of it) ≡ directories (items_of it)
+  sourced_rest : (it : DirEntryIter C S P A T R E) → it.refused ≡ false → IsSourced it → length (unread_of it) ≡ directories (items_of it)
   sourced_rest it started is = sourced_count (items_of it) (unread_of it) (rw (held_rest it started) at is.each) (rw (held_rest it started) at is.unread)
 
-  rest_sourced : (it : DirEntryIter C S P A R E) → it.refused ≡ false → length (unread_of it) ≡ directories (items_of it) → IsSourced it
+  rest_sourced : (it : DirEntryIter C S P A T R E) → it.refused ≡ false → length (unread_of it) ≡ directories (items_of it) → IsSourced it
   rest_sourced it started count =
       let both = sourced (items_of it) (unread_of it) count in
       record { each = rw (held_rest it started) both.0; unread = rw (held_rest it started) both.1 }
 
-module _ {C S P A R E : Type 0} (files : FileSystem.Ghosts S) (process : ProcessReadDir.Ghosts P C A R E) (clone : Clone.Ghosts R) (defaults : Default.Ghosts E) (old new : DirEntryIter C S P A R E) where
+module _ {C S P A T R E : Type 0} (files : FileSystem.Ghosts S) (process : ProcessReadDir.Ghosts P C A R E) (clone : Clone.Ghosts R) (defaults : Default.Ghosts E) (old new : DirEntryIter C S P A T R E) where
   -- what is listed of items and specifications over the old walk's job
   abbrev Listing : Given R E → List (Item R E) → List (Spec R) → List (Item Worth Worth)
   Listing given items specs = listing (reading (job_by files given (job_of old))) (greatest_depth (job_of old)) (pair_up (map (counted_item given) items) (map (counted_spec given) specs))
@@ -87,10 +87,15 @@ module _ {C S P A R E : Type 0} (files : FileSystem.Ghosts S) (process : Process
       ap (λ (j : Job C S P A R E). value.to_come (reading (job_by files given j)) (options_of j).min_depth (greatest_depth j) (held_by given new)) job
       ∙ ap (value.to_come (reading (job_by files given (job_of old))) (min_depth_of old) (greatest_depth (job_of old))) (held_by_rest given new started)
 
+  -- a walk that was not refused at its start enters directories
+  goes_ahead : (answer : Option (Item R E)) → old.refused ≡ false → GrowsAhead files process clone defaults old new → GoesAhead files process clone defaults old answer new
+  goes_ahead answer began grown =
+      subst (λ b. MatchBool b (read_ahead new ≡ read_ahead old) ((IsSomeAnd answer (λ a. Refuses a new) × (read_ahead new ≡ nothing_ahead)) ⊎ GrowsAhead files process clone defaults old new)) (sym began) (inr grown)
+
   -- items were left out, and then one is passed that is answered
   answers_some : (x : Result (DirEntry C A R E) (Error A)) → old.refused ≡ false → new.refused ≡ false → job_of new ≡ job_of old
-      → ReadsUpTo files process clone defaults (job_of old) (items_of old) (unread_of old) (Some (item x)) (items_of new) (unread_of new) → Answers files process clone defaults old (Some x) new
-  answers_some x began started job reads =
+      → ReadsUpTo files process clone defaults (job_of old) (items_of old) (unread_of old) (Some (item x)) (items_of new) (unread_of new) → width_of new ≡ width_of old → GrowsAhead files process clone defaults old new → Answers files process clone defaults old (Some x) new
+  answers_some x began started job reads width grown =
       let j = job_of old in
       let left = reads.2 in
       let next = reads.3.0 in
@@ -109,6 +114,8 @@ module _ {C S P A R E : Type 0} (files : FileSystem.Ghosts S) (process : Process
         ended = tt;
         lighter = rw (before, after, job) (omega (arith, left_lighter files process clone defaults j (items_of old) (unread_of old) left, next_lighter files process clone defaults j next));
         reads = rw began (inr reads);
+        width = width;
+        ahead = goes_ahead (Some (item x)) began grown;
         coming = λ given steady. inr (
             come_old given began
             ∙ left_to_come files process clone defaults j (items_of old) (unread_of old) given steady left
@@ -118,8 +125,8 @@ module _ {C S P A R E : Type 0} (files : FileSystem.Ghosts S) (process : Process
 
   -- all that was held is left out
   answers_none : old.refused ≡ false → new.refused ≡ false → job_of new ≡ job_of old
-      → ReadsUpTo files process clone defaults (job_of old) (items_of old) (unread_of old) None (items_of new) (unread_of new) → Answers files process clone defaults old None new
-  answers_none began started job reads =
+      → ReadsUpTo files process clone defaults (job_of old) (items_of old) (unread_of old) None (items_of new) (unread_of new) → width_of new ≡ width_of old → GrowsAhead files process clone defaults old new → Answers files process clone defaults old None new
+  answers_none began started job reads width grown =
       let j = job_of old in
       let left = reads.2 in
       let none = reads.3.0 in
@@ -138,6 +145,8 @@ module _ {C S P A R E : Type 0} (files : FileSystem.Ghosts S) (process : Process
         ended = after;
         lighter = tt;
         reads = rw began (inr reads);
+        width = width;
+        ahead = goes_ahead None began grown;
         coming = λ given steady.
             come_old given began
             ∙ left_to_come files process clone defaults j (items_of old) (unread_of old) given steady left
@@ -145,14 +154,14 @@ module _ {C S P A R E : Type 0} (files : FileSystem.Ghosts S) (process : Process
       }
 
   pub answers_reads : (answer : Option (Result (DirEntry C A R E) (Error A))) → old.refused ≡ false → new.refused ≡ false → job_of new ≡ job_of old
-      → ReadsUpTo files process clone defaults (job_of old) (items_of old) (unread_of old) (option_map item answer) (items_of new) (unread_of new) → Answers files process clone defaults old answer new
-  answers_reads None began started job reads = answers_none began started job reads
-  answers_reads (Some x) began started job reads = answers_some x began started job reads
+      → ReadsUpTo files process clone defaults (job_of old) (items_of old) (unread_of old) (option_map item answer) (items_of new) (unread_of new) → width_of new ≡ width_of old → GrowsAhead files process clone defaults old new → Answers files process clone defaults old answer new
+  answers_reads None began started job reads width grown = answers_none began started job reads width grown
+  answers_reads (Some x) began started job reads width grown = answers_some x began started job reads width grown
 
   -- memory was refused below a directory
   pub answers_stopped : (error : Error A) → failure error ≡ memory → old.refused ≡ false → new.refused ≡ false → job_of new ≡ job_of old → items_of new ≡ [] → unread_of new ≡ []
-      → StopsAtDirectory files process clone defaults (job_of old) (items_of old) (unread_of old) → Answers files process clone defaults old (Some (Err error)) new
-  answers_stopped error told began started job none no_unread stops =
+      → StopsAtDirectory files process clone defaults (job_of old) (items_of old) (unread_of old) → width_of new ≡ width_of old → read_ahead new ≡ nothing_ahead → Answers files process clone defaults old (Some (Err error)) new
+  answers_stopped error told began started job none no_unread stops width nothing_left =
       let j = job_of old in
       let left = stops.2 in
       let at = stops.3 in
@@ -167,12 +176,14 @@ module _ {C S P A R E : Type 0} (files : FileSystem.Ghosts S) (process : Process
         ended = tt;
         lighter = rw (before, after) (omega (arith, left_lighter files process clone defaults j (items_of old) (unread_of old) left, heavy_at (greatest_depth j) stops.0 stops.1 at));
         reads = rw began (inl refuses);
+        width = width;
+        ahead = rw began (inl (refuses, nothing_left));
         coming = λ given steady. inl refuses;
       }
 
   -- a walk that was refused at its start tells of it
-  pub answers_refusal : (error : Error A) → failure error ≡ memory → old.refused ≡ true → new.refused ≡ false → job_of new ≡ job_of old → items_of new ≡ items_of old → unread_of new ≡ unread_of old → Answers files process clone defaults old (Some (Err error)) new
-  answers_refusal error told refused started job items unread =
+  pub answers_refusal : (error : Error A) → failure error ≡ memory → old.refused ≡ true → new.refused ≡ false → job_of new ≡ job_of old → items_of new ≡ items_of old → unread_of new ≡ unread_of old → width_of new ≡ width_of old → read_ahead new ≡ read_ahead old → Answers files process clone defaults old (Some (Err error)) new
+  answers_refusal error told refused started job items unread width same_ahead =
       let front = held_refused old refused in
       let rest : held new ≡ pair_up (items_of old) (unread_of old) = held_rest new started ∙ ap (λ l. pair_up l (unread_of new)) items ∙ ap (pair_up (items_of old)) unread in
       record {
@@ -183,6 +194,8 @@ module _ {C S P A R E : Type 0} (files : FileSystem.Ghosts S) (process : Process
         ended = tt;
         lighter = rw (front, rest, job) (omega arith);
         reads = rw refused unread;
+        width = width;
+        ahead = rw refused same_ahead;
         coming = λ given steady. inr (
             ap (value.to_come (reading (job_by files given (job_of old))) (min_depth_of old) (greatest_depth (job_of old))) (held_by_refused given old refused)
             ∙ ap (answers (min_depth_of old)) (alone (reading (job_by files given (job_of old))) (greatest_depth (job_of old)) (Err memory) (map (counted_item given) (items_of old)) (map (counted_spec given) (unread_of old)) refl)
@@ -196,12 +209,12 @@ goes_on None fewer can less = tt
 goes_on (Some x) fewer can less = (can, tt, less)
 
 -- a walk that took over its root's list holds the pairs of that list
-pub holds_root : {C S P A R E : Type 0} (clone : Clone.Ghosts R) (given : Given R E) (r : Reading R E) (before after begun : DirEntryIter C S P A R E) → ClonesCount clone given → begun.refused ≡ false → items_of begun ≡ items_of after → unread_of begun ≡ unread_of after → items_of before ≡ [] → unread_of before ≡ [] → items_of after ≡ r.list ++ items_of before → StacksChildren clone (unread_of before) (Ok r) (unread_of after) → held_by given begun ≡ paired (counted_reading given r)
-holds_root clone given r before after begun counts started same_items same_unread no_items no_unread items stacks =
+pub holds_root : {C S P A T R E : Type 0} (clone : Clone.Ghosts R) (given : Given R E) (r : Reading R E) (before after begun : DirEntryIter C S P A T R E) → ClonesCount clone given → begun.refused ≡ false → items_of begun ≡ items_of after → unread_of begun ≡ unread_of after → items_of before ≡ [] → items_of after ≡ r.list ++ items_of before → AreClones clone.is_clone (children r) (unread_of after) → held_by given begun ≡ paired (counted_reading given r)
+holds_root clone given r before after begun counts started same_items same_unread no_items items clones =
     let all : items_of begun ≡ r.list = same_items ∙ items ∙ ap (λ l. r.list ++ l) no_items ∙ append-nil r.list in
     let directories_too : map (counted_spec given) (unread_of begun) ≡ children_of (Ok (counted_reading given r))
-    = ap (map (counted_spec given)) (same_unread ∙ stacks.left ∙ ap (λ l. stacks.front ++ l) no_unread ∙ append-nil stacks.front)
-    ∙ counted_clones clone.is_clone given.read_dir_state counts (children_of (Ok r)) stacks.front stacks.clones
+    = ap (map (counted_spec given)) same_unread
+    ∙ counted_clones clone.is_clone given.read_dir_state counts (children r) (unread_of after) clones
     ∙ sym (counted-children_of given.read_dir_state given.dir_entry_state (Ok r)) in
     held_by_rest given begun started
     ∙ ap (λ l. pair_up (map (counted_item given) l) (map (counted_spec given) (unread_of begun))) all
@@ -218,8 +231,7 @@ pub within_root : {R E : Type 0} (greatest : ℕ) (items : List (Item R E)) → 
 within_root greatest items depth = at_depth 0 greatest items (omega arith) depth
 
 -- and its directories alone are to be read
-pub root_sourced : {C S P A R E : Type 0} (clone : Clone.Ghosts R) (r : Reading R E) (before after begun : DirEntryIter C S P A R E) → begun.refused ≡ false → items_of begun ≡ items_of after → unread_of begun ≡ unread_of after → items_of before ≡ [] → unread_of before ≡ [] → items_of after ≡ r.list ++ items_of before → StacksChildren clone (unread_of before) (Ok r) (unread_of after) → IsSourced begun
-root_sourced clone r before after begun started same_items same_unread no_items no_unread items stacks =
+pub root_sourced : {C S P A T R E : Type 0} (clone : Clone.Ghosts R) (r : Reading R E) (before after begun : DirEntryIter C S P A T R E) → begun.refused ≡ false → items_of begun ≡ items_of after → unread_of begun ≡ unread_of after → items_of before ≡ [] → items_of after ≡ r.list ++ items_of before → AreClones clone.is_clone (children r) (unread_of after) → IsSourced begun
+root_sourced clone r before after begun started same_items same_unread no_items items clones =
     let all : items_of begun ≡ r.list = same_items ∙ items ∙ ap (λ l. r.list ++ l) no_items ∙ append-nil r.list in
-    let front : unread_of begun ≡ stacks.front = same_unread ∙ stacks.left ∙ ap (λ l. stacks.front ++ l) no_unread ∙ append-nil stacks.front in
-    rest_sourced begun started (ap length front ∙ same_length clone.is_clone (children_of (Ok r)) stacks.front stacks.clones ∙ as_many_of (Ok r) ∙ ap directories (sym all))
+    rest_sourced begun started (ap length same_unread ∙ same_length clone.is_clone (children r) (unread_of after) clones ∙ as_many_of (Ok r) ∙ ap directories (sym all))

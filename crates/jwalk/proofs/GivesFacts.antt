@@ -1,7 +1,7 @@
 -- What one call of an iterator over readings gives.
-use Rattle.std.proofs.Common.{◌≡◌, ◌∙◌, ◌<◌, ◌++◌, ◌∷◌, Err, inl, inr, List, Option, Some, None, IfSome, map, sym, ap}
+use Rattle.std.proofs.Common.{◌≡◌, ◌≢◌, ◌∙◌, ◌<◌, ◌≤◌, ◌+◌, ◌++◌, [], ◌∷◌, Result, Err, inl, inr, List, Option, Some, None, IfSome, map, length, refl, sym, ap}
 use Rattle.std.specs.Prelude.{option_map}
-use Rattle.std.proofs.lemmas.List.{map-append}
+use Rattle.std.proofs.lemmas.List.{map-append, length-map}
 use Rattle.std.specs.declared.clone.Clone as Clone
 use Rattle.std.specs.declared.default.Default as Default
 use Rattle.walk_model.specs.Error.{memory}
@@ -15,9 +15,20 @@ use Rattle.walk_model.proofs.PreorderFacts.{preorder-first, fewer_to_read, heavy
 use Rattle.walk_fs.specs.declared.file_system.FileSystem as FileSystem
 use Rattle.jwalk_read.specs.declared.process_read_dir.ProcessReadDir as ProcessReadDir
 use Rattle.jwalk_read.specs.declared.job.Job.{Job}
+use Rattle.jwalk_read.specs.declared.error.Error.{Error}
+use Rattle.jwalk_read.specs.declared.read_dir.ReadDir.{ReadDir}
+use Rattle.jwalk_read.specs.Error.{failure}
+use Rattle.jwalk_read.specs.ReadDir.{outcome}
 use Rattle.jwalk_read.specs.Given.{Given, counted_spec, counted_outcome}
 use Rattle.jwalk_read.specs.Job.{greatest_depth, job_by, IsSteadyJob}
-use Rattle.jwalk.specs.ReadDirIter.{ReadsFirst, GivesFirst, GivesPreorder}
+use Rattle.jwalk_read.specs.declared.read_dir_spec.ReadDirSpec.{ReadDirSpec}
+use Rattle.jwalk_board.specs.Board.{Board}
+use Rattle.jwalk_engine.specs.declared.read.Read.{Read}
+use Rattle.jwalk_engine.specs.Reads.{ReadsFirst, ReadsNext}
+use Rattle.jwalk_engine.specs.ReadAhead.{nothing_ahead, EntersNext}
+use Rattle.jwalk_engine.specs.BoardWalk as board
+use Rattle.jwalk.specs.declared.read_dir_iter.ReadDirIter.{ReadDirIter}
+use Rattle.jwalk.specs.ReadDirIter.{walk_of, job_of, to_read, width_of, read_ahead, next_address, GivesFirst, GivesPreorder, Gives}
 
 module _ {C S P A R E : Type 0} (files : FileSystem.Ghosts S) (process : ProcessReadDir.Ghosts P C A R E) (clone : Clone.Ghosts R) (defaults : Default.Ghosts E) (job : Job C S P A R E) (old new : List (Spec R)) where
   module _ (given : Given R E) (steady : IsSteadyJob files process clone defaults job given) where
@@ -51,6 +62,41 @@ module _ {C S P A R E : Type 0} (files : FileSystem.Ghosts S) (process : Process
     | inl refused ↦ rw refused.2 (heavy_specs (greatest_depth job) old refused.1)
     | inr reads ↦ rw (reads.took, reads.stacks.left) (fewer_to_read (greatest_depth job) clone.is_clone reads.first reads.rest reads.stacks.front read reads.reading.lawful reads.reading.few reads.stacks.clones)
   ]
+
+-- readings that were made and not handed on are as many as their addresses
+as_many : {C A R E : Type 0} (b : Option (Board (ReadDirSpec C A R E) (Read C A R E))) → length (board.left_on b).made ≡ length (board.ahead_of b).done
+as_many None = refl
+as_many (Some b) = length-map b.ready _ ∙ sym (length-map b.ready _)
+
+module _ {C S P A T R E : Type 0} (files : FileSystem.Ghosts S) (process : ProcessReadDir.Ghosts P C A R E) (clone : Clone.Ghosts R) (defaults : Default.Ghosts E) (old new : ReadDirIter C S P A T R E) where
+  -- one call that read on
+  pub gives_read : (read : Option (Result (ReadDir C A R E) (Error A))) → job_of new ≡ job_of old → width_of new ≡ width_of old → length (board.early_of (walk_of new)) + 1 ≤ length (board.early_of (walk_of old)) + width_of old
+      → ReadsNext files process clone defaults (job_of old) (to_read old) (option_map outcome read) (to_read new)
+      → EntersNext files process clone defaults (job_of old) (width_of old) (next_address old) (read_ahead old) (option_map outcome read) (read_ahead new)
+      → Gives files process clone defaults old read new
+  gives_read read job width ahead next enters = record {
+    job = job;
+    width = width;
+    enters = inr enters;
+    ahead = rw (sym (as_many (walk_of new).board), sym (as_many (walk_of old).board)) ahead;
+    first = inr next;
+    preorder = λ given steady. given_in_preorder files process clone defaults (job_of old) (to_read old) (to_read new) given steady (option_map outcome read) (inr next);
+  }
+
+  -- one call that was refused memory
+  pub gives_refused : (error : Error A) → failure error ≡ memory → job_of new ≡ job_of old → width_of new ≡ width_of old → length (board.early_of (walk_of new)) + 1 ≤ length (board.early_of (walk_of old)) + width_of old
+      → to_read old ≢ [] → to_read new ≡ [] → read_ahead new ≡ nothing_ahead
+      → Gives files process clone defaults old (Some (Err error)) new
+  gives_refused error told job width ahead some none nothing =
+      let is : ◌≡◌ {A = Option (Outcome R E)} (Some (Err (failure error))) (Some (Err memory)) = ap (λ f. Some (Err f)) told in
+      record {
+        job = job;
+        width = width;
+        enters = inl (is, nothing);
+        ahead = rw (sym (as_many (walk_of new).board), sym (as_many (walk_of old).board)) ahead;
+        first = inl (is, some, none);
+        preorder = λ given steady. given_in_preorder files process clone defaults (job_of old) (to_read old) (to_read new) given steady (Some (Err (failure error))) (inl (is, some, none));
+      }
 
 -- what is said of a value, whatever it is, is said of what it is seen as
 pub some_of : {X Y : Type 0} (P : Type 0) (f : X → Y) (o : Option X) → IfSome (option_map f o) (λ _. P) → IfSome o (λ _. P)

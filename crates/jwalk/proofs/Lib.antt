@@ -1,9 +1,12 @@
+pub mod AheadFacts
 pub mod AnswerFacts
 pub mod FillFacts
 pub mod GivesFacts
 pub mod ListFacts
+pub mod ReceivedFacts
 pub mod StepFacts
 pub mod BeginFacts
 pub mod WholeFacts
+pub mod SameFacts
 -- what callers cite of a callback's lists
 pub use Rattle.jwalk_read.proofs.GivenFacts as GivenFacts

@@ -1,5 +1,5 @@
 -- One item is passed, and items are passed one after another.
-use Rattle.std.proofs.Common.{◌≡◌, ℕ, ◌+◌, ◌<◌, ◌≤◌, Bool, true, false, List, [], ◌∷◌, ◌++◌, map, length, Option, Some, Ok, Err, refl, sym, ap, ◌∙◌, subst, arith}
+use Rattle.std.proofs.Common.{◌≡◌, ℕ, ◌+◌, ◌<◌, ◌≤◌, Bool, true, false, List, [], ◌∷◌, ◌++◌, map, length, Option, Some, Result, Ok, Err, refl, sym, ap, ◌∙◌, subst, arith}
 use Rattle.std.specs.Prelude.{if◌then◌else◌}
 use Rattle.std.proofs.lemmas.List.{map-append}
 use lib.ListN.{length-append}
@@ -18,10 +18,16 @@ use Rattle.walk_model.proofs.WithinFacts.{NoDeeper-append, of_reading, after, fi
 use Rattle.walk_fs.specs.declared.file_system.FileSystem as FileSystem
 use Rattle.jwalk_read.specs.declared.process_read_dir.ProcessReadDir as ProcessReadDir
 use Rattle.jwalk_read.specs.declared.job.Job.{Job}
+use Rattle.jwalk_read.specs.declared.error.Error.{Error}
+use Rattle.jwalk_read.specs.declared.dir_entry.DirEntry.{DirEntry}
+use Rattle.jwalk_read.specs.Entry.{item}
 use Rattle.jwalk_read.specs.Given.{Given, counted_entry, counted_item, counted_spec, counted_outcome}
 use Rattle.jwalk_read.specs.Job.{options_of, greatest_depth, job_by, IsSteadyJob}
-use Rattle.jwalk.specs.ReadDirIter.{ReadsFirst}
-use Rattle.jwalk.specs.Step.{PassesNext, passed_plainly, passed_entering, LeavesOut, none_left_out, one_left_out}
+use Rattle.jwalk_engine.specs.Reads.{ReadsFirst}
+use Rattle.jwalk.specs.declared.dir_entry_iter.DirEntryIter.{DirEntryIter}
+use Rattle.jwalk.specs.Step.{PassesNext, passed_plainly, passed_entering, LeavesOut, none_left_out, one_left_out, ReadsUpTo}
+use Rattle.jwalk.specs.DirEntryIter.{job_of, min_depth_of, items_of, unread_of, width_of, EntersIfAny, PassesMany, none_passed, GrowsAhead}
+use Rattle.jwalk.proofs.AheadFacts.{grows, grows_no_more, one_more, nothing_more}
 
 -- a source that gives nothing takes no specification
 plain_keeps : {R : Type 0} (E : Type 0) (b : Bool) (ss : List (Spec R)) → is_plain (first_source {R = R} {E = E} b ss) ≡ true → after_first b ss ≡ ss
@@ -155,3 +161,62 @@ module _ {C S P A R E : Type 0} (files : FileSystem.Ghosts S) (process : Process
         left_to_come given steady before
         ∙ ap (answers (options_of job).min_depth) (next_listed given steady next)
         ∙ rw (counted-is_answered given.read_dir_state given.dir_entry_state (options_of job).min_depth passed, out) refl
+
+module _ {C S P A T R E : Type 0} (files : FileSystem.Ghosts S) (process : ProcessReadDir.Ghosts P C A R E) (clone : Clone.Ghosts R) (defaults : Default.Ghosts E) where
+  -- What was passed over so far is left out.
+  pub record PassedOver (old new : DirEntryIter C S P A T R E) : Type 0 where
+    pub job : job_of new ≡ job_of old
+    pub refused : new.refused ≡ old.refused
+    pub width : width_of new ≡ width_of old
+    pub leaves : LeavesOut files process clone defaults (job_of old) (items_of old) (unread_of old) (items_of new) (unread_of new)
+    pub entered : ℕ
+    pub passes : PassesMany files process clone defaults old entered new
+
+  -- One call of a walk's `pass`.
+  pub record Passes (old : DirEntryIter C S P A T R E) (passed : Result (DirEntry C A R E) (Error A)) (new : DirEntryIter C S P A T R E) : Type 0 where
+    pub job : job_of new ≡ job_of old
+    pub refused : new.refused ≡ old.refused
+    pub next : PassesNext files process clone defaults (job_of old) (items_of old) (unread_of old) (item passed) (items_of new) (unread_of new)
+    pub width : width_of new ≡ width_of old
+    pub ahead : EntersIfAny files process clone defaults old new
+
+  pub none_passed_over : (it : DirEntryIter C S P A T R E) → PassedOver it it
+  none_passed_over it = record { job = refl; refused = refl; width = refl; leaves = none_left_out; entered = 0; passes = none_passed }
+
+  passes_by : (old mid new : DirEntryIter C S P A T R E) (passed : Result (DirEntry C A R E) (Error A)) → PassedOver old mid → Passes mid passed new → PassesNext files process clone defaults (job_of old) (items_of mid) (unread_of mid) (item passed) (items_of new) (unread_of new)
+  passes_by old mid new passed over passes =
+      subst (λ j. PassesNext files process clone defaults j (items_of mid) (unread_of mid) (item passed) (items_of new) (unread_of new)) over.job passes.next
+
+  many_on : (old mid new : DirEntryIter C S P A T R E) (passed : Result (DirEntry C A R E) (Error A)) → PassedOver old mid → Passes mid passed new → (n : ℕ) × PassesMany files process clone defaults old n new
+  many_on old mid new passed over passes =
+      one_more files process clone defaults old mid new over.entered (item passed) over.passes over.job over.width (passes_by old mid new passed over passes) passes.ahead
+
+  -- the directories that are entered up to the first that is answered
+  pub grows_to_answer : (old mid new : DirEntryIter C S P A T R E) (passed : Result (DirEntry C A R E) (Error A)) → PassedOver old mid → Passes mid passed new → GrowsAhead files process clone defaults old new
+  grows_to_answer old mid new passed over passes =
+      let more = many_on old mid new passed over passes in
+      record { entered = more.0; last = new; passes = more.1; same = refl; ahead = grows files process clone defaults old more.1 }
+
+  -- and up to the end
+  pub grows_to_end : (old mid new : DirEntryIter C S P A T R E) → PassedOver old mid → items_of mid ≡ [] → EntersIfAny files process clone defaults mid new → GrowsAhead files process clone defaults old new
+  grows_to_end old mid new over none any =
+      let same = nothing_more files process clone defaults mid new none any in
+      record { entered = over.entered; last = mid; passes = over.passes; same = same; ahead = grows_no_more files process clone defaults old over.entered mid new same (grows files process clone defaults old over.passes) }
+
+  pub one_passed_over : (old mid new : DirEntryIter C S P A T R E) (passed : Result (DirEntry C A R E) (Error A)) → PassedOver old mid → Passes mid passed new → is_answered (min_depth_of new) (item passed) ≡ false → PassedOver old new
+  one_passed_over old mid new passed over passes out = let more = many_on old mid new passed over passes in record {
+    job = passes.job ∙ over.job;
+    refused = passes.refused ∙ over.refused;
+    width = passes.width ∙ over.width;
+    entered = more.0;
+    passes = more.1;
+    leaves = one_left_out over.leaves (passes_by old mid new passed over passes) (subst (λ j. is_answered (options_of j).min_depth (item passed) ≡ false) (passes.job ∙ over.job) out);
+  }
+
+  -- the first that is answered after what was passed over
+  pub one_answered : (old mid new : DirEntryIter C S P A T R E) (passed : Result (DirEntry C A R E) (Error A)) → PassedOver old mid → Passes mid passed new → is_answered (min_depth_of new) (item passed) ≡ true → ReadsUpTo files process clone defaults (job_of old) (items_of old) (unread_of old) (Some (item passed)) (items_of new) (unread_of new)
+  one_answered old mid new passed over passes kept =
+      (items_of mid, unread_of mid, over.leaves, (passes_by old mid new passed over passes, subst (λ j. is_answered (options_of j).min_depth (item passed) ≡ true) (passes.job ∙ over.job) kept))
+
+  pub passes_lighter : (old new : DirEntryIter C S P A T R E) (passed : Result (DirEntry C A R E) (Error A)) → Passes old passed new → weight (greatest_depth (job_of new)) (pair_up (items_of new) (unread_of new)) < weight (greatest_depth (job_of old)) (pair_up (items_of old) (unread_of old))
+  passes_lighter old new passed passes = rw passes.job (next_lighter files process clone defaults (job_of old) passes.next)

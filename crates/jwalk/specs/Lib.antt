@@ -10,3 +10,4 @@ pub use Rattle.jwalk_read.specs as jwalk_read
 pub use Rattle.jwalk_process.specs as jwalk_process
 pub use Rattle.jwalk_order.specs as jwalk_order
 pub use Rattle.jwalk_board.specs as jwalk_board
+pub use Rattle.jwalk_engine.specs as jwalk_engine

@@ -1,9 +1,9 @@
 -- What an iterator over readings has still to read, and what it gives.
-use Rattle.std.specs.Prelude.{◌≡◌, ◌≢◌, ℕ, ◌⊎◌, List, [], ◌∷◌, ◌++◌, map, reverse, Option, Some, None, option_map, Result, Err}
+use Rattle.std.specs.Prelude.{◌≡◌, ◌≢◌, ◌≤◌, ◌+◌, ◌⊎◌, ℕ, length, List, [], ◌∷◌, map, Option, Some, None, option_map, Result, Err}
 use Rattle.std.specs.declared.clone.Clone as Clone
 use Rattle.std.specs.declared.default.Default as Default
 use Rattle.walk_model.specs.Error.{memory}
-use Rattle.walk_model.specs.ReadDir.{Spec, Outcome, children_of, AreClones}
+use Rattle.walk_model.specs.ReadDir.{Spec, Outcome}
 use Rattle.walk_model.specs.Preorder.{preorder}
 use Rattle.walk_model.specs.Job.{reading}
 use Rattle.walk_fs.specs.declared.file_system.FileSystem as FileSystem
@@ -11,38 +11,45 @@ use Rattle.jwalk_read.specs.declared.process_read_dir.ProcessReadDir as ProcessR
 use Rattle.jwalk_read.specs.declared.error.Error.{Error}
 use Rattle.jwalk_read.specs.declared.read_dir.ReadDir.{ReadDir}
 use Rattle.jwalk_read.specs.declared.job.Job.{Job}
-use Rattle.jwalk_read.specs.ReadDir.{spec, outcome}
+use Rattle.jwalk_read.specs.ReadDir.{outcome}
 use Rattle.jwalk_read.specs.Given.{Given, counted_spec, counted_outcome}
-use Rattle.jwalk_read.specs.Job.{greatest_depth, job_by, IsSteadyJob, IsReadingOf}
-use Rattle.jwalk.specs.declared.serial_walk.SerialWalk.{SerialWalk}
+use Rattle.jwalk_read.specs.Job.{greatest_depth, job_by, IsSteadyJob}
+use Rattle.jwalk_engine.specs.ReadAhead.{ReadAhead, nothing_ahead, EntersNext}
+use Rattle.jwalk_engine.specs.BoardWalk as board
+use Rattle.jwalk_engine.specs.BoardWalk.{BoardWalk}
+use Rattle.jwalk_engine.specs.Reads.{ReadsNext}
 use Rattle.jwalk.specs.declared.read_dir_iter.ReadDirIter.{ReadDirIter}
 use Rattle.jwalk.specs.declared.read_dir_iter.ReadDirIter.TheVariants.{Walk, ParWalk}
 
-module _ {C S P A R E : Type 0} where
-  -- the specifications on the stack, the next one first
-  abbrev pub stacked : SerialWalk C S P A R E → List (Spec R)
-  stacked it = map spec (reverse it.specs.items)
+module _ {C S P A T R E : Type 0} where
+  -- the walk over a board, of either kind
+  abbrev pub walk_of : ReadDirIter C S P A T R E → BoardWalk C S P A R E
+  walk_of (Walk walk) = walk
+  walk_of (ParWalk walk threads) = walk
 
   -- what it reads with
-  abbrev pub job_of : ReadDirIter C S P A R E → Job C S P A R E
-  job_of (Walk walk) = walk.job
-  job_of (ParWalk never) = elim never [ ]
+  abbrev pub job_of : ReadDirIter C S P A T R E → Job C S P A R E
+  job_of it = (walk_of it).job
 
   -- the specifications whose readings are still to be given, the next one first; those below them aren't among them
-  abbrev pub to_read : ReadDirIter C S P A R E → List (Spec R)
-  to_read (Walk walk) = stacked walk
-  to_read (ParWalk never) = elim never [ ]
+  abbrev pub to_read : ReadDirIter C S P A T R E → List (Spec R)
+  to_read it = board.to_read (walk_of it)
 
-  -- the addresses of the readings that were made and not handed on: a serial walk hands each on at once
-  abbrev pub early_of : ReadDirIter C S P A R E → List (List ℕ)
-  early_of (Walk walk) = []
-  early_of (ParWalk never) = elim never [ ]
+  -- how many directories are read together
+  abbrev pub width_of : ReadDirIter C S P A T R E → ℕ
+  width_of it = (walk_of it).width
 
--- the specifications of an outcome's directories, with clones of their states, stand in front of the old ones
-pub record StacksChildren {R E : Type 0} (clone : Clone.Ghosts R) (old : List (Spec R)) (read : Outcome R E) (new : List (Spec R)) : Type 0 where
-  pub front : List (Spec R)
-  pub left : new ≡ front ++ old
-  pub clones : AreClones clone.is_clone (children_of read) front
+  -- what isn't read yet, and what was read and not handed on, by address
+  abbrev pub read_ahead : ReadDirIter C S P A T R E → ReadAhead R
+  read_ahead it = board.read_ahead (walk_of it)
+
+  -- the addresses of the readings that were made and not handed on
+  abbrev pub early_of : ReadDirIter C S P A T R E → List (List ℕ)
+  early_of it = (read_ahead it).done
+
+  -- the address of the directory that is entered next
+  abbrev pub next_address : ReadDirIter C S P A T R E → List ℕ
+  next_address it = board.next_of (walk_of it)
 
 -- Readings come in preorder: the first of those still to come is given and the rest is left, or memory ran out and nothing is.
 abbrev pub GivesPreorder : {R E : Type 0} → (Spec R → Outcome R E) → ℕ → List (Spec R) → Option (Outcome R E) → List (Spec R) → Type 0
@@ -50,26 +57,22 @@ GivesPreorder reading max_depth old None new = preorder reading max_depth old �
 GivesPreorder reading max_depth old (Some given) new = ((given ≡ Err memory) × (new ≡ [])) ⊎ (preorder reading max_depth old ≡ given ∷ preorder reading max_depth new)
 
 module _ {C S P A R E : Type 0} (files : FileSystem.Ghosts S) (process : ProcessReadDir.Ghosts P C A R E) (clone : Clone.Ghosts R) (defaults : Default.Ghosts E) where
-  -- The first of the specifications is read, and gives way to those of the directories in its outcome.
-  pub record ReadsFirst (job : Job C S P A R E) (old : List (Spec R)) (read : Outcome R E) (new : List (Spec R)) : Type 0 where
-    pub first : Spec R
-    pub rest : List (Spec R)
-    pub took : old ≡ first ∷ rest
-    pub reading : IsReadingOf files process clone defaults job first read
-    pub stacks : StacksChildren clone rest read new
-
-  -- the first is read, or nothing was left to be read
-  abbrev pub ReadsNext : Job C S P A R E → List (Spec R) → Option (Outcome R E) → List (Spec R) → Type 0
-  ReadsNext job old None new = (old ≡ []) × (new ≡ [])
-  ReadsNext job old (Some read) new = ReadsFirst job old read new
-
   -- The first is read; or the error that tells of want of memory is given instead, and nothing is left to be read.
   abbrev pub GivesFirst : Job C S P A R E → List (Spec R) → Option (Outcome R E) → List (Spec R) → Type 0
-  GivesFirst job old given new = ((given ≡ Some (Err memory)) × (old ≢ []) × (new ≡ [])) ⊎ ReadsNext job old given new
+  GivesFirst job old given new = ((given ≡ Some (Err memory)) × (old ≢ []) × (new ≡ [])) ⊎ ReadsNext files process clone defaults job old given new
+
+  -- A directory is entered, or nothing is left to be read; or memory was refused, and nothing is left.
+  abbrev pub EntersFirst : {T : Type 0} → ReadDirIter C S P A T R E → Option (Outcome R E) → ReadDirIter C S P A T R E → Type 0
+  EntersFirst old given new =
+      ((given ≡ Some (Err memory)) × (read_ahead new ≡ nothing_ahead))
+      ⊎ EntersNext files process clone defaults (job_of old) (width_of old) (next_address old) (read_ahead old) given (read_ahead new)
 
   -- One call of an iterator over readings. By value, what it gives comes in preorder.
-  pub record Gives (old : ReadDirIter C S P A R E) (given : Option (Result (ReadDir C A R E) (Error A))) (new : ReadDirIter C S P A R E) : Type 0 where
+  pub record Gives {T : Type 0} (old : ReadDirIter C S P A T R E) (given : Option (Result (ReadDir C A R E) (Error A))) (new : ReadDirIter C S P A T R E) : Type 0 where
     pub job : job_of new ≡ job_of old
+    pub width : width_of new ≡ width_of old
+    pub enters : EntersFirst old (option_map outcome given) new
+    pub ahead : length (early_of new) + 1 ≤ length (early_of old) + width_of old
     pub first : GivesFirst (job_of old) (to_read old) (option_map outcome given) (to_read new)
     pub preorder : (value : Given R E) → IsSteadyJob files process clone defaults (job_of old) value
         → GivesPreorder (reading (job_by files value (job_of old))) (greatest_depth (job_of old)) (map (counted_spec value) (to_read old)) (option_map (counted_outcome value) (option_map outcome given)) (map (counted_spec value) (to_read new))

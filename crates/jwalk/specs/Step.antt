@@ -10,7 +10,7 @@ use Rattle.walk_fs.specs.declared.file_system.FileSystem as FileSystem
 use Rattle.jwalk_read.specs.declared.process_read_dir.ProcessReadDir as ProcessReadDir
 use Rattle.jwalk_read.specs.declared.job.Job.{Job}
 use Rattle.jwalk_read.specs.Job.{options_of}
-use Rattle.jwalk.specs.ReadDirIter.{ReadsFirst}
+use Rattle.jwalk_engine.specs.Reads.{ReadsFirst}
 
 -- a directory is to be read below the first item
 abbrev pub IsAtDirectory : {R E : Type 0} → List (Item R E) → List (Spec R) → Type 0

@@ -1,8 +1,7 @@
 -- A walk as its builder describes it.
-use Rattle.std.specs.Prelude.{◌≡◌, ◌⊎◌, ℕ, List, string_bytes}
+use Rattle.std.specs.Prelude.{◌≡◌, ◌⊎◌, ℕ, List, [], string_bytes}
 use Rattle.std.specs.declared.clone.Clone as Clone
 use Rattle.std.specs.declared.default.Default as Default
-use Rattle.walk_model.specs.Options as value
 use Rattle.walk_model.specs.Options.{Options}
 use Rattle.walk_model.specs.Entry.{AtDepth}
 use Rattle.walk_model.specs.Listing.{paired}
@@ -10,19 +9,14 @@ use Rattle.walk_model.specs.Counted.{Worth, blank}
 use Rattle.walk_model.specs.Job.{Job, root_list}
 use Rattle.walk_fs.specs.declared.file_system.FileSystem as FileSystem
 use Rattle.jwalk_read.specs.declared.process_read_dir.ProcessReadDir as ProcessReadDir
-use Rattle.jwalk_read.specs.Options.{options_value}
+use Rattle.jwalk_read.specs.Options.{options_value, width_of}
 use Rattle.jwalk_read.specs.Given.{Given}
 use Rattle.jwalk_read.specs.Job as job
 use Rattle.jwalk_read.specs.Job.{file_system, callback, IsSteady}
+use Rattle.jwalk.specs.DirEntryIter as iter
 use Rattle.jwalk.specs.DirEntryIter.{job_of, items_of, held_by, IsWithin, IsSourced, IsRefused}
-use Rattle.jwalk.specs.declared.parallelism.Parallelism.{Parallelism}
-use Rattle.jwalk.specs.declared.parallelism.Parallelism.TheVariants.{Serial}
 use Rattle.jwalk.specs.declared.walk_dir.WalkDirGeneric.{WalkDirGeneric}
 use Rattle.jwalk.specs.declared.dir_entry_iter.DirEntryIter.{DirEntryIter}
-
--- how directories are read, as a value
-abbrev pub parallelism_value : Parallelism → value.Parallelism
-parallelism_value Serial = value.serial
 
 -- no callback, and states that count as nothing
 abbrev pub stateless : {R E : Type 0} → Given R E
@@ -34,27 +28,27 @@ stateless = record {
   new_entry = blank;
 }
 
-module _ {C S P A R E : Type 0} where
-  abbrev pub file_system_of : WalkDirGeneric C S P A R E → S
+module _ {C S P A T R E : Type 0} where
+  abbrev pub file_system_of : WalkDirGeneric C S P A T R E → S
   file_system_of walk = walk.fs
 
-  abbrev pub callback_of : WalkDirGeneric C S P A R E → P
+  abbrev pub callback_of : WalkDirGeneric C S P A T R E → P
   callback_of walk = walk.process
 
   -- the root's path
-  abbrev pub root_of : WalkDirGeneric C S P A R E → List ℕ
+  abbrev pub root_of : WalkDirGeneric C S P A T R E → List ℕ
   root_of walk = string_bytes walk.root
 
   -- the state that the root's list is given
-  abbrev pub state_of : WalkDirGeneric C S P A R E → R
+  abbrev pub state_of : WalkDirGeneric C S P A T R E → R
   state_of walk = walk.root_read_dir_state
 
-  -- the options. Every walk is serial.
-  abbrev pub options_of : WalkDirGeneric C S P A R E → Options
+  -- the options
+  abbrev pub options_of : WalkDirGeneric C S P A T R E → Options
   options_of walk = options_value walk.options
 
   -- One call of the builder: it changes the options alone.
-  pub record Sets (set : Options) (old new : WalkDirGeneric C S P A R E) : Type 0 where
+  pub record Sets (set : Options) (old new : WalkDirGeneric C S P A T R E) : Type 0 where
     pub options : options_of new ≡ set
     pub file_system : file_system_of new ≡ file_system_of old
     pub callback : callback_of new ≡ callback_of old
@@ -62,7 +56,7 @@ module _ {C S P A R E : Type 0} where
     pub state : state_of new ≡ state_of old
 
   -- One that changes the root's state alone.
-  pub record SetsState (set : R) (old new : WalkDirGeneric C S P A R E) : Type 0 where
+  pub record SetsState (set : R) (old new : WalkDirGeneric C S P A T R E) : Type 0 where
     pub state : state_of new ≡ set
     pub options : options_of new ≡ options_of old
     pub file_system : file_system_of new ≡ file_system_of old
@@ -70,7 +64,7 @@ module _ {C S P A R E : Type 0} where
     pub root : root_of new ≡ root_of old
 
   -- what its readings are made of, over a fixed file system and what is given
-  abbrev pub job_for : FileSystem.Ghosts S → Given R E → WalkDirGeneric C S P A R E → Job Worth Worth
+  abbrev pub job_for : FileSystem.Ghosts S → Given R E → WalkDirGeneric C S P A T R E → Job Worth Worth
   job_for files given walk = record {
     fs = files.functions (file_system_of walk);
     options = options_of walk;
@@ -78,25 +72,35 @@ module _ {C S P A R E : Type 0} where
     default = given.new_entry;
   }
 
-  -- A walk that begins, whatever its file system answers: it is over the builder's file system, callback and options, holds no entry that is too deep, and what it has to read are the directories of what it holds. It holds what tells that its start was refused, or a list of the root's depth.
-  pub record Starts (walk : WalkDirGeneric C S P A R E) (it : DirEntryIter C S P A R E) : Type 0 where
+  -- A walk that begins, whatever its file system answers: it is over the builder's file system, callback and options, holds no entry that is too deep, and what it has to read are the directories of what it holds. It reads as many of them together as the options say, and none is read yet. It holds what tells that its start was refused, or a list of the root's depth.
+  pub record Starts (walk : WalkDirGeneric C S P A T R E) (it : DirEntryIter C S P A T R E) : Type 0 where
     pub file_system : file_system (job_of it) ≡ file_system_of walk
     pub callback : callback (job_of it) ≡ callback_of walk
     pub options : job.options_of (job_of it) ≡ options_of walk
     pub within : IsWithin it
     pub sourced : IsSourced it
     pub start : IsRefused it ⊎ AtDepth 0 (items_of it)
+    pub width : iter.width_of it ≡ width_of (options_of walk).parallelism
+    pub early : iter.early_of it ≡ []
 
 -- One that puts another callback in the place of the walk's own, and changes nothing else.
-pub record SetsCallback {C S P Q A R E : Type 0} (process : Q) (old : WalkDirGeneric C S P A R E) (new : WalkDirGeneric C S Q A R E) : Type 0 where
+pub record SetsCallback {C S P Q A T R E : Type 0} (process : Q) (old : WalkDirGeneric C S P A T R E) (new : WalkDirGeneric C S Q A T R E) : Type 0 where
   pub callback : callback_of new ≡ process
   pub options : options_of new ≡ options_of old
   pub file_system : file_system_of new ≡ file_system_of old
   pub root : root_of new ≡ root_of old
   pub state : state_of new ≡ state_of old
 
-module _ {C S P A R E : Type 0} (files : FileSystem.Ghosts S) (process : ProcessReadDir.Ghosts P C A R E) (clone : Clone.Ghosts R) (defaults : Default.Ghosts E) where
+-- One that puts other threads in the place of the walk's own, and changes nothing else.
+pub record SetsThreads {C S P A T U R E : Type 0} (old : WalkDirGeneric C S P A T R E) (new : WalkDirGeneric C S P A U R E) : Type 0 where
+  pub options : options_of new ≡ options_of old
+  pub file_system : file_system_of new ≡ file_system_of old
+  pub callback : callback_of new ≡ callback_of old
+  pub root : root_of new ≡ root_of old
+  pub state : state_of new ≡ state_of old
+
+module _ {C S P A T R E : Type 0} (files : FileSystem.Ghosts S) (process : ProcessReadDir.Ghosts P C A R E) (clone : Clone.Ghosts R) (defaults : Default.Ghosts E) where
   -- The iterator holds the root's list.
-  abbrev pub Holds : WalkDirGeneric C S P A R E → DirEntryIter C S P A R E → Type 0
+  abbrev pub Holds : WalkDirGeneric C S P A T R E → DirEntryIter C S P A T R E → Type 0
   Holds walk it = (given : Given R E) → IsSteady files process clone defaults (file_system_of walk) (callback_of walk) given
       → held_by given it ≡ paired (root_list (job_for files given walk) (root_of walk) (given.read_dir_state (state_of walk)))

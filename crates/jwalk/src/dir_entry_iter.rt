@@ -4,7 +4,11 @@ ghost use Rattle.walk_model.specs.Entry.{has_directory};
 ghost use Rattle.jwalk_read.specs.Entry.{entry, item};
 ghost use Rattle.jwalk_read.specs.Job.{callback};
 
+mod on_threads;
+
 use crate::read_dir_iter::ReadDirIter;
+use crate::threads::InTurn;
+use jwalk_engine::read::Outcome;
 use jwalk_read::client_state::ClientState;
 use jwalk_read::dir_entry::DirEntry;
 use jwalk_read::error::Error;
@@ -25,39 +29,47 @@ pub struct DirEntryIter<
     S: FileSystem,
     P: ProcessReadDir<C, A>,
     A: Allocator + Copy = Global,
+    T = InTurn,
 > {
-    pub(crate) reads: ReadDirIter<C, S, P, A>,
+    pub(crate) reads: ReadDirIter<C, S, P, A, T>,
     // What was received and not passed on, the next one last.
     pub(crate) items: Vec<Result<DirEntry<C, A>, Error<A>>, A>,
     // Memory was refused at the start, and this was not answered yet.
     pub(crate) refused: bool,
 }
 
-impl<C: ClientState, S: FileSystem, P: ProcessReadDir<C, A>, A: Allocator + Copy> DirEntryIter<
-    C,
-    S,
-    P,
-    A,
-> {
-    ghost use Rattle.std.specs.Prelude.{◌++◌, [], false, length, OnOk, IfSome, IfNone, IsSomeAnd, MatchOption, option_map};
+impl<
+    C: ClientState,
+    S: FileSystem,
+    P: ProcessReadDir<C, A>,
+    A: Allocator + Copy,
+    T: Drop,
+> DirEntryIter<C, S, P, A, T> {
+    ghost use Rattle.std.specs.Prelude.{◌++◌, [], false, length, OnOk, IsSome, IfSome, IfNone, IsSomeAnd, MatchOption, option_map};
     ghost use Rattle.walk_model.specs.Entry.{AtDepth};
+    ghost use Rattle.walk_model.specs.ReadDir.{children, AreClones};
     ghost use Rattle.walk_model.specs.Listing.{paired, is_answered};
-    ghost use Rattle.jwalk_read.specs.ReadDir.{reading};
+    ghost use Rattle.jwalk_read.specs.ReadDir.{reading, outcome};
     ghost use Rattle.jwalk_read.specs.Given.{counted_reading};
-    ghost use Rattle.jwalk_read.specs.Job.{ClonesCount};
-    ghost use Rattle.jwalk.specs.DirEntryIter.{job_of, min_depth_of, items_of, unread_of, early_of, held_by, IsWithin, IsSourced, IsRefused, Answers, Fills, Counts};
-    ghost use Rattle.jwalk.specs.ReadDirIter.{StacksChildren};
+    ghost use Rattle.jwalk_read.specs.Options as options;
+    ghost use Rattle.jwalk_read.specs.Job.{ClonesCount, options_of};
+    ghost use Rattle.jwalk_engine.specs.Reads.{ReadsNext};
+    ghost use Rattle.jwalk_engine.specs.ReadAhead.{nothing_ahead};
+    ghost use Rattle.jwalk.specs.DirEntryIter.{job_of, min_depth_of, items_of, unread_of, width_of, read_ahead, early_of, held_by, IsWithin, IsSourced, IsRefused, EntersIfAny, GrowsAhead, Answers, Counts};
     ghost use Rattle.jwalk.specs.Step.{IsAtDirectory, PassesNext, ReadsUpTo, StopsAtDirectory};
 
     /// A walk whose start was refused, which needs no memory.
-    fn refused(alloc: A, job: Job<C, S, P, A>) -> Self
+    fn refused(alloc: A, threads: T, job: Job<C, S, P, A>) -> Self
         ensures job { job_of result ≡ job }
         ensures refused { result.refused ≡ true }
         ensures items { items_of result ≡ [] }
         ensures unread { unread_of result ≡ [] }
+        ensures width { width_of result ≡ options.width_of (options_of job).parallelism }
+        ensures early { early_of result ≡ [] }
     {
+        let parallelism = job.options().parallelism();
         DirEntryIter {
-            reads: ReadDirIter::serial(alloc, job),
+            reads: ReadDirIter::new(alloc, threads, job, parallelism),
             items: Vec::new(alloc),
             refused: true,
         }
@@ -68,27 +80,36 @@ impl<C: ClientState, S: FileSystem, P: ProcessReadDir<C, A>, A: Allocator + Copy
         ensures job { job_of self.new ≡ job_of self.old }
         ensures refused { self.new.refused ≡ self.old.refused }
         ensures items { OnOk result (items_of self.new ≡ (reading read).list ++ items_of self.old) }
-        ensures children { OnOk result (StacksChildren C.ReadDirState.Clone
-            (unread_of self.old) (Ok (reading read)) (unread_of self.new)) }
+        ensures children { OnOk result (AreClones C.ReadDirState.is_clone
+            (children (reading read)) (unread_of self.new)) }
+        ensures width { width_of self.new ≡ width_of self.old }
+        ensures early { OnOk result (early_of self.new ≡ []) }
     {
-        self.reads.put(&read)?;
+        self.reads.begin(read.read_children_specs()?)?;
         self.receive(read)?;
         Ok(())
     }
 
     /// The walk that begins with the root's list. Where memory is refused, what it answers is the error that tells of
     /// it, and nothing else.
-    pub(crate) fn from_root(alloc: A, job: Job<C, S, P, A>, read: Option<ReadDir<C, A>>) -> Self
+    pub(crate) fn from_root(
+        alloc: A,
+        threads: T,
+        job: Job<C, S, P, A>,
+        read: Option<ReadDir<C, A>>,
+    ) -> Self
         requires { IfSome read (λ r. AtDepth 0 (reading r).list) }
         ensures job { job_of result ≡ job }
         ensures refused { result.refused ≡ true → IsRefused result }
         ensures within { IsWithin result }
         ensures sourced { IsSourced result }
         ensures depth { result.refused ≡ false → AtDepth 0 (items_of result) }
+        ensures width { width_of result ≡ options.width_of (options_of job).parallelism }
+        ensures early { early_of result ≡ [] }
         ensures held { (g : _) → ClonesCount C.ReadDirState.Clone g → result.refused ≡ false
             → IsSomeAnd read (λ r. held_by g result ≡ paired (counted_reading g (reading r))) }
     {
-        let mut walk = DirEntryIter::refused(alloc, job);
+        let mut walk = DirEntryIter::refused(alloc, threads, job);
         let Some(read) = read else {
             return walk;
         };
@@ -119,25 +140,33 @@ impl<C: ClientState, S: FileSystem, P: ProcessReadDir<C, A>, A: Allocator + Copy
     fn stop(&mut self)
         ensures job { job_of self.new ≡ job_of self.old }
         ensures refused { self.new.refused ≡ self.old.refused }
+        ensures width { width_of self.new ≡ width_of self.old }
         ensures items { items_of self.new ≡ [] }
         ensures unread { unread_of self.new ≡ [] }
+        ensures read_ahead { read_ahead self.new ≡ nothing_ahead }
     {
         self.items.clear();
         self.reads.stop();
     }
 
-    /// The entry once its directory was read, with the items of the directory received.
-    fn enter(&mut self, found: DirEntry<C, A>) -> Result<DirEntry<C, A>, AllocError>
-        requires lawful { P.IsLawful (callback (job_of self.old)) }
-        requires has_directory { has_directory (Ok (entry found)) ≡ true }
+    /// The entry of a directory once this came of its reading, with the items of the reading received.
+    fn entered(
+        &mut self,
+        found: DirEntry<C, A>,
+        read: Option<Outcome<C, A>>,
+    ) -> Result<DirEntry<C, A>, AllocError>
+        requires { has_directory (Ok (entry found)) ≡ true }
         ensures job { job_of self.new ≡ job_of self.old }
         ensures refused { self.new.refused ≡ self.old.refused }
-        ensures passed { IfOk result (λ e. PassesNext S.FileSystem P.ProcessReadDir C.ReadDirState.Clone
-            C.DirEntryState.Default (job_of self.old) (Ok (entry found) ∷ items_of self.old) (unread_of self.old)
+        ensures passed { (job : _) (unread : _) → ReadsNext S.FileSystem P.ProcessReadDir C.ReadDirState.Clone
+            C.DirEntryState.Default job unread (option_map outcome read) (unread_of self.old)
+            → IfOk result (λ e. PassesNext S.FileSystem P.ProcessReadDir C.ReadDirState.Clone
+            C.DirEntryState.Default job (Ok (entry found) ∷ items_of self.old) unread
             (Ok (entry e)) (items_of self.new) (unread_of self.new)) }
-        ensures stopped { OnErr result (IsAtDirectory (Ok (entry found) ∷ items_of self.old) (unread_of self.old)) }
+        ensures reads { self.new.reads ≡ self.old.reads }
+        ensures stopped { OnErr result (IsSome read) }
     {
-        match self.reads.read_next()? {
+        match read {
             None => Ok(found),
             Some(Err(error)) => Ok(found.with_error(error)),
             Some(Ok(read)) => {
@@ -157,6 +186,9 @@ impl<C: ClientState, S: FileSystem, P: ProcessReadDir<C, A>, A: Allocator + Copy
         ensures passed { IfOk result (λ o. IfSome o (λ passed. PassesNext S.FileSystem P.ProcessReadDir
             C.ReadDirState.Clone C.DirEntryState.Default (job_of self.old) (items_of self.old) (unread_of self.old)
             (item passed) (items_of self.new) (unread_of self.new))) }
+        ensures width { width_of self.new ≡ width_of self.old }
+        ensures ahead { OnOk result (EntersIfAny S.FileSystem P.ProcessReadDir C.ReadDirState.Clone
+            C.DirEntryState.Default self.old self.new) }
         ensures stopped { OnErr result (IsAtDirectory (items_of self.old) (unread_of self.old)) }
     {
         match self.items.pop() {
@@ -166,7 +198,8 @@ impl<C: ClientState, S: FileSystem, P: ProcessReadDir<C, A>, A: Allocator + Copy
                 if found.read_children.is_none() {
                     return Ok(Some(Ok(found)));
                 }
-                Ok(Some(Ok(self.enter(found)?)))
+                let read = self.reads.read_next()?;
+                Ok(Some(Ok(self.entered(found, read)?)))
             }
         }
     }
@@ -176,7 +209,7 @@ impl<C: ClientState, S: FileSystem, P: ProcessReadDir<C, A>, A: Allocator + Copy
         ensures { result ≡ is_answered (min_depth_of self.now) (item passed.now) }
     {
         match passed {
-            Ok(entry) => entry.depth >= self.reads.min_depth(),
+            Ok(entry) => entry.depth >= self.reads.job().options().min_depth(),
             Err(_) => true,
         }
     }
@@ -205,6 +238,9 @@ impl<C: ClientState, S: FileSystem, P: ProcessReadDir<C, A>, A: Allocator + Copy
         ensures reads { IfOk result (λ answer. ReadsUpTo S.FileSystem P.ProcessReadDir C.ReadDirState.Clone
             C.DirEntryState.Default (job_of self.old) (items_of self.old) (unread_of self.old)
             (option_map item answer) (items_of self.new) (unread_of self.new)) }
+        ensures width { width_of self.new ≡ width_of self.old }
+        ensures ahead { OnOk result (GrowsAhead S.FileSystem P.ProcessReadDir C.ReadDirState.Clone
+            C.DirEntryState.Default self.old self.new) }
         ensures stopped { OnErr result (StopsAtDirectory S.FileSystem P.ProcessReadDir C.ReadDirState.Clone
             C.DirEntryState.Default (job_of self.old) (items_of self.old) (unread_of self.old)) }
     {
@@ -249,6 +285,29 @@ impl<C: ClientState, S: FileSystem, P: ProcessReadDir<C, A>, A: Allocator + Copy
         self.reads.ahead()
     }
 
+    /// The number of answers that are still to come, or the greatest `usize` where there are more. Unlike
+    /// `Iterator::count`, it asks for no bound of them.
+    pub fn count(self) -> usize
+        requires { P.IsLawful (callback (job_of self)) }
+        ensures { Counts S.FileSystem P.ProcessReadDir C.ReadDirState.Clone C.DirEntryState.Default self result }
+    {
+        let mut count: usize = 0;
+        for _ in self {
+            count = count.saturating_add(1);
+        }
+        count
+    }
+}
+
+impl<C: ClientState, S: FileSystem, P: ProcessReadDir<C, A>, A: Allocator + Copy> DirEntryIter<
+    C,
+    S,
+    P,
+    A,
+    InTurn,
+> {
+    ghost use Rattle.jwalk.specs.DirEntryIter.{job_of, Fills};
+
     /// Appends answers to `out` until they are `n` or the walk ends, and answers how many.
     ///
     /// Room is made before each answer is asked for: where that is refused, `out` holds all that was answered, and
@@ -273,23 +332,10 @@ impl<C: ClientState, S: FileSystem, P: ProcessReadDir<C, A>, A: Allocator + Copy
         }
         Ok(filled)
     }
-
-    /// The number of answers that are still to come, or the greatest `usize` where there are more. Unlike
-    /// `Iterator::count`, it asks for no bound of them.
-    pub fn count(self) -> usize
-        requires { P.IsLawful (callback (job_of self)) }
-        ensures { Counts S.FileSystem P.ProcessReadDir C.ReadDirState.Clone C.DirEntryState.Default self result }
-    {
-        let mut count: usize = 0;
-        for _ in self {
-            count = count.saturating_add(1);
-        }
-        count
-    }
 }
 
-impl<C: ClientState, S: FileSystem, P: ProcessReadDir<C, A>, A: Allocator + Copy> Iterator
-    for DirEntryIter<C, S, P, A> {
+impl<C: ClientState, S: FileSystem, P: ProcessReadDir<C, A>, A: Allocator + Copy, T: Drop> Iterator
+    for DirEntryIter<C, S, P, A, T> {
     type Item = Result<DirEntry<C, A>, Error<A>>;
 
     ghost use Rattle.std.specs.Iterator.{at_most};

@@ -12,10 +12,9 @@
 
 pub mod dir_entry_iter;
 pub mod file_system;
-mod parallelism;
 pub mod read_dir;
 pub mod read_dir_iter;
-mod serial_walk;
+pub mod threads;
 mod walk_dir;
 
 pub use dir_entry_iter::DirEntryIter;
@@ -24,7 +23,7 @@ pub use jwalk_order::{index_path, ordered, ordered_queue};
 pub use jwalk_read::client_state::ClientState;
 pub use jwalk_read::dir_entry::{DirEntry, ReadChildren};
 pub use jwalk_read::error::{Error, Result};
+pub use jwalk_read::parallelism::Parallelism;
 pub use jwalk_read::{dir_entry, error};
-pub use parallelism::Parallelism;
 pub use walk_dir::{WalkDir, WalkDirGeneric};
 pub use walk_paths::path_text;

@@ -1,20 +1,27 @@
 //! Readings in preorder.
-ghost use Rattle.std.specs.Prelude.{◌≡◌, ◌≢◌, [], length, Ok, IfOk, OnOk, OnErr, IsSome, option_map};
-ghost use Rattle.jwalk_read.specs.ReadDir.{outcome, reading};
-ghost use Rattle.jwalk_read.specs.Job.{callback, options_of};
+ghost use Rattle.std.specs.Prelude.{◌≡◌, ◌≢◌, ◌≤◌, ◌+◌, [], length, map, IfOk, IfErr, OnOk, OnErr, IsSome, option_map};
+ghost use Rattle.walk_model.specs.Error.{memory};
+ghost use Rattle.jwalk_read.specs.Error.{failure};
+ghost use Rattle.jwalk_read.specs.ReadDir.{spec, outcome};
+ghost use Rattle.jwalk_read.specs.Job.{callback};
 
-pub use crate::serial_walk::SerialWalk;
+mod on_threads;
+
+use crate::threads::InTurn;
+use jwalk_engine::board_walk::BoardWalk;
+use jwalk_engine::read::Outcome;
 use jwalk_read::client_state::ClientState;
 use jwalk_read::dir_entry::DirEntry;
 use jwalk_read::error::Error;
 use jwalk_read::job::Job;
+use jwalk_read::parallelism::Parallelism;
 use jwalk_read::process_read_dir::ProcessReadDir;
 use jwalk_read::read_dir::ReadDir;
+use jwalk_read::read_dir_spec::ReadDirSpec;
 use std::alloc::{AllocError, Allocator, Global};
-use std::convert::Infallible;
 use walk_fs::file_system::FileSystem;
 
-/// An iterator over readings, each before those of its own directories: the one of the first directory not read yet
+/// An iterator over readings, each before those of its own directories: the one of the first directory not given yet
 /// comes next, and then those below it.
 ///
 /// Want of memory is answered by one error whose `is_memory` is true, and then by `None`.
@@ -24,11 +31,147 @@ pub enum ReadDirIter<
     S: FileSystem,
     P: ProcessReadDir<C, A>,
     A: Allocator + Copy = Global,
+    T = InTurn,
 > {
     /// One directory is read at a time, when its reading is asked for.
-    Walk(SerialWalk<C, S, P, A>),
-    /// Directories are read ahead. There is no such walk yet.
-    ParWalk(Infallible),
+    Walk(BoardWalk<C, S, P, A>),
+    /// Several directories are read together, when a reading is asked for that isn't there yet.
+    ParWalk(BoardWalk<C, S, P, A>, T),
+}
+
+impl<
+    C: ClientState,
+    S: FileSystem,
+    P: ProcessReadDir<C, A>,
+    A: Allocator + Copy,
+    T: Drop,
+> ReadDirIter<C, S, P, A, T> {
+    ghost use Rattle.jwalk_read.specs.Options as options;
+    ghost use Rattle.jwalk_read.specs.Options.{parallelism_value};
+    ghost use Rattle.jwalk_engine.specs.Reads.{ReadsNext};
+    ghost use Rattle.jwalk_engine.specs.ReadAhead.{nothing_ahead, BeginsWith, EntersNext};
+    ghost use Rattle.jwalk_engine.specs.BoardWalk as board;
+    ghost use Rattle.jwalk.specs.ReadDirIter.{walk_of, job_of, to_read, width_of, read_ahead, early_of, next_address, Gives};
+
+    /// Readings with nothing to read yet.
+    pub(crate) fn new(alloc: A, threads: T, job: Job<C, S, P, A>, parallelism: Parallelism) -> Self
+        ensures job { job_of result ≡ job }
+        ensures width { width_of result ≡ options.width_of (parallelism_value parallelism) }
+        ensures to_read { to_read result ≡ [] }
+        ensures read_ahead { read_ahead result ≡ nothing_ahead }
+    {
+        let walk = BoardWalk::new(alloc, job, parallelism.width());
+        match parallelism {
+            Parallelism::Serial => ReadDirIter::Walk(walk),
+            Parallelism::RayonNewPool(_) => ReadDirIter::ParWalk(walk, threads),
+        }
+    }
+
+    /// The readings of these directories and of all that is below them.
+    ///
+    /// Fails only for want of memory.
+    pub fn try_new(
+        threads: T,
+        job: Job<C, S, P, A>,
+        roots: Vec<ReadDirSpec<C, A>, A>,
+        parallelism: Parallelism,
+    ) -> Result<Self, Error<A>>
+        ensures job { IfOk result (λ reads. job_of reads ≡ job) }
+        ensures width { IfOk result (λ reads. width_of reads ≡ options.width_of (parallelism_value parallelism)) }
+        ensures to_read { IfOk result (λ reads. to_read reads ≡ map spec roots.items) }
+        ensures read_ahead { IfOk result (λ reads. BeginsWith (map spec roots.items) (read_ahead reads)) }
+        ensures memory { IfErr result (λ error. failure error ≡ memory) }
+    {
+        let mut reads = ReadDirIter::new(*roots.allocator(), threads, job, parallelism);
+        match reads.begin(roots) {
+            Ok(()) => Ok(reads),
+            Err(_) => Err(Error::memory()),
+        }
+    }
+
+    /// Puts these directories in the place of what was to be read.
+    pub(crate) fn begin(&mut self, roots: Vec<ReadDirSpec<C, A>, A>) -> Result<(), AllocError>
+        ensures job { job_of self.new ≡ job_of self.old }
+        ensures width { width_of self.new ≡ width_of self.old }
+        ensures to_read { OnOk result (to_read self.new ≡ map spec roots.items) }
+        ensures read_ahead { OnOk result (BeginsWith (map spec roots.items) (read_ahead self.new)) }
+    {
+        match self {
+            ReadDirIter::Walk(walk) => walk.begin(roots),
+            ReadDirIter::ParWalk(walk, _) => walk.begin(roots),
+        }
+    }
+
+    /// The next reading.
+    pub(crate) fn read_next(&mut self) -> Result<Option<Outcome<C, A>>, AllocError>
+        requires { P.IsLawful (callback (job_of self.old)) }
+        ensures job { job_of self.new ≡ job_of self.old }
+        ensures width { width_of self.new ≡ width_of self.old }
+        ensures ahead { length (board.early_of (walk_of self.new)) + 1
+            ≤ length (board.early_of (walk_of self.old)) + width_of self.old }
+        ensures some { OnErr result (to_read self.old ≢ []) }
+        ensures stopped { OnErr result (to_read self.new ≡ []) }
+        ensures nothing_ahead { OnErr result (read_ahead self.new ≡ nothing_ahead) }
+        ensures next { IfOk result (λ o. ReadsNext S.FileSystem P.ProcessReadDir C.ReadDirState.Clone
+            C.DirEntryState.Default (job_of self.old) (to_read self.old) (option_map outcome o) (to_read self.new)) }
+        ensures enters { IfOk result (λ o. EntersNext S.FileSystem P.ProcessReadDir C.ReadDirState.Clone
+            C.DirEntryState.Default (job_of self.old) (width_of self.old) (next_address self.old)
+            (read_ahead self.old) (option_map outcome o) (read_ahead self.new)) }
+    {
+        match self {
+            ReadDirIter::Walk(walk) => walk.read_next(),
+            ReadDirIter::ParWalk(walk, _) => walk.read_next(),
+        }
+    }
+
+    /// The next reading; or, where memory is refused, the error that tells of it, and nothing is left to be read.
+    fn next_or_stop(&mut self) -> Option<Outcome<C, A>>
+        requires { P.IsLawful (callback (job_of self.old)) }
+        ensures { Gives S.FileSystem P.ProcessReadDir C.ReadDirState.Clone C.DirEntryState.Default
+            self.old result self.new }
+    {
+        match self.read_next() {
+            Ok(read) => read,
+            Err(_) => Some(Err(Error::memory())),
+        }
+    }
+
+    /// The walk over a board, of either kind.
+    fn walk(&self) -> &BoardWalk<C, S, P, A>
+        ensures { result.now ≡ walk_of self.now }
+    {
+        match self {
+            ReadDirIter::Walk(walk) => walk,
+            ReadDirIter::ParWalk(walk, _) => walk,
+        }
+    }
+
+    /// What it reads with.
+    pub(crate) fn job(&self) -> &Job<C, S, P, A>
+        ensures { result.now ≡ job_of self.now }
+    {
+        self.walk().job()
+    }
+
+    /// How many readings were made and not handed on.
+    pub fn ahead(&self) -> usize
+        ensures { result ≡ length (early_of self.now) }
+    {
+        self.walk().ahead()
+    }
+
+    /// Forgets what is not read yet, and what was read early.
+    pub(crate) fn stop(&mut self)
+        ensures job { job_of self.new ≡ job_of self.old }
+        ensures width { width_of self.new ≡ width_of self.old }
+        ensures to_read { to_read self.new ≡ [] }
+        ensures read_ahead { read_ahead self.new ≡ nothing_ahead }
+    {
+        match self {
+            ReadDirIter::Walk(walk) => walk.stop(),
+            ReadDirIter::ParWalk(walk, _) => walk.stop(),
+        }
+    }
 }
 
 impl<C: ClientState, S: FileSystem, P: ProcessReadDir<C, A>, A: Allocator + Copy> ReadDirIter<
@@ -36,59 +179,9 @@ impl<C: ClientState, S: FileSystem, P: ProcessReadDir<C, A>, A: Allocator + Copy
     S,
     P,
     A,
+    InTurn,
 > {
-    ghost use Rattle.jwalk.specs.ReadDirIter.{job_of, to_read, early_of, StacksChildren, ReadsNext, Gives};
-
-    /// Readings in turn, with nothing to read yet.
-    pub(crate) fn serial(alloc: A, job: Job<C, S, P, A>) -> Self
-        ensures job { job_of result ≡ job }
-        ensures to_read { to_read result ≡ [] }
-    {
-        ReadDirIter::Walk(SerialWalk::new(alloc, job))
-    }
-
-    /// Puts the directories of a reading in front of what is to be read.
-    pub(crate) fn put(&mut self, read: &ReadDir<C, A>) -> Result<(), AllocError>
-        ensures job { job_of self.new ≡ job_of self.old }
-        ensures children { OnOk result (StacksChildren C.ReadDirState.Clone
-            (to_read self.old) (Ok (reading read.now)) (to_read self.new)) }
-    {
-        match self {
-            ReadDirIter::Walk(walk) => walk.stack(read),
-            ReadDirIter::ParWalk(never) => match *never {},
-        }
-    }
-
-    /// The next reading.
-    pub(crate) fn read_next(
-        &mut self,
-    ) -> Result<Option<Result<ReadDir<C, A>, Error<A>>>, AllocError>
-        requires { P.IsLawful (callback (job_of self.old)) }
-        ensures job { job_of self.new ≡ job_of self.old }
-        ensures some { OnErr result (to_read self.old ≢ []) }
-        ensures next { IfOk result (λ o. ReadsNext S.FileSystem P.ProcessReadDir C.ReadDirState.Clone
-            C.DirEntryState.Default (job_of self.old) (to_read self.old) (option_map outcome o) (to_read self.new)) }
-    {
-        match self {
-            ReadDirIter::Walk(walk) => walk.read_next(),
-            ReadDirIter::ParWalk(never) => match *never {},
-        }
-    }
-
-    /// The next reading; or, where memory is refused, the error that tells of it, and nothing is left to be read.
-    fn next_or_stop(&mut self) -> Option<Result<ReadDir<C, A>, Error<A>>>
-        requires { P.IsLawful (callback (job_of self.old)) }
-        ensures { Gives S.FileSystem P.ProcessReadDir C.ReadDirState.Clone C.DirEntryState.Default
-            self.old result self.new }
-    {
-        match self.read_next() {
-            Ok(read) => read,
-            Err(_) => {
-                self.stop();
-                Some(Err(Error::memory()))
-            }
-        }
-    }
+    ghost use Rattle.jwalk.specs.ReadDirIter.{job_of, Gives};
 
     /// The reading of an entry's directory: the next one, where the entries are those of the readings so far in the
     /// walk's order.
@@ -101,41 +194,10 @@ impl<C: ClientState, S: FileSystem, P: ProcessReadDir<C, A>, A: Allocator + Copy
         prove!(entry.read_children.is_some());
         self.next_or_stop()
     }
-
-    /// The least depth of what the walk answers.
-    pub(crate) fn min_depth(&self) -> usize
-        ensures { result ≡ (options_of (job_of self.now)).min_depth }
-    {
-        match self {
-            ReadDirIter::Walk(walk) => walk.min_depth(),
-            ReadDirIter::ParWalk(never) => match *never {},
-        }
-    }
-
-    /// How many readings were made and not handed on.
-    pub(crate) fn ahead(&self) -> usize
-        ensures { result ≡ length (early_of self.now) }
-    {
-        match self {
-            ReadDirIter::Walk(_) => 0,
-            ReadDirIter::ParWalk(never) => match *never {},
-        }
-    }
-
-    /// Forgets what is not read yet.
-    pub(crate) fn stop(&mut self)
-        ensures job { job_of self.new ≡ job_of self.old }
-        ensures to_read { to_read self.new ≡ [] }
-    {
-        match self {
-            ReadDirIter::Walk(walk) => walk.stop(),
-            ReadDirIter::ParWalk(never) => match *never {},
-        }
-    }
 }
 
-impl<C: ClientState, S: FileSystem, P: ProcessReadDir<C, A>, A: Allocator + Copy> Iterator
-    for ReadDirIter<C, S, P, A> {
+impl<C: ClientState, S: FileSystem, P: ProcessReadDir<C, A>, A: Allocator + Copy, T: Drop> Iterator
+    for ReadDirIter<C, S, P, A, T> {
     type Item = Result<ReadDir<C, A>, Error<A>>;
 
     ghost use Rattle.std.specs.Iterator.{at_most};

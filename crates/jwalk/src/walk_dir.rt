@@ -4,7 +4,7 @@ ghost use Rattle.walk_model.specs.Error.{memory};
 ghost use Rattle.jwalk_read.specs.Error.{failure};
 
 use crate::dir_entry_iter::DirEntryIter;
-use crate::parallelism::Parallelism;
+use crate::threads::{InTurn, OnThreads};
 use jwalk_process::by_fn::ByFn;
 use jwalk_process::calls::Closure;
 use jwalk_read::client_state::ClientState;
@@ -12,6 +12,7 @@ use jwalk_read::dir_entry::DirEntry;
 use jwalk_read::error::Error;
 use jwalk_read::job::Job;
 use jwalk_read::options::Options;
+use jwalk_read::parallelism::Parallelism;
 use jwalk_read::process_read_dir::{NoProcess, ProcessReadDir};
 use real_fs::real_fs::RealFs;
 use std::alloc::{AllocError, Allocator, Global};
@@ -25,18 +26,32 @@ pub struct WalkDirGeneric<
     S: FileSystem,
     P: ProcessReadDir<C, A>,
     A: Allocator + Copy = Global,
+    T = InTurn,
 > {
     fs: S,
     root: String<A>,
     process: P,
     options: Options,
     root_read_dir_state: C::ReadDirState,
+    threads: T,
 }
 
 /// A walk of the file system that a runtime reaches, without states beside directories and entries.
-pub type WalkDir<R = HostRuntime, A = Global> = WalkDirGeneric<((), ()), RealFs<R>, NoProcess, A>;
+pub type WalkDir<R = HostRuntime, A = Global, T = OnThreads<R>> = WalkDirGeneric<
+    ((), ()),
+    RealFs<R>,
+    NoProcess,
+    A,
+    T,
+>;
 
-impl<C: ClientState, S: FileSystem, A: Allocator + Copy> WalkDirGeneric<C, S, NoProcess, A> {
+impl<C: ClientState, S: FileSystem, A: Allocator + Copy> WalkDirGeneric<
+    C,
+    S,
+    NoProcess,
+    A,
+    InTurn,
+> {
     ghost use Rattle.walk_model.specs.Options.{defaults};
     ghost use Rattle.jwalk.specs.WalkDir.{file_system_of, root_of, state_of, options_of};
 
@@ -54,11 +69,18 @@ impl<C: ClientState, S: FileSystem, A: Allocator + Copy> WalkDirGeneric<C, S, No
             process: NoProcess,
             options: Options::new(),
             root_read_dir_state: C::ReadDirState::default(),
+            threads: InTurn,
         }
     }
 }
 
-impl<'a, R: Files + Alloc + Drop> WalkDirGeneric<((), ()), RealFs<&'a R>, NoProcess, R::A>
+impl<'a, R: Files + Alloc + Drop> WalkDirGeneric<
+    ((), ()),
+    RealFs<&'a R>,
+    NoProcess,
+    R::A,
+    OnThreads<&'a R>,
+>
 where
     R::A: Copy,
 {
@@ -72,18 +94,21 @@ where
         ensures root { IfOk result (λ walk. root_of walk ≡ root.now) }
         ensures options { IfOk result (λ walk. options_of walk ≡ defaults) }
     {
-        Ok(WalkDirGeneric::new(RealFs::new(rt), String::from_str(rt.alloc(), root)?))
+        let root = String::from_str(rt.alloc(), root)?;
+        Ok(WalkDirGeneric::new(RealFs::new(rt), root).threads(rt))
     }
 }
 
-impl<C: ClientState, S: FileSystem, P: ProcessReadDir<C, A>, A: Allocator + Copy> WalkDirGeneric<
-    C,
-    S,
-    P,
-    A,
-> {
+impl<
+    C: ClientState,
+    S: FileSystem,
+    P: ProcessReadDir<C, A>,
+    A: Allocator + Copy,
+    T: Drop,
+> WalkDirGeneric<C, S, P, A, T> {
     ghost use Rattle.walk_model.specs.Options.{with_sort, with_skip_hidden, with_follow_links, with_min_depth, with_max_depth, with_parallelism};
-    ghost use Rattle.jwalk.specs.WalkDir.{parallelism_value, callback_of, root_of, options_of, Sets, SetsState, SetsCallback, Starts, Holds};
+    ghost use Rattle.jwalk_read.specs.Options.{parallelism_value};
+    ghost use Rattle.jwalk.specs.WalkDir.{callback_of, root_of, options_of, Sets, SetsState, SetsCallback, SetsThreads, Starts, Holds};
     ghost use Rattle.jwalk.specs.DirEntryIter.{IsRefused};
 
     /// The root's path as it was given.
@@ -142,12 +167,32 @@ impl<C: ClientState, S: FileSystem, P: ProcessReadDir<C, A>, A: Allocator + Copy
         self
     }
 
-    /// How directories are read.
-    pub fn parallelism(self, parallelism: Parallelism) -> Self
+    /// How directories are read, one at a time by default. It changes neither the answers nor their order, but which
+    /// directories were read when an entry is answered, and how fast that is.
+    ///
+    /// Several directories are read together by several threads where the walk was made by `at` or `threads`, and its
+    /// answers are asked for by the walk's own `next`, `fill` or `next_of`, as in
+    /// `while let Some(answer) = walk.next()`. A `for` loop and adapters call `Iterator::next`, which reads
+    /// the same directories one after another.
+    pub fn parallelism(mut self, parallelism: Parallelism) -> Self
         ensures { Sets (with_parallelism (parallelism_value parallelism) (options_of self)) self result }
     {
-        let Parallelism::Serial = parallelism;
+        self.options = self.options.with_parallelism(parallelism);
         self
+    }
+
+    /// The same walk, where threads of this runtime read the directories that are read together.
+    pub fn threads<R>(self, rt: R) -> WalkDirGeneric<C, S, P, A, OnThreads<R>>
+        ensures { SetsThreads self result }
+    {
+        WalkDirGeneric {
+            fs: self.fs,
+            root: self.root,
+            process: self.process,
+            options: self.options,
+            root_read_dir_state: self.root_read_dir_state,
+            threads: OnThreads::new(rt),
+        }
     }
 
     /// The state that the root's list is given to begin with, the default one by default. It goes down the tree: each
@@ -161,7 +206,10 @@ impl<C: ClientState, S: FileSystem, P: ProcessReadDir<C, A>, A: Allocator + Copy
 
     /// The same walk with this callback in place of its own. It is given each list before the walk goes on with it: the
     /// root's first, then that of each directory as it is read, in its order and after links gave way.
-    pub fn process_read_dir<Q: ProcessReadDir<C, A>>(self, process: Q) -> WalkDirGeneric<C, S, Q, A>
+    pub fn process_read_dir<Q: ProcessReadDir<C, A>>(
+        self,
+        process: Q,
+    ) -> WalkDirGeneric<C, S, Q, A, T>
         ensures { SetsCallback process self result }
     {
         WalkDirGeneric {
@@ -170,11 +218,12 @@ impl<C: ClientState, S: FileSystem, P: ProcessReadDir<C, A>, A: Allocator + Copy
             process,
             options: self.options,
             root_read_dir_state: self.root_read_dir_state,
+            threads: self.threads,
         }
     }
 
     /// The walk begun, whether memory was refused or not.
-    fn begin(self) -> DirEntryIter<C, S, P, A>
+    fn begin(self) -> DirEntryIter<C, S, P, A, T>
         requires { P.IsLawful (callback_of self) }
         ensures starts { Starts self result }
         ensures holds { result.refused ≡ false
@@ -188,16 +237,17 @@ impl<C: ClientState, S: FileSystem, P: ProcessReadDir<C, A>, A: Allocator + Copy
             process,
             options,
             root_read_dir_state,
+            threads,
         } = self;
         let job = Job::with_options(alloc, fs, process, options);
         let read = job.root_list(root.as_str(), root_read_dir_state);
-        DirEntryIter::from_root(alloc, job, read.ok())
+        DirEntryIter::from_root(alloc, threads, job, read.ok())
     }
 
     /// The walk begun: its root's list is made, and no directory is read yet.
     ///
     /// Fails only for want of memory.
-    pub fn try_into_iter(self) -> Result<DirEntryIter<C, S, P, A>, Error<A>>
+    pub fn try_into_iter(self) -> Result<DirEntryIter<C, S, P, A, T>, Error<A>>
         requires { P.IsLawful (callback_of self) }
         ensures starts { IfOk result (Starts self) }
         ensures holds { IfOk result (Holds S.FileSystem P.ProcessReadDir C.ReadDirState.Clone
@@ -214,7 +264,7 @@ impl<C: ClientState, S: FileSystem, P: ProcessReadDir<C, A>, A: Allocator + Copy
     /// The walk begun: its root's list is made, and no directory is read yet.
     ///
     /// Where memory is refused, the iterator's only answer is the error that tells of it.
-    pub fn into_iter(self) -> DirEntryIter<C, S, P, A>
+    pub fn into_iter(self) -> DirEntryIter<C, S, P, A, T>
         requires { P.IsLawful (callback_of self) }
         ensures starts { Starts self result }
         ensures holds { IsRefused result
@@ -224,7 +274,13 @@ impl<C: ClientState, S: FileSystem, P: ProcessReadDir<C, A>, A: Allocator + Copy
     }
 }
 
-impl<C: ClientState, S: FileSystem, P: ProcessReadDir<C, Global>> WalkDirGeneric<C, S, P, Global> {
+impl<C: ClientState, S: FileSystem, P: ProcessReadDir<C, Global>, T: Drop> WalkDirGeneric<
+    C,
+    S,
+    P,
+    Global,
+    T,
+> {
     ghost use Rattle.jwalk_process.specs.ByFn.{closure_of};
     ghost use Rattle.jwalk.specs.WalkDir.{callback_of, SetsCallback};
 
@@ -242,7 +298,7 @@ impl<C: ClientState, S: FileSystem, P: ProcessReadDir<C, Global>> WalkDirGeneric
             &mut Vec<Result<DirEntry<C, Global>, Error<Global>>, Global>,
         ) -> Result<(), AllocError>
             + Drop,
-    >(self, f: F) -> WalkDirGeneric<C, S, ByFn<Closure<F>>, Global>
+    >(self, f: F) -> WalkDirGeneric<C, S, ByFn<Closure<F>>, Global, T>
         ensures closure { closure_of (callback_of result) ≡ f }
         ensures rest { SetsCallback (callback_of result) self result }
     {
@@ -252,15 +308,16 @@ impl<C: ClientState, S: FileSystem, P: ProcessReadDir<C, Global>> WalkDirGeneric
             process: ByFn::of(f),
             options: self.options,
             root_read_dir_state: self.root_read_dir_state,
+            threads: self.threads,
         }
     }
 }
 
-impl<C: ClientState, S: FileSystem, A: Allocator + Copy> IntoIterator
-    for WalkDirGeneric<C, S, NoProcess, A> {
+impl<C: ClientState, S: FileSystem, A: Allocator + Copy, T: Drop> IntoIterator
+    for WalkDirGeneric<C, S, NoProcess, A, T> {
     type Item = Result<DirEntry<C, A>, Error<A>>;
 
-    type IntoIter = DirEntryIter<C, S, NoProcess, A>;
+    type IntoIter = DirEntryIter<C, S, NoProcess, A, T>;
 
     ghost use Rattle.jwalk.specs.WalkDir.{Starts, Holds};
     ghost use Rattle.jwalk.specs.DirEntryIter.{IsRefused};
@@ -268,7 +325,7 @@ impl<C: ClientState, S: FileSystem, A: Allocator + Copy> IntoIterator
     ghost into_iter_gives = { λ walk it. Starts walk it × (IsRefused it ⊎ Holds S.FileSystem
         ⟦<NoProcess as ProcessReadDir<C, A>>⟧ C.ReadDirState.Clone C.DirEntryState.Default walk it) };
 
-    fn into_iter(self) -> DirEntryIter<C, S, NoProcess, A> {
+    fn into_iter(self) -> DirEntryIter<C, S, NoProcess, A, T> {
         WalkDirGeneric::into_iter(self)
     }
 }

@@ -326,6 +326,7 @@ impl<C: ClientState, S: FileSystem, P: ProcessReadDir<C, A>, A: Allocator + Copy
     /// Forgets what is not read yet, and what was read early.
     pub fn stop(&mut self)
         ensures job { self.new.job ≡ self.old.job }
+        ensures width { self.new.width ≡ self.old.width }
         ensures to_read { to_read self.new ≡ [] }
         ensures early { early_of self.new ≡ [] }
         ensures read_ahead { read_ahead self.new ≡ nothing_ahead }

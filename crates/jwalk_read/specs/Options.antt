@@ -1,8 +1,21 @@
--- The options of a walk seen as a value. Every walk is serial.
-use Rattle.std.specs.Prelude.{ℕ, Bool}
+-- The options of a walk seen as a value.
+use Rattle.std.specs.Prelude.{ℕ, Bool, ◌==◌, if◌then◌else◌}
 use Rattle.walk_model.specs.Options as value
-use Rattle.walk_model.specs.Options.{serial, defaults}
+use Rattle.walk_model.specs.Options.{serial, batches, crew, defaults}
+use Rattle.jwalk_read.specs.declared.parallelism.Parallelism.{Parallelism}
+use Rattle.jwalk_read.specs.declared.parallelism.Parallelism.TheVariants.{Serial, RayonNewPool}
 use Rattle.jwalk_read.specs.declared.options.Options.{Options}
+
+-- how directories are read, as a value: a width of 0 stands for 8
+abbrev pub parallelism_value : Parallelism → value.Parallelism
+parallelism_value Serial = serial
+parallelism_value (RayonNewPool n) = batches (if n == 0 then 8 else n)
+
+-- how many directories are read together: one by a serial walk, and by each worker of a crew
+abbrev pub width_of : value.Parallelism → ℕ
+width_of serial = 1
+width_of (batches n) = n
+width_of crew = 1
 
 abbrev pub options_value : Options → value.Options
 options_value it = record {
@@ -11,7 +24,7 @@ options_value it = record {
   follow_links = it.follow_links;
   min_depth = it.min_depth;
   max_depth = it.max_depth;
-  parallelism = serial;
+  parallelism = parallelism_value it.parallelism;
 }
 
 -- the options that readings go by

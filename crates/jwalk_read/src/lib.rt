@@ -9,6 +9,7 @@ pub mod job;
 pub mod laws;
 mod metadata;
 pub mod options;
+pub mod parallelism;
 pub mod process_read_dir;
 pub mod read_children;
 pub mod read_dir;

@@ -1,8 +1,10 @@
 //! The options of a walk.
 ghost use Rattle.std.specs.Prelude.{◌≡◌, ◌≤◌};
 
+use crate::parallelism::Parallelism;
+
 /// What a walk goes by. A new one has the defaults: no order but the file system's, hidden names left out, no
-/// link followed, every depth.
+/// link followed, every depth, one directory read at a time.
 #[derive(Clone, Copy)]
 pub struct Options {
     pub(crate) sort: bool,
@@ -10,12 +12,13 @@ pub struct Options {
     pub(crate) follow_links: bool,
     pub(crate) min_depth: usize,
     pub(crate) max_depth: usize,
+    pub(crate) parallelism: Parallelism,
     ghost in_order: { min_depth ≤ max_depth },
 }
 
 impl Options {
-    ghost use Rattle.walk_model.specs.Options.{defaults, with_sort, with_skip_hidden, with_follow_links, with_min_depth, with_max_depth};
-    ghost use Rattle.jwalk_read.specs.Options.{options_value, reads_by};
+    ghost use Rattle.walk_model.specs.Options.{defaults, with_sort, with_skip_hidden, with_follow_links, with_min_depth, with_max_depth, with_parallelism};
+    ghost use Rattle.jwalk_read.specs.Options.{parallelism_value, options_value, reads_by};
 
     /// The defaults.
     pub fn new() -> Self
@@ -27,6 +30,7 @@ impl Options {
             follow_links: false,
             min_depth: 0,
             max_depth: usize::MAX,
+            parallelism: Parallelism::Serial,
         }
     }
 
@@ -45,6 +49,7 @@ impl Options {
             follow_links,
             min_depth: 0,
             max_depth,
+            parallelism: Parallelism::Serial,
         }
     }
 
@@ -80,11 +85,22 @@ impl Options {
         self
     }
 
-    /// The greatest depth, raised to the least.
+    /// The greatest depth, raised to the least. A walk that reads one directory at most becomes serial.
     pub fn with_max_depth(mut self, depth: usize) -> Self
         ensures { options_value result ≡ with_max_depth depth (options_value self) }
     {
         self.max_depth = depth.max(self.min_depth);
+        if self.max_depth < 2 {
+            self.parallelism = Parallelism::Serial;
+        }
+        self
+    }
+
+    /// How directories are read.
+    pub fn with_parallelism(mut self, parallelism: Parallelism) -> Self
+        ensures { options_value result ≡ with_parallelism (parallelism_value parallelism) (options_value self) }
+    {
+        self.parallelism = parallelism;
         self
     }
 
@@ -94,5 +110,12 @@ impl Options {
         ensures in_order { result ≤ (options_value self).max_depth }
     {
         self.min_depth
+    }
+
+    /// How directories are read.
+    pub fn parallelism(self) -> Parallelism
+        ensures { parallelism_value result ≡ (options_value self).parallelism }
+    {
+        self.parallelism
     }
 }

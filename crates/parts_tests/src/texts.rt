@@ -44,7 +44,12 @@ fn other_words_are_bad(rt: HostRuntime) {
         &["--tree", "/r", "--sort", "/r"],
         &["--sorted", "/r"],
         &["--follow", "--follow", "/r"],
-        &["--batch", "2", "/r"],
+        &["--batch", "1", "--batch", "2", "/r"],
+        &["--batch", "2"],
+        &["--batch", "x", "/r"],
+        &["--batch", "--sort", "/r"],
+        &["--crew", "2", "/r"],
+        &["--batch", "2", "--crew", "2", "/r"],
         &["--tree", "--usage", "/r"],
     ];
     for words in ROWS {
@@ -55,12 +60,14 @@ fn other_words_are_bad(rt: HostRuntime) {
 fn is_no_number(alloc: Global, number: &str) -> bool {
     are_bad(alloc, &["--min", number, "--tree", "/t"])
         && are_bad(alloc, &["--max", number, "--tree", "/t"])
+        && are_bad(alloc, &["--batch", number, "--tree", "/t"])
 }
 
-// The greatest depth that a number asks for.
-fn greatest(alloc: Global, number: &str) -> Option<usize> {
-    let words = texts(alloc, &["--max", number, "--tree", "/t"]).ok()?;
-    parse_words(words.as_slice())?.asked.max
+// The greatest depth and the width of batches that a number asks for.
+fn numbers_of(alloc: Global, number: &str) -> Option<(Option<usize>, Option<usize>)> {
+    let words = texts(alloc, &["--max", number, "--batch", number, "/t"]).ok()?;
+    let asked = parse_words(words.as_slice())?.asked;
+    Some((asked.max, asked.batch))
 }
 
 #[test]
@@ -86,7 +93,7 @@ fn numbers_have_up_to_20_digits_and_fit(rt: HostRuntime) {
         ("18446744073709551615", usize::MAX),
     ];
     for (number, value) in GOOD {
-        assert!(rt; greatest(rt.alloc(), number) == Some(*value));
+        assert!(rt; numbers_of(rt.alloc(), number) == Some((Some(*value), Some(*value))));
     }
 }
 
@@ -97,6 +104,7 @@ fn are_same(asked: &Asked, wanted: &Asked) -> bool {
         && asked.follow == wanted.follow
         && asked.min == wanted.min
         && asked.max == wanted.max
+        && asked.batch == wanted.batch
 }
 
 // Whether words ask for this, and for a walk from this root.
@@ -117,6 +125,7 @@ static ORDERED: Asked = Asked {
     follow: true,
     min: Some(1),
     max: Some(2),
+    batch: Some(3),
 };
 
 static HIDDEN: Asked = Asked {
@@ -126,28 +135,29 @@ static HIDDEN: Asked = Asked {
     follow: false,
     min: None,
     max: None,
+    batch: None,
 };
 
 #[test]
 fn options_come_in_any_order_and_the_root_last(rt: HostRuntime) {
     const ROWS: &[&[&str]] = &[
         &[
-            "--tree", "--sort", "--follow", "--max", "2", "--min", "1", "/r",
+            "--tree", "--sort", "--follow", "--max", "2", "--min", "1", "--batch", "3", "/r",
         ],
         &[
-            "--follow", "--sort", "--tree", "--min", "1", "--max", "2", "/r",
+            "--batch", "3", "--follow", "--sort", "--tree", "--min", "1", "--max", "2", "/r",
         ],
         &[
-            "--min", "01", "--max", "2", "--sort", "--follow", "--tree", "/r",
+            "--min", "01", "--max", "2", "--sort", "--batch", "03", "--follow", "--tree", "/r",
         ],
         &[
-            "--max", "2", "--tree", "--min", "1", "--follow", "--sort", "/r",
+            "--max", "2", "--batch", "3", "--tree", "--min", "1", "--follow", "--sort", "/r",
         ],
     ];
     for words in ROWS {
         assert!(rt; ask_for(rt.alloc(), words, &ORDERED, "/r"));
     }
-    const ROOTS: &[&str] = &["--tree", "--hidden", "--min", "3"];
+    const ROOTS: &[&str] = &["--tree", "--hidden", "--min", "--batch", "3"];
     for root in ROOTS {
         assert!(rt; ask_for(rt.alloc(), &["--hidden", root], &HIDDEN, root));
     }

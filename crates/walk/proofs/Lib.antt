@@ -1,3 +1,4 @@
 pub mod LineFacts
+pub mod PrintFacts
 pub mod AskedWalkFacts
 pub mod RunFacts

@@ -1,6 +1,6 @@
 -- Lines one after another.
 use Rattle.std.proofs.Common.{◌≡◌, ℕ, Bool, true, false, ◌&&◌, List, [], ◌∷◌, ◌++◌, Option, Some, None, map, append_assoc, append-nil, sym, ◌∙◌, ap, refl}
-use Rattle.std.specs.Io.KnownBytes.{Appends}
+use Rattle.std.specs.Io.KnownBytes.{Appends, append_known}
 use Rattle.std.specs.List.{list_all}
 use Rattle.std.proofs.lemmas.List.Folds.{list_all-append}
 use Rattle.walk_model.specs.Entry.{Item}
@@ -12,6 +12,18 @@ appends_then None b c xs ys first second = tt
 appends_then (Some ws) None c xs ys first second = absurd first
 appends_then (Some ws) (Some vs) None xs ys first second = absurd second
 appends_then (Some ws) (Some vs) (Some us) xs ys first second = second ∙ (ap (λ l. l ++ ys) first ∙ append_assoc ws xs ys)
+
+-- nothing is written where nothing is gathered
+pub nothing_gathered : (old : Option (List ℕ)) (gathered : List ℕ) → gathered ≡ [] → Appends old (append_known old gathered) []
+nothing_gathered None gathered none = tt
+nothing_gathered (Some ws) gathered none = ap (λ l. ws ++ l) none
+
+-- what was gathered is written
+pub rest_written : (old mid new : Option (List ℕ)) (gathered text : List ℕ) → Appends old (append_known mid gathered) text → Appends mid new gathered → Appends old new text
+rest_written None mid new gathered text first rest = tt
+rest_written (Some ws) None new gathered text first rest = absurd first
+rest_written (Some ws) (Some vs) None gathered text first rest = absurd rest
+rest_written (Some ws) (Some vs) (Some us) gathered text first rest = rest ∙ first
 
 module _ {R E X : Type 0} (view : X → Item R E) where
   lines_more : (xs : List X) (x : X) → lines_of (map view (xs ++ x ∷ [])) ≡ lines_of (map view xs) ++ line_of (view x)

@@ -1,5 +1,5 @@
 //! The answers of a walk, printed.
-ghost use Rattle.std.specs.Prelude.{◌≡◌, ◌≤◌, [], true, is_ok, IfOk, IfErr, OnOk};
+ghost use Rattle.std.specs.Prelude.{◌≡◌, ◌≤◌, [], true, Ok, is_ok, IfOk, IfErr, OnOk};
 ghost use Rattle.std.specs.Iterator.{IsFinite};
 ghost use Rattle.std.specs.Io.KnownBytes.{Appends, append_known};
 ghost use Rattle.jwalk_read.specs.Entry.{item};
@@ -54,7 +54,7 @@ fn gather<W: Write, C: ClientState, A: Allocator + Copy>(
 }
 
 /// Prints the line of an answer, and tells whether it is an entry.
-fn print_one<W: Write, C: ClientState, A: Allocator + Copy>(
+pub fn print_one<W: Write, C: ClientState, A: Allocator + Copy>(
     answer: Answer<DirEntry<C, A>, A>,
     gathered: &mut Vec<u8, A>,
     out: &mut W,
@@ -66,6 +66,29 @@ fn print_one<W: Write, C: ClientState, A: Allocator + Copy>(
 {
     gather(&answer, gathered, out)?;
     Ok(answer.is_ok())
+}
+
+/// Writes the lines that are left, and has the output hold nothing back.
+pub fn write_rest<W: Write, A: Allocator>(
+    gathered: &mut Vec<u8, A>,
+    out: &mut W,
+) -> Result<(), Failure>
+    ensures written { OnOk result (Appends (W.contents out.old) (W.contents out.new) gathered.old.items) }
+    ensures status { IfErr result (λ failure. status_of failure ≡ 1) }
+{
+    write_gathered(gathered, out)?;
+    if out.flush().is_err() {
+        return Err(Failure::Output);
+    }
+    Ok(())
+}
+
+/// The room in which lines are gathered.
+pub fn room<A: Allocator>(alloc: A) -> Result<Vec<u8, A>, Failure>
+    ensures empty { IfOk result (λ gathered. gathered.items ≡ []) }
+    ensures status { IfErr result (λ failure. status_of failure ≡ 1) }
+{
+    Ok(Vec::with_capacity(alloc, 2 * GATHERED)?)
 }
 
 /// Prints a line for each answer, and tells whether none was an error.
@@ -81,16 +104,26 @@ where
     ensures printed { IfOk result (PrintsAll I.next_gives answers (W.contents out.old) (W.contents out.new)) }
     ensures status { IfErr result (λ failure. status_of failure ≡ 1) }
 {
-    let mut gathered = Vec::with_capacity(alloc, 2 * GATHERED)?;
+    let mut gathered = room(alloc)?;
     let mut clean = true;
     for answer in answers {
         clean &= print_one(answer, &mut gathered, out)?;
     }
-    write_gathered(&mut gathered, out)?;
-    if out.flush().is_err() {
-        return Err(Failure::Output);
-    }
+    write_rest(&mut gathered, out)?;
     Ok(clean)
+}
+
+/// The status once answers were printed, or could not be, which standard error then tells of.
+pub fn status_once<E: Write>(printed: Result<bool, Failure>, err: &mut E) -> u8
+    requires { IfErr printed (λ failure. status_of failure ≡ 1) }
+    ensures status { result ≤ 1 }
+    ensures clean { result ≡ 0 → printed ≡ Ok true }
+{
+    match printed {
+        Ok(true) => 0,
+        Ok(false) => 1,
+        Err(failure) => failure.report(err),
+    }
 }
 
 /// Prints a line for each answer, and answers the status: 0, or 1 where an answer was an error, where memory was
@@ -108,9 +141,5 @@ where
     ensures status { result ≤ 1 }
     ensures printed { result ≡ 0 → PrintsAll I.next_gives answers (W.contents out.old) (W.contents out.new) true }
 {
-    match print_all(alloc, answers, out) {
-        Ok(true) => 0,
-        Ok(false) => 1,
-        Err(failure) => failure.report(err),
-    }
+    status_once(print_all(alloc, answers, out), err)
 }

@@ -1,6 +1,6 @@
 //! Walks the disk and prints one line for each answer:
-//! `walk [--tree] [--sort] [--hidden] [--follow] [--min N] [--max N] ROOT`. With `--tree` it walks the tree that the lines
-//! on standard input say.
+//! `walk [--tree] [--sort] [--hidden] [--follow] [--min N] [--max N] [--batch N] ROOT`. With `--tree` it walks the tree
+//! that the lines on standard input say.
 #![tactic(auto)]
 
 mod answers;
@@ -9,6 +9,7 @@ mod run;
 mod source;
 #[cfg(test)]
 mod tests;
+mod walk_printed;
 
 use crate::run::run;
 use jwalk::file_system::RealFs;
@@ -31,6 +32,7 @@ fn main(rt: HostRuntime) -> ExitCode {
     let mut err = rt.stderr();
     let status = match words_of(&rt) {
         Ok(words) => run(
+            &rt,
             rt.alloc(),
             RealFs::new(&rt),
             words.as_slice(),

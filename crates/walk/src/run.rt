@@ -8,12 +8,21 @@ use crate::source::Source;
 use jwalk::file_system::FileSystem;
 use std::alloc::Allocator;
 use std::io::{Read, Write};
+use std::thread::Threads;
 use walk_text::failure::Failure;
 use walk_text::input::read_tree;
 use walk_text::words::parse_words;
 
 /// Walks as the words ask, and prints one line for each answer.
-fn try_run<S: FileSystem, A: Allocator + Copy, R: Read, W: Write, E: Write>(
+fn try_run<
+    T: Threads + Sync,
+    S: FileSystem + Send + Sync,
+    A: Allocator + Copy + Send + Sync,
+    R: Read,
+    W: Write,
+    E: Write,
+>(
+    rt: &T,
     alloc: A,
     disk: S,
     words: &[String<A>],
@@ -35,9 +44,9 @@ fn try_run<S: FileSystem, A: Allocator + Copy, R: Read, W: Write, E: Write>(
     };
     if request.asked.tree {
         let tree = read_tree(alloc, input)?;
-        return print_walk(alloc, Source::<S, A>::Tree(tree), &request, out, err);
+        return print_walk(rt, alloc, Source::<S, A>::Tree(tree), &request, out, err);
     }
-    print_walk(alloc, Source::<S, A>::Disk(disk), &request, out, err)
+    print_walk(rt, alloc, Source::<S, A>::Disk(disk), &request, out, err)
 }
 
 /// Walks as the words ask, prints one line for each answer, and answers the status: 0 where the walk ended and no answer
@@ -45,15 +54,15 @@ fn try_run<S: FileSystem, A: Allocator + Copy, R: Read, W: Write, E: Write>(
 /// tree, and then nothing is printed. What is wrong is told on `err`, unless the output can't be written.
 ///
 /// The walk goes over the tree that the input says, if the words ask for that, and over the disk otherwise; the input
-/// isn't read then.
-pub fn run<S: FileSystem, A: Allocator + Copy, R: Read, W: Write, E: Write>(
-    alloc: A,
-    disk: S,
-    words: &[String<A>],
-    input: &mut R,
-    out: &mut W,
-    err: &mut E,
-) -> u8
+/// isn't read then. Where the words ask for batches, threads of `rt` read them.
+pub fn run<
+    T: Threads + Sync,
+    S: FileSystem + Send + Sync,
+    A: Allocator + Copy + Send + Sync,
+    R: Read,
+    W: Write,
+    E: Write,
+>(rt: &T, alloc: A, disk: S, words: &[String<A>], input: &mut R, out: &mut W, err: &mut E) -> u8
     ensures status { result ≤ 2 }
     ensures ends { Ends (map string_bytes words.now) (R.remaining input.old) result }
     ensures bad_words { ¬ (AreGood (map string_bytes words.now)) → result ≡ 2 }
@@ -63,7 +72,7 @@ pub fn run<S: FileSystem, A: Allocator + Copy, R: Read, W: Write, E: Write>(
     ensures printed { result ≡ 0 → PrintsWalk S.FileSystem disk (map string_bytes words.now)
         (R.remaining input.old) (W.contents out.old) (W.contents out.new) }
 {
-    match try_run(alloc, disk, words, input, out, err) {
+    match try_run(rt, alloc, disk, words, input, out, err) {
         Ok(status) => status,
         Err(failure) => failure.report(err),
     }

@@ -6,7 +6,7 @@ use Rattle.walk_text.specs.Asked.{nothing, also}
 use Rattle.walk_text.specs.Words.{BeginWithNumber, BeginWithNamedNumber, Begin, AddAll, Add, Ask, AreGood}
 use Rattle.walk_text.specs.declared.asked.Asked.{Asked}
 use Rattle.walk_text.specs.declared.asked.Choice.{Choice}
-use Rattle.walk_text.specs.declared.asked.Choice.TheVariants.{Tree, Sort, Hidden, Follow, Min, Max}
+use Rattle.walk_text.specs.declared.asked.Choice.TheVariants.{Tree, Sort, Hidden, Follow, Min, Max, Batch}
 
 -- an option and the words behind it
 abbrev split_as : Choice → List (List ℕ) → Option (Choice × List (List ℕ))
@@ -26,6 +26,7 @@ named name behind =
     else if bytes_eq name (codes "--follow") then split_as Follow behind
     else if bytes_eq name (codes "--min") then numbered Min behind
     else if bytes_eq name (codes "--max") then numbered Max behind
+    else if bytes_eq name (codes "--batch") then numbered Batch behind
     else None
 
 -- the option that words begin with, and the words behind it
@@ -45,6 +46,7 @@ split_is words Hidden others begin = ap split begin
 split_is words Follow others begin = ap split begin
 split_is words (Min n) others (behind, is, number) = ap split is ∙ numbered_is Min behind n others number
 split_is words (Max n) others (behind, is, number) = ap split is ∙ numbered_is Max behind n others number
+split_is words (Batch n) others (behind, is, number) = ap split is ∙ numbered_is Batch behind n others number
 
 same_parts : (a b : Choice) (xs ys : List (List ℕ)) → split_as a xs ≡ split_as b ys → (a ≡ b) × (xs ≡ ys)
 same_parts a b xs ys same =
@@ -76,6 +78,10 @@ lacks_min behind = lacks_number Min (codes "--min") behind refl (λ words n othe
 pub lacks_max : (behind : List (List ℕ)) → ((n : ℕ) (others : List (List ℕ)) → ¬ (BeginWithNumber behind n others)) → (choice : Choice) (others : List (List ℕ)) → ¬ (Begin (codes "--max" ∷ behind) choice others)
 unfolding split named
 lacks_max behind = lacks_number Max (codes "--max") behind refl (λ words n others begin. begin)
+
+pub lacks_batch : (behind : List (List ℕ)) → ((n : ℕ) (others : List (List ℕ)) → ¬ (BeginWithNumber behind n others)) → (choice : Choice) (others : List (List ℕ)) → ¬ (Begin (codes "--batch" ∷ behind) choice others)
+unfolding split named
+lacks_batch behind = lacks_number Batch (codes "--batch") behind refl (λ words n others begin. begin)
 
 -- no words begin with no option
 none_begins : (choice : Choice) (others : List (List ℕ)) → ¬ (Begin [] choice others)

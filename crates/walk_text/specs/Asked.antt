@@ -1,13 +1,15 @@
 -- What the options of a call ask for.
 use Rattle.std.specs.Prelude.{ℕ, true, false, not, Option, Some, None, is_some, if◌then◌else◌}
-use Rattle.walk_model.specs.Options.{Options, defaults, with_sort, with_skip_hidden, with_follow_links, with_min_depth, with_max_depth}
+use Rattle.walk_model.specs.Options.{Options, defaults, with_sort, with_skip_hidden, with_follow_links, with_min_depth, with_max_depth, with_parallelism}
+use Rattle.jwalk_read.specs.Options.{parallelism_value}
+use Rattle.jwalk_read.specs.declared.parallelism.Parallelism.TheVariants.{RayonNewPool}
 use Rattle.walk_text.specs.declared.asked.Asked.{Asked}
 use Rattle.walk_text.specs.declared.asked.Choice.{Choice}
-use Rattle.walk_text.specs.declared.asked.Choice.TheVariants.{Tree, Sort, Hidden, Follow, Min, Max}
+use Rattle.walk_text.specs.declared.asked.Choice.TheVariants.{Tree, Sort, Hidden, Follow, Min, Max, Batch}
 
 -- what no option asks for
 abbrev pub nothing : Asked
-nothing = record { tree = false; sort = false; hidden = false; follow = false; min = None; max = None }
+nothing = record { tree = false; sort = false; hidden = false; follow = false; min = None; max = None; batch = None }
 
 -- what is asked for with one more option; each is taken at most once
 abbrev pub also : Choice → Asked → Option Asked
@@ -17,13 +19,18 @@ also Hidden asked = if asked.hidden then None else Some (record asked { hidden =
 also Follow asked = if asked.follow then None else Some (record asked { follow = true })
 also (Min depth) asked = if is_some asked.min then None else Some (record asked { min = Some depth })
 also (Max depth) asked = if is_some asked.max then None else Some (record asked { max = Some depth })
+also (Batch width) asked = if is_some asked.batch then None else Some (record asked { batch = Some width })
 
--- a step of the builder, where a depth was named
-abbrev pub at_depth : (ℕ → Options → Options) → Option ℕ → Options → Options
-at_depth step None options = options
-at_depth step (Some depth) options = step depth options
+-- a step of the builder, where a number was named
+abbrev pub where_named : (ℕ → Options → Options) → Option ℕ → Options → Options
+where_named step None options = options
+where_named step (Some n) options = step n options
+
+-- directories are read in batches of a width, where 0 stands for 8
+abbrev pub with_batches : ℕ → Options → Options
+with_batches width = with_parallelism (parallelism_value (RayonNewPool width))
 
 -- the options of the walk that is asked for, by the builder's steps one after another
 abbrev pub options_for : Asked → Options
 options_for asked =
-    at_depth with_max_depth asked.max (at_depth with_min_depth asked.min (with_follow_links asked.follow (with_skip_hidden (not asked.hidden) (with_sort asked.sort defaults))))
+    where_named with_batches asked.batch (where_named with_max_depth asked.max (where_named with_min_depth asked.min (with_follow_links asked.follow (with_skip_hidden (not asked.hidden) (with_sort asked.sort defaults)))))

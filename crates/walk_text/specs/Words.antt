@@ -4,7 +4,7 @@ use Rattle.walk_text.specs.Number.{IsNumber, value_of}
 use Rattle.walk_text.specs.Asked.{nothing, also}
 use Rattle.walk_text.specs.declared.asked.Asked.{Asked}
 use Rattle.walk_text.specs.declared.asked.Choice.{Choice}
-use Rattle.walk_text.specs.declared.asked.Choice.TheVariants.{Tree, Sort, Hidden, Follow, Min, Max}
+use Rattle.walk_text.specs.declared.asked.Choice.TheVariants.{Tree, Sort, Hidden, Follow, Min, Max, Batch}
 
 -- the words begin with a number, and these stand behind it
 abbrev pub BeginWithNumber : List (List ℕ) → ℕ → List (List ℕ) → Type 0
@@ -22,6 +22,7 @@ Begin words Hidden others = words ≡ codes "--hidden" ∷ others
 Begin words Follow others = words ≡ codes "--follow" ∷ others
 Begin words (Min depth) others = BeginWithNamedNumber (codes "--min") words depth others
 Begin words (Max depth) others = BeginWithNamedNumber (codes "--max") words depth others
+Begin words (Batch width) others = BeginWithNamedNumber (codes "--batch") words width others
 
 -- the words are these options, one after another, and add what they ask for to what was asked for before
 abbrev pub AddAll : List Choice → List (List ℕ) → Asked → Asked → Type 0

@@ -16,6 +16,8 @@ pub enum Choice {
     Min(usize),
     /// The greatest depth.
     Max(usize),
+    /// How many directories are read at a time, at most.
+    Batch(usize),
 }
 
 /// What options ask for together.
@@ -33,6 +35,8 @@ pub struct Asked {
     pub min: Option<usize>,
     /// The greatest depth, if one was named.
     pub max: Option<usize>,
+    /// How many directories are read at a time, at most, if a number was named.
+    pub batch: Option<usize>,
 }
 
 impl Asked {
@@ -49,6 +53,7 @@ impl Asked {
             follow: false,
             min: None,
             max: None,
+            batch: None,
         }
     }
 
@@ -73,6 +78,10 @@ impl Asked {
             }),
             Choice::Max(depth) if self.max.is_none() => Some(Asked {
                 max: Some(depth),
+                ..self
+            }),
+            Choice::Batch(width) if self.batch.is_none() => Some(Asked {
+                batch: Some(width),
                 ..self
             }),
             _ => None,

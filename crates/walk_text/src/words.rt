@@ -49,6 +49,10 @@ fn split_option<A: Allocator>(words: &[String<A>]) -> Option<(Choice, &[String<A
             let (depth, others) = split_number(behind)?;
             Some((Choice::Max(depth), others))
         }
+        "--batch" => {
+            let (width, others) = split_number(behind)?;
+            Some((Choice::Batch(width), others))
+        }
         _ => None,
     }
 }

@@ -13,13 +13,14 @@ pub returns-clause-printed : goal.returns-clause-printed
 returns-clause-printed g c = λ clean fixed.
     let request = c.args.request.now in
     let walk = c.walk_of.result in
-    let all = c.print_answers.ensures.printed clean in
+    let none_failed = c.status_once.ensures.clean clean in
+    let all = rw none_failed at c.print_walked.ensures.printed in
     let begun = c.into_iter-walk.ensures in
     let built = c.walk_of.ensures in
     let steady = subst (g.S.FileSystem.IsFixed) (sym built.file_system) fixed in
     let listed = whole _ _ _ _ stateless walk c.into_iter-walk.result all.0 begun.starts begun.holds (record { file_system = steady; callback = λ depth path state list. refl; clones = λ x y is. refl; default = λ x is. refl }) all.1 (entries_tell all.0 (sym all.2)) in
     let asked = listed ∙ stateless_of g.S.FileSystem.functions walk c.args.fs (options_for request.asked) request.root.now built.file_system built.options (built.root ∙ c.in_ok-root.ensures.ok) in
     record {
-      prints = subst (λ l. Appends (g.W.Write.contents c.args.out.now) (g.W.Write.contents c.print_answers.new.out) l) (sym (same_lines stateless (map item all.0)) ∙ ap lines_of asked) all.3;
+      prints = subst (λ l. Appends (g.W.Write.contents c.args.out.now) (g.W.Write.contents c.print_walked.new.out) l) (sym (same_lines stateless (map item all.0)) ∙ ap lines_of asked) all.3;
       clean = ap (list_all is_ok) (sym asked) ∙ (all_entries stateless all.0 ∙ sym all.2);
     }

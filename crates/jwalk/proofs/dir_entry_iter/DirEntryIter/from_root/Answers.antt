@@ -12,9 +12,9 @@ returns-in-Ok-clause-within g c =
 
 pub returns-in-Ok-clause-sourced : goal.returns-in-Ok-clause-sourced
 returns-in-Ok-clause-sourced g c =
-    root_sourced g.C.ReadDirState.Clone (reading c.in-Some.read) c.refused-walk.result c.begin.new.self (record c.begin.new.self { refused = false }) refl refl refl c.refused-walk.ensures.items c.refused-walk.ensures.unread c.in-Ok.ensures.items c.in-Ok.ensures.children
+    root_sourced g.C.ReadDirState.Clone (reading c.in-Some.read) c.refused-walk.result c.begin.new.self (record c.begin.new.self { refused = false }) refl refl refl c.refused-walk.ensures.items c.in-Ok.ensures.items c.in-Ok.ensures.children
 
 pub returns-in-Ok-clause-held : goal.returns-in-Ok-clause-held
 returns-in-Ok-clause-held g c = λ given counts started.
     rw c.in-Some.is
-    (holds_root g.C.ReadDirState.Clone given (reading c.in-Some.read) c.refused-walk.result c.begin.new.self (record c.begin.new.self { refused = false }) counts refl refl refl c.refused-walk.ensures.items c.refused-walk.ensures.unread c.in-Ok.ensures.items c.in-Ok.ensures.children)
+    (holds_root g.C.ReadDirState.Clone given (reading c.in-Some.read) c.refused-walk.result c.begin.new.self (record c.begin.new.self { refused = false }) counts refl refl refl c.refused-walk.ensures.items c.in-Ok.ensures.items c.in-Ok.ensures.children)

@@ -5,6 +5,7 @@ use Rattle.walk_model.specs.Listing.{paired}
 use Rattle.walk_model.specs.Counted.{Worth}
 use Rattle.walk_model.specs.Job as value
 use Rattle.jwalk_read.specs.ReadDir.{reading}
+use Rattle.jwalk_read.specs.Options.{width_of}
 use Rattle.jwalk_read.specs.Given.{counted_reading}
 use Rattle.jwalk_read.specs.Job.{file_system, callback, options_of, job_by, IsSteady}
 use Rattle.jwalk.specs.DirEntryIter.{held_by}
@@ -25,6 +26,8 @@ returns-clause-starts g c =
       within = c.from_root.ensures.within;
       sourced = c.from_root.ensures.sourced;
       start = by_flag c.from_root.result.refused c.from_root.ensures.refused c.from_root.ensures.depth;
+      width = c.from_root.ensures.width ∙ ap (λ o. width_of o.parallelism) jobs.options;
+      early = c.from_root.ensures.early;
     }
 
 pub returns-clause-holds : goal.returns-clause-holds

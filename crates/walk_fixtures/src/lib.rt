@@ -1,0 +1,12 @@
+//! What the tests of walks share: trees, file systems that count or fail, the ways in which a walk can be read, and
+//! answers as texts.
+#![tactic(auto)]
+
+pub mod answers;
+pub mod begun;
+pub mod listed_directory;
+pub mod plain_walk;
+pub mod row;
+pub mod trees;
+pub mod watched;
+pub mod ways;

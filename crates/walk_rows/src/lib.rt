@@ -1,0 +1,21 @@
+//! Walks and their answers in one table, each read in every way.
+#![tactic(auto)]
+
+#[cfg(test)]
+mod calls;
+#[cfg(test)]
+mod faults;
+#[cfg(test)]
+mod links;
+#[cfg(test)]
+mod options;
+#[cfg(test)]
+mod parts;
+#[cfg(test)]
+mod roots;
+#[cfg(test)]
+mod table;
+#[cfg(test)]
+mod walks;
+#[cfg(test)]
+mod widths;

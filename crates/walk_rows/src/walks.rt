@@ -1,0 +1,159 @@
+//! Walks with the options as they are, from roots of every kind.
+use crate::table::holds;
+use jwalk::file_system::FileType;
+use std::io::ErrorKind;
+use walk_fixtures::listed_directory::{Item, ListedDirectory};
+use walk_fixtures::row::{Over, Row};
+use walk_fixtures::trees::{GROUPED, SMALL, Step};
+
+#[test]
+fn a_directory_before_all_that_it_holds(rt: HostRuntime) {
+    const ROWS: &[Row] = &[
+        Row {
+            over: Over::Tree(SMALL),
+            root: "/r",
+            settings: &[],
+            answers: "0 d /r; 1 f /r/b; 1 d /r/s; 2 f /r/s/x; 1 f /r/a",
+        },
+        Row {
+            over: Over::Tree(GROUPED),
+            root: "/t",
+            settings: &[],
+            answers: "0 d /t; 1 f /t/c.txt; 1 f /t/a.txt; 1 d /t/group 2; 2 f /t/group 2/e.txt; \
+                      1 d /t/group 1; 2 f /t/group 1/d.txt; 1 f /t/b.txt",
+        },
+        Row {
+            over: Over::Tree(SMALL),
+            root: "/r/s",
+            settings: &[],
+            answers: "0 d /r/s; 1 f /r/s/x",
+        },
+        Row {
+            over: Over::Tree(GROUPED),
+            root: "/t/a.txt",
+            settings: &[],
+            answers: "0 f /t/a.txt",
+        },
+        Row {
+            over: Over::Tree(&[Step::Dir("/e")]),
+            root: "/e",
+            settings: &[],
+            answers: "0 d /e",
+        },
+        Row {
+            over: Over::Tree(GROUPED),
+            root: "/none",
+            settings: &[],
+            answers: "! 0 /none NotFound",
+        },
+    ];
+    for row in ROWS {
+        assert!(rt; holds(&rt, row), "from {}", row.root);
+    }
+}
+
+#[test]
+fn roots_that_have_no_file_name(rt: HostRuntime) {
+    const ROWS: &[Row] = &[
+        Row {
+            over: Over::Tree(&[Step::Dir("/r")]),
+            root: ".",
+            settings: &[],
+            answers: "0 d .; 1 d ./r",
+        },
+        Row {
+            over: Over::Tree(&[Step::Dir("/r")]),
+            root: "..",
+            settings: &[],
+            answers: "0 d ..; 1 d ../r",
+        },
+        Row {
+            over: Over::Tree(&[Step::Dir("/r")]),
+            root: "../..",
+            settings: &[],
+            answers: "0 d ../..; 1 d ../../r",
+        },
+        Row {
+            over: Over::Tree(&[Step::Dir("/r")]),
+            root: "/",
+            settings: &[],
+            answers: "0 d /; 1 d /r",
+        },
+        Row {
+            over: Over::Tree(&[Step::Dir("/a"), Step::File(1, "/a/x")]),
+            root: "a/",
+            settings: &[],
+            answers: "0 d a; 1 f a/x",
+        },
+    ];
+    for row in ROWS {
+        assert!(rt; holds(&rt, row), "from {}", row.root);
+    }
+}
+
+/// What a link to a directory leads to.
+const LINKED: ListedDirectory<'static> = ListedDirectory {
+    path: "/r/a-link",
+    file_type: FileType::Symlink,
+    target: Some(FileType::Dir),
+    items: &[Item::Typed("zzz", FileType::File)],
+};
+
+/// A link that leads to nothing.
+const BROKEN: ListedDirectory<'static> = ListedDirectory {
+    path: "/x",
+    file_type: FileType::Symlink,
+    target: None,
+    items: &[],
+};
+
+#[test]
+fn roots_that_are_links(rt: HostRuntime) {
+    const ROWS: &[Row] = &[
+        Row {
+            over: Over::Listed(LINKED),
+            root: "/r/a-link",
+            settings: &[],
+            answers: "0 L /r/a-link; 1 f /r/a-link/zzz",
+        },
+        Row {
+            over: Over::Listed(LINKED),
+            root: "/r/a-link/",
+            settings: &[],
+            answers: "0 L /r/a-link; 1 f /r/a-link/zzz",
+        },
+        Row {
+            over: Over::Listed(BROKEN),
+            root: "/x/",
+            settings: &[],
+            answers: "! 0 /x NotFound",
+        },
+    ];
+    for row in ROWS {
+        assert!(rt; holds(&rt, row), "from {}", row.root);
+    }
+}
+
+/// A directory with errors among its files.
+const FAULTY: ListedDirectory<'static> = ListedDirectory {
+    path: "/d",
+    file_type: FileType::Dir,
+    target: Some(FileType::Dir),
+    items: &[
+        Item::Untyped(".x", ErrorKind::PermissionDenied),
+        Item::Unread(ErrorKind::InvalidData),
+        Item::Typed("b", FileType::File),
+        Item::Typed("a", FileType::File),
+    ],
+};
+
+#[test]
+fn errors_stand_where_their_items_were_listed(rt: HostRuntime) {
+    const ROW: Row = Row {
+        over: Over::Listed(FAULTY),
+        root: "/d",
+        settings: &[],
+        answers: "0 d /d; ! 1 /d/.x PermissionDenied; ! 1 - InvalidData; 1 f /d/b; 1 f /d/a",
+    };
+    assert!(rt; holds(&rt, &ROW));
+}

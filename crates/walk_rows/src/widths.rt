@@ -1,0 +1,162 @@
+//! How many directories are read together, and when.
+use jwalk::Parallelism;
+use std::thread::Threads;
+use walk_fixtures::begun::Begun;
+use walk_fixtures::trees::{FORKED, GROUPED, Step, tree};
+use walk_fixtures::watched::{Failing, Watched};
+use walk_fixtures::ways::{Asked, Setting};
+
+/// How a walk goes on.
+struct Course {
+    settings: &'static [Setting],
+    /// After each entry, how many readings were made and not handed on, and how many listings were made.
+    counts: &'static [(usize, usize)],
+}
+
+/// Whether the next answer is an entry, and that is how many readings are ahead then, and listings made.
+fn is_next<R: Threads + Drop + Sync>(
+    walk: &mut Begun<R, &Watched>,
+    fs: &Watched,
+    counts: (usize, usize),
+) -> bool {
+    matches!(walk.next(), Some(Ok(_))) && (walk.ahead(), fs.lists()) == counts
+}
+
+/// Whether a walk goes on like this, and is over then.
+fn goes_on<R: Threads + Drop + Sync>(
+    walk: &mut Begun<R, &Watched>,
+    fs: &Watched,
+    counts: &[(usize, usize)],
+) -> bool {
+    for count in counts {
+        if !is_next(walk, fs, *count) {
+            return false;
+        }
+    }
+    walk.next().is_none() && walk.next().is_none() && walk.ahead() == 0
+}
+
+/// Whether a walk over the tree that these steps build takes this course.
+fn takes<R: Threads + AllocGlobal + Sync>(
+    rt: &R,
+    steps: &[Step],
+    root: &str,
+    course: &Course,
+    on_threads: bool,
+) -> bool {
+    let Ok(tree) = tree(rt.alloc(), steps) else {
+        return false;
+    };
+    let fs = Watched::new(tree, Failing::Never);
+    let asked = Asked {
+        fs: &fs,
+        root,
+        settings: course.settings,
+    };
+    match Begun::new(rt, &asked, on_threads) {
+        Ok(mut walk) => fs.lists() == 0 && goes_on(&mut walk, &fs, course.counts),
+        Err(_) => false,
+    }
+}
+
+#[test]
+fn directories_of_directories(rt: HostRuntime) {
+    const COURSES: &[Course] = &[
+        Course {
+            settings: &[],
+            counts: &[(0, 1), (0, 2), (0, 3), (0, 4), (0, 5), (0, 6), (0, 7)],
+        },
+        Course {
+            settings: &[Setting::By(Parallelism::Serial)],
+            counts: &[(0, 1), (0, 2), (0, 3), (0, 4), (0, 5), (0, 6), (0, 7)],
+        },
+        Course {
+            settings: &[Setting::By(Parallelism::RayonNewPool(1))],
+            counts: &[(0, 1), (0, 2), (0, 3), (0, 4), (0, 5), (0, 6), (0, 7)],
+        },
+        Course {
+            settings: &[Setting::By(Parallelism::RayonNewPool(2))],
+            counts: &[(0, 1), (1, 3), (2, 5), (1, 5), (0, 5), (0, 6), (0, 7)],
+        },
+        Course {
+            settings: &[Setting::By(Parallelism::RayonNewPool(8))],
+            counts: &[(0, 1), (2, 4), (4, 7), (3, 7), (2, 7), (1, 7), (0, 7)],
+        },
+        Course {
+            settings: &[Setting::By(Parallelism::RayonNewPool(0))],
+            counts: &[(0, 1), (2, 4), (4, 7), (3, 7), (2, 7), (1, 7), (0, 7)],
+        },
+        Course {
+            settings: &[Setting::By(Parallelism::RayonNewPool(2)), Setting::Min(2)],
+            counts: &[(2, 5), (0, 5), (0, 7)],
+        },
+    ];
+    for course in COURSES {
+        assert!(rt;
+            takes(&rt, FORKED, "/r", course, false),
+            "{:?}",
+            course.settings
+        );
+        assert!(rt;
+            takes(&rt, FORKED, "/r", course, true),
+            "{:?} on threads",
+            course.settings
+        );
+    }
+}
+
+/// One and the same value, in two walks.
+const THREE: Parallelism = Parallelism::RayonNewPool(3);
+
+#[test]
+fn groups_of_files(rt: HostRuntime) {
+    const COURSES: &[Course] = &[
+        Course {
+            settings: &[],
+            counts: &[
+                (0, 1),
+                (0, 1),
+                (0, 1),
+                (0, 2),
+                (0, 2),
+                (0, 3),
+                (0, 3),
+                (0, 3),
+            ],
+        },
+        Course {
+            settings: &[Setting::Sort, Setting::By(THREE)],
+            counts: &[
+                (0, 1),
+                (0, 1),
+                (0, 1),
+                (0, 1),
+                (1, 3),
+                (1, 3),
+                (0, 3),
+                (0, 3),
+            ],
+        },
+        // A greatest depth below 2 makes the walk serial, unless it comes first.
+        Course {
+            settings: &[Setting::Sort, Setting::By(THREE), Setting::Max(1)],
+            counts: &[(0, 1), (0, 1), (0, 1), (0, 1), (0, 1), (0, 1)],
+        },
+        Course {
+            settings: &[Setting::Sort, Setting::Max(1), Setting::By(THREE)],
+            counts: &[(0, 1), (0, 1), (0, 1), (0, 1), (1, 1), (0, 1)],
+        },
+    ];
+    for course in COURSES {
+        assert!(rt;
+            takes(&rt, GROUPED, "/t", course, false),
+            "{:?}",
+            course.settings
+        );
+        assert!(rt;
+            takes(&rt, GROUPED, "/t", course, true),
+            "{:?} on threads",
+            course.settings
+        );
+    }
+}
