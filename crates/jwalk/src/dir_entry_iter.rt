@@ -23,7 +23,6 @@ use walk_fs::file_system::FileSystem;
 /// A directory's entry is answered when its directory was read. A directory that could not be read is answered with the
 /// error in its `read_children`. Want of memory is answered by one error whose `is_memory` is true, and then by `None`
 /// for good; so is the end of the walk.
-#[derive(Drop)]
 pub struct DirEntryIter<
     C: ClientState,
     S: FileSystem,
@@ -36,6 +35,13 @@ pub struct DirEntryIter<
     pub(crate) items: Vec<Result<DirEntry<C, A>, Error<A>>, A>,
     // Memory was refused at the start, and this was not answered yet.
     pub(crate) refused: bool,
+}
+
+impl<C: ClientState, S: FileSystem, P: ProcessReadDir<C, A>, A: Allocator + Copy, T: Drop> Drop
+    for DirEntryIter<C, S, P, A, T> {
+    fn drop(self) {
+        let DirEntryIter { reads: _, items: _, refused: _ } = self;
+    }
 }
 
 impl<

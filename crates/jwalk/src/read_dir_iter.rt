@@ -25,7 +25,6 @@ use walk_fs::file_system::FileSystem;
 /// comes next, and then those below it.
 ///
 /// Want of memory is answered by one error whose `is_memory` is true, and then by `None`.
-#[derive(Drop)]
 pub enum ReadDirIter<
     C: ClientState,
     S: FileSystem,
@@ -37,6 +36,16 @@ pub enum ReadDirIter<
     Walk(BoardWalk<C, S, P, A>),
     /// Several directories are read together, when a reading is asked for that isn't there yet.
     ParWalk(BoardWalk<C, S, P, A>, T),
+}
+
+impl<C: ClientState, S: FileSystem, P: ProcessReadDir<C, A>, A: Allocator + Copy, T: Drop> Drop
+    for ReadDirIter<C, S, P, A, T> {
+    fn drop(self) {
+        match self {
+            ReadDirIter::Walk(_) => (),
+            ReadDirIter::ParWalk(_, _) => (),
+        }
+    }
 }
 
 impl<

@@ -32,13 +32,18 @@ pub use rehearsal::{Rehearsal, rehearse};
 /// Specifications to be read, by address, and the readings that were made of them. A specification is queued until it
 /// is taken, then in hand until its reading comes with its children, and the reading is then ready until it is handed
 /// out. Readings are handed out a parent first, then its children in order, each with all that lies below it.
-#[derive(Drop)]
 pub struct Board<T, R, A: Allocator + Copy = Global> {
     queued: SiblingQueue<T, A>,
     in_hand: AddressSet<A>,
     ready: AddressHeap<R, A>,
     matcher: OrderedMatcher<A>,
     stopped: bool,
+}
+
+impl<T: Drop, R: Drop, A: Allocator + Copy> Drop for Board<T, R, A> {
+    fn drop(self) {
+        let Board { queued: _, in_hand: _, ready: _, matcher: _, stopped: _ } = self;
+    }
 }
 
 impl<T, R, A: Allocator + Copy> Model for Board<T, R, A> {

@@ -171,7 +171,6 @@ where
 
 /// Readings in preorder: a directory's, and then those of all that is below it. So many directories are read together,
 /// when a reading is asked for that isn't there yet.
-#[derive(Drop)]
 pub struct BoardWalk<
     C: ClientState,
     S: FileSystem,
@@ -184,6 +183,13 @@ pub struct BoardWalk<
     width: usize,
     // None once the walk was stopped.
     board: Option<Board<ReadDirSpec<C, A>, Read<C, A>, A>>,
+}
+
+impl<C: ClientState, S: FileSystem, P: ProcessReadDir<C, A>, A: Allocator + Copy> Drop
+    for BoardWalk<C, S, P, A> {
+    fn drop(self) {
+        let BoardWalk { alloc: _, job: _, width: _, board: _ } = self;
+    }
 }
 
 impl<C: ClientState, S: FileSystem, P: ProcessReadDir<C, A>, A: Allocator + Copy> Model
