@@ -27,7 +27,7 @@ use Rattle.jwalk_read.specs.Job.{options_of, greatest_depth, job_by, ClonesCount
 use Rattle.jwalk.specs.declared.dir_entry_iter.DirEntryIter.{DirEntryIter}
 use Rattle.jwalk.specs.Step.{ReadsUpTo, IsAtDirectory, StopsAtDirectory}
 use Rattle.jwalk_engine.specs.ReadAhead.{nothing_ahead}
-use Rattle.jwalk.specs.DirEntryIter.{job_of, min_depth_of, items_of, unread_of, width_of, read_ahead, GoesAhead, GrowsAhead, held, held_by, refusal, to_come, IsSourced, Refuses, Answers}
+use Rattle.jwalk.specs.DirEntryIter.{job_of, min_depth_of, items_of, unread_of, width_of, read_ahead, GoesAhead, GrowsAhead, held, held_by, refusal, to_come, IsSourced, Refuses, IsSteadyWalk, Answers}
 use Rattle.jwalk.proofs.StepFacts.{next_within, next_lighter, next_count, next_plain, next_listed, left_within, left_lighter, left_count, left_plain, left_to_come}
 
 -- at a directory nothing is said of the answer but what its reading tells
@@ -93,9 +93,12 @@ module _ {C S P A T R E : Type 0} (files : FileSystem.Ghosts S) (process : Proce
       subst (λ b. MatchBool b (read_ahead new ≡ read_ahead old) ((IsSomeAnd answer (λ a. Refuses a new) × (read_ahead new ≡ nothing_ahead)) ⊎ GrowsAhead files process clone defaults old new)) (sym began) (inr grown)
 
   -- items were left out, and then one is passed that is answered
+  abbrev Counts : Given R E → Type 0
+  Counts = IsSteadyWalk files process clone defaults old
+
   answers_some : (x : Result (DirEntry C A R E) (Error A)) → old.refused ≡ false → new.refused ≡ false → job_of new ≡ job_of old
-      → ReadsUpTo files process clone defaults (job_of old) (items_of old) (unread_of old) (Some (item x)) (items_of new) (unread_of new) → width_of new ≡ width_of old → GrowsAhead files process clone defaults old new → Answers files process clone defaults old (Some x) new
-  answers_some x began started job reads width grown =
+      → ReadsUpTo files clone Counts (job_of old) (items_of old) (unread_of old) (Some (item x)) (items_of new) (unread_of new) → width_of new ≡ width_of old → ((given : Given R E) → Counts given → IsSteadyWalk files process clone defaults new given) → GrowsAhead files process clone defaults old new → Answers files process clone defaults old (Some x) new
+  answers_some x began started job reads width keeps grown =
       let j = job_of old in
       let left = reads.2 in
       let next = reads.3.0 in
@@ -107,26 +110,27 @@ module _ {C S P A T R E : Type 0} (files : FileSystem.Ghosts S) (process : Proce
       record {
         job = job;
         depths = λ within.
-            let parts = next_within files process clone defaults j next (left_within files process clone defaults j (items_of old) (unread_of old) left within) in
+            let parts = next_within files clone Counts j next (left_within files clone Counts j (items_of old) (unread_of old) left within) in
             (is_between (min_depth_of old) (greatest_depth j) (item x) kept parts.0, rw job parts.1);
-        sourced = λ is. rest_sourced new started (next_count files process clone defaults j next (left_count files process clone defaults j (items_of old) (unread_of old) left (sourced_rest old began is)));
-        plain = rw (before, after) (left_plain files process clone defaults j (items_of old) (unread_of old) left (Some (item x)) (pair_up (items_of new) (unread_of new)) (next_plain files process clone defaults j (min_depth_of old) next kept));
+        sourced = λ is. rest_sourced new started (next_count files clone Counts j next (left_count files clone Counts j (items_of old) (unread_of old) left (sourced_rest old began is)));
+        plain = rw (before, after) (left_plain files clone Counts j (items_of old) (unread_of old) left (Some (item x)) (pair_up (items_of new) (unread_of new)) (next_plain files clone Counts j (min_depth_of old) next kept));
         ended = tt;
-        lighter = rw (before, after, job) (omega (arith, left_lighter files process clone defaults j (items_of old) (unread_of old) left, next_lighter files process clone defaults j next));
+        lighter = rw (before, after, job) (omega (arith, left_lighter files clone Counts j (items_of old) (unread_of old) left, next_lighter files clone Counts j next));
         reads = rw began (inr reads);
         width = width;
+        steady = keeps;
         ahead = goes_ahead (Some (item x)) began grown;
-        coming = λ given steady. inr (
+        coming = λ given counted. inr (
             come_old given began
-            ∙ left_to_come files process clone defaults j (items_of old) (unread_of old) given steady left
-            ∙ ap (answers (min_depth_of old)) (next_listed files process clone defaults j given steady next)
+            ∙ left_to_come files clone Counts j (items_of old) (unread_of old) given counted.steady.clones counted left
+            ∙ ap (answers (min_depth_of old)) (next_listed files clone Counts j given counted.steady.clones counted next)
             ∙ rw (counted-is_answered given.read_dir_state given.dir_entry_state (min_depth_of old) (item x), kept) (ap (λ l. counted_item given (item x) ∷ l) (sym (come_new given started job))));
       }
 
   -- all that was held is left out
   answers_none : old.refused ≡ false → new.refused ≡ false → job_of new ≡ job_of old
-      → ReadsUpTo files process clone defaults (job_of old) (items_of old) (unread_of old) None (items_of new) (unread_of new) → width_of new ≡ width_of old → GrowsAhead files process clone defaults old new → Answers files process clone defaults old None new
-  answers_none began started job reads width grown =
+      → ReadsUpTo files clone Counts (job_of old) (items_of old) (unread_of old) None (items_of new) (unread_of new) → width_of new ≡ width_of old → ((given : Given R E) → Counts given → IsSteadyWalk files process clone defaults new given) → GrowsAhead files process clone defaults old new → Answers files process clone defaults old None new
+  answers_none began started job reads width keeps grown =
       let j = job_of old in
       let left = reads.2 in
       let none = reads.3.0 in
@@ -140,28 +144,29 @@ module _ {C S P A T R E : Type 0} (files : FileSystem.Ghosts S) (process : Proce
       record {
         job = job;
         depths = λ within. (tt, rw rest tt);
-        sourced = λ is. rest_sourced new started (ap length same ∙ left_count files process clone defaults j (items_of old) (unread_of old) left (sourced_rest old began is) ∙ ap directories (none ∙ sym rest));
-        plain = rw (before, after) (left_plain files process clone defaults j (items_of old) (unread_of old) left None [] (rw nothing_left (refl, refl)));
+        sourced = λ is. rest_sourced new started (ap length same ∙ left_count files clone Counts j (items_of old) (unread_of old) left (sourced_rest old began is) ∙ ap directories (none ∙ sym rest));
+        plain = rw (before, after) (left_plain files clone Counts j (items_of old) (unread_of old) left None [] (rw nothing_left (refl, refl)));
         ended = after;
         lighter = tt;
         reads = rw began (inr reads);
         width = width;
+        steady = keeps;
         ahead = goes_ahead None began grown;
-        coming = λ given steady.
+        coming = λ given counted.
             come_old given began
-            ∙ left_to_come files process clone defaults j (items_of old) (unread_of old) given steady left
+            ∙ left_to_come files clone Counts j (items_of old) (unread_of old) given counted.steady.clones counted left
             ∙ ap (λ l. answers (min_depth_of old) (Listing given l unread)) none;
       }
 
   pub answers_reads : (answer : Option (Result (DirEntry C A R E) (Error A))) → old.refused ≡ false → new.refused ≡ false → job_of new ≡ job_of old
-      → ReadsUpTo files process clone defaults (job_of old) (items_of old) (unread_of old) (option_map item answer) (items_of new) (unread_of new) → width_of new ≡ width_of old → GrowsAhead files process clone defaults old new → Answers files process clone defaults old answer new
-  answers_reads None began started job reads width grown = answers_none began started job reads width grown
-  answers_reads (Some x) began started job reads width grown = answers_some x began started job reads width grown
+      → ReadsUpTo files clone Counts (job_of old) (items_of old) (unread_of old) (option_map item answer) (items_of new) (unread_of new) → width_of new ≡ width_of old → ((given : Given R E) → Counts given → IsSteadyWalk files process clone defaults new given) → GrowsAhead files process clone defaults old new → Answers files process clone defaults old answer new
+  answers_reads None began started job reads width keeps grown = answers_none began started job reads width keeps grown
+  answers_reads (Some x) began started job reads width keeps grown = answers_some x began started job reads width keeps grown
 
   -- memory was refused below a directory
   pub answers_stopped : (error : Error A) → failure error ≡ memory → old.refused ≡ false → new.refused ≡ false → job_of new ≡ job_of old → items_of new ≡ [] → unread_of new ≡ []
-      → StopsAtDirectory files process clone defaults (job_of old) (items_of old) (unread_of old) → width_of new ≡ width_of old → read_ahead new ≡ nothing_ahead → Answers files process clone defaults old (Some (Err error)) new
-  answers_stopped error told began started job none no_unread stops width nothing_left =
+      → StopsAtDirectory files clone Counts (job_of old) (items_of old) (unread_of old) → width_of new ≡ width_of old → ((given : Given R E) → Counts given → IsSteadyWalk files process clone defaults new given) → read_ahead new ≡ nothing_ahead → Answers files process clone defaults old (Some (Err error)) new
+  answers_stopped error told began started job none no_unread stops width keeps nothing_left =
       let j = job_of old in
       let left = stops.2 in
       let at = stops.3 in
@@ -172,18 +177,19 @@ module _ {C S P A T R E : Type 0} (files : FileSystem.Ghosts S) (process : Proce
         job = job;
         depths = λ within. (tt, rw none tt);
         sourced = λ is. record { each = rw after tt; unread = rw (after, no_unread) refl };
-        plain = rw before (left_plain files process clone defaults j (items_of old) (unread_of old) left (Some (Err (failure error))) (held new) (plainly_any (min_depth_of old) stops.0 stops.1 (Some (Err (failure error))) (held new) at));
+        plain = rw before (left_plain files clone Counts j (items_of old) (unread_of old) left (Some (Err (failure error))) (held new) (plainly_any (min_depth_of old) stops.0 stops.1 (Some (Err (failure error))) (held new) at));
         ended = tt;
-        lighter = rw (before, after) (omega (arith, left_lighter files process clone defaults j (items_of old) (unread_of old) left, heavy_at (greatest_depth j) stops.0 stops.1 at));
+        lighter = rw (before, after) (omega (arith, left_lighter files clone Counts j (items_of old) (unread_of old) left, heavy_at (greatest_depth j) stops.0 stops.1 at));
         reads = rw began (inl refuses);
         width = width;
+        steady = keeps;
         ahead = rw began (inl (refuses, nothing_left));
-        coming = λ given steady. inl refuses;
+        coming = λ given counted. inl refuses;
       }
 
   -- a walk that was refused at its start tells of it
-  pub answers_refusal : (error : Error A) → failure error ≡ memory → old.refused ≡ true → new.refused ≡ false → job_of new ≡ job_of old → items_of new ≡ items_of old → unread_of new ≡ unread_of old → width_of new ≡ width_of old → read_ahead new ≡ read_ahead old → Answers files process clone defaults old (Some (Err error)) new
-  answers_refusal error told refused started job items unread width same_ahead =
+  pub answers_refusal : (error : Error A) → failure error ≡ memory → old.refused ≡ true → new.refused ≡ false → job_of new ≡ job_of old → items_of new ≡ items_of old → unread_of new ≡ unread_of old → width_of new ≡ width_of old → ((given : Given R E) → Counts given → IsSteadyWalk files process clone defaults new given) → read_ahead new ≡ read_ahead old → Answers files process clone defaults old (Some (Err error)) new
+  answers_refusal error told refused started job items unread width keeps same_ahead =
       let front = held_refused old refused in
       let rest : held new ≡ pair_up (items_of old) (unread_of old) = held_rest new started ∙ ap (λ l. pair_up l (unread_of new)) items ∙ ap (pair_up (items_of old)) unread in
       record {
@@ -195,8 +201,9 @@ module _ {C S P A T R E : Type 0} (files : FileSystem.Ghosts S) (process : Proce
         lighter = rw (front, rest, job) (omega arith);
         reads = rw refused unread;
         width = width;
+        steady = keeps;
         ahead = rw refused same_ahead;
-        coming = λ given steady. inr (
+        coming = λ given counted. inr (
             ap (value.to_come (reading (job_by files given (job_of old))) (min_depth_of old) (greatest_depth (job_of old))) (held_by_refused given old refused)
             ∙ ap (answers (min_depth_of old)) (alone (reading (job_by files given (job_of old))) (greatest_depth (job_of old)) (Err memory) (map (counted_item given) (items_of old)) (map (counted_spec given) (unread_of old)) refl)
             ∙ ap (λ f. Err f ∷ answers (min_depth_of old) (Listing given (items_of old) (unread_of old))) (sym told)

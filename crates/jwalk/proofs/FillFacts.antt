@@ -17,9 +17,9 @@ use Rattle.jwalk_read.specs.declared.error.Error.{Error}
 use Rattle.jwalk_read.specs.declared.dir_entry.DirEntry.{DirEntry}
 use Rattle.jwalk_read.specs.Entry.{item}
 use Rattle.jwalk_read.specs.Given.{Given, counted_item}
-use Rattle.jwalk_read.specs.Job.{options_of, greatest_depth, job_by, IsSteadyJob}
+use Rattle.jwalk_read.specs.Job.{options_of, greatest_depth, job_by}
 use Rattle.jwalk.specs.declared.dir_entry_iter.DirEntryIter.{DirEntryIter}
-use Rattle.jwalk.specs.DirEntryIter.{job_of, min_depth_of, width_of, held, weight_of, to_come, IsWithin, IsSourced, Refuses, Answers, ComesFirst, EndsRefused, FillCalls, Fills}
+use Rattle.jwalk.specs.DirEntryIter.{job_of, min_depth_of, width_of, held, weight_of, to_come, IsWithin, IsSourced, Refuses, IsSteadyWalk, Answers, ComesFirst, EndsRefused, FillCalls, Fills}
 use Rattle.jwalk.proofs.AnswerFacts.{held_by_nothing}
 
 -- where nothing is held, nothing is answered
@@ -52,6 +52,11 @@ module _ {C S P A T R E : Type 0} (files : FileSystem.Ghosts S) (process : Proce
   sourced : (xs : List (Result (DirEntry C A R E) (Error A))) (s t : DirEntryIter C S P A T R E) → Yields Steps s xs t → IsSourced s → IsSourced t
   sourced [] s t same h = subst IsSourced same h
   sourced (x ∷ xs) s t (j, step, rest) h = sourced xs j t rest (step.sourced h)
+
+  -- a steady walk stays so
+  pub stays_steady : (given : Given R E) (xs : List (Result (DirEntry C A R E) (Error A))) (s t : DirEntryIter C S P A T R E) → Yields Steps s xs t → IsSteadyWalk files process clone defaults s given → IsSteadyWalk files process clone defaults t given
+  stays_steady given [] s t same steady = subst (λ k. IsSteadyWalk files process clone defaults k given) same steady
+  stays_steady given (x ∷ xs) s t (j, step, rest) steady = stays_steady given xs j t rest (step.steady given steady)
 
   -- each answer makes the walk lighter
   lighter : (xs : List (Result (DirEntry C A R E) (Error A))) (s t : DirEntryIter C S P A T R E) → Yields Steps s xs t → weight_of t + length xs ≤ weight_of s
@@ -87,12 +92,12 @@ module _ {C S P A T R E : Type 0} (files : FileSystem.Ghosts S) (process : Proce
   ]
 
   -- what calls answer is the first of what was to come, or a beginning of it and then a refusal
-  pub come : (given : Given R E) (xs : List (Result (DirEntry C A R E) (Error A))) (s t : DirEntryIter C S P A T R E) → IsSteadyJob files process clone defaults (job_of s) given → Yields Steps s xs t → ComesFirst files given s (map item xs) t ⊎ EndsRefused files given s (map item xs) t
+  pub come : (given : Given R E) (xs : List (Result (DirEntry C A R E) (Error A))) (s t : DirEntryIter C S P A T R E) → IsSteadyWalk files process clone defaults s given → Yields Steps s xs t → ComesFirst files given s (map item xs) t ⊎ EndsRefused files given s (map item xs) t
   come given [] s t steady same = inl (ap (to_come files given) same)
   come given (x ∷ xs) s t steady (j, step, rest) =
       elim (step.coming given steady) [
         | inl refuses ↦ inr (refused given x xs s j t refuses rest)
-        | inr first ↦ one_more given (item x) (map item xs) s j t first (come given xs j t (subst (λ k. IsSteadyJob files process clone defaults k given) (sym step.job) steady) rest)
+        | inr first ↦ one_more given (item x) (map item xs) s j t first (come given xs j t (step.steady given steady) rest)
       ]
 
 -- calls after calls
@@ -148,6 +153,7 @@ module _ {C S P A T R E : Type 0} (files : FileSystem.Ghosts S) (process : Proce
     depths = within files process clone defaults sofar.answered old new sofar.calls;
     sourced = sourced files process clone defaults sofar.answered old new sofar.calls;
     lighter = lighter files process clone defaults sofar.answered old new sofar.calls;
+    steady = λ given. stays_steady files process clone defaults given sofar.answered old new sofar.calls;
     coming = λ given steady. come files process clone defaults given sofar.answered old new steady sofar.calls;
   }
 
@@ -166,6 +172,7 @@ module _ {C S P A T R E : Type 0} (files : FileSystem.Ghosts S) (process : Proce
     depths = within files process clone defaults sofar.answered old new sofar.calls;
     sourced = sourced files process clone defaults sofar.answered old new sofar.calls;
     lighter = lighter files process clone defaults sofar.answered old new sofar.calls;
+    steady = λ given. stays_steady files process clone defaults given sofar.answered old new sofar.calls;
     coming = λ given steady. come files process clone defaults given sofar.answered old new steady sofar.calls;
   }
 
@@ -192,9 +199,10 @@ module _ {C S P A T R E : Type 0} (files : FileSystem.Ghosts S) (process : Proce
         depths = λ h. let more = within files process clone defaults sofar.answered old mid sofar.calls h in (more.0, (last.depths more.1).1);
         sourced = λ h. last.sourced (sourced files process clone defaults sofar.answered old mid sofar.calls h);
         lighter = let nothing : weight_of new ≡ 0 = ap (value.weight (greatest_depth (job_of new))) last.ended in omega (arith, nothing, lighter files process clone defaults sofar.answered old mid sofar.calls);
+        steady = λ given steady. last.steady given (stays_steady files process clone defaults given sofar.answered old mid sofar.calls steady);
         coming = λ given steady.
             at_end given (map item sofar.answered) mid new
-            (last.coming given (subst (λ k. IsSteadyJob files process clone defaults k given) (sym same) steady))
+            (last.coming given (stays_steady files process clone defaults given sofar.answered old mid sofar.calls steady))
             last.ended
             (come files process clone defaults given sofar.answered old mid steady sofar.calls);
       }

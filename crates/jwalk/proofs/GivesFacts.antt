@@ -1,7 +1,8 @@
 -- What one call of an iterator over readings gives.
 use Rattle.std.proofs.Common.{◌≡◌, ◌≢◌, ◌∙◌, ◌<◌, ◌≤◌, ◌+◌, ◌++◌, [], ◌∷◌, Result, Err, inl, inr, List, Option, Some, None, IfSome, map, length, refl, sym, ap}
 use Rattle.std.specs.Prelude.{option_map}
-use Rattle.std.proofs.lemmas.List.{map-append, length-map}
+use Rattle.std.proofs.lemmas.List.{map-append, length-map, nil_from_length}
+use Rattle.std.proofs.lemmas.List.Elements.{All-nil}
 use Rattle.std.specs.declared.clone.Clone as Clone
 use Rattle.std.specs.declared.default.Default as Default
 use Rattle.walk_model.specs.Error.{memory}
@@ -20,7 +21,7 @@ use Rattle.jwalk_read.specs.declared.read_dir.ReadDir.{ReadDir}
 use Rattle.jwalk_read.specs.Error.{failure}
 use Rattle.jwalk_read.specs.ReadDir.{outcome}
 use Rattle.jwalk_read.specs.Given.{Given, counted_spec, counted_outcome}
-use Rattle.jwalk_read.specs.Job.{greatest_depth, job_by, IsSteadyJob}
+use Rattle.jwalk_read.specs.Job.{greatest_depth, job_by, ClonesCount, IsSteadyJob}
 use Rattle.jwalk_read.specs.declared.read_dir_spec.ReadDirSpec.{ReadDirSpec}
 use Rattle.jwalk_board.specs.Board.{Board}
 use Rattle.jwalk_engine.specs.declared.read.Read.{Read}
@@ -28,24 +29,24 @@ use Rattle.jwalk_engine.specs.Reads.{ReadsFirst, ReadsNext}
 use Rattle.jwalk_engine.specs.ReadAhead.{nothing_ahead, EntersNext}
 use Rattle.jwalk_engine.specs.BoardWalk as board
 use Rattle.jwalk.specs.declared.read_dir_iter.ReadDirIter.{ReadDirIter}
-use Rattle.jwalk.specs.ReadDirIter.{walk_of, job_of, to_read, width_of, read_ahead, next_address, GivesFirst, GivesPreorder, Gives}
+use Rattle.jwalk.specs.ReadDirIter.{walk_of, job_of, to_read, width_of, read_ahead, next_address, GivesFirst, GivesPreorder, IsSteadyReads, Gives}
 
-module _ {C S P A R E : Type 0} (files : FileSystem.Ghosts S) (process : ProcessReadDir.Ghosts P C A R E) (clone : Clone.Ghosts R) (defaults : Default.Ghosts E) (job : Job C S P A R E) (old new : List (Spec R)) where
-  module _ (given : Given R E) (steady : IsSteadyJob files process clone defaults job given) where
-    first_in_preorder : (read : Outcome R E) → ReadsFirst files process clone defaults job old read new → preorder (reading (job_by files given job)) (greatest_depth job) (map (counted_spec given) old) ≡ counted_outcome given read ∷ preorder (reading (job_by files given job)) (greatest_depth job) (map (counted_spec given) new)
+module _ {C S P A R E : Type 0} (files : FileSystem.Ghosts S) (clone : Clone.Ghosts R) (counts : Given R E → Type 0) (job : Job C S P A R E) (old new : List (Spec R)) where
+  module _ (given : Given R E) (cloned : ClonesCount clone given) (counted : counts given) where
+    first_in_preorder : (read : Outcome R E) → ReadsFirst files clone counts job old read new → preorder (reading (job_by files given job)) (greatest_depth job) (map (counted_spec given) old) ≡ counted_outcome given read ∷ preorder (reading (job_by files given job)) (greatest_depth job) (map (counted_spec given) new)
     first_in_preorder read reads =
         let view = given.read_dir_state in
         let mark = given.dir_entry_state in
         let left : children_of (counted_outcome given read) ++ map (counted_spec given) reads.rest ≡ map (counted_spec given) new
-        = ap (λ l. l ++ map (counted_spec given) reads.rest) (counted-children_of view mark read ∙ sym (counted_clones clone.is_clone view steady.clones (children_of read) reads.stacks.front reads.stacks.clones))
+        = ap (λ l. l ++ map (counted_spec given) reads.rest) (counted-children_of view mark read ∙ sym (counted_clones clone.is_clone view cloned (children_of read) reads.stacks.front reads.stacks.clones))
         ∙ sym (map-append (counted_spec given) reads.stacks.front reads.rest)
         ∙ sym (ap (map (counted_spec given)) reads.stacks.left) in
         ap (λ l. preorder (reading (job_by files given job)) (greatest_depth job) (map (counted_spec given) l)) reads.took
-        ∙ preorder-first (reading (job_by files given job)) (greatest_depth job) (counted_spec given reads.first) (map (counted_spec given) reads.rest) (counted_outcome given read) (counted-IsLawful view mark (greatest_depth job) reads.first read reads.reading.lawful) (reads.reading.value given steady)
+        ∙ preorder-first (reading (job_by files given job)) (greatest_depth job) (counted_spec given reads.first) (map (counted_spec given) reads.rest) (counted_outcome given read) (counted-IsLawful view mark (greatest_depth job) reads.first read reads.reading.lawful) (reads.reading.value given counted)
         ∙ ap (λ l. counted_outcome given read ∷ preorder (reading (job_by files given job)) (greatest_depth job) l) left
 
     -- readings that are given one by one come in preorder
-    pub given_in_preorder : (read : Option (Outcome R E)) → GivesFirst files process clone defaults job old read new → GivesPreorder (reading (job_by files given job)) (greatest_depth job) (map (counted_spec given) old) (option_map (counted_outcome given) read) (map (counted_spec given) new)
+    pub given_in_preorder : (read : Option (Outcome R E)) → GivesFirst files clone counts job old read new → GivesPreorder (reading (job_by files given job)) (greatest_depth job) (map (counted_spec given) old) (option_map (counted_outcome given) read) (map (counted_spec given) new)
     given_in_preorder None gives = elim gives [
       | inl refused ↦ absurd (let no : ◌≡◌ {A = Option (Outcome R E)} None (Some (Err memory)) = refused.0 in cc)
       | inr none ↦ ap (λ l. preorder (reading (job_by files given job)) (greatest_depth job) (map (counted_spec given) l)) none.0
@@ -56,7 +57,7 @@ module _ {C S P A R E : Type 0} (files : FileSystem.Ghosts S) (process : Process
     ]
 
   -- what is to be read weighs less then
-  pub gives_fewer : (read : Option (Outcome R E)) → GivesFirst files process clone defaults job old read new → IfSome read (λ _. spec_weight (greatest_depth job) new < spec_weight (greatest_depth job) old)
+  pub gives_fewer : (read : Option (Outcome R E)) → GivesFirst files clone counts job old read new → IfSome read (λ _. spec_weight (greatest_depth job) new < spec_weight (greatest_depth job) old)
   gives_fewer None gives = tt
   gives_fewer (Some read) gives = elim gives [
     | inl refused ↦ rw refused.2 (heavy_specs (greatest_depth job) old refused.1)
@@ -64,41 +65,51 @@ module _ {C S P A R E : Type 0} (files : FileSystem.Ghosts S) (process : Process
   ]
 
 -- readings that were made and not handed on are as many as their addresses
-as_many : {C A R E : Type 0} (b : Option (Board (ReadDirSpec C A R E) (Read C A R E))) → length (board.left_on b).made ≡ length (board.ahead_of b).done
+pub as_many : {C A R E : Type 0} (b : Option (Board (ReadDirSpec C A R E) (Read C A R E))) → length (board.left_on b).made ≡ length (board.ahead_of b).done
 as_many None = refl
 as_many (Some b) = length-map b.ready _ ∙ sym (length-map b.ready _)
 
 module _ {C S P A T R E : Type 0} (files : FileSystem.Ghosts S) (process : ProcessReadDir.Ghosts P C A R E) (clone : Clone.Ghosts R) (defaults : Default.Ghosts E) (old new : ReadDirIter C S P A T R E) where
   -- one call that read on
   pub gives_read : (read : Option (Result (ReadDir C A R E) (Error A))) → job_of new ≡ job_of old → width_of new ≡ width_of old → length (board.early_of (walk_of new)) + 1 ≤ length (board.early_of (walk_of old)) + width_of old
-      → ReadsNext files process clone defaults (job_of old) (to_read old) (option_map outcome read) (to_read new)
+      → ((given : Given R E) → IsSteadyReads files process clone defaults old given → IsSteadyReads files process clone defaults new given)
+      → ReadsNext files clone (IsSteadyReads files process clone defaults old) (job_of old) (to_read old) (option_map outcome read) (to_read new)
       → EntersNext files process clone defaults (job_of old) (width_of old) (next_address old) (read_ahead old) (option_map outcome read) (read_ahead new)
       → Gives files process clone defaults old read new
-  gives_read read job width ahead next enters = record {
+  gives_read read job width ahead steady next enters = record {
     job = job;
     width = width;
     enters = inr enters;
     ahead = rw (sym (as_many (walk_of new).board), sym (as_many (walk_of old).board)) ahead;
+    steady = steady;
     first = inr next;
-    preorder = λ given steady. given_in_preorder files process clone defaults (job_of old) (to_read old) (to_read new) given steady (option_map outcome read) (inr next);
+    preorder = λ given counted. given_in_preorder files clone (IsSteadyReads files process clone defaults old) (job_of old) (to_read old) (to_read new) given counted.steady.clones counted (option_map outcome read) (inr next);
   }
 
   -- one call that was refused memory
   pub gives_refused : (error : Error A) → failure error ≡ memory → job_of new ≡ job_of old → width_of new ≡ width_of old → length (board.early_of (walk_of new)) + 1 ≤ length (board.early_of (walk_of old)) + width_of old
-      → to_read old ≢ [] → to_read new ≡ [] → read_ahead new ≡ nothing_ahead
+      → ((given : Given R E) → IsSteadyReads files process clone defaults old given → IsSteadyReads files process clone defaults new given) → to_read old ≢ [] → to_read new ≡ [] → read_ahead new ≡ nothing_ahead
       → Gives files process clone defaults old (Some (Err error)) new
-  gives_refused error told job width ahead some none nothing =
+  gives_refused error told job width ahead steady some none nothing =
       let is : ◌≡◌ {A = Option (Outcome R E)} (Some (Err (failure error))) (Some (Err memory)) = ap (λ f. Some (Err f)) told in
       record {
         job = job;
         width = width;
         enters = inl (is, nothing);
         ahead = rw (sym (as_many (walk_of new).board), sym (as_many (walk_of old).board)) ahead;
+        steady = steady;
         first = inl (is, some, none);
-        preorder = λ given steady. given_in_preorder files process clone defaults (job_of old) (to_read old) (to_read new) given steady (Some (Err (failure error))) (inl (is, some, none));
+        preorder = λ given counted. given_in_preorder files clone (IsSteadyReads files process clone defaults old) (job_of old) (to_read old) (to_read new) given counted.steady.clones counted (Some (Err (failure error))) (inl (is, some, none));
       }
 
 -- what is said of a value, whatever it is, is said of what it is seen as
 pub some_of : {X Y : Type 0} (P : Type 0) (f : X → Y) (o : Option X) → IfSome (option_map f o) (λ _. P) → IfSome o (λ _. P)
 some_of P f None h = tt
 some_of P f (Some x) h = h
+
+-- where nothing was read early over a steady job, it is steady
+pub steady_at_rest : {C S P A T R E : Type 0} (files : FileSystem.Ghosts S) (process : ProcessReadDir.Ghosts P C A R E) (clone : Clone.Ghosts R) (defaults : Default.Ghosts E) (it : ReadDirIter C S P A T R E) (given : Given R E) → IsSteadyJob files process clone defaults (job_of it) given → (read_ahead it).done ≡ [] → IsSteadyReads files process clone defaults it given
+steady_at_rest files process clone defaults it given steady none =
+    let early = board.early_of (walk_of it) in
+    let nothing : early ≡ [] = nil_from_length early (as_many (walk_of it).board ∙ ap length none) in
+    record { steady = steady; early = rw nothing (All-nil _) }

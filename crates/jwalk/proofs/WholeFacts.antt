@@ -88,13 +88,12 @@ module _ {C S P A T R E : Type 0} (files : FileSystem.Ghosts S) (process : Proce
       ∙ ap (answers (min_depth_of it)) (alone (reading (job_by files given (job_of it))) (greatest_depth (job_of it)) (Err memory) [] [] refl)
 
   -- calls up to `None` answer all that was to come, unless one of them tells of want of memory
-  pub all_answered : (xs : List (Result (DirEntry C A R E) (Error A))) (it : DirEntryIter C S P A T R E) → IsSteadyJob files process clone defaults (job_of it) given → Drains (Answers files process clone defaults) it xs → NoneRefused xs → to_come files given it ≡ counted_list given xs
+  pub all_answered : (xs : List (Result (DirEntry C A R E) (Error A))) (it : DirEntryIter C S P A T R E) → IsSteadyWalk files process clone defaults it given → Drains (Answers files process clone defaults) it xs → NoneRefused xs → to_come files given it ≡ counted_list given xs
   all_answered xs it steady drains none =
       let last = drains.1.0 in
       let calls = drains.1.1 in
       let ended = drains.1.2 in
-      let same = same_job files process clone defaults xs it last calls in
-      let nothing_left : to_come files given last ≡ [] = ended.coming given (subst (λ k. IsSteadyJob files process clone defaults k given) (sym same) steady) in
+      let nothing_left : to_come files given last ≡ [] = ended.coming given (stays_steady files process clone defaults given xs it last calls steady) in
       elim (come files process clone defaults given xs it last steady calls) [
         | inl comes ↦ comes ∙ ap (λ l. counted_list given xs ++ l) nothing_left ∙ append-nil (counted_list given xs)
         | inr ends ↦ absurd (refusal_told xs ends.before ends.told none)
@@ -119,17 +118,18 @@ module _ {C S P A T R E : Type 0} (files : FileSystem.Ghosts S) (process : Proce
         | inr holds ↦ sym came ∙ comes_whole walk it starts (holds given steady)
       ]
 
-  steady_job : (walk : WalkDirGeneric C S P A T R E) (it : DirEntryIter C S P A T R E) → Starts walk it → IsSteady files process clone defaults (file_system_of walk) (callback_of walk) given → IsSteadyJob files process clone defaults (job_of it) given
-  steady_job walk it starts steady = rw (starts.file_system, starts.callback) steady
+  -- a walk that was begun over what is steady is steady
+  pub steady_start : (walk : WalkDirGeneric C S P A T R E) (it : DirEntryIter C S P A T R E) → Starts walk it → IsSteady files process clone defaults (file_system_of walk) (callback_of walk) given → IsSteadyWalk files process clone defaults it given
+  steady_start walk it starts steady = steady_at_rest files process clone defaults it.reads given (rw (starts.file_system, starts.callback) steady) starts.early
 
   -- A walk that was begun and asked up to `None`, where no answer tells of want of memory, answered the whole walk from its root.
   pub whole : (walk : WalkDirGeneric C S P A T R E) (it : DirEntryIter C S P A T R E) (xs : List (Result (DirEntry C A R E) (Error A))) → Starts walk it → IsRefused it ⊎ Holds files process clone defaults walk it → IsSteady files process clone defaults (file_system_of walk) (callback_of walk) given → Drains (Answers files process clone defaults) it xs → NoneRefused xs
       → counted_list given xs ≡ whole_walk (job_for files given walk) (root_of walk) (given.read_dir_state (state_of walk))
   whole walk it xs starts begun steady drains none =
-      answered_whole walk it xs starts begun steady none (all_answered xs it (steady_job walk it starts steady) drains none)
+      answered_whole walk it xs starts begun steady none (all_answered xs it (steady_start walk it starts steady) drains none)
 
   -- After a call of `fill` that told fewer answers than it was asked for, all that was to come stands in the vector, behind what it held before, unless one of them tells of want of memory.
-  pub all_filled : (n k : ℕ) (before after : List (Result (DirEntry C A R E) (Error A))) (it new : DirEntryIter C S P A T R E) → IsSteadyJob files process clone defaults (job_of it) given → Fills files process clone defaults n it before (Ok k) after new → k < n → NoneRefused after
+  pub all_filled : (n k : ℕ) (before after : List (Result (DirEntry C A R E) (Error A))) (it new : DirEntryIter C S P A T R E) → IsSteadyWalk files process clone defaults it given → Fills files process clone defaults n it before (Ok k) after new → k < n → NoneRefused after
       → counted_list given after ≡ counted_list given before ++ to_come files given it
   all_filled n k before after it new steady fills fewer none =
       let ended : held new ≡ [] = elim fills.all [ inl all ↦ absurd (omega (arith, all, fewer)) | inr over ↦ over ] in
@@ -148,7 +148,7 @@ module _ {C S P A T R E : Type 0} (files : FileSystem.Ghosts S) (process : Proce
       → counted_list given xs ≡ whole_walk (job_for files given walk) (root_of walk) (given.read_dir_state (state_of walk))
   whole_filled walk it new n k before xs starts begun steady fills empty fewer none =
       let among : length xs ≡ length before + length fills.answered = ap length fills.appended ∙ length-append before fills.answered in
-      let filled = all_filled n k before xs it new (steady_job walk it starts steady) fills (omega (arith, among, fewer, fills.number.0)) none in
+      let filled = all_filled n k before xs it new (steady_start walk it starts steady) fills (omega (arith, among, fewer, fills.number.0)) none in
       answered_whole walk it xs starts begun steady none (sym (filled ∙ ap (λ l. counted_list given l ++ to_come files given it) empty))
 
 -- what a walk with no callback answers is said by the file system, the options and the root that its builder was given

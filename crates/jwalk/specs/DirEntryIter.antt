@@ -19,10 +19,10 @@ use Rattle.jwalk_read.specs.declared.dir_entry.DirEntry.{DirEntry}
 use Rattle.jwalk_read.specs.declared.job.Job.{Job}
 use Rattle.jwalk_read.specs.Entry.{item}
 use Rattle.jwalk_read.specs.Given.{Given, counted_item, counted_spec}
-use Rattle.jwalk_read.specs.Job.{options_of, greatest_depth, job_by, IsSteadyJob}
+use Rattle.jwalk_read.specs.Job.{options_of, greatest_depth, job_by}
 use Rattle.jwalk_engine.specs.ReadAhead.{ReadAhead, nothing_ahead, Enters}
 use Rattle.jwalk.specs.ReadDirIter as readings
-use Rattle.jwalk.specs.ReadDirIter.{to_read}
+use Rattle.jwalk.specs.ReadDirIter.{to_read, IsSteadyReads}
 use Rattle.jwalk.specs.Step.{IsAtDirectory, PassesNext, ReadsUpTo}
 use Rattle.jwalk.specs.declared.dir_entry_iter.DirEntryIter.{DirEntryIter}
 
@@ -123,12 +123,16 @@ module _ {C S P A T R E : Type 0} where
     pub nothing_held : held new ≡ []
 
 module _ {C S P A T R E : Type 0} (files : FileSystem.Ghosts S) (process : ProcessReadDir.Ghosts P C A R E) (clone : Clone.Ghosts R) (defaults : Default.Ghosts E) where
+  -- Over what is given a walk is steady: its job is, and what it read ahead is as the definition has it.
+  abbrev pub IsSteadyWalk : DirEntryIter C S P A T R E → Given R E → Type 0
+  IsSteadyWalk it = IsSteadyReads files process clone defaults it.reads
+
   -- Whatever the file system answers: each directory that is passed takes the first of the unread specifications, which alone is read, and puts its children in front; or memory was refused. A walk that tells that its start was refused reads nothing.
   abbrev pub ReadsItems : DirEntryIter C S P A T R E → Option (Item R E) → DirEntryIter C S P A T R E → Type 0
   ReadsItems old answer new =
       MatchBool old.refused
       (unread_of new ≡ unread_of old)
-      (IsSomeAnd answer (λ a. Refuses a new) ⊎ ReadsUpTo files process clone defaults (job_of old) (items_of old) (unread_of old) answer (items_of new) (unread_of new))
+      (IsSomeAnd answer (λ a. Refuses a new) ⊎ ReadsUpTo files clone (IsSteadyWalk old) (job_of old) (items_of old) (unread_of old) answer (items_of new) (unread_of new))
 
   -- The next directory is entered, if one is to be read below the first item; else what was read ahead stays as it is.
   abbrev pub EntersIfAny : DirEntryIter C S P A T R E → DirEntryIter C S P A T R E → Type 0
@@ -139,9 +143,9 @@ module _ {C S P A T R E : Type 0} (files : FileSystem.Ghosts S) (process : Proce
   -- Items are passed one after another, and so many directories are entered with them.
   pub data PassesMany (old : DirEntryIter C S P A T R E) : ℕ → DirEntryIter C S P A T R E → Type 0 where
     none_passed : PassesMany old 0 old
-    one_passed : {entered : ℕ} {mid new : DirEntryIter C S P A T R E} {passed : Item R E} → PassesMany old entered mid → PassesNext files process clone defaults (job_of old) (items_of mid) (unread_of mid) passed (items_of new) (unread_of new)
+    one_passed : {entered : ℕ} {mid new : DirEntryIter C S P A T R E} {passed : Item R E} → PassesMany old entered mid → PassesNext files clone (IsSteadyWalk old) (job_of old) (items_of mid) (unread_of mid) passed (items_of new) (unread_of new)
         → ¬ IsAtDirectory (items_of mid) (unread_of mid) → read_ahead new ≡ read_ahead mid → PassesMany old entered new
-    one_entered : {entered : ℕ} {mid new : DirEntryIter C S P A T R E} {passed : Item R E} → PassesMany old entered mid → PassesNext files process clone defaults (job_of old) (items_of mid) (unread_of mid) passed (items_of new) (unread_of new)
+    one_entered : {entered : ℕ} {mid new : DirEntryIter C S P A T R E} {passed : Item R E} → PassesMany old entered mid → PassesNext files clone (IsSteadyWalk old) (job_of old) (items_of mid) (unread_of mid) passed (items_of new) (unread_of new)
         → IsAtDirectory (items_of mid) (unread_of mid) → Enters files process clone defaults (job_of old) (width_of old) (next_address mid) (read_ahead mid) (read_ahead new) → PassesMany old (suc entered) new
 
   -- Directories are entered, and with each of them what was read ahead grows by less than the width.
@@ -170,7 +174,8 @@ module _ {C S P A T R E : Type 0} (files : FileSystem.Ghosts S) (process : Proce
     pub reads : ReadsItems old (option_map item answer) new
     pub width : width_of new ≡ width_of old
     pub ahead : GoesAhead old (option_map item answer) new
-    pub coming : (given : Given R E) → IsSteadyJob files process clone defaults (job_of old) given → AnswersFirst files given old (option_map item answer) new
+    pub steady : (given : Given R E) → IsSteadyWalk old given → IsSteadyWalk new given
+    pub coming : (given : Given R E) → IsSteadyWalk old given → AnswersFirst files given old (option_map item answer) new
 
   -- calls of `next` answered these, all n that were asked for, or fewer and the next call answered `None`; or room was refused for one more
   abbrev pub FillCalls : ℕ → DirEntryIter C S P A T R E → List (Result (DirEntry C A R E) (Error A)) → Result ℕ AllocError → DirEntryIter C S P A T R E → Type 0
@@ -190,7 +195,8 @@ module _ {C S P A T R E : Type 0} (files : FileSystem.Ghosts S) (process : Proce
     pub depths : IsWithin old → AllBetween (min_depth_of old) (greatest_depth (job_of old)) (map item answered) × IsWithin new
     pub sourced : IsSourced old → IsSourced new
     pub lighter : weight_of new + length answered ≤ weight_of old
-    pub coming : (given : Given R E) → IsSteadyJob files process clone defaults (job_of old) given
+    pub steady : (given : Given R E) → IsSteadyWalk old given → IsSteadyWalk new given
+    pub coming : (given : Given R E) → IsSteadyWalk old given
         → ComesFirst files given old (map item answered) new ⊎ EndsRefused files given old (map item answered) new
 
   -- Calls from here on answer items until `None`, and n is their number, or the greatest `usize` where there are more.

@@ -13,10 +13,10 @@ use Rattle.jwalk_read.specs.declared.read_dir.ReadDir.{ReadDir}
 use Rattle.jwalk_read.specs.declared.job.Job.{Job}
 use Rattle.jwalk_read.specs.ReadDir.{outcome}
 use Rattle.jwalk_read.specs.Given.{Given, counted_spec, counted_outcome}
-use Rattle.jwalk_read.specs.Job.{greatest_depth, job_by, IsSteadyJob}
+use Rattle.jwalk_read.specs.Job.{greatest_depth, job_by}
 use Rattle.jwalk_engine.specs.ReadAhead.{ReadAhead, nothing_ahead, EntersNext}
 use Rattle.jwalk_engine.specs.BoardWalk as board
-use Rattle.jwalk_engine.specs.BoardWalk.{BoardWalk}
+use Rattle.jwalk_engine.specs.BoardWalk.{BoardWalk, IsSteadyWalk}
 use Rattle.jwalk_engine.specs.Reads.{ReadsNext}
 use Rattle.jwalk.specs.declared.read_dir_iter.ReadDirIter.{ReadDirIter}
 use Rattle.jwalk.specs.declared.read_dir_iter.ReadDirIter.TheVariants.{Walk, ParWalk}
@@ -56,10 +56,14 @@ abbrev pub GivesPreorder : {R E : Type 0} → (Spec R → Outcome R E) → ℕ �
 GivesPreorder reading max_depth old None new = preorder reading max_depth old ≡ []
 GivesPreorder reading max_depth old (Some given) new = ((given ≡ Err memory) × (new ≡ [])) ⊎ (preorder reading max_depth old ≡ given ∷ preorder reading max_depth new)
 
+-- The first is read; or the error that tells of want of memory is given instead, and nothing is left to be read.
+abbrev pub GivesFirst : {C S P A R E : Type 0} → FileSystem.Ghosts S → Clone.Ghosts R → (Given R E → Type 0) → Job C S P A R E → List (Spec R) → Option (Outcome R E) → List (Spec R) → Type 0
+GivesFirst files clone counts job old given new = ((given ≡ Some (Err memory)) × (old ≢ []) × (new ≡ [])) ⊎ ReadsNext files clone counts job old given new
+
 module _ {C S P A R E : Type 0} (files : FileSystem.Ghosts S) (process : ProcessReadDir.Ghosts P C A R E) (clone : Clone.Ghosts R) (defaults : Default.Ghosts E) where
-  -- The first is read; or the error that tells of want of memory is given instead, and nothing is left to be read.
-  abbrev pub GivesFirst : Job C S P A R E → List (Spec R) → Option (Outcome R E) → List (Spec R) → Type 0
-  GivesFirst job old given new = ((given ≡ Some (Err memory)) × (old ≢ []) × (new ≡ [])) ⊎ ReadsNext files process clone defaults job old given new
+  -- Over what is given it is steady: its job is, and what it read early is as the definition has it.
+  abbrev pub IsSteadyReads : {T : Type 0} → ReadDirIter C S P A T R E → Given R E → Type 0
+  IsSteadyReads it = IsSteadyWalk files process clone defaults (walk_of it)
 
   -- A directory is entered, or nothing is left to be read; or memory was refused, and nothing is left.
   abbrev pub EntersFirst : {T : Type 0} → ReadDirIter C S P A T R E → Option (Outcome R E) → ReadDirIter C S P A T R E → Type 0
@@ -73,6 +77,7 @@ module _ {C S P A R E : Type 0} (files : FileSystem.Ghosts S) (process : Process
     pub width : width_of new ≡ width_of old
     pub enters : EntersFirst old (option_map outcome given) new
     pub ahead : length (early_of new) + 1 ≤ length (early_of old) + width_of old
-    pub first : GivesFirst (job_of old) (to_read old) (option_map outcome given) (to_read new)
-    pub preorder : (value : Given R E) → IsSteadyJob files process clone defaults (job_of old) value
+    pub steady : (value : Given R E) → IsSteadyReads old value → IsSteadyReads new value
+    pub first : GivesFirst files clone (IsSteadyReads old) (job_of old) (to_read old) (option_map outcome given) (to_read new)
+    pub preorder : (value : Given R E) → IsSteadyReads old value
         → GivesPreorder (reading (job_by files value (job_of old))) (greatest_depth (job_of old)) (map (counted_spec value) (to_read old)) (option_map (counted_outcome value) (option_map outcome given)) (map (counted_spec value) (to_read new))

@@ -4,7 +4,7 @@ use Rattle.std.specs.Prelude.{All, OnOk, OnErr, IfOk, Result, Ok, Err}
 use Rattle.std.specs.declared.clone.Clone as Clone
 use Rattle.std.specs.declared.default.Default as Default
 use Rattle.std.specs.List.Sorted.{IsPermutation}
-use Rattle.std.proofs.lemmas.List.Elements.{All-nil, All-cons, All-head, All-tail, All-append}
+use Rattle.std.proofs.lemmas.List.Elements.{All-nil, All-cons, All-head, All-tail, All-append, All-weaker}
 use lib.ListN.{length-append}
 use Rattle.std.proofs.lemmas.List.{nil_from_length}
 use Rattle.std.proofs.lemmas.List.Sorted.{IsPermutation-refl, length_permutation, All-permutation}
@@ -21,11 +21,11 @@ use Rattle.jwalk_read.specs.declared.process_read_dir.ProcessReadDir as ProcessR
 use Rattle.jwalk_read.specs.declared.read_dir_spec.ReadDirSpec.{ReadDirSpec}
 use Rattle.jwalk_read.specs.declared.job.Job.{Job}
 use Rattle.jwalk_read.specs.ReadDir.{spec, outcome}
-use Rattle.jwalk_read.specs.Job.{IsReadingOf}
+use Rattle.jwalk_read.specs.Given.{Given}
+use Rattle.jwalk_read.specs.Job.{IsSteadyJob, IsReadingOf}
 use Rattle.jwalk_engine.specs.declared.read.Read.{Read}
 use Rattle.jwalk_engine.specs.ToGive.{ToGive, IsHeld, HandsOn}
-use Rattle.jwalk_engine.specs.Reads.{spec_of, to_give, IsSound, ReadsSome, ReadsFirst}
-use Rattle.jwalk_engine.specs.BoardWalk.{Keeps}
+use Rattle.jwalk_engine.specs.Reads.{spec_of, to_give, IsMade, MadeAsGiven, IsSoundOver, IsSound, ReadsSome, ReadsFirst}
 use Rattle.jwalk_engine.proofs.Steps.{gives-taken, gives-finished}
 
 pub on_ok : {X F : Type 0} (r : Result X F) {P Q : Type 0} → (P → Q) → OnOk r P → OnOk r Q
@@ -78,38 +78,52 @@ module _ {C S P A R E : Type 0} (files : FileSystem.Ghosts S) (process : Process
           join = subst (λ g. IsPermutation ((q, map spec children) ∷ g.made) (to_give c []).made) taken made.joins;
         }
 
-  -- the readings that are made stay sound
-  pub some_sound : (width : ℕ) (old new : ToGive (Read C A R E) (Spec R)) → ReadsSome files process clone defaults job width old new → All (IsSound files process clone defaults job) old.made → All (IsSound files process clone defaults job) new.made
-  some_sound width old new some sound = All-permutation (IsSound files process clone defaults job) (some.readings ++ old.made) new.made some.join (All-append (IsSound files process clone defaults job) some.readings old.made some.sound sound)
+module _ {C S P A R E : Type 0} (files : FileSystem.Ghosts S) (clone : Clone.Ghosts R) (counts : Given R E → Type 0) (job : Job C S P A R E) where
+  abbrev Sound : Read C A R E × List (Spec R) → Type 0
+  Sound = IsSoundOver files clone counts job
 
-  module _ (old new : ToGive (Read C A R E) (Spec R)) (q : Read C A R E) (hands : HandsOn spec_of old q new) (sound : All (IsSound files process clone defaults job) old.made) where
-    all_of : All (IsSound files process clone defaults job) ((q, hands.front) ∷ new.made)
-    all_of = All-permutation (IsSound files process clone defaults job) old.made ((q, hands.front) ∷ new.made) hands.leaves sound
+  -- What was made lawfully, and as given over all that counts, is sound.
+  pub all_sound_over : (made : List (Read C A R E × List (Spec R))) → All (IsMade clone job) made → ((given : Given R E) → counts given → All (MadeAsGiven files given job) made) → All Sound made
+  all_sound_over [] lawful value = All-nil _
+  all_sound_over (m ∷ made) lawful value =
+      let mine = All-head (IsMade clone job) m made lawful in
+      All-cons Sound m made
+      (record { reading = record { lawful = mine.lawful; few = mine.few; value = λ given c. All-head (MadeAsGiven files given job) m made (value given c) }; clones = mine.clones })
+      (all_sound_over made (All-tail (IsMade clone job) m made lawful) (λ given c. All-tail (MadeAsGiven files given job) m made (value given c)))
 
-    pub hands_sound : All (IsSound files process clone defaults job) new.made
-    hands_sound = All-tail (IsSound files process clone defaults job) (q, hands.front) new.made all_of
+  -- What is sound was made lawfully,
+  pub all_made : (made : List (Read C A R E × List (Spec R))) → All Sound made → All (IsMade clone job) made
+  all_made made = All-weaker Sound (IsMade clone job) (λ m s. record { lawful = s.reading.lawful; few = s.reading.few; clones = s.clones }) made
+
+  -- and is as given over all that counts.
+  pub all_as_given : (made : List (Read C A R E × List (Spec R))) → All Sound made → (given : Given R E) → counts given → All (MadeAsGiven files given job) made
+  all_as_given made sound given c = All-weaker Sound (MadeAsGiven files given job) (λ m s. s.reading.value given c) made sound
+
+  module _ (old new : ToGive (Read C A R E) (Spec R)) (q : Read C A R E) (hands : HandsOn spec_of old q new) (sound : All Sound old.made) where
+    all_of : All Sound ((q, hands.front) ∷ new.made)
+    all_of = All-permutation Sound old.made ((q, hands.front) ∷ new.made) hands.leaves sound
+
+    pub hands_sound : All Sound new.made
+    hands_sound = All-tail Sound (q, hands.front) new.made all_of
 
     -- what is handed on is a reading of the first
-    pub hands_first : ReadsFirst files process clone defaults job old.to_read (outcome q.outcome) new.to_read
+    pub hands_first : ReadsFirst files clone counts job old.to_read (outcome q.outcome) new.to_read
     hands_first =
-        let mine = All-head (IsSound files process clone defaults job) (q, hands.front) new.made all_of in
+        let mine = All-head Sound (q, hands.front) new.made all_of in
         record { first = spec_of q; rest = hands.rest; took = hands.took; reading = mine.reading; stacks = record { front = hands.front; left = hands.left; clones = mine.clones } }
 
-  -- What is handed on leaves the board as it is between calls.
-  pub hands_keep : (b c : Board (ReadDirSpec C A R E) (Read C A R E)) (q : Read C A R E) → HandsOn spec_of (to_give b []) q (to_give c []) → c.stopped ≡ false → c.in_hand ≡ [] → All (IsSound files process clone defaults job) (to_give b []).made
-      → Keeps files process clone defaults job c
-  hands_keep b c q hands running none sound = record { running = running; none_in_hand = none; sound = hands_sound (to_give b []) (to_give c []) q hands sound }
+-- one fewer is left
+pub hands_less : {C A R E : Type 0} (old new : ToGive (Read C A R E) (Spec R)) (q : Read C A R E) → HandsOn spec_of old q new → length new.made + 1 ≡ length old.made
+hands_less old new q hands = omega (arith, length_permutation old.made ((q, hands.front) ∷ new.made) hands.leaves)
 
-  -- What is handed on after some readings were made is a reading of what was the first before.
-  pub first_after : (width : ℕ) (old mid new : ToGive (Read C A R E) (Spec R)) (q : Read C A R E) → ReadsSome files process clone defaults job width old mid → HandsOn spec_of mid q new → All (IsSound files process clone defaults job) old.made
-      → ReadsFirst files process clone defaults job old.to_read (outcome q.outcome) new.to_read
-  first_after width old mid new q some hands sound =
-      subst (λ l. ReadsFirst files process clone defaults job l (outcome q.outcome) new.to_read) some.same (hands_first mid new q hands (some_sound width old mid some sound))
+module _ {C S P A R E : Type 0} (files : FileSystem.Ghosts S) (process : ProcessReadDir.Ghosts P C A R E) (clone : Clone.Ghosts R) (defaults : Default.Ghosts E) (job : Job C S P A R E) (width : ℕ) (old new : ToGive (Read C A R E) (Spec R)) (some : ReadsSome files process clone defaults job width old new) where
+  -- so many more at most are made
+  pub some_more : length new.made ≤ width + length old.made
+  some_more = omega (arith, some.few, length_permutation (some.readings ++ old.made) new.made some.join, length-append some.readings old.made)
 
-  -- one fewer is left
-  pub hands_less : (old new : ToGive (Read C A R E) (Spec R)) (q : Read C A R E) → HandsOn spec_of old q new → length new.made + 1 ≡ length old.made
-  hands_less old new q hands = omega (arith, length_permutation old.made ((q, hands.front) ∷ new.made) hands.leaves)
-
-  -- and so many more at most are made
-  pub some_more : (width : ℕ) (old new : ToGive (Read C A R E) (Spec R)) → ReadsSome files process clone defaults job width old new → length new.made ≤ width + length old.made
-  some_more width old new some = omega (arith, some.few, length_permutation (some.readings ++ old.made) new.made some.join, length-append some.readings old.made)
+  -- Where all that counts as given has a steady job, the readings that are made stay sound.
+  pub some_sound : (counts : Given R E → Type 0) → ((given : Given R E) → counts given → IsSteadyJob files process clone defaults job given) → All (IsSoundOver files clone counts job) old.made → All (IsSoundOver files clone counts job) new.made
+  some_sound counts steady sound =
+      let fresh = All-weaker (IsSound files process clone defaults job) (IsSoundOver files clone counts job)
+      (λ m s. record { reading = record { lawful = s.reading.lawful; few = s.reading.few; value = λ given c. s.reading.value given (steady given c) }; clones = s.clones }) some.readings some.sound in
+      All-permutation (IsSoundOver files clone counts job) (some.readings ++ old.made) new.made some.join (All-append (IsSoundOver files clone counts job) some.readings old.made fresh sound)

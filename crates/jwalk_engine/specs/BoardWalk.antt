@@ -10,9 +10,10 @@ use Rattle.jwalk_read.specs.declared.process_read_dir.ProcessReadDir as ProcessR
 use Rattle.jwalk_read.specs.declared.read_dir_spec.ReadDirSpec.{ReadDirSpec}
 use Rattle.jwalk_read.specs.declared.job.Job.{Job}
 use Rattle.jwalk_read.specs.ReadDir.{outcome}
+use Rattle.jwalk_read.specs.Given.{Given}
 use Rattle.jwalk_engine.specs.declared.read.Read.{Read}
 use Rattle.jwalk_engine.specs.ToGive.{ToGive, HandsOn}
-use Rattle.jwalk_engine.specs.Reads.{spec_of, to_give, IsSound, ReadsSome, ReadsNext}
+use Rattle.jwalk_engine.specs.Reads.{spec_of, to_give, IsMade, IsSteadyWith, ReadsSome, ReadsNext}
 use Rattle.jwalk_engine.specs.ReadAhead.{ReadAhead, nothing_ahead, ahead_on, HandsOnAt, ReadsLeast, EntersNext}
 
 -- What it reads with, how many directories are read together, and its board, which is gone once it was stopped.
@@ -68,13 +69,13 @@ module _ {C S P A R E : Type 0} (w : BoardWalk C S P A R E) where
   abbrev pub next_of : List ℕ
   next_of = entered_next w.board
 
-module _ {C S P A R E : Type 0} (files : FileSystem.Ghosts S) (process : ProcessReadDir.Ghosts P C A R E) (clone : Clone.Ghosts R) (defaults : Default.Ghosts E) where
-  -- What holds of a board between calls: it is running, nothing is in hand, and what is ready is sound.
-  pub record Keeps (job : Job C S P A R E) (b : Board (ReadDirSpec C A R E) (Read C A R E)) : Type 0 where
-    pub running : b.stopped ≡ false
-    pub none_in_hand : b.in_hand ≡ []
-    pub sound : All (IsSound files process clone defaults job) (to_give b []).made
+-- What holds of a board between calls, whatever the file system answers: it is running, nothing is in hand, and what is ready was made so.
+pub record Keeps {C S P A R E : Type 0} (clone : Clone.Ghosts R) (job : Job C S P A R E) (b : Board (ReadDirSpec C A R E) (Read C A R E)) : Type 0 where
+  pub running : b.stopped ≡ false
+  pub none_in_hand : b.in_hand ≡ []
+  pub made : All (IsMade clone job) (to_give b []).made
 
+module _ {C S P A R E : Type 0} (files : FileSystem.Ghosts S) (process : ProcessReadDir.Ghosts P C A R E) (clone : Clone.Ghosts R) (defaults : Default.Ghosts E) where
   -- Some of the least directories are read, so many at most, and nothing is handed on.
   pub record ReadsBatch (job : Job C S P A R E) (width : ℕ) (old new : Board (ReadDirSpec C A R E) (Read C A R E)) : Type 0 where
     pub reads : ReadsSome files process clone defaults job width (to_give old []) (to_give new [])
@@ -83,9 +84,18 @@ module _ {C S P A R E : Type 0} (files : FileSystem.Ghosts S) (process : Process
     pub none_in_hand : new.in_hand ≡ []
     pub running : new.stopped ≡ false
 
+  -- over what is given a board is steady
+  abbrev pub IsSteadyBoard : Job C S P A R E → Board (ReadDirSpec C A R E) (Read C A R E) → Given R E → Type 0
+  IsSteadyBoard job b = IsSteadyWith files process clone defaults job (to_give b []).made
+
+  -- Over what is given a walk is steady: its job is, and what it read early is as the definition has it.
+  abbrev pub IsSteadyWalk : BoardWalk C S P A R E → Given R E → Type 0
+  IsSteadyWalk w = IsSteadyWith files process clone defaults w.job (early_of w)
+
   -- One call answers and goes on.
   pub record GoesOn (job : Job C S P A R E) (width : ℕ) (old : Board (ReadDirSpec C A R E) (Read C A R E)) (answer : Option (Outcome R E)) (new : Board (ReadDirSpec C A R E) (Read C A R E)) : Type 0 where
-    pub keeps : Keeps job new
+    pub keeps : Keeps clone job new
     pub ahead : length (to_give new []).made + 1 ≤ length (to_give old []).made + width
-    pub next : ReadsNext files process clone defaults job (to_give old []).to_read answer (to_give new []).to_read
+    pub steady : (given : Given R E) → IsSteadyBoard job old given → IsSteadyBoard job new given
+    pub next : ReadsNext files clone (IsSteadyBoard job old) job (to_give old []).to_read answer (to_give new []).to_read
     pub enters : EntersNext files process clone defaults job width (next_address old.frontier) (ahead_on old) answer (ahead_on new)

@@ -1,9 +1,9 @@
 -- Readings on a board: what is still to be read, and what a reading leaves.
-use Rattle.std.specs.Prelude.{◌≡◌, ◌≤◌, ℕ, List, [], ◌∷◌, ◌++◌, length, All, Option, Some, None}
+use Rattle.std.specs.Prelude.{◌≡◌, ◌≤◌, ◌<◌, ◌^◌, ℕ, List, [], ◌∷◌, ◌++◌, length, All, Option, Some, None}
 use Rattle.std.specs.List.Sorted.{IsPermutation}
 use Rattle.std.specs.declared.clone.Clone as Clone
 use Rattle.std.specs.declared.default.Default as Default
-use Rattle.walk_model.specs.ReadDir.{Spec, Outcome, children_of, AreClones}
+use Rattle.walk_model.specs.ReadDir.{Spec, Outcome, IsLawful, list_of, children_of, AreClones}
 use Rattle.walk_fs.specs.declared.file_system.FileSystem as FileSystem
 use Rattle.jwalk_board.specs.Board.{Board}
 use Rattle.jwalk_board.specs.Addressed.{Addressed}
@@ -11,7 +11,8 @@ use Rattle.jwalk_read.specs.declared.process_read_dir.ProcessReadDir as ProcessR
 use Rattle.jwalk_read.specs.declared.read_dir_spec.ReadDirSpec.{ReadDirSpec}
 use Rattle.jwalk_read.specs.declared.job.Job.{Job}
 use Rattle.jwalk_read.specs.ReadDir.{spec, outcome}
-use Rattle.jwalk_read.specs.Job.{IsReadingOf}
+use Rattle.jwalk_read.specs.Given.{Given}
+use Rattle.jwalk_read.specs.Job.{greatest_depth, IsSteadyJob, IsAsGiven, IsReadingOver}
 use Rattle.jwalk_engine.specs.declared.read.Read.{Read}
 use Rattle.jwalk_engine.specs.ToGive as board
 use Rattle.jwalk_engine.specs.ToGive.{ToGive}
@@ -31,13 +32,13 @@ pub record StacksChildren {R E : Type 0} (clone : Clone.Ghosts R) (old : List (S
   pub left : new ≡ front ++ old
   pub clones : AreClones clone.is_clone (children_of read) front
 
-module _ {C S P A R E : Type 0} (files : FileSystem.Ghosts S) (process : ProcessReadDir.Ghosts P C A R E) (clone : Clone.Ghosts R) (defaults : Default.Ghosts E) where
+module _ {C S P A R E : Type 0} (files : FileSystem.Ghosts S) (clone : Clone.Ghosts R) (counts : Given R E → Type 0) where
   -- The first of the specifications is read, and gives way to those of the directories in its outcome.
   pub record ReadsFirst (job : Job C S P A R E) (old : List (Spec R)) (read : Outcome R E) (new : List (Spec R)) : Type 0 where
     pub first : Spec R
     pub rest : List (Spec R)
     pub took : old ≡ first ∷ rest
-    pub reading : IsReadingOf files process clone defaults job first read
+    pub reading : IsReadingOver files counts job first read
     pub stacks : StacksChildren clone rest read new
 
   -- the first is read, or nothing was left to be read
@@ -46,9 +47,29 @@ module _ {C S P A R E : Type 0} (files : FileSystem.Ghosts S) (process : Process
   ReadsNext job old (Some read) new = ReadsFirst job old read new
 
   -- It is a reading of its directory, and with it stand the directories of its list, with clones of their states.
-  pub record IsSound (job : Job C S P A R E) (made : Read C A R E × List (Spec R)) : Type 0 where
-    pub reading : IsReadingOf files process clone defaults job (spec_of made.0) (outcome made.0.outcome)
+  pub record IsSoundOver (job : Job C S P A R E) (made : Read C A R E × List (Spec R)) : Type 0 where
+    pub reading : IsReadingOver files counts job (spec_of made.0) (outcome made.0.outcome)
     pub clones : AreClones clone.is_clone (children_of (outcome made.0.outcome)) made.1
+
+-- Whatever the file system answers: it is a lawful outcome of its directory, its list fits in memory, and with it stand the directories of its list, with clones of their states.
+pub record IsMade {C S P A R E : Type 0} (clone : Clone.Ghosts R) (job : Job C S P A R E) (made : Read C A R E × List (Spec R)) : Type 0 where
+  pub lawful : IsLawful (greatest_depth job) (spec_of made.0) (outcome made.0.outcome)
+  pub few : length (list_of (outcome made.0.outcome)) < 2 ^ 64
+  pub clones : AreClones clone.is_clone (children_of (outcome made.0.outcome)) made.1
+
+-- it is the reading of the definition over what is given
+abbrev pub MadeAsGiven : {C S P A R E : Type 0} → FileSystem.Ghosts S → Given R E → Job C S P A R E → Read C A R E × List (Spec R) → Type 0
+MadeAsGiven files given job made = IsAsGiven files given job (spec_of made.0) (outcome made.0.outcome)
+
+module _ {C S P A R E : Type 0} (files : FileSystem.Ghosts S) (process : ProcessReadDir.Ghosts P C A R E) (clone : Clone.Ghosts R) (defaults : Default.Ghosts E) where
+  -- by value over a steady job
+  abbrev pub IsSound : Job C S P A R E → Read C A R E × List (Spec R) → Type 0
+  IsSound job = IsSoundOver files clone (IsSteadyJob files process clone defaults job) job
+
+  -- Over what is given the job is steady, and the readings that were made before are as the definition has them.
+  pub record IsSteadyWith (job : Job C S P A R E) (made : List (Read C A R E × List (Spec R))) (given : Given R E) : Type 0 where
+    pub steady : IsSteadyJob files process clone defaults job given
+    pub early : All (MadeAsGiven files given job) made
 
   -- Some readings are made, so many at most, and what is to be read stays the same.
   pub record ReadsSome (job : Job C S P A R E) (width : ℕ) (old new : ToGive (Read C A R E) (Spec R)) : Type 0 where

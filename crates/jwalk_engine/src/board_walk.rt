@@ -8,6 +8,7 @@ ghost use Rattle.jwalk_read.specs.Job.{callback};
 ghost use Rattle.jwalk_engine.specs.Reads.{to_give, ReadsNext};
 ghost use Rattle.jwalk_engine.specs.ReadAhead.{nothing_ahead, BeginsWith, EntersNext};
 ghost use Rattle.jwalk_engine.specs.BoardWalk.{Keeps, ReadsBatch, HandsOnNext, HandsOnIfAny, GoesOn};
+ghost use Rattle.jwalk_read.specs.Given.{Given};
 
 use crate::batch::{read_batch, read_batch_on, read_least};
 use crate::read::{Outcome, Read};
@@ -115,8 +116,7 @@ fn read_next<C: ClientState, S: FileSystem, P: ProcessReadDir<C, A>, A: Allocato
     width: usize,
 ) -> Result<Option<Outcome<C, A>>, AllocError>
     requires lawful { P.IsLawful (callback job.now) }
-    requires keeps { Keeps S.FileSystem P.ProcessReadDir C.ReadDirState.Clone C.DirEntryState.Default
-        job.now board.old }
+    requires keeps { Keeps C.ReadDirState.Clone job.now board.old }
     requires width { 1 ≤ width }
     ensures some { OnErr result ((to_give board.old []).to_read ≢ []) }
     ensures goes_on { IfOk result (λ o. GoesOn S.FileSystem P.ProcessReadDir C.ReadDirState.Clone
@@ -151,8 +151,7 @@ where
     C::ReadDirState: Send,
     C::DirEntryState: Send,
     requires lawful { P.IsLawful (callback job.now) }
-    requires keeps { Keeps S.FileSystem P.ProcessReadDir C.ReadDirState.Clone C.DirEntryState.Default
-        job.now board.old }
+    requires keeps { Keeps C.ReadDirState.Clone job.now board.old }
     requires width { 1 ≤ width }
     ensures some { OnErr result ((to_give board.old []).to_read ≢ []) }
     ensures goes_on { IfOk result (λ o. GoesOn S.FileSystem P.ProcessReadDir C.ReadDirState.Clone
@@ -201,8 +200,7 @@ impl<C: ClientState, S: FileSystem, P: ProcessReadDir<C, A>, A: Allocator + Copy
 
     ghost view = { λ w. record { job = w.job; width = w.width; board = w.board } };
 
-    ghost invariant = { λ w. (1 ≤ w.width) × IfSome w.board (Keeps S.FileSystem P.ProcessReadDir
-        C.ReadDirState.Clone C.DirEntryState.Default w.job) };
+    ghost invariant = { λ w. (1 ≤ w.width) × IfSome w.board (Keeps C.ReadDirState.Clone w.job) };
 }
 
 impl<C: ClientState, S: FileSystem, P: ProcessReadDir<C, A>, A: Allocator + Copy> BoardWalk<
@@ -211,7 +209,7 @@ impl<C: ClientState, S: FileSystem, P: ProcessReadDir<C, A>, A: Allocator + Copy
     P,
     A,
 > {
-    ghost use Rattle.jwalk_engine.specs.BoardWalk.{to_read, early_of, read_ahead, next_of};
+    ghost use Rattle.jwalk_engine.specs.BoardWalk.{to_read, early_of, read_ahead, next_of, IsSteadyWalk};
 
     /// A walk with nothing to read yet, which is to read so many directories together.
     pub fn new(alloc: A, job: Job<C, S, P, A>, width: usize) -> Self
@@ -300,8 +298,12 @@ impl<C: ClientState, S: FileSystem, P: ProcessReadDir<C, A>, A: Allocator + Copy
         ensures stopped { OnErr result (to_read self.new ≡ []) }
         ensures nothing_ahead { OnErr result (read_ahead self.new ≡ nothing_ahead) }
         ensures some { OnErr result (to_read self.old ≢ []) }
-        ensures next { IfOk result (λ o. ReadsNext S.FileSystem P.ProcessReadDir C.ReadDirState.Clone
-            C.DirEntryState.Default self.old.job (to_read self.old) (option_map outcome o) (to_read self.new)) }
+        ensures steady { (given : Given C.ReadDirState C.DirEntryState) → IsSteadyWalk S.FileSystem P.ProcessReadDir
+            C.ReadDirState.Clone C.DirEntryState.Default self.old given → IsSteadyWalk S.FileSystem P.ProcessReadDir
+            C.ReadDirState.Clone C.DirEntryState.Default self.new given }
+        ensures next { IfOk result (λ o. ReadsNext S.FileSystem C.ReadDirState.Clone
+            (IsSteadyWalk S.FileSystem P.ProcessReadDir C.ReadDirState.Clone C.DirEntryState.Default self.old)
+            self.old.job (to_read self.old) (option_map outcome o) (to_read self.new)) }
         ensures enters { IfOk result (λ o. EntersNext S.FileSystem P.ProcessReadDir C.ReadDirState.Clone
             C.DirEntryState.Default self.old.job self.old.width (next_of self.old) (read_ahead self.old)
             (option_map outcome o) (read_ahead self.new)) }
@@ -351,7 +353,7 @@ where
     C::ReadDirState: Send,
     C::DirEntryState: Send,
 {
-    ghost use Rattle.jwalk_engine.specs.BoardWalk.{to_read, early_of, read_ahead, next_of};
+    ghost use Rattle.jwalk_engine.specs.BoardWalk.{to_read, early_of, read_ahead, next_of, IsSteadyWalk};
 
     /// The same as [`read_next`](BoardWalk::read_next), with the directories read on several threads where there are
     /// enough of them to be worth it.
@@ -370,8 +372,12 @@ where
         ensures stopped { OnErr result (to_read self.new ≡ []) }
         ensures nothing_ahead { OnErr result (read_ahead self.new ≡ nothing_ahead) }
         ensures some { OnErr result (to_read self.old ≢ []) }
-        ensures next { IfOk result (λ o. ReadsNext S.FileSystem P.ProcessReadDir C.ReadDirState.Clone
-            C.DirEntryState.Default self.old.job (to_read self.old) (option_map outcome o) (to_read self.new)) }
+        ensures steady { (given : Given C.ReadDirState C.DirEntryState) → IsSteadyWalk S.FileSystem P.ProcessReadDir
+            C.ReadDirState.Clone C.DirEntryState.Default self.old given → IsSteadyWalk S.FileSystem P.ProcessReadDir
+            C.ReadDirState.Clone C.DirEntryState.Default self.new given }
+        ensures next { IfOk result (λ o. ReadsNext S.FileSystem C.ReadDirState.Clone
+            (IsSteadyWalk S.FileSystem P.ProcessReadDir C.ReadDirState.Clone C.DirEntryState.Default self.old)
+            self.old.job (to_read self.old) (option_map outcome o) (to_read self.new)) }
         ensures enters { IfOk result (λ o. EntersNext S.FileSystem P.ProcessReadDir C.ReadDirState.Clone
             C.DirEntryState.Default self.old.job self.old.width (next_of self.old) (read_ahead self.old)
             (option_map outcome o) (read_ahead self.new)) }

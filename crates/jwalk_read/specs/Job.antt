@@ -42,6 +42,16 @@ job_by files given job = record {
   default = given.new_entry;
 }
 
+-- Over what is given the outcome is the reading of the definition.
+abbrev pub IsAsGiven : {C S P A R E : Type 0} → FileSystem.Ghosts S → Given R E → Job C S P A R E → Spec R → Outcome R E → Type 0
+IsAsGiven files given job spec outcome = counted_outcome given outcome ≡ value.reading (job_by files given job) (counted_spec given spec)
+
+-- The outcome is a reading of the directory: lawful whatever the file system answers, a list that fits in memory, and the reading of the definition over all that counts as given.
+pub record IsReadingOver {C S P A R E : Type 0} (files : FileSystem.Ghosts S) (counts : Given R E → Type 0) (job : Job C S P A R E) (spec : Spec R) (outcome : Outcome R E) : Type 0 where
+  pub lawful : IsLawful (greatest_depth job) spec outcome
+  pub few : length (list_of outcome) < 2 ^ 64
+  pub value : (given : Given R E) → counts given → IsAsGiven files given job spec outcome
+
 module _ {C S P A R E : Type 0} (files : FileSystem.Ghosts S) (process : ProcessReadDir.Ghosts P C A R E) (clone : Clone.Ghosts R) (defaults : Default.Ghosts E) where
   -- What a walk works with is as it is given: its file system is fixed, its callback makes of lists what is said, and clones and defaults count so.
   pub record IsSteady (fs : S) (it : P) (given : Given R E) : Type 0 where
@@ -54,8 +64,6 @@ module _ {C S P A R E : Type 0} (files : FileSystem.Ghosts S) (process : Process
   abbrev pub IsSteadyJob : Job C S P A R E → Given R E → Type 0
   IsSteadyJob job given = IsSteady (file_system job) (callback job) given
 
-  -- The outcome is a reading of the directory: lawful whatever the file system answers, a list that fits in memory, and over a steady job the reading of the definition.
-  pub record IsReadingOf (job : Job C S P A R E) (spec : Spec R) (outcome : Outcome R E) : Type 0 where
-    pub lawful : IsLawful (greatest_depth job) spec outcome
-    pub few : length (list_of outcome) < 2 ^ 64
-    pub value : (given : Given R E) → IsSteadyJob job given → counted_outcome given outcome ≡ value.reading (job_by files given job) (counted_spec given spec)
+  -- A reading of the directory, by value over a steady job.
+  abbrev pub IsReadingOf : Job C S P A R E → Spec R → Outcome R E → Type 0
+  IsReadingOf job = IsReadingOver files (IsSteadyJob job) job
