@@ -27,7 +27,7 @@ use Rattle.jwalk_read.specs.Job.{options_of, greatest_depth, job_by, ClonesCount
 use Rattle.jwalk.specs.declared.dir_entry_iter.DirEntryIter.{DirEntryIter}
 use Rattle.jwalk.specs.Step.{ReadsUpTo, IsAtDirectory, StopsAtDirectory}
 use Rattle.jwalk_engine.specs.ReadAhead.{nothing_ahead}
-use Rattle.jwalk.specs.DirEntryIter.{job_of, min_depth_of, items_of, unread_of, width_of, read_ahead, GoesAhead, GrowsAhead, held, held_by, refusal, to_come, IsSourced, Refuses, IsSteadyWalk, Answers}
+use Rattle.jwalk.specs.DirEntryIter.{job_of, min_depth_of, items_of, unread_of, width_of, read_ahead, GoesAhead, GrowsAhead, held, held_by, refusal, to_come, IsSourced, Refuses, IsSteadyWalk, StaysSteady, Answers}
 use Rattle.jwalk.proofs.StepFacts.{next_within, next_lighter, next_count, next_plain, next_listed, left_within, left_lighter, left_count, left_plain, left_to_come}
 
 -- at a directory nothing is said of the answer but what its reading tells
@@ -97,7 +97,7 @@ module _ {C S P A T R E : Type 0} (files : FileSystem.Ghosts S) (process : Proce
   Counts = IsSteadyWalk files process clone defaults old
 
   answers_some : (x : Result (DirEntry C A R E) (Error A)) → old.refused ≡ false → new.refused ≡ false → job_of new ≡ job_of old
-      → ReadsUpTo files clone Counts (job_of old) (items_of old) (unread_of old) (Some (item x)) (items_of new) (unread_of new) → width_of new ≡ width_of old → ((given : Given R E) → Counts given → IsSteadyWalk files process clone defaults new given) → GrowsAhead files process clone defaults old new → Answers files process clone defaults old (Some x) new
+      → ReadsUpTo files clone Counts (job_of old) (items_of old) (unread_of old) (Some (item x)) (items_of new) (unread_of new) → width_of new ≡ width_of old → StaysSteady files process clone defaults old new → GrowsAhead files process clone defaults old new → Answers files process clone defaults old (Some x) new
   answers_some x began started job reads width keeps grown =
       let j = job_of old in
       let left = reads.2 in
@@ -129,7 +129,7 @@ module _ {C S P A T R E : Type 0} (files : FileSystem.Ghosts S) (process : Proce
 
   -- all that was held is left out
   answers_none : old.refused ≡ false → new.refused ≡ false → job_of new ≡ job_of old
-      → ReadsUpTo files clone Counts (job_of old) (items_of old) (unread_of old) None (items_of new) (unread_of new) → width_of new ≡ width_of old → ((given : Given R E) → Counts given → IsSteadyWalk files process clone defaults new given) → GrowsAhead files process clone defaults old new → Answers files process clone defaults old None new
+      → ReadsUpTo files clone Counts (job_of old) (items_of old) (unread_of old) None (items_of new) (unread_of new) → width_of new ≡ width_of old → StaysSteady files process clone defaults old new → GrowsAhead files process clone defaults old new → Answers files process clone defaults old None new
   answers_none began started job reads width keeps grown =
       let j = job_of old in
       let left = reads.2 in
@@ -159,13 +159,13 @@ module _ {C S P A T R E : Type 0} (files : FileSystem.Ghosts S) (process : Proce
       }
 
   pub answers_reads : (answer : Option (Result (DirEntry C A R E) (Error A))) → old.refused ≡ false → new.refused ≡ false → job_of new ≡ job_of old
-      → ReadsUpTo files clone Counts (job_of old) (items_of old) (unread_of old) (option_map item answer) (items_of new) (unread_of new) → width_of new ≡ width_of old → ((given : Given R E) → Counts given → IsSteadyWalk files process clone defaults new given) → GrowsAhead files process clone defaults old new → Answers files process clone defaults old answer new
+      → ReadsUpTo files clone Counts (job_of old) (items_of old) (unread_of old) (option_map item answer) (items_of new) (unread_of new) → width_of new ≡ width_of old → StaysSteady files process clone defaults old new → GrowsAhead files process clone defaults old new → Answers files process clone defaults old answer new
   answers_reads None began started job reads width keeps grown = answers_none began started job reads width keeps grown
   answers_reads (Some x) began started job reads width keeps grown = answers_some x began started job reads width keeps grown
 
   -- memory was refused below a directory
   pub answers_stopped : (error : Error A) → failure error ≡ memory → old.refused ≡ false → new.refused ≡ false → job_of new ≡ job_of old → items_of new ≡ [] → unread_of new ≡ []
-      → StopsAtDirectory files clone Counts (job_of old) (items_of old) (unread_of old) → width_of new ≡ width_of old → ((given : Given R E) → Counts given → IsSteadyWalk files process clone defaults new given) → read_ahead new ≡ nothing_ahead → Answers files process clone defaults old (Some (Err error)) new
+      → StopsAtDirectory files clone Counts (job_of old) (items_of old) (unread_of old) → width_of new ≡ width_of old → StaysSteady files process clone defaults old new → read_ahead new ≡ nothing_ahead → Answers files process clone defaults old (Some (Err error)) new
   answers_stopped error told began started job none no_unread stops width keeps nothing_left =
       let j = job_of old in
       let left = stops.2 in
@@ -188,7 +188,7 @@ module _ {C S P A T R E : Type 0} (files : FileSystem.Ghosts S) (process : Proce
       }
 
   -- a walk that was refused at its start tells of it
-  pub answers_refusal : (error : Error A) → failure error ≡ memory → old.refused ≡ true → new.refused ≡ false → job_of new ≡ job_of old → items_of new ≡ items_of old → unread_of new ≡ unread_of old → width_of new ≡ width_of old → ((given : Given R E) → Counts given → IsSteadyWalk files process clone defaults new given) → read_ahead new ≡ read_ahead old → Answers files process clone defaults old (Some (Err error)) new
+  pub answers_refusal : (error : Error A) → failure error ≡ memory → old.refused ≡ true → new.refused ≡ false → job_of new ≡ job_of old → items_of new ≡ items_of old → unread_of new ≡ unread_of old → width_of new ≡ width_of old → StaysSteady files process clone defaults old new → read_ahead new ≡ read_ahead old → Answers files process clone defaults old (Some (Err error)) new
   answers_refusal error told refused started job items unread width keeps same_ahead =
       let front = held_refused old refused in
       let rest : held new ≡ pair_up (items_of old) (unread_of old) = held_rest new started ∙ ap (λ l. pair_up l (unread_of new)) items ∙ ap (pair_up (items_of old)) unread in

@@ -29,7 +29,7 @@ use Rattle.jwalk_engine.specs.Reads.{ReadsFirst, ReadsNext}
 use Rattle.jwalk_engine.specs.ReadAhead.{nothing_ahead, EntersNext}
 use Rattle.jwalk_engine.specs.BoardWalk as board
 use Rattle.jwalk.specs.declared.read_dir_iter.ReadDirIter.{ReadDirIter}
-use Rattle.jwalk.specs.ReadDirIter.{walk_of, job_of, to_read, width_of, read_ahead, next_address, GivesFirst, GivesPreorder, IsSteadyReads, Gives}
+use Rattle.jwalk.specs.ReadDirIter.{walk_of, job_of, to_read, width_of, read_ahead, next_address, GivesFirst, GivesPreorder, IsSteadyReads, StaysSteady, Gives}
 
 module _ {C S P A R E : Type 0} (files : FileSystem.Ghosts S) (clone : Clone.Ghosts R) (counts : Given R E → Type 0) (job : Job C S P A R E) (old new : List (Spec R)) where
   module _ (given : Given R E) (cloned : ClonesCount clone given) (counted : counts given) where
@@ -72,7 +72,7 @@ as_many (Some b) = length-map b.ready _ ∙ sym (length-map b.ready _)
 module _ {C S P A T R E : Type 0} (files : FileSystem.Ghosts S) (process : ProcessReadDir.Ghosts P C A R E) (clone : Clone.Ghosts R) (defaults : Default.Ghosts E) (old new : ReadDirIter C S P A T R E) where
   -- one call that read on
   pub gives_read : (read : Option (Result (ReadDir C A R E) (Error A))) → job_of new ≡ job_of old → width_of new ≡ width_of old → length (board.early_of (walk_of new)) + 1 ≤ length (board.early_of (walk_of old)) + width_of old
-      → ((given : Given R E) → IsSteadyReads files process clone defaults old given → IsSteadyReads files process clone defaults new given)
+      → StaysSteady files process clone defaults old new
       → ReadsNext files clone (IsSteadyReads files process clone defaults old) (job_of old) (to_read old) (option_map outcome read) (to_read new)
       → EntersNext files process clone defaults (job_of old) (width_of old) (next_address old) (read_ahead old) (option_map outcome read) (read_ahead new)
       → Gives files process clone defaults old read new
@@ -88,7 +88,7 @@ module _ {C S P A T R E : Type 0} (files : FileSystem.Ghosts S) (process : Proce
 
   -- one call that was refused memory
   pub gives_refused : (error : Error A) → failure error ≡ memory → job_of new ≡ job_of old → width_of new ≡ width_of old → length (board.early_of (walk_of new)) + 1 ≤ length (board.early_of (walk_of old)) + width_of old
-      → ((given : Given R E) → IsSteadyReads files process clone defaults old given → IsSteadyReads files process clone defaults new given) → to_read old ≢ [] → to_read new ≡ [] → read_ahead new ≡ nothing_ahead
+      → StaysSteady files process clone defaults old new → to_read old ≢ [] → to_read new ≡ [] → read_ahead new ≡ nothing_ahead
       → Gives files process clone defaults old (Some (Err error)) new
   gives_refused error told job width ahead steady some none nothing =
       let is : ◌≡◌ {A = Option (Outcome R E)} (Some (Err (failure error))) (Some (Err memory)) = ap (λ f. Some (Err f)) told in

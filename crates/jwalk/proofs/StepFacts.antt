@@ -26,7 +26,7 @@ use Rattle.jwalk_read.specs.Job.{options_of, greatest_depth, job_by, ClonesCount
 use Rattle.jwalk_engine.specs.Reads.{ReadsFirst, ReadsNext}
 use Rattle.jwalk.specs.declared.dir_entry_iter.DirEntryIter.{DirEntryIter}
 use Rattle.jwalk.specs.Step.{Receives, PassesNext, passed_plainly, passed_entering, LeavesOut, none_left_out, one_left_out, ReadsUpTo}
-use Rattle.jwalk.specs.DirEntryIter.{job_of, min_depth_of, items_of, unread_of, width_of, IsSteadyWalk, EntersIfAny, PassesMany, none_passed, GrowsAhead}
+use Rattle.jwalk.specs.DirEntryIter.{job_of, min_depth_of, items_of, unread_of, width_of, IsSteadyWalk, StaysSteady, EntersIfAny, PassesMany, none_passed, GrowsAhead}
 use Rattle.jwalk.proofs.AheadFacts.{grows, grows_no_more, one_more, nothing_more}
 
 -- a source that gives nothing takes no specification
@@ -180,7 +180,7 @@ module _ {C S P A T R E : Type 0} (files : FileSystem.Ghosts S) (process : Proce
     pub job : job_of new ≡ job_of old
     pub refused : new.refused ≡ old.refused
     pub width : width_of new ≡ width_of old
-    pub steady : (given : Given R E) → IsSteadyWalk files process clone defaults old given → IsSteadyWalk files process clone defaults new given
+    pub steady : StaysSteady files process clone defaults old new
     pub leaves : LeavesOut files clone (IsSteadyWalk files process clone defaults old) (job_of old) (items_of old) (unread_of old) (items_of new) (unread_of new)
     pub entered : ℕ
     pub passes : PassesMany files process clone defaults old entered new
@@ -189,7 +189,7 @@ module _ {C S P A T R E : Type 0} (files : FileSystem.Ghosts S) (process : Proce
   pub record Passes (old : DirEntryIter C S P A T R E) (passed : Result (DirEntry C A R E) (Error A)) (new : DirEntryIter C S P A T R E) : Type 0 where
     pub job : job_of new ≡ job_of old
     pub refused : new.refused ≡ old.refused
-    pub steady : (given : Given R E) → IsSteadyWalk files process clone defaults old given → IsSteadyWalk files process clone defaults new given
+    pub steady : StaysSteady files process clone defaults old new
     pub next : PassesNext files clone (IsSteadyWalk files process clone defaults old) (job_of old) (items_of old) (unread_of old) (item passed) (items_of new) (unread_of new)
     pub width : width_of new ≡ width_of old
     pub ahead : EntersIfAny files process clone defaults old new

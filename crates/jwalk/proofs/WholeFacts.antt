@@ -25,14 +25,15 @@ use Rattle.jwalk_read.specs.declared.dir_entry.DirEntry.{DirEntry}
 use Rattle.jwalk_read.specs.Error.{failure}
 use Rattle.jwalk_read.specs.Entry.{item}
 use Rattle.jwalk_read.specs.Given.{Given, counted_item, counted_spec, counted_list}
-use Rattle.jwalk_read.specs.Job.{options_of, greatest_depth, job_by, IsSteady, IsSteadyJob}
+use Rattle.jwalk_read.specs.Job.{options_of, greatest_depth, job_by, IsSteady}
 use Rattle.jwalk.specs.declared.dir_entry_iter.DirEntryIter.{DirEntryIter}
 use Rattle.jwalk.specs.declared.walk_dir.WalkDirGeneric.{WalkDirGeneric}
-use Rattle.jwalk.specs.DirEntryIter.{job_of, min_depth_of, items_of, unread_of, held, held_by, refusal, to_come, NoneRefused, IsRefused, Answers, Fills}
+use Rattle.jwalk.specs.DirEntryIter.{job_of, min_depth_of, items_of, unread_of, held, held_by, refusal, to_come, NoneRefused, IsRefused, IsSteadyWalk, Answers, Fills}
 use Rattle.jwalk.specs.WalkDir as builder
 use Rattle.jwalk.specs.WalkDir.{file_system_of, callback_of, root_of, state_of, job_for, Starts, Holds}
 use Rattle.jwalk.proofs.AnswerFacts.{held_by_nothing}
-use Rattle.jwalk.proofs.FillFacts.{same_job, come}
+use Rattle.jwalk.proofs.FillFacts.{stays_steady, come}
+use Rattle.jwalk.proofs.GivesFacts.{steady_at_rest}
 
 module _ {C A R E : Type 0} where
   -- answers that end with want of memory tell of it

@@ -127,6 +127,10 @@ module _ {C S P A T R E : Type 0} (files : FileSystem.Ghosts S) (process : Proce
   abbrev pub IsSteadyWalk : DirEntryIter C S P A T R E → Given R E → Type 0
   IsSteadyWalk it = IsSteadyReads files process clone defaults it.reads
 
+  -- It stays steady over all that it was steady over.
+  abbrev pub StaysSteady : DirEntryIter C S P A T R E → DirEntryIter C S P A T R E → Type 0
+  StaysSteady old new = (given : Given R E) → IsSteadyWalk old given → IsSteadyWalk new given
+
   -- Whatever the file system answers: each directory that is passed takes the first of the unread specifications, which alone is read, and puts its children in front; or memory was refused. A walk that tells that its start was refused reads nothing.
   abbrev pub ReadsItems : DirEntryIter C S P A T R E → Option (Item R E) → DirEntryIter C S P A T R E → Type 0
   ReadsItems old answer new =
@@ -174,7 +178,7 @@ module _ {C S P A T R E : Type 0} (files : FileSystem.Ghosts S) (process : Proce
     pub reads : ReadsItems old (option_map item answer) new
     pub width : width_of new ≡ width_of old
     pub ahead : GoesAhead old (option_map item answer) new
-    pub steady : (given : Given R E) → IsSteadyWalk old given → IsSteadyWalk new given
+    pub steady : StaysSteady old new
     pub coming : (given : Given R E) → IsSteadyWalk old given → AnswersFirst files given old (option_map item answer) new
 
   -- calls of `next` answered these, all n that were asked for, or fewer and the next call answered `None`; or room was refused for one more
@@ -195,7 +199,7 @@ module _ {C S P A T R E : Type 0} (files : FileSystem.Ghosts S) (process : Proce
     pub depths : IsWithin old → AllBetween (min_depth_of old) (greatest_depth (job_of old)) (map item answered) × IsWithin new
     pub sourced : IsSourced old → IsSourced new
     pub lighter : weight_of new + length answered ≤ weight_of old
-    pub steady : (given : Given R E) → IsSteadyWalk old given → IsSteadyWalk new given
+    pub steady : StaysSteady old new
     pub coming : (given : Given R E) → IsSteadyWalk old given
         → ComesFirst files given old (map item answered) new ⊎ EndsRefused files given old (map item answered) new
 

@@ -65,6 +65,10 @@ module _ {C S P A R E : Type 0} (files : FileSystem.Ghosts S) (process : Process
   abbrev pub IsSteadyReads : {T : Type 0} → ReadDirIter C S P A T R E → Given R E → Type 0
   IsSteadyReads it = IsSteadyWalk files process clone defaults (walk_of it)
 
+  -- It stays steady over all that it was steady over.
+  abbrev pub StaysSteady : {T : Type 0} → ReadDirIter C S P A T R E → ReadDirIter C S P A T R E → Type 0
+  StaysSteady old new = (value : Given R E) → IsSteadyReads old value → IsSteadyReads new value
+
   -- A directory is entered, or nothing is left to be read; or memory was refused, and nothing is left.
   abbrev pub EntersFirst : {T : Type 0} → ReadDirIter C S P A T R E → Option (Outcome R E) → ReadDirIter C S P A T R E → Type 0
   EntersFirst old given new =
@@ -77,7 +81,7 @@ module _ {C S P A R E : Type 0} (files : FileSystem.Ghosts S) (process : Process
     pub width : width_of new ≡ width_of old
     pub enters : EntersFirst old (option_map outcome given) new
     pub ahead : length (early_of new) + 1 ≤ length (early_of old) + width_of old
-    pub steady : (value : Given R E) → IsSteadyReads old value → IsSteadyReads new value
+    pub steady : StaysSteady old new
     pub first : GivesFirst files clone (IsSteadyReads old) (job_of old) (to_read old) (option_map outcome given) (to_read new)
     pub preorder : (value : Given R E) → IsSteadyReads old value
         → GivesPreorder (reading (job_by files value (job_of old))) (greatest_depth (job_of old)) (map (counted_spec value) (to_read old)) (option_map (counted_outcome value) (option_map outcome given)) (map (counted_spec value) (to_read new))

@@ -59,10 +59,9 @@ impl<
     ghost use Rattle.jwalk_read.specs.Given.{counted_reading};
     ghost use Rattle.jwalk_read.specs.Options as options;
     ghost use Rattle.jwalk_read.specs.Job.{ClonesCount, options_of};
-    ghost use Rattle.jwalk_engine.specs.Reads.{ReadsNext};
     ghost use Rattle.jwalk_engine.specs.ReadAhead.{nothing_ahead};
-    ghost use Rattle.jwalk.specs.DirEntryIter.{job_of, min_depth_of, items_of, unread_of, width_of, read_ahead, early_of, held_by, IsWithin, IsSourced, IsRefused, EntersIfAny, GrowsAhead, Answers, Counts};
-    ghost use Rattle.jwalk.specs.Step.{IsAtDirectory, PassesNext, ReadsUpTo, StopsAtDirectory};
+    ghost use Rattle.jwalk.specs.DirEntryIter.{job_of, min_depth_of, items_of, unread_of, width_of, read_ahead, early_of, held_by, IsWithin, IsSourced, IsRefused, IsSteadyWalk, StaysSteady, EntersIfAny, GrowsAhead, Answers, Counts};
+    ghost use Rattle.jwalk.specs.Step.{IsAtDirectory, Receives, PassesNext, ReadsUpTo, StopsAtDirectory};
 
     /// A walk whose start was refused, which needs no memory.
     fn refused(alloc: A, threads: T, job: Job<C, S, P, A>) -> Self
@@ -150,6 +149,8 @@ impl<
         ensures items { items_of self.new ≡ [] }
         ensures unread { unread_of self.new ≡ [] }
         ensures read_ahead { read_ahead self.new ≡ nothing_ahead }
+        ensures steady { StaysSteady S.FileSystem P.ProcessReadDir C.ReadDirState.Clone C.DirEntryState.Default
+            self.old self.new }
     {
         self.items.clear();
         self.reads.stop();
@@ -161,14 +162,10 @@ impl<
         found: DirEntry<C, A>,
         read: Option<Outcome<C, A>>,
     ) -> Result<DirEntry<C, A>, AllocError>
-        requires { has_directory (Ok (entry found)) ≡ true }
         ensures job { job_of self.new ≡ job_of self.old }
         ensures refused { self.new.refused ≡ self.old.refused }
-        ensures passed { (job : _) (unread : _) → ReadsNext S.FileSystem P.ProcessReadDir C.ReadDirState.Clone
-            C.DirEntryState.Default job unread (option_map outcome read) (unread_of self.old)
-            → IfOk result (λ e. PassesNext S.FileSystem P.ProcessReadDir C.ReadDirState.Clone
-            C.DirEntryState.Default job (Ok (entry found) ∷ items_of self.old) unread
-            (Ok (entry e)) (items_of self.new) (unread_of self.new)) }
+        ensures received { IfOk result (λ e. Receives (option_map outcome read) (Ok (entry found))
+            (items_of self.old) (Ok (entry e)) (items_of self.new)) }
         ensures reads { self.new.reads ≡ self.old.reads }
         ensures stopped { OnErr result (IsSome read) }
     {
@@ -189,8 +186,11 @@ impl<
         ensures refused { self.new.refused ≡ self.old.refused }
         ensures end { IfOk result (λ o. IfNone o
             ((items_of self.old ≡ []) × (items_of self.new ≡ []) × (unread_of self.new ≡ unread_of self.old))) }
-        ensures passed { IfOk result (λ o. IfSome o (λ passed. PassesNext S.FileSystem P.ProcessReadDir
-            C.ReadDirState.Clone C.DirEntryState.Default (job_of self.old) (items_of self.old) (unread_of self.old)
+        ensures steady { StaysSteady S.FileSystem P.ProcessReadDir C.ReadDirState.Clone C.DirEntryState.Default
+            self.old self.new }
+        ensures passed { IfOk result (λ o. IfSome o (λ passed. PassesNext S.FileSystem C.ReadDirState.Clone
+            (IsSteadyWalk S.FileSystem P.ProcessReadDir C.ReadDirState.Clone C.DirEntryState.Default self.old)
+            (job_of self.old) (items_of self.old) (unread_of self.old)
             (item passed) (items_of self.new) (unread_of self.new))) }
         ensures width { width_of self.new ≡ width_of self.old }
         ensures ahead { OnOk result (EntersIfAny S.FileSystem P.ProcessReadDir C.ReadDirState.Clone
@@ -241,14 +241,18 @@ impl<
         requires { P.IsLawful (callback (job_of self.old)) }
         ensures job { job_of self.new ≡ job_of self.old }
         ensures refused { self.new.refused ≡ self.old.refused }
-        ensures reads { IfOk result (λ answer. ReadsUpTo S.FileSystem P.ProcessReadDir C.ReadDirState.Clone
-            C.DirEntryState.Default (job_of self.old) (items_of self.old) (unread_of self.old)
+        ensures steady { StaysSteady S.FileSystem P.ProcessReadDir C.ReadDirState.Clone C.DirEntryState.Default
+            self.old self.new }
+        ensures reads { IfOk result (λ answer. ReadsUpTo S.FileSystem C.ReadDirState.Clone
+            (IsSteadyWalk S.FileSystem P.ProcessReadDir C.ReadDirState.Clone C.DirEntryState.Default self.old)
+            (job_of self.old) (items_of self.old) (unread_of self.old)
             (option_map item answer) (items_of self.new) (unread_of self.new)) }
         ensures width { width_of self.new ≡ width_of self.old }
         ensures ahead { OnOk result (GrowsAhead S.FileSystem P.ProcessReadDir C.ReadDirState.Clone
             C.DirEntryState.Default self.old self.new) }
-        ensures stopped { OnErr result (StopsAtDirectory S.FileSystem P.ProcessReadDir C.ReadDirState.Clone
-            C.DirEntryState.Default (job_of self.old) (items_of self.old) (unread_of self.old)) }
+        ensures stopped { OnErr result (StopsAtDirectory S.FileSystem C.ReadDirState.Clone
+            (IsSteadyWalk S.FileSystem P.ProcessReadDir C.ReadDirState.Clone C.DirEntryState.Default self.old)
+            (job_of self.old) (items_of self.old) (unread_of self.old)) }
     {
         while let Some(passed) = self.pass()? {
             if let Some(answer) = self.kept(passed) {

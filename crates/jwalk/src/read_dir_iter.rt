@@ -60,7 +60,7 @@ impl<
     ghost use Rattle.jwalk_engine.specs.Reads.{ReadsNext};
     ghost use Rattle.jwalk_engine.specs.ReadAhead.{nothing_ahead, BeginsWith, EntersNext};
     ghost use Rattle.jwalk_engine.specs.BoardWalk as board;
-    ghost use Rattle.jwalk.specs.ReadDirIter.{walk_of, job_of, to_read, width_of, read_ahead, early_of, next_address, Gives};
+    ghost use Rattle.jwalk.specs.ReadDirIter.{walk_of, job_of, to_read, width_of, read_ahead, early_of, next_address, IsSteadyReads, StaysSteady, Gives};
 
     /// Readings with nothing to read yet.
     pub(crate) fn new(alloc: A, threads: T, job: Job<C, S, P, A>, parallelism: Parallelism) -> Self
@@ -121,8 +121,11 @@ impl<
         ensures some { OnErr result (to_read self.old ≢ []) }
         ensures stopped { OnErr result (to_read self.new ≡ []) }
         ensures nothing_ahead { OnErr result (read_ahead self.new ≡ nothing_ahead) }
-        ensures next { IfOk result (λ o. ReadsNext S.FileSystem P.ProcessReadDir C.ReadDirState.Clone
-            C.DirEntryState.Default (job_of self.old) (to_read self.old) (option_map outcome o) (to_read self.new)) }
+        ensures steady { StaysSteady S.FileSystem P.ProcessReadDir C.ReadDirState.Clone C.DirEntryState.Default
+            self.old self.new }
+        ensures next { IfOk result (λ o. ReadsNext S.FileSystem C.ReadDirState.Clone
+            (IsSteadyReads S.FileSystem P.ProcessReadDir C.ReadDirState.Clone C.DirEntryState.Default self.old)
+            (job_of self.old) (to_read self.old) (option_map outcome o) (to_read self.new)) }
         ensures enters { IfOk result (λ o. EntersNext S.FileSystem P.ProcessReadDir C.ReadDirState.Clone
             C.DirEntryState.Default (job_of self.old) (width_of self.old) (next_address self.old)
             (read_ahead self.old) (option_map outcome o) (read_ahead self.new)) }
@@ -175,6 +178,8 @@ impl<
         ensures width { width_of self.new ≡ width_of self.old }
         ensures to_read { to_read self.new ≡ [] }
         ensures read_ahead { read_ahead self.new ≡ nothing_ahead }
+        ensures steady { StaysSteady S.FileSystem P.ProcessReadDir C.ReadDirState.Clone C.DirEntryState.Default
+            self.old self.new }
     {
         match self {
             ReadDirIter::Walk(walk) => walk.stop(),

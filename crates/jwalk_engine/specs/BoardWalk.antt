@@ -92,6 +92,10 @@ module _ {C S P A R E : Type 0} (files : FileSystem.Ghosts S) (process : Process
   abbrev pub IsSteadyWalk : BoardWalk C S P A R E → Given R E → Type 0
   IsSteadyWalk w = IsSteadyWith files process clone defaults w.job (early_of w)
 
+  -- It stays steady over all that it was steady over.
+  abbrev pub StaysSteady : BoardWalk C S P A R E → BoardWalk C S P A R E → Type 0
+  StaysSteady old new = (given : Given R E) → IsSteadyWalk old given → IsSteadyWalk new given
+
   -- One call answers and goes on.
   pub record GoesOn (job : Job C S P A R E) (width : ℕ) (old : Board (ReadDirSpec C A R E) (Read C A R E)) (answer : Option (Outcome R E)) (new : Board (ReadDirSpec C A R E) (Read C A R E)) : Type 0 where
     pub keeps : Keeps clone job new

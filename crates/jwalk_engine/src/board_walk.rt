@@ -8,7 +8,6 @@ ghost use Rattle.jwalk_read.specs.Job.{callback};
 ghost use Rattle.jwalk_engine.specs.Reads.{to_give, ReadsNext};
 ghost use Rattle.jwalk_engine.specs.ReadAhead.{nothing_ahead, BeginsWith, EntersNext};
 ghost use Rattle.jwalk_engine.specs.BoardWalk.{Keeps, ReadsBatch, HandsOnNext, HandsOnIfAny, GoesOn};
-ghost use Rattle.jwalk_read.specs.Given.{Given};
 
 use crate::batch::{read_batch, read_batch_on, read_least};
 use crate::read::{Outcome, Read};
@@ -209,7 +208,7 @@ impl<C: ClientState, S: FileSystem, P: ProcessReadDir<C, A>, A: Allocator + Copy
     P,
     A,
 > {
-    ghost use Rattle.jwalk_engine.specs.BoardWalk.{to_read, early_of, read_ahead, next_of, IsSteadyWalk};
+    ghost use Rattle.jwalk_engine.specs.BoardWalk.{to_read, early_of, read_ahead, next_of, IsSteadyWalk, StaysSteady};
 
     /// A walk with nothing to read yet, which is to read so many directories together.
     pub fn new(alloc: A, job: Job<C, S, P, A>, width: usize) -> Self
@@ -298,9 +297,8 @@ impl<C: ClientState, S: FileSystem, P: ProcessReadDir<C, A>, A: Allocator + Copy
         ensures stopped { OnErr result (to_read self.new ≡ []) }
         ensures nothing_ahead { OnErr result (read_ahead self.new ≡ nothing_ahead) }
         ensures some { OnErr result (to_read self.old ≢ []) }
-        ensures steady { (given : Given C.ReadDirState C.DirEntryState) → IsSteadyWalk S.FileSystem P.ProcessReadDir
-            C.ReadDirState.Clone C.DirEntryState.Default self.old given → IsSteadyWalk S.FileSystem P.ProcessReadDir
-            C.ReadDirState.Clone C.DirEntryState.Default self.new given }
+        ensures steady { StaysSteady S.FileSystem P.ProcessReadDir C.ReadDirState.Clone C.DirEntryState.Default
+            self.old self.new }
         ensures next { IfOk result (λ o. ReadsNext S.FileSystem C.ReadDirState.Clone
             (IsSteadyWalk S.FileSystem P.ProcessReadDir C.ReadDirState.Clone C.DirEntryState.Default self.old)
             self.old.job (to_read self.old) (option_map outcome o) (to_read self.new)) }
@@ -338,6 +336,8 @@ impl<C: ClientState, S: FileSystem, P: ProcessReadDir<C, A>, A: Allocator + Copy
         ensures to_read { to_read self.new ≡ [] }
         ensures early { early_of self.new ≡ [] }
         ensures read_ahead { read_ahead self.new ≡ nothing_ahead }
+        ensures steady { StaysSteady S.FileSystem P.ProcessReadDir C.ReadDirState.Clone C.DirEntryState.Default
+            self.old self.new }
     {
         self.board = None;
     }
@@ -353,7 +353,7 @@ where
     C::ReadDirState: Send,
     C::DirEntryState: Send,
 {
-    ghost use Rattle.jwalk_engine.specs.BoardWalk.{to_read, early_of, read_ahead, next_of, IsSteadyWalk};
+    ghost use Rattle.jwalk_engine.specs.BoardWalk.{to_read, early_of, read_ahead, next_of, IsSteadyWalk, StaysSteady};
 
     /// The same as [`read_next`](BoardWalk::read_next), with the directories read on several threads where there are
     /// enough of them to be worth it.
@@ -372,9 +372,8 @@ where
         ensures stopped { OnErr result (to_read self.new ≡ []) }
         ensures nothing_ahead { OnErr result (read_ahead self.new ≡ nothing_ahead) }
         ensures some { OnErr result (to_read self.old ≢ []) }
-        ensures steady { (given : Given C.ReadDirState C.DirEntryState) → IsSteadyWalk S.FileSystem P.ProcessReadDir
-            C.ReadDirState.Clone C.DirEntryState.Default self.old given → IsSteadyWalk S.FileSystem P.ProcessReadDir
-            C.ReadDirState.Clone C.DirEntryState.Default self.new given }
+        ensures steady { StaysSteady S.FileSystem P.ProcessReadDir C.ReadDirState.Clone C.DirEntryState.Default
+            self.old self.new }
         ensures next { IfOk result (λ o. ReadsNext S.FileSystem C.ReadDirState.Clone
             (IsSteadyWalk S.FileSystem P.ProcessReadDir C.ReadDirState.Clone C.DirEntryState.Default self.old)
             self.old.job (to_read self.old) (option_map outcome o) (to_read self.new)) }

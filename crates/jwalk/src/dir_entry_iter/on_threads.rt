@@ -24,7 +24,7 @@ where
     C::ReadDirState: Send,
     C::DirEntryState: Send,
 {
-    ghost use Rattle.jwalk.specs.DirEntryIter.{job_of, items_of, unread_of, width_of, EntersIfAny, GrowsAhead, Answers, Fills};
+    ghost use Rattle.jwalk.specs.DirEntryIter.{job_of, items_of, unread_of, width_of, IsSteadyWalk, StaysSteady, EntersIfAny, GrowsAhead, Answers, Fills};
     ghost use Rattle.jwalk.specs.Step.{IsAtDirectory, PassesNext, ReadsUpTo, StopsAtDirectory};
 
     /// The next item, passed on.
@@ -34,8 +34,11 @@ where
         ensures refused { self.new.refused ≡ self.old.refused }
         ensures end { IfOk result (λ o. IfNone o
             ((items_of self.old ≡ []) × (items_of self.new ≡ []) × (unread_of self.new ≡ unread_of self.old))) }
-        ensures passed { IfOk result (λ o. IfSome o (λ passed. PassesNext S.FileSystem P.ProcessReadDir
-            C.ReadDirState.Clone C.DirEntryState.Default (job_of self.old) (items_of self.old) (unread_of self.old)
+        ensures steady { StaysSteady S.FileSystem P.ProcessReadDir C.ReadDirState.Clone C.DirEntryState.Default
+            self.old self.new }
+        ensures passed { IfOk result (λ o. IfSome o (λ passed. PassesNext S.FileSystem C.ReadDirState.Clone
+            (IsSteadyWalk S.FileSystem P.ProcessReadDir C.ReadDirState.Clone C.DirEntryState.Default self.old)
+            (job_of self.old) (items_of self.old) (unread_of self.old)
             (item passed) (items_of self.new) (unread_of self.new))) }
         ensures width { width_of self.new ≡ width_of self.old }
         ensures ahead { OnOk result (EntersIfAny S.FileSystem P.ProcessReadDir C.ReadDirState.Clone
@@ -60,14 +63,18 @@ where
         requires { P.IsLawful (callback (job_of self.old)) }
         ensures job { job_of self.new ≡ job_of self.old }
         ensures refused { self.new.refused ≡ self.old.refused }
-        ensures reads { IfOk result (λ answer. ReadsUpTo S.FileSystem P.ProcessReadDir C.ReadDirState.Clone
-            C.DirEntryState.Default (job_of self.old) (items_of self.old) (unread_of self.old)
+        ensures steady { StaysSteady S.FileSystem P.ProcessReadDir C.ReadDirState.Clone C.DirEntryState.Default
+            self.old self.new }
+        ensures reads { IfOk result (λ answer. ReadsUpTo S.FileSystem C.ReadDirState.Clone
+            (IsSteadyWalk S.FileSystem P.ProcessReadDir C.ReadDirState.Clone C.DirEntryState.Default self.old)
+            (job_of self.old) (items_of self.old) (unread_of self.old)
             (option_map item answer) (items_of self.new) (unread_of self.new)) }
         ensures width { width_of self.new ≡ width_of self.old }
         ensures ahead { OnOk result (GrowsAhead S.FileSystem P.ProcessReadDir C.ReadDirState.Clone
             C.DirEntryState.Default self.old self.new) }
-        ensures stopped { OnErr result (StopsAtDirectory S.FileSystem P.ProcessReadDir C.ReadDirState.Clone
-            C.DirEntryState.Default (job_of self.old) (items_of self.old) (unread_of self.old)) }
+        ensures stopped { OnErr result (StopsAtDirectory S.FileSystem C.ReadDirState.Clone
+            (IsSteadyWalk S.FileSystem P.ProcessReadDir C.ReadDirState.Clone C.DirEntryState.Default self.old)
+            (job_of self.old) (items_of self.old) (unread_of self.old)) }
     {
         while let Some(passed) = self.pass_on()? {
             if let Some(answer) = self.kept(passed) {

@@ -28,7 +28,7 @@ where
     ghost use Rattle.jwalk_engine.specs.Reads.{ReadsNext};
     ghost use Rattle.jwalk_engine.specs.ReadAhead.{nothing_ahead, EntersNext};
     ghost use Rattle.jwalk_engine.specs.BoardWalk as board;
-    ghost use Rattle.jwalk.specs.ReadDirIter.{walk_of, job_of, to_read, width_of, read_ahead, next_address, Gives};
+    ghost use Rattle.jwalk.specs.ReadDirIter.{walk_of, job_of, to_read, width_of, read_ahead, next_address, IsSteadyReads, StaysSteady, Gives};
 
     /// The next reading.
     pub(crate) fn read_next_on(&mut self) -> Result<Option<Outcome<C, A>>, AllocError>
@@ -40,8 +40,11 @@ where
         ensures some { OnErr result (to_read self.old ≢ []) }
         ensures stopped { OnErr result (to_read self.new ≡ []) }
         ensures nothing_ahead { OnErr result (read_ahead self.new ≡ nothing_ahead) }
-        ensures next { IfOk result (λ o. ReadsNext S.FileSystem P.ProcessReadDir C.ReadDirState.Clone
-            C.DirEntryState.Default (job_of self.old) (to_read self.old) (option_map outcome o) (to_read self.new)) }
+        ensures steady { StaysSteady S.FileSystem P.ProcessReadDir C.ReadDirState.Clone C.DirEntryState.Default
+            self.old self.new }
+        ensures next { IfOk result (λ o. ReadsNext S.FileSystem C.ReadDirState.Clone
+            (IsSteadyReads S.FileSystem P.ProcessReadDir C.ReadDirState.Clone C.DirEntryState.Default self.old)
+            (job_of self.old) (to_read self.old) (option_map outcome o) (to_read self.new)) }
         ensures enters { IfOk result (λ o. EntersNext S.FileSystem P.ProcessReadDir C.ReadDirState.Clone
             C.DirEntryState.Default (job_of self.old) (width_of self.old) (next_address self.old)
             (read_ahead self.old) (option_map outcome o) (read_ahead self.new)) }
