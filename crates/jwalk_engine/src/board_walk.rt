@@ -169,12 +169,7 @@ where
 
 /// Readings in preorder: a directory's, and then those of all that is below it. So many directories are read together,
 /// when a reading is asked for that isn't there yet.
-pub struct BoardWalk<
-    C: ClientState,
-    S: FileSystem,
-    P: ProcessReadDir<C, A>,
-    A: Allocator + Copy = Global,
-> {
+pub struct BoardWalk<C: ClientState, S, P, A: Allocator + Copy = Global> {
     alloc: A,
     job: Job<C, S, P, A>,
     // How many are read together, 1 at least.
@@ -183,15 +178,13 @@ pub struct BoardWalk<
     board: Option<Board<ReadDirSpec<C, A>, Read<C, A>, A>>,
 }
 
-impl<C: ClientState, S: FileSystem, P: ProcessReadDir<C, A>, A: Allocator + Copy> Drop
-    for BoardWalk<C, S, P, A> {
+impl<C: ClientState, S: Drop, P: Drop, A: Allocator + Copy> Drop for BoardWalk<C, S, P, A> {
     fn drop(self) {
         let BoardWalk { alloc: _, job: _, width: _, board: _ } = self;
     }
 }
 
-impl<C: ClientState, S: FileSystem, P: ProcessReadDir<C, A>, A: Allocator + Copy> Model
-    for BoardWalk<C, S, P, A> {
+impl<C: ClientState, S, P, A: Allocator + Copy> Model for BoardWalk<C, S, P, A> {
     ghost use Rattle.std.specs.Prelude.{◌≤◌, IfSome};
     ghost use Rattle.jwalk_engine.specs.BoardWalk.{BoardWalk as State, Keeps};
 

@@ -42,12 +42,7 @@ use walk_paths::path_text;
 
 /// What reads one directory: a file system, a callback, and the options that a reading goes by.
 #[derive(Drop)]
-pub struct Job<
-    C: ClientState,
-    S: FileSystem,
-    P: ProcessReadDir<C, A>,
-    A: Allocator + Copy = Global,
-> {
+pub struct Job<C: ClientState, S, P, A: Allocator + Copy = Global> {
     fs: S,
     process: P,
     options: Options,
