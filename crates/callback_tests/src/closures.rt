@@ -1,6 +1,9 @@
 //! Walks whose callbacks are closures.
+ghost use Rattle.jwalk.specs.WalkDir.{callback_of};
+
 use jwalk::file_system::MemoryFs;
-use jwalk::{DirEntry, ReadChildren};
+use jwalk::read_dir::ProcessReadDir;
+use jwalk::{DirEntry, ReadChildren, WalkDirGeneric};
 use std::alloc::{AllocError, Global};
 use std::test::Fail;
 use std::thread::Threads;
@@ -134,18 +137,28 @@ fn a_directory_that_was_moved_to_a_file(rt: HostRuntime) -> Result<(), Fail> {
     Ok(())
 }
 
-/// The answers that a `for` loop comes by, where each list is cut after two items.
-fn cut_in_a_for_loop(alloc: Global, fs: &MemoryFs) -> Result<String, AllocError> {
-    let walk = by_name(fs).builder::<((), ())>(alloc)?;
-    let walk = walk.process_read_dir_by(|_depth, _path, _state, list| {
-        list.truncate(2);
-        Ok(())
-    });
+/// The answers that a `for` loop over a walk comes by, as one text.
+fn in_a_for_loop<P: ProcessReadDir<((), ()), Global>>(
+    alloc: Global,
+    walk: WalkDirGeneric<((), ()), &MemoryFs, P>,
+) -> Result<String, AllocError>
+    requires { P.IsLawful (callback_of walk) }
+{
     let mut text = String::new(alloc);
     for answer in walk.into_iter() {
         push_line(&mut text, &answer)?;
     }
     Ok(text)
+}
+
+/// What that is where each list is cut after two items.
+fn cut_in_a_for_loop(alloc: Global, fs: &MemoryFs) -> Result<String, AllocError> {
+    let walk = by_name(fs).builder(alloc)?;
+    let walk = walk.process_read_dir_by(|_depth, _path, _state, list| {
+        list.truncate(2);
+        Ok(())
+    });
+    in_a_for_loop(alloc, walk)
 }
 
 #[test]
