@@ -1,14 +1,14 @@
 //! What errors tell, and the metadata of entries.
 use crate::lines::{Builder, Entry, builder};
-use crate::listed_directory::{Item, ListedDirectory};
-use crate::trees::{Step, denied_tree, tree};
-use crate::watched::{Failing, Watched};
 use jwalk::Error;
 use jwalk::file_system::{BuildError, FileSystem, FileType, MemoryFs, Metadata};
 use std::alloc::{AllocError, Global};
 use std::io::ErrorKind;
 use std::process::Abort;
 use std::test::Fail;
+use walk_fixtures::listed_directory::{Item, ListedDirectory};
+use walk_fixtures::trees::{DENIED, LOOPED, Step, tree};
+use walk_fixtures::watched::{Failing, Watched};
 
 /// The last answer of a walk, if it is an entry.
 fn last_entry<S: FileSystem>(walk: Builder<S>) -> Option<Entry> {
@@ -51,23 +51,12 @@ fn tells_own(
     Ok(err.kind() == kind && text.len() > lead.len() && tells(alloc, error, kind, text.as_str()))
 }
 
-/// A directory below which a link leads back to it.
-fn looped_tree(alloc: Global) -> Result<MemoryFs, BuildError> {
-    const STEPS: &[Step] = &[
-        Step::Dir("/r"),
-        Step::Dir("/r/a"),
-        Step::Dir("/r/a/b"),
-        Step::Dir("/r/a/b/c"),
-        Step::Link("/r/a", "/r/a/b/c/a-link"),
-    ];
-    tree(alloc, STEPS)
-}
-
+/// What is said of the loop in the looped tree.
 const LOOP_TEXT: &str = "File system loop found: /r/a/b/c/a-link points to an ancestor /r/a";
 
 #[test]
 fn a_loop_tells_of_the_link_and_of_the_ancestor(rt: HostRuntime) -> Result<(), Fail> {
-    let walk = builder(rt.alloc(), looped_tree(rt.alloc())?, "/r")?;
+    let walk = builder(rt.alloc(), tree(rt.alloc(), LOOPED)?, "/r")?;
     let error = last_error(walk.follow_links(true)).ok_or("no error")?;
     assert!(rt; tells(rt.alloc(), &error, ErrorKind::Other, LOOP_TEXT));
     assert!(rt; error.into_io_error().is_none());
@@ -81,7 +70,7 @@ fn error_of(entry: &Entry) -> Option<&Error> {
 
 #[test]
 fn a_failed_reading_has_its_directorys_depth_and_path(rt: HostRuntime) -> Result<(), Fail> {
-    let walk = builder(rt.alloc(), denied_tree(rt.alloc())?, "/t")?;
+    let walk = builder(rt.alloc(), tree(rt.alloc(), DENIED)?, "/t")?;
     let entry = last_entry(walk.sort(true)).ok_or("no entry")?;
     let error = error_of(&entry).ok_or("no error")?;
     let lead = "IO error for operation on /t/group 2: ";
@@ -160,9 +149,9 @@ fn is_told(rt: &impl AllocGlobal, failed: &anyhow::Error, text: &str) -> Result<
 
 #[test]
 fn a_question_mark_keeps_the_text_of_an_error(rt: HostRuntime) -> Result<(), Fail> {
-    let links = builder(rt.alloc(), looped_tree(rt.alloc())?, "/r")?;
+    let links = builder(rt.alloc(), tree(rt.alloc(), LOOPED)?, "/r")?;
     assert!(rt; path_bytes(links).ok() == Some(2 + 4 + 6 + 8 + 15));
-    let loops = builder(rt.alloc(), looped_tree(rt.alloc())?, "/r")?;
+    let loops = builder(rt.alloc(), tree(rt.alloc(), LOOPED)?, "/r")?;
     let failed = path_bytes(loops.follow_links(true))
         .err()
         .ok_or("no error")?;

@@ -1,13 +1,13 @@
 //! Readings of one directory, without a walk.
 ghost use Rattle.jwalk_read.specs.Job.{callback};
 
-use crate::trees::grouped_tree;
-use crate::watched::{Failing, Watched};
 use jwalk::file_system::{FileSystem, MemoryFs};
 use jwalk::read_dir::{Job, NoProcess, ProcessReadDir, ReadDirSpec};
 use jwalk::{ClientState, DirEntry, Error};
 use std::alloc::{AllocError, Global};
 use std::test::Fail;
+use walk_fixtures::trees::{GROUPED, tree};
+use walk_fixtures::watched::{Failing, Watched};
 
 /// A state that is a text.
 type Noted = (Option<String>, ());
@@ -96,7 +96,7 @@ fn has_groups(job: &Job<Noted, MemoryFs, NotesNames>) -> bool {
 
 #[test]
 fn a_reading_has_its_items_and_directories_in_order(rt: HostRuntime) -> Result<(), Fail> {
-    let fs = grouped_tree(rt.alloc())?;
+    let fs = tree(rt.alloc(), GROUPED)?;
     let job = Job::<Noted, _, _>::new(rt.alloc(), fs, NotesNames, false, true, false, usize::MAX);
     assert!(rt; has_groups(&job));
     Ok(())
@@ -115,7 +115,7 @@ fn has_none<S: FileSystem>(job: &Job<((), ()), S, NoProcess>) -> bool {
 
 #[test]
 fn nothing_is_read_at_the_greatest_depth(rt: HostRuntime) -> Result<(), Fail> {
-    let fs = Watched::new(grouped_tree(rt.alloc())?, Failing::Never);
+    let fs = Watched::new(tree(rt.alloc(), GROUPED)?, Failing::Never);
     let job = Job::<((), ()), _, _>::new(rt.alloc(), &fs, NoProcess, false, true, false, 0);
     assert!(rt; has_none(&job));
     assert!(rt; fs.lists() == 0);
@@ -133,7 +133,7 @@ fn root_of<S: FileSystem>(job: &Job<((), ()), S, NoProcess>) -> Option<DirEntry<
 
 /// The entry of the root of the grouped tree.
 fn root_of_the_grouped_tree(alloc: Global) -> Result<DirEntry<((), ())>, Fail> {
-    let fs = grouped_tree(alloc)?;
+    let fs = tree(alloc, GROUPED)?;
     let job = Job::<((), ()), _, _>::new(alloc, fs, NoProcess, false, true, false, usize::MAX);
     Ok(root_of(&job).ok_or("not one root")?)
 }

@@ -1,44 +1,11 @@
 //! Walks over trees of size.
-use crate::lines::{Entry, Walk, builder, fill, is_over, next_entry, next_path, walk};
-use crate::watched::{Failing, Watched};
+use crate::lines::{Entry, Walk, builder, is_over, next_entry, next_path, walk};
 use jwalk::Error;
 use jwalk::file_system::{BuildError, FileSystem, MemoryFs};
-use proved_walk::batches::count_in_batches;
 use std::alloc::{AllocError, Global};
 use std::test::Fail;
-
-/// How many files the wide directory holds.
-const FILES: usize = 5_000;
-
-/// The path of a file of the wide directory. Paths are in the order of their numbers.
-fn file_path(alloc: Global, number: usize) -> Result<String, AllocError> {
-    let name = number.wrapping_add(10_000);
-    format!(in alloc; "/d/{name}")
-}
-
-/// The number of the file that is made after this many others: each once, and in no order.
-fn scrambled(place: usize) -> usize {
-    place.wrapping_mul(1_237) % FILES
-}
-
-fn add_file(fs: &mut MemoryFs, path: String) -> Result<(), BuildError> {
-    fs.add_file(path.as_str(), 1)
-}
-
-fn add_files(alloc: Global, fs: &mut MemoryFs) -> Result<(), BuildError> {
-    for place in 0..FILES {
-        add_file(fs, file_path(alloc, scrambled(place))?)?;
-    }
-    Ok(())
-}
-
-/// A directory of many files.
-fn wide_directory(alloc: Global) -> Result<MemoryFs, BuildError> {
-    let mut fs = MemoryFs::new(alloc);
-    fs.add_dir("/d")?;
-    add_files(alloc, &mut fs)?;
-    Ok(fs)
-}
+use walk_fixtures::watched::{Failing, Watched};
+use walk_fixtures::wide::{FILES, file_path, scrambled, wide_directory};
 
 /// The next answer is the file of this number.
 fn file_is_next<S: FileSystem>(alloc: Global, walk: &mut Walk<S>, number: usize) -> bool {
@@ -85,7 +52,7 @@ fn fills(
     found: &mut Vec<Result<Entry, Error>>,
     count: usize,
 ) -> Result<bool, AllocError> {
-    Ok(fill(walk, usize::MAX, found)? == count && found.len() == 5_001)
+    Ok(walk.fill(usize::MAX, found)? == count && found.len() == 5_001)
 }
 
 /// A first call gives all answers, and a second none.
@@ -99,17 +66,6 @@ fn all_answers_by_one_call(rt: HostRuntime) -> Result<(), Fail> {
     let mut walk = walk(rt.alloc(), wide_directory(rt.alloc())?, "/d")?;
     let is_whole = comes_at_once(rt.alloc(), &mut walk)?;
     assert!(rt; is_whole);
-    Ok(())
-}
-
-fn count(alloc: Global, walk: Walk<MemoryFs>) -> Result<usize, AllocError> {
-    count_in_batches(alloc, walk)
-}
-
-#[test]
-fn answers_counted_a_hundred_at_a_time(rt: HostRuntime) -> Result<(), Fail> {
-    let walk = walk(rt.alloc(), wide_directory(rt.alloc())?, "/d")?;
-    assert!(rt; count(rt.alloc(), walk)? == 5_001);
     Ok(())
 }
 

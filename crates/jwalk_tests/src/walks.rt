@@ -1,78 +1,87 @@
-//! Walks over trees in memory.
-use crate::lines::{Builder, Walk, builder, lines_of, loop_shows, root_has, root_shows, walk};
-use crate::trees::{empty_directory, grouped_tree, small_tree};
-use jwalk::file_system::MemoryFs;
+//! Walks over trees in memory, and what is asked of them.
+use crate::lines::{Builder, Walk, builder, walk};
+use jwalk::file_system::{FileSystem, MemoryFs};
 use jwalk::path_text;
-use proved_walk::whole::walk_whole;
 use std::alloc::{AllocError, Global};
 use std::sync::Arc;
 use std::test::Fail;
+use walk_fixtures::answers::{are_lines, push_line};
+use walk_fixtures::trees::{SMALL, tree};
 
-#[test]
-fn each_getter_of_each_entry(rt: HostRuntime) -> Result<(), Fail> {
-    let wanted = "0 r in / d+; 1 b in /r f; 1 s in /r d+; 2 x in /r/s f; 1 a in /r f";
-    root_has(&rt, small_tree(rt.alloc())?, "/r", wanted)
+/// What the walk answers from the root of the small tree.
+const ALL: &str = "0 d /r; 1 f /r/b; 1 d /r/s; 2 f /r/s/x; 1 f /r/a";
+
+/// What it answers from the directory in it.
+const BELOW: &str = "0 d /r/s; 1 f /r/s/x";
+
+/// Whether this is what a walk that is begun answers.
+fn shows<S: FileSystem>(alloc: Global, walk: &mut Walk<S>, wanted: &str) -> bool {
+    let mut found = Vec::new(alloc);
+    walk.fill(usize::MAX, &mut found).is_ok() && are_lines(alloc, found.as_slice(), wanted)
 }
 
-#[test]
-fn paths_in_order(rt: HostRuntime) -> Result<(), Fail> {
-    let wanted = "0 d /r; 1 f /r/b; 1 d /r/s; 2 f /r/s/x; 1 f /r/a";
-    root_shows(&rt, small_tree(rt.alloc())?, "/r", wanted)
-}
-
-#[test]
-fn a_directory_before_all_that_it_holds(rt: HostRuntime) -> Result<(), Fail> {
-    let wanted = "0 d /t; 1 f /t/c.txt; 1 f /t/a.txt; 1 d /t/group 2; 2 f /t/group 2/e.txt; \
-                  1 d /t/group 1; 2 f /t/group 1/d.txt; 1 f /t/b.txt";
-    root_shows(&rt, grouped_tree(rt.alloc())?, "/t", wanted)
-}
-
-#[test]
-fn a_file_or_an_empty_directory_alone(rt: HostRuntime) -> Result<(), Fail> {
-    root_shows(&rt, grouped_tree(rt.alloc())?, "/t/a.txt", "0 f /t/a.txt")?;
-    root_shows(&rt, empty_directory(rt.alloc(), "/e")?, "/e", "0 d /e")
-}
-
-fn shared_tree(alloc: Global) -> Result<Arc<MemoryFs>, Fail> {
-    Ok(Arc::new(alloc, small_tree(alloc)?)?)
+/// Whether this is what a walk over a shared tree answers.
+fn shared_shows(alloc: Global, fs: &Arc<MemoryFs>, root: &str, wanted: &str) -> bool {
+    let Ok(fs) = fs.clone() else {
+        return false;
+    };
+    match walk(alloc, fs, root) {
+        Ok(mut walk) => shows(alloc, &mut walk, wanted),
+        Err(_) => false,
+    }
 }
 
 #[test]
 fn a_shared_tree_walked_twice(rt: HostRuntime) -> Result<(), Fail> {
-    let fs = shared_tree(rt.alloc())?;
-    let wanted = "0 d /r; 1 f /r/b; 1 d /r/s; 2 f /r/s/x; 1 f /r/a";
-    root_shows(&rt, fs.clone()?, "/r", wanted)?;
-    root_shows(&rt, fs, "/r/s", "0 d /r/s; 1 f /r/s/x")
-}
-
-fn whole_lines(alloc: Global, walk: Builder<MemoryFs>) -> Result<String, AllocError> {
-    let found = walk_whole(alloc, walk)?;
-    lines_of(alloc, found.as_slice())
-}
-
-#[test]
-fn a_whole_walk_in_one_list(rt: HostRuntime) -> Result<(), Fail> {
-    let walk = builder(rt.alloc(), small_tree(rt.alloc())?, "/r")?;
-    let lines = whole_lines(rt.alloc(), walk)?;
-    assert!(rt; lines.as_str() == "0 d /r; 1 f /r/b; 1 d /r/s; 2 f /r/s/x; 1 f /r/a");
+    let fs = Arc::new(rt.alloc(), tree(rt.alloc(), SMALL)?)?;
+    assert!(rt; shared_shows(rt.alloc(), &fs, "/r", ALL));
+    assert!(rt; shared_shows(rt.alloc(), &fs, "/r/s", BELOW));
     Ok(())
 }
 
-fn count(walk: Walk<MemoryFs>) -> usize {
+/// Whether a walk can be begun, and this is what it answers then.
+fn begun_shows(alloc: Global, walk: Builder<&MemoryFs>, wanted: &str) -> bool {
+    match walk.try_into_iter() {
+        Ok(mut walk) => shows(alloc, &mut walk, wanted),
+        Err(_) => false,
+    }
+}
+
+#[test]
+fn a_walk_that_tells_whether_it_could_begin(rt: HostRuntime) -> Result<(), Fail> {
+    let fs = tree(rt.alloc(), SMALL)?;
+    let walk = builder(rt.alloc(), &fs, "/r")?;
+    assert!(rt; begun_shows(rt.alloc(), walk, ALL));
+    Ok(())
+}
+
+fn count(walk: Walk<&MemoryFs>) -> usize {
     walk.count()
 }
 
 #[test]
 fn a_walk_counted(rt: HostRuntime) -> Result<(), Fail> {
-    let walk = walk(rt.alloc(), small_tree(rt.alloc())?, "/r")?;
+    let fs = tree(rt.alloc(), SMALL)?;
+    let walk = walk(rt.alloc(), &fs, "/r")?;
     assert!(rt; count(walk) == 5);
     Ok(())
 }
 
+/// The lines of what a `for` loop over a walk that is yet to begin comes by.
+fn in_a_for_loop(alloc: Global, walk: Builder<&MemoryFs>) -> Result<String, AllocError> {
+    let mut text = String::new(alloc);
+    for answer in walk {
+        push_line(&mut text, &answer)?;
+    }
+    Ok(text)
+}
+
 #[test]
 fn a_walk_in_a_for_loop(rt: HostRuntime) -> Result<(), Fail> {
-    let walk = builder(rt.alloc(), small_tree(rt.alloc())?, "/r/s")?;
-    loop_shows(&rt, walk, false, "0 d /r/s; 1 f /r/s/x")
+    let fs = tree(rt.alloc(), SMALL)?;
+    let walk = builder(rt.alloc(), &fs, "/r/s")?;
+    assert_eq!(rt; in_a_for_loop(rt.alloc(), walk)?.as_str(), BELOW);
+    Ok(())
 }
 
 fn keeps_root(alloc: Global, root: &str) -> Result<bool, AllocError> {

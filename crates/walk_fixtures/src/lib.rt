@@ -10,3 +10,4 @@ pub mod row;
 pub mod trees;
 pub mod watched;
 pub mod ways;
+pub mod wide;

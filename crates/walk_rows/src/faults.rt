@@ -5,6 +5,7 @@ use jwalk::file_system::FileType;
 use jwalk::read_dir::NoProcess;
 use std::io::ErrorKind;
 use std::thread::Threads;
+use walk_fixtures::answers::Answer;
 use walk_fixtures::begun::Begun;
 use walk_fixtures::listed_directory::{Item, ListedDirectory};
 use walk_fixtures::row::{Over, Row};
@@ -94,6 +95,14 @@ fn failures_told_where_they_are_met(rt: HostRuntime) {
     }
 }
 
+/// Whether an answer is the want of memory.
+fn is_memory(answer: &Option<Answer>) -> bool {
+    match answer {
+        Some(Err(error)) => error.is_memory(),
+        _ => false,
+    }
+}
+
 /// Whether a walk ends with the want of memory after so many entries, and nothing is left of it then.
 fn ends_with_memory<R: Threads + Drop + Sync>(
     walk: &mut Begun<R, &Watched>,
@@ -104,11 +113,7 @@ fn ends_with_memory<R: Threads + Drop + Sync>(
             return false;
         }
     }
-    let is_memory = match walk.next() {
-        Some(Err(error)) => error.is_memory(),
-        _ => false,
-    };
-    is_memory && walk.ahead() == 0 && walk.next().is_none() && walk.next().is_none()
+    is_memory(&walk.next()) && walk.ahead() == 0 && walk.next().is_none() && walk.next().is_none()
 }
 
 /// How directories are read, on threads or not, and how many entries come before the want of memory.

@@ -1,15 +1,25 @@
 //! Readings of directories and of all below them, without the answers of a walk.
-use jwalk::Parallelism;
 use jwalk::file_system::MemoryFs;
-use jwalk::read_dir::{Job, NoProcess, ReadDirSpec};
+use jwalk::read_dir::{Job, NoProcess, ReadDir};
 use jwalk::read_dir_iter::ReadDirIter;
-use jwalk::threads::InTurn;
+use jwalk::threads::{InTurn, OnThreads};
+use jwalk::{DirEntry, Error, Parallelism};
 use std::alloc::Global;
 use std::test::Fail;
+use std::thread::Threads;
 use walk_fixtures::trees::{FORKED, tree};
 use walk_fixtures::ways::Asked;
 
-type Reads<'a> = ReadDirIter<((), ()), &'a MemoryFs, NoProcess>;
+/// Readings that are made in some way.
+type Reads<'a, T> = ReadDirIter<((), ()), &'a MemoryFs, NoProcess, Global, T>;
+
+/// The widths at which directories are read.
+const WIDTHS: &[Parallelism] = &[
+    Parallelism::Serial,
+    Parallelism::RayonNewPool(1),
+    Parallelism::RayonNewPool(2),
+    Parallelism::RayonNewPool(8),
+];
 
 /// What reads the directories of a tree.
 fn job<'a>(alloc: Global, fs: &'a MemoryFs) -> Job<((), ()), &'a MemoryFs, NoProcess> {
@@ -21,14 +31,24 @@ fn job<'a>(alloc: Global, fs: &'a MemoryFs) -> Job<((), ()), &'a MemoryFs, NoPro
     asked.job(alloc, NoProcess)
 }
 
-/// The directories that the root's list leads to.
-fn roots(alloc: Global, fs: &MemoryFs) -> Option<Vec<ReadDirSpec<((), ())>>> {
-    let list = job(alloc, fs).root_list("/r", ()).ok()?;
-    list.read_children_specs().ok()
+/// The root's list.
+fn root_list(alloc: Global, fs: &MemoryFs) -> Option<ReadDir<((), ())>> {
+    job(alloc, fs).root_list("/r", ()).ok()
+}
+
+/// The readings of the root and of all below it.
+fn reads<'a, T: Drop>(
+    alloc: Global,
+    fs: &'a MemoryFs,
+    threads: T,
+    parallelism: Parallelism,
+) -> Option<Reads<'a, T>> {
+    let roots = root_list(alloc, fs)?.read_children_specs().ok()?;
+    ReadDirIter::try_new(threads, job(alloc, fs), roots, parallelism).ok()
 }
 
 /// Whether so many readings come, and then none.
-fn gives(reads: &mut Reads<'_>, count: usize) -> bool {
+fn gives(reads: &mut Reads<'_, InTurn>, count: usize) -> bool {
     for _ in 0..count {
         if !matches!(reads.next(), Some(Ok(_))) {
             return false;
@@ -37,24 +57,113 @@ fn gives(reads: &mut Reads<'_>, count: usize) -> bool {
     reads.next().is_none() && reads.next().is_none()
 }
 
-/// Whether the readings below the root are seven.
-fn gives_seven(alloc: Global, fs: &MemoryFs, parallelism: Parallelism) -> bool {
-    let Some(roots) = roots(alloc, fs) else {
-        return false;
-    };
-    if roots.len() != 1 {
-        return false;
+/// Whether so many readings come by threads, and then none.
+fn gives_on<R: Threads + Drop + Sync>(reads: &mut Reads<'_, OnThreads<R>>, count: usize) -> bool {
+    for _ in 0..count {
+        if !matches!(reads.next(), Some(Ok(_))) {
+            return false;
+        }
     }
-    match ReadDirIter::try_new(InTurn, job(alloc, fs), roots, parallelism) {
-        Ok(mut reads) => gives(&mut reads, 7),
-        Err(_) => false,
+    reads.next().is_none() && reads.next().is_none()
+}
+
+/// Whether the readings are seven.
+fn gives_seven(alloc: Global, fs: &MemoryFs, parallelism: Parallelism) -> bool {
+    match reads(alloc, fs, InTurn, parallelism) {
+        Some(mut reads) => gives(&mut reads, 7),
+        None => false,
+    }
+}
+
+/// Whether they are seven where threads make them.
+fn gives_seven_on<R: Threads + AllocGlobal + Sync>(
+    rt: &R,
+    fs: &MemoryFs,
+    parallelism: Parallelism,
+) -> bool {
+    match reads(rt.alloc(), fs, OnThreads::new(rt), parallelism) {
+        Some(mut reads) => gives_on(&mut reads, 7),
+        None => false,
     }
 }
 
 #[test]
 fn readings_from_the_directories_of_a_list(rt: HostRuntime) -> Result<(), Fail> {
     let fs = tree(rt.alloc(), FORKED)?;
-    assert!(rt; gives_seven(rt.alloc(), &fs, Parallelism::Serial));
-    assert!(rt; gives_seven(rt.alloc(), &fs, Parallelism::RayonNewPool(2)));
+    for width in WIDTHS {
+        assert!(rt; gives_seven(rt.alloc(), &fs, *width), "{:?}", width);
+        assert!(rt; gives_seven_on(&rt, &fs, *width), "{:?} on threads", width);
+    }
+    Ok(())
+}
+
+/// The root's entry.
+fn root(alloc: Global, fs: &MemoryFs) -> Option<DirEntry<((), ())>> {
+    root_list(alloc, fs)?.into_results_list().pop()?.ok()
+}
+
+/// Whether this is a reading of three items.
+fn has_three(read: &Option<Result<ReadDir<((), ())>, Error>>) -> bool {
+    match read {
+        Some(Ok(read)) => read.results_list().len() == 3,
+        _ => false,
+    }
+}
+
+/// Whether the reading of an entry's directory comes, and has three items.
+fn has_three_in(reads: &mut Reads<'_, InTurn>, entry: &DirEntry<((), ())>) -> bool {
+    entry.read_children.is_some() && has_three(&reads.next_of(entry))
+}
+
+/// Whether that is so where threads make the readings.
+fn has_three_in_on<R: Threads + Drop + Sync>(
+    reads: &mut Reads<'_, OnThreads<R>>,
+    entry: &DirEntry<((), ())>,
+) -> bool {
+    entry.read_children.is_some() && has_three(&reads.next_of(entry))
+}
+
+/// Whether the reading that an entry asks for is that of the root.
+fn is_asked_for(
+    alloc: Global,
+    fs: &MemoryFs,
+    entry: &DirEntry<((), ())>,
+    parallelism: Parallelism,
+) -> bool {
+    match reads(alloc, fs, InTurn, parallelism) {
+        Some(mut reads) => has_three_in(&mut reads, entry),
+        None => false,
+    }
+}
+
+/// Whether it is where threads make the readings.
+fn is_asked_for_on<R: Threads + AllocGlobal + Sync>(
+    rt: &R,
+    fs: &MemoryFs,
+    entry: &DirEntry<((), ())>,
+    parallelism: Parallelism,
+) -> bool {
+    match reads(rt.alloc(), fs, OnThreads::new(rt), parallelism) {
+        Some(mut reads) => has_three_in_on(&mut reads, entry),
+        None => false,
+    }
+}
+
+#[test]
+fn the_reading_of_an_entrys_directory(rt: HostRuntime) -> Result<(), Fail> {
+    let fs = tree(rt.alloc(), FORKED)?;
+    let entry = root(rt.alloc(), &fs).ok_or("no root")?;
+    for width in WIDTHS {
+        assert!(rt;
+            is_asked_for(rt.alloc(), &fs, &entry, *width),
+            "{:?}",
+            width
+        );
+        assert!(rt;
+            is_asked_for_on(&rt, &fs, &entry, *width),
+            "{:?} on threads",
+            width
+        );
+    }
     Ok(())
 }
