@@ -4,7 +4,6 @@ use jwalk::Error;
 use jwalk::file_system::{BuildError, FileSystem, FileType, MemoryFs, Metadata};
 use std::alloc::{AllocError, Global};
 use std::io::ErrorKind;
-use std::process::Abort;
 use std::test::Fail;
 use walk_fixtures::listed_directory::{Item, ListedDirectory};
 use walk_fixtures::trees::{DENIED, LOOPED, Step, tree};
@@ -134,7 +133,7 @@ fn errors_of_a_crew_and_of_memory(rt: HostRuntime) -> Result<(), Fail> {
 }
 
 /// How many bytes the paths of a walk have; the first error ends it.
-fn path_bytes(walk: Builder<MemoryFs>) -> anyhow::Result<usize> {
+fn path_bytes<S: FileSystem>(walk: Builder<S>) -> anyhow::Result<usize> {
     let mut bytes: usize = 0;
     for answer in walk {
         let entry = answer?;
@@ -159,46 +158,51 @@ fn a_question_mark_keeps_the_text_of_an_error(rt: HostRuntime) -> Result<(), Fai
     Ok(())
 }
 
-/// The metadata of the last entry of a walk.
-fn last_metadata(fs: &MemoryFs, walk: Builder<&MemoryFs>) -> Option<Metadata> {
-    last_entry(walk)?.metadata(fs).ok()
-}
-
 /// A directory of a file and a link to it.
-fn linked_file(alloc: Global) -> Result<MemoryFs, BuildError> {
-    const STEPS: &[Step] = &[
-        Step::Dir("/r"),
-        Step::File(7, "/r/f"),
-        Step::Link("f", "/r/l"),
-    ];
-    tree(alloc, STEPS)
+const LINKED_FILE: &[Step] = &[
+    Step::Dir("/r"),
+    Step::File(7, "/r/f"),
+    Step::Link("f", "/r/l"),
+];
+
+/// The metadata of the last entry of a walk, which may follow links.
+fn last_metadata<S: FileSystem>(alloc: Global, fs: &S, follow: bool) -> Option<Metadata> {
+    let walk = builder(alloc, fs, "/r").ok()?;
+    last_entry(walk.follow_links(follow))?.metadata(fs).ok()
 }
 
 #[test]
 fn the_metadata_of_a_link_and_of_what_was_followed(rt: HostRuntime) -> Result<(), Fail> {
-    let fs = linked_file(rt.alloc())?;
-    let link = last_metadata(&fs, builder(rt.alloc(), &fs, "/r")?);
+    let fs = tree(rt.alloc(), LINKED_FILE)?;
+    let link = last_metadata(rt.alloc(), &fs, false);
     assert!(rt; link == Some(Metadata::new(FileType::Symlink, 1)));
-    let walk = builder(rt.alloc(), &fs, "/r")?.follow_links(true);
-    assert!(rt; last_metadata(&fs, walk) == Some(Metadata::new(FileType::File, 7)));
+    let file = last_metadata(rt.alloc(), &fs, true);
+    assert!(rt; file == Some(Metadata::new(FileType::File, 7)));
     Ok(())
 }
 
-/// The entry of the link, and the error of its metadata over another file system.
-fn metadata_error<S: FileSystem>(
-    rt: &(impl Abort + AllocGlobal),
-    fs: &S,
-) -> Result<Option<Error>, Fail> {
-    let walk = builder(rt.alloc(), linked_file(rt.alloc())?, "/r")?;
-    let entry = last_entry(walk).ok_or("no entry")?;
-    Ok(entry.metadata(fs).err())
+/// The entry of the link.
+fn link(alloc: Global) -> Option<Entry> {
+    let fs = tree(alloc, LINKED_FILE).ok()?;
+    last_entry(builder(alloc, &fs, "/r").ok()?)
+}
+
+/// The error of the link's metadata over another file system.
+fn metadata_error<S: FileSystem>(alloc: Global, fs: &S) -> Option<Error> {
+    link(alloc)?.metadata(fs).err()
+}
+
+/// The same directory once the link is removed.
+fn without_the_link(alloc: Global) -> Result<MemoryFs, BuildError> {
+    let mut fs = tree(alloc, LINKED_FILE)?;
+    fs.remove("/r/l")?;
+    Ok(fs)
 }
 
 #[test]
 fn the_metadata_of_what_is_gone(rt: HostRuntime) -> Result<(), Fail> {
-    let mut fs = linked_file(rt.alloc())?;
-    fs.remove("/r/l")?;
-    let error = metadata_error(&rt, &fs)?.ok_or("no error")?;
+    let fs = without_the_link(rt.alloc())?;
+    let error = metadata_error(rt.alloc(), &fs).ok_or("no error")?;
     assert!(rt; error.depth() == 1 && error.path() == Some("/r/l"));
     assert!(rt; has_kind(error, ErrorKind::NotFound));
     Ok(())
@@ -207,8 +211,8 @@ fn the_metadata_of_what_is_gone(rt: HostRuntime) -> Result<(), Fail> {
 #[test]
 fn the_metadata_where_memory_is_refused(rt: HostRuntime) -> Result<(), Fail> {
     let failing = Failing::MetadataForMemory("/r/l");
-    let fs = Watched::new(linked_file(rt.alloc())?, failing);
-    let error = metadata_error(&rt, &fs)?.ok_or("no error")?;
+    let fs = Watched::new(tree(rt.alloc(), LINKED_FILE)?, failing);
+    let error = metadata_error(rt.alloc(), &fs).ok_or("no error")?;
     assert!(rt; is_bare(rt.alloc(), &error, "memory refused for the walk"));
     Ok(())
 }

@@ -40,7 +40,7 @@ fn a_shared_tree_walked_twice(rt: HostRuntime) -> Result<(), Fail> {
 }
 
 /// Whether a walk can be begun, and this is what it answers then.
-fn begun_shows(alloc: Global, walk: Builder<&MemoryFs>, wanted: &str) -> bool {
+fn begun_shows<S: FileSystem>(alloc: Global, walk: Builder<S>, wanted: &str) -> bool {
     match walk.try_into_iter() {
         Ok(mut walk) => shows(alloc, &mut walk, wanted),
         Err(_) => false,
@@ -55,7 +55,7 @@ fn a_walk_that_tells_whether_it_could_begin(rt: HostRuntime) -> Result<(), Fail>
     Ok(())
 }
 
-fn count(walk: Walk<&MemoryFs>) -> usize {
+fn count<S: FileSystem>(walk: Walk<S>) -> usize {
     walk.count()
 }
 
@@ -68,7 +68,7 @@ fn a_walk_counted(rt: HostRuntime) -> Result<(), Fail> {
 }
 
 /// The lines of what a `for` loop over a walk that is yet to begin comes by.
-fn in_a_for_loop(alloc: Global, walk: Builder<&MemoryFs>) -> Result<String, AllocError> {
+fn in_a_for_loop<S: FileSystem>(alloc: Global, walk: Builder<S>) -> Result<String, AllocError> {
     let mut text = String::new(alloc);
     for answer in walk {
         push_line(&mut text, &answer)?;
