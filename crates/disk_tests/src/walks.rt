@@ -3,9 +3,10 @@ use crate::folder::{Step, make, path_in, remove};
 use crate::lines::{builder, lines, rest};
 use crate::real::{found_from, shown};
 use jwalk::file_system::{Fault, FileSystem, RealFs};
-use jwalk::{Parallelism, WalkDir};
-use std::alloc::AllocError;
-use std::rt::Files;
+use jwalk::read_dir::NoProcess;
+use jwalk::threads::OnThreads;
+use jwalk::{Parallelism, WalkDir, WalkDirGeneric};
+use std::alloc::{AllocError, Global};
 use std::test::Fail;
 use std::thread::Threads;
 use std::{env, io};
@@ -30,24 +31,26 @@ fn a_folder_of_groups_by_name(rt: HostRuntime) -> Result<(), Fail> {
     Ok(())
 }
 
-/// What a walk by name from a folder answers whose directories are read several at a time.
-fn found_in_batches<R: Threads + Files + AllocGlobal + Drop + Sync>(
-    rt: &R,
+/// What a walk answers by name whose directories are read several at a time, with `/t` for the folder.
+fn found_in_batches<R: Threads + Drop + Sync, S: FileSystem + Send + Sync>(
+    alloc: Global,
+    walk: WalkDirGeneric<((), ()), S, NoProcess, Global, OnThreads<R>>,
     folder: &str,
 ) -> Result<String, AllocError> {
-    let mut walk = WalkDir::at(rt, folder)?
+    let mut walk = walk
         .sort(true)
         .parallelism(Parallelism::RayonNewPool(2))
         .into_iter();
-    let mut found = Vec::new(rt.alloc());
+    let mut found = Vec::new(alloc);
     walk.fill(usize::MAX, &mut found)?;
-    lines(rt.alloc(), found.as_slice(), folder)
+    lines(alloc, found.as_slice(), folder)
 }
 
 #[test]
 fn a_folder_of_groups_in_batches(rt: HostRuntime) -> Result<(), Fail> {
     let folder = make(&rt, "batches", GROUPED)?;
-    let found = found_in_batches(&rt, folder.as_str());
+    let walk = WalkDir::at(&rt, folder.as_str())?;
+    let found = found_in_batches(rt.alloc(), walk, folder.as_str());
     remove(&rt, folder.as_str())?;
     let wanted = "0 d /t\n1 f /t/a.txt\n1 f /t/b.txt\n1 f /t/c.txt\n\
                   1 d /t/group 1\n2 f /t/group 1/d.txt\n1 d /t/group 2\n2 f /t/group 2/e.txt\n";
