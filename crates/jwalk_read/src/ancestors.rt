@@ -10,9 +10,14 @@ use walk_paths::path_text;
 
 /// The paths of the directories above an entry, that of the root first: a shared list of shared paths. There is no list
 /// where links aren't followed.
-#[derive(Drop)]
 pub(crate) struct Ancestors<A: Allocator + Copy> {
     paths: Option<Arc<Vec<Arc<String<A>, A>, A>, A>>,
+}
+
+impl<A: Allocator + Copy> Drop for Ancestors<A> {
+    fn drop(self) {
+        let Ancestors { paths: _ } = self;
+    }
 }
 
 /// Adds handles of these paths.

@@ -26,11 +26,16 @@ pub(crate) enum ErrorInner<A: Allocator + Copy> {
 ///
 /// Printed it is one text, as `IO error for operation on /t/group 2: permission denied`. An `anyhow::Error` that `?`
 /// makes of it keeps 120 bytes of that at most.
-#[derive(Drop)]
 #[derive_where(Debug)]
 pub struct Error<A: Allocator + Copy = Global> {
     depth: usize,
     inner: ErrorInner<A>,
+}
+
+impl<A: Allocator + Copy> Drop for Error<A> {
+    fn drop(self) {
+        let Error { depth: _, inner: _ } = self;
+    }
 }
 
 /// What a walk answers.
@@ -161,7 +166,8 @@ impl<A: Allocator + Copy> Error<A> {
     pub fn into_io_error(self) -> Option<io::Error>
         ensures { option_map error_kind result ≡ kind_of (failure self) }
     {
-        match self.inner {
+        let Error { depth: _, inner } = self;
+        match inner {
             ErrorInner::Io { err, .. } => Some(err),
             _ => None,
         }

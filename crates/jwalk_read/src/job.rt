@@ -41,7 +41,6 @@ use walk_model::file_type::FileType;
 use walk_paths::path_text;
 
 /// What reads one directory: a file system, a callback, and the options that a reading goes by.
-#[derive(Drop)]
 pub struct Job<C: ClientState, S, P, A: Allocator + Copy = Global> {
     fs: S,
     process: P,
@@ -49,6 +48,18 @@ pub struct Job<C: ClientState, S, P, A: Allocator + Copy = Global> {
     alloc: A,
     // Behind a lock, since a job may be shared where the states themselves may not.
     of: PhantomData<Mutex<C>>,
+}
+
+impl<C: ClientState, S: Drop, P: Drop, A: Allocator + Copy> Drop for Job<C, S, P, A> {
+    fn drop(self) {
+        let Job {
+            fs: _,
+            process: _,
+            options: _,
+            alloc: _,
+            of: _,
+        } = self;
+    }
 }
 
 /// Whether a name starts with a dot.

@@ -7,7 +7,6 @@ use std::sync::Arc;
 /// What an entry holds of the directory that is to be read below it.
 ///
 /// A callback may take it away, so that the directory isn't read, or move it to another entry.
-#[derive(Drop)]
 #[derive_where(Debug)]
 pub struct ReadChildren<C: ClientState, A: Allocator + Copy = Global> {
     pub(crate) path: Arc<String<A>, A>,
@@ -15,6 +14,16 @@ pub struct ReadChildren<C: ClientState, A: Allocator + Copy = Global> {
     /// The state that the directory's reading is to begin with. Where it is `None`, that is a clone of the state which
     /// the reading of the entry's own directory left.
     pub client_read_state: Option<C::ReadDirState>,
+}
+
+impl<C: ClientState, A: Allocator + Copy> Drop for ReadChildren<C, A> {
+    fn drop(self) {
+        let ReadChildren {
+            path: _,
+            error: _,
+            client_read_state: _,
+        } = self;
+    }
 }
 
 impl<C: ClientState, A: Allocator + Copy> ReadChildren<C, A> {

@@ -18,10 +18,18 @@ use jwalk_order::ordered::Ordered;
 use std::alloc::{AllocError, Allocator, Global};
 
 /// What a directory's reading gave: its list, and the state that it left.
-#[derive(Drop)]
 pub struct ReadDir<C: ClientState, A: Allocator + Copy = Global> {
     pub(crate) read_dir_state: C::ReadDirState,
     pub(crate) results_list: Vec<Result<DirEntry<C, A>, Error<A>>, A>,
+}
+
+impl<C: ClientState, A: Allocator + Copy> Drop for ReadDir<C, A> {
+    fn drop(self) {
+        let ReadDir {
+            read_dir_state: _,
+            results_list: _,
+        } = self;
+    }
 }
 
 /// Adds the specification of an item's directory, if it has one.
@@ -68,7 +76,11 @@ impl<C: ClientState, A: Allocator + Copy> ReadDir<C, A> {
     pub fn into_results_list(self) -> Vec<Result<DirEntry<C, A>, Error<A>>, A>
         ensures { map item result.items ≡ (reading self).list }
     {
-        self.results_list
+        let ReadDir {
+            read_dir_state: _,
+            results_list,
+        } = self;
+        results_list
     }
 
     /// The directories to be read below the entries of the list, in its order: one for each entry that has

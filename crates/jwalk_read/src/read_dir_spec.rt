@@ -12,7 +12,6 @@ use std::alloc::{AllocError, Allocator, Global};
 use std::sync::Arc;
 
 /// Which directory to read, and with which state to begin.
-#[derive(Drop)]
 pub struct ReadDirSpec<C: ClientState, A: Allocator + Copy = Global> {
     pub(crate) depth: usize,
     pub(crate) ancestors: Ancestors<A>,
@@ -20,6 +19,17 @@ pub struct ReadDirSpec<C: ClientState, A: Allocator + Copy = Global> {
     pub path: Arc<String<A>, A>,
     /// The state that its reading begins with.
     pub client_read_state: C::ReadDirState,
+}
+
+impl<C: ClientState, A: Allocator + Copy> Drop for ReadDirSpec<C, A> {
+    fn drop(self) {
+        let ReadDirSpec {
+            depth: _,
+            ancestors: _,
+            path: _,
+            client_read_state: _,
+        } = self;
+    }
 }
 
 /// The state that a directory begins with: its own if it was given one, else that of its parent's reading.

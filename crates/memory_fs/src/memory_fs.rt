@@ -25,11 +25,16 @@ use walk_model::metadata::Metadata;
 const LINK_LIMIT: u32 = 40;
 
 /// A tree of directories, files and links. Its answers never change while it is not built on.
-#[derive(Drop)]
 pub struct MemoryFs<A: Allocator + Copy = Global> {
     table: Table<A>,
     ghost sound: { IsSound (branches table) } by { Prim.hlevel props },
     ghost spare: { AreSpare (branches table) (free_places table) (length (free_places table)) } by { Prim.hlevel props },
+}
+
+impl<A: Allocator + Copy> Drop for MemoryFs<A> {
+    fn drop(self) {
+        let MemoryFs { table: _ } = self;
+    }
 }
 
 impl<A: Allocator + Copy> MemoryFs<A> {
