@@ -57,6 +57,16 @@ fn finish(
     board.finish(address, reading, children).err()
 }
 
+// An address and children.
+fn given(
+    alloc: Global,
+    indices: &[usize],
+    children: &[&'static str],
+) -> Result<(IndexPath, Vec<&'static str>), AllocError> {
+    let address = path(alloc, indices)?;
+    Ok((address, Vec::from_slice(alloc, children)?))
+}
+
 fn finishes(
     board: &mut Names,
     alloc: Global,
@@ -64,9 +74,9 @@ fn finishes(
     reading: &'static str,
     children: &[&'static str],
 ) -> bool {
-    match (path(alloc, indices), Vec::from_slice(alloc, children)) {
-        (Ok(address), Ok(children)) => finish(board, address, reading, children).is_none(),
-        _ => false,
+    match given(alloc, indices, children) {
+        Ok((address, children)) => finish(board, address, reading, children).is_none(),
+        Err(_) => false,
     }
 }
 
@@ -78,12 +88,12 @@ fn gives_back(fault: &Fault, indices: &[usize]) -> bool {
 }
 
 fn finishes_none(board: &mut Names, alloc: Global, indices: &[usize]) -> bool {
-    let (Ok(address), Ok(children)) = (path(alloc, indices), vec![in alloc; "y"]) else {
-        return false;
-    };
-    match finish(board, address, "x", children) {
-        Some(fault) => gives_back(&fault, indices),
-        None => false,
+    match given(alloc, indices, &["y"]) {
+        Ok((address, children)) => match finish(board, address, "x", children) {
+            Some(fault) => gives_back(&fault, indices),
+            None => false,
+        },
+        Err(_) => false,
     }
 }
 

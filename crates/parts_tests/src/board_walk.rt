@@ -6,6 +6,7 @@ use jwalk_engine::board_walk::BoardWalk;
 use jwalk_read::job::Job;
 use jwalk_read::process_read_dir::NoProcess;
 use jwalk_read::read_dir::ReadDir;
+use jwalk_read::read_dir_spec::ReadDirSpec;
 use memory_fs::build_error::BuildError;
 use memory_fs::memory_fs::MemoryFs;
 use std::alloc::{AllocError, Allocator, Global};
@@ -54,14 +55,21 @@ impl FileSystem for Refusing {
     }
 }
 
-type Walk<'f> = BoardWalk<((), ()), &'f Refusing, NoProcess>;
+type States = ((), ());
+
+type Walk<'f> = BoardWalk<States, &'f Refusing, NoProcess>;
+
+fn add_dirs(fs: &mut MemoryFs, dirs: &[&str]) -> Result<(), BuildError> {
+    for dir in dirs {
+        fs.add_dir(dir)?;
+    }
+    Ok(())
+}
 
 /// These directories and no others, of which the one at this path is refused memory.
 fn tree(alloc: Global, dirs: &[&str], at: &'static str) -> Result<Refusing, BuildError> {
     let mut fs = MemoryFs::new(alloc);
-    for dir in dirs {
-        fs.add_dir(dir)?;
-    }
+    add_dirs(&mut fs, dirs)?;
     Ok(Refusing { fs, at })
 }
 
@@ -77,11 +85,7 @@ const MANY: [&str; 19] = [
 const DIGITS: [&str; 10] = ["0", "1", "2", "3", "4", "5", "6", "7", "8", "9"];
 
 /// Adds the names in a reading, and how many others are ahead.
-fn push_reading(
-    text: &mut String,
-    read: &ReadDir<((), ())>,
-    ahead: usize,
-) -> Result<(), AllocError> {
+fn push_reading(text: &mut String, read: &ReadDir<States>, ahead: usize) -> Result<(), AllocError> {
     for found in read.results_list() {
         if let Ok(entry) = found {
             text.push_str(entry.file_name())?;
@@ -91,12 +95,18 @@ fn push_reading(
     text.push_str(" ")
 }
 
+/// The directory at the root.
+fn roots_of(job: &Job<States, &Refusing, NoProcess>) -> Option<Vec<ReadDirSpec<States>>> {
+    let list = job.root_list("/r", ()).ok()?;
+    list.read_children_specs().ok()
+}
+
 /// A walk over all that is below the root.
 fn walk(alloc: Global, fs: &Refusing, width: usize) -> Option<Walk<'_>>
     requires { 1 ≤ width }
 {
     let job = Job::new(alloc, fs, NoProcess, true, true, false, usize::MAX);
-    let roots = job.root_list("/r", ()).ok()?.read_children_specs().ok()?;
+    let roots = roots_of(&job)?;
     BoardWalk::try_new(alloc, job, roots, width).ok()
 }
 

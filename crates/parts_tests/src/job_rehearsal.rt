@@ -24,20 +24,38 @@ use walk_fs::file_system::FileSystem;
 
 type States = ((), ());
 
+fn add_dirs(fs: &mut MemoryFs, paths: &[&str]) -> Result<(), BuildError> {
+    for path in paths {
+        fs.add_dir(path)?;
+    }
+    Ok(())
+}
+
+fn add_files(fs: &mut MemoryFs, paths: &[&str]) -> Result<(), BuildError> {
+    for path in paths {
+        fs.add_file(path, 1)?;
+    }
+    Ok(())
+}
+
 /// A root with a directory that holds another, a directory and a file.
 fn tree(alloc: Global) -> Result<MemoryFs, BuildError> {
     let mut fs = MemoryFs::new(alloc);
-    for path in ["/t", "/t/b", "/t/b/d", "/t/c"] {
-        fs.add_dir(path)?;
-    }
-    for path in ["/t/a", "/t/b/e", "/t/b/d/f", "/t/c/g"] {
-        fs.add_file(path, 1)?;
-    }
+    add_dirs(&mut fs, &["/t", "/t/b", "/t/b/d", "/t/c"])?;
+    add_files(&mut fs, &["/t/a", "/t/b/e", "/t/b/d/f", "/t/c/g"])?;
     Ok(fs)
 }
 
-fn job_of<'f>(alloc: Global, fs: &'f MemoryFs) -> Job<States, &'f MemoryFs, NoProcess> {
+type TreeJob<'f> = Job<States, &'f MemoryFs, NoProcess>;
+
+fn job_of(alloc: Global, fs: &MemoryFs) -> TreeJob<'_> {
     Job::new(alloc, fs, NoProcess, true, true, false, usize::MAX)
+}
+
+/// The directory at the root.
+fn roots_of(job: &TreeJob<'_>) -> Option<Vec<ReadDirSpec<States>>> {
+    let list = job.root_list("/t", ()).ok()?;
+    list.read_children_specs().ok()
 }
 
 /// What a job's rehearsal promises, in a job's own words: over a steady job, however its workers take turns, the readings
@@ -103,19 +121,30 @@ fn is(
     )
 }
 
+fn are(
+    alloc: Global,
+    items: &[Ordered<Result<ReadDir<States>, Error>>],
+    wanted: &[Wanted],
+) -> Result<bool, AllocError> {
+    for (i, item) in items.iter().enumerate() {
+        match wanted.get(i) {
+            Some(wanted) if is(alloc, item, wanted)? => {}
+            _ => return Ok(false),
+        }
+    }
+    Ok(items.len() == wanted.len())
+}
+
+/// Whether the moves of workers over a job hand out what is wanted.
+fn gives(alloc: Global, job: &TreeJob<'_>, moves: &[Move], wanted: &[Wanted]) -> Option<bool> {
+    let made = played(alloc, job, roots_of(job)?, moves).ok()?;
+    are(alloc, made.handed_out.as_slice(), wanted).ok()
+}
+
 /// Whether the moves hand out what is wanted.
 fn hands_out(alloc: Global, moves: &[Move], wanted: &[Wanted]) -> Option<bool> {
     let fs = tree(alloc).ok()?;
-    let job = job_of(alloc, &fs);
-    let roots = job.root_list("/t", ()).ok()?.read_children_specs().ok()?;
-    let made = played(alloc, &job, roots, moves).ok()?;
-    for (i, item) in made.handed_out.iter().enumerate() {
-        match wanted.get(i) {
-            Some(wanted) if is(alloc, item, wanted).ok()? => {}
-            _ => return Some(false),
-        }
-    }
-    Some(made.handed_out.len() == wanted.len())
+    gives(alloc, &job_of(alloc, &fs), moves, wanted)
 }
 
 #[test]
@@ -130,14 +159,27 @@ fn a_job_is_rehearsed_in_preorder(rt: HostRuntime) {
     assert!(rt; hands_out(rt.alloc(), &MOVES[..7], &WHOLE[..1]) == Some(true));
 }
 
+/// The reading of the root.
+fn root_reading(job: &TreeJob<'_>) -> Option<ReadDir<States>> {
+    let roots = roots_of(job)?;
+    job.read_one(roots.first()?).ok()?.ok()
+}
+
+/// The directories below a reading, at the children of this address.
+fn below(
+    alloc: Global,
+    read: &ReadDir<States>,
+    indices: &[usize],
+) -> Result<Vec<Ordered<ReadDirSpec<States>>>, AllocError> {
+    let address = IndexPath::new(Vec::from_slice(alloc, indices)?);
+    read.ordered_read_children_specs(&address)
+}
+
 /// The directories below the reading of the root, at the children of this address.
 fn below_root(alloc: Global, indices: &[usize]) -> Option<Vec<Ordered<ReadDirSpec<States>>>> {
     let fs = tree(alloc).ok()?;
-    let job = job_of(alloc, &fs);
-    let roots = job.root_list("/t", ()).ok()?.read_children_specs().ok()?;
-    let read = job.read_one(roots.first()?).ok()?.ok()?;
-    let address = IndexPath::new(Vec::from_slice(alloc, indices).ok()?);
-    read.ordered_read_children_specs(&address).ok()
+    let read = root_reading(&job_of(alloc, &fs))?;
+    below(alloc, &read, indices).ok()
 }
 
 /// Whether this is the directory at a path and an address, with no children counted.

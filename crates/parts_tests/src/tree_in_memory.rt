@@ -70,29 +70,30 @@ fn is(fs: &MemoryFs, path: &str, wanted: Found) -> bool {
     found(fs.symlink_metadata(path)) == wanted
 }
 
-fn push_name(text: &mut String, item: io::Result<Listed>) -> Option<()> {
-    let item = item.ok()?;
+fn push_name(text: &mut String, item: &io::Result<Listed>) -> Option<()> {
+    let item = item.as_ref().ok()?;
     text.push_str(" ").ok()?;
     text.push_str(item.name.as_str()).ok()?;
-    let mark = if item.file_type.ok()?.is_dir() {
-        "/"
-    } else {
-        ""
-    };
-    text.push_str(mark).ok()
+    let is_dir = item.file_type.as_ref().ok()?.is_dir();
+    text.push_str(if is_dir { "/" } else { "" }).ok()
 }
 
-fn names(alloc: Global, items: Vec<io::Result<Listed>>) -> Option<String> {
-    let mut text = String::new(alloc);
+fn push_names(text: &mut String, items: &[io::Result<Listed>]) -> Option<()> {
     for item in items {
-        push_name(&mut text, item)?;
+        push_name(text, item)?;
     }
+    Some(())
+}
+
+fn names(alloc: Global, items: &[io::Result<Listed>]) -> Option<String> {
+    let mut text = String::new(alloc);
+    push_names(&mut text, items)?;
     Some(text)
 }
 
 fn lists(fs: &MemoryFs, alloc: Global, path: &str, wanted: &str) -> bool {
     match fs.read_dir(alloc, path) {
-        Ok(items) => names(alloc, items).as_deref() == Some(wanted),
+        Ok(items) => names(alloc, items.as_slice()).as_deref() == Some(wanted),
         Err(_) => false,
     }
 }
