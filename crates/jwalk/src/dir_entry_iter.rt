@@ -40,7 +40,11 @@ pub struct DirEntryIter<
 impl<C: ClientState, S: FileSystem, P: ProcessReadDir<C, A>, A: Allocator + Copy, T: Drop> Drop
     for DirEntryIter<C, S, P, A, T> {
     fn drop(self) {
-        let DirEntryIter { reads: _, items: _, refused: _ } = self;
+        let DirEntryIter {
+            reads: _,
+            items: _,
+            refused: _,
+        } = self;
     }
 }
 

@@ -42,7 +42,13 @@ pub struct Board<T, R, A: Allocator + Copy = Global> {
 
 impl<T: Drop, R: Drop, A: Allocator + Copy> Drop for Board<T, R, A> {
     fn drop(self) {
-        let Board { queued: _, in_hand: _, ready: _, matcher: _, stopped: _ } = self;
+        let Board {
+            queued: _,
+            in_hand: _,
+            ready: _,
+            matcher: _,
+            stopped: _,
+        } = self;
     }
 }
 

@@ -180,7 +180,12 @@ pub struct BoardWalk<C: ClientState, S, P, A: Allocator + Copy = Global> {
 
 impl<C: ClientState, S: Drop, P: Drop, A: Allocator + Copy> Drop for BoardWalk<C, S, P, A> {
     fn drop(self) {
-        let BoardWalk { alloc: _, job: _, width: _, board: _ } = self;
+        let BoardWalk {
+            alloc: _,
+            job: _,
+            width: _,
+            board: _,
+        } = self;
     }
 }
 
