@@ -52,6 +52,42 @@ fn a_directory_before_all_that_it_holds(rt: HostRuntime) {
     }
 }
 
+/// A directory of nine directories: a batch of eight of them is read by two threads.
+const SIBLINGS: &[Step] = &[
+    Step::Dir("/w"),
+    Step::Dir("/w/a"),
+    Step::File(1, "/w/a/x"),
+    Step::Dir("/w/b"),
+    Step::File(1, "/w/b/x"),
+    Step::Dir("/w/c"),
+    Step::File(1, "/w/c/x"),
+    Step::Dir("/w/d"),
+    Step::File(1, "/w/d/x"),
+    Step::Dir("/w/e"),
+    Step::File(1, "/w/e/x"),
+    Step::Dir("/w/f"),
+    Step::File(1, "/w/f/x"),
+    Step::Dir("/w/g"),
+    Step::File(1, "/w/g/x"),
+    Step::Dir("/w/h"),
+    Step::File(1, "/w/h/x"),
+    Step::Dir("/w/i"),
+    Step::File(1, "/w/i/x"),
+];
+
+#[test]
+fn nine_directories_beside_one_another(rt: HostRuntime) {
+    const ROW: Row = Row {
+        over: Over::Tree(SIBLINGS),
+        root: "/w",
+        settings: &[],
+        answers: "0 d /w; 1 d /w/a; 2 f /w/a/x; 1 d /w/b; 2 f /w/b/x; 1 d /w/c; 2 f /w/c/x; 1 d /w/d; \
+                  2 f /w/d/x; 1 d /w/e; 2 f /w/e/x; 1 d /w/f; 2 f /w/f/x; 1 d /w/g; 2 f /w/g/x; \
+                  1 d /w/h; 2 f /w/h/x; 1 d /w/i; 2 f /w/i/x",
+    };
+    assert!(rt; holds(&rt, &ROW));
+}
+
 #[test]
 fn roots_that_have_no_file_name(rt: HostRuntime) {
     const ROWS: &[Row] = &[
