@@ -1,22 +1,25 @@
 -- What one call answers, from what a board hands on.
-use Rattle.std.proofs.Common.{◌≡◌, ◌≢◌, ◌≤◌, ◌+◌, ℕ, List, [], ◌∷◌, map, length, refl, sym, ap, ◌∙◌, arith, subst, ⊎_elim, inl, inr}
+use Rattle.std.proofs.Common.{◌≡◌, ◌≢◌, ◌<◌, ◌≤◌, ◌+◌, ℕ, zero, suc, true, false, cond, List, [], ◌∷◌, ◌++◌, map, length, refl, sym, ap, ◌∙◌, arith, subst, ⊎_elim, inl, inr}
 use Rattle.std.specs.Prelude.{Option, Some, None, All}
 use Rattle.std.specs.List.Sorted.{IsPermutation}
+use Rattle.std.proofs.lemmas.List.{map-append, length-map}
+use Rattle.std.proofs.lemmas.List.Elements.{All-head, All-tail}
 use Rattle.std.proofs.lemmas.List.Sorted.{IsPermutation-map}
 use Rattle.std.specs.declared.clone.Clone as Clone
 use Rattle.std.specs.declared.default.Default as Default
-use Rattle.walk_model.specs.ReadDir.{Outcome}
+use Rattle.walk_model.specs.ReadDir.{Spec, Outcome}
 use Rattle.walk_fs.specs.declared.file_system.FileSystem as FileSystem
 use Rattle.jwalk_order.specs.Frontier.{next_address}
-use Rattle.jwalk_board.specs.Addresses.{times, IsAmong}
+use Rattle.jwalk_order.specs.IndexPath.{is_before}
+use Rattle.jwalk_board.specs.Addresses.{is_same, times, IsAmong}
 use Rattle.jwalk_order.specs.declared.ordered.Ordered.{Ordered}
 use Rattle.jwalk_board.specs.Board.{Board, IsWhole, HandsOut}
 use Rattle.jwalk_board.specs.Addressed.{Addressed, addressed, addresses_of}
 use Rattle.jwalk_board.specs.Seen.{seen}
 use Rattle.jwalk_board.specs.Refusal.{RefusesHandOut}
 use Rattle.jwalk_board.specs.declared.board.refusal.HandOutRefusal.TheVariants.{NotReady}
-use Rattle.jwalk_board.proofs.Sets.{times-permutation, times-itself}
-use Rattle.jwalk_board.proofs.Opens.{times-on_board}
+use Rattle.jwalk_board.proofs.Sets.{same, times-append, times-permutation, times-itself}
+use Rattle.jwalk_board.proofs.Opens.{times-addresses_of, times-on_board, next_least}
 use Rattle.jwalk_read.specs.declared.process_read_dir.ProcessReadDir as ProcessReadDir
 use Rattle.jwalk_read.specs.declared.read_dir_spec.ReadDirSpec.{ReadDirSpec}
 use Rattle.jwalk_read.specs.declared.job.Job.{Job}
@@ -24,10 +27,33 @@ use Rattle.jwalk_read.specs.ReadDir.{spec, outcome}
 use Rattle.jwalk_read.specs.Given.{Given}
 use Rattle.jwalk_engine.specs.declared.read.Read.{Read}
 use Rattle.jwalk_engine.specs.Reads.{spec_of, to_give, IsSoundOver, ReadsFirst}
-use Rattle.jwalk_engine.specs.ReadAhead.{ReadAhead, ahead_on, HandsOnAt, EntersNext}
+use Rattle.jwalk_engine.specs.ReadAhead.{ReadAhead, ahead_on, unread, StandsBefore, ReadsLeast, HandsOnAt, EntersNext}
 use Rattle.jwalk_engine.specs.BoardWalk.{Keeps, ReadsBatch, HandsOnNext, HandsOnIfAny, IsSteadyBoard, GoesOn}
 use Rattle.jwalk_engine.proofs.Steps.{some_to_read, gives-handed_out}
 use Rattle.jwalk_engine.proofs.ReadFacts.{all_sound_over, all_made, all_as_given, hands_sound, hands_first, some_sound, hands_less, some_more}
+
+-- where an address is, there is something
+some_at : {V : Type 0} (a : List ℕ) (xs : List (Addressed V)) → IsAmong a (addresses_of xs) → 1 ≤ length xs
+some_at a [] there = absurd (omega (arith, there))
+some_at a (x ∷ xs) there = omega arith
+
+-- values that are seen otherwise stand where they stood
+pub seen_addresses : {T V : Type 0} (v : T → V) (xs : List (Addressed T)) → addresses_of (map (seen v) xs) ≡ addresses_of xs
+seen_addresses v [] = refl
+seen_addresses v (x ∷ xs) = ap (λ l. x.at ∷ l) (seen_addresses v xs)
+
+unread_addresses : {C A R E : Type 0} (xs : List (Addressed (Read C A R E × List (Spec R)))) → addresses_of (map unread xs) ≡ addresses_of xs
+unread_addresses [] = refl
+unread_addresses (x ∷ xs) = ap (λ l. x.at ∷ l) (unread_addresses xs)
+
+-- what stands before all of these stands before each
+before_each : {V : Type 0} (x : List ℕ) (ys : List (Addressed V)) → All (λ y. is_before x y.at ≡ true) ys → (a : List ℕ) → IsAmong a (addresses_of ys) → is_before x a ≡ true
+before_each x [] all a there = absurd (omega (arith, there))
+before_each x (y ∷ ys) all a there =
+    elim (is_same a y.at) as (λ s. is_same a y.at ≡ s → 0 < cond s 1 0 + times a (addresses_of ys) → is_before x a ≡ true) [
+      | true ↦ λ e h. subst (λ z. is_before x z ≡ true) (same a y.at e) (All-head (λ y. is_before x y.at ≡ true) y ys all)
+      | false ↦ λ e h. before_each x ys (All-tail (λ y. is_before x y.at ≡ true) y ys all) a (omega (arith, h))
+    ] refl there
 
 -- what is handed on was done
 was_done : {R : Type 0} (at : List ℕ) (old new : ReadAhead R) → HandsOnAt at old new → IsAmong at old.done
@@ -50,7 +76,7 @@ module _ {C A R E : Type 0} where
       }
 
   -- what has still to be read is not done
-  not_done : (b : Board (ReadDirSpec C A R E) (Read C A R E)) → IsWhole b → b.in_hand ≡ [] → RefusesHandOut b NotReady → ¬ IsAmong (next_address b.frontier) (ahead_on b).done
+  pub not_done : (b : Board (ReadDirSpec C A R E) (Read C A R E)) → IsWhole b → b.in_hand ≡ [] → RefusesHandOut b NotReady → ¬ IsAmong (next_address b.frontier) (ahead_on b).done
   not_done b whole none refused there =
       let a = next_address b.frontier in
       let once = whole.once a in
@@ -61,6 +87,41 @@ module _ {C A R E : Type 0} where
       refused.2
 
 module _ {C S P A R E : Type 0} (files : FileSystem.Ghosts S) (process : ProcessReadDir.Ghosts P C A R E) (clone : Clone.Ghosts R) (defaults : Default.Ghosts E) (job : Job C S P A R E) (width : ℕ) where
+  module _ (old : Board (ReadDirSpec C A R E) (Read C A R E)) (new : ReadAhead R) (whole : IsWhole old) (reads : ReadsLeast files process clone defaults job width (ahead_on old) new) where
+    -- what is queued is read, or left
+    read_or_left : (a : List ℕ) → times a (addresses_of old.queued) ≡ times a (addresses_of reads.batch) + times a (addresses_of reads.left.queue)
+    read_or_left a =
+        let taken = map unread reads.batch in
+        ap (times a) (sym (seen_addresses spec old.queued))
+        ∙ sym (times-addresses_of a (ahead_on old).queue (taken ++ reads.left.queue) reads.leave.queue)
+        ∙ ap (times a) (map-append (λ x. x.at) taken reads.left.queue)
+        ∙ times-append a (addresses_of taken) (addresses_of reads.left.queue)
+        ∙ ap (λ l. times a l + times a (addresses_of reads.left.queue)) (unread_addresses reads.batch)
+
+    -- and what is left isn't the least of all
+    left_is_no_least : 1 ≤ length reads.batch → ¬ IsAmong (next_address old.frontier) (addresses_of reads.left.queue)
+    left_is_no_least some there =
+        elim reads.batch as (λ b. reads.batch ≡ b → 1 ≤ length b → ⊥) [
+          | [] ↦ λ is h. absurd (omega (arith, h))
+          | x ∷ rest ↦ λ is h.
+              let first : StandsBefore (unread x) reads.left.queue = All-head (λ y. StandsBefore y reads.left.queue) (unread x) (map unread rest) (subst (λ b. All (λ y. StandsBefore y reads.left.queue) (map unread b)) is reads.leave.least) in
+              let among : 0 < times x.at (addresses_of reads.batch) = subst (λ b. 0 < times x.at (addresses_of b)) (sym is) (omega (arith, times-itself x.at (addresses_of rest))) in
+              let no : false ≡ true = sym (next_least old whole x.at (omega (arith, read_or_left x.at, among, times-on_board x.at old))) ∙ before_each x.at reads.left.queue first (next_address old.frontier) there in
+              cc
+        ] refl some
+
+    -- The next of what is to be read is read with the least.
+    pub next_is_read : 1 ≤ width → old.in_hand ≡ [] → RefusesHandOut old NotReady → IsAmong (next_address old.frontier) new.done
+    next_is_read wide none refused =
+        let a = next_address old.frontier in
+        let queued : 0 < times a (addresses_of old.queued) = ⊎_elim (λ (q : IsAmong a (addresses_of old.queued)). q) (λ (held : IsAmong a old.in_hand). absurd (omega (arith, held, ap (times a) none))) refused.2 in
+        let some : 1 ≤ length reads.batch = omega (arith, reads.number, wide, some_at a old.queued queued, length-map old.queued (seen spec)) in
+        let done = times-permutation a (addresses_of reads.batch ++ reads.left.done) new.done reads.join.done in
+        elim (times a (addresses_of reads.left.queue)) as (λ n. times a (addresses_of reads.left.queue) ≡ n → IsAmong a new.done) [
+          | zero ↦ λ is. omega (arith, is, queued, read_or_left a, done, times-append a (addresses_of reads.batch) reads.left.done)
+          | suc n ↦ λ is. absurd (left_is_no_least some (omega (arith, is)))
+        ] refl
+
   module _ (old : Board (ReadDirSpec C A R E) (Read C A R E)) (keeps : Keeps clone job old) where
     -- while something is to be read there is a first
     pub first_left : IsWhole old → old.frontier ≢ [] → (to_give old []).to_read ≢ []

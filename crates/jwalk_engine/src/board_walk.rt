@@ -1,6 +1,9 @@
 //! Readings of directories in preorder.
 ghost use Rattle.std.specs.Prelude.{◌≡◌, ◌≢◌, ◌≤◌, ◌+◌, [], false, length, map, option_map};
 ghost use Rattle.std.specs.Prelude.{IfOk, IfErr, IfSome, IfNone, OnOk, OnErr};
+ghost use Rattle.jwalk_order.specs.Frontier.{next_address};
+ghost use Rattle.jwalk_board.specs.Addresses.{IsAmong};
+ghost use Rattle.jwalk_board.specs.Addressed.{addresses_of};
 ghost use Rattle.jwalk_board.specs.Refusal.{RefusesHandOut};
 ghost use Rattle.jwalk_board.specs.declared.board.refusal.HandOutRefusal.TheVariants.{NotReady};
 ghost use Rattle.jwalk_read.specs.ReadDir.{spec, outcome};
@@ -33,6 +36,26 @@ fn hand_on<C: ClientState, A: Allocator + Copy>(
     let _pending = board.pending();
     let item = board.hand_out()?;
     Ok(item.value.outcome)
+}
+
+/// Hands on the next reading, which is ready.
+fn hand_on_ready<C: ClientState, A: Allocator + Copy>(
+    board: &mut Board<ReadDirSpec<C, A>, Read<C, A>, A>,
+) -> Result<Outcome<C, A>, AllocError>
+    requires none_in_hand { board.old.in_hand ≡ [] }
+    requires running { board.old.stopped ≡ false }
+    requires some { board.old.frontier ≢ [] }
+    requires ready { IsAmong (next_address board.old.frontier) (addresses_of board.old.ready) }
+    ensures { IfOk result (λ o. HandsOnNext board.old (outcome o) board.new) }
+{
+    let _pending = board.pending();
+    match hand_on(board) {
+        Ok(outcome) => Ok(outcome),
+        Err(HandOutRefusal::Memory) => Err(AllocError),
+        Err(HandOutRefusal::Stopped) => unreachable!(),
+        Err(HandOutRefusal::Done) => unreachable!(),
+        Err(HandOutRefusal::NotReady) => unreachable!(),
+    }
 }
 
 /// What a walk answers without a reading that isn't made yet: none of it where such a reading is next.
@@ -126,10 +149,8 @@ fn read_next<C: ClientState, S: FileSystem, P: ProcessReadDir<C, A>, A: Allocato
         return answer;
     }
     read_some(alloc, job, board, width)?;
-    match hand_on(board) {
-        Ok(outcome) => Ok(Some(outcome)),
-        Err(_) => Err(AllocError),
-    }
+    let outcome = hand_on_ready(board)?;
+    Ok(Some(outcome))
 }
 
 /// The same, with the directories read on several threads.
@@ -161,10 +182,8 @@ where
         return answer;
     }
     read_some_on(rt, alloc, job, board, width)?;
-    match hand_on(board) {
-        Ok(outcome) => Ok(Some(outcome)),
-        Err(_) => Err(AllocError),
-    }
+    let outcome = hand_on_ready(board)?;
+    Ok(Some(outcome))
 }
 
 /// Readings in preorder: a directory's, and then those of all that is below it. So many directories are read together,

@@ -1,9 +1,13 @@
-use Rattle.std.proofs.Common.{subst}
+use Rattle.std.proofs.Common.{sym, subst}
 use Rattle.std.specs.Prelude.{option_map}
+use Rattle.jwalk_order.specs.Frontier.{next_address}
+use Rattle.jwalk_board.specs.Addresses.{IsAmong}
+use Rattle.jwalk_board.specs.Addressed.{addresses_of}
 use Rattle.jwalk_read.specs.ReadDir.{outcome}
+use Rattle.jwalk_engine.specs.ReadAhead.{ahead_on}
 use Rattle.jwalk_engine.specs.BoardWalk.{ReadsBatch}
 use Rattle.jwalk_engine.proofs.ReadFacts.{on_err, on_err_always, if_ok}
-use Rattle.jwalk_engine.proofs.NextFacts.{first_left, answer_goes_on, made_goes_on}
+use Rattle.jwalk_engine.proofs.NextFacts.{first_left, answer_goes_on, next_is_read, made_goes_on}
 use Rattle.jwalk_engine.proofs.board_walk.read_next_on.Goals as goal
 
 pub returns-in-Some-clause-some : goal.returns-in-Some-clause-some
@@ -18,12 +22,18 @@ pub returns-in_err-read_some_on-clause-some : goal.returns-in_err-read_some_on-c
 returns-in_err-read_some_on-clause-some g c =
     on_err_always c.from_residual.result (first_left g.S.FileSystem g.P.ProcessReadDir g.C.ReadDirState.Clone g.C.DirEntryState.Default c.args.job.now c.args.width c.args.board.now c.requires.keeps c.pending-pending.ensures.whole c.in_default.ensures.unread.1)
 
-pub returns-in-Ok-clause-goes_on : goal.returns-in-Ok-clause-goes_on
-returns-in-Ok-clause-goes_on g c =
-    made_goes_on g.S.FileSystem g.P.ProcessReadDir g.C.ReadDirState.Clone g.C.DirEntryState.Default c.args.job.now c.args.width c.args.board.now c.requires.keeps c.pending-pending.ensures.whole c.in_default.ensures.unread c.read_some_on.new.board c.hand_on.new.board (outcome c.in-Ok.outcome)
-    (subst (λ b. ReadsBatch g.S.FileSystem g.P.ProcessReadDir g.C.ReadDirState.Clone g.C.DirEntryState.Default c.args.job.now c.args.width b c.read_some_on.new.board) c.in_default.ensures.unchanged c.in_ok-read_some_on.ensures)
-    c.in-Ok.ensures.hands_on
+pub hand_on_ready-requires-clause-ready : goal.hand_on_ready-requires-clause-ready
+hand_on_ready-requires-clause-ready g c =
+    let reads = subst (λ b. ReadsBatch g.S.FileSystem g.P.ProcessReadDir g.C.ReadDirState.Clone g.C.DirEntryState.Default c.args.job.now c.args.width b c.read_some_on.new.board) c.in_default.ensures.unchanged c.in_ok-read_some_on.ensures in
+    subst (λ f. IsAmong (next_address f) (addresses_of c.read_some_on.new.board.ready)) (sym reads.frontier)
+    (next_is_read g.S.FileSystem g.P.ProcessReadDir g.C.ReadDirState.Clone g.C.DirEntryState.Default c.args.job.now c.args.width c.args.board.now (ahead_on c.read_some_on.new.board) c.pending-pending.ensures.whole reads.least c.requires.width c.requires.keeps.none_in_hand c.in_default.ensures.unread)
 
-pub returns-in-Err-clause-some : goal.returns-in-Err-clause-some
-returns-in-Err-clause-some g c =
-    first_left g.S.FileSystem g.P.ProcessReadDir g.C.ReadDirState.Clone g.C.DirEntryState.Default c.args.job.now c.args.width c.args.board.now c.requires.keeps c.pending-pending.ensures.whole c.in_default.ensures.unread.1
+pub returns-in_err-outcome-clause-some : goal.returns-in_err-outcome-clause-some
+returns-in_err-outcome-clause-some g c =
+    on_err_always c.from_residual-in_err-outcome.result (first_left g.S.FileSystem g.P.ProcessReadDir g.C.ReadDirState.Clone g.C.DirEntryState.Default c.args.job.now c.args.width c.args.board.now c.requires.keeps c.pending-pending.ensures.whole c.in_default.ensures.unread.1)
+
+pub returns-clause-goes_on : goal.returns-clause-goes_on
+returns-clause-goes_on g c =
+    made_goes_on g.S.FileSystem g.P.ProcessReadDir g.C.ReadDirState.Clone g.C.DirEntryState.Default c.args.job.now c.args.width c.args.board.now c.requires.keeps c.pending-pending.ensures.whole c.in_default.ensures.unread c.read_some_on.new.board c.hand_on_ready.new.board (outcome c.in_ok-outcome.outcome)
+    (subst (λ b. ReadsBatch g.S.FileSystem g.P.ProcessReadDir g.C.ReadDirState.Clone g.C.DirEntryState.Default c.args.job.now c.args.width b c.read_some_on.new.board) c.in_default.ensures.unchanged c.in_ok-read_some_on.ensures)
+    c.in_ok-outcome.ensures
