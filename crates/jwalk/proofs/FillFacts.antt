@@ -101,7 +101,7 @@ module _ {C S P A T R E : Type 0} (files : FileSystem.Ghosts S) (process : Proce
       ]
 
 -- calls after calls
-calls_on : {S X : Type 0} (steps : S → Option X → S → Type 0) (xs ys : List X) (s t u : S) → Yields steps s xs t → Yields steps t ys u → Yields steps s (xs ++ ys) u
+pub calls_on : {S X : Type 0} (steps : S → Option X → S → Type 0) (xs ys : List X) (s t u : S) → Yields steps s xs t → Yields steps t ys u → Yields steps s (xs ++ ys) u
 calls_on steps [] ys s t u same rest = subst (λ k. Yields steps k ys u) (sym same) rest
 calls_on steps (x ∷ xs) ys s t u (j, first, more) rest = (j, first, calls_on steps xs ys j t u more rest)
 

@@ -1,6 +1,5 @@
 //! A walk's answers.
-ghost use Rattle.std.specs.Prelude.{◌≡◌, ◌∷◌, true, Ok, IfOk, OnErr};
-ghost use Rattle.walk_model.specs.Entry.{has_directory};
+ghost use Rattle.std.specs.Prelude.{◌≡◌, true, Ok, IfOk, OnErr};
 ghost use Rattle.jwalk_read.specs.Entry.{entry, item};
 ghost use Rattle.jwalk_read.specs.Job.{callback};
 
@@ -55,7 +54,7 @@ impl<
     A: Allocator + Copy,
     T: Drop,
 > DirEntryIter<C, S, P, A, T> {
-    ghost use Rattle.std.specs.Prelude.{◌++◌, [], false, length, OnOk, IsSome, IfSome, IfNone, IsSomeAnd, MatchOption, option_map};
+    ghost use Rattle.std.specs.Prelude.{◌++◌, [], false, length, OnOk, IsSome, IfSome, IfNone, IsSomeAnd, option_map};
     ghost use Rattle.walk_model.specs.Entry.{AtDepth};
     ghost use Rattle.walk_model.specs.ReadDir.{children, AreClones};
     ghost use Rattle.walk_model.specs.Listing.{paired, is_answered};

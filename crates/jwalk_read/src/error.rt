@@ -42,7 +42,7 @@ impl<A: Allocator + Copy> Drop for Error<A> {
 pub type Result<T, A = Global> = std::result::Result<T, Error<A>>;
 
 impl<A: Allocator + Copy> Error<A> {
-    ghost use Rattle.std.specs.Prelude.{◌≡◌, ◌↔◌, Some, None, option_map, IsTrue, string_bytes};
+    ghost use Rattle.std.specs.Prelude.{◌≡◌, ◌↔◌, Some, None, option_map, IsTrue};
     ghost use Rattle.std.specs.Option.{option_copied};
     ghost use Rattle.std.specs.IoError.{error_kind};
     ghost use Rattle.walk_model.specs.Error.{io, looped, busy, memory, lost};

@@ -1,5 +1,5 @@
 -- The lines of what calls answer, one call after another.
-use Rattle.std.proofs.Common.{◌≡◌, ℕ, Bool, true, ◌&&◌, List, [], ◌∷◌, ◌++◌, Option, Some, None, Result, map, is_ok, refl, sym, subst}
+use Rattle.std.proofs.Common.{◌≡◌, ℕ, Bool, true, ◌&&◌, List, [], ◌∷◌, ◌++◌, Option, Some, None, Result, map, is_ok, refl}
 use Rattle.std.specs.Iterator.{Yields}
 use Rattle.std.specs.List.{list_all}
 use Rattle.std.specs.Io.KnownBytes.{Appends, append_known}
@@ -7,13 +7,9 @@ use Rattle.jwalk_read.specs.declared.dir_entry.DirEntry.{DirEntry}
 use Rattle.jwalk_read.specs.declared.error.Error.{Error}
 use Rattle.jwalk_read.specs.Entry.{item}
 use Rattle.walk_model.specs.Lines.{line_of, lines_of}
+use Rattle.jwalk.proofs.FillFacts.{calls_on}
 use Rattle.walk.specs.Answers.{PrintsAll}
 use Rattle.walk.proofs.LineFacts.{nothing_gathered, rest_written, all_after, line_after}
-
--- one call more
-calls_more : {S X : Type 0} (steps : S → Option X → S → Type 0) (xs : List X) (x : X) (s t u : S) → Yields steps s xs t → steps t (Some x) u → Yields steps s (xs ++ x ∷ []) u
-calls_more steps [] x s t u same step = (u, subst (λ k. steps k (Some x) u) (sym same) step, refl)
-calls_more steps (y ∷ ys) x s t u (j, first, rest) step = (j, first, calls_more steps ys x j t u rest step)
 
 module _ {S C A R E : Type 0} (steps : S → Option (Result (DirEntry C A R E) (Error A)) → S → Type 0) (start : S) where
   -- Calls answered these so far, the line of each is written, and it is told whether none is an error.
@@ -31,7 +27,7 @@ module _ {S C A R E : Type 0} (steps : S → Option (Result (DirEntry C A R E) (
   pub one_printed : (now next : S) (old mid new : Option (List ℕ)) (clean is_entry : Bool) (answer : Result (DirEntry C A R E) (Error A)) → PrintsSoFar now old mid clean → steps now (Some answer) next → Appends mid new (line_of (item answer)) → is_entry ≡ is_ok answer → PrintsSoFar next old new (clean && is_entry)
   one_printed now next old mid new clean is_entry answer so_far step line entry = record {
     answered = so_far.answered ++ answer ∷ [];
-    calls = calls_more steps so_far.answered answer start now next so_far.calls step;
+    calls = calls_on steps so_far.answered (answer ∷ []) start now next so_far.calls (next, step, refl);
     lines = line_after item old mid new so_far.answered answer so_far.lines line;
     all = all_after is_ok so_far.answered answer clean is_entry so_far.all entry;
   }
