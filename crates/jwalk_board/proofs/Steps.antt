@@ -96,13 +96,19 @@ module _ {T R : Type 0} where
       (λ (q : 0 < times next (addresses_of b.queued)). inl q)
       (eq-zero-or-pos (times next (addresses_of b.queued)))
 
+  -- The least that is ready is the next one, if that is ready.
+  pub next_is_first : (b : Board T R) → IsWhole b → (a : List ℕ) → 0 < times a (addresses_of b.ready) → IsFirst a b.ready → 0 < times (next_address b.frontier) (addresses_of b.ready)
+      → a ≡ next_address b.frontier
+  next_is_first b w a there first some =
+      let next = next_address b.frontier in
+      let a_there : 0 < times a (on_board b) = omega (arith, times-on_board a b) in
+      same_address a next (next_least b w a a_there) (first_among a next b.ready first some)
+
   pub not_ready : (b : Board T R) → IsWhole b → (a : List ℕ) → 0 < times a (addresses_of b.ready) → IsFirst a b.ready → a ≢ next_address b.frontier
       → times (next_address b.frontier) (addresses_of b.ready) ≡ 0
   not_ready b w a there first other =
       let next = next_address b.frontier in
       ⊎_elim
       (λ none. none)
-      (λ (some : 0 < times next (addresses_of b.ready)).
-      let a_there : 0 < times a (on_board b) = omega (arith, times-on_board a b) in
-      absurd (other (same_address a next (next_least b w a a_there) (first_among a next b.ready first some))))
+      (λ (some : 0 < times next (addresses_of b.ready)). absurd (other (next_is_first b w a there first some)))
       (eq-zero-or-pos (times next (addresses_of b.ready)))

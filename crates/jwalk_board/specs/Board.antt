@@ -48,6 +48,10 @@ module _ {T R : Type 0} where
     pub next_is_open : b.frontier ≢ [] → IsAmong (next_address b.frontier) (on_board b)
     pub next_is_least : (a : List ℕ) → IsAmong a (on_board b) → is_before a (next_address b.frontier) ≡ false
 
+  -- There is a next address, and its reading is ready.
+  abbrev pub IsNextReady : Board T R → Type 0
+  IsNextReady b = (b.frontier ≢ []) × IsAmong (next_address b.frontier) (addresses_of b.ready)
+
   -- The roots are queued at `[0]`, `[1]` and so on.
   pub record IsNew (specs : List T) (b : Board T R) : Type 0 where
     pub queued : IsPermutation (numbered [] 0 specs) b.queued

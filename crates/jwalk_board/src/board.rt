@@ -1,9 +1,9 @@
 //! Work and results of a tree, by address.
-ghost use Rattle.std.specs.Prelude.{◌≡◌, ◌+◌, ◌<◌, ◌++◌, length, true, IfErr, IfOk, OnErr, OnOk};
+ghost use Rattle.std.specs.Prelude.{◌≡◌, ◌+◌, ◌<◌, ◌++◌, ◌↔◌, length, true, IfErr, IfOk, IsTrue, OnErr, OnOk};
 ghost use Rattle.std.specs.List.Sorted.{IsPermutation};
 ghost use Rattle.jwalk_order.specs.IndexPath.{address as indices_of};
 ghost use Rattle.jwalk_board.specs.Addressed.{numbered};
-ghost use Rattle.jwalk_board.specs.Board.{Finishes, HandsOut, HoldsOpen, IsNew, IsWhole, Takes};
+ghost use Rattle.jwalk_board.specs.Board.{Finishes, HandsOut, HoldsOpen, IsNew, IsNextReady, IsWhole, Takes};
 ghost use Rattle.jwalk_board.specs.Refusal.{RefusesFinish, RefusesHandOut, RefusesTake};
 
 use address_heap::AddressHeap;
@@ -218,6 +218,17 @@ impl<T: Drop, R: Drop, A: Allocator + Copy> Board<T, R, A> {
             Some(item) => Ok(item),
             None => unreachable!(),
         }
+    }
+
+    /// Whether the reading at the next address is ready. It is handed out next, unless the board is stopped or memory
+    /// runs out.
+    pub fn is_next_ready(&self) -> bool
+        ensures { IsTrue result ↔ IsNextReady self.now }
+    {
+        let Some(least) = self.ready.peek() else {
+            return false;
+        };
+        !self.matcher.is_none() && least.index_path == *self.matcher.looking_for()
     }
 
     /// Marks the board as stopped: every later step is refused.

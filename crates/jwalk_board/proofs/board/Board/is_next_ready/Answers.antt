@@ -1,0 +1,23 @@
+use Rattle.std.proofs.Common.{rules, ◌≡◌, ◌≢◌, [], IsTrue, subst}
+use Rattle.jwalk_order.specs.Frontier.{next_address}
+use Rattle.jwalk_order.specs.Ordered.{address_of}
+use Rattle.jwalk_board.specs.Addresses.{IsAmong}
+use Rattle.jwalk_board.specs.Addressed.{addresses_of}
+use Rattle.jwalk_board.proofs.Steps.{next_is_first}
+use Rattle.jwalk_board.proofs.board.Board.is_next_ready.Goals as goal
+
+pub returns-then-not-is_none : goal.returns-then-not-is_none
+returns-then-not-is_none g c =
+    let some : c.self.inside.matcher ≢ [] = search rules in
+    let forth : IsTrue c.eq.result → address_of c.in-Some.least.now ≡ next_address c.self.inside.matcher = search rules in
+    let back : address_of c.in-Some.least.now ≡ next_address c.self.inside.matcher → IsTrue c.eq.result = search rules in
+    rw (← c.self.view_is) (
+      λ yes. (some, subst (λ a. IsAmong a (addresses_of c.self.inside.ready.items)) (forth yes) c.in-Some.ensures.some),
+      λ ready. back (next_is_first _ c.self.invariant (address_of c.in-Some.least.now) c.in-Some.ensures.some c.in-Some.ensures.least ready.1),
+    )
+
+pub returns-else-not-is_none : goal.returns-else-not-is_none
+returns-else-not-is_none g c =
+    let is_none : IsTrue c.is_none.result = search rules in
+    let none : c.self.inside.matcher ≡ [] = c.is_none.ensures.0 is_none in
+    rw (← c.self.view_is) (search rules, λ ready. absurd (ready.0 none))
