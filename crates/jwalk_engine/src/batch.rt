@@ -9,13 +9,14 @@ ghost use Rattle.jwalk_engine.specs.ReadAhead.{ahead_on, LeastLeave, Joins};
 ghost use Rattle.jwalk_engine.specs.Batch.{hand_of, held_by, with_children, made_at, seen_taken, IsMadeOf, MakesOf};
 ghost use Rattle.jwalk_engine.specs.BoardWalk.{ReadsBatch};
 
-use crate::read::{Read, directories_of, finish};
+use crate::read::{Read, finish};
 use jwalk_board::board::{Board, TakeRefusal};
 use jwalk_order::index_path::IndexPath;
 use jwalk_order::ordered::Ordered;
 use jwalk_read::client_state::ClientState;
 use jwalk_read::job::Job;
 use jwalk_read::process_read_dir::ProcessReadDir;
+use jwalk_read::read_dir::directories_of;
 use jwalk_read::read_dir_spec::ReadDirSpec;
 use rayon::prelude::*;
 use std::alloc::{AllocError, Allocator};

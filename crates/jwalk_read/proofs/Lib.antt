@@ -5,3 +5,4 @@ pub mod GivenFacts
 mod OrderedFacts
 mod PlanTies
 mod WalkedTrees
+mod PathListFacts

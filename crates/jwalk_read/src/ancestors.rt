@@ -1,16 +1,16 @@
 //! The directories above an entry.
-ghost use Rattle.std.specs.Prelude.{◌≡◌, ◌++◌, ◌∷◌, [], IfOk, OnOk, map, option_map};
+ghost use Rattle.std.specs.Prelude.{◌≡◌, ◌↔◌, ◌++◌, ◌∷◌, [], IfOk, IsTrue, OnOk, map, option_map};
 ghost use Rattle.walk_model.specs.Job.{looped_to};
 ghost use Rattle.jwalk_read.specs.Text.{text};
 ghost use Rattle.jwalk_read.specs.Ancestors.{texts};
 
-use std::alloc::{AllocError, Allocator};
+use std::alloc::{AllocError, Allocator, Global};
 use std::sync::Arc;
 use walk_paths::path_text;
 
 /// The paths of the directories above an entry, that of the root first: a shared list of shared paths. There is no list
 /// where links aren't followed.
-pub(crate) struct Ancestors<A: Allocator + Copy> {
+pub struct Ancestors<A: Allocator + Copy = Global> {
     paths: Option<Arc<Vec<Arc<String<A>, A>, A>, A>>,
 }
 
@@ -35,7 +35,7 @@ fn push_all<A: Allocator + Copy>(
 
 impl<A: Allocator + Copy> Ancestors<A> {
     /// No directories.
-    pub(crate) fn none() -> Self
+    pub fn none() -> Self
         ensures { texts result ≡ [] }
     {
         Ancestors { paths: None }
@@ -52,7 +52,9 @@ impl<A: Allocator + Copy> Ancestors<A> {
     }
 
     /// A handle of the same list.
-    pub(crate) fn share(&self) -> Result<Self, AllocError>
+    ///
+    /// Fails only for want of memory.
+    pub fn share(&self) -> Result<Self, AllocError>
         ensures { IfOk result (λ same. texts same ≡ texts self.now) }
     {
         match &self.paths {
@@ -63,8 +65,17 @@ impl<A: Allocator + Copy> Ancestors<A> {
         }
     }
 
+    /// Whether they are the same paths, in the same order.
+    pub fn is_same(&self, other: &Self) -> bool
+        ensures { IsTrue result ↔ (texts self.now ≡ texts other.now) }
+    {
+        self.paths() == other.paths()
+    }
+
     /// These directories, and below them the one at a path.
-    pub(crate) fn with(&self, alloc: A, path: Arc<String<A>, A>) -> Result<Self, AllocError>
+    ///
+    /// Fails only for want of memory.
+    pub fn with(&self, alloc: A, path: Arc<String<A>, A>) -> Result<Self, AllocError>
         ensures { IfOk result (λ more. texts more ≡ texts self.now ++ text path ∷ []) }
     {
         let above = self.paths();

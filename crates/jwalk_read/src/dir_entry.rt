@@ -39,6 +39,7 @@ impl<C: ClientState, A: Allocator + Copy> DirEntry<C, A> {
     ghost use Rattle.walk_model.specs.FileType.{is_dir, is_symlink};
     ghost use Rattle.walk_model.specs.Metadata.{type_of};
     ghost use Rattle.jwalk_read.specs.Text.{text};
+    ghost use Rattle.jwalk_read.specs.Ancestors.{texts};
     ghost use Rattle.jwalk_read.specs.Error.{failure, kind_of};
     ghost use Rattle.jwalk_read.specs.Entry.{entry};
 
@@ -75,6 +76,13 @@ impl<C: ClientState, A: Allocator + Copy> DirEntry<C, A> {
         ensures { result.now ≡ (entry self.now).parent_path }
     {
         self.parent_path.as_str()
+    }
+
+    /// The directories above the entry: none where links aren't followed.
+    pub fn ancestors(&self) -> &Ancestors<A>
+        ensures { texts result.now ≡ (entry self.now).ancestors }
+    {
+        &self.ancestors
     }
 
     /// The path of the entry: its `file_name` below its `parent_path`.

@@ -1,7 +1,7 @@
 //! One reading of a directory, and what it is made of: entries and errors, directories to be read, the callback.
 #![tactic(auto)]
 
-mod ancestors;
+pub mod ancestors;
 pub mod client_state;
 pub mod dir_entry;
 pub mod error;

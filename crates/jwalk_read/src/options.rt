@@ -1,5 +1,5 @@
 //! The options of a walk.
-ghost use Rattle.std.specs.Prelude.{◌≡◌, ◌≤◌};
+ghost use Rattle.std.specs.Prelude.{◌≡◌, ◌≤◌, ◌↔◌, IsTrue};
 
 use crate::parallelism::Parallelism;
 
@@ -17,7 +17,7 @@ pub struct Options {
 }
 
 impl Options {
-    ghost use Rattle.walk_model.specs.Options.{defaults, with_sort, with_skip_hidden, with_follow_links, with_min_depth, with_max_depth, with_parallelism};
+    ghost use Rattle.walk_model.specs.Options.{defaults, with_sort, with_skip_hidden, with_follow_links, with_min_depth, with_max_depth, with_parallelism, ReadsAs};
     ghost use Rattle.jwalk_read.specs.Options.{parallelism_value, options_value, reads_by};
 
     /// The defaults.
@@ -102,6 +102,16 @@ impl Options {
     {
         self.parallelism = parallelism;
         self
+    }
+
+    /// Whether readings go by the same options. The least depth, and how directories are read, don't count.
+    pub fn reads_as(self, other: Options) -> bool
+        ensures { IsTrue result ↔ ReadsAs (options_value self) (options_value other) }
+    {
+        self.sort == other.sort
+            && self.skip_hidden == other.skip_hidden
+            && self.follow_links == other.follow_links
+            && self.max_depth == other.max_depth
     }
 
     /// The least depth, which is no greater than the greatest.

@@ -1,11 +1,11 @@
 //! A directory that was read.
 ghost use Rattle.std.specs.Prelude.{◌≡◌, ◌++◌, List, All, IfOk, OnOk, length, map, option_to_list};
-ghost use Rattle.walk_model.specs.ReadDir.{Spec, spec_of, children, AreClones};
+ghost use Rattle.walk_model.specs.ReadDir.{Spec, spec_of, children, children_of, AreClones};
 ghost use Rattle.jwalk_order.specs.Frontier.{children_from};
 ghost use Rattle.jwalk_order.specs.IndexPath.{address as indices_of};
 ghost use Rattle.jwalk_order.specs.Ordered.{address_of, child_count_of};
 ghost use Rattle.jwalk_read.specs.Entry.{item};
-ghost use Rattle.jwalk_read.specs.ReadDir.{spec, reading};
+ghost use Rattle.jwalk_read.specs.ReadDir.{spec, outcome, reading};
 
 use crate::client_state::ClientState;
 use crate::dir_entry::DirEntry;
@@ -29,6 +29,25 @@ impl<C: ClientState, A: Allocator + Copy> Drop for ReadDir<C, A> {
             read_dir_state: _,
             results_list: _,
         } = self;
+    }
+}
+
+/// What came of a directory's reading.
+pub type Outcome<C, A> = Result<ReadDir<C, A>, Error<A>>;
+
+/// The directories to be read below the entries of what came of a reading, in its order: an error has none.
+///
+/// Fails only for want of memory, met by the list or by the clone of a state.
+pub fn directories_of<C: ClientState, A: Allocator + Copy>(
+    alloc: A,
+    read: &Outcome<C, A>,
+) -> Result<Vec<ReadDirSpec<C, A>, A>, AllocError>
+    ensures { IfOk result (λ v. AreClones C.ReadDirState.is_clone
+        (children_of (outcome read.now)) (map spec v.items)) }
+{
+    match read {
+        Ok(read) => read.read_children_specs(),
+        Err(_) => Ok(Vec::new(alloc)),
     }
 }
 

@@ -1,6 +1,7 @@
 //! A directory to be read.
-ghost use Rattle.std.specs.Prelude.{IfOk, map, unwrap_or, option_to_list};
+ghost use Rattle.std.specs.Prelude.{◌≡◌, IfOk, map, unwrap_or, option_to_list};
 ghost use Rattle.walk_model.specs.ReadDir.{spec_of, AreClones};
+ghost use Rattle.jwalk_read.specs.Ancestors.{texts};
 ghost use Rattle.jwalk_read.specs.Entry.{item};
 ghost use Rattle.jwalk_read.specs.ReadDir.{spec};
 
@@ -46,6 +47,20 @@ fn first_state<C: ClientState>(
 }
 
 impl<C: ClientState, A: Allocator + Copy> ReadDirSpec<C, A> {
+    /// The depth of the directory below the root, which has depth 0.
+    pub fn depth(&self) -> usize
+        ensures { result ≡ (spec self.now).depth }
+    {
+        self.depth
+    }
+
+    /// The directories above it, and itself: none where links aren't followed.
+    pub fn ancestors(&self) -> &Ancestors<A>
+        ensures { texts result.now ≡ (spec self.now).ancestors }
+    {
+        &self.ancestors
+    }
+
     /// The specification of an item's directory, if it has one, where the reading of its list left `state`; its state is a
     /// clone.
     pub(crate) fn of_item(

@@ -1,5 +1,5 @@
 -- The options of a walk, by the builder's calls one after another.
-use Rattle.std.specs.Prelude.{ℕ, ◌-◌, ◌^◌, Bool, true, false, min, max, nat_lt, if◌then◌else◌}
+use Rattle.std.specs.Prelude.{◌≡◌, ℕ, ◌-◌, ◌^◌, Bool, true, false, min, max, nat_lt, if◌then◌else◌}
 
 -- how directories are read: one when it is entered, in batches of a width, or ahead by a crew of workers
 pub data Parallelism : Type 0 where
@@ -47,3 +47,10 @@ with_max_depth depth o =
 
 abbrev pub with_parallelism : Parallelism → Options → Options
 with_parallelism p o = record o { parallelism = p }
+
+-- Readings go by the same options: the least depth, and how directories are read, don't count.
+pub record ReadsAs (these others : Options) : Type 0 where
+  pub sort : these.sort ≡ others.sort
+  pub skip_hidden : these.skip_hidden ≡ others.skip_hidden
+  pub follow_links : these.follow_links ≡ others.follow_links
+  pub max_depth : these.max_depth ≡ others.max_depth
