@@ -1,5 +1,5 @@
 -- What a message that was handed out is, is what becomes of the reading.
-use Rattle.std.proofs.Common.{◌≡◌, inl, inr, sym, subst}
+use Rattle.std.proofs.Common.{inr, sym, subst}
 use Rattle.std.specs.Prelude.{IsOk}
 use Rattle.jwalk_order.specs.declared.ordered.Ordered.{Ordered}
 use Rattle.jwalk_board.specs.Board.{Board, HandsOut}
