@@ -2,3 +2,4 @@ pub mod Message
 pub mod Wanted
 pub mod Arrival
 pub mod Places
+pub mod Steps

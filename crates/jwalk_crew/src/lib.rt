@@ -2,7 +2,12 @@
 #![tactic(auto)]
 
 pub mod arrival;
+pub mod crew;
 pub mod message;
 pub mod places;
 pub mod pool;
+pub mod session;
+mod steps;
+mod waiting;
 pub mod wanted;
+mod worker;

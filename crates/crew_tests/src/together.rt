@@ -1,0 +1,112 @@
+//! Two directories that are read at the same time.
+ghost use Rattle.walk_model.specs.Tree.{functions_of, only_root};
+
+use crate::readings::{Reader, readings_in_turn};
+use crate::trees::{shared_job, tree};
+use crate::walks::started;
+use jwalk_crew::crew::Crew;
+use memory_fs::memory_fs::MemoryFs;
+use std::alloc::Allocator;
+use std::io::ErrorKind;
+use std::sync::Arc;
+use std::sync::atomic::{AtomicBool, Ordering};
+use std::test::Fail;
+use std::time::{Clock, Duration};
+use std::{io, thread};
+use walk_fs::fault::Fault;
+use walk_fs::file_system::FileSystem;
+use walk_fs::listed::Listed;
+use walk_model::metadata::Metadata;
+
+/// A tree in memory in which the directories `/r/a` and `/r/b` are listed only while the other is.
+#[derive(Drop)]
+struct Meeting<R> {
+    fs: MemoryFs,
+    clock: R,
+    a: AtomicBool,
+    b: AtomicBool,
+}
+
+impl<R: Clock> Meeting<R> {
+    /// Waits some seconds at most for a listing to begin.
+    fn waits_for(&self, other: &AtomicBool) -> bool {
+        for _ in 0..5_000 {
+            if other.load(Ordering::SeqCst) {
+                return true;
+            }
+            thread::sleep(&self.clock, Duration::from_millis(1));
+        }
+        false
+    }
+
+    /// Whether a directory meets the one that it waits for, if it does.
+    fn meets(&self, path: &str) -> bool {
+        match path {
+            "/r/a" => {
+                self.a.store(true, Ordering::SeqCst);
+                self.waits_for(&self.b)
+            }
+            "/r/b" => {
+                self.b.store(true, Ordering::SeqCst);
+                self.waits_for(&self.a)
+            }
+            _ => true,
+        }
+    }
+}
+
+impl<R: Clock + Drop> FileSystem for Meeting<R> {
+    ghost IsFixed = { λ _. ⊥ };
+
+    ghost functions = { λ _. functions_of only_root };
+
+    fn read_dir<A: Allocator + Copy>(
+        &self,
+        alloc: A,
+        path: &str,
+    ) -> Result<Vec<io::Result<Listed<A>>, A>, Fault> {
+        if self.meets(path) {
+            self.fs.read_dir(alloc, path)
+        } else {
+            Err(Fault::Io(io::Error::from(ErrorKind::Other)))
+        }
+    }
+
+    fn metadata(&self, path: &str) -> Result<Metadata, Fault> {
+        self.fs.metadata(path)
+    }
+
+    fn symlink_metadata(&self, path: &str) -> Result<Metadata, Fault> {
+        self.fs.symlink_metadata(path)
+    }
+
+    fn read_link<A: Allocator + Copy>(&self, alloc: A, path: &str) -> Result<String<A>, Fault> {
+        self.fs.read_link(alloc, path)
+    }
+}
+
+#[test]
+fn two_workers_read_at_the_same_time(rt: HostRuntime) -> Result<(), Fail> {
+    let alloc = rt.alloc();
+    let fs = Meeting {
+        fs: tree(alloc, &["/r", "/r/a", "/r/b"], &[])?,
+        clock: rt.clone()?,
+        a: AtomicBool::new(false),
+        b: AtomicBool::new(false),
+    };
+    let crew = Arc::new(alloc, Crew::new(rt.clone()?, 1, 2))?;
+    let job = shared_job(alloc, fs)?;
+    let Some(mut session) = started(&crew, &job) else {
+        panic!(rt; "the walk starts");
+    };
+    let Some(mut reader) = Reader::new(alloc, &job) else {
+        panic!(rt; "there is memory");
+    };
+    assert!(rt;
+        reader
+            .read_all::<Meeting<HostRuntime>>(&mut session)
+            .is_ok()
+    );
+    assert_eq!(rt; reader.text(), "0 /r 2\n1 /r/a 0\n1 /r/b 0\n");
+    Ok(())
+}

@@ -1,0 +1,122 @@
+//! A crew, which serves several walks at once.
+use crate::places::Places;
+use crate::waiting::Patience;
+use std::alloc::{Allocator, Global};
+use std::sync::{Arc, Condvar, Mutex, Wait};
+use std::time::{Clock, Duration};
+
+/// The most workers that a walk is given.
+const MOST_WORKERS: usize = 256;
+
+/// Workers that read ahead for walks, as many for each walk, and so many walks at once.
+pub struct Crew<R> {
+    pub(crate) rt: R,
+    places: Mutex<Places>,
+    freed: Condvar,
+    workers: usize,
+}
+
+impl<R: Drop> Drop for Crew<R> {
+    fn drop(self) {
+        let Crew {
+            rt: _,
+            places: _,
+            freed: _,
+            workers: _,
+        } = self;
+    }
+}
+
+impl<R: Wait + Clock> Crew<R> {
+    /// A crew that serves `places` walks at once, each with up to `workers` threads of its own. 0 counts as 1, and more
+    /// than 256 workers count as 256.
+    pub fn new(rt: R, places: usize, workers: usize) -> Self {
+        Crew {
+            rt,
+            places: Mutex::new(Places::new(places)),
+            freed: Condvar::new(),
+            workers: workers.clamp(1, MOST_WORKERS),
+        }
+    }
+
+    /// How many walks it serves now.
+    pub fn in_use(&self) -> usize {
+        let places = self.places.lock(&self.rt);
+        places.in_use()
+    }
+
+    /// How many threads a walk is given, unless fewer can be started.
+    pub(crate) fn workers(&self) -> usize {
+        self.workers
+    }
+
+    /// Takes a place as soon as one is free. False where none was within the limit.
+    fn take_place(&self, limit: Option<Duration>) -> bool {
+        let patience = Patience::from_now(&self.rt, limit);
+        for _ in self.rt.forever() {
+            let mut places = self.places.lock(&self.rt);
+            if places.take() {
+                return true;
+            }
+            if !patience.wait(&self.rt, &self.freed, places) {
+                return false;
+            }
+        }
+        unreachable!()
+    }
+
+    fn give_back(&self) {
+        let mut places = self.places.lock(&self.rt);
+        if places.in_use() > 0 {
+            places.give_back();
+        }
+        drop(places);
+        self.freed.notify_one();
+    }
+}
+
+/// Why a walk over a crew doesn't start.
+#[derive(Clone, Copy, Debug, PartialEq, Eq)]
+pub enum NotStarted {
+    /// No place was free in time, or no worker could be started.
+    Busy,
+    /// Memory ran out.
+    Memory,
+}
+
+/// A place of a crew, which is in use until this is dropped.
+pub struct Place<R: Wait + Clock + Drop, A: Allocator + Copy = Global> {
+    crew: Arc<Crew<R>, A>,
+}
+
+impl<R: Wait + Clock + Drop, A: Allocator + Copy> Drop for Place<R, A> {
+    fn drop(self) {
+        let Place { crew } = self;
+        crew.give_back();
+    }
+}
+
+impl<R: Wait + Clock + Drop, A: Allocator + Copy> Place<R, A> {
+    /// Waits until a place of the crew is free, and takes it. With a limit it waits no longer than that.
+    ///
+    /// # Errors
+    ///
+    /// `Busy` where no place was free in time. `Memory` where the crew couldn't be shared.
+    pub fn take(
+        crew: &Arc<Crew<R>, A>,
+        busy_timeout: Option<Duration>,
+    ) -> Result<Self, NotStarted> {
+        let Ok(crew) = crew.clone() else {
+            return Err(NotStarted::Memory);
+        };
+        if crew.take_place(busy_timeout) {
+            Ok(Place { crew })
+        } else {
+            Err(NotStarted::Busy)
+        }
+    }
+
+    pub(crate) fn crew(&self) -> &Arc<Crew<R>, A> {
+        &self.crew
+    }
+}

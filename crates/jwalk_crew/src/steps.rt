@@ -1,0 +1,93 @@
+//! What a worker does on the board, one step each.
+ghost use Rattle.std.specs.Prelude.{◌≡◌, ◌↔◌, true, IsTrue, OnErr, OnOk};
+ghost use Rattle.jwalk_order.specs.IndexPath.{address as indices_of};
+ghost use Rattle.jwalk_board.specs.Board.{Finishes, IsNextReady};
+ghost use Rattle.jwalk_crew.specs.Steps.{Turns};
+
+use jwalk_board::board::{Board, FinishFault, TakeRefusal};
+use jwalk_order::index_path::IndexPath;
+use jwalk_order::ordered::Ordered;
+use std::alloc::Allocator;
+
+/// What a worker does next.
+#[derive(Drop)]
+pub(crate) enum Turn<T, A: Allocator + Copy> {
+    /// It reads what it took.
+    Read(Ordered<T, A>),
+    /// It waits, since others may find more.
+    Wait,
+    /// It ends.
+    End,
+}
+
+/// Takes the next specification. The board is stopped where memory is refused.
+pub(crate) fn take_turn<T: Drop, R: Drop, A: Allocator + Copy>(
+    board: &mut Board<T, R, A>,
+) -> Turn<T, A>
+    ensures { Turns board.old result board.new }
+{
+    match board.take() {
+        Ok(item) => Turn::Read(item),
+        Err(TakeRefusal::Empty) => Turn::Wait,
+        Err(TakeRefusal::Done | TakeRefusal::Stopped) => Turn::End,
+        Err(TakeRefusal::Memory) => {
+            board.stop();
+            Turn::End
+        }
+    }
+}
+
+/// Finishes a reading. The board is stopped where that is refused.
+pub(crate) fn finish_or_stop<T: Drop, R: Drop, A: Allocator + Copy>(
+    board: &mut Board<T, R, A>,
+    address: IndexPath<A>,
+    reading: R,
+    children: Vec<T, A>,
+) -> Result<(), FinishFault<T, R, A>>
+    ensures finished { OnOk result (Finishes (indices_of address) reading children.items board.old board.new) }
+    ensures stopped { OnErr result (board.new ≡ record board.old { stopped = true }) }
+{
+    let done = board.finish(address, reading, children);
+    if done.is_err() {
+        board.stop();
+    }
+    done
+}
+
+/// Whom a step calls of those who wait: how many workers, and whether the walk.
+#[derive(Clone, Copy)]
+pub(crate) struct Calls {
+    pub(crate) workers: usize,
+    pub(crate) walk: bool,
+}
+
+impl Calls {
+    /// Everyone.
+    pub(crate) fn all() -> Self
+        ensures { result.walk ≡ true }
+    {
+        Calls {
+            workers: usize::MAX,
+            walk: true,
+        }
+    }
+
+    /// After a reading with so many children was finished: a worker for each but the one that the finisher takes, and the
+    /// walk where its next reading is ready. All workers where nothing is left to be read, since they then end.
+    pub(crate) fn after<T: Drop, R: Drop, A: Allocator + Copy>(
+        board: &Board<T, R, A>,
+        children: usize,
+    ) -> Self
+        ensures { IsTrue result.walk ↔ IsNextReady board.now }
+    {
+        let workers = if board.pending() == 0 {
+            usize::MAX
+        } else {
+            children.saturating_sub(1)
+        };
+        Calls {
+            workers,
+            walk: board.is_next_ready(),
+        }
+    }
+}

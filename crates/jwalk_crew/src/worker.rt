@@ -1,0 +1,228 @@
+//! The threads that read for a walk.
+ghost use Rattle.std.specs.Arc.{arc_value};
+ghost use Rattle.jwalk_read.specs.Job.{callback};
+
+use crate::crew::Crew;
+use crate::message::Message;
+use crate::steps::{Calls, Turn, finish_or_stop, take_turn};
+use crate::waiting::wait_a_turn;
+use jwalk_board::board::Board;
+use jwalk_order::index_path::IndexPath;
+use jwalk_order::ordered::Ordered;
+use jwalk_read::client_state::ClientState;
+use jwalk_read::job::Job;
+use jwalk_read::process_read_dir::ProcessReadDir;
+use jwalk_read::read_dir_spec::ReadDirSpec;
+use std::alloc::Allocator;
+use std::sync::{Arc, Condvar, Mutex, Wait};
+use std::thread;
+use std::thread::Threads;
+use std::time::Clock;
+use walk_fs::file_system::FileSystem;
+
+/// What a walk and its workers share.
+pub(crate) struct Shared<
+    R: Wait + Clock + Drop,
+    C: ClientState,
+    S: FileSystem,
+    P: ProcessReadDir<C, A>,
+    A: Allocator + Copy,
+> {
+    pub(crate) crew: Arc<Crew<R>, A>,
+    pub(crate) job: Arc<Job<C, S, P, A>, A>,
+    pub(crate) board: Mutex<Board<ReadDirSpec<C, A>, Message<C, S, P, A>, A>>,
+    /// Called where a worker may find something queued, or nothing more will be.
+    pub(crate) queued: Condvar,
+    /// Called where the walk's next reading is ready, or none will be.
+    pub(crate) arrived: Condvar,
+}
+
+impl<
+    R: Wait + Clock + Drop,
+    C: ClientState,
+    S: FileSystem,
+    P: ProcessReadDir<C, A>,
+    A: Allocator + Copy,
+> Drop for Shared<R, C, S, P, A> {
+    fn drop(self) {
+        let Shared {
+            crew: _,
+            job: _,
+            board: _,
+            queued: _,
+            arrived: _,
+        } = self;
+    }
+}
+
+impl<
+    R: Wait + Clock + Drop,
+    C: ClientState,
+    S: FileSystem,
+    P: ProcessReadDir<C, A>,
+    A: Allocator + Copy,
+> Shared<R, C, S, P, A> {
+    /// Calls those who wait.
+    fn call(&self, calls: Calls) {
+        match calls.workers {
+            0 => {}
+            1 => self.queued.notify_one(),
+            _ => self.queued.notify_all(),
+        }
+        if calls.walk {
+            self.arrived.notify_one();
+        }
+    }
+
+    /// Stops the board, and with it the workers and the walk.
+    pub(crate) fn stop(&self) {
+        let mut board = self.board.lock(&self.crew.rt);
+        board.stop();
+        drop(board);
+        self.call(Calls::all());
+    }
+}
+
+/// A thread of a walk: it takes directories, reads them and hands in what came of it.
+pub(crate) struct Worker<
+    R: Wait + Clock + Drop,
+    C: ClientState,
+    S: FileSystem,
+    P: ProcessReadDir<C, A>,
+    A: Allocator + Copy,
+> {
+    shared: Arc<Shared<R, C, S, P, A>, A>,
+}
+
+impl<
+    R: Wait + Clock + Drop,
+    C: ClientState,
+    S: FileSystem,
+    P: ProcessReadDir<C, A>,
+    A: Allocator + Copy,
+> Drop for Worker<R, C, S, P, A> {
+    fn drop(self) {
+        let Worker { shared: _ } = self;
+    }
+}
+
+impl<
+    R: Wait + Clock + Drop,
+    C: ClientState,
+    S: FileSystem,
+    P: ProcessReadDir<C, A>,
+    A: Allocator + Copy,
+> Worker<R, C, S, P, A> {
+    /// Takes a directory as soon as one is queued, and none once the board is done or stopped.
+    fn take(&self) -> Option<Ordered<ReadDirSpec<C, A>, A>> {
+        let rt = &self.shared.crew.rt;
+        for _ in rt.forever() {
+            let mut board = self.shared.board.lock(rt);
+            match take_turn(&mut *board) {
+                Turn::Read(item) => return Some(item),
+                Turn::Wait => wait_a_turn(rt, &self.shared.queued, board),
+                Turn::End => {
+                    drop(board);
+                    self.shared.call(Calls::all());
+                    return None;
+                }
+            }
+        }
+        unreachable!()
+    }
+
+    /// Hands in a reading with the directories below it.
+    fn finish(
+        &self,
+        address: IndexPath<A>,
+        message: Message<C, S, P, A>,
+        children: Vec<ReadDirSpec<C, A>, A>,
+    ) {
+        let count = children.len();
+        let mut board = self.shared.board.lock(&self.shared.crew.rt);
+        let done = finish_or_stop(&mut *board, address, message, children);
+        let calls = match &done {
+            Ok(()) => Calls::after(&*board, count),
+            Err(_) => Calls::all(),
+        };
+        drop(board);
+        self.shared.call(calls);
+    }
+
+    /// Reads a directory that was taken.
+    fn read(&self, item: Ordered<ReadDirSpec<C, A>, A>)
+        requires { P.IsLawful (callback (arc_value (arc_value self.now.shared).job)) }
+    {
+        let Ordered {
+            value: of,
+            index_path: address,
+            ..
+        } = item;
+        match self.shared.job.clone() {
+            Ok(job) => {
+                let (message, children) = Message::read(job, of);
+                self.finish(address, message, children);
+            }
+            Err(_) => self.shared.stop(),
+        }
+    }
+
+    /// Works until the board is done or stopped.
+    fn work(&self)
+        requires { P.IsLawful (callback (arc_value (arc_value self.now.shared).job)) }
+    {
+        for _ in self.shared.crew.rt.forever() {
+            match self.take() {
+                Some(item) => self.read(item),
+                None => return,
+            }
+        }
+    }
+}
+
+/// Starts a worker, if a thread can be had for it.
+fn start_worker<
+    R: Wait + Threads + Clock + Drop + Send + Sync + 'static,
+    C: ClientState + Send + 'static,
+    S: FileSystem + Send + Sync + 'static,
+    P: ProcessReadDir<C, A> + Send + Sync + 'static,
+    A: Allocator + Copy + Send + Sync + 'static,
+>(shared: &Arc<Shared<R, C, S, P, A>, A>) -> bool
+where
+    C::ReadDirState: Send + 'static,
+    C::DirEntryState: Send + 'static,
+    requires { P.IsLawful (callback (arc_value (arc_value shared.now).job)) }
+{
+    let Ok(mine) = shared.clone() else {
+        return false;
+    };
+    let worker = Worker { shared: mine };
+    thread::spawn(
+        &shared.crew.rt,
+        move ||
+            requires { P.IsLawful (callback (arc_value (arc_value worker.shared).job)) }
+        { worker.work() },
+    )
+    .is_ok()
+}
+
+/// Starts so many workers, or fewer where there are no threads for more. Answers how many.
+pub(crate) fn start_workers<
+    R: Wait + Threads + Clock + Drop + Send + Sync + 'static,
+    C: ClientState + Send + 'static,
+    S: FileSystem + Send + Sync + 'static,
+    P: ProcessReadDir<C, A> + Send + Sync + 'static,
+    A: Allocator + Copy + Send + Sync + 'static,
+>(shared: &Arc<Shared<R, C, S, P, A>, A>, count: usize) -> usize
+where
+    C::ReadDirState: Send + 'static,
+    C::DirEntryState: Send + 'static,
+    requires { P.IsLawful (callback (arc_value (arc_value shared.now).job)) }
+{
+    for started in 0..count {
+        if !start_worker(shared) {
+            return started;
+        }
+    }
+    count
+}
