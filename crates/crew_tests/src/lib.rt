@@ -14,4 +14,6 @@ mod together;
 #[cfg(test)]
 mod trees;
 #[cfg(test)]
+mod walk;
+#[cfg(test)]
 mod walks;

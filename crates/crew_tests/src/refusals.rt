@@ -1,17 +1,16 @@
 //! Readings that don't come.
 ghost use Rattle.walk_model.specs.Tree.{functions_of, only_root};
 
-use crate::readings::Reader;
-use crate::trees::{shared_job, tree};
-use crate::walks::started;
-use jwalk_crew::crew::{Crew, Place};
-use jwalk_crew::pool::{Missed, Pool};
-use jwalk_crew::session::Session;
+use crate::trees::tree;
+use crate::walk::{Stand, Walk, read_by};
+use jwalk_crew::pool::Missed;
 use memory_fs::memory_fs::MemoryFs;
 use std::alloc::Allocator;
 use std::io;
-use std::sync::Arc;
+use std::sync::Wait;
 use std::test::Fail;
+use std::thread::Threads;
+use std::time::Clock;
 use walk_fs::fault::Fault;
 use walk_fs::file_system::FileSystem;
 use walk_fs::listed::Listed;
@@ -59,34 +58,23 @@ fn memory_that_a_worker_is_refused_is_missed_in_its_place(rt: HostRuntime) -> Re
     let fs = Refusing {
         fs: tree(alloc, &["/r", "/r/a", "/r/a/x", "/r/b", "/r/c"], &[])?,
     };
-    let crew = Arc::new(alloc, Crew::new(rt.clone()?, 1, 2))?;
-    let job = shared_job(alloc, fs)?;
-    let Some(mut session) = started(&crew, &job) else {
-        panic!(rt; "the walk starts");
-    };
-    let Some(mut reader) = Reader::new(alloc, &job) else {
-        panic!(rt; "there is memory");
-    };
-    assert!(rt; reader.read_all::<Refusing>(&mut session) == Err(Missed::Memory));
-    assert_eq!(rt; reader.text(), "0 /r 3\n1 /r/a 1\n2 /r/a/x 0\n");
+    let read = read_by(&rt, alloc, fs, 2);
+    assert!(rt; read.as_deref() == Some("0 /r 3\n1 /r/a 1\n2 /r/a/x 0\nmemory"));
     Ok(())
+}
+
+/// Whether a walk that was given no directories has no reading.
+fn is_lost<R: Wait + Threads + Clock + Drop + Send + Sync + 'static>(
+    stand: &Stand<R, MemoryFs>,
+) -> Option<bool> {
+    let mut walk = Walk::reading(stand, Vec::new(stand.alloc))?;
+    Some(walk.ahead() == 0 && walk.read_all() == Err(Missed::Lost))
 }
 
 #[test]
 fn a_walk_of_no_directories_is_lost_at_once(rt: HostRuntime) -> Result<(), Fail> {
     let alloc = rt.alloc();
-    let crew = Arc::new(alloc, Crew::new(rt.clone()?, 1, 2))?;
-    let job = shared_job(alloc, tree(alloc, &["/r"], &[])?)?;
-    let Ok(place) = Place::take(&crew, None) else {
-        panic!(rt; "a place is free");
-    };
-    let Ok(mut session) = Session::start(place, job.clone()?, Vec::new(alloc)) else {
-        panic!(rt; "the walk starts");
-    };
-    let Some(mut reader) = Reader::new(alloc, &job) else {
-        panic!(rt; "there is memory");
-    };
-    assert_eq!(rt; session.ahead(), 0);
-    assert!(rt; reader.read_all::<MemoryFs>(&mut session) == Err(Missed::Lost));
+    let stand = Stand::new(&rt, alloc, tree(alloc, &["/r"], &[])?, 2);
+    assert!(rt; stand.is_some_and(|stand| is_lost(&stand) == Some(true)));
     Ok(())
 }

@@ -1,14 +1,11 @@
 //! Two directories that are read at the same time.
 ghost use Rattle.walk_model.specs.Tree.{functions_of, only_root};
 
-use crate::readings::{Reader, readings_in_turn};
-use crate::trees::{shared_job, tree};
-use crate::walks::started;
-use jwalk_crew::crew::Crew;
+use crate::trees::tree;
+use crate::walk::read_by;
 use memory_fs::memory_fs::MemoryFs;
 use std::alloc::Allocator;
 use std::io::ErrorKind;
-use std::sync::Arc;
 use std::sync::atomic::{AtomicBool, Ordering};
 use std::test::Fail;
 use std::time::{Clock, Duration};
@@ -94,19 +91,7 @@ fn two_workers_read_at_the_same_time(rt: HostRuntime) -> Result<(), Fail> {
         a: AtomicBool::new(false),
         b: AtomicBool::new(false),
     };
-    let crew = Arc::new(alloc, Crew::new(rt.clone()?, 1, 2))?;
-    let job = shared_job(alloc, fs)?;
-    let Some(mut session) = started(&crew, &job) else {
-        panic!(rt; "the walk starts");
-    };
-    let Some(mut reader) = Reader::new(alloc, &job) else {
-        panic!(rt; "there is memory");
-    };
-    assert!(rt;
-        reader
-            .read_all::<Meeting<HostRuntime>>(&mut session)
-            .is_ok()
-    );
-    assert_eq!(rt; reader.text(), "0 /r 2\n1 /r/a 0\n1 /r/b 0\n");
+    let read = read_by(&rt, alloc, fs, 2);
+    assert!(rt; read.as_deref() == Some("0 /r 2\n1 /r/a 0\n1 /r/b 0\n"));
     Ok(())
 }
