@@ -3,3 +3,4 @@ pub mod Wanted
 pub mod Arrival
 pub mod Places
 pub mod Steps
+pub mod Crew

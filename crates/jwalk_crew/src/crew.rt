@@ -1,4 +1,7 @@
 //! A crew, which serves several walks at once.
+ghost use Rattle.std.specs.Prelude.{◌≡◌, min, max};
+ghost use Rattle.jwalk_crew.specs.Crew.{workers_of};
+
 use crate::places::Places;
 use crate::waiting::Patience;
 use std::alloc::{Allocator, Global};
@@ -30,7 +33,9 @@ impl<R: Drop> Drop for Crew<R> {
 impl<R: Wait + Clock> Crew<R> {
     /// A crew that serves `places` walks at once, each with up to `workers` threads of its own. 0 counts as 1, and more
     /// than 256 workers count as 256.
-    pub fn new(rt: R, places: usize, workers: usize) -> Self {
+    pub fn new(rt: R, places: usize, workers: usize) -> Self
+        ensures { workers_of result ≡ max 1 (min workers 256) }
+    {
         Crew {
             rt,
             places: Mutex::new(Places::new(places)),
@@ -46,7 +51,9 @@ impl<R: Wait + Clock> Crew<R> {
     }
 
     /// How many threads a walk is given, unless fewer can be started.
-    pub(crate) fn workers(&self) -> usize {
+    pub(crate) fn workers(&self) -> usize
+        ensures { result ≡ workers_of self.now }
+    {
         self.workers
     }
 

@@ -43,8 +43,9 @@ impl<
     A: Allocator + Copy,
 > Drop for Session<R, C, S, P, A> {
     fn drop(self) {
-        let Session { place: _, shared } = self;
+        let Session { place, shared } = self;
         shared.stop();
+        drop(place);
     }
 }
 

@@ -1,4 +1,5 @@
 //! The threads that read for a walk.
+ghost use Rattle.std.specs.Prelude.{◌≤◌};
 ghost use Rattle.std.specs.Arc.{arc_value};
 ghost use Rattle.jwalk_read.specs.Job.{callback};
 
@@ -218,6 +219,7 @@ where
     C::ReadDirState: Send + 'static,
     C::DirEntryState: Send + 'static,
     requires { P.IsLawful (callback (arc_value (arc_value shared.now).job)) }
+    ensures { result ≤ count }
 {
     for started in 0..count {
         if !start_worker(shared) {

@@ -1,0 +1,7 @@
+-- A crew as a clause sees it.
+use Rattle.std.specs.Prelude.{ℕ}
+use Rattle.jwalk_crew.specs.declared.crew.Crew.{Crew}
+
+-- how many threads a walk is given at most
+abbrev pub workers_of : {R : Type 0} → Crew R → ℕ
+workers_of crew = crew.workers
