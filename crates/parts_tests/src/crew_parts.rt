@@ -222,17 +222,26 @@ fn asks_after_reading(alloc: Global, fs: &Refusing, other: Other) -> Option<&'st
     Some(asks(&mut board, &wanted))
 }
 
+/// Adds what becomes of the reading that is wanted.
+fn push_answer(text: &mut String, board: &mut Reads<'_>, wanted: &Wanted) -> Option<()> {
+    text.push_str(asks(board, wanted)).ok()?;
+    text.push_str(" ").ok()
+}
+
 /// What becomes of it before the root is taken, while it is in hand, once it was read, and after that, where nothing is
 /// below the root.
-fn asks_all_along(alloc: Global, fs: &Refusing) -> Option<[&'static str; 4]> {
-    let job = job_by(alloc, fs, options().with_max_depth(0))?;
-    let (mut board, wanted) = begin(alloc, &job, Other::Options(options().with_max_depth(0)))?;
-    let queued = asks(&mut board, &wanted);
+fn asks_all_along(alloc: Global, fs: &Refusing) -> Option<String> {
+    let own = options().with_max_depth(0);
+    let job = job_by(alloc, fs, own)?;
+    let (mut board, wanted) = begin(alloc, &job, Other::Options(own))?;
+    let mut text = String::new(alloc);
+    push_answer(&mut text, &mut board, &wanted)?;
     let taken = take(&mut board)?;
-    let in_hand = asks(&mut board, &wanted);
+    push_answer(&mut text, &mut board, &wanted)?;
     finish(&mut board, job, taken)?;
-    let ready = asks(&mut board, &wanted);
-    Some([queued, in_hand, ready, asks(&mut board, &wanted)])
+    push_answer(&mut text, &mut board, &wanted)?;
+    push_answer(&mut text, &mut board, &wanted)?;
+    Some(text)
 }
 
 /// What becomes of it once the board was stopped.
@@ -247,7 +256,7 @@ fn asks_after_a_stop(alloc: Global, fs: &Refusing) -> Option<&'static str> {
 fn a_reading_is_waited_for_until_it_comes(rt: HostRuntime) -> Result<(), Fail> {
     let alloc = rt.alloc();
     let fs = tree(alloc, "")?;
-    assert!(rt; asks_all_along(alloc, &fs) == Some(["wait", "wait", "entered", "lost"]));
+    assert!(rt; asks_all_along(alloc, &fs).as_deref() == Some("wait wait entered lost "));
     assert!(rt; asks_after_a_stop(alloc, &fs) == Some("memory"));
     Ok(())
 }
