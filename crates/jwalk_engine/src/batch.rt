@@ -24,7 +24,7 @@ use std::thread::Threads;
 use walk_fs::file_system::FileSystem;
 
 /// How few readings are worth a thread: to start one costs as much as to read some small directories of a disk.
-const LEAST_PIECE: usize = 4;
+const LEAST_PIECE: usize = 16;
 
 /// Into how many pieces a batch is split at most: each starts a thread of its own, which no pool keeps.
 const MOST_PIECES: usize = 8;

@@ -16,11 +16,20 @@ use walk_fs::listed::Listed;
 
 /// The children by name, in order of creation, where the directory stands that holds this one, and the error kind that
 /// reading this one fails with, if it was denied.
-#[derive(Drop)]
 pub struct Directory<A: Allocator + Copy> {
     pub(crate) parent: usize,
     pub(crate) children: IndexMap<String<A>, Child<A>, BuildHasherDefault<FoldHasher>, A>,
     pub(crate) denied: Option<ErrorKind>,
+}
+
+impl<A: Allocator + Copy> Drop for Directory<A> {
+    fn drop(self) {
+        let Directory {
+            parent: _,
+            children: _,
+            denied: _,
+        } = self;
+    }
 }
 
 impl<A: Allocator + Copy> Directory<A> {

@@ -13,11 +13,20 @@ use std::alloc::{AllocError, Allocator};
 use std::io::ErrorKind;
 
 /// The root, at index 0, and behind it the others, with the indices of those that were removed and are free again.
-#[derive(Drop)]
 pub struct Table<A: Allocator + Copy> {
     root: Directory<A>,
     others: Vec<Directory<A>, A>,
     free: Vec<usize, A>,
+}
+
+impl<A: Allocator + Copy> Drop for Table<A> {
+    fn drop(self) {
+        let Table {
+            root: _,
+            others: _,
+            free: _,
+        } = self;
+    }
 }
 
 impl<A: Allocator + Copy> Table<A> {

@@ -76,10 +76,15 @@ fn tree(alloc: Global, dirs: &[&str], at: &'static str) -> Result<Refusing, Buil
 /// Three directories with one in each.
 const TWINS: [&str; 7] = ["/r", "/r/a", "/r/a/x", "/r/b", "/r/b/x", "/r/c", "/r/c/x"];
 
-/// Nine directories with one in each, which are enough for two threads.
-const MANY: [&str; 19] = [
-    "/r", "/r/a", "/r/a/A", "/r/b", "/r/b/B", "/r/c", "/r/c/C", "/r/d", "/r/d/D", "/r/e", "/r/e/E",
-    "/r/f", "/r/f/F", "/r/g", "/r/g/G", "/r/h", "/r/h/H", "/r/i", "/r/i/I",
+/// 33 directories with one in each, which are enough for two threads.
+const MANY: [&str; 67] = [
+    "/r", "/r/A", "/r/A/A", "/r/B", "/r/B/B", "/r/C", "/r/C/C", "/r/D", "/r/D/D", "/r/E", "/r/E/E",
+    "/r/F", "/r/F/F", "/r/G", "/r/G/G", "/r/a", "/r/a/a", "/r/b", "/r/b/b", "/r/c", "/r/c/c",
+    "/r/d", "/r/d/d", "/r/e", "/r/e/e", "/r/f", "/r/f/f", "/r/g", "/r/g/g", "/r/h", "/r/h/h",
+    "/r/i", "/r/i/i", "/r/j", "/r/j/j", "/r/k", "/r/k/k", "/r/l", "/r/l/l", "/r/m", "/r/m/m",
+    "/r/n", "/r/n/n", "/r/o", "/r/o/o", "/r/p", "/r/p/p", "/r/q", "/r/q/q", "/r/r", "/r/r/r",
+    "/r/s", "/r/s/s", "/r/t", "/r/t/t", "/r/u", "/r/u/u", "/r/v", "/r/v/v", "/r/w", "/r/w/w",
+    "/r/x", "/r/x/x", "/r/y", "/r/y/y", "/r/z", "/r/z/z",
 ];
 
 const DIGITS: [&str; 10] = ["0", "1", "2", "3", "4", "5", "6", "7", "8", "9"];
@@ -181,8 +186,10 @@ fn directories_are_read_in_order_however_many_together(rt: HostRuntime) -> Resul
 fn threads_read_a_wide_batch_in_order(rt: HostRuntime) -> Result<(), Fail> {
     let alloc = rt.alloc();
     let fs = tree(alloc, &MANY, "")?;
-    let wanted = "abcdefghi0 A8 + B+ + C+ + D+ + E9 8 F7 6 G5 4 H3 2 I1 0 ";
-    assert!(rt; both_give(&rt, alloc, &fs, 16, wanted));
+    let wanted = "ABCDEFGabcdefghijklmnopqrstuvwxyz0 \
+                  A+ + B+ + C+ + D+ + E+ + F+ + G+ + a+ + b+ + c+ + d+ + e+ + f+ + g+ + h+ + i+ + j+ + \
+                  k+ + l+ + m+ + n+ + o+ + p+ + q+ + r+ + s+ + t+ + u+ + v9 8 w7 6 x5 4 y3 2 z1 0 ";
+    assert!(rt; both_give(&rt, alloc, &fs, 64, wanted));
     Ok(())
 }
 
@@ -217,7 +224,7 @@ fn ends_refused_on(rt: &(impl Threads + Sync), alloc: Global, fs: &Refusing, wid
 fn a_refusal_in_the_middle_of_a_batch_ends_the_walk(rt: HostRuntime) -> Result<(), Fail> {
     let alloc = rt.alloc();
     let fs = tree(alloc, &MANY, "/r/e")?;
-    assert!(rt; ends_refused(alloc, &fs, 16));
-    assert!(rt; ends_refused_on(&rt, alloc, &fs, 16));
+    assert!(rt; ends_refused(alloc, &fs, 64));
+    assert!(rt; ends_refused_on(&rt, alloc, &fs, 64));
     Ok(())
 }

@@ -49,11 +49,11 @@ pub const WAYS: &[Way] = &[
     Way::InTurn(Parallelism::Serial),
     Way::InTurn(Parallelism::RayonNewPool(1)),
     Way::InTurn(Parallelism::RayonNewPool(2)),
-    Way::InTurn(Parallelism::RayonNewPool(8)),
+    Way::InTurn(Parallelism::RayonNewPool(32)),
     Way::OnThreads(Parallelism::Serial),
     Way::OnThreads(Parallelism::RayonNewPool(1)),
     Way::OnThreads(Parallelism::RayonNewPool(2)),
-    Way::OnThreads(Parallelism::RayonNewPool(8)),
+    Way::OnThreads(Parallelism::RayonNewPool(32)),
     Way::Looped(Parallelism::RayonNewPool(2)),
 ];
 
