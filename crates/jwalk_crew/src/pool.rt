@@ -1,5 +1,5 @@
 //! What gives a walk its readings.
-ghost use Rattle.std.specs.Prelude.{◌≡◌, IfOk, IsOk, Err};
+ghost use Rattle.std.specs.Prelude.{◌≡◌, IfOk, IsOk};
 ghost use Rattle.jwalk_crew.specs.Wanted.{Fits};
 
 use crate::message::Message;

@@ -23,7 +23,7 @@ pub struct Wanted<A: Allocator + Copy = Global> {
     pub path: Arc<String<A>, A>,
     /// The depth of the directory.
     pub depth: usize,
-    /// The directories above it, and itself, where links are followed.
+    /// The directories above it: none where links aren't followed. The root has its own path there.
     pub ancestors: Ancestors<A>,
     /// The options that it is to be read by.
     pub options: Options,

@@ -78,7 +78,7 @@ impl<C: ClientState, A: Allocator + Copy> DirEntry<C, A> {
         self.parent_path.as_str()
     }
 
-    /// The directories above the entry: none where links aren't followed.
+    /// The directories above the entry: none where links aren't followed. The root has its own path there.
     pub fn ancestors(&self) -> &Ancestors<A>
         ensures { texts result.now ≡ (entry self.now).ancestors }
     {

@@ -54,7 +54,7 @@ impl<C: ClientState, A: Allocator + Copy> ReadDirSpec<C, A> {
         self.depth
     }
 
-    /// The directories above it, and itself: none where links aren't followed.
+    /// The directories above it: none where links aren't followed. The root has its own path there.
     pub fn ancestors(&self) -> &Ancestors<A>
         ensures { texts result.now ≡ (spec self.now).ancestors }
     {

@@ -20,9 +20,9 @@ use walk_model::metadata::Metadata;
 
 /// A tree in memory that is refused memory when one of its directories is listed.
 #[derive(Drop)]
-struct Refusing {
-    fs: MemoryFs,
-    at: &'static str,
+pub(crate) struct Refusing {
+    pub(crate) fs: MemoryFs,
+    pub(crate) at: &'static str,
 }
 
 impl FileSystem for Refusing {

@@ -7,6 +7,8 @@ mod board;
 #[cfg(test)]
 mod board_walk;
 #[cfg(test)]
+mod crew_parts;
+#[cfg(test)]
 mod file_system;
 #[cfg(test)]
 mod index_path;
