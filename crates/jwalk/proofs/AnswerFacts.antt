@@ -5,7 +5,7 @@ use Rattle.std.specs.declared.clone.Clone as Clone
 use Rattle.std.specs.declared.default.Default as Default
 use Rattle.walk_model.specs.Error.{memory}
 use Rattle.walk_model.specs.Entry.{Item, AtDepth, NoDeeper}
-use Rattle.walk_model.specs.ReadDir.{Spec, Reading, children, children_of, AreClones}
+use Rattle.walk_model.specs.ReadDir.{Spec, Reading, Outcome, children, children_of, AreClones}
 use Rattle.walk_model.specs.Counted.{Worth}
 use Rattle.walk_model.specs.Job.{reading}
 use Rattle.walk_model.specs.Listing.{Pair, nothing, paired, answers, listing}
@@ -27,7 +27,9 @@ use Rattle.jwalk_read.specs.Job.{options_of, greatest_depth, job_by, ClonesCount
 use Rattle.jwalk.specs.declared.dir_entry_iter.DirEntryIter.{DirEntryIter}
 use Rattle.jwalk.specs.Step.{ReadsUpTo, IsAtDirectory, StopsAtDirectory}
 use Rattle.jwalk_engine.specs.ReadAhead.{nothing_ahead}
-use Rattle.jwalk.specs.DirEntryIter.{job_of, min_depth_of, items_of, unread_of, width_of, read_ahead, GoesAhead, GrowsAhead, held, held_by, refusal, to_come, IsSourced, Refuses, IsSteadyWalk, StaysSteady, Answers}
+use Rattle.jwalk.specs.ReadDirIter.{Tells}
+use Rattle.jwalk.specs.DirEntryIter.{by_crew, job_of, min_depth_of, items_of, unread_of, width_of, read_ahead, GoesAhead, GrowsAhead, held, held_by, refusal, to_come, IsSourced, Stops, Known, StaysSteady, Answers}
+use Rattle.jwalk.proofs.KnownFacts.{own_tells, own_if_steady, clones_if_steady, known_if_steady}
 use Rattle.jwalk.proofs.StepFacts.{next_within, next_lighter, next_count, next_plain, next_listed, left_within, left_lighter, left_count, left_plain, left_to_come}
 
 -- at a directory nothing is said of the answer but what its reading tells
@@ -46,35 +48,35 @@ nothing_by given true items specs h = absurd cc
 nothing_by given false [] specs h = refl
 nothing_by given false (x ∷ items) specs h = absurd cc
 
-module _ {C S P A T R E : Type 0} where
-  held_rest : (it : DirEntryIter C S P A T R E) → it.refused ≡ false → held it ≡ pair_up (items_of it) (unread_of it)
+module _ {C S P A T L R E : Type 0} where
+  held_rest : (it : DirEntryIter C S P A T L R E) → it.refused ≡ false → held it ≡ pair_up (items_of it) (unread_of it)
   held_rest it started = rw started refl
 
-  held_nothing : (it : DirEntryIter C S P A T R E) → it.refused ≡ false → items_of it ≡ [] → held it ≡ []
+  held_nothing : (it : DirEntryIter C S P A T L R E) → it.refused ≡ false → items_of it ≡ [] → held it ≡ []
   held_nothing it started none = held_rest it started ∙ ap (λ l. pair_up l (unread_of it)) none
 
-  held_refused : (it : DirEntryIter C S P A T R E) → it.refused ≡ true → held it ≡ record { item = Err memory; source = nothing } ∷ pair_up (items_of it) (unread_of it)
+  held_refused : (it : DirEntryIter C S P A T L R E) → it.refused ≡ true → held it ≡ record { item = Err memory; source = nothing } ∷ pair_up (items_of it) (unread_of it)
   held_refused it refused = rw refused refl
 
-  held_by_rest : (given : Given R E) (it : DirEntryIter C S P A T R E) → it.refused ≡ false → held_by given it ≡ pair_up (map (counted_item given) (items_of it)) (map (counted_spec given) (unread_of it))
+  held_by_rest : (given : Given R E) (it : DirEntryIter C S P A T L R E) → it.refused ≡ false → held_by given it ≡ pair_up (map (counted_item given) (items_of it)) (map (counted_spec given) (unread_of it))
   held_by_rest given it started = rw started refl
 
-  held_by_refused : (given : Given R E) (it : DirEntryIter C S P A T R E) → it.refused ≡ true → held_by given it ≡ record { item = Err memory; source = nothing } ∷ pair_up (map (counted_item given) (items_of it)) (map (counted_spec given) (unread_of it))
+  held_by_refused : (given : Given R E) (it : DirEntryIter C S P A T L R E) → it.refused ≡ true → held_by given it ≡ record { item = Err memory; source = nothing } ∷ pair_up (map (counted_item given) (items_of it)) (map (counted_spec given) (unread_of it))
   held_by_refused given it refused = rw refused refl
 
   -- where nothing is held, nothing counts
-  pub held_by_nothing : (given : Given R E) (it : DirEntryIter C S P A T R E) → held it ≡ [] → held_by given it ≡ []
+  pub held_by_nothing : (given : Given R E) (it : DirEntryIter C S P A T L R E) → held it ≡ [] → held_by given it ≡ []
   held_by_nothing given it none = nothing_by given it.refused (items_of it) (unread_of it) none
 
-  sourced_rest : (it : DirEntryIter C S P A T R E) → it.refused ≡ false → IsSourced it → length (unread_of it) ≡ directories (items_of it)
+  sourced_rest : (it : DirEntryIter C S P A T L R E) → it.refused ≡ false → IsSourced it → length (unread_of it) ≡ directories (items_of it)
   sourced_rest it started is = sourced_count (items_of it) (unread_of it) (rw (held_rest it started) at is.each) (rw (held_rest it started) at is.unread)
 
-  rest_sourced : (it : DirEntryIter C S P A T R E) → it.refused ≡ false → length (unread_of it) ≡ directories (items_of it) → IsSourced it
+  rest_sourced : (it : DirEntryIter C S P A T L R E) → it.refused ≡ false → length (unread_of it) ≡ directories (items_of it) → IsSourced it
   rest_sourced it started count =
       let both = sourced (items_of it) (unread_of it) count in
       record { each = rw (held_rest it started) both.0; unread = rw (held_rest it started) both.1 }
 
-module _ {C S P A T R E : Type 0} (files : FileSystem.Ghosts S) (process : ProcessReadDir.Ghosts P C A R E) (clone : Clone.Ghosts R) (defaults : Default.Ghosts E) (old new : DirEntryIter C S P A T R E) where
+module _ {C S P A T L R E : Type 0} (files : FileSystem.Ghosts S) (process : ProcessReadDir.Ghosts P C A R E) (clone : Clone.Ghosts R) (defaults : Default.Ghosts E) (old new : DirEntryIter C S P A T L R E) where
   -- what is listed of items and specifications over the old walk's job
   abbrev Listing : Given R E → List (Item R E) → List (Spec R) → List (Item Worth Worth)
   Listing given items specs = listing (reading (job_by files given (job_of old))) (greatest_depth (job_of old)) (pair_up (map (counted_item given) items) (map (counted_spec given) specs))
@@ -90,15 +92,15 @@ module _ {C S P A T R E : Type 0} (files : FileSystem.Ghosts S) (process : Proce
   -- a walk that was not refused at its start enters directories
   goes_ahead : (answer : Option (Item R E)) → old.refused ≡ false → GrowsAhead files process clone defaults old new → GoesAhead files process clone defaults old answer new
   goes_ahead answer began grown =
-      subst (λ b. MatchBool b (read_ahead new ≡ read_ahead old) ((IsSomeAnd answer (λ a. Refuses a new) × (read_ahead new ≡ nothing_ahead)) ⊎ GrowsAhead files process clone defaults old new)) (sym began) (inr grown)
+      subst (λ b. MatchBool b (read_ahead new ≡ read_ahead old) ((IsSomeAnd answer (λ a. Stops (by_crew old) a new) × (read_ahead new ≡ nothing_ahead)) ⊎ GrowsAhead files process clone defaults old new)) (sym began) (inr grown)
 
   -- items were left out, and then one is passed that is answered
-  abbrev Counts : Given R E → Type 0
-  Counts = IsSteadyWalk files process clone defaults old
+  abbrev Knows : Spec R → Outcome R E → Type 0
+  Knows = Known files process clone defaults old
 
-  answers_some : (x : Result (DirEntry C A R E) (Error A)) → old.refused ≡ false → new.refused ≡ false → job_of new ≡ job_of old
-      → ReadsUpTo files clone Counts (job_of old) (items_of old) (unread_of old) (Some (item x)) (items_of new) (unread_of new) → width_of new ≡ width_of old → StaysSteady files process clone defaults old new → GrowsAhead files process clone defaults old new → Answers files process clone defaults old (Some x) new
-  answers_some x began started job reads width keeps grown =
+  answers_some : (x : Result (DirEntry C A R E) (Error A)) → old.refused ≡ false → new.refused ≡ false → by_crew new ≡ by_crew old → job_of new ≡ job_of old
+      → ReadsUpTo clone Knows (job_of old) (items_of old) (unread_of old) (Some (item x)) (items_of new) (unread_of new) → width_of new ≡ width_of old → StaysSteady files process clone defaults old new → GrowsAhead files process clone defaults old new → Answers files process clone defaults old (Some x) new
+  answers_some x began started crew job reads width keeps grown =
       let j = job_of old in
       let left = reads.2 in
       let next = reads.3.0 in
@@ -108,29 +110,30 @@ module _ {C S P A T R E : Type 0} (files : FileSystem.Ghosts S) (process : Proce
       let between = reads.0 in
       let unread = reads.1 in
       record {
+        crew = crew;
         job = job;
         depths = λ within.
-            let parts = next_within files clone Counts j next (left_within files clone Counts j (items_of old) (unread_of old) left within) in
+            let parts = next_within clone Knows j next (left_within clone Knows j (items_of old) (unread_of old) left within) in
             (is_between (min_depth_of old) (greatest_depth j) (item x) kept parts.0, rw job parts.1);
-        sourced = λ is. rest_sourced new started (next_count files clone Counts j next (left_count files clone Counts j (items_of old) (unread_of old) left (sourced_rest old began is)));
-        plain = rw (before, after) (left_plain files clone Counts j (items_of old) (unread_of old) left (Some (item x)) (pair_up (items_of new) (unread_of new)) (next_plain files clone Counts j (min_depth_of old) next kept));
+        sourced = λ is. rest_sourced new started (next_count clone Knows j next (left_count clone Knows j (items_of old) (unread_of old) left (sourced_rest old began is)));
+        plain = rw (before, after) (left_plain clone Knows j (items_of old) (unread_of old) left (Some (item x)) (pair_up (items_of new) (unread_of new)) (next_plain clone Knows j (min_depth_of old) next kept));
         ended = tt;
-        lighter = rw (before, after, job) (omega (arith, left_lighter files clone Counts j (items_of old) (unread_of old) left, next_lighter files clone Counts j next));
+        lighter = rw (before, after, job) (omega (arith, left_lighter clone Knows j (items_of old) (unread_of old) left, next_lighter clone Knows j next));
         reads = rw began (inr reads);
         width = width;
         steady = keeps;
         ahead = goes_ahead (Some (item x)) began grown;
         coming = λ given counted. inr (
             come_old given began
-            ∙ left_to_come files clone Counts j (items_of old) (unread_of old) given counted.steady.clones counted left
-            ∙ ap (answers (min_depth_of old)) (next_listed files clone Counts j given counted.steady.clones counted next)
+            ∙ left_to_come clone Knows j (items_of old) (unread_of old) files given (clones_if_steady files process clone defaults old.reads given counted) (known_if_steady files process clone defaults old.reads given counted) left
+            ∙ ap (answers (min_depth_of old)) (next_listed clone Knows j files given (clones_if_steady files process clone defaults old.reads given counted) (known_if_steady files process clone defaults old.reads given counted) next)
             ∙ rw (counted-is_answered given.read_dir_state given.dir_entry_state (min_depth_of old) (item x), kept) (ap (λ l. counted_item given (item x) ∷ l) (sym (come_new given started job))));
       }
 
   -- all that was held is left out
-  answers_none : old.refused ≡ false → new.refused ≡ false → job_of new ≡ job_of old
-      → ReadsUpTo files clone Counts (job_of old) (items_of old) (unread_of old) None (items_of new) (unread_of new) → width_of new ≡ width_of old → StaysSteady files process clone defaults old new → GrowsAhead files process clone defaults old new → Answers files process clone defaults old None new
-  answers_none began started job reads width keeps grown =
+  answers_none : old.refused ≡ false → new.refused ≡ false → by_crew new ≡ by_crew old → job_of new ≡ job_of old
+      → ReadsUpTo clone Knows (job_of old) (items_of old) (unread_of old) None (items_of new) (unread_of new) → width_of new ≡ width_of old → StaysSteady files process clone defaults old new → GrowsAhead files process clone defaults old new → Answers files process clone defaults old None new
+  answers_none began started crew job reads width keeps grown =
       let j = job_of old in
       let left = reads.2 in
       let none = reads.3.0 in
@@ -142,10 +145,11 @@ module _ {C S P A T R E : Type 0} (files : FileSystem.Ghosts S) (process : Proce
       let after = held_nothing new started rest in
       let nothing_left : pair_up between unread ≡ [] = ap (λ l. pair_up l unread) none in
       record {
+        crew = crew;
         job = job;
         depths = λ within. (tt, rw rest tt);
-        sourced = λ is. rest_sourced new started (ap length same ∙ left_count files clone Counts j (items_of old) (unread_of old) left (sourced_rest old began is) ∙ ap directories (none ∙ sym rest));
-        plain = rw (before, after) (left_plain files clone Counts j (items_of old) (unread_of old) left None [] (rw nothing_left (refl, refl)));
+        sourced = λ is. rest_sourced new started (ap length same ∙ left_count clone Knows j (items_of old) (unread_of old) left (sourced_rest old began is) ∙ ap directories (none ∙ sym rest));
+        plain = rw (before, after) (left_plain clone Knows j (items_of old) (unread_of old) left None [] (rw nothing_left (refl, refl)));
         ended = after;
         lighter = tt;
         reads = rw began (inr reads);
@@ -154,45 +158,47 @@ module _ {C S P A T R E : Type 0} (files : FileSystem.Ghosts S) (process : Proce
         ahead = goes_ahead None began grown;
         coming = λ given counted.
             come_old given began
-            ∙ left_to_come files clone Counts j (items_of old) (unread_of old) given counted.steady.clones counted left
+            ∙ left_to_come clone Knows j (items_of old) (unread_of old) files given (clones_if_steady files process clone defaults old.reads given counted) (known_if_steady files process clone defaults old.reads given counted) left
             ∙ ap (λ l. answers (min_depth_of old) (Listing given l unread)) none;
       }
 
-  pub answers_reads : (answer : Option (Result (DirEntry C A R E) (Error A))) → old.refused ≡ false → new.refused ≡ false → job_of new ≡ job_of old
-      → ReadsUpTo files clone Counts (job_of old) (items_of old) (unread_of old) (option_map item answer) (items_of new) (unread_of new) → width_of new ≡ width_of old → StaysSteady files process clone defaults old new → GrowsAhead files process clone defaults old new → Answers files process clone defaults old answer new
-  answers_reads None began started job reads width keeps grown = answers_none began started job reads width keeps grown
-  answers_reads (Some x) began started job reads width keeps grown = answers_some x began started job reads width keeps grown
+  pub answers_reads : (answer : Option (Result (DirEntry C A R E) (Error A))) → old.refused ≡ false → new.refused ≡ false → by_crew new ≡ by_crew old → job_of new ≡ job_of old
+      → ReadsUpTo clone Knows (job_of old) (items_of old) (unread_of old) (option_map item answer) (items_of new) (unread_of new) → width_of new ≡ width_of old → StaysSteady files process clone defaults old new → GrowsAhead files process clone defaults old new → Answers files process clone defaults old answer new
+  answers_reads None began started crew job reads width keeps grown = answers_none began started crew job reads width keeps grown
+  answers_reads (Some x) began started crew job reads width keeps grown = answers_some x began started crew job reads width keeps grown
 
-  -- memory was refused below a directory
-  pub answers_stopped : (error : Error A) → failure error ≡ memory → old.refused ≡ false → new.refused ≡ false → job_of new ≡ job_of old → items_of new ≡ [] → unread_of new ≡ []
-      → StopsAtDirectory files clone Counts (job_of old) (items_of old) (unread_of old) → width_of new ≡ width_of old → StaysSteady files process clone defaults old new → read_ahead new ≡ nothing_ahead → Answers files process clone defaults old (Some (Err error)) new
-  answers_stopped error told began started job none no_unread stops width keeps nothing_left =
+  -- the walk ends early below a directory
+  pub answers_stopped : (error : Error A) → Tells (by_crew old) (failure error) → old.refused ≡ false → new.refused ≡ false → by_crew new ≡ by_crew old → job_of new ≡ job_of old → items_of new ≡ [] → unread_of new ≡ []
+      → StopsAtDirectory clone Knows (job_of old) (items_of old) (unread_of old) → width_of new ≡ width_of old → StaysSteady files process clone defaults old new → read_ahead new ≡ nothing_ahead → Answers files process clone defaults old (Some (Err error)) new
+  answers_stopped error tells began started crew job none no_unread stops width keeps nothing_left =
       let j = job_of old in
       let left = stops.2 in
       let at = stops.3 in
       let before = held_rest old began in
       let after = held_nothing new started none in
-      let refuses : Refuses (Err (failure error)) new = record { tells = ap Err told; nothing_held = after; nothing_unread = no_unread } in
+      let stopped : Stops (by_crew old) (Err (failure error)) new = record { error = failure error; told = refl; tells = tells; nothing_held = after; nothing_unread = no_unread } in
       record {
+        crew = crew;
         job = job;
         depths = λ within. (tt, rw none tt);
         sourced = λ is. record { each = rw after tt; unread = rw (after, no_unread) refl };
-        plain = rw before (left_plain files clone Counts j (items_of old) (unread_of old) left (Some (Err (failure error))) (held new) (plainly_any (min_depth_of old) stops.0 stops.1 (Some (Err (failure error))) (held new) at));
+        plain = rw before (left_plain clone Knows j (items_of old) (unread_of old) left (Some (Err (failure error))) (held new) (plainly_any (min_depth_of old) stops.0 stops.1 (Some (Err (failure error))) (held new) at));
         ended = tt;
-        lighter = rw (before, after) (omega (arith, left_lighter files clone Counts j (items_of old) (unread_of old) left, heavy_at (greatest_depth j) stops.0 stops.1 at));
-        reads = rw began (inl refuses);
+        lighter = rw (before, after) (omega (arith, left_lighter clone Knows j (items_of old) (unread_of old) left, heavy_at (greatest_depth j) stops.0 stops.1 at));
+        reads = rw began (inl stopped);
         width = width;
         steady = keeps;
-        ahead = rw began (inl (refuses, nothing_left));
-        coming = λ given counted. inl refuses;
+        ahead = rw began (inl (stopped, nothing_left));
+        coming = λ given counted. inl (record { tells = ap Err (own_tells (by_crew old) (failure error) (own_if_steady files process clone defaults old.reads given counted) tells); nothing_held = after; nothing_unread = no_unread });
       }
 
   -- a walk that was refused at its start tells of it
-  pub answers_refusal : (error : Error A) → failure error ≡ memory → old.refused ≡ true → new.refused ≡ false → job_of new ≡ job_of old → items_of new ≡ items_of old → unread_of new ≡ unread_of old → width_of new ≡ width_of old → StaysSteady files process clone defaults old new → read_ahead new ≡ read_ahead old → Answers files process clone defaults old (Some (Err error)) new
-  answers_refusal error told refused started job items unread width keeps same_ahead =
+  pub answers_refusal : (error : Error A) → failure error ≡ memory → old.refused ≡ true → new.refused ≡ false → by_crew new ≡ by_crew old → job_of new ≡ job_of old → items_of new ≡ items_of old → unread_of new ≡ unread_of old → width_of new ≡ width_of old → StaysSteady files process clone defaults old new → read_ahead new ≡ read_ahead old → Answers files process clone defaults old (Some (Err error)) new
+  answers_refusal error told refused started crew job items unread width keeps same_ahead =
       let front = held_refused old refused in
       let rest : held new ≡ pair_up (items_of old) (unread_of old) = held_rest new started ∙ ap (λ l. pair_up l (unread_of new)) items ∙ ap (pair_up (items_of old)) unread in
       record {
+        crew = crew;
         job = job;
         depths = λ within. (tt, rw (job, items) within);
         sourced = λ is. record { each = rw rest (rw front at is.each).1; unread = rw (rest, unread) (rw front at is.unread) };
@@ -216,7 +222,7 @@ goes_on None fewer can less = tt
 goes_on (Some x) fewer can less = (can, tt, less)
 
 -- a walk that took over its root's list holds the pairs of that list
-pub holds_root : {C S P A T R E : Type 0} (clone : Clone.Ghosts R) (given : Given R E) (r : Reading R E) (before after begun : DirEntryIter C S P A T R E) → ClonesCount clone given → begun.refused ≡ false → items_of begun ≡ items_of after → unread_of begun ≡ unread_of after → items_of before ≡ [] → items_of after ≡ r.list ++ items_of before → AreClones clone.is_clone (children r) (unread_of after) → held_by given begun ≡ paired (counted_reading given r)
+pub holds_root : {C S P A T L R E : Type 0} (clone : Clone.Ghosts R) (given : Given R E) (r : Reading R E) (before after begun : DirEntryIter C S P A T L R E) → ClonesCount clone given → begun.refused ≡ false → items_of begun ≡ items_of after → unread_of begun ≡ unread_of after → items_of before ≡ [] → items_of after ≡ r.list ++ items_of before → AreClones clone.is_clone (children r) (unread_of after) → held_by given begun ≡ paired (counted_reading given r)
 holds_root clone given r before after begun counts started same_items same_unread no_items items clones =
     let all : items_of begun ≡ r.list = same_items ∙ items ∙ ap (λ l. r.list ++ l) no_items ∙ append-nil r.list in
     let directories_too : map (counted_spec given) (unread_of begun) ≡ children_of (Ok (counted_reading given r))
@@ -238,7 +244,7 @@ pub within_root : {R E : Type 0} (greatest : ℕ) (items : List (Item R E)) → 
 within_root greatest items depth = at_depth 0 greatest items (omega arith) depth
 
 -- and its directories alone are to be read
-pub root_sourced : {C S P A T R E : Type 0} (clone : Clone.Ghosts R) (r : Reading R E) (before after begun : DirEntryIter C S P A T R E) → begun.refused ≡ false → items_of begun ≡ items_of after → unread_of begun ≡ unread_of after → items_of before ≡ [] → items_of after ≡ r.list ++ items_of before → AreClones clone.is_clone (children r) (unread_of after) → IsSourced begun
+pub root_sourced : {C S P A T L R E : Type 0} (clone : Clone.Ghosts R) (r : Reading R E) (before after begun : DirEntryIter C S P A T L R E) → begun.refused ≡ false → items_of begun ≡ items_of after → unread_of begun ≡ unread_of after → items_of before ≡ [] → items_of after ≡ r.list ++ items_of before → AreClones clone.is_clone (children r) (unread_of after) → IsSourced begun
 root_sourced clone r before after begun started same_items same_unread no_items items clones =
     let all : items_of begun ≡ r.list = same_items ∙ items ∙ ap (λ l. r.list ++ l) no_items ∙ append-nil r.list in
     rest_sourced begun started (ap length same_unread ∙ same_length clone.is_clone (children r) (unread_of after) clones ∙ as_many_of (Ok r) ∙ ap directories (sym all))

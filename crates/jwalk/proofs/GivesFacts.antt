@@ -1,5 +1,5 @@
 -- What one call of an iterator over readings gives.
-use Rattle.std.proofs.Common.{◌≡◌, ◌≢◌, ◌∙◌, ◌<◌, ◌≤◌, ◌+◌, ◌++◌, [], ◌∷◌, Result, Err, inl, inr, List, Option, Some, None, IfSome, map, length, refl, sym, ap}
+use Rattle.std.proofs.Common.{◌≡◌, ◌≢◌, ◌∙◌, ◌<◌, ◌≤◌, ◌+◌, ◌++◌, [], ◌∷◌, ℕ, Bool, false, Result, Err, inl, inr, List, Option, Some, None, IfSome, map, length, refl, sym, ap}
 use Rattle.std.specs.Prelude.{option_map}
 use Rattle.std.proofs.lemmas.List.{map-append, length-map, nil_from_length}
 use Rattle.std.proofs.lemmas.List.Elements.{All-nil}
@@ -21,19 +21,22 @@ use Rattle.jwalk_read.specs.declared.read_dir.ReadDir.{ReadDir}
 use Rattle.jwalk_read.specs.Error.{failure}
 use Rattle.jwalk_read.specs.ReadDir.{outcome}
 use Rattle.jwalk_read.specs.Given.{Given, counted_spec, counted_outcome}
-use Rattle.jwalk_read.specs.Job.{greatest_depth, job_by, ClonesCount, IsSteadyJob}
+use Rattle.jwalk_read.specs.Job.{greatest_depth, job_by, ClonesCount, IsSteadyJob, IsAsGiven}
 use Rattle.jwalk_read.specs.declared.read_dir_spec.ReadDirSpec.{ReadDirSpec}
 use Rattle.jwalk_board.specs.Board.{Board}
 use Rattle.jwalk_engine.specs.declared.read.Read.{Read}
-use Rattle.jwalk_engine.specs.Reads.{ReadsFirst, ReadsNext}
-use Rattle.jwalk_engine.specs.ReadAhead.{nothing_ahead, EntersNext}
+use Rattle.jwalk_engine.specs.Reads.{ReadsFirstBy, ReadsNextBy}
+use Rattle.jwalk_engine.specs.ReadAhead.{nothing_ahead}
 use Rattle.jwalk_engine.specs.BoardWalk as board
+use Rattle.jwalk_engine.specs.BoardWalk.{BoardWalk, IsSteadyWalk}
 use Rattle.jwalk.specs.declared.read_dir_iter.ReadDirIter.{ReadDirIter}
-use Rattle.jwalk.specs.ReadDirIter.{walk_of, job_of, to_read, width_of, read_ahead, next_address, GivesFirst, GivesPreorder, IsSteadyReads, StaysSteady, Gives}
+use Rattle.jwalk.specs.declared.read_dir_iter.ReadDirIter.TheVariants.{Walk, ParWalk, CrewWalk}
+use Rattle.jwalk.specs.ReadDirIter.{by_crew, job_of, to_read, width_of, read_ahead, early_of, next_address, Tells, GivesError, GivesFirst, GivesPreorder, Known, EntersNextBy, IsSteadyReads, StaysSteady, Gives}
+use Rattle.jwalk.proofs.KnownFacts.{own_error, own_if_steady, clones_if_steady, known_if_steady}
 
-module _ {C S P A R E : Type 0} (files : FileSystem.Ghosts S) (clone : Clone.Ghosts R) (counts : Given R E → Type 0) (job : Job C S P A R E) (old new : List (Spec R)) where
-  module _ (given : Given R E) (cloned : ClonesCount clone given) (counted : counts given) where
-    first_in_preorder : (read : Outcome R E) → ReadsFirst files clone counts job old read new → preorder (reading (job_by files given job)) (greatest_depth job) (map (counted_spec given) old) ≡ counted_outcome given read ∷ preorder (reading (job_by files given job)) (greatest_depth job) (map (counted_spec given) new)
+module _ {C S P A R E : Type 0} (b : Bool) (clone : Clone.Ghosts R) (known : Spec R → Outcome R E → Type 0) (job : Job C S P A R E) (old new : List (Spec R)) where
+  module _ (files : FileSystem.Ghosts S) (given : Given R E) (own : b ≡ false) (cloned : ClonesCount clone given) (as_given : (s : Spec R) (o : Outcome R E) → known s o → IsAsGiven files given job s o) where
+    first_in_preorder : (read : Outcome R E) → ReadsFirstBy clone known (greatest_depth job) old read new → preorder (reading (job_by files given job)) (greatest_depth job) (map (counted_spec given) old) ≡ counted_outcome given read ∷ preorder (reading (job_by files given job)) (greatest_depth job) (map (counted_spec given) new)
     first_in_preorder read reads =
         let view = given.read_dir_state in
         let mark = given.dir_entry_state in
@@ -42,22 +45,22 @@ module _ {C S P A R E : Type 0} (files : FileSystem.Ghosts S) (clone : Clone.Gho
         ∙ sym (map-append (counted_spec given) reads.stacks.front reads.rest)
         ∙ sym (ap (map (counted_spec given)) reads.stacks.left) in
         ap (λ l. preorder (reading (job_by files given job)) (greatest_depth job) (map (counted_spec given) l)) reads.took
-        ∙ preorder-first (reading (job_by files given job)) (greatest_depth job) (counted_spec given reads.first) (map (counted_spec given) reads.rest) (counted_outcome given read) (counted-IsLawful view mark (greatest_depth job) reads.first read reads.reading.lawful) (reads.reading.value given counted)
+        ∙ preorder-first (reading (job_by files given job)) (greatest_depth job) (counted_spec given reads.first) (map (counted_spec given) reads.rest) (counted_outcome given read) (counted-IsLawful view mark (greatest_depth job) reads.first read reads.reading.lawful) (as_given reads.first read reads.reading.value)
         ∙ ap (λ l. counted_outcome given read ∷ preorder (reading (job_by files given job)) (greatest_depth job) l) left
 
     -- readings that are given one by one come in preorder
-    pub given_in_preorder : (read : Option (Outcome R E)) → GivesFirst files clone counts job old read new → GivesPreorder (reading (job_by files given job)) (greatest_depth job) (map (counted_spec given) old) (option_map (counted_outcome given) read) (map (counted_spec given) new)
+    pub given_in_preorder : (read : Option (Outcome R E)) → GivesFirst b clone known (greatest_depth job) old read new → GivesPreorder (reading (job_by files given job)) (greatest_depth job) (map (counted_spec given) old) (option_map (counted_outcome given) read) (map (counted_spec given) new)
     given_in_preorder None gives = elim gives [
-      | inl refused ↦ absurd (let no : ◌≡◌ {A = Option (Outcome R E)} None (Some (Err memory)) = refused.0 in cc)
+      | inl refused ↦ absurd (let no : ◌≡◌ {A = Option (Outcome R E)} None (Some (Err memory)) = own_error b None own refused.0 in cc)
       | inr none ↦ ap (λ l. preorder (reading (job_by files given job)) (greatest_depth job) (map (counted_spec given) l)) none.0
     ]
     given_in_preorder (Some read) gives = elim gives [
-      | inl refused ↦ inl (let told : read ≡ Err memory = cc in ap (counted_outcome given) told, ap (map (counted_spec given)) refused.2)
+      | inl refused ↦ inl (let is : Some read ≡ Some (Err memory) = own_error b (Some read) own refused.0 in let told : read ≡ Err memory = cc in ap (counted_outcome given) told, ap (map (counted_spec given)) refused.2)
       | inr reads ↦ inr (first_in_preorder read reads)
     ]
 
   -- what is to be read weighs less then
-  pub gives_fewer : (read : Option (Outcome R E)) → GivesFirst files clone counts job old read new → IfSome read (λ _. spec_weight (greatest_depth job) new < spec_weight (greatest_depth job) old)
+  pub gives_fewer : (read : Option (Outcome R E)) → GivesFirst b clone known (greatest_depth job) old read new → IfSome read (λ _. spec_weight (greatest_depth job) new < spec_weight (greatest_depth job) old)
   gives_fewer None gives = tt
   gives_fewer (Some read) gives = elim gives [
     | inl refused ↦ rw refused.2 (heavy_specs (greatest_depth job) old refused.1)
@@ -69,37 +72,43 @@ pub as_many : {C A R E : Type 0} (b : Option (Board (ReadDirSpec C A R E) (Read 
 as_many None = refl
 as_many (Some b) = length-map b.ready _ ∙ sym (length-map b.ready _)
 
-module _ {C S P A T R E : Type 0} (files : FileSystem.Ghosts S) (process : ProcessReadDir.Ghosts P C A R E) (clone : Clone.Ghosts R) (defaults : Default.Ghosts E) (old new : ReadDirIter C S P A T R E) where
+-- so what grows by fewer than a width in the one does in the other
+pub fewer_done : {C S P A R E : Type 0} (old new : BoardWalk C S P A R E) (width : ℕ) → length (board.early_of new) + 1 ≤ length (board.early_of old) + width → length (board.read_ahead new).done + 1 ≤ length (board.read_ahead old).done + width
+fewer_done old new width fewer = rw (sym (as_many new.board), sym (as_many old.board)) fewer
+
+module _ {C S P A T L R E : Type 0} (files : FileSystem.Ghosts S) (process : ProcessReadDir.Ghosts P C A R E) (clone : Clone.Ghosts R) (defaults : Default.Ghosts E) (old new : ReadDirIter C S P A T L R E) where
   -- one call that read on
-  pub gives_read : (read : Option (Result (ReadDir C A R E) (Error A))) → job_of new ≡ job_of old → width_of new ≡ width_of old → length (board.early_of (walk_of new)) + 1 ≤ length (board.early_of (walk_of old)) + width_of old
+  pub gives_read : (read : Option (Result (ReadDir C A R E) (Error A))) → by_crew new ≡ by_crew old → job_of new ≡ job_of old → width_of new ≡ width_of old → length (early_of new) + 1 ≤ length (early_of old) + width_of old
       → StaysSteady files process clone defaults old new
-      → ReadsNext files clone (IsSteadyReads files process clone defaults old) (job_of old) (to_read old) (option_map outcome read) (to_read new)
-      → EntersNext files process clone defaults (job_of old) (width_of old) (next_address old) (read_ahead old) (option_map outcome read) (read_ahead new)
+      → ReadsNextBy clone (Known files process clone defaults old) (greatest_depth (job_of old)) (to_read old) (option_map outcome read) (to_read new)
+      → EntersNextBy files process clone defaults (by_crew old) (job_of old) (width_of old) (next_address old) (read_ahead old) (option_map outcome read) (read_ahead new)
       → Gives files process clone defaults old read new
-  gives_read read job width ahead steady next enters = record {
+  gives_read read crew job width ahead steady next enters = record {
+    crew = crew;
     job = job;
     width = width;
     enters = inr enters;
-    ahead = rw (sym (as_many (walk_of new).board), sym (as_many (walk_of old).board)) ahead;
+    ahead = ahead;
     steady = steady;
     first = inr next;
-    preorder = λ given counted. given_in_preorder files clone (IsSteadyReads files process clone defaults old) (job_of old) (to_read old) (to_read new) given counted.steady.clones counted (option_map outcome read) (inr next);
+    preorder = λ given counted. given_in_preorder (by_crew old) clone (Known files process clone defaults old) (job_of old) (to_read old) (to_read new) files given (own_if_steady files process clone defaults old given counted) (clones_if_steady files process clone defaults old given counted) (known_if_steady files process clone defaults old given counted) (option_map outcome read) (inr next);
   }
 
-  -- one call that was refused memory
-  pub gives_refused : (error : Error A) → failure error ≡ memory → job_of new ≡ job_of old → width_of new ≡ width_of old → length (board.early_of (walk_of new)) + 1 ≤ length (board.early_of (walk_of old)) + width_of old
+  -- one call after which the readings end early
+  pub gives_stopped : (error : Error A) → Tells (by_crew old) (failure error) → by_crew new ≡ by_crew old → job_of new ≡ job_of old → width_of new ≡ width_of old → length (early_of new) + 1 ≤ length (early_of old) + width_of old
       → StaysSteady files process clone defaults old new → to_read old ≢ [] → to_read new ≡ [] → read_ahead new ≡ nothing_ahead
       → Gives files process clone defaults old (Some (Err error)) new
-  gives_refused error told job width ahead steady some none nothing =
-      let is : ◌≡◌ {A = Option (Outcome R E)} (Some (Err (failure error))) (Some (Err memory)) = ap (λ f. Some (Err f)) told in
+  gives_stopped error tells crew job width ahead steady some none nothing =
+      let told : GivesError {R = R} {E = E} (by_crew old) (Some (Err (failure error))) = record { error = failure error; told = refl; tells = tells } in
       record {
+        crew = crew;
         job = job;
         width = width;
-        enters = inl (is, nothing);
-        ahead = rw (sym (as_many (walk_of new).board), sym (as_many (walk_of old).board)) ahead;
+        enters = inl (told, nothing);
+        ahead = ahead;
         steady = steady;
-        first = inl (is, some, none);
-        preorder = λ given counted. given_in_preorder files clone (IsSteadyReads files process clone defaults old) (job_of old) (to_read old) (to_read new) given counted.steady.clones counted (Some (Err (failure error))) (inl (is, some, none));
+        first = inl (told, some, none);
+        preorder = λ given counted. given_in_preorder (by_crew old) clone (Known files process clone defaults old) (job_of old) (to_read old) (to_read new) files given (own_if_steady files process clone defaults old given counted) (clones_if_steady files process clone defaults old given counted) (known_if_steady files process clone defaults old given counted) (Some (Err (failure error))) (inl (told, some, none));
       }
 
 -- what is said of a value, whatever it is, is said of what it is seen as
@@ -107,9 +116,14 @@ pub some_of : {X Y : Type 0} (P : Type 0) (f : X → Y) (o : Option X) → IfSom
 some_of P f None h = tt
 some_of P f (Some x) h = h
 
--- where nothing was read early over a steady job, it is steady
-pub steady_at_rest : {C S P A T R E : Type 0} (files : FileSystem.Ghosts S) (process : ProcessReadDir.Ghosts P C A R E) (clone : Clone.Ghosts R) (defaults : Default.Ghosts E) (it : ReadDirIter C S P A T R E) (given : Given R E) → IsSteadyJob files process clone defaults (job_of it) given → (read_ahead it).done ≡ [] → IsSteadyReads files process clone defaults it given
-steady_at_rest files process clone defaults it given steady none =
-    let early = board.early_of (walk_of it) in
-    let nothing : early ≡ [] = nil_from_length early (as_many (walk_of it).board ∙ ap length none) in
+steady_board : {C S P A R E : Type 0} (files : FileSystem.Ghosts S) (process : ProcessReadDir.Ghosts P C A R E) (clone : Clone.Ghosts R) (defaults : Default.Ghosts E) (walk : BoardWalk C S P A R E) (given : Given R E) → IsSteadyJob files process clone defaults walk.job given → (board.read_ahead walk).done ≡ [] → IsSteadyWalk files process clone defaults walk given
+steady_board files process clone defaults walk given steady none =
+    let early = board.early_of walk in
+    let nothing : early ≡ [] = nil_from_length early (as_many walk.board ∙ ap length none) in
     record { steady = steady; early = rw nothing (All-nil _) }
+
+-- where nothing was read early over a steady job, it is steady
+pub steady_at_rest : {C S P A T L R E : Type 0} (files : FileSystem.Ghosts S) (process : ProcessReadDir.Ghosts P C A R E) (clone : Clone.Ghosts R) (defaults : Default.Ghosts E) (it : ReadDirIter C S P A T L R E) (given : Given R E) → by_crew it ≡ false → IsSteadyJob files process clone defaults (job_of it) given → (read_ahead it).done ≡ [] → IsSteadyReads files process clone defaults it given
+steady_at_rest files process clone defaults (Walk walk) given own steady none = steady_board files process clone defaults walk given steady none
+steady_at_rest files process clone defaults (ParWalk walk threads) given own steady none = steady_board files process clone defaults walk given steady none
+steady_at_rest files process clone defaults (CrewWalk reads) given own steady none = absurd cc

@@ -1,3 +1,5 @@
+pub mod KnownFacts
+pub mod CrewFacts
 pub mod AheadFacts
 pub mod AnswerFacts
 pub mod FillFacts

@@ -22,11 +22,12 @@ use Rattle.jwalk_read.specs.declared.error.Error.{Error}
 use Rattle.jwalk_read.specs.declared.dir_entry.DirEntry.{DirEntry}
 use Rattle.jwalk_read.specs.Entry.{item}
 use Rattle.jwalk_read.specs.Given.{Given, counted_entry, counted_item, counted_spec, counted_outcome}
-use Rattle.jwalk_read.specs.Job.{options_of, greatest_depth, job_by, ClonesCount}
-use Rattle.jwalk_engine.specs.Reads.{ReadsFirst, ReadsNext}
+use Rattle.jwalk_read.specs.Job.{options_of, greatest_depth, job_by, ClonesCount, IsAsGiven}
+use Rattle.jwalk_engine.specs.Reads.{ReadsFirstBy, ReadsNextBy}
 use Rattle.jwalk.specs.declared.dir_entry_iter.DirEntryIter.{DirEntryIter}
 use Rattle.jwalk.specs.Step.{Receives, PassesNext, passed_plainly, passed_entering, LeavesOut, none_left_out, one_left_out, ReadsUpTo}
-use Rattle.jwalk.specs.DirEntryIter.{job_of, min_depth_of, items_of, unread_of, width_of, IsSteadyWalk, StaysSteady, EntersIfAny, PassesMany, none_passed, GrowsAhead}
+use Rattle.jwalk.specs.DirEntryIter.{by_crew, job_of, min_depth_of, items_of, unread_of, width_of, Known, StaysSteady, EntersIfAny, PassesMany, none_passed, GrowsAhead}
+use Rattle.jwalk.proofs.KnownFacts.{known_before}
 use Rattle.jwalk.proofs.AheadFacts.{grows, grows_no_more, one_more, nothing_more}
 
 -- a source that gives nothing takes no specification
@@ -45,23 +46,23 @@ entry_alone : {R E : Type 0} (x : Item R E) → has_directory x ≡ true → (P 
 entry_alone (Ok e) h P k = k e h
 entry_alone (Err f) h P k = let no : false ≡ true = h in cc
 
-module _ {C S P A R E : Type 0} (files : FileSystem.Ghosts S) (clone : Clone.Ghosts R) (counts : Given R E → Type 0) (job : Job C S P A R E) where
+module _ {C S P A R E : Type 0} (clone : Clone.Ghosts R) (known : Spec R → Outcome R E → Type 0) (job : Job C S P A R E) where
   abbrev Next : List (Item R E) → List (Spec R) → Item R E → List (Item R E) → List (Spec R) → Type 0
-  Next = PassesNext files clone counts job
+  Next = PassesNext clone known job
 
-  -- It is passed so, too, where less counts as given.
-  pub next_over : (fewer : Given R E → Type 0) → ((given : Given R E) → fewer given → counts given) → {items : List (Item R E)} {specs : List (Spec R)} {answer : Item R E} {items' : List (Item R E)} {specs' : List (Spec R)} → Next items specs answer items' specs' → PassesNext files clone fewer job items specs answer items' specs'
-  next_over fewer within (passed_plainly plain) = passed_plainly plain
-  next_over fewer within (passed_entering dir reads) =
+  -- It is passed so, too, where less is known.
+  pub next_over : (less : Spec R → Outcome R E → Type 0) → ((s : Spec R) (o : Outcome R E) → known s o → less s o) → {items : List (Item R E)} {specs : List (Spec R)} {answer : Item R E} {items' : List (Item R E)} {specs' : List (Spec R)} → Next items specs answer items' specs' → PassesNext clone less job items specs answer items' specs'
+  next_over less within (passed_plainly plain) = passed_plainly plain
+  next_over less within (passed_entering {outcome = outcome} dir reads) =
       let reading = reads.reading in
-      passed_entering dir (record { first = reads.first; rest = reads.rest; took = reads.took; reading = record { lawful = reading.lawful; few = reading.few; value = λ given f. reading.value given (within given f) }; stacks = reads.stacks })
+      passed_entering dir (record { first = reads.first; rest = reads.rest; took = reads.took; reading = record { lawful = reading.lawful; few = reading.few; value = within reads.first outcome reading.value }; stacks = reads.stacks })
 
   -- an entry where nothing is left to be read
   next_left : (x : Item R E) (items : List (Item R E)) (old new : List (Spec R)) → has_directory x ≡ true → old ≡ [] → new ≡ [] → Next (x ∷ items) old x items new
   next_left x items old new dir none left = rw (none, left) (passed_plainly {x = x} {specs = []} (rw dir refl))
 
   -- A directory is passed, where what came of its reading is received.
-  pub next_received : (read : Option (Outcome R E)) (x : Item R E) (items : List (Item R E)) (old : List (Spec R)) (answer : Item R E) (items' : List (Item R E)) (new : List (Spec R)) → has_directory x ≡ true → ReadsNext files clone counts job old read new → Receives read x items answer items' → Next (x ∷ items) old answer items' new
+  pub next_received : (read : Option (Outcome R E)) (x : Item R E) (items : List (Item R E)) (old : List (Spec R)) (answer : Item R E) (items' : List (Item R E)) (new : List (Spec R)) → has_directory x ≡ true → ReadsNextBy clone known (greatest_depth job) old read new → Receives read x items answer items' → Next (x ∷ items) old answer items' new
   next_received None x items old answer items' new dir reads received = rw (received.0, received.1) (next_left x items old new dir reads.0 reads.1)
   next_received (Some outcome) x items old answer items' new dir reads received = rw (received.0, received.1) (passed_entering {outcome = outcome} dir reads)
 
@@ -110,7 +111,7 @@ module _ {C S P A R E : Type 0} (files : FileSystem.Ghosts S) (clone : Clone.Gho
 
   -- ---- what is listed
 
-  module _ (given : Given R E) where
+  module _ (files : FileSystem.Ghosts S) (given : Given R E) where
     abbrev Listed : List (Item R E) → List (Spec R) → List (Item Worth Worth)
     Listed items specs = listing (value.reading (job_by files given job)) (greatest_depth job) (pair_up (map (counted_item given) items) (map (counted_spec given) specs))
 
@@ -121,8 +122,8 @@ module _ {C S P A R E : Type 0} (files : FileSystem.Ghosts S) (clone : Clone.Gho
         unread_none (value.reading (job_by files given job)) (greatest_depth job) (counted_item given x) (map (counted_item given) items) [] refl (counted-has_directory given.read_dir_state given.dir_entry_state x ∙ h)
     listed_plainly x items (s ∷ specs) true h plain = let no : false ≡ true = rw h at plain in cc
 
-    module _ (cloned : ClonesCount clone given) (counted : counts given) where
-      listed_entering : (e : Entry R E) (items : List (Item R E)) (specs left : List (Spec R)) (outcome : Outcome R E) → has_directory {R = R} (Ok e) ≡ true → ReadsFirst files clone counts job specs outcome left → Listed (Ok e ∷ items) specs ≡ counted_item given (after_reading outcome (Ok e)) ∷ Listed (list_of outcome ++ items) left
+    module _ (cloned : ClonesCount clone given) (as_given : (s : Spec R) (o : Outcome R E) → known s o → IsAsGiven files given job s o) where
+      listed_entering : (e : Entry R E) (items : List (Item R E)) (specs left : List (Spec R)) (outcome : Outcome R E) → has_directory {R = R} (Ok e) ≡ true → ReadsFirstBy clone known (greatest_depth job) specs outcome left → Listed (Ok e ∷ items) specs ≡ counted_item given (after_reading outcome (Ok e)) ∷ Listed (list_of outcome ++ items) left
       listed_entering e items specs left outcome dir reads =
           let view = given.read_dir_state in
           let mark = given.dir_entry_state in
@@ -134,7 +135,7 @@ module _ {C S P A R E : Type 0} (files : FileSystem.Ghosts S) (clone : Clone.Gho
           let items_too : map (counted_item given) (list_of outcome ++ items) ≡ list_of (counted_outcome given outcome) ++ map (counted_item given) items
           = map-append (counted_item given) (list_of outcome) items ∙ ap (λ l. l ++ map (counted_item given) items) (sym (counted-list_of view mark outcome)) in
           ap (Listed (Ok e ∷ items)) reads.took
-          ∙ listed reading (greatest_depth job) (counted_entry given e) (map (counted_item given) items) (counted_spec given reads.first) (map (counted_spec given) reads.rest) (counted_outcome given outcome) (counted-has_directory view mark (Ok e) ∙ dir) (counted-IsLawful view mark (greatest_depth job) reads.first outcome reads.reading.lawful) (reads.reading.value given counted)
+          ∙ listed reading (greatest_depth job) (counted_entry given e) (map (counted_item given) items) (counted_spec given reads.first) (map (counted_spec given) reads.rest) (counted_outcome given outcome) (counted-has_directory view mark (Ok e) ∙ dir) (counted-IsLawful view mark (greatest_depth job) reads.first outcome reads.reading.lawful) (as_given reads.first outcome reads.reading.value)
           ∙ ap (λ a. a ∷ listing reading (greatest_depth job) (pair_up (list_of (counted_outcome given outcome) ++ map (counted_item given) items) (children_of (counted_outcome given outcome) ++ map (counted_spec given) reads.rest))) (counted-after_reading view mark outcome (Ok e))
           ∙ ap (λ l. counted_item given (after_reading outcome (Ok e)) ∷ listing reading (greatest_depth job) (pair_up l (children_of (counted_outcome given outcome) ++ map (counted_spec given) reads.rest))) (sym items_too)
           ∙ ap (λ l. counted_item given (after_reading outcome (Ok e)) ∷ listing reading (greatest_depth job) (pair_up (map (counted_item given) (list_of outcome ++ items)) l)) (sym front)
@@ -149,7 +150,7 @@ module _ {C S P A R E : Type 0} (files : FileSystem.Ghosts S) (clone : Clone.Gho
 
   module _ (items : List (Item R E)) (specs : List (Spec R)) where
     abbrev Left : List (Item R E) → List (Spec R) → Type 0
-    Left = LeavesOut files clone counts job items specs
+    Left = LeavesOut clone known job items specs
 
     pub left_within : {items' : List (Item R E)} {specs' : List (Spec R)} → Left items' specs' → NoDeeper (greatest_depth job) items → NoDeeper (greatest_depth job) items'
     left_within none_left_out h = h
@@ -167,59 +168,62 @@ module _ {C S P A R E : Type 0} (files : FileSystem.Ghosts S) (clone : Clone.Gho
     left_plain none_left_out answer new h = h
     left_plain (one_left_out before next out) answer new h = left_plain before answer new (next_plain_out (options_of job).min_depth next out answer new h)
 
-    pub left_to_come : (given : Given R E) → ClonesCount clone given → counts given → {items' : List (Item R E)} {specs' : List (Spec R)} → Left items' specs' → answers (options_of job).min_depth (Listed given items specs) ≡ answers (options_of job).min_depth (Listed given items' specs')
-    left_to_come given cloned counted none_left_out = refl
-    left_to_come given cloned counted (one_left_out {passed = passed} before next out) =
-        left_to_come given cloned counted before
-        ∙ ap (answers (options_of job).min_depth) (next_listed given cloned counted next)
+    pub left_to_come : (files : FileSystem.Ghosts S) (given : Given R E) → ClonesCount clone given → ((s : Spec R) (o : Outcome R E) → known s o → IsAsGiven files given job s o) → {items' : List (Item R E)} {specs' : List (Spec R)} → Left items' specs' → answers (options_of job).min_depth (Listed files given items specs) ≡ answers (options_of job).min_depth (Listed files given items' specs')
+    left_to_come files given cloned as_given none_left_out = refl
+    left_to_come files given cloned as_given (one_left_out {passed = passed} before next out) =
+        left_to_come files given cloned as_given before
+        ∙ ap (answers (options_of job).min_depth) (next_listed files given cloned as_given next)
         ∙ rw (counted-is_answered given.read_dir_state given.dir_entry_state (options_of job).min_depth passed, out) refl
 
-module _ {C S P A T R E : Type 0} (files : FileSystem.Ghosts S) (process : ProcessReadDir.Ghosts P C A R E) (clone : Clone.Ghosts R) (defaults : Default.Ghosts E) where
+module _ {C S P A T L R E : Type 0} (files : FileSystem.Ghosts S) (process : ProcessReadDir.Ghosts P C A R E) (clone : Clone.Ghosts R) (defaults : Default.Ghosts E) where
   -- What was passed over so far is left out.
-  pub record PassedOver (old new : DirEntryIter C S P A T R E) : Type 0 where
+  pub record PassedOver (old new : DirEntryIter C S P A T L R E) : Type 0 where
+    pub crew : by_crew new ≡ by_crew old
     pub job : job_of new ≡ job_of old
     pub refused : new.refused ≡ old.refused
     pub width : width_of new ≡ width_of old
     pub steady : StaysSteady files process clone defaults old new
-    pub leaves : LeavesOut files clone (IsSteadyWalk files process clone defaults old) (job_of old) (items_of old) (unread_of old) (items_of new) (unread_of new)
+    pub leaves : LeavesOut clone (Known files process clone defaults old) (job_of old) (items_of old) (unread_of old) (items_of new) (unread_of new)
     pub entered : ℕ
     pub passes : PassesMany files process clone defaults old entered new
 
   -- One call of a walk's `pass`.
-  pub record Passes (old : DirEntryIter C S P A T R E) (passed : Result (DirEntry C A R E) (Error A)) (new : DirEntryIter C S P A T R E) : Type 0 where
+  pub record Passes (old : DirEntryIter C S P A T L R E) (passed : Result (DirEntry C A R E) (Error A)) (new : DirEntryIter C S P A T L R E) : Type 0 where
+    pub crew : by_crew new ≡ by_crew old
     pub job : job_of new ≡ job_of old
     pub refused : new.refused ≡ old.refused
     pub steady : StaysSteady files process clone defaults old new
-    pub next : PassesNext files clone (IsSteadyWalk files process clone defaults old) (job_of old) (items_of old) (unread_of old) (item passed) (items_of new) (unread_of new)
+    pub next : PassesNext clone (Known files process clone defaults old) (job_of old) (items_of old) (unread_of old) (item passed) (items_of new) (unread_of new)
     pub width : width_of new ≡ width_of old
     pub ahead : EntersIfAny files process clone defaults old new
 
-  pub none_passed_over : (it : DirEntryIter C S P A T R E) → PassedOver it it
-  none_passed_over it = record { job = refl; refused = refl; width = refl; steady = λ given steady. steady; leaves = none_left_out; entered = 0; passes = none_passed }
+  pub none_passed_over : (it : DirEntryIter C S P A T L R E) → PassedOver it it
+  none_passed_over it = record { crew = refl; job = refl; refused = refl; width = refl; steady = λ given steady. steady; leaves = none_left_out; entered = 0; passes = none_passed }
 
-  passes_by : (old mid new : DirEntryIter C S P A T R E) (passed : Result (DirEntry C A R E) (Error A)) → PassedOver old mid → Passes mid passed new → PassesNext files clone (IsSteadyWalk files process clone defaults old) (job_of old) (items_of mid) (unread_of mid) (item passed) (items_of new) (unread_of new)
+  passes_by : (old mid new : DirEntryIter C S P A T L R E) (passed : Result (DirEntry C A R E) (Error A)) → PassedOver old mid → Passes mid passed new → PassesNext clone (Known files process clone defaults old) (job_of old) (items_of mid) (unread_of mid) (item passed) (items_of new) (unread_of new)
   passes_by old mid new passed over passes =
-      subst (λ j. PassesNext files clone (IsSteadyWalk files process clone defaults old) j (items_of mid) (unread_of mid) (item passed) (items_of new) (unread_of new)) over.job
-      (next_over files clone (IsSteadyWalk files process clone defaults mid) (job_of mid) (IsSteadyWalk files process clone defaults old) over.steady passes.next)
+      subst (λ j. PassesNext clone (Known files process clone defaults old) j (items_of mid) (unread_of mid) (item passed) (items_of new) (unread_of new)) over.job
+      (next_over clone (Known files process clone defaults mid) (job_of mid) (Known files process clone defaults old) (known_before files process clone defaults old mid over.crew over.job over.steady) passes.next)
 
-  many_on : (old mid new : DirEntryIter C S P A T R E) (passed : Result (DirEntry C A R E) (Error A)) → PassedOver old mid → Passes mid passed new → (n : ℕ) × PassesMany files process clone defaults old n new
+  many_on : (old mid new : DirEntryIter C S P A T L R E) (passed : Result (DirEntry C A R E) (Error A)) → PassedOver old mid → Passes mid passed new → (n : ℕ) × PassesMany files process clone defaults old n new
   many_on old mid new passed over passes =
-      one_more files process clone defaults old mid new over.entered (item passed) over.passes over.job over.width (passes_by old mid new passed over passes) passes.ahead
+      one_more files process clone defaults old mid new over.entered (item passed) over.passes over.crew over.job over.width (passes_by old mid new passed over passes) passes.ahead
 
   -- the directories that are entered up to the first that is answered
-  pub grows_to_answer : (old mid new : DirEntryIter C S P A T R E) (passed : Result (DirEntry C A R E) (Error A)) → PassedOver old mid → Passes mid passed new → GrowsAhead files process clone defaults old new
+  pub grows_to_answer : (old mid new : DirEntryIter C S P A T L R E) (passed : Result (DirEntry C A R E) (Error A)) → PassedOver old mid → Passes mid passed new → GrowsAhead files process clone defaults old new
   grows_to_answer old mid new passed over passes =
       let more = many_on old mid new passed over passes in
       record { entered = more.0; last = new; passes = more.1; same = refl; ahead = grows files process clone defaults old more.1 }
 
   -- and up to the end
-  pub grows_to_end : (old mid new : DirEntryIter C S P A T R E) → PassedOver old mid → items_of mid ≡ [] → EntersIfAny files process clone defaults mid new → GrowsAhead files process clone defaults old new
+  pub grows_to_end : (old mid new : DirEntryIter C S P A T L R E) → PassedOver old mid → items_of mid ≡ [] → EntersIfAny files process clone defaults mid new → GrowsAhead files process clone defaults old new
   grows_to_end old mid new over none any =
       let same = nothing_more files process clone defaults mid new none any in
       record { entered = over.entered; last = mid; passes = over.passes; same = same; ahead = grows_no_more files process clone defaults old over.entered mid new same (grows files process clone defaults old over.passes) }
 
-  pub one_passed_over : (old mid new : DirEntryIter C S P A T R E) (passed : Result (DirEntry C A R E) (Error A)) → PassedOver old mid → Passes mid passed new → is_answered (min_depth_of new) (item passed) ≡ false → PassedOver old new
+  pub one_passed_over : (old mid new : DirEntryIter C S P A T L R E) (passed : Result (DirEntry C A R E) (Error A)) → PassedOver old mid → Passes mid passed new → is_answered (min_depth_of new) (item passed) ≡ false → PassedOver old new
   one_passed_over old mid new passed over passes out = let more = many_on old mid new passed over passes in record {
+    crew = passes.crew ∙ over.crew;
     job = passes.job ∙ over.job;
     refused = passes.refused ∙ over.refused;
     width = passes.width ∙ over.width;
@@ -230,9 +234,9 @@ module _ {C S P A T R E : Type 0} (files : FileSystem.Ghosts S) (process : Proce
   }
 
   -- the first that is answered after what was passed over
-  pub one_answered : (old mid new : DirEntryIter C S P A T R E) (passed : Result (DirEntry C A R E) (Error A)) → PassedOver old mid → Passes mid passed new → is_answered (min_depth_of new) (item passed) ≡ true → ReadsUpTo files clone (IsSteadyWalk files process clone defaults old) (job_of old) (items_of old) (unread_of old) (Some (item passed)) (items_of new) (unread_of new)
+  pub one_answered : (old mid new : DirEntryIter C S P A T L R E) (passed : Result (DirEntry C A R E) (Error A)) → PassedOver old mid → Passes mid passed new → is_answered (min_depth_of new) (item passed) ≡ true → ReadsUpTo clone (Known files process clone defaults old) (job_of old) (items_of old) (unread_of old) (Some (item passed)) (items_of new) (unread_of new)
   one_answered old mid new passed over passes kept =
       (items_of mid, unread_of mid, over.leaves, (passes_by old mid new passed over passes, subst (λ j. is_answered (options_of j).min_depth (item passed) ≡ true) (passes.job ∙ over.job) kept))
 
-  pub passes_lighter : (old new : DirEntryIter C S P A T R E) (passed : Result (DirEntry C A R E) (Error A)) → Passes old passed new → weight (greatest_depth (job_of new)) (pair_up (items_of new) (unread_of new)) < weight (greatest_depth (job_of old)) (pair_up (items_of old) (unread_of old))
-  passes_lighter old new passed passes = rw passes.job (next_lighter files clone (IsSteadyWalk files process clone defaults old) (job_of old) passes.next)
+  pub passes_lighter : (old new : DirEntryIter C S P A T L R E) (passed : Result (DirEntry C A R E) (Error A)) → Passes old passed new → weight (greatest_depth (job_of new)) (pair_up (items_of new) (unread_of new)) < weight (greatest_depth (job_of old)) (pair_up (items_of old) (unread_of old))
+  passes_lighter old new passed passes = rw passes.job (next_lighter clone (Known files process clone defaults old) (job_of old) passes.next)

@@ -28,7 +28,7 @@ use Rattle.jwalk_read.specs.Given.{Given, counted_item, counted_spec, counted_li
 use Rattle.jwalk_read.specs.Job.{options_of, greatest_depth, job_by, IsSteady}
 use Rattle.jwalk.specs.declared.dir_entry_iter.DirEntryIter.{DirEntryIter}
 use Rattle.jwalk.specs.declared.walk_dir.WalkDirGeneric.{WalkDirGeneric}
-use Rattle.jwalk.specs.DirEntryIter.{job_of, min_depth_of, items_of, unread_of, held, held_by, refusal, to_come, NoneRefused, IsRefused, IsSteadyWalk, Answers, Fills}
+use Rattle.jwalk.specs.DirEntryIter.{by_crew, job_of, min_depth_of, items_of, unread_of, held, held_by, refusal, to_come, NoneRefused, IsRefused, IsSteadyWalk, Answers, Fills}
 use Rattle.jwalk.specs.WalkDir as builder
 use Rattle.jwalk.specs.WalkDir.{file_system_of, callback_of, root_of, state_of, job_for, Starts, Holds}
 use Rattle.jwalk.proofs.AnswerFacts.{held_by_nothing}
@@ -81,15 +81,15 @@ refusal_among given [] is none = absurd cc
 refusal_among given (Ok e ∷ xs) is none = absurd cc
 refusal_among given (Err f ∷ xs) is none = let told : failure f ≡ memory = cc in none.0 (ap Err told)
 
-module _ {C S P A T R E : Type 0} (files : FileSystem.Ghosts S) (process : ProcessReadDir.Ghosts P C A R E) (clone : Clone.Ghosts R) (defaults : Default.Ghosts E) (given : Given R E) where
+module _ {C S P A T L R E : Type 0} (files : FileSystem.Ghosts S) (process : ProcessReadDir.Ghosts P C A R E) (clone : Clone.Ghosts R) (defaults : Default.Ghosts E) (given : Given R E) where
   -- a walk whose start was refused has that to tell, and nothing else
-  to_come_refused : (it : DirEntryIter C S P A T R E) → IsRefused it → to_come files given it ≡ Err memory ∷ []
+  to_come_refused : (it : DirEntryIter C S P A T L R E) → IsRefused it → to_come files given it ≡ Err memory ∷ []
   to_come_refused it refused =
       ap (held_value.to_come (reading (job_by files given (job_of it))) (min_depth_of it) (greatest_depth (job_of it))) (refused_by given it.refused (items_of it) (unread_of it) refused.tells)
       ∙ ap (answers (min_depth_of it)) (alone (reading (job_by files given (job_of it))) (greatest_depth (job_of it)) (Err memory) [] [] refl)
 
   -- calls up to `None` answer all that was to come, unless one of them tells of want of memory
-  pub all_answered : (xs : List (Result (DirEntry C A R E) (Error A))) (it : DirEntryIter C S P A T R E) → IsSteadyWalk files process clone defaults it given → Drains (Answers files process clone defaults) it xs → NoneRefused xs → to_come files given it ≡ counted_list given xs
+  pub all_answered : (xs : List (Result (DirEntry C A R E) (Error A))) (it : DirEntryIter C S P A T L R E) → IsSteadyWalk files process clone defaults it given → Drains (Answers files process clone defaults) it xs → NoneRefused xs → to_come files given it ≡ counted_list given xs
   all_answered xs it steady drains none =
       let last = drains.1.0 in
       let calls = drains.1.1 in
@@ -100,37 +100,8 @@ module _ {C S P A T R E : Type 0} (files : FileSystem.Ghosts S) (process : Proce
         | inr ends ↦ absurd (refusal_told xs ends.before ends.told none)
       ]
 
-  -- where the root's list is held, the whole walk is to come
-  pub comes_whole : (walk : WalkDirGeneric C S P A T R E) (it : DirEntryIter C S P A T R E) → Starts walk it → held_by given it ≡ paired (root_list (job_for files given walk) (root_of walk) (given.read_dir_state (state_of walk))) → to_come files given it ≡ whole_walk (job_for files given walk) (root_of walk) (given.read_dir_state (state_of walk))
-  unfolding whole_walk
-  comes_whole walk it starts holds =
-      let over : S → Options → value.Job Worth Worth = λ fs options. record { fs = files.functions fs; options = options; processed = given.processed; default = given.new_entry } in
-      let coming : S → Options → List (Pair Worth Worth) → List (Item Worth Worth) = λ fs options held. held_value.to_come (reading (over fs options)) options.min_depth options.max_depth held in
-      ap (λ fs. coming fs (options_of (job_of it)) (held_by given it)) starts.file_system
-      ∙ ap (λ options. coming (file_system_of walk) options (held_by given it)) starts.options
-      ∙ ap (coming (file_system_of walk) (builder.options_of walk)) holds
-
-  -- A walk that was begun answered the whole walk from its root, where its answers are all that was to come, and none tells of want of memory.
-  answered_whole : (walk : WalkDirGeneric C S P A T R E) (it : DirEntryIter C S P A T R E) (xs : List (Result (DirEntry C A R E) (Error A))) → Starts walk it → IsRefused it ⊎ Holds files process clone defaults walk it → IsSteady files process clone defaults (file_system_of walk) (callback_of walk) given → NoneRefused xs → to_come files given it ≡ counted_list given xs
-      → counted_list given xs ≡ whole_walk (job_for files given walk) (root_of walk) (given.read_dir_state (state_of walk))
-  answered_whole walk it xs starts begun steady none came =
-      elim begun [
-        | inl refused ↦ absurd (refusal_among given xs (sym came ∙ to_come_refused it refused) none)
-        | inr holds ↦ sym came ∙ comes_whole walk it starts (holds given steady)
-      ]
-
-  -- a walk that was begun over what is steady is steady
-  pub steady_start : (walk : WalkDirGeneric C S P A T R E) (it : DirEntryIter C S P A T R E) → Starts walk it → IsSteady files process clone defaults (file_system_of walk) (callback_of walk) given → IsSteadyWalk files process clone defaults it given
-  steady_start walk it starts steady = steady_at_rest files process clone defaults it.reads given (rw (starts.file_system, starts.callback) steady) starts.early
-
-  -- A walk that was begun and asked up to `None`, where no answer tells of want of memory, answered the whole walk from its root.
-  pub whole : (walk : WalkDirGeneric C S P A T R E) (it : DirEntryIter C S P A T R E) (xs : List (Result (DirEntry C A R E) (Error A))) → Starts walk it → IsRefused it ⊎ Holds files process clone defaults walk it → IsSteady files process clone defaults (file_system_of walk) (callback_of walk) given → Drains (Answers files process clone defaults) it xs → NoneRefused xs
-      → counted_list given xs ≡ whole_walk (job_for files given walk) (root_of walk) (given.read_dir_state (state_of walk))
-  whole walk it xs starts begun steady drains none =
-      answered_whole walk it xs starts begun steady none (all_answered xs it (steady_start walk it starts steady) drains none)
-
   -- After a call of `fill` that told fewer answers than it was asked for, all that was to come stands in the vector, behind what it held before, unless one of them tells of want of memory.
-  pub all_filled : (n k : ℕ) (before after : List (Result (DirEntry C A R E) (Error A))) (it new : DirEntryIter C S P A T R E) → IsSteadyWalk files process clone defaults it given → Fills files process clone defaults n it before (Ok k) after new → k < n → NoneRefused after
+  pub all_filled : (n k : ℕ) (before after : List (Result (DirEntry C A R E) (Error A))) (it new : DirEntryIter C S P A T L R E) → IsSteadyWalk files process clone defaults it given → Fills files process clone defaults n it before (Ok k) after new → k < n → NoneRefused after
       → counted_list given after ≡ counted_list given before ++ to_come files given it
   all_filled n k before after it new steady fills fewer none =
       let ended : held new ≡ [] = elim fills.all [ inl all ↦ absurd (omega (arith, all, fewer)) | inr over ↦ over ] in
@@ -144,16 +115,46 @@ module _ {C S P A T R E : Type 0} (files : FileSystem.Ghosts S) (process : Proce
       ∙ counted_append given before fills.answered
       ∙ ap (λ l. counted_list given before ++ l) (sym came)
 
-  -- A walk that was begun and filled into an empty vector, which holds fewer answers than were asked for then, answered the whole walk from its root, unless one of them tells of want of memory.
-  pub whole_filled : (walk : WalkDirGeneric C S P A T R E) (it new : DirEntryIter C S P A T R E) (n k : ℕ) (before xs : List (Result (DirEntry C A R E) (Error A))) → Starts walk it → IsRefused it ⊎ Holds files process clone defaults walk it → IsSteady files process clone defaults (file_system_of walk) (callback_of walk) given → Fills files process clone defaults n it before (Ok k) xs new → before ≡ [] → length xs < n → NoneRefused xs
+module _ {C S P A T W L R E : Type 0} (files : FileSystem.Ghosts S) (process : ProcessReadDir.Ghosts P C A R E) (clone : Clone.Ghosts R) (defaults : Default.Ghosts E) (given : Given R E) where
+  -- where the root's list is held, the whole walk is to come
+  pub comes_whole : (walk : WalkDirGeneric C S P A T W R E) (it : DirEntryIter C S P A T L R E) → Starts walk it → held_by given it ≡ paired (root_list (job_for files given walk) (root_of walk) (given.read_dir_state (state_of walk))) → to_come files given it ≡ whole_walk (job_for files given walk) (root_of walk) (given.read_dir_state (state_of walk))
+  unfolding whole_walk
+  comes_whole walk it starts holds =
+      let over : S → Options → value.Job Worth Worth = λ fs options. record { fs = files.functions fs; options = options; processed = given.processed; default = given.new_entry } in
+      let coming : S → Options → List (Pair Worth Worth) → List (Item Worth Worth) = λ fs options held. held_value.to_come (reading (over fs options)) options.min_depth options.max_depth held in
+      ap (λ fs. coming fs (options_of (job_of it)) (held_by given it)) starts.file_system
+      ∙ ap (λ options. coming (file_system_of walk) options (held_by given it)) starts.options
+      ∙ ap (coming (file_system_of walk) (builder.options_of walk)) holds
+
+  -- A walk that was begun answered the whole walk from its root, where its answers are all that was to come, and none tells of want of memory.
+  answered_whole : (walk : WalkDirGeneric C S P A T W R E) (it : DirEntryIter C S P A T L R E) (xs : List (Result (DirEntry C A R E) (Error A))) → Starts walk it → IsRefused it ⊎ Holds files process clone defaults walk it → IsSteady files process clone defaults (file_system_of walk) (callback_of walk) given → NoneRefused xs → to_come files given it ≡ counted_list given xs
       → counted_list given xs ≡ whole_walk (job_for files given walk) (root_of walk) (given.read_dir_state (state_of walk))
-  whole_filled walk it new n k before xs starts begun steady fills empty fewer none =
+  answered_whole walk it xs starts begun steady none came =
+      elim begun [
+        | inl refused ↦ absurd (refusal_among given xs (sym came ∙ to_come_refused files process clone defaults given it refused) none)
+        | inr holds ↦ sym came ∙ comes_whole walk it starts (holds given steady)
+      ]
+
+  -- a walk that was begun over what is steady is steady
+  pub steady_start : (walk : WalkDirGeneric C S P A T W R E) (it : DirEntryIter C S P A T L R E) → by_crew it ≡ false → Starts walk it → IsSteady files process clone defaults (file_system_of walk) (callback_of walk) given → IsSteadyWalk files process clone defaults it given
+  steady_start walk it own starts steady = steady_at_rest files process clone defaults it.reads given own (rw (starts.file_system, starts.callback) steady) starts.early
+
+  -- A walk that was begun and asked up to `None`, where no answer tells of want of memory, answered the whole walk from its root.
+  pub whole : (walk : WalkDirGeneric C S P A T W R E) (it : DirEntryIter C S P A T L R E) (xs : List (Result (DirEntry C A R E) (Error A))) → by_crew it ≡ false → Starts walk it → IsRefused it ⊎ Holds files process clone defaults walk it → IsSteady files process clone defaults (file_system_of walk) (callback_of walk) given → Drains (Answers files process clone defaults) it xs → NoneRefused xs
+      → counted_list given xs ≡ whole_walk (job_for files given walk) (root_of walk) (given.read_dir_state (state_of walk))
+  whole walk it xs own starts begun steady drains none =
+      answered_whole walk it xs starts begun steady none (all_answered files process clone defaults given xs it (steady_start walk it own starts steady) drains none)
+
+  -- A walk that was begun and filled into an empty vector, which holds fewer answers than were asked for then, answered the whole walk from its root, unless one of them tells of want of memory.
+  pub whole_filled : (walk : WalkDirGeneric C S P A T W R E) (it new : DirEntryIter C S P A T L R E) (n k : ℕ) (before xs : List (Result (DirEntry C A R E) (Error A))) → by_crew it ≡ false → Starts walk it → IsRefused it ⊎ Holds files process clone defaults walk it → IsSteady files process clone defaults (file_system_of walk) (callback_of walk) given → Fills files process clone defaults n it before (Ok k) xs new → before ≡ [] → length xs < n → NoneRefused xs
+      → counted_list given xs ≡ whole_walk (job_for files given walk) (root_of walk) (given.read_dir_state (state_of walk))
+  whole_filled walk it new n k before xs own starts begun steady fills empty fewer none =
       let among : length xs ≡ length before + length fills.answered = ap length fills.appended ∙ length-append before fills.answered in
-      let filled = all_filled n k before xs it new (steady_start walk it starts steady) fills (omega (arith, among, fewer, fills.number.0)) none in
+      let filled = all_filled files process clone defaults given n k before xs it new (steady_start walk it own starts steady) fills (omega (arith, among, fewer, fills.number.0)) none in
       answered_whole walk it xs starts begun steady none (sym (filled ∙ ap (λ l. counted_list given l ++ to_come files given it) empty))
 
 -- what a walk with no callback answers is said by the file system, the options and the root that its builder was given
-pub stateless_of : {C S P A T R E : Type 0} (functions : S → Functions) (walk : WalkDirGeneric C S P A T R E) (fs : S) (options : Options) (root : List ℕ) → file_system_of walk ≡ fs → builder.options_of walk ≡ options → root_of walk ≡ root
+pub stateless_of : {C S P A T W R E : Type 0} (functions : S → Functions) (walk : WalkDirGeneric C S P A T W R E) (fs : S) (options : Options) (root : List ℕ) → file_system_of walk ≡ fs → builder.options_of walk ≡ options → root_of walk ≡ root
     → stateless_walk (functions (file_system_of walk)) (builder.options_of walk) (root_of walk) ≡ stateless_walk (functions fs) options root
 stateless_of functions walk fs options root fs_is options_are root_is =
     ap (λ f. stateless_walk (functions f) (builder.options_of walk) (root_of walk)) fs_is

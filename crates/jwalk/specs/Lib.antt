@@ -1,3 +1,5 @@
+pub mod Parallelism
+pub mod CrewReads
 pub mod ReadDirIter
 pub mod Step
 pub mod DirEntryIter
@@ -11,3 +13,4 @@ pub use Rattle.jwalk_process.specs as jwalk_process
 pub use Rattle.jwalk_order.specs as jwalk_order
 pub use Rattle.jwalk_board.specs as jwalk_board
 pub use Rattle.jwalk_engine.specs as jwalk_engine
+pub use Rattle.jwalk_crew.specs as jwalk_crew

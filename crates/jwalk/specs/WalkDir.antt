@@ -28,27 +28,27 @@ stateless = record {
   new_entry = blank;
 }
 
-module _ {C S P A T R E : Type 0} where
-  abbrev pub file_system_of : WalkDirGeneric C S P A T R E → S
+module _ {C S P A T W R E : Type 0} where
+  abbrev pub file_system_of : WalkDirGeneric C S P A T W R E → S
   file_system_of walk = walk.fs
 
-  abbrev pub callback_of : WalkDirGeneric C S P A T R E → P
+  abbrev pub callback_of : WalkDirGeneric C S P A T W R E → P
   callback_of walk = walk.process
 
   -- the root's path
-  abbrev pub root_of : WalkDirGeneric C S P A T R E → List ℕ
+  abbrev pub root_of : WalkDirGeneric C S P A T W R E → List ℕ
   root_of walk = string_bytes walk.root
 
   -- the state that the root's list is given
-  abbrev pub state_of : WalkDirGeneric C S P A T R E → R
+  abbrev pub state_of : WalkDirGeneric C S P A T W R E → R
   state_of walk = walk.root_read_dir_state
 
   -- the options
-  abbrev pub options_of : WalkDirGeneric C S P A T R E → Options
+  abbrev pub options_of : WalkDirGeneric C S P A T W R E → Options
   options_of walk = options_value walk.options
 
   -- One call of the builder: it changes the options alone.
-  pub record Sets (set : Options) (old new : WalkDirGeneric C S P A T R E) : Type 0 where
+  pub record Sets (set : Options) (old new : WalkDirGeneric C S P A T W R E) : Type 0 where
     pub options : options_of new ≡ set
     pub file_system : file_system_of new ≡ file_system_of old
     pub callback : callback_of new ≡ callback_of old
@@ -56,7 +56,7 @@ module _ {C S P A T R E : Type 0} where
     pub state : state_of new ≡ state_of old
 
   -- One that changes the root's state alone.
-  pub record SetsState (set : R) (old new : WalkDirGeneric C S P A T R E) : Type 0 where
+  pub record SetsState (set : R) (old new : WalkDirGeneric C S P A T W R E) : Type 0 where
     pub state : state_of new ≡ set
     pub options : options_of new ≡ options_of old
     pub file_system : file_system_of new ≡ file_system_of old
@@ -64,7 +64,7 @@ module _ {C S P A T R E : Type 0} where
     pub root : root_of new ≡ root_of old
 
   -- what its readings are made of, over a fixed file system and what is given
-  abbrev pub job_for : FileSystem.Ghosts S → Given R E → WalkDirGeneric C S P A T R E → Job Worth Worth
+  abbrev pub job_for : FileSystem.Ghosts S → Given R E → WalkDirGeneric C S P A T W R E → Job Worth Worth
   job_for files given walk = record {
     fs = files.functions (file_system_of walk);
     options = options_of walk;
@@ -73,7 +73,7 @@ module _ {C S P A T R E : Type 0} where
   }
 
   -- A walk that begins, whatever its file system answers: it is over the builder's file system, callback and options, holds no entry that is too deep, and what it has to read are the directories of what it holds. It reads as many of them together as the options say, and none is read yet. It holds what tells that its start was refused, or a list of the root's depth.
-  pub record Starts (walk : WalkDirGeneric C S P A T R E) (it : DirEntryIter C S P A T R E) : Type 0 where
+  pub record Starts {L : Type 0} (walk : WalkDirGeneric C S P A T W R E) (it : DirEntryIter C S P A T L R E) : Type 0 where
     pub file_system : file_system (job_of it) ≡ file_system_of walk
     pub callback : callback (job_of it) ≡ callback_of walk
     pub options : job.options_of (job_of it) ≡ options_of walk
@@ -84,7 +84,7 @@ module _ {C S P A T R E : Type 0} where
     pub early : iter.early_of it ≡ []
 
 -- One that puts another callback in the place of the walk's own, and changes nothing else.
-pub record SetsCallback {C S P Q A T R E : Type 0} (process : Q) (old : WalkDirGeneric C S P A T R E) (new : WalkDirGeneric C S Q A T R E) : Type 0 where
+pub record SetsCallback {C S P Q A T W R E : Type 0} (process : Q) (old : WalkDirGeneric C S P A T W R E) (new : WalkDirGeneric C S Q A T W R E) : Type 0 where
   pub callback : callback_of new ≡ process
   pub options : options_of new ≡ options_of old
   pub file_system : file_system_of new ≡ file_system_of old
@@ -92,15 +92,15 @@ pub record SetsCallback {C S P Q A T R E : Type 0} (process : Q) (old : WalkDirG
   pub state : state_of new ≡ state_of old
 
 -- One that puts other threads in the place of the walk's own, and changes nothing else.
-pub record SetsThreads {C S P A T U R E : Type 0} (old : WalkDirGeneric C S P A T R E) (new : WalkDirGeneric C S P A U R E) : Type 0 where
+pub record SetsThreads {C S P A T U W R E : Type 0} (old : WalkDirGeneric C S P A T W R E) (new : WalkDirGeneric C S P A U W R E) : Type 0 where
   pub options : options_of new ≡ options_of old
   pub file_system : file_system_of new ≡ file_system_of old
   pub callback : callback_of new ≡ callback_of old
   pub root : root_of new ≡ root_of old
   pub state : state_of new ≡ state_of old
 
-module _ {C S P A T R E : Type 0} (files : FileSystem.Ghosts S) (process : ProcessReadDir.Ghosts P C A R E) (clone : Clone.Ghosts R) (defaults : Default.Ghosts E) where
+module _ {C S P A T W L R E : Type 0} (files : FileSystem.Ghosts S) (process : ProcessReadDir.Ghosts P C A R E) (clone : Clone.Ghosts R) (defaults : Default.Ghosts E) where
   -- The iterator holds the root's list.
-  abbrev pub Holds : WalkDirGeneric C S P A T R E → DirEntryIter C S P A T R E → Type 0
+  abbrev pub Holds : WalkDirGeneric C S P A T W R E → DirEntryIter C S P A T L R E → Type 0
   Holds walk it = (given : Given R E) → IsSteady files process clone defaults (file_system_of walk) (callback_of walk) given
       → held_by given it ≡ paired (root_list (job_for files given walk) (root_of walk) (given.read_dir_state (state_of walk)))

@@ -1,12 +1,14 @@
 //! A walk's answers.
-ghost use Rattle.std.specs.Prelude.{◌≡◌, true, Ok, IfOk, OnErr};
+ghost use Rattle.std.specs.Prelude.{◌≡◌, true, Ok, IfOk, IfErr, OnErr};
 ghost use Rattle.jwalk_read.specs.Entry.{entry, item};
 ghost use Rattle.jwalk_read.specs.Job.{callback};
 
 mod on_threads;
 
+use crate::crew_reads::error_of;
 use crate::read_dir_iter::ReadDirIter;
 use crate::threads::InTurn;
+use jwalk_crew::pool::{Missed, NoPool, Pool};
 use jwalk_engine::read::Outcome;
 use jwalk_read::client_state::ClientState;
 use jwalk_read::dir_entry::DirEntry;
@@ -21,23 +23,31 @@ use walk_fs::file_system::FileSystem;
 ///
 /// A directory's entry is answered when its directory was read. A directory that could not be read is answered with the
 /// error in its `read_children`. Want of memory is answered by one error whose `is_memory` is true, and then by `None`
-/// for good; so is the end of the walk.
+/// for good; so is the end of the walk. A walk over a crew ends in the same way, by an error whose `is_lost` is true,
+/// where a reading won't come.
 pub struct DirEntryIter<
     C: ClientState,
     S: FileSystem,
     P: ProcessReadDir<C, A>,
     A: Allocator + Copy = Global,
     T = InTurn,
+    L = NoPool,
 > {
-    pub(crate) reads: ReadDirIter<C, S, P, A, T>,
+    pub(crate) reads: ReadDirIter<C, S, P, A, T, L>,
     // What was received and not passed on, the next one last.
     pub(crate) items: Vec<Result<DirEntry<C, A>, Error<A>>, A>,
     // Memory was refused at the start, and this was not answered yet.
     pub(crate) refused: bool,
 }
 
-impl<C: ClientState, S: FileSystem, P: ProcessReadDir<C, A>, A: Allocator + Copy, T: Drop> Drop
-    for DirEntryIter<C, S, P, A, T> {
+impl<
+    C: ClientState,
+    S: FileSystem,
+    P: ProcessReadDir<C, A>,
+    A: Allocator + Copy,
+    T: Drop,
+    L: Drop,
+> Drop for DirEntryIter<C, S, P, A, T, L> {
     fn drop(self) {
         let DirEntryIter {
             reads: _,
@@ -53,7 +63,8 @@ impl<
     P: ProcessReadDir<C, A>,
     A: Allocator + Copy,
     T: Drop,
-> DirEntryIter<C, S, P, A, T> {
+    L: Pool<C, S, P, A>,
+> DirEntryIter<C, S, P, A, T, L> {
     ghost use Rattle.std.specs.Prelude.{◌++◌, [], false, length, OnOk, IsSome, IfSome, IfNone, IsSomeAnd, option_map};
     ghost use Rattle.walk_model.specs.Entry.{AtDepth};
     ghost use Rattle.walk_model.specs.ReadDir.{children, AreClones};
@@ -63,11 +74,14 @@ impl<
     ghost use Rattle.jwalk_read.specs.Options as options;
     ghost use Rattle.jwalk_read.specs.Job.{ClonesCount, options_of};
     ghost use Rattle.jwalk_engine.specs.ReadAhead.{nothing_ahead};
-    ghost use Rattle.jwalk.specs.DirEntryIter.{job_of, min_depth_of, items_of, unread_of, width_of, read_ahead, early_of, held_by, IsWithin, IsSourced, IsRefused, IsSteadyWalk, StaysSteady, EntersIfAny, GrowsAhead, Answers, Counts};
+    ghost use Rattle.jwalk.specs.CrewReads.{failure_of};
+    ghost use Rattle.jwalk.specs.ReadDirIter.{Tells};
+    ghost use Rattle.jwalk.specs.DirEntryIter.{by_crew, job_of, min_depth_of, items_of, unread_of, width_of, read_ahead, early_of, held_by, IsWithin, IsSourced, IsRefused, Known, StaysSteady, EntersIfAny, GrowsAhead, Answers, Counts};
     ghost use Rattle.jwalk.specs.Step.{IsAtDirectory, Receives, PassesNext, ReadsUpTo, StopsAtDirectory};
 
     /// A walk whose start was refused, which needs no memory.
     fn refused(alloc: A, threads: T, job: Job<C, S, P, A>) -> Self
+        ensures own { by_crew result ≡ false }
         ensures job { job_of result ≡ job }
         ensures refused { result.refused ≡ true }
         ensures items { items_of result ≡ [] }
@@ -75,9 +89,9 @@ impl<
         ensures width { width_of result ≡ options.width_of (options_of job).parallelism }
         ensures early { early_of result ≡ [] }
     {
-        let parallelism = job.options().parallelism();
+        let mode = job.options().mode();
         DirEntryIter {
-            reads: ReadDirIter::new(alloc, threads, job, parallelism),
+            reads: ReadDirIter::new(alloc, threads, job, mode),
             items: Vec::new(alloc),
             refused: true,
         }
@@ -85,6 +99,8 @@ impl<
 
     /// Takes over the root's list.
     fn begin(&mut self, read: ReadDir<C, A>) -> Result<(), AllocError>
+        requires { by_crew self.old ≡ false }
+        ensures own { by_crew self.new ≡ false }
         ensures job { job_of self.new ≡ job_of self.old }
         ensures refused { self.new.refused ≡ self.old.refused }
         ensures items { OnOk result (items_of self.new ≡ (reading read).list ++ items_of self.old) }
@@ -107,6 +123,7 @@ impl<
         read: Option<ReadDir<C, A>>,
     ) -> Self
         requires { IfSome read (λ r. AtDepth 0 (reading r).list) }
+        ensures own { by_crew result ≡ false }
         ensures job { job_of result ≡ job }
         ensures refused { result.refused ≡ true → IsRefused result }
         ensures within { IsWithin result }
@@ -146,6 +163,7 @@ impl<
 
     /// Forgets all that is still to come.
     fn stop(&mut self)
+        ensures crew { by_crew self.new ≡ by_crew self.old }
         ensures job { job_of self.new ≡ job_of self.old }
         ensures refused { self.new.refused ≡ self.old.refused }
         ensures width { width_of self.new ≡ width_of self.old }
@@ -183,21 +201,23 @@ impl<
     }
 
     /// The next item, passed on.
-    fn pass(&mut self) -> Result<Option<Result<DirEntry<C, A>, Error<A>>>, AllocError>
+    fn pass(&mut self) -> Result<Option<Result<DirEntry<C, A>, Error<A>>>, Missed>
         requires { P.IsLawful (callback (job_of self.old)) }
+        ensures crew { by_crew self.new ≡ by_crew self.old }
         ensures job { job_of self.new ≡ job_of self.old }
         ensures refused { self.new.refused ≡ self.old.refused }
         ensures end { IfOk result (λ o. IfNone o
             ((items_of self.old ≡ []) × (items_of self.new ≡ []) × (unread_of self.new ≡ unread_of self.old))) }
         ensures steady { StaysSteady S.FileSystem P.ProcessReadDir C.ReadDirState.Clone C.DirEntryState.Default
             self.old self.new }
-        ensures passed { IfOk result (λ o. IfSome o (λ passed. PassesNext S.FileSystem C.ReadDirState.Clone
-            (IsSteadyWalk S.FileSystem P.ProcessReadDir C.ReadDirState.Clone C.DirEntryState.Default self.old)
+        ensures passed { IfOk result (λ o. IfSome o (λ passed. PassesNext C.ReadDirState.Clone
+            (Known S.FileSystem P.ProcessReadDir C.ReadDirState.Clone C.DirEntryState.Default self.old)
             (job_of self.old) (items_of self.old) (unread_of self.old)
             (item passed) (items_of self.new) (unread_of self.new))) }
         ensures width { width_of self.new ≡ width_of self.old }
         ensures ahead { OnOk result (EntersIfAny S.FileSystem P.ProcessReadDir C.ReadDirState.Clone
             C.DirEntryState.Default self.old self.new) }
+        ensures tells { IfErr result (λ missed. Tells (by_crew self.old) (failure_of missed)) }
         ensures stopped { OnErr result (IsAtDirectory (items_of self.old) (unread_of self.old)) }
     {
         match self.items.pop() {
@@ -240,21 +260,23 @@ impl<
     }
 
     /// The next item that is answered.
-    fn next_kept(&mut self) -> Result<Option<Result<DirEntry<C, A>, Error<A>>>, AllocError>
+    fn next_kept(&mut self) -> Result<Option<Result<DirEntry<C, A>, Error<A>>>, Missed>
         requires { P.IsLawful (callback (job_of self.old)) }
+        ensures crew { by_crew self.new ≡ by_crew self.old }
         ensures job { job_of self.new ≡ job_of self.old }
         ensures refused { self.new.refused ≡ self.old.refused }
         ensures steady { StaysSteady S.FileSystem P.ProcessReadDir C.ReadDirState.Clone C.DirEntryState.Default
             self.old self.new }
-        ensures reads { IfOk result (λ answer. ReadsUpTo S.FileSystem C.ReadDirState.Clone
-            (IsSteadyWalk S.FileSystem P.ProcessReadDir C.ReadDirState.Clone C.DirEntryState.Default self.old)
+        ensures reads { IfOk result (λ answer. ReadsUpTo C.ReadDirState.Clone
+            (Known S.FileSystem P.ProcessReadDir C.ReadDirState.Clone C.DirEntryState.Default self.old)
             (job_of self.old) (items_of self.old) (unread_of self.old)
             (option_map item answer) (items_of self.new) (unread_of self.new)) }
         ensures width { width_of self.new ≡ width_of self.old }
         ensures ahead { OnOk result (GrowsAhead S.FileSystem P.ProcessReadDir C.ReadDirState.Clone
             C.DirEntryState.Default self.old self.new) }
-        ensures stopped { OnErr result (StopsAtDirectory S.FileSystem C.ReadDirState.Clone
-            (IsSteadyWalk S.FileSystem P.ProcessReadDir C.ReadDirState.Clone C.DirEntryState.Default self.old)
+        ensures tells { IfErr result (λ missed. Tells (by_crew self.old) (failure_of missed)) }
+        ensures stopped { OnErr result (StopsAtDirectory C.ReadDirState.Clone
+            (Known S.FileSystem P.ProcessReadDir C.ReadDirState.Clone C.DirEntryState.Default self.old)
             (job_of self.old) (items_of self.old) (unread_of self.old)) }
     {
         while let Some(passed) = self.pass()? {
@@ -265,7 +287,7 @@ impl<
         Ok(None)
     }
 
-    /// The next answer; where memory is refused, the error that tells of it, and nothing is left.
+    /// The next answer; or the error that tells why it won't come, and nothing is left.
     fn next_answer(&mut self) -> Option<Result<DirEntry<C, A>, Error<A>>>
         requires { P.IsLawful (callback (job_of self.old)) }
         ensures { Answers S.FileSystem P.ProcessReadDir C.ReadDirState.Clone C.DirEntryState.Default
@@ -277,9 +299,9 @@ impl<
         }
         match self.next_kept() {
             Ok(answer) => answer,
-            Err(_) => {
+            Err(missed) => {
                 self.stop();
-                Some(Err(Error::memory()))
+                Some(Err(error_of(missed)))
             }
         }
     }
@@ -291,9 +313,10 @@ impl<
         self.refused
     }
 
-    /// How many directories were read whose readings are not handed on yet. A serial walk reads none ahead.
+    /// How many directories were read whose readings are not handed on yet. A serial walk reads none ahead; over a crew
+    /// the number changes while the workers read.
     pub fn ahead(&self) -> usize
-        ensures { result ≡ length (early_of self.now) }
+        ensures { by_crew self.now ≡ false → result ≡ length (early_of self.now) }
     {
         self.reads.ahead()
     }
@@ -312,13 +335,13 @@ impl<
     }
 }
 
-impl<C: ClientState, S: FileSystem, P: ProcessReadDir<C, A>, A: Allocator + Copy> DirEntryIter<
-    C,
-    S,
-    P,
-    A,
-    InTurn,
-> {
+impl<
+    C: ClientState,
+    S: FileSystem,
+    P: ProcessReadDir<C, A>,
+    A: Allocator + Copy,
+    L: Pool<C, S, P, A>,
+> DirEntryIter<C, S, P, A, InTurn, L> {
     ghost use Rattle.jwalk.specs.DirEntryIter.{job_of, Fills};
 
     /// Appends answers to `out` until they are `n` or the walk ends, and answers how many.
@@ -347,8 +370,14 @@ impl<C: ClientState, S: FileSystem, P: ProcessReadDir<C, A>, A: Allocator + Copy
     }
 }
 
-impl<C: ClientState, S: FileSystem, P: ProcessReadDir<C, A>, A: Allocator + Copy, T: Drop> Iterator
-    for DirEntryIter<C, S, P, A, T> {
+impl<
+    C: ClientState,
+    S: FileSystem,
+    P: ProcessReadDir<C, A>,
+    A: Allocator + Copy,
+    T: Drop,
+    L: Pool<C, S, P, A>,
+> Iterator for DirEntryIter<C, S, P, A, T, L> {
     type Item = Result<DirEntry<C, A>, Error<A>>;
 
     ghost use Rattle.std.specs.Iterator.{at_most};

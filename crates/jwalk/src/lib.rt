@@ -10,8 +10,10 @@
 //! ```
 #![tactic(auto)]
 
+mod crew_reads;
 pub mod dir_entry_iter;
 pub mod file_system;
+mod parallelism;
 pub mod read_dir;
 pub mod read_dir_iter;
 pub mod threads;
@@ -19,11 +21,12 @@ mod walk_dir;
 
 pub use dir_entry_iter::DirEntryIter;
 pub use jwalk_board::board;
+pub use jwalk_crew::pool::NoPool;
 pub use jwalk_order::{index_path, ordered, ordered_queue};
 pub use jwalk_read::client_state::ClientState;
 pub use jwalk_read::dir_entry::{DirEntry, ReadChildren};
 pub use jwalk_read::error::{Error, Result};
-pub use jwalk_read::parallelism::Parallelism;
 pub use jwalk_read::{dir_entry, error};
+pub use parallelism::Parallelism;
 pub use walk_dir::{WalkDir, WalkDirGeneric};
 pub use walk_paths::path_text;

@@ -1,5 +1,5 @@
 //! Readings in preorder.
-ghost use Rattle.std.specs.Prelude.{◌≡◌, ◌≢◌, ◌≤◌, ◌+◌, [], length, map, IfOk, IfErr, OnOk, OnErr, IsSome, option_map};
+ghost use Rattle.std.specs.Prelude.{◌≡◌, ◌≢◌, ◌≤◌, ◌+◌, false, [], length, map, IfOk, IfErr, OnOk, OnErr, IsSome, option_map};
 ghost use Rattle.walk_model.specs.Error.{memory};
 ghost use Rattle.jwalk_read.specs.Error.{failure};
 ghost use Rattle.jwalk_read.specs.ReadDir.{spec, outcome};
@@ -7,14 +7,17 @@ ghost use Rattle.jwalk_read.specs.Job.{callback};
 
 mod on_threads;
 
+use crate::crew_reads::{CrewReads, error_of};
+use crate::parallelism::Parallelism;
 use crate::threads::InTurn;
+use jwalk_crew::pool::{Missed, NoPool, Pool};
 use jwalk_engine::board_walk::BoardWalk;
 use jwalk_engine::read::Outcome;
 use jwalk_read::client_state::ClientState;
 use jwalk_read::dir_entry::DirEntry;
 use jwalk_read::error::Error;
 use jwalk_read::job::Job;
-use jwalk_read::parallelism::Parallelism;
+use jwalk_read::mode::Mode;
 use jwalk_read::process_read_dir::ProcessReadDir;
 use jwalk_read::read_dir::ReadDir;
 use jwalk_read::read_dir_spec::ReadDirSpec;
@@ -24,26 +27,37 @@ use walk_fs::file_system::FileSystem;
 /// An iterator over readings, each before those of its own directories: the one of the first directory not given yet
 /// comes next, and then those below it.
 ///
-/// Want of memory is answered by one error whose `is_memory` is true, and then by `None`.
+/// Want of memory is answered by one error whose `is_memory` is true, and then by `None`; so is a crew's reading that
+/// won't come, by one whose `is_lost` is true.
 pub enum ReadDirIter<
     C: ClientState,
     S: FileSystem,
     P: ProcessReadDir<C, A>,
     A: Allocator + Copy = Global,
     T = InTurn,
+    L = NoPool,
 > {
     /// One directory is read at a time, when its reading is asked for.
     Walk(BoardWalk<C, S, P, A>),
     /// Several directories are read together, when a reading is asked for that isn't there yet.
     ParWalk(BoardWalk<C, S, P, A>, T),
+    /// The workers of a crew read ahead.
+    CrewWalk(CrewReads<C, S, P, A, L>),
 }
 
-impl<C: ClientState, S: FileSystem, P: ProcessReadDir<C, A>, A: Allocator + Copy, T: Drop> Drop
-    for ReadDirIter<C, S, P, A, T> {
+impl<
+    C: ClientState,
+    S: FileSystem,
+    P: ProcessReadDir<C, A>,
+    A: Allocator + Copy,
+    T: Drop,
+    L: Drop,
+> Drop for ReadDirIter<C, S, P, A, T, L> {
     fn drop(self) {
         match self {
             ReadDirIter::Walk(_) => (),
             ReadDirIter::ParWalk(_, _) => (),
+            ReadDirIter::CrewWalk(_) => (),
         }
     }
 }
@@ -54,52 +68,35 @@ impl<
     P: ProcessReadDir<C, A>,
     A: Allocator + Copy,
     T: Drop,
-> ReadDirIter<C, S, P, A, T> {
+    L: Pool<C, S, P, A>,
+> ReadDirIter<C, S, P, A, T, L> {
     ghost use Rattle.jwalk_read.specs.Options as options;
-    ghost use Rattle.jwalk_read.specs.Options.{parallelism_value};
-    ghost use Rattle.jwalk_engine.specs.Reads.{ReadsNext};
-    ghost use Rattle.jwalk_engine.specs.ReadAhead.{nothing_ahead, BeginsWith, EntersNext};
-    ghost use Rattle.jwalk_engine.specs.BoardWalk as board;
-    ghost use Rattle.jwalk.specs.ReadDirIter.{walk_of, job_of, to_read, width_of, read_ahead, early_of, next_address, IsSteadyReads, StaysSteady, Gives};
+    ghost use Rattle.jwalk_read.specs.Options.{mode_value};
+    ghost use Rattle.jwalk_read.specs.Job.{greatest_depth};
+    ghost use Rattle.jwalk_engine.specs.Reads.{ReadsNextBy};
+    ghost use Rattle.jwalk_engine.specs.ReadAhead.{nothing_ahead, BeginsWith};
+    ghost use Rattle.jwalk.specs.CrewReads.{failure_of};
+    ghost use Rattle.jwalk.specs.ReadDirIter.{by_crew, job_of, to_read, width_of, read_ahead, early_of, next_address, Tells, StaysSteady, Known, EntersNextBy, Gives};
 
-    /// Readings with nothing to read yet.
-    pub(crate) fn new(alloc: A, threads: T, job: Job<C, S, P, A>, parallelism: Parallelism) -> Self
+    /// Readings with nothing to read yet, by no crew.
+    pub(crate) fn new(alloc: A, threads: T, job: Job<C, S, P, A>, mode: Mode) -> Self
+        ensures own { by_crew result ≡ false }
         ensures job { job_of result ≡ job }
-        ensures width { width_of result ≡ options.width_of (parallelism_value parallelism) }
+        ensures width { width_of result ≡ options.width_of (mode_value mode) }
         ensures to_read { to_read result ≡ [] }
         ensures read_ahead { read_ahead result ≡ nothing_ahead }
     {
-        let walk = BoardWalk::new(alloc, job, parallelism.width());
-        match parallelism {
-            Parallelism::Serial => ReadDirIter::Walk(walk),
-            Parallelism::RayonNewPool(_) => ReadDirIter::ParWalk(walk, threads),
+        let walk = BoardWalk::new(alloc, job, mode.width());
+        match mode {
+            Mode::Batches(_) => ReadDirIter::ParWalk(walk, threads),
+            Mode::Serial | Mode::Crew => ReadDirIter::Walk(walk),
         }
     }
 
-    /// The readings of these directories and of all that is below them.
-    ///
-    /// Fails only for want of memory.
-    pub fn try_new(
-        threads: T,
-        job: Job<C, S, P, A>,
-        roots: Vec<ReadDirSpec<C, A>, A>,
-        parallelism: Parallelism,
-    ) -> Result<Self, Error<A>>
-        ensures job { IfOk result (λ reads. job_of reads ≡ job) }
-        ensures width { IfOk result (λ reads. width_of reads ≡ options.width_of (parallelism_value parallelism)) }
-        ensures to_read { IfOk result (λ reads. to_read reads ≡ map spec roots.items) }
-        ensures read_ahead { IfOk result (λ reads. BeginsWith (map spec roots.items) (read_ahead reads)) }
-        ensures memory { IfErr result (λ error. failure error ≡ memory) }
-    {
-        let mut reads = ReadDirIter::new(*roots.allocator(), threads, job, parallelism);
-        match reads.begin(roots) {
-            Ok(()) => Ok(reads),
-            Err(_) => Err(Error::memory()),
-        }
-    }
-
-    /// Puts these directories in the place of what was to be read.
+    /// Puts these directories in the place of what was to be read, where no crew reads.
     pub(crate) fn begin(&mut self, roots: Vec<ReadDirSpec<C, A>, A>) -> Result<(), AllocError>
+        requires { by_crew self.old ≡ false }
+        ensures own { by_crew self.new ≡ false }
         ensures job { job_of self.new ≡ job_of self.old }
         ensures width { width_of self.new ≡ width_of self.old }
         ensures to_read { OnOk result (to_read self.new ≡ map spec roots.items) }
@@ -108,35 +105,38 @@ impl<
         match self {
             ReadDirIter::Walk(walk) => walk.begin(roots),
             ReadDirIter::ParWalk(walk, _) => walk.begin(roots),
+            ReadDirIter::CrewWalk(_) => unreachable!(),
         }
     }
 
     /// The next reading.
-    pub(crate) fn read_next(&mut self) -> Result<Option<Outcome<C, A>>, AllocError>
+    pub(crate) fn read_next(&mut self) -> Result<Option<Outcome<C, A>>, Missed>
         requires { P.IsLawful (callback (job_of self.old)) }
+        ensures crew { by_crew self.new ≡ by_crew self.old }
         ensures job { job_of self.new ≡ job_of self.old }
         ensures width { width_of self.new ≡ width_of self.old }
-        ensures ahead { length (board.early_of (walk_of self.new)) + 1
-            ≤ length (board.early_of (walk_of self.old)) + width_of self.old }
+        ensures ahead { length (early_of self.new) + 1 ≤ length (early_of self.old) + width_of self.old }
+        ensures tells { IfErr result (λ missed. Tells (by_crew self.old) (failure_of missed)) }
         ensures some { OnErr result (to_read self.old ≢ []) }
         ensures stopped { OnErr result (to_read self.new ≡ []) }
         ensures nothing_ahead { OnErr result (read_ahead self.new ≡ nothing_ahead) }
         ensures steady { StaysSteady S.FileSystem P.ProcessReadDir C.ReadDirState.Clone C.DirEntryState.Default
             self.old self.new }
-        ensures next { IfOk result (λ o. ReadsNext S.FileSystem C.ReadDirState.Clone
-            (IsSteadyReads S.FileSystem P.ProcessReadDir C.ReadDirState.Clone C.DirEntryState.Default self.old)
-            (job_of self.old) (to_read self.old) (option_map outcome o) (to_read self.new)) }
-        ensures enters { IfOk result (λ o. EntersNext S.FileSystem P.ProcessReadDir C.ReadDirState.Clone
-            C.DirEntryState.Default (job_of self.old) (width_of self.old) (next_address self.old)
-            (read_ahead self.old) (option_map outcome o) (read_ahead self.new)) }
+        ensures next { IfOk result (λ o. ReadsNextBy C.ReadDirState.Clone
+            (Known S.FileSystem P.ProcessReadDir C.ReadDirState.Clone C.DirEntryState.Default self.old)
+            (greatest_depth (job_of self.old)) (to_read self.old) (option_map outcome o) (to_read self.new)) }
+        ensures enters { IfOk result (λ o. EntersNextBy S.FileSystem P.ProcessReadDir C.ReadDirState.Clone
+            C.DirEntryState.Default (by_crew self.old) (job_of self.old) (width_of self.old)
+            (next_address self.old) (read_ahead self.old) (option_map outcome o) (read_ahead self.new)) }
     {
         match self {
-            ReadDirIter::Walk(walk) => walk.read_next(),
-            ReadDirIter::ParWalk(walk, _) => walk.read_next(),
+            ReadDirIter::Walk(walk) => Ok(walk.read_next()?),
+            ReadDirIter::ParWalk(walk, _) => Ok(walk.read_next()?),
+            ReadDirIter::CrewWalk(reads) => reads.read_next(),
         }
     }
 
-    /// The next reading; or, where memory is refused, the error that tells of it, and nothing is left to be read.
+    /// The next reading; or the error that tells why it won't come, and nothing is left to be read.
     fn next_or_stop(&mut self) -> Option<Outcome<C, A>>
         requires { P.IsLawful (callback (job_of self.old)) }
         ensures { Gives S.FileSystem P.ProcessReadDir C.ReadDirState.Clone C.DirEntryState.Default
@@ -144,17 +144,7 @@ impl<
     {
         match self.read_next() {
             Ok(read) => read,
-            Err(_) => Some(Err(Error::memory())),
-        }
-    }
-
-    /// The walk over a board, of either kind.
-    fn walk(&self) -> &BoardWalk<C, S, P, A>
-        ensures { result.now ≡ walk_of self.now }
-    {
-        match self {
-            ReadDirIter::Walk(walk) => walk,
-            ReadDirIter::ParWalk(walk, _) => walk,
+            Err(missed) => Some(Err(error_of(missed))),
         }
     }
 
@@ -162,18 +152,27 @@ impl<
     pub(crate) fn job(&self) -> &Job<C, S, P, A>
         ensures { result.now ≡ job_of self.now }
     {
-        self.walk().job()
+        match self {
+            ReadDirIter::Walk(walk) => walk.job(),
+            ReadDirIter::ParWalk(walk, _) => walk.job(),
+            ReadDirIter::CrewWalk(reads) => reads.job(),
+        }
     }
 
-    /// How many readings were made and not handed on.
+    /// How many readings were made and not handed on. Over a crew it changes while the workers read.
     pub fn ahead(&self) -> usize
-        ensures { result ≡ length (early_of self.now) }
+        ensures { by_crew self.now ≡ false → result ≡ length (early_of self.now) }
     {
-        self.walk().ahead()
+        match self {
+            ReadDirIter::Walk(walk) => walk.ahead(),
+            ReadDirIter::ParWalk(walk, _) => walk.ahead(),
+            ReadDirIter::CrewWalk(reads) => reads.ahead(),
+        }
     }
 
     /// Forgets what is not read yet, and what was read early.
     pub(crate) fn stop(&mut self)
+        ensures crew { by_crew self.new ≡ by_crew self.old }
         ensures job { job_of self.new ≡ job_of self.old }
         ensures width { width_of self.new ≡ width_of self.old }
         ensures to_read { to_read self.new ≡ [] }
@@ -184,17 +183,54 @@ impl<
         match self {
             ReadDirIter::Walk(walk) => walk.stop(),
             ReadDirIter::ParWalk(walk, _) => walk.stop(),
+            ReadDirIter::CrewWalk(reads) => reads.stop(),
         }
     }
 }
 
-impl<C: ClientState, S: FileSystem, P: ProcessReadDir<C, A>, A: Allocator + Copy> ReadDirIter<
-    C,
-    S,
-    P,
-    A,
-    InTurn,
-> {
+impl<
+    C: ClientState,
+    S: FileSystem,
+    P: ProcessReadDir<C, A>,
+    A: Allocator + Copy,
+    T: Drop,
+> ReadDirIter<C, S, P, A, T, NoPool> {
+    ghost use Rattle.jwalk_read.specs.Options as options;
+    ghost use Rattle.jwalk_engine.specs.ReadAhead.{BeginsWith};
+    ghost use Rattle.jwalk.specs.Parallelism.{parallelism_value};
+    ghost use Rattle.jwalk.specs.ReadDirIter.{by_crew, job_of, to_read, width_of, read_ahead};
+
+    /// The readings of these directories and of all that is below them.
+    ///
+    /// Fails only for want of memory.
+    pub fn try_new(
+        threads: T,
+        job: Job<C, S, P, A>,
+        roots: Vec<ReadDirSpec<C, A>, A>,
+        parallelism: Parallelism<NoPool, A>,
+    ) -> Result<Self, Error<A>>
+        ensures own { IfOk result (λ reads. by_crew reads ≡ false) }
+        ensures job { IfOk result (λ reads. job_of reads ≡ job) }
+        ensures width { IfOk result (λ reads. width_of reads ≡ options.width_of (parallelism_value parallelism)) }
+        ensures to_read { IfOk result (λ reads. to_read reads ≡ map spec roots.items) }
+        ensures read_ahead { IfOk result (λ reads. BeginsWith (map spec roots.items) (read_ahead reads)) }
+        ensures memory { IfErr result (λ error. failure error ≡ memory) }
+    {
+        let mut reads = ReadDirIter::new(*roots.allocator(), threads, job, parallelism.mode());
+        match reads.begin(roots) {
+            Ok(()) => Ok(reads),
+            Err(_) => Err(Error::memory()),
+        }
+    }
+}
+
+impl<
+    C: ClientState,
+    S: FileSystem,
+    P: ProcessReadDir<C, A>,
+    A: Allocator + Copy,
+    L: Pool<C, S, P, A>,
+> ReadDirIter<C, S, P, A, InTurn, L> {
     ghost use Rattle.jwalk.specs.ReadDirIter.{job_of, Gives};
 
     /// The reading of an entry's directory: the next one, where the entries are those of the readings so far in the
@@ -210,8 +246,14 @@ impl<C: ClientState, S: FileSystem, P: ProcessReadDir<C, A>, A: Allocator + Copy
     }
 }
 
-impl<C: ClientState, S: FileSystem, P: ProcessReadDir<C, A>, A: Allocator + Copy, T: Drop> Iterator
-    for ReadDirIter<C, S, P, A, T> {
+impl<
+    C: ClientState,
+    S: FileSystem,
+    P: ProcessReadDir<C, A>,
+    A: Allocator + Copy,
+    T: Drop,
+    L: Pool<C, S, P, A>,
+> Iterator for ReadDirIter<C, S, P, A, T, L> {
     type Item = Result<ReadDir<C, A>, Error<A>>;
 
     ghost use Rattle.std.specs.Iterator.{at_most};

@@ -4,7 +4,9 @@ ghost use Rattle.walk_model.specs.Error.{memory};
 ghost use Rattle.jwalk_read.specs.Error.{failure};
 
 use crate::dir_entry_iter::DirEntryIter;
+use crate::parallelism::Parallelism;
 use crate::threads::{InTurn, OnThreads};
+use jwalk_crew::pool::NoPool;
 use jwalk_process::by_fn::ByFn;
 use jwalk_process::calls::Closure;
 use jwalk_read::client_state::ClientState;
@@ -12,11 +14,12 @@ use jwalk_read::dir_entry::DirEntry;
 use jwalk_read::error::Error;
 use jwalk_read::job::Job;
 use jwalk_read::options::Options;
-use jwalk_read::parallelism::Parallelism;
 use jwalk_read::process_read_dir::{NoProcess, ProcessReadDir};
 use real_fs::real_fs::RealFs;
 use std::alloc::{AllocError, Allocator, Global};
 use std::rt::{Files, HostRuntime};
+use std::sync::Arc;
+use std::time::Duration;
 use walk_fs::file_system::FileSystem;
 
 /// A walk that is yet to begin: a root in a file system, and options.
@@ -27,6 +30,7 @@ pub struct WalkDirGeneric<
     P: ProcessReadDir<C, A>,
     A: Allocator + Copy = Global,
     T = InTurn,
+    W = NoPool,
 > {
     fs: S,
     root: String<A>,
@@ -34,6 +38,8 @@ pub struct WalkDirGeneric<
     options: Options,
     root_read_dir_state: C::ReadDirState,
     threads: T,
+    // What reads ahead for it, and how long the walk waits for a place there.
+    crew: Option<(Arc<W, A>, Option<Duration>)>,
 }
 
 /// A walk of the file system that a runtime reaches, without states beside directories and entries.
@@ -70,6 +76,7 @@ impl<C: ClientState, S: FileSystem, A: Allocator + Copy> WalkDirGeneric<
             options: Options::new(),
             root_read_dir_state: C::ReadDirState::default(),
             threads: InTurn,
+            crew: None,
         }
     }
 }
@@ -105,11 +112,11 @@ impl<
     P: ProcessReadDir<C, A>,
     A: Allocator + Copy,
     T: Drop,
-> WalkDirGeneric<C, S, P, A, T> {
+    W: Drop,
+> WalkDirGeneric<C, S, P, A, T, W> {
     ghost use Rattle.walk_model.specs.Options.{with_sort, with_skip_hidden, with_follow_links, with_min_depth, with_max_depth, with_parallelism};
-    ghost use Rattle.jwalk_read.specs.Options.{parallelism_value};
-    ghost use Rattle.jwalk.specs.WalkDir.{callback_of, root_of, options_of, Sets, SetsState, SetsCallback, SetsThreads, Starts, Holds};
-    ghost use Rattle.jwalk.specs.DirEntryIter.{IsRefused};
+    ghost use Rattle.jwalk.specs.Parallelism.{parallelism_value};
+    ghost use Rattle.jwalk.specs.WalkDir.{root_of, options_of, Sets, SetsState, SetsCallback, SetsThreads};
 
     /// The root's path as it was given.
     pub fn root(&self) -> &str
@@ -174,15 +181,16 @@ impl<
     /// answers are asked for by the walk's own `next`, `fill` or `next_of`, as in
     /// `while let Some(answer) = walk.next()`. A `for` loop and adapters call `Iterator::next`, which reads
     /// the same directories one after another.
-    pub fn parallelism(mut self, parallelism: Parallelism) -> Self
+    pub fn parallelism(mut self, parallelism: Parallelism<W, A>) -> Self
         ensures { Sets (with_parallelism (parallelism_value parallelism) (options_of self)) self result }
     {
-        self.options = self.options.with_parallelism(parallelism);
+        self.options = self.options.with_mode(parallelism.mode());
+        self.crew = parallelism.into_crew();
         self
     }
 
     /// The same walk, where threads of this runtime read the directories that are read together.
-    pub fn threads<R>(self, rt: R) -> WalkDirGeneric<C, S, P, A, OnThreads<R>>
+    pub fn threads<R>(self, rt: R) -> WalkDirGeneric<C, S, P, A, OnThreads<R>, W>
         ensures { SetsThreads self result }
     {
         WalkDirGeneric {
@@ -192,6 +200,7 @@ impl<
             options: self.options,
             root_read_dir_state: self.root_read_dir_state,
             threads: OnThreads::new(rt),
+            crew: self.crew,
         }
     }
 
@@ -209,7 +218,7 @@ impl<
     pub fn process_read_dir<Q: ProcessReadDir<C, A>>(
         self,
         process: Q,
-    ) -> WalkDirGeneric<C, S, Q, A, T>
+    ) -> WalkDirGeneric<C, S, Q, A, T, W>
         ensures { SetsCallback process self result }
     {
         WalkDirGeneric {
@@ -219,12 +228,25 @@ impl<
             options: self.options,
             root_read_dir_state: self.root_read_dir_state,
             threads: self.threads,
+            crew: self.crew,
         }
     }
+}
+
+impl<
+    C: ClientState,
+    S: FileSystem,
+    P: ProcessReadDir<C, A>,
+    A: Allocator + Copy,
+    T: Drop,
+> WalkDirGeneric<C, S, P, A, T, NoPool> {
+    ghost use Rattle.jwalk.specs.WalkDir.{callback_of, Starts, Holds};
+    ghost use Rattle.jwalk.specs.DirEntryIter.{by_crew, IsRefused};
 
     /// The walk begun, whether memory was refused or not.
     fn begin(self) -> DirEntryIter<C, S, P, A, T>
         requires { P.IsLawful (callback_of self) }
+        ensures own { by_crew result ≡ false }
         ensures starts { Starts self result }
         ensures holds { result.refused ≡ false
             → Holds S.FileSystem P.ProcessReadDir C.ReadDirState.Clone C.DirEntryState.Default self result }
@@ -238,6 +260,7 @@ impl<
             options,
             root_read_dir_state,
             threads,
+            crew: _,
         } = self;
         let job = Job::with_options(alloc, fs, process, options);
         let read = job.root_list(root.as_str(), root_read_dir_state);
@@ -249,6 +272,7 @@ impl<
     /// Fails only for want of memory.
     pub fn try_into_iter(self) -> Result<DirEntryIter<C, S, P, A, T>, Error<A>>
         requires { P.IsLawful (callback_of self) }
+        ensures own { IfOk result (λ walk. by_crew walk ≡ false) }
         ensures starts { IfOk result (Starts self) }
         ensures holds { IfOk result (Holds S.FileSystem P.ProcessReadDir C.ReadDirState.Clone
             C.DirEntryState.Default self) }
@@ -266,6 +290,7 @@ impl<
     /// Where memory is refused, the iterator's only answer is the error that tells of it.
     pub fn into_iter(self) -> DirEntryIter<C, S, P, A, T>
         requires { P.IsLawful (callback_of self) }
+        ensures own { by_crew result ≡ false }
         ensures starts { Starts self result }
         ensures holds { IsRefused result
             ⊎ Holds S.FileSystem P.ProcessReadDir C.ReadDirState.Clone C.DirEntryState.Default self result }
@@ -274,12 +299,13 @@ impl<
     }
 }
 
-impl<C: ClientState, S: FileSystem, P: ProcessReadDir<C, Global>, T: Drop> WalkDirGeneric<
+impl<C: ClientState, S: FileSystem, P: ProcessReadDir<C, Global>, T: Drop, W: Drop> WalkDirGeneric<
     C,
     S,
     P,
     Global,
     T,
+    W,
 > {
     ghost use Rattle.jwalk_process.specs.ByFn.{closure_of};
     ghost use Rattle.jwalk.specs.WalkDir.{callback_of, SetsCallback};
@@ -298,7 +324,7 @@ impl<C: ClientState, S: FileSystem, P: ProcessReadDir<C, Global>, T: Drop> WalkD
             &mut Vec<Result<DirEntry<C, Global>, Error<Global>>, Global>,
         ) -> Result<(), AllocError>
             + Drop,
-    >(self, f: F) -> WalkDirGeneric<C, S, ByFn<Closure<F>>, Global, T>
+    >(self, f: F) -> WalkDirGeneric<C, S, ByFn<Closure<F>>, Global, T, W>
         ensures closure { closure_of (callback_of result) ≡ f }
         ensures rest { SetsCallback (callback_of result) self result }
     {
@@ -309,6 +335,7 @@ impl<C: ClientState, S: FileSystem, P: ProcessReadDir<C, Global>, T: Drop> WalkD
             options: self.options,
             root_read_dir_state: self.root_read_dir_state,
             threads: self.threads,
+            crew: self.crew,
         }
     }
 }
@@ -320,9 +347,9 @@ impl<C: ClientState, S: FileSystem, A: Allocator + Copy, T: Drop> IntoIterator
     type IntoIter = DirEntryIter<C, S, NoProcess, A, T>;
 
     ghost use Rattle.jwalk.specs.WalkDir.{Starts, Holds};
-    ghost use Rattle.jwalk.specs.DirEntryIter.{IsRefused};
+    ghost use Rattle.jwalk.specs.DirEntryIter.{by_crew, IsRefused};
 
-    ghost into_iter_gives = { λ walk it. Starts walk it × (IsRefused it ⊎ Holds S.FileSystem
+    ghost into_iter_gives = { λ walk it. (by_crew it ≡ false) × Starts walk it × (IsRefused it ⊎ Holds S.FileSystem
         ⟦<NoProcess as ProcessReadDir<C, A>>⟧ C.ReadDirState.Clone C.DirEntryState.Default walk it) };
 
     fn into_iter(self) -> DirEntryIter<C, S, NoProcess, A, T> {

@@ -7,7 +7,7 @@ use crate::wanted::Wanted;
 use jwalk_order::ordered::Ordered;
 use jwalk_read::client_state::ClientState;
 use jwalk_read::process_read_dir::ProcessReadDir;
-use std::alloc::Allocator;
+use std::alloc::{AllocError, Allocator};
 use walk_fs::file_system::FileSystem;
 
 /// Why a reading didn't come.
@@ -17,6 +17,16 @@ pub enum Missed {
     Memory,
     /// There is none, or another came in its place.
     Lost,
+}
+
+impl From<AllocError> for Missed {
+    ghost use Rattle.jwalk_crew.specs.declared.pool.Missed.TheVariants.{Memory};
+
+    ghost from_gives = { λ _ missed. missed ≡ Memory };
+
+    fn from(_refused: AllocError) -> Self {
+        Missed::Memory
+    }
 }
 
 /// What gives the readings of a walk's directories, made ahead by others. Users name it as a bound only.
@@ -34,9 +44,9 @@ pub trait Pool<C: ClientState, S: FileSystem, P: ProcessReadDir<C, A>, A: Alloca
     fn ahead(&self) -> usize;
 }
 
-/// No crew: it gives nothing.
-#[derive(Clone, Copy, Debug)]
-pub struct NoPool;
+/// No crew. Nothing makes a value of it, so no walk is over one.
+#[derive(Debug, Drop)]
+pub struct NoPool(());
 
 impl<C: ClientState, S: FileSystem, P: ProcessReadDir<C, A>, A: Allocator + Copy> Pool<C, S, P, A>
     for NoPool {

@@ -1,7 +1,9 @@
 //! Which reading an iterator waits for.
-ghost use Rattle.std.specs.Prelude.{◌↔◌, IsTrue};
+ghost use Rattle.std.specs.Prelude.{◌↔◌, IsTrue, IfOk};
+ghost use Rattle.jwalk_order.specs.IndexPath.{address as indices_of};
 ghost use Rattle.jwalk_read.specs.ReadDir.{spec};
-ghost use Rattle.jwalk_crew.specs.Wanted.{Fits, IsDirectory};
+ghost use Rattle.jwalk_read.specs.Options.{options_value};
+ghost use Rattle.jwalk_crew.specs.Wanted.{Fits, IsDirectory, IsFor};
 
 use crate::message::Message;
 use jwalk_order::index_path::IndexPath;
@@ -11,7 +13,7 @@ use jwalk_read::client_state::ClientState;
 use jwalk_read::options::Options;
 use jwalk_read::process_read_dir::ProcessReadDir;
 use jwalk_read::read_dir_spec::ReadDirSpec;
-use std::alloc::{Allocator, Global};
+use std::alloc::{AllocError, Allocator, Global};
 use std::sync::Arc;
 use walk_fs::file_system::FileSystem;
 
@@ -42,6 +44,27 @@ impl<A: Allocator + Copy> Drop for Wanted<A> {
 }
 
 impl<A: Allocator + Copy> Wanted<A> {
+    /// The reading of a directory at this address, by these options.
+    ///
+    /// # Errors
+    ///
+    /// If memory runs out.
+    pub fn of<C: ClientState>(
+        address: IndexPath<A>,
+        of: &ReadDirSpec<C, A>,
+        options: Options,
+    ) -> Result<Self, AllocError>
+        ensures { IfOk result (IsFor (indices_of address) (spec of.now) (options_value options)) }
+    {
+        Ok(Wanted {
+            address,
+            path: of.path.clone()?,
+            depth: of.depth(),
+            ancestors: of.ancestors().share()?,
+            options,
+        })
+    }
+
     /// Whether it is this directory that is waited for.
     fn is_directory<C: ClientState>(&self, of: &ReadDirSpec<C, A>) -> bool
         ensures { IsTrue result ↔ IsDirectory self.now (spec of.now) }

@@ -12,7 +12,7 @@ use Rattle.jwalk_read.specs.declared.read_dir_spec.ReadDirSpec.{ReadDirSpec}
 use Rattle.jwalk_read.specs.declared.job.Job.{Job}
 use Rattle.jwalk_read.specs.ReadDir.{spec, outcome}
 use Rattle.jwalk_read.specs.Given.{Given}
-use Rattle.jwalk_read.specs.Job.{greatest_depth, IsSteadyJob, IsAsGiven, IsReadingOver}
+use Rattle.jwalk_read.specs.Job.{greatest_depth, IsSteadyJob, IsAsGiven, IsReadingBy, IsGivenOver, IsReadingOver}
 use Rattle.jwalk_engine.specs.declared.read.Read.{Read}
 use Rattle.jwalk_engine.specs.ToGive as board
 use Rattle.jwalk_engine.specs.ToGive.{ToGive}
@@ -32,19 +32,27 @@ pub record StacksChildren {R E : Type 0} (clone : Clone.Ghosts R) (old : List (S
   pub left : new ≡ front ++ old
   pub clones : AreClones clone.is_clone (children_of read) front
 
-module _ {C S P A R E : Type 0} (files : FileSystem.Ghosts S) (clone : Clone.Ghosts R) (counts : Given R E → Type 0) where
+module _ {R E : Type 0} (clone : Clone.Ghosts R) (known : Spec R → Outcome R E → Type 0) (max_depth : ℕ) where
   -- The first of the specifications is read, and gives way to those of the directories in its outcome.
-  pub record ReadsFirst (job : Job C S P A R E) (old : List (Spec R)) (read : Outcome R E) (new : List (Spec R)) : Type 0 where
+  pub record ReadsFirstBy (old : List (Spec R)) (read : Outcome R E) (new : List (Spec R)) : Type 0 where
     pub first : Spec R
     pub rest : List (Spec R)
     pub took : old ≡ first ∷ rest
-    pub reading : IsReadingOver files counts job first read
+    pub reading : IsReadingBy known max_depth first read
     pub stacks : StacksChildren clone rest read new
 
   -- the first is read, or nothing was left to be read
+  abbrev pub ReadsNextBy : List (Spec R) → Option (Outcome R E) → List (Spec R) → Type 0
+  ReadsNextBy old None new = (old ≡ []) × (new ≡ [])
+  ReadsNextBy old (Some read) new = ReadsFirstBy old read new
+
+module _ {C S P A R E : Type 0} (files : FileSystem.Ghosts S) (clone : Clone.Ghosts R) (counts : Given R E → Type 0) where
+  -- the same, where a job's readings are known over all that counts as given
+  abbrev pub ReadsFirst : Job C S P A R E → List (Spec R) → Outcome R E → List (Spec R) → Type 0
+  ReadsFirst job = ReadsFirstBy clone (IsGivenOver files counts job) (greatest_depth job)
+
   abbrev pub ReadsNext : Job C S P A R E → List (Spec R) → Option (Outcome R E) → List (Spec R) → Type 0
-  ReadsNext job old None new = (old ≡ []) × (new ≡ [])
-  ReadsNext job old (Some read) new = ReadsFirst job old read new
+  ReadsNext job = ReadsNextBy clone (IsGivenOver files counts job) (greatest_depth job)
 
   -- It is a reading of its directory, and with it stand the directories of its list, with clones of their states.
   pub record IsSoundOver (job : Job C S P A R E) (made : Read C A R E × List (Spec R)) : Type 0 where

@@ -46,11 +46,20 @@ job_by files given job = record {
 abbrev pub IsAsGiven : {C S P A R E : Type 0} → FileSystem.Ghosts S → Given R E → Job C S P A R E → Spec R → Outcome R E → Type 0
 IsAsGiven files given job spec outcome = counted_outcome given outcome ≡ value.reading (job_by files given job) (counted_spec given spec)
 
--- The outcome is a reading of the directory: lawful whatever the file system answers, a list that fits in memory, and the reading of the definition over all that counts as given.
-pub record IsReadingOver {C S P A R E : Type 0} (files : FileSystem.Ghosts S) (counts : Given R E → Type 0) (job : Job C S P A R E) (spec : Spec R) (outcome : Outcome R E) : Type 0 where
-  pub lawful : IsLawful (greatest_depth job) spec outcome
+-- The outcome is a reading of the directory: lawful whatever the file system answers, a list that fits in memory, and what is known of a reading of this directory.
+pub record IsReadingBy {R E : Type 0} (known : Spec R → Outcome R E → Type 0) (max_depth : ℕ) (spec : Spec R) (outcome : Outcome R E) : Type 0 where
+  pub lawful : IsLawful max_depth spec outcome
   pub few : length (list_of outcome) < 2 ^ 64
-  pub value : (given : Given R E) → counts given → IsAsGiven files given job spec outcome
+  pub value : known spec outcome
+
+module _ {C S P A R E : Type 0} (files : FileSystem.Ghosts S) (counts : Given R E → Type 0) (job : Job C S P A R E) where
+  -- Over all that counts as given it is the reading of the definition.
+  abbrev pub IsGivenOver : Spec R → Outcome R E → Type 0
+  IsGivenOver spec outcome = (given : Given R E) → counts given → IsAsGiven files given job spec outcome
+
+  -- A reading of which that is known.
+  abbrev pub IsReadingOver : Spec R → Outcome R E → Type 0
+  IsReadingOver = IsReadingBy IsGivenOver (greatest_depth job)
 
 module _ {C S P A R E : Type 0} (files : FileSystem.Ghosts S) (process : ProcessReadDir.Ghosts P C A R E) (clone : Clone.Ghosts R) (defaults : Default.Ghosts E) where
   -- What a walk works with is as it is given: its file system is fixed, its callback makes of lists what is said, and clones and defaults count so.

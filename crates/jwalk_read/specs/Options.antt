@@ -2,14 +2,15 @@
 use Rattle.std.specs.Prelude.{ℕ, Bool, ◌==◌, if◌then◌else◌}
 use Rattle.walk_model.specs.Options as value
 use Rattle.walk_model.specs.Options.{serial, batches, crew, defaults}
-use Rattle.jwalk_read.specs.declared.parallelism.Parallelism.{Parallelism}
-use Rattle.jwalk_read.specs.declared.parallelism.Parallelism.TheVariants.{Serial, RayonNewPool}
+use Rattle.jwalk_read.specs.declared.mode.Mode.{Mode}
+use Rattle.jwalk_read.specs.declared.mode.Mode.TheVariants.{Serial, Batches, Crew}
 use Rattle.jwalk_read.specs.declared.options.Options.{Options}
 
 -- how directories are read, as a value: a width of 0 stands for 8
-abbrev pub parallelism_value : Parallelism → value.Parallelism
-parallelism_value Serial = serial
-parallelism_value (RayonNewPool n) = batches (if n == 0 then 8 else n)
+abbrev pub mode_value : Mode → value.Parallelism
+mode_value Serial = serial
+mode_value (Batches n) = batches (if n == 0 then 8 else n)
+mode_value Crew = crew
 
 -- how many directories are read together: one by a serial walk, and by each worker of a crew
 abbrev pub width_of : value.Parallelism → ℕ
@@ -24,7 +25,7 @@ options_value it = record {
   follow_links = it.follow_links;
   min_depth = it.min_depth;
   max_depth = it.max_depth;
-  parallelism = parallelism_value it.parallelism;
+  parallelism = mode_value it.mode;
 }
 
 -- the options that readings go by

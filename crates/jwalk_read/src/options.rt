@@ -1,7 +1,7 @@
 //! The options of a walk.
 ghost use Rattle.std.specs.Prelude.{◌≡◌, ◌≤◌, ◌↔◌, IsTrue};
 
-use crate::parallelism::Parallelism;
+use crate::mode::Mode;
 
 /// What a walk goes by. A new one has the defaults: no order but the file system's, hidden names left out, no
 /// link followed, every depth, one directory read at a time.
@@ -12,13 +12,13 @@ pub struct Options {
     pub(crate) follow_links: bool,
     pub(crate) min_depth: usize,
     pub(crate) max_depth: usize,
-    pub(crate) parallelism: Parallelism,
+    pub(crate) mode: Mode,
     ghost in_order: { min_depth ≤ max_depth },
 }
 
 impl Options {
     ghost use Rattle.walk_model.specs.Options.{defaults, with_sort, with_skip_hidden, with_follow_links, with_min_depth, with_max_depth, with_parallelism, ReadsAs};
-    ghost use Rattle.jwalk_read.specs.Options.{parallelism_value, options_value, reads_by};
+    ghost use Rattle.jwalk_read.specs.Options.{mode_value, options_value, reads_by};
 
     /// The defaults.
     pub fn new() -> Self
@@ -30,7 +30,7 @@ impl Options {
             follow_links: false,
             min_depth: 0,
             max_depth: usize::MAX,
-            parallelism: Parallelism::Serial,
+            mode: Mode::Serial,
         }
     }
 
@@ -49,7 +49,7 @@ impl Options {
             follow_links,
             min_depth: 0,
             max_depth,
-            parallelism: Parallelism::Serial,
+            mode: Mode::Serial,
         }
     }
 
@@ -91,16 +91,16 @@ impl Options {
     {
         self.max_depth = depth.max(self.min_depth);
         if self.max_depth < 2 {
-            self.parallelism = Parallelism::Serial;
+            self.mode = Mode::Serial;
         }
         self
     }
 
     /// How directories are read.
-    pub fn with_parallelism(mut self, parallelism: Parallelism) -> Self
-        ensures { options_value result ≡ with_parallelism (parallelism_value parallelism) (options_value self) }
+    pub fn with_mode(mut self, mode: Mode) -> Self
+        ensures { options_value result ≡ with_parallelism (mode_value mode) (options_value self) }
     {
-        self.parallelism = parallelism;
+        self.mode = mode;
         self
     }
 
@@ -123,9 +123,9 @@ impl Options {
     }
 
     /// How directories are read.
-    pub fn parallelism(self) -> Parallelism
-        ensures { parallelism_value result ≡ (options_value self).parallelism }
+    pub fn mode(self) -> Mode
+        ensures { mode_value result ≡ (options_value self).parallelism }
     {
-        self.parallelism
+        self.mode
     }
 }

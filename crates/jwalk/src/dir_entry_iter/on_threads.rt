@@ -1,10 +1,12 @@
 //! A walk's answers, where threads read the directories that are read together.
-ghost use Rattle.std.specs.Prelude.{◌≡◌, [], IfOk, IfSome, IfNone, OnOk, OnErr, option_map};
+ghost use Rattle.std.specs.Prelude.{◌≡◌, [], IfOk, IfErr, IfSome, IfNone, OnOk, OnErr, option_map};
 ghost use Rattle.jwalk_read.specs.Entry.{item};
 ghost use Rattle.jwalk_read.specs.Job.{callback};
 
+use crate::crew_reads::error_of;
 use crate::dir_entry_iter::DirEntryIter;
 use crate::threads::OnThreads;
+use jwalk_crew::pool::{Missed, Pool};
 use jwalk_read::client_state::ClientState;
 use jwalk_read::dir_entry::DirEntry;
 use jwalk_read::error::Error;
@@ -19,30 +21,35 @@ impl<
     S: FileSystem + Send + Sync,
     P: ProcessReadDir<C, A> + Send + Sync,
     A: Allocator + Copy + Send + Sync,
-> DirEntryIter<C, S, P, A, OnThreads<R>>
+    L: Pool<C, S, P, A>,
+> DirEntryIter<C, S, P, A, OnThreads<R>, L>
 where
     C::ReadDirState: Send,
     C::DirEntryState: Send,
 {
-    ghost use Rattle.jwalk.specs.DirEntryIter.{job_of, items_of, unread_of, width_of, IsSteadyWalk, StaysSteady, EntersIfAny, GrowsAhead, Answers, Fills};
+    ghost use Rattle.jwalk.specs.CrewReads.{failure_of};
+    ghost use Rattle.jwalk.specs.ReadDirIter.{Tells};
+    ghost use Rattle.jwalk.specs.DirEntryIter.{by_crew, job_of, items_of, unread_of, width_of, Known, StaysSteady, EntersIfAny, GrowsAhead, Answers, Fills};
     ghost use Rattle.jwalk.specs.Step.{IsAtDirectory, PassesNext, ReadsUpTo, StopsAtDirectory};
 
     /// The next item, passed on.
-    fn pass_on(&mut self) -> Result<Option<Result<DirEntry<C, A>, Error<A>>>, AllocError>
+    fn pass_on(&mut self) -> Result<Option<Result<DirEntry<C, A>, Error<A>>>, Missed>
         requires { P.IsLawful (callback (job_of self.old)) }
+        ensures crew { by_crew self.new ≡ by_crew self.old }
         ensures job { job_of self.new ≡ job_of self.old }
         ensures refused { self.new.refused ≡ self.old.refused }
         ensures end { IfOk result (λ o. IfNone o
             ((items_of self.old ≡ []) × (items_of self.new ≡ []) × (unread_of self.new ≡ unread_of self.old))) }
         ensures steady { StaysSteady S.FileSystem P.ProcessReadDir C.ReadDirState.Clone C.DirEntryState.Default
             self.old self.new }
-        ensures passed { IfOk result (λ o. IfSome o (λ passed. PassesNext S.FileSystem C.ReadDirState.Clone
-            (IsSteadyWalk S.FileSystem P.ProcessReadDir C.ReadDirState.Clone C.DirEntryState.Default self.old)
+        ensures passed { IfOk result (λ o. IfSome o (λ passed. PassesNext C.ReadDirState.Clone
+            (Known S.FileSystem P.ProcessReadDir C.ReadDirState.Clone C.DirEntryState.Default self.old)
             (job_of self.old) (items_of self.old) (unread_of self.old)
             (item passed) (items_of self.new) (unread_of self.new))) }
         ensures width { width_of self.new ≡ width_of self.old }
         ensures ahead { OnOk result (EntersIfAny S.FileSystem P.ProcessReadDir C.ReadDirState.Clone
             C.DirEntryState.Default self.old self.new) }
+        ensures tells { IfErr result (λ missed. Tells (by_crew self.old) (failure_of missed)) }
         ensures stopped { OnErr result (IsAtDirectory (items_of self.old) (unread_of self.old)) }
     {
         match self.items.pop() {
@@ -59,21 +66,23 @@ where
     }
 
     /// The next item that is answered.
-    fn next_kept_on(&mut self) -> Result<Option<Result<DirEntry<C, A>, Error<A>>>, AllocError>
+    fn next_kept_on(&mut self) -> Result<Option<Result<DirEntry<C, A>, Error<A>>>, Missed>
         requires { P.IsLawful (callback (job_of self.old)) }
+        ensures crew { by_crew self.new ≡ by_crew self.old }
         ensures job { job_of self.new ≡ job_of self.old }
         ensures refused { self.new.refused ≡ self.old.refused }
         ensures steady { StaysSteady S.FileSystem P.ProcessReadDir C.ReadDirState.Clone C.DirEntryState.Default
             self.old self.new }
-        ensures reads { IfOk result (λ answer. ReadsUpTo S.FileSystem C.ReadDirState.Clone
-            (IsSteadyWalk S.FileSystem P.ProcessReadDir C.ReadDirState.Clone C.DirEntryState.Default self.old)
+        ensures reads { IfOk result (λ answer. ReadsUpTo C.ReadDirState.Clone
+            (Known S.FileSystem P.ProcessReadDir C.ReadDirState.Clone C.DirEntryState.Default self.old)
             (job_of self.old) (items_of self.old) (unread_of self.old)
             (option_map item answer) (items_of self.new) (unread_of self.new)) }
         ensures width { width_of self.new ≡ width_of self.old }
         ensures ahead { OnOk result (GrowsAhead S.FileSystem P.ProcessReadDir C.ReadDirState.Clone
             C.DirEntryState.Default self.old self.new) }
-        ensures stopped { OnErr result (StopsAtDirectory S.FileSystem C.ReadDirState.Clone
-            (IsSteadyWalk S.FileSystem P.ProcessReadDir C.ReadDirState.Clone C.DirEntryState.Default self.old)
+        ensures tells { IfErr result (λ missed. Tells (by_crew self.old) (failure_of missed)) }
+        ensures stopped { OnErr result (StopsAtDirectory C.ReadDirState.Clone
+            (Known S.FileSystem P.ProcessReadDir C.ReadDirState.Clone C.DirEntryState.Default self.old)
             (job_of self.old) (items_of self.old) (unread_of self.old)) }
     {
         while let Some(passed) = self.pass_on()? {
@@ -99,9 +108,9 @@ where
         }
         match self.next_kept_on() {
             Ok(answer) => answer,
-            Err(_) => {
+            Err(missed) => {
                 self.stop();
-                Some(Err(Error::memory()))
+                Some(Err(error_of(missed)))
             }
         }
     }

@@ -1,16 +1,17 @@
 //! Readings in preorder, where threads make those that are made together.
-ghost use Rattle.std.specs.Prelude.{◌≡◌, ◌≢◌, ◌≤◌, ◌+◌, [], length, IfOk, OnErr, IsSome, option_map};
+ghost use Rattle.std.specs.Prelude.{◌≡◌, ◌≢◌, ◌≤◌, ◌+◌, [], length, IfOk, IfErr, OnErr, IsSome, option_map};
 ghost use Rattle.jwalk_read.specs.ReadDir.{outcome};
 ghost use Rattle.jwalk_read.specs.Job.{callback};
 
+use crate::crew_reads::error_of;
 use crate::read_dir_iter::ReadDirIter;
 use crate::threads::OnThreads;
+use jwalk_crew::pool::{Missed, Pool};
 use jwalk_engine::read::Outcome;
 use jwalk_read::client_state::ClientState;
 use jwalk_read::dir_entry::DirEntry;
-use jwalk_read::error::Error;
 use jwalk_read::process_read_dir::ProcessReadDir;
-use std::alloc::{AllocError, Allocator};
+use std::alloc::Allocator;
 use std::thread::Threads;
 use walk_fs::file_system::FileSystem;
 
@@ -20,43 +21,46 @@ impl<
     S: FileSystem + Send + Sync,
     P: ProcessReadDir<C, A> + Send + Sync,
     A: Allocator + Copy + Send + Sync,
-> ReadDirIter<C, S, P, A, OnThreads<R>>
+    L: Pool<C, S, P, A>,
+> ReadDirIter<C, S, P, A, OnThreads<R>, L>
 where
     C::ReadDirState: Send,
     C::DirEntryState: Send,
 {
-    ghost use Rattle.jwalk_engine.specs.Reads.{ReadsNext};
-    ghost use Rattle.jwalk_engine.specs.ReadAhead.{nothing_ahead, EntersNext};
-    ghost use Rattle.jwalk_engine.specs.BoardWalk as board;
-    ghost use Rattle.jwalk.specs.ReadDirIter.{walk_of, job_of, to_read, width_of, read_ahead, next_address, IsSteadyReads, StaysSteady, Gives};
+    ghost use Rattle.jwalk_read.specs.Job.{greatest_depth};
+    ghost use Rattle.jwalk_engine.specs.Reads.{ReadsNextBy};
+    ghost use Rattle.jwalk_engine.specs.ReadAhead.{nothing_ahead};
+    ghost use Rattle.jwalk.specs.CrewReads.{failure_of};
+    ghost use Rattle.jwalk.specs.ReadDirIter.{by_crew, job_of, to_read, width_of, read_ahead, early_of, next_address, Tells, StaysSteady, Known, EntersNextBy, Gives};
 
     /// The next reading.
-    pub(crate) fn read_next_on(&mut self) -> Result<Option<Outcome<C, A>>, AllocError>
+    pub(crate) fn read_next_on(&mut self) -> Result<Option<Outcome<C, A>>, Missed>
         requires { P.IsLawful (callback (job_of self.old)) }
+        ensures crew { by_crew self.new ≡ by_crew self.old }
         ensures job { job_of self.new ≡ job_of self.old }
         ensures width { width_of self.new ≡ width_of self.old }
-        ensures ahead { length (board.early_of (walk_of self.new)) + 1
-            ≤ length (board.early_of (walk_of self.old)) + width_of self.old }
+        ensures ahead { length (early_of self.new) + 1 ≤ length (early_of self.old) + width_of self.old }
+        ensures tells { IfErr result (λ missed. Tells (by_crew self.old) (failure_of missed)) }
         ensures some { OnErr result (to_read self.old ≢ []) }
         ensures stopped { OnErr result (to_read self.new ≡ []) }
         ensures nothing_ahead { OnErr result (read_ahead self.new ≡ nothing_ahead) }
         ensures steady { StaysSteady S.FileSystem P.ProcessReadDir C.ReadDirState.Clone C.DirEntryState.Default
             self.old self.new }
-        ensures next { IfOk result (λ o. ReadsNext S.FileSystem C.ReadDirState.Clone
-            (IsSteadyReads S.FileSystem P.ProcessReadDir C.ReadDirState.Clone C.DirEntryState.Default self.old)
-            (job_of self.old) (to_read self.old) (option_map outcome o) (to_read self.new)) }
-        ensures enters { IfOk result (λ o. EntersNext S.FileSystem P.ProcessReadDir C.ReadDirState.Clone
-            C.DirEntryState.Default (job_of self.old) (width_of self.old) (next_address self.old)
-            (read_ahead self.old) (option_map outcome o) (read_ahead self.new)) }
+        ensures next { IfOk result (λ o. ReadsNextBy C.ReadDirState.Clone
+            (Known S.FileSystem P.ProcessReadDir C.ReadDirState.Clone C.DirEntryState.Default self.old)
+            (greatest_depth (job_of self.old)) (to_read self.old) (option_map outcome o) (to_read self.new)) }
+        ensures enters { IfOk result (λ o. EntersNextBy S.FileSystem P.ProcessReadDir C.ReadDirState.Clone
+            C.DirEntryState.Default (by_crew self.old) (job_of self.old) (width_of self.old)
+            (next_address self.old) (read_ahead self.old) (option_map outcome o) (read_ahead self.new)) }
     {
         match self {
-            ReadDirIter::Walk(walk) => walk.read_next(),
-            ReadDirIter::ParWalk(walk, threads) => walk.read_next_on(threads.rt()),
+            ReadDirIter::Walk(walk) => Ok(walk.read_next()?),
+            ReadDirIter::ParWalk(walk, threads) => Ok(walk.read_next_on(threads.rt())?),
+            ReadDirIter::CrewWalk(reads) => reads.read_next(),
         }
     }
 
-    /// The next reading; or, where memory is refused, the error that tells of it, and nothing is left to be read.
-    /// Threads make the readings that are made together.
+    /// The next reading; or the error that tells why it won't come, and nothing is left to be read. Threads make the readings that are made together.
     pub fn next(&mut self) -> Option<Outcome<C, A>>
         requires { P.IsLawful (callback (job_of self.old)) }
         ensures { Gives S.FileSystem P.ProcessReadDir C.ReadDirState.Clone C.DirEntryState.Default
@@ -64,7 +68,7 @@ where
     {
         match self.read_next_on() {
             Ok(read) => read,
-            Err(_) => Some(Err(Error::memory())),
+            Err(missed) => Some(Err(error_of(missed))),
         }
     }
 

@@ -10,22 +10,22 @@ returns-in-Some-kept-clause-reads g c =
     let told = c.in-Some-kept.ensures.some in
     rw told.0
     (one_answered g.S.FileSystem g.P.ProcessReadDir g.C.ReadDirState.Clone g.C.DirEntryState.Default c.args.self.now c.loop-passed.self c.pass.new.self c.in-Some.passed c.loop-passed.invariant
-    (record { job = c.pass.ensures.job; refused = c.pass.ensures.refused; width = c.pass.ensures.width; steady = c.pass.ensures.steady; ahead = c.in_ok-passed.ensures.ahead; next = rw c.in-Some.is at c.in_ok-passed.ensures.passed }) told.1)
+    (record { crew = c.pass.ensures.crew; job = c.pass.ensures.job; refused = c.pass.ensures.refused; width = c.pass.ensures.width; steady = c.pass.ensures.steady; ahead = c.in_ok-passed.ensures.ahead; next = rw c.in-Some.is at c.in_ok-passed.ensures.passed }) told.1)
 
 pub loop-passed-smaller : goal.loop-passed-smaller
 loop-passed-smaller g c =
     passes_lighter g.S.FileSystem g.P.ProcessReadDir g.C.ReadDirState.Clone g.C.DirEntryState.Default c.loop-passed.self c.pass.new.self c.in-Some.passed
-    (record { job = c.pass.ensures.job; refused = c.pass.ensures.refused; width = c.pass.ensures.width; steady = c.pass.ensures.steady; ahead = c.in_ok-passed.ensures.ahead; next = rw c.in-Some.is at c.in_ok-passed.ensures.passed })
+    (record { crew = c.pass.ensures.crew; job = c.pass.ensures.job; refused = c.pass.ensures.refused; width = c.pass.ensures.width; steady = c.pass.ensures.steady; ahead = c.in_ok-passed.ensures.ahead; next = rw c.in-Some.is at c.in_ok-passed.ensures.passed })
 
 pub loop-passed-preserved : goal.loop-passed-preserved
 loop-passed-preserved g c =
     one_passed_over g.S.FileSystem g.P.ProcessReadDir g.C.ReadDirState.Clone g.C.DirEntryState.Default c.args.self.now c.loop-passed.self c.pass.new.self c.in-Some.passed c.loop-passed.invariant
-    (record { job = c.pass.ensures.job; refused = c.pass.ensures.refused; width = c.pass.ensures.width; steady = c.pass.ensures.steady; ahead = c.in_ok-passed.ensures.ahead; next = rw c.in-Some.is at c.in_ok-passed.ensures.passed }) c.in_default-kept.ensures.none
+    (record { crew = c.pass.ensures.crew; job = c.pass.ensures.job; refused = c.pass.ensures.refused; width = c.pass.ensures.width; steady = c.pass.ensures.steady; ahead = c.in_ok-passed.ensures.ahead; next = rw c.in-Some.is at c.in_ok-passed.ensures.passed }) c.in_default-kept.ensures.none
 
 pub returns-in-Some-kept-clause-ahead : goal.returns-in-Some-kept-clause-ahead
 returns-in-Some-kept-clause-ahead g c =
     grows_to_answer g.S.FileSystem g.P.ProcessReadDir g.C.ReadDirState.Clone g.C.DirEntryState.Default c.args.self.now c.loop-passed.self c.pass.new.self c.in-Some.passed c.loop-passed.invariant
-    (record { job = c.pass.ensures.job; refused = c.pass.ensures.refused; width = c.pass.ensures.width; steady = c.pass.ensures.steady; ahead = c.in_ok-passed.ensures.ahead; next = rw c.in-Some.is at c.in_ok-passed.ensures.passed })
+    (record { crew = c.pass.ensures.crew; job = c.pass.ensures.job; refused = c.pass.ensures.refused; width = c.pass.ensures.width; steady = c.pass.ensures.steady; ahead = c.in_ok-passed.ensures.ahead; next = rw c.in-Some.is at c.in_ok-passed.ensures.passed })
 
 pub returns-in-Some-kept-clause-width : goal.returns-in-Some-kept-clause-width
 returns-in-Some-kept-clause-width g c = c.pass.ensures.width ∙ c.loop-passed.invariant.width

@@ -1,0 +1,185 @@
+//! Readings that a crew makes ahead.
+ghost use Rattle.std.specs.Prelude.{◌≡◌, ◌≢◌, ◌++◌, [], map, reverse, IfOk, OnErr, OnOk, option_map};
+ghost use Rattle.std.specs.Arc.{arc_value};
+ghost use Rattle.jwalk_order.specs.Frontier as frontier;
+ghost use Rattle.jwalk_read.specs.Error.{failure};
+ghost use Rattle.jwalk_read.specs.ReadDir.{spec, outcome};
+ghost use Rattle.jwalk_read.specs.Job.{greatest_depth, IsReadingBy};
+ghost use Rattle.jwalk_engine.specs.Reads.{StacksChildren, ReadsNextBy};
+ghost use Rattle.jwalk.specs.CrewReads.{job_of, to_read, next_address, IsTold, failure_of};
+
+use jwalk_crew::pool::{Missed, Pool};
+use jwalk_crew::wanted::Wanted;
+use jwalk_order::ordered::Ordered;
+use jwalk_order::ordered_queue::OrderedMatcher;
+use jwalk_read::client_state::ClientState;
+use jwalk_read::error::Error;
+use jwalk_read::job::Job;
+use jwalk_read::process_read_dir::ProcessReadDir;
+use jwalk_read::read_dir::{Outcome, directories_of};
+use jwalk_read::read_dir_spec::ReadDirSpec;
+use std::alloc::{AllocError, Allocator, Global};
+use std::sync::Arc;
+use walk_fs::file_system::FileSystem;
+
+/// Readings in preorder, which a crew makes ahead. It keeps which address comes next, and which directory stands there:
+/// only a reading of this directory, made by the same options, is handed on.
+pub struct CrewReads<
+    C: ClientState,
+    S: FileSystem,
+    P: ProcessReadDir<C, A>,
+    A: Allocator + Copy = Global,
+    L = jwalk_crew::pool::NoPool,
+> {
+    job: Arc<Job<C, S, P, A>, A>,
+    matcher: OrderedMatcher<A>,
+    // The directories whose readings are still to be handed on, the next one last.
+    unread: Vec<ReadDirSpec<C, A>, A>,
+    // None once the walk was stopped.
+    pool: Option<L>,
+}
+
+impl<C: ClientState, S: FileSystem, P: ProcessReadDir<C, A>, A: Allocator + Copy, L: Drop> Drop
+    for CrewReads<C, S, P, A, L> {
+    fn drop(self) {
+        let CrewReads {
+            job: _,
+            matcher: _,
+            unread: _,
+            pool: _,
+        } = self;
+    }
+}
+
+/// The error that tells why a reading didn't come.
+pub(crate) fn error_of<A: Allocator + Copy>(missed: Missed) -> Error<A>
+    ensures { failure result ≡ failure_of missed }
+{
+    match missed {
+        Missed::Memory => Error::memory(),
+        Missed::Lost => Error::lost(),
+    }
+}
+
+impl<
+    C: ClientState,
+    S: FileSystem,
+    P: ProcessReadDir<C, A>,
+    A: Allocator + Copy,
+    L: Pool<C, S, P, A>,
+> CrewReads<C, S, P, A, L> {
+    /// The readings of these directories and of those below them, the last of the list first. The matcher looks for the
+    /// address of the next. Without a pool none is made.
+    pub(crate) fn over(
+        job: Arc<Job<C, S, P, A>, A>,
+        matcher: OrderedMatcher<A>,
+        unread: Vec<ReadDirSpec<C, A>, A>,
+        pool: Option<L>,
+    ) -> Self
+        ensures job { job_of result ≡ arc_value job }
+        ensures to_read { to_read result ≡ map spec (reverse unread.items) }
+        ensures next_address { next_address result ≡ frontier.next_address matcher }
+    {
+        CrewReads {
+            job,
+            matcher,
+            unread,
+            pool,
+        }
+    }
+
+    /// What the workers read with.
+    pub(crate) fn job(&self) -> &Job<C, S, P, A>
+        ensures { result.now ≡ job_of self.now }
+    {
+        &*self.job
+    }
+
+    /// The reading of the directory that comes next.
+    fn read(&mut self, of: &ReadDirSpec<C, A>) -> Result<Outcome<C, A>, Missed>
+        ensures job { job_of self.new ≡ job_of self.old }
+        ensures to_read { to_read self.new ≡ to_read self.old }
+        ensures told { IfOk result (λ read. IsTold S.FileSystem P.ProcessReadDir C.ReadDirState.Clone
+            C.DirEntryState.Default (job_of self.old) (spec of.now) (outcome read)) }
+    {
+        let Some(pool) = &mut self.pool else {
+            return Err(Missed::Lost);
+        };
+        if self.matcher.is_none() {
+            return Err(Missed::Lost);
+        }
+        let address = self.matcher.looking_for().try_clone()?;
+        let wanted = Wanted::of(address, of, self.job.options())?;
+        let item = pool.next(&wanted)?;
+        self.matcher.advance_past(&item)?;
+        let Ordered { value: message, .. } = item;
+        Ok(message.into_outcome()?)
+    }
+
+    /// Puts directories in front of those that are still to be read.
+    fn put_in_front(&mut self, mut specs: Vec<ReadDirSpec<C, A>, A>) -> Result<(), AllocError>
+        ensures job { job_of self.new ≡ job_of self.old }
+        ensures to_read { OnOk result (to_read self.new ≡ map spec specs.items ++ to_read self.old) }
+    {
+        specs.reverse();
+        self.unread.append(&mut specs)?;
+        Ok(())
+    }
+
+    /// The reading of the directory that comes next, with those below it in its place.
+    fn enter(&mut self, of: ReadDirSpec<C, A>) -> Result<Outcome<C, A>, Missed>
+        ensures job { job_of self.new ≡ job_of self.old }
+        ensures reading { IfOk result (λ read. IsReadingBy (IsTold S.FileSystem P.ProcessReadDir
+            C.ReadDirState.Clone C.DirEntryState.Default (job_of self.old)) (greatest_depth (job_of self.old))
+            (spec of) (outcome read)) }
+        ensures stacks { IfOk result (λ read. StacksChildren C.ReadDirState.Clone (to_read self.old)
+            (outcome read) (to_read self.new)) }
+    {
+        let outcome = self.read(&of)?;
+        let below = directories_of(*of.path.allocator(), &outcome)?;
+        self.put_in_front(below)?;
+        Ok(outcome)
+    }
+
+    /// The next reading, or none where all was handed on.
+    ///
+    /// # Errors
+    ///
+    /// If memory runs out, or the reading won't come. Nothing is left to be read then.
+    pub(crate) fn read_next(&mut self) -> Result<Option<Outcome<C, A>>, Missed>
+        ensures job { job_of self.new ≡ job_of self.old }
+        ensures some { OnErr result (to_read self.old ≢ []) }
+        ensures stopped { OnErr result (to_read self.new ≡ []) }
+        ensures next { IfOk result (λ o. ReadsNextBy C.ReadDirState.Clone (IsTold S.FileSystem P.ProcessReadDir
+            C.ReadDirState.Clone C.DirEntryState.Default (job_of self.old)) (greatest_depth (job_of self.old))
+            (to_read self.old) (option_map outcome o) (to_read self.new)) }
+    {
+        let Some(of) = self.unread.pop() else {
+            return Ok(None);
+        };
+        match self.enter(of) {
+            Ok(outcome) => Ok(Some(outcome)),
+            Err(missed) => {
+                self.stop();
+                Err(missed)
+            }
+        }
+    }
+
+    /// How many readings were made and not handed on.
+    pub(crate) fn ahead(&self) -> usize {
+        match &self.pool {
+            Some(pool) => pool.ahead(),
+            None => 0,
+        }
+    }
+
+    /// Ends the readings: none is left, and the workers end.
+    pub(crate) fn stop(&mut self)
+        ensures job { job_of self.new ≡ job_of self.old }
+        ensures to_read { to_read self.new ≡ [] }
+    {
+        self.unread.clear();
+        self.pool = None;
+    }
+}
