@@ -1,10 +1,9 @@
-//! Messages of workers, the reading that is waited for, places and pools.
+//! Messages of workers, the reading that is waited for, and places.
 use crate::board_walk::Refusing;
 use jwalk_board::board::Board;
 use jwalk_crew::arrival::{Arrival, arrive};
 use jwalk_crew::message::Message;
 use jwalk_crew::places::Places;
-use jwalk_crew::pool::{Missed, NoPool, Pool};
 use jwalk_crew::wanted::Wanted;
 use jwalk_order::index_path::IndexPath;
 use jwalk_order::ordered::Ordered;
@@ -12,8 +11,8 @@ use jwalk_read::ancestors::Ancestors;
 use jwalk_read::dir_entry::DirEntry;
 use jwalk_read::error::Error;
 use jwalk_read::job::Job;
+use jwalk_read::mode::Mode;
 use jwalk_read::options::Options;
-use jwalk_read::parallelism::Parallelism;
 use jwalk_read::process_read_dir::NoProcess;
 use jwalk_read::read_dir_spec::ReadDirSpec;
 use memory_fs::build_error::BuildError;
@@ -287,9 +286,7 @@ fn a_message_by_other_options_is_lost(rt: HostRuntime) -> Result<(), Fail> {
     for other in others {
         assert!(rt; asks_after_reading(alloc, &fs, Other::Options(other)) == Some("lost"));
     }
-    let same = own
-        .with_min_depth(1)
-        .with_parallelism(Parallelism::RayonNewPool(2));
+    let same = own.with_min_depth(1).with_mode(Mode::Batches(2));
     assert!(rt; asks_after_reading(alloc, &fs, Other::Options(same)) == Some("entered"));
     Ok(())
 }
@@ -342,7 +339,7 @@ fn lists_of_ancestors_are_compared_by_their_paths(rt: HostRuntime) -> Result<(),
     Ok(())
 }
 
-// Places, and no pool.
+// Places.
 
 #[test]
 fn a_place_is_taken_once_until_it_is_given_back(rt: HostRuntime) {
@@ -362,26 +359,4 @@ fn no_places_count_as_one(rt: HostRuntime) {
     assert_eq!(rt; places.places(), 1);
     assert!(rt; places.take());
     assert!(rt; !places.take());
-}
-
-/// Whether a pool has nothing to give.
-fn gives_nothing<'f, W: Pool<States, &'f Refusing, NoProcess, Global>>(
-    pool: &mut W,
-    wanted: &Wanted,
-) -> bool {
-    pool.ahead() == 0 && pool.next(wanted).err() == Some(Missed::Lost)
-}
-
-#[test]
-fn no_pool_gives_no_reading(rt: HostRuntime) -> Result<(), Fail> {
-    let alloc = rt.alloc();
-    let wanted = Wanted {
-        address: root_address(alloc, 0)?,
-        path: text(alloc, "/r")?,
-        depth: 0,
-        ancestors: Ancestors::none(),
-        options: options(),
-    };
-    assert!(rt; gives_nothing(&mut NoPool, &wanted));
-    Ok(())
 }

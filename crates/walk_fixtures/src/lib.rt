@@ -11,3 +11,4 @@ pub mod trees;
 pub mod watched;
 pub mod ways;
 pub mod wide;
+pub mod width;

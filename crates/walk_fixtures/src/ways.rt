@@ -5,10 +5,11 @@ ghost use Rattle.jwalk.specs.jwalk_read.Job.{callback};
 
 use crate::answers::{Answer, are_lines};
 use crate::plain_walk::plain_answers;
+use crate::width::Width;
 use jwalk::file_system::FileSystem;
 use jwalk::read_dir::{ByFn, Job, NoProcess, ProcessReadDir};
 use jwalk::threads::OnThreads;
-use jwalk::{ClientState, Parallelism, WalkDirGeneric};
+use jwalk::{ClientState, WalkDirGeneric};
 use jwalk_read::options::Options;
 use std::alloc::{AllocError, Global};
 use std::thread::Threads;
@@ -27,7 +28,7 @@ pub enum Setting {
     /// The greatest depth.
     Max(usize),
     /// How directories are read. The plain walk doesn't go by it.
-    By(Parallelism),
+    By(Width),
 }
 
 /// How the directories of a walk are read.
@@ -36,25 +37,25 @@ pub enum Way {
     /// By two stacks, without a board.
     Plain,
     /// As a walk reads them one after another.
-    InTurn(Parallelism),
+    InTurn(Width),
     /// As a walk reads them by threads.
-    OnThreads(Parallelism),
+    OnThreads(Width),
     /// As a `for` loop has them read of a walk that has threads.
-    Looped(Parallelism),
+    Looped(Width),
 }
 
 /// Each way, and each of several widths.
 pub const WAYS: &[Way] = &[
     Way::Plain,
-    Way::InTurn(Parallelism::Serial),
-    Way::InTurn(Parallelism::RayonNewPool(1)),
-    Way::InTurn(Parallelism::RayonNewPool(2)),
-    Way::InTurn(Parallelism::RayonNewPool(32)),
-    Way::OnThreads(Parallelism::Serial),
-    Way::OnThreads(Parallelism::RayonNewPool(1)),
-    Way::OnThreads(Parallelism::RayonNewPool(2)),
-    Way::OnThreads(Parallelism::RayonNewPool(32)),
-    Way::Looped(Parallelism::RayonNewPool(2)),
+    Way::InTurn(Width::Serial),
+    Way::InTurn(Width::Batches(1)),
+    Way::InTurn(Width::Batches(2)),
+    Way::InTurn(Width::Batches(32)),
+    Way::OnThreads(Width::Serial),
+    Way::OnThreads(Width::Batches(1)),
+    Way::OnThreads(Width::Batches(2)),
+    Way::OnThreads(Width::Batches(32)),
+    Way::Looped(Width::Batches(2)),
 ];
 
 /// The options with one of them set.
@@ -65,7 +66,7 @@ fn set(options: Options, setting: Setting) -> Options {
         Setting::Follow => options.with_follow_links(true),
         Setting::Min(depth) => options.with_min_depth(depth),
         Setting::Max(depth) => options.with_max_depth(depth),
-        Setting::By(parallelism) => options.with_parallelism(parallelism),
+        Setting::By(width) => options.with_mode(width.mode()),
     }
 }
 
@@ -89,7 +90,7 @@ fn with<C: ClientState, S: FileSystem>(walk: Builder<C, S>, setting: Setting) ->
         Setting::Follow => walk.follow_links(true),
         Setting::Min(depth) => walk.min_depth(depth),
         Setting::Max(depth) => walk.max_depth(depth),
-        Setting::By(parallelism) => walk.parallelism(parallelism),
+        Setting::By(width) => walk.parallelism(width.parallelism()),
     }
 }
 
@@ -154,16 +155,16 @@ impl<'a, S: FileSystem + Send + Sync> Asked<'a, S> {
         let alloc = rt.alloc();
         match way {
             Way::Plain => plain_answers(alloc, &self.job(alloc, process), self.root),
-            Way::InTurn(parallelism) => {
-                let walk = self.builder(alloc)?.parallelism(parallelism);
+            Way::InTurn(width) => {
+                let walk = self.builder(alloc)?.parallelism(width.parallelism());
                 all_in_turn(alloc, walk.process_read_dir(process))
             }
-            Way::OnThreads(parallelism) => {
-                let walk = self.builder(alloc)?.parallelism(parallelism);
+            Way::OnThreads(width) => {
+                let walk = self.builder(alloc)?.parallelism(width.parallelism());
                 all_on_threads(alloc, walk.process_read_dir(process).threads(rt))
             }
-            Way::Looped(parallelism) => {
-                let walk = self.builder(alloc)?.parallelism(parallelism);
+            Way::Looped(width) => {
+                let walk = self.builder(alloc)?.parallelism(width.parallelism());
                 all_looped(alloc, walk.process_read_dir(process).threads(rt))
             }
         }

@@ -1,6 +1,5 @@
 //! Walks over file systems that fail, or whose names are odd.
 use crate::table::holds;
-use jwalk::Parallelism;
 use jwalk::file_system::FileType;
 use jwalk::read_dir::NoProcess;
 use std::io::ErrorKind;
@@ -12,6 +11,7 @@ use walk_fixtures::row::{Over, Row};
 use walk_fixtures::trees::{GROUPED, SMALL, Step, tree};
 use walk_fixtures::watched::{Failing, Watched};
 use walk_fixtures::ways::{Asked, Setting, WAYS, Way};
+use walk_fixtures::width::Width;
 
 /// A directory whose files have odd names.
 const ODD: ListedDirectory<'static> = ListedDirectory {
@@ -117,11 +117,11 @@ fn ends_with_memory<R: Threads + Drop + Sync>(
 }
 
 /// How directories are read, on threads or not, and how many entries come before the want of memory.
-type Refused = (Parallelism, bool, usize);
+type Refused = (Width, bool, usize);
 
 /// Whether so many entries come before the want of memory of a directory that is read early.
 fn is_refused<R: Threads + AllocGlobal + Sync>(rt: &R, row: &Refused) -> bool {
-    let (parallelism, on_threads, before) = *row;
+    let (width, on_threads, before) = *row;
     let Ok(tree) = tree(rt.alloc(), GROUPED) else {
         return false;
     };
@@ -129,7 +129,7 @@ fn is_refused<R: Threads + AllocGlobal + Sync>(rt: &R, row: &Refused) -> bool {
     let asked = Asked {
         fs: &fs,
         root: "/t",
-        settings: &[Setting::By(parallelism)],
+        settings: &[Setting::By(width)],
     };
     match Begun::new(rt, &asked, on_threads) {
         Ok(mut walk) => ends_with_memory(&mut walk, before),
@@ -140,13 +140,13 @@ fn is_refused<R: Threads + AllocGlobal + Sync>(rt: &R, row: &Refused) -> bool {
 #[test]
 fn want_of_memory_in_any_reading_of_a_batch(rt: HostRuntime) {
     const ROWS: &[Refused] = &[
-        (Parallelism::Serial, false, 5),
-        (Parallelism::RayonNewPool(1), false, 5),
-        (Parallelism::RayonNewPool(2), false, 3),
-        (Parallelism::RayonNewPool(8), false, 3),
-        (Parallelism::RayonNewPool(1), true, 5),
-        (Parallelism::RayonNewPool(2), true, 3),
-        (Parallelism::RayonNewPool(8), true, 3),
+        (Width::Serial, false, 5),
+        (Width::Batches(1), false, 5),
+        (Width::Batches(2), false, 3),
+        (Width::Batches(8), false, 3),
+        (Width::Batches(1), true, 5),
+        (Width::Batches(2), true, 3),
+        (Width::Batches(8), true, 3),
     ];
     for row in ROWS {
         assert!(rt; is_refused(&rt, row), "{:?}", row);

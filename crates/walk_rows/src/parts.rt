@@ -1,5 +1,4 @@
 //! Answers taken several at a time.
-use jwalk::Parallelism;
 use jwalk::file_system::MemoryFs;
 use std::alloc::Global;
 use std::thread::Threads;
@@ -7,6 +6,7 @@ use walk_fixtures::answers::{Answer, are_lines};
 use walk_fixtures::begun::Begun;
 use walk_fixtures::trees::{GROUPED, tree};
 use walk_fixtures::ways::{Asked, Setting};
+use walk_fixtures::width::Width;
 
 /// The first answers of a walk by name over the groups of files.
 const SOME: &str = "0 d /t; 1 f /t/a.txt; 1 f /t/b.txt";
@@ -35,18 +35,14 @@ fn comes_in_parts<R: Threads + Drop + Sync>(alloc: Global, walk: &mut Begun<R, &
 }
 
 /// Whether that is so of the walk by name that reads directories in this way.
-fn holds<R: Threads + AllocGlobal + Sync>(
-    rt: &R,
-    parallelism: Parallelism,
-    on_threads: bool,
-) -> bool {
+fn holds<R: Threads + AllocGlobal + Sync>(rt: &R, width: Width, on_threads: bool) -> bool {
     let Ok(fs) = tree(rt.alloc(), GROUPED) else {
         return false;
     };
     let asked = Asked {
         fs: &fs,
         root: "/t",
-        settings: &[Setting::Sort, Setting::By(parallelism)],
+        settings: &[Setting::Sort, Setting::By(width)],
     };
     match Begun::new(rt, &asked, on_threads) {
         Ok(mut walk) => comes_in_parts(rt.alloc(), &mut walk),
@@ -56,18 +52,14 @@ fn holds<R: Threads + AllocGlobal + Sync>(
 
 #[test]
 fn answers_in_three_parts(rt: HostRuntime) {
-    const WIDTHS: &[Parallelism] = &[
-        Parallelism::Serial,
-        Parallelism::RayonNewPool(1),
-        Parallelism::RayonNewPool(2),
-        Parallelism::RayonNewPool(8),
+    const WIDTHS: &[Width] = &[
+        Width::Serial,
+        Width::Batches(1),
+        Width::Batches(2),
+        Width::Batches(8),
     ];
-    for parallelism in WIDTHS {
-        assert!(rt; holds(&rt, *parallelism, false), "{:?}", parallelism);
-        assert!(rt;
-            holds(&rt, *parallelism, true),
-            "{:?} on threads",
-            parallelism
-        );
+    for width in WIDTHS {
+        assert!(rt; holds(&rt, *width, false), "{:?}", width);
+        assert!(rt; holds(&rt, *width, true), "{:?} on threads", width);
     }
 }

@@ -3,22 +3,23 @@ use jwalk::file_system::MemoryFs;
 use jwalk::read_dir::{Job, NoProcess, ReadDir};
 use jwalk::read_dir_iter::ReadDirIter;
 use jwalk::threads::{InTurn, OnThreads};
-use jwalk::{DirEntry, Error, Parallelism};
+use jwalk::{DirEntry, Error};
 use std::alloc::Global;
 use std::test::Fail;
 use std::thread::Threads;
 use walk_fixtures::trees::{FORKED, tree};
 use walk_fixtures::ways::Asked;
+use walk_fixtures::width::Width;
 
 /// Readings that are made in some way.
 type Reads<'a, T> = ReadDirIter<((), ()), &'a MemoryFs, NoProcess, Global, T>;
 
 /// The widths at which directories are read.
-const WIDTHS: &[Parallelism] = &[
-    Parallelism::Serial,
-    Parallelism::RayonNewPool(1),
-    Parallelism::RayonNewPool(2),
-    Parallelism::RayonNewPool(8),
+const WIDTHS: &[Width] = &[
+    Width::Serial,
+    Width::Batches(1),
+    Width::Batches(2),
+    Width::Batches(8),
 ];
 
 /// What reads the directories of a tree.
@@ -41,10 +42,10 @@ fn reads<'a, T: Drop>(
     alloc: Global,
     fs: &'a MemoryFs,
     threads: T,
-    parallelism: Parallelism,
+    width: Width,
 ) -> Option<Reads<'a, T>> {
     let roots = root_list(alloc, fs)?.read_children_specs().ok()?;
-    ReadDirIter::try_new(threads, job(alloc, fs), roots, parallelism).ok()
+    ReadDirIter::try_new(threads, job(alloc, fs), roots, width.parallelism()).ok()
 }
 
 /// Whether so many readings come, and then none.
@@ -68,20 +69,16 @@ fn gives_on<R: Threads + Drop + Sync>(reads: &mut Reads<'_, OnThreads<R>>, count
 }
 
 /// Whether the readings are seven.
-fn gives_seven(alloc: Global, fs: &MemoryFs, parallelism: Parallelism) -> bool {
-    match reads(alloc, fs, InTurn, parallelism) {
+fn gives_seven(alloc: Global, fs: &MemoryFs, width: Width) -> bool {
+    match reads(alloc, fs, InTurn, width) {
         Some(mut reads) => gives(&mut reads, 7),
         None => false,
     }
 }
 
 /// Whether they are seven where threads make them.
-fn gives_seven_on<R: Threads + AllocGlobal + Sync>(
-    rt: &R,
-    fs: &MemoryFs,
-    parallelism: Parallelism,
-) -> bool {
-    match reads(rt.alloc(), fs, OnThreads::new(rt), parallelism) {
+fn gives_seven_on<R: Threads + AllocGlobal + Sync>(rt: &R, fs: &MemoryFs, width: Width) -> bool {
+    match reads(rt.alloc(), fs, OnThreads::new(rt), width) {
         Some(mut reads) => gives_on(&mut reads, 7),
         None => false,
     }
@@ -124,13 +121,8 @@ fn has_three_in_on<R: Threads + Drop + Sync>(
 }
 
 /// Whether the reading that an entry asks for is that of the root.
-fn is_asked_for(
-    alloc: Global,
-    fs: &MemoryFs,
-    entry: &DirEntry<((), ())>,
-    parallelism: Parallelism,
-) -> bool {
-    match reads(alloc, fs, InTurn, parallelism) {
+fn is_asked_for(alloc: Global, fs: &MemoryFs, entry: &DirEntry<((), ())>, width: Width) -> bool {
+    match reads(alloc, fs, InTurn, width) {
         Some(mut reads) => has_three_in(&mut reads, entry),
         None => false,
     }
@@ -141,9 +133,9 @@ fn is_asked_for_on<R: Threads + AllocGlobal + Sync>(
     rt: &R,
     fs: &MemoryFs,
     entry: &DirEntry<((), ())>,
-    parallelism: Parallelism,
+    width: Width,
 ) -> bool {
-    match reads(rt.alloc(), fs, OnThreads::new(rt), parallelism) {
+    match reads(rt.alloc(), fs, OnThreads::new(rt), width) {
         Some(mut reads) => has_three_in_on(&mut reads, entry),
         None => false,
     }

@@ -1,10 +1,10 @@
 //! How many directories are read together, and when.
-use jwalk::Parallelism;
 use std::thread::Threads;
 use walk_fixtures::begun::Begun;
 use walk_fixtures::trees::{FORKED, GROUPED, Step, tree};
 use walk_fixtures::watched::{Failing, Watched};
 use walk_fixtures::ways::{Asked, Setting};
+use walk_fixtures::width::Width;
 
 /// How a walk goes on.
 struct Course {
@@ -67,27 +67,27 @@ fn directories_of_directories(rt: HostRuntime) {
             counts: &[(0, 1), (0, 2), (0, 3), (0, 4), (0, 5), (0, 6), (0, 7)],
         },
         Course {
-            settings: &[Setting::By(Parallelism::Serial)],
+            settings: &[Setting::By(Width::Serial)],
             counts: &[(0, 1), (0, 2), (0, 3), (0, 4), (0, 5), (0, 6), (0, 7)],
         },
         Course {
-            settings: &[Setting::By(Parallelism::RayonNewPool(1))],
+            settings: &[Setting::By(Width::Batches(1))],
             counts: &[(0, 1), (0, 2), (0, 3), (0, 4), (0, 5), (0, 6), (0, 7)],
         },
         Course {
-            settings: &[Setting::By(Parallelism::RayonNewPool(2))],
+            settings: &[Setting::By(Width::Batches(2))],
             counts: &[(0, 1), (1, 3), (2, 5), (1, 5), (0, 5), (0, 6), (0, 7)],
         },
         Course {
-            settings: &[Setting::By(Parallelism::RayonNewPool(8))],
+            settings: &[Setting::By(Width::Batches(8))],
             counts: &[(0, 1), (2, 4), (4, 7), (3, 7), (2, 7), (1, 7), (0, 7)],
         },
         Course {
-            settings: &[Setting::By(Parallelism::RayonNewPool(0))],
+            settings: &[Setting::By(Width::Batches(0))],
             counts: &[(0, 1), (2, 4), (4, 7), (3, 7), (2, 7), (1, 7), (0, 7)],
         },
         Course {
-            settings: &[Setting::By(Parallelism::RayonNewPool(2)), Setting::Min(2)],
+            settings: &[Setting::By(Width::Batches(2)), Setting::Min(2)],
             counts: &[(2, 5), (0, 5), (0, 7)],
         },
     ];
@@ -106,7 +106,7 @@ fn directories_of_directories(rt: HostRuntime) {
 }
 
 /// One and the same value, in two walks.
-const THREE: Parallelism = Parallelism::RayonNewPool(3);
+const THREE: Width = Width::Batches(3);
 
 #[test]
 fn groups_of_files(rt: HostRuntime) {

@@ -1,8 +1,8 @@
 -- What the options of a call ask for.
 use Rattle.std.specs.Prelude.{ℕ, true, false, not, Option, Some, None, is_some, if◌then◌else◌}
 use Rattle.walk_model.specs.Options.{Options, defaults, with_sort, with_skip_hidden, with_follow_links, with_min_depth, with_max_depth, with_parallelism}
-use Rattle.jwalk_read.specs.Options.{parallelism_value}
-use Rattle.jwalk_read.specs.declared.parallelism.Parallelism.TheVariants.{RayonNewPool}
+use Rattle.jwalk_read.specs.Options.{mode_value}
+use Rattle.jwalk_read.specs.declared.mode.Mode.TheVariants.{Batches}
 use Rattle.walk_text.specs.declared.asked.Asked.{Asked}
 use Rattle.walk_text.specs.declared.asked.Choice.{Choice}
 use Rattle.walk_text.specs.declared.asked.Choice.TheVariants.{Tree, Sort, Hidden, Follow, Min, Max, Batch}
@@ -28,7 +28,7 @@ where_named step (Some n) options = step n options
 
 -- directories are read in batches of a width, where 0 stands for 8
 abbrev pub with_batches : ℕ → Options → Options
-with_batches width = with_parallelism (parallelism_value (RayonNewPool width))
+with_batches width = with_parallelism (mode_value (Batches width))
 
 -- the options of the walk that is asked for, by the builder's steps one after another
 abbrev pub options_for : Asked → Options

@@ -18,7 +18,7 @@ returns-clause-printed g c = λ clean fixed.
     let begun = c.into_iter-walk.ensures in
     let built = c.walk_of.ensures in
     let steady = subst (g.S.FileSystem.IsFixed) (sym built.file_system) fixed in
-    let listed = whole _ _ _ _ stateless walk c.into_iter-walk.result all.0 begun.starts begun.holds (record { file_system = steady; callback = λ depth path state list. refl; clones = λ x y is. refl; default = λ x is. refl }) all.1 (entries_tell all.0 (sym all.2)) in
+    let listed = whole _ _ _ _ stateless walk c.into_iter-walk.result all.0 begun.own begun.starts begun.holds (record { file_system = steady; callback = λ depth path state list. refl; clones = λ x y is. refl; default = λ x is. refl }) all.1 (entries_tell all.0 (sym all.2)) in
     let asked = listed ∙ stateless_of g.S.FileSystem.functions walk c.args.fs (options_for request.asked) request.root.now built.file_system built.options (built.root ∙ c.in_ok-root.ensures.ok) in
     record {
       prints = subst (λ l. Appends (g.W.Write.contents c.args.out.now) (g.W.Write.contents c.print_walked.new.out) l) (sym (same_lines stateless (map item all.0)) ∙ ap lines_of asked) all.3;
