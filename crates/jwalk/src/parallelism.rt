@@ -9,7 +9,7 @@ use std::alloc::{Allocator, Global};
 use std::sync::Arc;
 use std::time::Duration;
 
-/// How a walk reads its directories. It changes neither the answers nor their order.
+/// How a walk reads its directories. One directory at a time or several, the answers and their order are the same.
 pub enum Parallelism<W = NoPool, A: Allocator + Copy = Global> {
     /// One directory at a time, when its entry is answered. The default.
     Serial,

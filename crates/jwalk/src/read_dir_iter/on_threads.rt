@@ -60,7 +60,8 @@ where
         }
     }
 
-    /// The next reading; or the error that tells why it won't come, and nothing is left to be read. Threads make the readings that are made together.
+    /// The next reading; or the error that tells why it won't come, and nothing is left to be read. Threads make the
+    /// readings that are made together.
     pub fn next(&mut self) -> Option<Outcome<C, A>>
         requires { P.IsLawful (callback (job_of self.old)) }
         ensures { Gives S.FileSystem P.ProcessReadDir C.ReadDirState.Clone C.DirEntryState.Default
