@@ -4,7 +4,7 @@ ghost use Rattle.jwalk_crew.specs.Crew.{workers_of};
 
 use crate::places::Places;
 use crate::waiting::Patience;
-use std::alloc::{Allocator, Global};
+use std::alloc::{AllocError, Allocator, Global};
 use std::sync::{Arc, Condvar, Mutex, Wait};
 use std::time::{Clock, Duration};
 
@@ -89,6 +89,16 @@ pub enum NotStarted {
     Busy,
     /// Memory ran out.
     Memory,
+}
+
+impl From<AllocError> for NotStarted {
+    ghost use Rattle.jwalk_crew.specs.declared.crew.NotStarted.TheVariants.{Memory};
+
+    ghost from_gives = { λ _ why. why ≡ Memory };
+
+    fn from(_refused: AllocError) -> Self {
+        NotStarted::Memory
+    }
 }
 
 /// A place of a crew, which is in use until this is dropped.

@@ -3,10 +3,13 @@
 
 pub mod arrival;
 pub mod crew;
+mod desk;
+mod hand_in;
 pub mod message;
 pub mod places;
 pub mod pool;
 pub mod session;
+mod sleepers;
 mod steps;
 mod waiting;
 pub mod wanted;

@@ -5,6 +5,7 @@ ghost use Rattle.jwalk_read.specs.Job.{callback};
 
 use crate::arrival::{Arrival, arrive};
 use crate::crew::{Crew, NotStarted, Place};
+use crate::desk::Desk;
 use crate::message::Message;
 use crate::pool::{Missed, Pool};
 use crate::waiting::wait_a_turn;
@@ -59,21 +60,25 @@ impl<
     fn next(&mut self, wanted: &Wanted<A>) -> Result<Ordered<Message<C, S, P, A>, A>, Missed> {
         let shared = &*self.shared;
         let rt = &shared.crew.rt;
+        let mut desk = shared.desk.lock(rt);
         for _ in rt.forever() {
-            let mut board = shared.board.lock(rt);
-            match arrive(&mut *board, wanted) {
+            match arrive(&mut desk.board, wanted) {
                 Arrival::Entered(item) => return Ok(item),
                 Arrival::Memory => return Err(Missed::Memory),
                 Arrival::Lost => return Err(Missed::Lost),
-                Arrival::Wait => wait_a_turn(rt, &shared.arrived, board),
+                Arrival::Wait => {
+                    desk.sleepers.set_walk(true);
+                    desk = wait_a_turn(rt, &shared.arrived, desk);
+                    desk.sleepers.set_walk(false);
+                }
             }
         }
         unreachable!()
     }
 
     fn ahead(&self) -> usize {
-        let board = self.shared.board.lock(&self.shared.crew.rt);
-        board.ready()
+        let desk = self.shared.desk.lock(&self.shared.crew.rt);
+        desk.board.ready()
     }
 }
 
@@ -99,7 +104,7 @@ fn share<
     let shared = Shared {
         crew,
         job,
-        board: Mutex::new(board),
+        desk: Mutex::new(Desk::new(board)),
         queued: Condvar::new(),
         arrived: Condvar::new(),
     };

@@ -1,5 +1,5 @@
 //! What a worker does on the board, one step each.
-ghost use Rattle.std.specs.Prelude.{◌≡◌, ◌↔◌, true, IsTrue, OnErr, OnOk};
+ghost use Rattle.std.specs.Prelude.{◌≡◌, ◌↔◌, length, true, IsTrue, OnErr, OnOk};
 ghost use Rattle.jwalk_order.specs.IndexPath.{address as indices_of};
 ghost use Rattle.jwalk_board.specs.Board.{Finishes, IsNextReady};
 ghost use Rattle.jwalk_crew.specs.Steps.{Turns};
@@ -54,7 +54,7 @@ pub(crate) fn finish_or_stop<T: Drop, R: Drop, A: Allocator + Copy>(
     done
 }
 
-/// Whom a step calls of those who wait: how many workers, and whether the walk.
+/// Whom a step calls of those who sleep: how many workers, and whether the walk.
 #[derive(Clone, Copy)]
 pub(crate) struct Calls {
     pub(crate) workers: usize,
@@ -72,22 +72,34 @@ impl Calls {
         }
     }
 
-    /// After a reading with so many children was finished: a worker for each but the one that the finisher takes, and the
-    /// walk where its next reading is ready. All workers where nothing is left to be read, since they then end.
-    pub(crate) fn after<T: Drop, R: Drop, A: Allocator + Copy>(
-        board: &Board<T, R, A>,
-        children: usize,
-    ) -> Self
-        ensures { IsTrue result.walk ↔ IsNextReady board.now }
+    /// After a step that left the board at work: a worker for each specification that is queued, and the walk where its
+    /// next reading is ready.
+    pub(crate) fn after<T: Drop, R: Drop, A: Allocator + Copy>(board: &Board<T, R, A>) -> Self
+        ensures workers { result.workers ≡ length board.now.queued }
+        ensures walk { IsTrue result.walk ↔ IsNextReady board.now }
     {
-        let workers = if board.pending() == 0 {
-            usize::MAX
-        } else {
-            children.saturating_sub(1)
-        };
         Calls {
-            workers,
+            workers: board.queued(),
             walk: board.is_next_ready(),
         }
+    }
+
+    /// After a worker's turn: everyone where the worker ends, since the others then end too.
+    pub(crate) fn after_turn<T: Drop, R: Drop, A: Allocator + Copy>(
+        board: &Board<T, R, A>,
+        turn: &Turn<T, A>,
+    ) -> Self
+        ensures ready { IsNextReady board.now → IsTrue result.walk }
+        ensures end { turn.now ≡ Turn.End → IsTrue result.walk }
+    {
+        match turn {
+            Turn::End => Calls::all(),
+            Turn::Read(_) | Turn::Wait => Calls::after(board),
+        }
+    }
+
+    /// Whether nobody is called.
+    pub(crate) fn is_empty(self) -> bool {
+        self.workers == 0 && !self.walk
     }
 }

@@ -4,11 +4,11 @@ ghost use Rattle.std.specs.Arc.{arc_value};
 ghost use Rattle.jwalk_read.specs.Job.{callback};
 
 use crate::crew::Crew;
+use crate::desk::Desk;
+use crate::hand_in::HandIn;
 use crate::message::Message;
-use crate::steps::{Calls, Turn, finish_or_stop, take_turn};
+use crate::steps::{Calls, Turn, take_turn};
 use crate::waiting::wait_a_turn;
-use jwalk_board::board::Board;
-use jwalk_order::index_path::IndexPath;
 use jwalk_order::ordered::Ordered;
 use jwalk_read::client_state::ClientState;
 use jwalk_read::job::Job;
@@ -31,7 +31,7 @@ pub(crate) struct Shared<
 > {
     pub(crate) crew: Arc<Crew<R>, A>,
     pub(crate) job: Arc<Job<C, S, P, A>, A>,
-    pub(crate) board: Mutex<Board<ReadDirSpec<C, A>, Message<C, S, P, A>, A>>,
+    pub(crate) desk: Mutex<Desk<ReadDirSpec<C, A>, Message<C, S, P, A>, A>>,
     /// Called where a worker may find something queued, or nothing more will be.
     pub(crate) queued: Condvar,
     /// Called where the walk's next reading is ready, or none will be.
@@ -49,7 +49,7 @@ impl<
         let Shared {
             crew: _,
             job: _,
-            board: _,
+            desk: _,
             queued: _,
             arrived: _,
         } = self;
@@ -63,24 +63,23 @@ impl<
     P: ProcessReadDir<C, A>,
     A: Allocator + Copy,
 > Shared<R, C, S, P, A> {
-    /// Calls those who wait.
+    /// Calls those who sleep.
     fn call(&self, calls: Calls) {
-        match calls.workers {
-            0 => {}
-            1 => self.queued.notify_one(),
-            _ => self.queued.notify_all(),
-        }
         if calls.walk {
             self.arrived.notify_one();
+        }
+        for _ in 0..calls.workers {
+            self.queued.notify_one();
         }
     }
 
     /// Stops the board, and with it the workers and the walk.
     pub(crate) fn stop(&self) {
-        let mut board = self.board.lock(&self.crew.rt);
-        board.stop();
-        drop(board);
-        self.call(Calls::all());
+        let mut desk = self.desk.lock(&self.crew.rt);
+        desk.board.stop();
+        let calls = desk.sleepers.called_by(Calls::all());
+        drop(desk);
+        self.call(calls);
     }
 }
 
@@ -114,17 +113,35 @@ impl<
     P: ProcessReadDir<C, A>,
     A: Allocator + Copy,
 > Worker<R, C, S, P, A> {
-    /// Takes a directory as soon as one is queued, and none once the board is done or stopped.
-    fn take(&self) -> Option<Ordered<ReadDirSpec<C, A>, A>> {
+    /// Hands in what was read, if anything, and takes a directory as soon as one is queued: none once the board is done
+    /// or stopped.
+    fn next(&self, read: Option<HandIn<C, S, P, A>>) -> Option<Ordered<ReadDirSpec<C, A>, A>> {
         let rt = &self.shared.crew.rt;
+        let mut desk = self.shared.desk.lock(rt);
+        let _refused = read.map(|read| read.finish(&mut desk.board));
         for _ in rt.forever() {
-            let mut board = self.shared.board.lock(rt);
-            match take_turn(&mut *board) {
-                Turn::Read(item) => return Some(item),
-                Turn::Wait => wait_a_turn(rt, &self.shared.queued, board),
+            let turn = take_turn(&mut desk.board);
+            let wanted = Calls::after_turn(&desk.board, &turn);
+            let calls = desk.sleepers.called_by(wanted);
+            match turn {
+                Turn::Wait if calls.is_empty() => {
+                    desk.sleepers.add_worker();
+                    desk = wait_a_turn(rt, &self.shared.queued, desk);
+                    desk.sleepers.remove_worker();
+                }
+                Turn::Wait => {
+                    drop(desk);
+                    self.shared.call(calls);
+                    desk = self.shared.desk.lock(rt);
+                }
+                Turn::Read(item) => {
+                    drop(desk);
+                    self.shared.call(calls);
+                    return Some(item);
+                }
                 Turn::End => {
-                    drop(board);
-                    self.shared.call(Calls::all());
+                    drop(desk);
+                    self.shared.call(calls);
                     return None;
                 }
             }
@@ -132,26 +149,8 @@ impl<
         unreachable!()
     }
 
-    /// Hands in a reading with the directories below it.
-    fn finish(
-        &self,
-        address: IndexPath<A>,
-        message: Message<C, S, P, A>,
-        children: Vec<ReadDirSpec<C, A>, A>,
-    ) {
-        let count = children.len();
-        let mut board = self.shared.board.lock(&self.shared.crew.rt);
-        let done = finish_or_stop(&mut *board, address, message, children);
-        let calls = match &done {
-            Ok(()) => Calls::after(&*board, count),
-            Err(_) => Calls::all(),
-        };
-        drop(board);
-        self.shared.call(calls);
-    }
-
-    /// Reads a directory that was taken.
-    fn read(&self, item: Ordered<ReadDirSpec<C, A>, A>)
+    /// Reads a directory that was taken. None where memory is refused, which stops the board.
+    fn read(&self, item: Ordered<ReadDirSpec<C, A>, A>) -> Option<HandIn<C, S, P, A>>
         requires { P.IsLawful (callback (arc_value (arc_value self.now.shared).job)) }
     {
         let Ordered {
@@ -162,9 +161,16 @@ impl<
         match self.shared.job.clone() {
             Ok(job) => {
                 let (message, children) = Message::read(job, of);
-                self.finish(address, message, children);
+                Some(HandIn {
+                    address,
+                    message,
+                    children,
+                })
             }
-            Err(_) => self.shared.stop(),
+            Err(_) => {
+                self.shared.stop();
+                None
+            }
         }
     }
 
@@ -172,9 +178,10 @@ impl<
     fn work(&self)
         requires { P.IsLawful (callback (arc_value (arc_value self.now.shared).job)) }
     {
+        let mut read = None;
         for _ in self.shared.crew.rt.forever() {
-            match self.take() {
-                Some(item) => self.read(item),
+            match self.next(read) {
+                Some(item) => read = self.read(item),
                 None => return,
             }
         }
