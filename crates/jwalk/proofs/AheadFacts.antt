@@ -19,7 +19,7 @@ use Rattle.jwalk_engine.specs.ReadAhead.{ReadAhead, HandsOnAt, ReadsLeast}
 use Rattle.jwalk.specs.declared.dir_entry_iter.DirEntryIter.{DirEntryIter}
 use Rattle.jwalk.specs.ReadDirIter.{EntersBy, EntersNextBy}
 use Rattle.jwalk.specs.Step.{IsAtDirectory, PassesNext}
-use Rattle.jwalk.specs.DirEntryIter.{by_crew, job_of, items_of, unread_of, width_of, next_address, read_ahead, early_of, Known, EntersIfAny, PassesMany, none_passed, one_passed, one_entered}
+use Rattle.jwalk.specs.DirEntryIter.{by_crew, job_of, items_of, unread_of, width_of, next_address, read_ahead, early_of, KnownAt, EntersIfAny, PassesMany, none_passed, one_passed, one_entered}
 
 -- no directory is to be read where nothing is held
 pub nothing_at : {R E : Type 0} (items : List (Item R E)) (specs : List (Spec R)) → items ≡ [] → ¬ IsAtDirectory items specs
@@ -82,7 +82,7 @@ module _ {C S P A T L R E : Type 0} (files : FileSystem.Ghosts S) (process : Pro
 module _ {C S P A T L R E : Type 0} (files : FileSystem.Ghosts S) (process : ProcessReadDir.Ghosts P C A R E) (clone : Clone.Ghosts R) (defaults : Default.Ghosts E) (old new : DirEntryIter C S P A T L R E) where
   -- a directory's entry is passed, where this came of its reading
   pub entered_if_any : (x : Item R E) (rest : List (Item R E)) (read : Option (Outcome R E)) (left : List (Spec R)) (mid : ReadAhead R) → items_of old ≡ x ∷ rest → has_directory x ≡ true
-      → ReadsNextBy clone (Known files process clone defaults old) (greatest_depth (job_of old)) (unread_of old) read left
+      → ReadsNextBy clone (KnownAt files process clone defaults old (next_address old) x) (greatest_depth (job_of old)) (unread_of old) read left
       → EntersNextBy files process clone defaults (by_crew old) (job_of old) (width_of old) (next_address old) (read_ahead old) read mid → read_ahead new ≡ mid
       → EntersIfAny files process clone defaults old new
   entered_if_any x rest None left mid items dir reads enters same = inr (at_nothing (items_of old) (unread_of old) reads.0, same ∙ enters)
@@ -98,7 +98,7 @@ module _ {C S P A T L R E : Type 0} (files : FileSystem.Ghosts S) (process : Pro
 module _ {C S P A T L R E : Type 0} (files : FileSystem.Ghosts S) (process : ProcessReadDir.Ghosts P C A R E) (clone : Clone.Ghosts R) (defaults : Default.Ghosts E) (old mid new : DirEntryIter C S P A T L R E) where
   -- one item more is passed
   pub one_more : (entered : ℕ) (passed : Item R E) → PassesMany files process clone defaults old entered mid → by_crew mid ≡ by_crew old → job_of mid ≡ job_of old → width_of mid ≡ width_of old
-      → PassesNext clone (Known files process clone defaults old) (job_of old) (items_of mid) (unread_of mid) passed (items_of new) (unread_of new) → EntersIfAny files process clone defaults mid new
+      → PassesNext clone (KnownAt files process clone defaults old (next_address mid)) (job_of old) (items_of mid) (unread_of mid) passed (items_of new) (unread_of new) → EntersIfAny files process clone defaults mid new
       → (n : ℕ) × PassesMany files process clone defaults old n new
   one_more entered passed many crew job width next any = elim any [
     | inl at ↦

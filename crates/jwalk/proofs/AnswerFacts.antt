@@ -29,7 +29,7 @@ use Rattle.jwalk.specs.Step.{ReadsUpTo, IsAtDirectory, StopsAtDirectory}
 use Rattle.jwalk_engine.specs.ReadAhead.{nothing_ahead}
 use Rattle.jwalk.specs.ReadDirIter.{Tells}
 use Rattle.jwalk.specs.DirEntryIter.{by_crew, job_of, min_depth_of, items_of, unread_of, width_of, read_ahead, GoesAhead, GrowsAhead, held, held_by, refusal, to_come, IsSourced, Stops, Known, StaysSteady, Answers}
-use Rattle.jwalk.proofs.KnownFacts.{own_tells, own_if_steady, clones_if_steady, known_if_steady}
+use Rattle.jwalk.proofs.KnownFacts.{own_tells, own_if_steady, clones_if_steady, items_known}
 use Rattle.jwalk.proofs.StepFacts.{next_within, next_lighter, next_count, next_plain, next_listed, left_within, left_lighter, left_count, left_plain, left_to_come}
 
 -- at a directory nothing is said of the answer but what its reading tells
@@ -55,10 +55,10 @@ module _ {C S P A T L R E : Type 0} where
   held_nothing : (it : DirEntryIter C S P A T L R E) → it.refused ≡ false → items_of it ≡ [] → held it ≡ []
   held_nothing it started none = held_rest it started ∙ ap (λ l. pair_up l (unread_of it)) none
 
-  held_refused : (it : DirEntryIter C S P A T L R E) → it.refused ≡ true → held it ≡ record { item = Err memory; source = nothing } ∷ pair_up (items_of it) (unread_of it)
+  pub held_refused : (it : DirEntryIter C S P A T L R E) → it.refused ≡ true → held it ≡ record { item = Err memory; source = nothing } ∷ pair_up (items_of it) (unread_of it)
   held_refused it refused = rw refused refl
 
-  held_by_rest : (given : Given R E) (it : DirEntryIter C S P A T L R E) → it.refused ≡ false → held_by given it ≡ pair_up (map (counted_item given) (items_of it)) (map (counted_spec given) (unread_of it))
+  pub held_by_rest : (given : Given R E) (it : DirEntryIter C S P A T L R E) → it.refused ≡ false → held_by given it ≡ pair_up (map (counted_item given) (items_of it)) (map (counted_spec given) (unread_of it))
   held_by_rest given it started = rw started refl
 
   held_by_refused : (given : Given R E) (it : DirEntryIter C S P A T L R E) → it.refused ≡ true → held_by given it ≡ record { item = Err memory; source = nothing } ∷ pair_up (map (counted_item given) (items_of it)) (map (counted_spec given) (unread_of it))
@@ -71,7 +71,7 @@ module _ {C S P A T L R E : Type 0} where
   sourced_rest : (it : DirEntryIter C S P A T L R E) → it.refused ≡ false → IsSourced it → length (unread_of it) ≡ directories (items_of it)
   sourced_rest it started is = sourced_count (items_of it) (unread_of it) (rw (held_rest it started) at is.each) (rw (held_rest it started) at is.unread)
 
-  rest_sourced : (it : DirEntryIter C S P A T L R E) → it.refused ≡ false → length (unread_of it) ≡ directories (items_of it) → IsSourced it
+  pub rest_sourced : (it : DirEntryIter C S P A T L R E) → it.refused ≡ false → length (unread_of it) ≡ directories (items_of it) → IsSourced it
   rest_sourced it started count =
       let both = sourced (items_of it) (unread_of it) count in
       record { each = rw (held_rest it started) both.0; unread = rw (held_rest it started) both.1 }
@@ -95,7 +95,7 @@ module _ {C S P A T L R E : Type 0} (files : FileSystem.Ghosts S) (process : Pro
       subst (λ b. MatchBool b (read_ahead new ≡ read_ahead old) ((IsSomeAnd answer (λ a. Stops (by_crew old) a new) × (read_ahead new ≡ nothing_ahead)) ⊎ GrowsAhead files process clone defaults old new)) (sym began) (inr grown)
 
   -- items were left out, and then one is passed that is answered
-  abbrev Knows : Spec R → Outcome R E → Type 0
+  abbrev Knows : Item R E → Spec R → Outcome R E → Type 0
   Knows = Known files process clone defaults old
 
   answers_some : (x : Result (DirEntry C A R E) (Error A)) → old.refused ≡ false → new.refused ≡ false → by_crew new ≡ by_crew old → job_of new ≡ job_of old
@@ -125,8 +125,8 @@ module _ {C S P A T L R E : Type 0} (files : FileSystem.Ghosts S) (process : Pro
         ahead = goes_ahead (Some (item x)) began grown;
         coming = λ given counted. inr (
             come_old given began
-            ∙ left_to_come clone Knows j (items_of old) (unread_of old) files given (clones_if_steady files process clone defaults old.reads given counted) (known_if_steady files process clone defaults old.reads given counted) left
-            ∙ ap (answers (min_depth_of old)) (next_listed clone Knows j files given (clones_if_steady files process clone defaults old.reads given counted) (known_if_steady files process clone defaults old.reads given counted) next)
+            ∙ left_to_come clone Knows j (items_of old) (unread_of old) files given (clones_if_steady files process clone defaults old.reads given counted) (items_known files process clone defaults old given counted) left
+            ∙ ap (answers (min_depth_of old)) (next_listed clone Knows j files given (clones_if_steady files process clone defaults old.reads given counted) (items_known files process clone defaults old given counted) next)
             ∙ rw (counted-is_answered given.read_dir_state given.dir_entry_state (min_depth_of old) (item x), kept) (ap (λ l. counted_item given (item x) ∷ l) (sym (come_new given started job))));
       }
 
@@ -158,7 +158,7 @@ module _ {C S P A T L R E : Type 0} (files : FileSystem.Ghosts S) (process : Pro
         ahead = goes_ahead None began grown;
         coming = λ given counted.
             come_old given began
-            ∙ left_to_come clone Knows j (items_of old) (unread_of old) files given (clones_if_steady files process clone defaults old.reads given counted) (known_if_steady files process clone defaults old.reads given counted) left
+            ∙ left_to_come clone Knows j (items_of old) (unread_of old) files given (clones_if_steady files process clone defaults old.reads given counted) (items_known files process clone defaults old given counted) left
             ∙ ap (λ l. answers (min_depth_of old) (Listing given l unread)) none;
       }
 
@@ -221,20 +221,28 @@ pub goes_on : {T : Type 0} {may : Type 0} (r : Option T) (fewer : Type 0) → ma
 goes_on None fewer can less = tt
 goes_on (Some x) fewer can less = (can, tt, less)
 
+module _ {C S P A T L R E : Type 0} (clone : Clone.Ghosts R) (r : Reading R E) (it : DirEntryIter C S P A T L R E) where
+  -- a walk that has a list alone, with its directories, holds the pairs of that list
+  pub holds_list : (given : Given R E) → ClonesCount clone given → it.refused ≡ false → items_of it ≡ r.list → AreClones clone.is_clone (children r) (unread_of it) → held_by given it ≡ paired (counted_reading given r)
+  holds_list given counts started all clones =
+      let directories_too : map (counted_spec given) (unread_of it) ≡ children_of (Ok (counted_reading given r))
+      = counted_clones clone.is_clone given.read_dir_state counts (children r) (unread_of it) clones
+      ∙ sym (counted-children_of given.read_dir_state given.dir_entry_state (Ok r)) in
+      held_by_rest given it started
+      ∙ ap (λ l. pair_up (map (counted_item given) l) (map (counted_spec given) (unread_of it))) all
+      ∙ ap (pair_up (map (counted_item given) r.list)) (directories_too ∙ sym (append-nil (children_of (Ok (counted_reading given r)))))
+      ∙ ap (λ l. pair_up l (children_of (Ok (counted_reading given r)) ++ [])) (sym (append-nil (map (counted_item given) r.list)))
+      ∙ pair_up-outcome (Ok (counted_reading given r)) [] []
+      ∙ append-nil (paired (counted_reading given r))
+
+  -- and these alone are to be read
+  pub list_sourced : it.refused ≡ false → items_of it ≡ r.list → AreClones clone.is_clone (children r) (unread_of it) → IsSourced it
+  list_sourced started all clones = rest_sourced it started (same_length clone.is_clone (children r) (unread_of it) clones ∙ as_many_of (Ok r) ∙ ap directories (sym all))
+
 -- a walk that took over its root's list holds the pairs of that list
 pub holds_root : {C S P A T L R E : Type 0} (clone : Clone.Ghosts R) (given : Given R E) (r : Reading R E) (before after begun : DirEntryIter C S P A T L R E) → ClonesCount clone given → begun.refused ≡ false → items_of begun ≡ items_of after → unread_of begun ≡ unread_of after → items_of before ≡ [] → items_of after ≡ r.list ++ items_of before → AreClones clone.is_clone (children r) (unread_of after) → held_by given begun ≡ paired (counted_reading given r)
 holds_root clone given r before after begun counts started same_items same_unread no_items items clones =
-    let all : items_of begun ≡ r.list = same_items ∙ items ∙ ap (λ l. r.list ++ l) no_items ∙ append-nil r.list in
-    let directories_too : map (counted_spec given) (unread_of begun) ≡ children_of (Ok (counted_reading given r))
-    = ap (map (counted_spec given)) same_unread
-    ∙ counted_clones clone.is_clone given.read_dir_state counts (children r) (unread_of after) clones
-    ∙ sym (counted-children_of given.read_dir_state given.dir_entry_state (Ok r)) in
-    held_by_rest given begun started
-    ∙ ap (λ l. pair_up (map (counted_item given) l) (map (counted_spec given) (unread_of begun))) all
-    ∙ ap (pair_up (map (counted_item given) r.list)) (directories_too ∙ sym (append-nil (children_of (Ok (counted_reading given r)))))
-    ∙ ap (λ l. pair_up l (children_of (Ok (counted_reading given r)) ++ [])) (sym (append-nil (map (counted_item given) r.list)))
-    ∙ pair_up-outcome (Ok (counted_reading given r)) [] []
-    ∙ append-nil (paired (counted_reading given r))
+    holds_list clone r begun given counts started (same_items ∙ items ∙ ap (λ l. r.list ++ l) no_items ∙ append-nil r.list) (subst (AreClones clone.is_clone (children r)) (sym same_unread) clones)
 
 -- a walk that holds its root's list alone holds nothing too deep
 pub at_root : {R E : Type 0} (l items before : List (Item R E)) → items ≡ l ++ before → before ≡ [] → AtDepth 0 l → AtDepth 0 items
@@ -246,5 +254,4 @@ within_root greatest items depth = at_depth 0 greatest items (omega arith) depth
 -- and its directories alone are to be read
 pub root_sourced : {C S P A T L R E : Type 0} (clone : Clone.Ghosts R) (r : Reading R E) (before after begun : DirEntryIter C S P A T L R E) → begun.refused ≡ false → items_of begun ≡ items_of after → unread_of begun ≡ unread_of after → items_of before ≡ [] → items_of after ≡ r.list ++ items_of before → AreClones clone.is_clone (children r) (unread_of after) → IsSourced begun
 root_sourced clone r before after begun started same_items same_unread no_items items clones =
-    let all : items_of begun ≡ r.list = same_items ∙ items ∙ ap (λ l. r.list ++ l) no_items ∙ append-nil r.list in
-    rest_sourced begun started (ap length same_unread ∙ same_length clone.is_clone (children r) (unread_of after) clones ∙ as_many_of (Ok r) ∙ ap directories (sym all))
+    list_sourced clone r begun started (same_items ∙ items ∙ ap (λ l. r.list ++ l) no_items ∙ append-nil r.list) (subst (AreClones clone.is_clone (children r)) (sym same_unread) clones)

@@ -1,5 +1,5 @@
 -- What a crew's message tells of the directory that is waited for.
-use Rattle.std.proofs.Common.{◌≡◌, ◌∙◌, ◌+◌, ℕ, List, Ok, Err, sym, subst, arith}
+use Rattle.std.proofs.Common.{◌≡◌, ◌∙◌, ◌+◌, ℕ, List, Ok, Err, IfOk, sym, subst, arith}
 use Rattle.std.specs.declared.clone.Clone as Clone
 use Rattle.std.specs.declared.default.Default as Default
 use Rattle.walk_model.specs.Options.{ReadsAs}
@@ -9,7 +9,7 @@ use Rattle.walk_fs.specs.declared.file_system.FileSystem as FileSystem
 use Rattle.jwalk_order.specs.declared.ordered.Ordered.{Ordered}
 use Rattle.jwalk_read.specs.declared.process_read_dir.ProcessReadDir as ProcessReadDir
 use Rattle.jwalk_read.specs.declared.job.Job.{Job}
-use Rattle.jwalk_read.specs.ReadDir.{spec}
+use Rattle.jwalk_read.specs.ReadDir.{spec, outcome}
 use Rattle.jwalk_read.specs.Job.{options_of, greatest_depth, IsReadingOf, IsReadingBy}
 use Rattle.jwalk_crew.specs.declared.wanted.Wanted.{Wanted}
 use Rattle.jwalk_crew.specs.Message.{Message}
@@ -23,10 +23,11 @@ lawful_there max_depth reads_to of s (Err f) same there lawful = (omega (arith, 
 
 module _ {C S P A R E : Type 0} (files : FileSystem.Ghosts S) (process : ProcessReadDir.Ghosts P C A R E) (clone : Clone.Ghosts R) (defaults : Default.Ghosts E) (job : Job C S P A R E) (s : Spec R) (o : Outcome R E) where
   -- a message that fits what is waited for tells of the directory
-  pub told : (where_at : List ℕ) (wanted : Wanted A) (item : Ordered (Message C S P A R E) A) → IsFor where_at s (options_of job) wanted → Fits wanted item → IsReadingOf files process clone defaults item.value.job (spec item.value.of) o → IsTold files process clone defaults job s o
-  told where_at wanted item is fits reading = record {
-    by = item.value.job;
-    of = spec item.value.of;
+  pub told : (at : List ℕ) (wanted : Wanted A) (item : Ordered (Message C S P A R E) A) → IsFor at s (options_of job) wanted → Fits wanted item → IfOk item.value.outcome (λ read. outcome read ≡ o) → IsReadingOf files process clone defaults item.value.job (spec item.value.of) o → IsTold files process clone defaults job at s o
+  told at wanted item is fits came reading = record {
+    message = item;
+    address = fits.at ∙ is.at;
+    told = came;
     options = subst (ReadsAs (options_of item.value.job)) is.options fits.options;
     place = record {
       path = fits.of.path ∙ sym is.of.path;
@@ -37,9 +38,9 @@ module _ {C S P A R E : Type 0} (files : FileSystem.Ghosts S) (process : Process
   }
 
   -- what is told of a directory is a reading of it
-  pub told_reading : IsTold files process clone defaults job s o → IsReadingBy (IsTold files process clone defaults job) (greatest_depth job) s o
-  told_reading tells = record {
-    lawful = lawful_there (greatest_depth job) (greatest_depth tells.by) tells.of s o tells.options.max_depth tells.place.depth tells.reading.lawful;
+  pub told_reading : (at : List ℕ) → IsTold files process clone defaults job at s o → IsReadingBy (IsTold files process clone defaults job at) (greatest_depth job) s o
+  told_reading at tells = record {
+    lawful = lawful_there (greatest_depth job) (greatest_depth tells.message.value.job) (spec tells.message.value.of) s o tells.options.max_depth tells.place.depth tells.reading.lawful;
     few = tells.reading.few;
     value = tells;
   }

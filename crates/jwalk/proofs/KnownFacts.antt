@@ -1,12 +1,14 @@
 -- What is known of a walk's readings, where no crew makes them, and where one does.
-use Rattle.std.proofs.Common.{◌≡◌, Bool, true, false, Option, Some, Result, Err, Ok, IfErr, IsErrAnd, inl, refl, ap, subst, ◌∙◌}
+use Rattle.std.proofs.Common.{◌≡◌, [], ◌∷◌, Bool, true, false, Option, Some, None, Result, Err, Ok, IfErr, IsErrAnd, List, ℕ, inl, inr, refl, ap, subst, ◌∙◌}
 use Rattle.std.specs.declared.clone.Clone as Clone
 use Rattle.std.specs.declared.default.Default as Default
 use Rattle.walk_model.specs.Error.{Failure, memory}
+use Rattle.walk_model.specs.Entry.{Item}
 use Rattle.walk_model.specs.ReadDir.{Spec, Outcome}
 use Rattle.walk_fs.specs.declared.file_system.FileSystem as FileSystem
 use Rattle.jwalk_read.specs.declared.process_read_dir.ProcessReadDir as ProcessReadDir
 use Rattle.jwalk_read.specs.declared.job.Job.{Job}
+use Rattle.jwalk_engine.specs.Reads.{ReadsNextBy}
 use Rattle.jwalk_read.specs.Given.{Given}
 use Rattle.jwalk_read.specs.Job.{ClonesCount, IsAsGiven}
 use Rattle.jwalk_crew.specs.declared.pool.Missed.{Missed}
@@ -14,10 +16,10 @@ use Rattle.jwalk_crew.specs.declared.pool.Missed.TheVariants.{Memory}
 use Rattle.jwalk.specs.declared.read_dir_iter.ReadDirIter.{ReadDirIter}
 use Rattle.jwalk.specs.declared.read_dir_iter.ReadDirIter.TheVariants.{Walk, ParWalk, CrewWalk}
 use Rattle.jwalk.specs.declared.dir_entry_iter.DirEntryIter.{DirEntryIter}
-use Rattle.jwalk.specs.CrewReads.{failure_of}
+use Rattle.jwalk.specs.CrewReads.{failure_of, IsNextBelow}
 use Rattle.jwalk.specs.ReadDirIter as readings
-use Rattle.jwalk.specs.ReadDirIter.{Tells, GivesError, IsSteadyReads, KnownBy}
-use Rattle.jwalk.specs.DirEntryIter.{by_crew, job_of, IsSteadyWalk, StaysSteady, Known}
+use Rattle.jwalk.specs.ReadDirIter.{Tells, GivesError, GivesFirst, IsSteadyReads, KnownBy}
+use Rattle.jwalk.specs.DirEntryIter.{by_crew, job_of, next_address, IsSteadyWalk, StaysSteady, Known, KnownAt}
 
 -- want of memory may end any walk early
 pub tells_memory : (b : Bool) (f : Failure) → f ≡ memory → Tells b f
@@ -36,6 +38,11 @@ own_tells true f own tells = absurd cc
 
 pub own_error : {R E : Type 0} (b : Bool) (given : Option (Outcome R E)) → b ≡ false → GivesError b given → given ≡ Some (Err memory)
 own_error b given own gives = gives.told ∙ ap (λ f. Some (Err f)) (own_tells b gives.error own gives.tells)
+
+-- it speaks of the first alone
+first_below : {R E : Type 0} (b : Bool) (x : Item R E) (s : Spec R) (rest : List (Spec R)) → IsNextBelow b x (s ∷ rest) → IsNextBelow b x (s ∷ [])
+first_below false x s rest h = tt
+first_below true x s rest h = h
 
 module _ {C S P A R E : Type 0} (files : FileSystem.Ghosts S) (process : ProcessReadDir.Ghosts P C A R E) (clone : Clone.Ghosts R) (defaults : Default.Ghosts E) where
   -- what is steady is read by no crew
@@ -56,14 +63,38 @@ module _ {C S P A R E : Type 0} (files : FileSystem.Ghosts S) (process : Process
   known_if_steady (ParWalk walk threads) given steady s o known = known given steady
   known_if_steady (CrewWalk reads) given steady s o known = absurd steady
 
+  -- at whatever address
+  known_anywhere : (b : Bool) (counts : Given R E → Type 0) (job : Job C S P A R E) (at there : List ℕ) (s : Spec R) (o : Outcome R E) → b ≡ false → KnownBy files process clone defaults b counts job at s o → KnownBy files process clone defaults b counts job there s o
+  known_anywhere false counts job at there s o own known = known
+  known_anywhere true counts job at there s o own known = absurd cc
+
+  -- also of the reading of an item's directory
+  pub items_known : {T L : Type 0} (it : DirEntryIter C S P A T L R E) (given : Given R E) → IsSteadyWalk files process clone defaults it given → (x : Item R E) (s : Spec R) (o : Outcome R E) → Known files process clone defaults it x s o → IsAsGiven files given (job_of it) s o
+  items_known it given steady x s o known = known_if_steady it.reads given steady s o (known_anywhere (by_crew it) (IsSteadyWalk files process clone defaults it) (job_of it) known.0 (next_address it) s o (own_if_steady it.reads given steady) known.1.0)
+
   -- where less counts as given, no more need be known
-  known_by : (b : Bool) (counts fewer : Given R E → Type 0) (job : Job C S P A R E) → ((given : Given R E) → fewer given → counts given) → (s : Spec R) (o : Outcome R E) → KnownBy files process clone defaults b counts job s o → KnownBy files process clone defaults b fewer job s o
-  known_by false counts fewer job within s o known = λ given f. known given (within given f)
-  known_by true counts fewer job within s o known = known
+  known_by : (b : Bool) (counts fewer : Given R E → Type 0) (job : Job C S P A R E) (at : List ℕ) → ((given : Given R E) → fewer given → counts given) → (s : Spec R) (o : Outcome R E) → KnownBy files process clone defaults b counts job at s o → KnownBy files process clone defaults b fewer job at s o
+  known_by false counts fewer job at within s o known = λ given f. known given (within given f)
+  known_by true counts fewer job at within s o known = known
 
   -- what is known later was known before
-  pub known_before : {T L : Type 0} (old new : DirEntryIter C S P A T L R E) → by_crew new ≡ by_crew old → job_of new ≡ job_of old → StaysSteady files process clone defaults old new → (s : Spec R) (o : Outcome R E) → Known files process clone defaults new s o → Known files process clone defaults old s o
-  known_before old new crew job stays s o known =
-      known_by (by_crew old) (IsSteadyWalk files process clone defaults new) (IsSteadyWalk files process clone defaults old) (job_of old) stays s o
-      (subst (λ b. KnownBy files process clone defaults b (IsSteadyWalk files process clone defaults new) (job_of old) s o) crew
-      (subst (λ j. KnownBy files process clone defaults (by_crew new) (IsSteadyWalk files process clone defaults new) j s o) job known))
+  pub known_before : {T L : Type 0} (old new : DirEntryIter C S P A T L R E) → by_crew new ≡ by_crew old → job_of new ≡ job_of old → StaysSteady files process clone defaults old new → (at : List ℕ) (x : Item R E) (s : Spec R) (o : Outcome R E) → KnownAt files process clone defaults new at x s o → KnownAt files process clone defaults old at x s o
+  known_before old new crew job stays at x s o known = (
+    known_by (by_crew old) (IsSteadyWalk files process clone defaults new) (IsSteadyWalk files process clone defaults old) (job_of old) at stays s o
+        (subst (λ b. KnownBy files process clone defaults b (IsSteadyWalk files process clone defaults new) (job_of old) at s o) crew
+        (subst (λ j. KnownBy files process clone defaults (by_crew new) (IsSteadyWalk files process clone defaults new) j at s o) job known.0)),
+    subst (λ b. IsNextBelow b x (s ∷ [])) crew known.1,
+  )
+
+  -- What is known of the next reading is known of it as that of an item's directory, if the directory that comes next is this one.
+  pub known_of : {T L : Type 0} (it : ReadDirIter C S P A T L R E) (max_depth : ℕ) (x : Item R E) (old : List (Spec R)) (read : Option (Outcome R E)) (new : List (Spec R)) → IsNextBelow (readings.by_crew it) x old → ReadsNextBy clone (readings.Known files process clone defaults it) max_depth old read new → ReadsNextBy clone (readings.KnownOf files process clone defaults it x) max_depth old read new
+  known_of it max_depth x old None new below reads = reads
+  known_of it max_depth x old (Some o) new below reads =
+      let reading = reads.reading in
+      record { first = reads.first; rest = reads.rest; took = reads.took; reading = record { lawful = reading.lawful; few = reading.few; value = (reading.value, first_below (readings.by_crew it) x reads.first reads.rest (subst (IsNextBelow (readings.by_crew it) x) reads.took below)) }; stacks = reads.stacks }
+
+  pub gives_of : {T L : Type 0} (it : ReadDirIter C S P A T L R E) (max_depth : ℕ) (x : Item R E) (old : List (Spec R)) (given : Option (Outcome R E)) (new : List (Spec R)) → IsNextBelow (readings.by_crew it) x old → GivesFirst (readings.by_crew it) clone (readings.Known files process clone defaults it) max_depth old given new → GivesFirst (readings.by_crew it) clone (readings.KnownOf files process clone defaults it x) max_depth old given new
+  gives_of it max_depth x old given new below first = elim first [
+    | inl ends ↦ inl ends
+    | inr reads ↦ inr (known_of it max_depth x old given new below reads)
+  ]

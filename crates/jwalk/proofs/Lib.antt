@@ -1,5 +1,7 @@
 pub mod KnownFacts
 pub mod CrewFacts
+pub mod CrewStartFacts
+pub mod BeginsFacts
 pub mod AheadFacts
 pub mod AnswerFacts
 pub mod FillFacts

@@ -26,7 +26,7 @@ use Rattle.jwalk_read.specs.Job.{options_of, greatest_depth, job_by, ClonesCount
 use Rattle.jwalk_engine.specs.Reads.{ReadsFirstBy, ReadsNextBy}
 use Rattle.jwalk.specs.declared.dir_entry_iter.DirEntryIter.{DirEntryIter}
 use Rattle.jwalk.specs.Step.{Receives, PassesNext, passed_plainly, passed_entering, LeavesOut, none_left_out, one_left_out, ReadsUpTo}
-use Rattle.jwalk.specs.DirEntryIter.{by_crew, job_of, min_depth_of, items_of, unread_of, width_of, Known, StaysSteady, EntersIfAny, PassesMany, none_passed, GrowsAhead}
+use Rattle.jwalk.specs.DirEntryIter.{by_crew, job_of, min_depth_of, items_of, unread_of, width_of, next_address, Known, KnownAt, StaysSteady, EntersIfAny, PassesMany, none_passed, GrowsAhead}
 use Rattle.jwalk.proofs.KnownFacts.{known_before}
 use Rattle.jwalk.proofs.AheadFacts.{grows, grows_no_more, one_more, nothing_more}
 
@@ -46,23 +46,23 @@ entry_alone : {R E : Type 0} (x : Item R E) → has_directory x ≡ true → (P 
 entry_alone (Ok e) h P k = k e h
 entry_alone (Err f) h P k = let no : false ≡ true = h in cc
 
-module _ {C S P A R E : Type 0} (clone : Clone.Ghosts R) (known : Spec R → Outcome R E → Type 0) (job : Job C S P A R E) where
+module _ {C S P A R E : Type 0} (clone : Clone.Ghosts R) (known : Item R E → Spec R → Outcome R E → Type 0) (job : Job C S P A R E) where
   abbrev Next : List (Item R E) → List (Spec R) → Item R E → List (Item R E) → List (Spec R) → Type 0
   Next = PassesNext clone known job
 
   -- It is passed so, too, where less is known.
-  pub next_over : (less : Spec R → Outcome R E → Type 0) → ((s : Spec R) (o : Outcome R E) → known s o → less s o) → {items : List (Item R E)} {specs : List (Spec R)} {answer : Item R E} {items' : List (Item R E)} {specs' : List (Spec R)} → Next items specs answer items' specs' → PassesNext clone less job items specs answer items' specs'
+  pub next_over : (less : Item R E → Spec R → Outcome R E → Type 0) → ((x : Item R E) (s : Spec R) (o : Outcome R E) → known x s o → less x s o) → {items : List (Item R E)} {specs : List (Spec R)} {answer : Item R E} {items' : List (Item R E)} {specs' : List (Spec R)} → Next items specs answer items' specs' → PassesNext clone less job items specs answer items' specs'
   next_over less within (passed_plainly plain) = passed_plainly plain
-  next_over less within (passed_entering {outcome = outcome} dir reads) =
+  next_over less within (passed_entering {x} {outcome = outcome} dir reads) =
       let reading = reads.reading in
-      passed_entering dir (record { first = reads.first; rest = reads.rest; took = reads.took; reading = record { lawful = reading.lawful; few = reading.few; value = within reads.first outcome reading.value }; stacks = reads.stacks })
+      passed_entering dir (record { first = reads.first; rest = reads.rest; took = reads.took; reading = record { lawful = reading.lawful; few = reading.few; value = within x reads.first outcome reading.value }; stacks = reads.stacks })
 
   -- an entry where nothing is left to be read
   next_left : (x : Item R E) (items : List (Item R E)) (old new : List (Spec R)) → has_directory x ≡ true → old ≡ [] → new ≡ [] → Next (x ∷ items) old x items new
   next_left x items old new dir none left = rw (none, left) (passed_plainly {x = x} {specs = []} (rw dir refl))
 
   -- A directory is passed, where what came of its reading is received.
-  pub next_received : (read : Option (Outcome R E)) (x : Item R E) (items : List (Item R E)) (old : List (Spec R)) (answer : Item R E) (items' : List (Item R E)) (new : List (Spec R)) → has_directory x ≡ true → ReadsNextBy clone known (greatest_depth job) old read new → Receives read x items answer items' → Next (x ∷ items) old answer items' new
+  pub next_received : (read : Option (Outcome R E)) (x : Item R E) (items : List (Item R E)) (old : List (Spec R)) (answer : Item R E) (items' : List (Item R E)) (new : List (Spec R)) → has_directory x ≡ true → ReadsNextBy clone (known x) (greatest_depth job) old read new → Receives read x items answer items' → Next (x ∷ items) old answer items' new
   next_received None x items old answer items' new dir reads received = rw (received.0, received.1) (next_left x items old new dir reads.0 reads.1)
   next_received (Some outcome) x items old answer items' new dir reads received = rw (received.0, received.1) (passed_entering {outcome = outcome} dir reads)
 
@@ -122,8 +122,8 @@ module _ {C S P A R E : Type 0} (clone : Clone.Ghosts R) (known : Spec R → Out
         unread_none (value.reading (job_by files given job)) (greatest_depth job) (counted_item given x) (map (counted_item given) items) [] refl (counted-has_directory given.read_dir_state given.dir_entry_state x ∙ h)
     listed_plainly x items (s ∷ specs) true h plain = let no : false ≡ true = rw h at plain in cc
 
-    module _ (cloned : ClonesCount clone given) (as_given : (s : Spec R) (o : Outcome R E) → known s o → IsAsGiven files given job s o) where
-      listed_entering : (e : Entry R E) (items : List (Item R E)) (specs left : List (Spec R)) (outcome : Outcome R E) → has_directory {R = R} (Ok e) ≡ true → ReadsFirstBy clone known (greatest_depth job) specs outcome left → Listed (Ok e ∷ items) specs ≡ counted_item given (after_reading outcome (Ok e)) ∷ Listed (list_of outcome ++ items) left
+    module _ (cloned : ClonesCount clone given) (as_given : (x : Item R E) (s : Spec R) (o : Outcome R E) → known x s o → IsAsGiven files given job s o) where
+      listed_entering : (e : Entry R E) (items : List (Item R E)) (specs left : List (Spec R)) (outcome : Outcome R E) → has_directory {R = R} (Ok e) ≡ true → ReadsFirstBy clone (known (Ok e)) (greatest_depth job) specs outcome left → Listed (Ok e ∷ items) specs ≡ counted_item given (after_reading outcome (Ok e)) ∷ Listed (list_of outcome ++ items) left
       listed_entering e items specs left outcome dir reads =
           let view = given.read_dir_state in
           let mark = given.dir_entry_state in
@@ -135,7 +135,7 @@ module _ {C S P A R E : Type 0} (clone : Clone.Ghosts R) (known : Spec R → Out
           let items_too : map (counted_item given) (list_of outcome ++ items) ≡ list_of (counted_outcome given outcome) ++ map (counted_item given) items
           = map-append (counted_item given) (list_of outcome) items ∙ ap (λ l. l ++ map (counted_item given) items) (sym (counted-list_of view mark outcome)) in
           ap (Listed (Ok e ∷ items)) reads.took
-          ∙ listed reading (greatest_depth job) (counted_entry given e) (map (counted_item given) items) (counted_spec given reads.first) (map (counted_spec given) reads.rest) (counted_outcome given outcome) (counted-has_directory view mark (Ok e) ∙ dir) (counted-IsLawful view mark (greatest_depth job) reads.first outcome reads.reading.lawful) (as_given reads.first outcome reads.reading.value)
+          ∙ listed reading (greatest_depth job) (counted_entry given e) (map (counted_item given) items) (counted_spec given reads.first) (map (counted_spec given) reads.rest) (counted_outcome given outcome) (counted-has_directory view mark (Ok e) ∙ dir) (counted-IsLawful view mark (greatest_depth job) reads.first outcome reads.reading.lawful) (as_given (Ok e) reads.first outcome reads.reading.value)
           ∙ ap (λ a. a ∷ listing reading (greatest_depth job) (pair_up (list_of (counted_outcome given outcome) ++ map (counted_item given) items) (children_of (counted_outcome given outcome) ++ map (counted_spec given) reads.rest))) (counted-after_reading view mark outcome (Ok e))
           ∙ ap (λ l. counted_item given (after_reading outcome (Ok e)) ∷ listing reading (greatest_depth job) (pair_up l (children_of (counted_outcome given outcome) ++ map (counted_spec given) reads.rest))) (sym items_too)
           ∙ ap (λ l. counted_item given (after_reading outcome (Ok e)) ∷ listing reading (greatest_depth job) (pair_up (map (counted_item given) (list_of outcome ++ items)) l)) (sym front)
@@ -143,8 +143,8 @@ module _ {C S P A R E : Type 0} (clone : Clone.Ghosts R) (known : Spec R → Out
       pub next_listed : {items : List (Item R E)} {specs : List (Spec R)} {answer : Item R E} {items' : List (Item R E)} {specs' : List (Spec R)} → Next items specs answer items' specs' → Listed items specs ≡ counted_item given answer ∷ Listed items' specs'
       next_listed (passed_plainly {x} {items} {specs} plain) = listed_plainly x items specs (has_directory x) refl plain
       next_listed (passed_entering {x} {items} {specs} {left} {outcome} dir reads) =
-          entry_alone x dir (λ y. Listed (y ∷ items) specs ≡ counted_item given (after_reading outcome y) ∷ Listed (list_of outcome ++ items) left)
-          (λ e has. listed_entering e items specs left outcome has reads)
+          entry_alone x dir (λ y. ReadsFirstBy clone (known y) (greatest_depth job) specs outcome left → Listed (y ∷ items) specs ≡ counted_item given (after_reading outcome y) ∷ Listed (list_of outcome ++ items) left)
+          (λ e has reads. listed_entering e items specs left outcome has reads) reads
 
   -- ---- items that are left out
 
@@ -168,7 +168,7 @@ module _ {C S P A R E : Type 0} (clone : Clone.Ghosts R) (known : Spec R → Out
     left_plain none_left_out answer new h = h
     left_plain (one_left_out before next out) answer new h = left_plain before answer new (next_plain_out (options_of job).min_depth next out answer new h)
 
-    pub left_to_come : (files : FileSystem.Ghosts S) (given : Given R E) → ClonesCount clone given → ((s : Spec R) (o : Outcome R E) → known s o → IsAsGiven files given job s o) → {items' : List (Item R E)} {specs' : List (Spec R)} → Left items' specs' → answers (options_of job).min_depth (Listed files given items specs) ≡ answers (options_of job).min_depth (Listed files given items' specs')
+    pub left_to_come : (files : FileSystem.Ghosts S) (given : Given R E) → ClonesCount clone given → ((x : Item R E) (s : Spec R) (o : Outcome R E) → known x s o → IsAsGiven files given job s o) → {items' : List (Item R E)} {specs' : List (Spec R)} → Left items' specs' → answers (options_of job).min_depth (Listed files given items specs) ≡ answers (options_of job).min_depth (Listed files given items' specs')
     left_to_come files given cloned as_given none_left_out = refl
     left_to_come files given cloned as_given (one_left_out {passed = passed} before next out) =
         left_to_come files given cloned as_given before
@@ -193,17 +193,21 @@ module _ {C S P A T L R E : Type 0} (files : FileSystem.Ghosts S) (process : Pro
     pub job : job_of new ≡ job_of old
     pub refused : new.refused ≡ old.refused
     pub steady : StaysSteady files process clone defaults old new
-    pub next : PassesNext clone (Known files process clone defaults old) (job_of old) (items_of old) (unread_of old) (item passed) (items_of new) (unread_of new)
+    pub next : PassesNext clone (KnownAt files process clone defaults old (next_address old)) (job_of old) (items_of old) (unread_of old) (item passed) (items_of new) (unread_of new)
     pub width : width_of new ≡ width_of old
     pub ahead : EntersIfAny files process clone defaults old new
 
   pub none_passed_over : (it : DirEntryIter C S P A T L R E) → PassedOver it it
   none_passed_over it = record { crew = refl; job = refl; refused = refl; width = refl; steady = λ given steady. steady; leaves = none_left_out; entered = 0; passes = none_passed }
 
-  passes_by : (old mid new : DirEntryIter C S P A T L R E) (passed : Result (DirEntry C A R E) (Error A)) → PassedOver old mid → Passes mid passed new → PassesNext clone (Known files process clone defaults old) (job_of old) (items_of mid) (unread_of mid) (item passed) (items_of new) (unread_of new)
+  passes_by : (old mid new : DirEntryIter C S P A T L R E) (passed : Result (DirEntry C A R E) (Error A)) → PassedOver old mid → Passes mid passed new → PassesNext clone (KnownAt files process clone defaults old (next_address mid)) (job_of old) (items_of mid) (unread_of mid) (item passed) (items_of new) (unread_of new)
   passes_by old mid new passed over passes =
-      subst (λ j. PassesNext clone (Known files process clone defaults old) j (items_of mid) (unread_of mid) (item passed) (items_of new) (unread_of new)) over.job
-      (next_over clone (Known files process clone defaults mid) (job_of mid) (Known files process clone defaults old) (known_before files process clone defaults old mid over.crew over.job over.steady) passes.next)
+      subst (λ j. PassesNext clone (KnownAt files process clone defaults old (next_address mid)) j (items_of mid) (unread_of mid) (item passed) (items_of new) (unread_of new)) over.job
+      (next_over clone (KnownAt files process clone defaults mid (next_address mid)) (job_of mid) (KnownAt files process clone defaults old (next_address mid)) (known_before files process clone defaults old mid over.crew over.job over.steady (next_address mid)) passes.next)
+
+  passes_on : (old mid new : DirEntryIter C S P A T L R E) (passed : Result (DirEntry C A R E) (Error A)) → PassedOver old mid → Passes mid passed new → PassesNext clone (Known files process clone defaults old) (job_of old) (items_of mid) (unread_of mid) (item passed) (items_of new) (unread_of new)
+  passes_on old mid new passed over passes =
+      next_over clone (KnownAt files process clone defaults old (next_address mid)) (job_of old) (Known files process clone defaults old) (λ x s o known. (next_address mid, known)) (passes_by old mid new passed over passes)
 
   many_on : (old mid new : DirEntryIter C S P A T L R E) (passed : Result (DirEntry C A R E) (Error A)) → PassedOver old mid → Passes mid passed new → (n : ℕ) × PassesMany files process clone defaults old n new
   many_on old mid new passed over passes =
@@ -230,13 +234,13 @@ module _ {C S P A T L R E : Type 0} (files : FileSystem.Ghosts S) (process : Pro
     steady = λ given steady. passes.steady given (over.steady given steady);
     entered = more.0;
     passes = more.1;
-    leaves = one_left_out over.leaves (passes_by old mid new passed over passes) (subst (λ j. is_answered (options_of j).min_depth (item passed) ≡ false) (passes.job ∙ over.job) out);
+    leaves = one_left_out over.leaves (passes_on old mid new passed over passes) (subst (λ j. is_answered (options_of j).min_depth (item passed) ≡ false) (passes.job ∙ over.job) out);
   }
 
   -- the first that is answered after what was passed over
   pub one_answered : (old mid new : DirEntryIter C S P A T L R E) (passed : Result (DirEntry C A R E) (Error A)) → PassedOver old mid → Passes mid passed new → is_answered (min_depth_of new) (item passed) ≡ true → ReadsUpTo clone (Known files process clone defaults old) (job_of old) (items_of old) (unread_of old) (Some (item passed)) (items_of new) (unread_of new)
   one_answered old mid new passed over passes kept =
-      (items_of mid, unread_of mid, over.leaves, (passes_by old mid new passed over passes, subst (λ j. is_answered (options_of j).min_depth (item passed) ≡ true) (passes.job ∙ over.job) kept))
+      (items_of mid, unread_of mid, over.leaves, (passes_on old mid new passed over passes, subst (λ j. is_answered (options_of j).min_depth (item passed) ≡ true) (passes.job ∙ over.job) kept))
 
   pub passes_lighter : (old new : DirEntryIter C S P A T L R E) (passed : Result (DirEntry C A R E) (Error A)) → Passes old passed new → weight (greatest_depth (job_of new)) (pair_up (items_of new) (unread_of new)) < weight (greatest_depth (job_of old)) (pair_up (items_of old) (unread_of old))
-  passes_lighter old new passed passes = rw passes.job (next_lighter clone (Known files process clone defaults old) (job_of old) passes.next)
+  passes_lighter old new passed passes = rw passes.job (next_lighter clone (KnownAt files process clone defaults old (next_address old)) (job_of old) passes.next)

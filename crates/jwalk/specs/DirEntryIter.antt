@@ -22,7 +22,8 @@ use Rattle.jwalk_read.specs.Given.{Given, counted_item, counted_spec}
 use Rattle.jwalk_read.specs.Job.{options_of, greatest_depth, job_by}
 use Rattle.jwalk_engine.specs.ReadAhead.{ReadAhead, nothing_ahead}
 use Rattle.jwalk.specs.ReadDirIter as readings
-use Rattle.jwalk.specs.ReadDirIter.{to_read, Tells, IsSteadyReads, EntersBy}
+use Rattle.jwalk.specs.CrewReads.{IsNextBelow}
+use Rattle.jwalk.specs.ReadDirIter.{to_read, Tells, IsSteadyReads, KnownBy, EntersBy}
 use Rattle.jwalk.specs.Step.{IsAtDirectory, PassesNext, ReadsUpTo}
 use Rattle.jwalk.specs.declared.dir_entry_iter.DirEntryIter.{DirEntryIter}
 
@@ -139,9 +140,13 @@ module _ {C S P A T L R E : Type 0} (files : FileSystem.Ghosts S) (process : Pro
   abbrev pub IsSteadyWalk : DirEntryIter C S P A T L R E → Given R E → Type 0
   IsSteadyWalk it = IsSteadyReads files process clone defaults it.reads
 
-  -- What is known of each reading of its directories.
-  abbrev pub Known : DirEntryIter C S P A T L R E → Spec R → Outcome R E → Type 0
-  Known it = readings.Known files process clone defaults it.reads
+  -- What is known of the reading at an address, by which an item's directory is entered: a crew's is that of the directory below this item.
+  abbrev pub KnownAt : DirEntryIter C S P A T L R E → List ℕ → Item R E → Spec R → Outcome R E → Type 0
+  KnownAt it at x spec outcome = KnownBy files process clone defaults (by_crew it) (IsSteadyWalk it) (job_of it) at spec outcome × IsNextBelow (by_crew it) x (spec ∷ [])
+
+  -- the same at some address
+  abbrev pub Known : DirEntryIter C S P A T L R E → Item R E → Spec R → Outcome R E → Type 0
+  Known it x spec outcome = (at : List ℕ) × KnownAt it at x spec outcome
 
   -- It stays steady over all that it was steady over.
   abbrev pub StaysSteady : DirEntryIter C S P A T L R E → DirEntryIter C S P A T L R E → Type 0
@@ -160,12 +165,12 @@ module _ {C S P A T L R E : Type 0} (files : FileSystem.Ghosts S) (process : Pro
       (IsAtDirectory (items_of old) (unread_of old) × EntersBy files process clone defaults (by_crew old) (job_of old) (width_of old) (next_address old) (read_ahead old) (read_ahead new))
       ⊎ ((¬ IsAtDirectory (items_of old) (unread_of old)) × (read_ahead new ≡ read_ahead old))
 
-  -- Items are passed one after another, and so many directories are entered with them.
+  -- Items are passed one after another, and so many directories are entered with them, each by the reading at its address.
   pub data PassesMany (old : DirEntryIter C S P A T L R E) : ℕ → DirEntryIter C S P A T L R E → Type 0 where
     none_passed : PassesMany old 0 old
-    one_passed : {entered : ℕ} {mid new : DirEntryIter C S P A T L R E} {passed : Item R E} → PassesMany old entered mid → PassesNext clone (Known old) (job_of old) (items_of mid) (unread_of mid) passed (items_of new) (unread_of new)
+    one_passed : {entered : ℕ} {mid new : DirEntryIter C S P A T L R E} {passed : Item R E} → PassesMany old entered mid → PassesNext clone (KnownAt old (next_address mid)) (job_of old) (items_of mid) (unread_of mid) passed (items_of new) (unread_of new)
         → ¬ IsAtDirectory (items_of mid) (unread_of mid) → read_ahead new ≡ read_ahead mid → PassesMany old entered new
-    one_entered : {entered : ℕ} {mid new : DirEntryIter C S P A T L R E} {passed : Item R E} → PassesMany old entered mid → PassesNext clone (Known old) (job_of old) (items_of mid) (unread_of mid) passed (items_of new) (unread_of new)
+    one_entered : {entered : ℕ} {mid new : DirEntryIter C S P A T L R E} {passed : Item R E} → PassesMany old entered mid → PassesNext clone (KnownAt old (next_address mid)) (job_of old) (items_of mid) (unread_of mid) passed (items_of new) (unread_of new)
         → IsAtDirectory (items_of mid) (unread_of mid) → EntersBy files process clone defaults (by_crew old) (job_of old) (width_of old) (next_address mid) (read_ahead mid) (read_ahead new) → PassesMany old (suc entered) new
 
   -- Directories are entered, and with each of them what was read ahead grows by less than the width.

@@ -3,6 +3,7 @@ pub mod CrewReads
 pub mod ReadDirIter
 pub mod Step
 pub mod DirEntryIter
+pub mod CrewStart
 pub mod WalkDir
 -- what callers cite of the crates below, each under its crate's name
 pub use Rattle.walk_model.specs as walk_model

@@ -1,5 +1,8 @@
 -- How a walk's directories are read, seen as a value.
-use Rattle.std.specs.Prelude.{◌==◌, if◌then◌else◌}
+use Rattle.std.specs.Prelude.{◌≡◌, ◌==◌, if◌then◌else◌, Option, Some, None}
+use Rattle.std.specs.Arc.{arc_value}
+use Rattle.std.specs.declared.sync.Arc.{Arc}
+use Rattle.std.specs.declared.time.Duration.{Duration}
 use Rattle.walk_model.specs.Options as value
 use Rattle.walk_model.specs.Options.{serial, batches, crew}
 use Rattle.jwalk.specs.declared.parallelism.Parallelism.{Parallelism}
@@ -10,3 +13,15 @@ abbrev pub parallelism_value : {W A : Type 0} → Parallelism W A → value.Para
 parallelism_value Serial = serial
 parallelism_value (RayonExistingPool pool busy_timeout) = crew
 parallelism_value (RayonNewPool n) = batches (if n == 0 then 8 else n)
+
+-- the crew, where it reads by one, and how long a walk waits for a place there
+abbrev pub crew_of : {W A : Type 0} → Parallelism W A → Option (Arc W A × Option Duration)
+crew_of Serial = None
+crew_of (RayonExistingPool pool busy_timeout) = Some (pool, busy_timeout)
+crew_of (RayonNewPool n) = None
+
+-- a clone: the same way, by the same crew and with the same limit
+abbrev pub IsCloneOf : {W A : Type 0} → Parallelism W A → Parallelism W A → Type 0
+IsCloneOf Serial new = new ≡ Serial
+IsCloneOf {W} {A} (RayonExistingPool pool busy_timeout) new = (shared : Arc W A) × (new ≡ RayonExistingPool shared busy_timeout) × (arc_value shared ≡ arc_value pool)
+IsCloneOf (RayonNewPool n) new = new ≡ RayonNewPool n

@@ -3,6 +3,7 @@ use Rattle.std.specs.Prelude.{◌≡◌, ◌≢◌, ◌≤◌, ◌+◌, ◌⊎�
 use Rattle.std.specs.declared.clone.Clone as Clone
 use Rattle.std.specs.declared.default.Default as Default
 use Rattle.walk_model.specs.Error.{Failure, memory, lost}
+use Rattle.walk_model.specs.Entry.{Item}
 use Rattle.walk_model.specs.ReadDir.{Spec, Outcome}
 use Rattle.walk_model.specs.Preorder.{preorder}
 use Rattle.walk_model.specs.Job.{reading}
@@ -21,7 +22,7 @@ use Rattle.jwalk_engine.specs.Reads.{ReadsNextBy}
 use Rattle.jwalk.specs.declared.read_dir_iter.ReadDirIter.{ReadDirIter}
 use Rattle.jwalk.specs.declared.read_dir_iter.ReadDirIter.TheVariants.{Walk, ParWalk, CrewWalk}
 use Rattle.jwalk.specs.CrewReads as crew
-use Rattle.jwalk.specs.CrewReads.{IsTold}
+use Rattle.jwalk.specs.CrewReads.{IsTold, IsNextBelow}
 
 module _ {C S P A T L R E : Type 0} where
   -- whether a crew makes the readings
@@ -95,13 +96,18 @@ module _ {C S P A R E : Type 0} (files : FileSystem.Ghosts S) (process : Process
   abbrev pub StaysSteady : {T L : Type 0} → ReadDirIter C S P A T L R E → ReadDirIter C S P A T L R E → Type 0
   StaysSteady old new = (value : Given R E) → IsSteadyReads old value → IsSteadyReads new value
 
-  -- What is known of a reading: over all that counts as given it is the definition's, or a crew's worker told it.
-  abbrev pub KnownBy : Bool → (Given R E → Type 0) → Job C S P A R E → Spec R → Outcome R E → Type 0
-  KnownBy false counts job = IsGivenOver files counts job
-  KnownBy true counts job = IsTold files process clone defaults job
+  -- What is known of the reading at an address: over all that counts as given it is the definition's, or a crew's worker told it there.
+  abbrev pub KnownBy : Bool → (Given R E → Type 0) → Job C S P A R E → List ℕ → Spec R → Outcome R E → Type 0
+  KnownBy false counts job at = IsGivenOver files counts job
+  KnownBy true counts job at = IsTold files process clone defaults job at
 
+  -- What is known of the reading that comes next.
   abbrev pub Known : {T L : Type 0} → ReadDirIter C S P A T L R E → Spec R → Outcome R E → Type 0
-  Known it = KnownBy (by_crew it) (IsSteadyReads it) (job_of it)
+  Known it = KnownBy (by_crew it) (IsSteadyReads it) (job_of it) (next_address it)
+
+  -- What is known of the reading by which an item's directory is entered: a crew's, too, is that of the directory below this item.
+  abbrev pub KnownOf : {T L : Type 0} → ReadDirIter C S P A T L R E → Item R E → Spec R → Outcome R E → Type 0
+  KnownOf it x spec outcome = Known it spec outcome × IsNextBelow (by_crew it) x (spec ∷ [])
 
   -- A directory is entered. A crew's readings are made by others.
   abbrev pub EntersBy : Bool → Job C S P A R E → ℕ → List ℕ → ReadAhead R → ReadAhead R → Type 0

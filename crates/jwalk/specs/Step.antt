@@ -19,11 +19,11 @@ abbrev pub Receives : {R E : Type 0} → Option (Outcome R E) → Item R E → L
 Receives None x old answer new = (answer ≡ x) × (new ≡ old)
 Receives (Some outcome) x old answer new = (answer ≡ after_reading outcome x) × (new ≡ list_of outcome ++ old)
 
-module _ {C S P A R E : Type 0} (clone : Clone.Ghosts R) (known : Spec R → Outcome R E → Type 0) (job : Job C S P A R E) where
-  -- The next item is passed. A directory takes the first of the unread specifications, which alone is read: its children stand in front of the others then, as the items of its reading do. Any other item leaves them as they are.
+module _ {C S P A R E : Type 0} (clone : Clone.Ghosts R) (known : Item R E → Spec R → Outcome R E → Type 0) (job : Job C S P A R E) where
+  -- The next item is passed. A directory takes the first of the unread specifications, which alone is read: its children stand in front of the others then, as the items of its reading do; what is known of that reading may speak of the item. Any other item leaves them as they are.
   pub data PassesNext : List (Item R E) → List (Spec R) → Item R E → List (Item R E) → List (Spec R) → Type 0 where
     passed_plainly : {x : Item R E} {items : List (Item R E)} {specs : List (Spec R)} → is_plain (first_source {R = R} {E = E} (has_directory x) specs) ≡ true → PassesNext (x ∷ items) specs x items specs
-    passed_entering : {x : Item R E} {items : List (Item R E)} {specs left : List (Spec R)} {outcome : Outcome R E} → has_directory x ≡ true → ReadsFirstBy clone known (greatest_depth job) specs outcome left → PassesNext (x ∷ items) specs (after_reading outcome x) (list_of outcome ++ items) left
+    passed_entering : {x : Item R E} {items : List (Item R E)} {specs left : List (Spec R)} {outcome : Outcome R E} → has_directory x ≡ true → ReadsFirstBy clone (known x) (greatest_depth job) specs outcome left → PassesNext (x ∷ items) specs (after_reading outcome x) (list_of outcome ++ items) left
 
   -- Items are passed one after another, which the least depth leaves out.
   pub data LeavesOut (items : List (Item R E)) (specs : List (Spec R)) : List (Item R E) → List (Spec R) → Type 0 where

@@ -1,8 +1,8 @@
 -- A walk as its builder describes it.
-use Rattle.std.specs.Prelude.{◌≡◌, ◌⊎◌, ℕ, List, [], string_bytes}
+use Rattle.std.specs.Prelude.{◌≡◌, ◌⊎◌, ℕ, true, List, [], map, Option, Some, None, IsSome, string_bytes}
 use Rattle.std.specs.declared.clone.Clone as Clone
 use Rattle.std.specs.declared.default.Default as Default
-use Rattle.walk_model.specs.Options.{Options}
+use Rattle.walk_model.specs.Options.{Options, crew, with_parallelism}
 use Rattle.walk_model.specs.Entry.{AtDepth}
 use Rattle.walk_model.specs.Listing.{paired}
 use Rattle.walk_model.specs.Counted.{Worth, blank}
@@ -14,7 +14,12 @@ use Rattle.jwalk_read.specs.Given.{Given}
 use Rattle.jwalk_read.specs.Job as job
 use Rattle.jwalk_read.specs.Job.{file_system, callback, IsSteady}
 use Rattle.jwalk.specs.DirEntryIter as iter
-use Rattle.jwalk.specs.DirEntryIter.{job_of, items_of, held_by, IsWithin, IsSourced, IsRefused}
+use Rattle.jwalk_crew.specs.declared.crew.NotStarted.{NotStarted}
+use Rattle.jwalk_crew.specs.declared.crew.NotStarted.TheVariants.{Busy, Memory}
+use Rattle.jwalk.specs.declared.parallelism.Parallelism.{Parallelism}
+use Rattle.jwalk.specs.Parallelism.{parallelism_value, crew_of}
+use Rattle.jwalk.specs.CrewStart.{busy_pair}
+use Rattle.jwalk.specs.DirEntryIter.{by_crew, job_of, items_of, held_by, IsWithin, IsSourced, IsRefused}
 use Rattle.jwalk.specs.declared.walk_dir.WalkDirGeneric.{WalkDirGeneric}
 use Rattle.jwalk.specs.declared.dir_entry_iter.DirEntryIter.{DirEntryIter}
 
@@ -54,6 +59,16 @@ module _ {C S P A T W R E : Type 0} where
     pub callback : callback_of new ≡ callback_of old
     pub root : root_of new ≡ root_of old
     pub state : state_of new ≡ state_of old
+    pub crew : new.crew ≡ old.crew
+
+  -- One that changes how directories are read, alone: the option, and the crew that is to read.
+  pub record SetsParallelism (set : Parallelism W A) (old new : WalkDirGeneric C S P A T W R E) : Type 0 where
+    pub options : options_of new ≡ with_parallelism (parallelism_value set) (options_of old)
+    pub crew : new.crew ≡ crew_of set
+    pub file_system : file_system_of new ≡ file_system_of old
+    pub callback : callback_of new ≡ callback_of old
+    pub root : root_of new ≡ root_of old
+    pub state : state_of new ≡ state_of old
 
   -- One that changes the root's state alone.
   pub record SetsState (set : R) (old new : WalkDirGeneric C S P A T W R E) : Type 0 where
@@ -62,6 +77,7 @@ module _ {C S P A T W R E : Type 0} where
     pub file_system : file_system_of new ≡ file_system_of old
     pub callback : callback_of new ≡ callback_of old
     pub root : root_of new ≡ root_of old
+    pub crew : new.crew ≡ old.crew
 
   -- what its readings are made of, over a fixed file system and what is given
   abbrev pub job_for : FileSystem.Ghosts S → Given R E → WalkDirGeneric C S P A T W R E → Job Worth Worth
@@ -90,6 +106,7 @@ pub record SetsCallback {C S P Q A T W R E : Type 0} (process : Q) (old : WalkDi
   pub file_system : file_system_of new ≡ file_system_of old
   pub root : root_of new ≡ root_of old
   pub state : state_of new ≡ state_of old
+  pub crew : new.crew ≡ old.crew
 
 -- One that puts other threads in the place of the walk's own, and changes nothing else.
 pub record SetsThreads {C S P A T U W R E : Type 0} (old : WalkDirGeneric C S P A T W R E) (new : WalkDirGeneric C S P A U W R E) : Type 0 where
@@ -98,9 +115,28 @@ pub record SetsThreads {C S P A T U W R E : Type 0} (old : WalkDirGeneric C S P 
   pub callback : callback_of new ≡ callback_of old
   pub root : root_of new ≡ root_of old
   pub state : state_of new ≡ state_of old
+  pub crew : new.crew ≡ old.crew
 
 module _ {C S P A T W L R E : Type 0} (files : FileSystem.Ghosts S) (process : ProcessReadDir.Ghosts P C A R E) (clone : Clone.Ghosts R) (defaults : Default.Ghosts E) where
   -- The iterator holds the root's list.
   abbrev pub Holds : WalkDirGeneric C S P A T W R E → DirEntryIter C S P A T L R E → Type 0
   Holds walk it = (given : Given R E) → IsSteady files process clone defaults (file_system_of walk) (callback_of walk) given
       → held_by given it ≡ paired (root_list (job_for files given walk) (root_of walk) (given.read_dir_state (state_of walk)))
+
+  -- The iterator holds the root's list, where the crew was busy: the error that tells of it stands in the place of each entry with a directory, and nothing is below it.
+  abbrev pub HoldsBusy : WalkDirGeneric C S P A T W R E → DirEntryIter C S P A T L R E → Type 0
+  HoldsBusy walk it = (given : Given R E) → IsSteady files process clone defaults (file_system_of walk) (callback_of walk) given
+      → held_by given it ≡ map busy_pair (root_list (job_for files given walk) (root_of walk) (given.read_dir_state (state_of walk))).list
+
+  -- what it holds, by why its readings didn't begin
+  abbrev pub HoldsUnless : Option NotStarted → WalkDirGeneric C S P A T W R E → DirEntryIter C S P A T L R E → Type 0
+  HoldsUnless None walk it = Holds walk it
+  HoldsUnless (Some Busy) walk it = HoldsBusy walk it
+  HoldsUnless (Some Memory) walk it = IsRefused it
+
+  -- A walk begins, or doesn't, as is told. Only one that a crew is to read for finds the crew busy, and its crew reads for it, unless memory was refused.
+  pub record Begins (walk : WalkDirGeneric C S P A T W R E) (why_not : Option NotStarted) (it : DirEntryIter C S P A T L R E) : Type 0 where
+    pub holds : HoldsUnless why_not walk it
+    pub busy : why_not ≡ Some Busy → (options_of walk).parallelism ≡ crew
+    pub by : by_crew it ≡ true → (options_of walk).parallelism ≡ crew
+    pub reads : (options_of walk).parallelism ≡ crew → IsSome walk.crew → (why_not ≡ Some Memory) ⊎ (by_crew it ≡ true)

@@ -1,24 +1,26 @@
 //! Readings that a crew makes ahead.
-ghost use Rattle.std.specs.Prelude.{◌≡◌, ◌≢◌, ◌++◌, [], map, reverse, IfOk, OnErr, OnOk, option_map};
-ghost use Rattle.std.specs.Arc.{arc_value};
-ghost use Rattle.jwalk_order.specs.Frontier as frontier;
+ghost use Rattle.std.specs.Prelude.{◌≡◌, ◌≢◌, ◌↔◌, ◌++◌, true, false, IsTrue, Ok, [], map, IfOk, MatchResult, OnErr, OnOk, option_map};
 ghost use Rattle.jwalk_read.specs.Error.{failure};
+ghost use Rattle.jwalk_read.specs.Entry.{entry};
 ghost use Rattle.jwalk_read.specs.ReadDir.{spec, outcome};
 ghost use Rattle.jwalk_read.specs.Job.{greatest_depth, IsReadingBy};
 ghost use Rattle.jwalk_engine.specs.Reads.{StacksChildren, ReadsNextBy};
-ghost use Rattle.jwalk.specs.CrewReads.{job_of, to_read, next_address, IsTold, failure_of};
+ghost use Rattle.jwalk.specs.CrewReads.{job_of, to_read, next_address, IsBelow, IsNextBelow, IsTold, failure_of};
+
+mod started;
 
 use jwalk_crew::pool::{Missed, Pool};
 use jwalk_crew::wanted::Wanted;
 use jwalk_order::ordered::Ordered;
 use jwalk_order::ordered_queue::OrderedMatcher;
 use jwalk_read::client_state::ClientState;
+use jwalk_read::dir_entry::DirEntry;
 use jwalk_read::error::Error;
 use jwalk_read::job::Job;
 use jwalk_read::process_read_dir::ProcessReadDir;
 use jwalk_read::read_dir::{Outcome, directories_of};
 use jwalk_read::read_dir_spec::ReadDirSpec;
-use std::alloc::{AllocError, Allocator, Global};
+use std::alloc::{AllocError, AllocFailed, Allocator, Global};
 use std::sync::Arc;
 use walk_fs::file_system::FileSystem;
 
@@ -61,6 +63,21 @@ pub(crate) fn error_of<A: Allocator + Copy>(missed: Missed) -> Error<A>
     }
 }
 
+/// Whether a directory is the one below an entry: by its path, its depth, and the directories above it.
+fn is_below<C: ClientState, A: Allocator + Copy>(
+    of: &ReadDirSpec<C, A>,
+    found: &DirEntry<C, A>,
+) -> bool
+    ensures { IsTrue result ↔ IsBelow (Ok (entry found.now)) (spec of.now) }
+{
+    let Some(children) = &found.read_children else {
+        return false;
+    };
+    of.path.as_str() == children.path()
+        && of.depth() == found.depth
+        && of.ancestors().is_same(found.ancestors())
+}
+
 impl<
     C: ClientState,
     S: FileSystem,
@@ -68,24 +85,45 @@ impl<
     A: Allocator + Copy,
     L: Pool<C, S, P, A>,
 > CrewReads<C, S, P, A, L> {
-    /// The readings of these directories and of those below them, the last of the list first. The matcher looks for the
-    /// address of the next. Without a pool none is made.
-    pub(crate) fn over(
-        job: Arc<Job<C, S, P, A>, A>,
-        matcher: OrderedMatcher<A>,
-        unread: Vec<ReadDirSpec<C, A>, A>,
-        pool: Option<L>,
-    ) -> Self
-        ensures job { job_of result ≡ arc_value job }
-        ensures to_read { to_read result ≡ map spec (reverse unread.items) }
-        ensures next_address { next_address result ≡ frontier.next_address matcher }
+    /// Readings of a crew with nothing to read yet. Where memory is refused, the job is given back.
+    pub(crate) fn new(alloc: A, job: Job<C, S, P, A>) -> Result<Self, Job<C, S, P, A>>
+        ensures { MatchResult result
+            (λ reads. (job_of reads ≡ job) × (to_read reads ≡ []))
+            (λ back. back ≡ job) }
     {
-        CrewReads {
+        let Ok(matcher) = OrderedMatcher::with_roots(alloc, 0) else {
+            return Err(job);
+        };
+        match Arc::new(alloc, job) {
+            Ok(job) => Ok(CrewReads {
+                job,
+                matcher,
+                unread: Vec::new(alloc),
+                pool: None,
+            }),
+            Err(AllocFailed { value }) => Err(value),
+        }
+    }
+
+    /// Readings of these directories, and of those below them, as a pool gives them.
+    pub(crate) fn over(
+        job: Job<C, S, P, A>,
+        mut roots: Vec<ReadDirSpec<C, A>, A>,
+        pool: L,
+    ) -> Result<Self, AllocError>
+        ensures job { IfOk result (λ reads. job_of reads ≡ job) }
+        ensures to_read { IfOk result (λ reads. to_read reads ≡ map spec roots.items) }
+    {
+        let alloc = *roots.allocator();
+        let matcher = OrderedMatcher::with_roots(alloc, roots.len())?;
+        let job = Arc::new(alloc, job)?;
+        roots.reverse();
+        Ok(CrewReads {
             job,
             matcher,
-            unread,
-            pool,
-        }
+            unread: roots,
+            pool: Some(pool),
+        })
     }
 
     /// What the workers read with.
@@ -95,12 +133,23 @@ impl<
         &*self.job
     }
 
+    /// Whether the directory that comes next is the one below an entry, or none is left.
+    pub(crate) fn is_next(&self, found: &DirEntry<C, A>) -> bool
+        ensures some { result ≡ false → to_read self.now ≢ [] }
+        ensures below { result ≡ true → IsNextBelow true (Ok (entry found.now)) (to_read self.now) }
+    {
+        match self.unread.last() {
+            Some(of) => is_below(of, found),
+            None => true,
+        }
+    }
+
     /// The reading of the directory that comes next.
     fn read(&mut self, of: &ReadDirSpec<C, A>) -> Result<Outcome<C, A>, Missed>
         ensures job { job_of self.new ≡ job_of self.old }
         ensures to_read { to_read self.new ≡ to_read self.old }
         ensures told { IfOk result (λ read. IsTold S.FileSystem P.ProcessReadDir C.ReadDirState.Clone
-            C.DirEntryState.Default (job_of self.old) (spec of.now) (outcome read)) }
+            C.DirEntryState.Default (job_of self.old) (next_address self.old) (spec of.now) (outcome read)) }
     {
         let Some(pool) = &mut self.pool else {
             return Err(Missed::Lost);
@@ -130,8 +179,8 @@ impl<
     fn enter(&mut self, of: ReadDirSpec<C, A>) -> Result<Outcome<C, A>, Missed>
         ensures job { job_of self.new ≡ job_of self.old }
         ensures reading { IfOk result (λ read. IsReadingBy (IsTold S.FileSystem P.ProcessReadDir
-            C.ReadDirState.Clone C.DirEntryState.Default (job_of self.old)) (greatest_depth (job_of self.old))
-            (spec of) (outcome read)) }
+            C.ReadDirState.Clone C.DirEntryState.Default (job_of self.old) (next_address self.old))
+            (greatest_depth (job_of self.old)) (spec of) (outcome read)) }
         ensures stacks { IfOk result (λ read. StacksChildren C.ReadDirState.Clone (to_read self.old)
             (outcome read) (to_read self.new)) }
     {
@@ -151,8 +200,8 @@ impl<
         ensures some { OnErr result (to_read self.old ≢ []) }
         ensures stopped { OnErr result (to_read self.new ≡ []) }
         ensures next { IfOk result (λ o. ReadsNextBy C.ReadDirState.Clone (IsTold S.FileSystem P.ProcessReadDir
-            C.ReadDirState.Clone C.DirEntryState.Default (job_of self.old)) (greatest_depth (job_of self.old))
-            (to_read self.old) (option_map outcome o) (to_read self.new)) }
+            C.ReadDirState.Clone C.DirEntryState.Default (job_of self.old) (next_address self.old))
+            (greatest_depth (job_of self.old)) (to_read self.old) (option_map outcome o) (to_read self.new)) }
     {
         let Some(of) = self.unread.pop() else {
             return Ok(None);

@@ -4,6 +4,7 @@ ghost use Rattle.jwalk_read.specs.Entry.{entry, item};
 ghost use Rattle.jwalk_read.specs.Job.{callback};
 
 mod on_threads;
+mod over_crew;
 
 use crate::crew_reads::error_of;
 use crate::read_dir_iter::ReadDirIter;
@@ -76,7 +77,7 @@ impl<
     ghost use Rattle.jwalk_engine.specs.ReadAhead.{nothing_ahead};
     ghost use Rattle.jwalk.specs.CrewReads.{failure_of};
     ghost use Rattle.jwalk.specs.ReadDirIter.{Tells};
-    ghost use Rattle.jwalk.specs.DirEntryIter.{by_crew, job_of, min_depth_of, items_of, unread_of, width_of, read_ahead, early_of, held_by, IsWithin, IsSourced, IsRefused, Known, StaysSteady, EntersIfAny, GrowsAhead, Answers, Counts};
+    ghost use Rattle.jwalk.specs.DirEntryIter.{by_crew, job_of, min_depth_of, items_of, unread_of, width_of, read_ahead, early_of, held_by, next_address, IsWithin, IsSourced, IsRefused, Known, KnownAt, StaysSteady, EntersIfAny, GrowsAhead, Answers, Counts};
     ghost use Rattle.jwalk.specs.Step.{IsAtDirectory, Receives, PassesNext, ReadsUpTo, StopsAtDirectory};
 
     /// A walk whose start was refused, which needs no memory.
@@ -211,7 +212,8 @@ impl<
         ensures steady { StaysSteady S.FileSystem P.ProcessReadDir C.ReadDirState.Clone C.DirEntryState.Default
             self.old self.new }
         ensures passed { IfOk result (λ o. IfSome o (λ passed. PassesNext C.ReadDirState.Clone
-            (Known S.FileSystem P.ProcessReadDir C.ReadDirState.Clone C.DirEntryState.Default self.old)
+            (KnownAt S.FileSystem P.ProcessReadDir C.ReadDirState.Clone C.DirEntryState.Default self.old
+            (next_address self.old))
             (job_of self.old) (items_of self.old) (unread_of self.old)
             (item passed) (items_of self.new) (unread_of self.new))) }
         ensures width { width_of self.new ≡ width_of self.old }
@@ -226,6 +228,9 @@ impl<
             Some(Ok(found)) => {
                 if found.read_children.is_none() {
                     return Ok(Some(Ok(found)));
+                }
+                if !self.reads.is_next(&found) {
+                    return Err(Missed::Lost);
                 }
                 let read = self.reads.read_next()?;
                 Ok(Some(Ok(self.entered(found, read)?)))

@@ -10,6 +10,7 @@
 //! ```
 #![tactic(auto)]
 
+pub mod crew;
 mod crew_reads;
 pub mod dir_entry_iter;
 pub mod file_system;
@@ -19,9 +20,9 @@ pub mod read_dir_iter;
 pub mod threads;
 mod walk_dir;
 
+pub use crew::{Crew, NoPool, Pool};
 pub use dir_entry_iter::DirEntryIter;
 pub use jwalk_board::board;
-pub use jwalk_crew::pool::NoPool;
 pub use jwalk_order::{index_path, ordered, ordered_queue};
 pub use jwalk_read::client_state::ClientState;
 pub use jwalk_read::dir_entry::{DirEntry, ReadChildren};

@@ -1,11 +1,11 @@
 //! How a walk's directories are read.
 ghost use Rattle.std.specs.Prelude.{◌≡◌};
 ghost use Rattle.jwalk_read.specs.Options.{mode_value};
-ghost use Rattle.jwalk.specs.Parallelism.{parallelism_value};
+ghost use Rattle.jwalk.specs.Parallelism.{parallelism_value, crew_of};
 
 use jwalk_crew::pool::NoPool;
 use jwalk_read::mode::Mode;
-use std::alloc::{Allocator, Global};
+use std::alloc::{AllocError, Allocator, Global};
 use std::sync::Arc;
 use std::time::Duration;
 
@@ -51,10 +51,31 @@ impl<W: Drop, A: Allocator + Copy> Parallelism<W, A> {
     }
 
     /// The crew, if it reads by one, and how long a walk waits for a place.
-    pub(crate) fn into_crew(self) -> Option<(Arc<W, A>, Option<Duration>)> {
+    pub(crate) fn into_crew(self) -> Option<(Arc<W, A>, Option<Duration>)>
+        ensures { result ≡ crew_of self }
+    {
         match self {
             Parallelism::RayonExistingPool { pool, busy_timeout } => Some((pool, busy_timeout)),
-            _ => None,
+            Parallelism::Serial | Parallelism::RayonNewPool(_) => None,
+        }
+    }
+}
+
+impl<W: Drop, A: Allocator + Copy> Clone for Parallelism<W, A> {
+    ghost use Rattle.jwalk.specs.Parallelism.{IsCloneOf};
+
+    ghost is_clone = { λ old new. IsCloneOf old new };
+
+    fn clone(&self) -> Result<Self, AllocError> {
+        match self {
+            Parallelism::Serial => Ok(Parallelism::Serial),
+            Parallelism::RayonExistingPool { pool, busy_timeout } => {
+                Ok(Parallelism::RayonExistingPool {
+                    pool: pool.clone()?,
+                    busy_timeout: *busy_timeout,
+                })
+            }
+            Parallelism::RayonNewPool(width) => Ok(Parallelism::RayonNewPool(*width)),
         }
     }
 }

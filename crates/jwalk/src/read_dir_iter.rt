@@ -1,11 +1,13 @@
 //! Readings in preorder.
-ghost use Rattle.std.specs.Prelude.{◌≡◌, ◌≢◌, ◌≤◌, ◌+◌, false, [], length, map, IfOk, IfErr, OnOk, OnErr, IsSome, option_map};
+ghost use Rattle.std.specs.Prelude.{◌≡◌, ◌≢◌, ◌≤◌, ◌+◌, true, false, Ok, [], length, map, IfOk, IfErr, OnOk, OnErr, IsSome, option_map};
 ghost use Rattle.walk_model.specs.Error.{memory};
 ghost use Rattle.jwalk_read.specs.Error.{failure};
+ghost use Rattle.jwalk_read.specs.Entry.{entry};
 ghost use Rattle.jwalk_read.specs.ReadDir.{spec, outcome};
 ghost use Rattle.jwalk_read.specs.Job.{callback};
 
 mod on_threads;
+mod over_pool;
 
 use crate::crew_reads::{CrewReads, error_of};
 use crate::parallelism::Parallelism;
@@ -75,7 +77,7 @@ impl<
     ghost use Rattle.jwalk_read.specs.Job.{greatest_depth};
     ghost use Rattle.jwalk_engine.specs.Reads.{ReadsNextBy};
     ghost use Rattle.jwalk_engine.specs.ReadAhead.{nothing_ahead, BeginsWith};
-    ghost use Rattle.jwalk.specs.CrewReads.{failure_of};
+    ghost use Rattle.jwalk.specs.CrewReads.{failure_of, IsNextBelow};
     ghost use Rattle.jwalk.specs.ReadDirIter.{by_crew, job_of, to_read, width_of, read_ahead, early_of, next_address, Tells, StaysSteady, Known, EntersNextBy, Gives};
 
     /// Readings with nothing to read yet, by no crew.
@@ -133,6 +135,20 @@ impl<
             ReadDirIter::Walk(walk) => Ok(walk.read_next()?),
             ReadDirIter::ParWalk(walk, _) => Ok(walk.read_next()?),
             ReadDirIter::CrewWalk(reads) => reads.read_next(),
+        }
+    }
+
+    /// Whether the directory that comes next is the one below an entry, or none is left. It is asked only where a crew
+    /// reads.
+    pub(crate) fn is_next(&self, found: &DirEntry<C, A>) -> bool
+        ensures own { result ≡ false → by_crew self.now ≡ true }
+        ensures some { result ≡ false → to_read self.now ≢ [] }
+        ensures below { result ≡ true → IsNextBelow (by_crew self.now) (Ok (entry found.now)) (to_read self.now) }
+    {
+        match self {
+            ReadDirIter::Walk(_) => true,
+            ReadDirIter::ParWalk(_, _) => true,
+            ReadDirIter::CrewWalk(reads) => reads.is_next(found),
         }
     }
 
@@ -231,17 +247,25 @@ impl<
     A: Allocator + Copy,
     L: Pool<C, S, P, A>,
 > ReadDirIter<C, S, P, A, InTurn, L> {
-    ghost use Rattle.jwalk.specs.ReadDirIter.{job_of, Gives};
+    ghost use Rattle.jwalk_read.specs.Job.{greatest_depth};
+    ghost use Rattle.jwalk.specs.ReadDirIter.{by_crew, job_of, to_read, KnownOf, GivesFirst, Gives};
 
     /// The reading of an entry's directory: the next one, where the entries are those of the readings so far in the
-    /// walk's order.
-    pub fn next_of(&mut self, entry: &DirEntry<C, A>) -> Option<Result<ReadDir<C, A>, Error<A>>>
+    /// walk's order. Over a crew it is that of the entry's directory, or the error whose `is_lost` is true.
+    pub fn next_of(&mut self, found: &DirEntry<C, A>) -> Option<Result<ReadDir<C, A>, Error<A>>>
         requires lawful { P.IsLawful (callback (job_of self.old)) }
-        requires has_directory { IsSome entry.now.read_children }
-        ensures { Gives S.FileSystem P.ProcessReadDir C.ReadDirState.Clone C.DirEntryState.Default
+        requires has_directory { IsSome found.now.read_children }
+        ensures gives { Gives S.FileSystem P.ProcessReadDir C.ReadDirState.Clone C.DirEntryState.Default
             self.old result self.new }
+        ensures of { GivesFirst (by_crew self.old) C.ReadDirState.Clone (KnownOf S.FileSystem P.ProcessReadDir
+            C.ReadDirState.Clone C.DirEntryState.Default self.old (Ok (entry found.now)))
+            (greatest_depth (job_of self.old)) (to_read self.old) (option_map outcome result) (to_read self.new) }
     {
-        prove!(entry.read_children.is_some());
+        prove!(found.read_children.is_some());
+        if !self.is_next(found) {
+            self.stop();
+            return Some(Err(Error::lost()));
+        }
         self.next_or_stop()
     }
 }

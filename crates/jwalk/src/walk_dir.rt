@@ -1,7 +1,9 @@
 //! The builder of a walk.
-ghost use Rattle.std.specs.Prelude.{◌≡◌, ◌⊎◌, true, false, string_bytes, IfOk, IfErr};
+ghost use Rattle.std.specs.Prelude.{◌≡◌, ◌⊎◌, true, false, None, string_bytes, IfOk, IfErr};
 ghost use Rattle.walk_model.specs.Error.{memory};
 ghost use Rattle.jwalk_read.specs.Error.{failure};
+
+mod over_crew;
 
 use crate::dir_entry_iter::DirEntryIter;
 use crate::parallelism::Parallelism;
@@ -68,6 +70,30 @@ impl<C: ClientState, S: FileSystem, A: Allocator + Copy> WalkDirGeneric<
         ensures root { root_of result ≡ string_bytes root }
         ensures options { options_of result ≡ defaults }
         ensures state { C.ReadDirState.is_default (state_of result) }
+        ensures crew { result.crew ≡ None }
+    {
+        WalkDirGeneric::with_no_options(fs, root)
+    }
+}
+
+impl<C: ClientState, S: FileSystem, A: Allocator + Copy, W: Drop> WalkDirGeneric<
+    C,
+    S,
+    NoProcess,
+    A,
+    InTurn,
+    W,
+> {
+    ghost use Rattle.walk_model.specs.Options.{defaults};
+    ghost use Rattle.jwalk.specs.WalkDir.{file_system_of, root_of, state_of, options_of};
+
+    /// A walk whose crew, if it has one, is named later.
+    fn with_no_options(fs: S, root: String<A>) -> Self
+        ensures file_system { file_system_of result ≡ fs }
+        ensures root { root_of result ≡ string_bytes root }
+        ensures options { options_of result ≡ defaults }
+        ensures state { C.ReadDirState.is_default (state_of result) }
+        ensures crew { result.crew ≡ None }
     {
         WalkDirGeneric {
             fs,
@@ -114,9 +140,8 @@ impl<
     T: Drop,
     W: Drop,
 > WalkDirGeneric<C, S, P, A, T, W> {
-    ghost use Rattle.walk_model.specs.Options.{with_sort, with_skip_hidden, with_follow_links, with_min_depth, with_max_depth, with_parallelism};
-    ghost use Rattle.jwalk.specs.Parallelism.{parallelism_value};
-    ghost use Rattle.jwalk.specs.WalkDir.{root_of, options_of, Sets, SetsState, SetsCallback, SetsThreads};
+    ghost use Rattle.walk_model.specs.Options.{with_sort, with_skip_hidden, with_follow_links, with_min_depth, with_max_depth};
+    ghost use Rattle.jwalk.specs.WalkDir.{root_of, options_of, Sets, SetsParallelism, SetsState, SetsCallback, SetsThreads};
 
     /// The root's path as it was given.
     pub fn root(&self) -> &str
@@ -182,7 +207,7 @@ impl<
     /// `while let Some(answer) = walk.next()`. A `for` loop and adapters call `Iterator::next`, which reads
     /// the same directories one after another.
     pub fn parallelism(mut self, parallelism: Parallelism<W, A>) -> Self
-        ensures { Sets (with_parallelism (parallelism_value parallelism) (options_of self)) self result }
+        ensures { SetsParallelism parallelism self result }
     {
         self.options = self.options.with_mode(parallelism.mode());
         self.crew = parallelism.into_crew();
@@ -353,6 +378,6 @@ impl<C: ClientState, S: FileSystem, A: Allocator + Copy, T: Drop> IntoIterator
         ⟦<NoProcess as ProcessReadDir<C, A>>⟧ C.ReadDirState.Clone C.DirEntryState.Default walk it) };
 
     fn into_iter(self) -> DirEntryIter<C, S, NoProcess, A, T> {
-        WalkDirGeneric::into_iter(self)
+        WalkDirGeneric::<C, S, NoProcess, A, T, NoPool>::into_iter(self)
     }
 }

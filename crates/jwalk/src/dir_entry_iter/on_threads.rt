@@ -29,7 +29,7 @@ where
 {
     ghost use Rattle.jwalk.specs.CrewReads.{failure_of};
     ghost use Rattle.jwalk.specs.ReadDirIter.{Tells};
-    ghost use Rattle.jwalk.specs.DirEntryIter.{by_crew, job_of, items_of, unread_of, width_of, Known, StaysSteady, EntersIfAny, GrowsAhead, Answers, Fills};
+    ghost use Rattle.jwalk.specs.DirEntryIter.{by_crew, job_of, items_of, unread_of, width_of, next_address, Known, KnownAt, StaysSteady, EntersIfAny, GrowsAhead, Answers, Fills};
     ghost use Rattle.jwalk.specs.Step.{IsAtDirectory, PassesNext, ReadsUpTo, StopsAtDirectory};
 
     /// The next item, passed on.
@@ -43,7 +43,8 @@ where
         ensures steady { StaysSteady S.FileSystem P.ProcessReadDir C.ReadDirState.Clone C.DirEntryState.Default
             self.old self.new }
         ensures passed { IfOk result (λ o. IfSome o (λ passed. PassesNext C.ReadDirState.Clone
-            (Known S.FileSystem P.ProcessReadDir C.ReadDirState.Clone C.DirEntryState.Default self.old)
+            (KnownAt S.FileSystem P.ProcessReadDir C.ReadDirState.Clone C.DirEntryState.Default self.old
+            (next_address self.old))
             (job_of self.old) (items_of self.old) (unread_of self.old)
             (item passed) (items_of self.new) (unread_of self.new))) }
         ensures width { width_of self.new ≡ width_of self.old }
@@ -58,6 +59,9 @@ where
             Some(Ok(found)) => {
                 if found.read_children.is_none() {
                     return Ok(Some(Ok(found)));
+                }
+                if !self.reads.is_next(&found) {
+                    return Err(Missed::Lost);
                 }
                 let read = self.reads.read_next_on()?;
                 Ok(Some(Ok(self.entered(found, read)?)))

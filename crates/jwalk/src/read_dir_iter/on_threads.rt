@@ -1,5 +1,6 @@
 //! Readings in preorder, where threads make those that are made together.
-ghost use Rattle.std.specs.Prelude.{◌≡◌, ◌≢◌, ◌≤◌, ◌+◌, [], length, IfOk, IfErr, OnErr, IsSome, option_map};
+ghost use Rattle.std.specs.Prelude.{◌≡◌, ◌≢◌, ◌≤◌, ◌+◌, Ok, [], length, IfOk, IfErr, OnErr, IsSome, option_map};
+ghost use Rattle.jwalk_read.specs.Entry.{entry};
 ghost use Rattle.jwalk_read.specs.ReadDir.{outcome};
 ghost use Rattle.jwalk_read.specs.Job.{callback};
 
@@ -10,6 +11,7 @@ use jwalk_crew::pool::{Missed, Pool};
 use jwalk_engine::read::Outcome;
 use jwalk_read::client_state::ClientState;
 use jwalk_read::dir_entry::DirEntry;
+use jwalk_read::error::Error;
 use jwalk_read::process_read_dir::ProcessReadDir;
 use std::alloc::Allocator;
 use std::thread::Threads;
@@ -31,7 +33,7 @@ where
     ghost use Rattle.jwalk_engine.specs.Reads.{ReadsNextBy};
     ghost use Rattle.jwalk_engine.specs.ReadAhead.{nothing_ahead};
     ghost use Rattle.jwalk.specs.CrewReads.{failure_of};
-    ghost use Rattle.jwalk.specs.ReadDirIter.{by_crew, job_of, to_read, width_of, read_ahead, early_of, next_address, Tells, StaysSteady, Known, EntersNextBy, Gives};
+    ghost use Rattle.jwalk.specs.ReadDirIter.{by_crew, job_of, to_read, width_of, read_ahead, early_of, next_address, Tells, StaysSteady, Known, KnownOf, EntersNextBy, GivesFirst, Gives};
 
     /// The next reading.
     pub(crate) fn read_next_on(&mut self) -> Result<Option<Outcome<C, A>>, Missed>
@@ -74,14 +76,22 @@ where
     }
 
     /// The reading of an entry's directory: the next one, where the entries are those of the readings so far in the
-    /// walk's order. Threads make the readings that are made together.
-    pub fn next_of(&mut self, entry: &DirEntry<C, A>) -> Option<Outcome<C, A>>
+    /// walk's order. Over a crew it is that of the entry's directory, or the error whose `is_lost` is true. Threads make
+    /// the readings that are made together.
+    pub fn next_of(&mut self, found: &DirEntry<C, A>) -> Option<Outcome<C, A>>
         requires lawful { P.IsLawful (callback (job_of self.old)) }
-        requires has_directory { IsSome entry.now.read_children }
-        ensures { Gives S.FileSystem P.ProcessReadDir C.ReadDirState.Clone C.DirEntryState.Default
+        requires has_directory { IsSome found.now.read_children }
+        ensures gives { Gives S.FileSystem P.ProcessReadDir C.ReadDirState.Clone C.DirEntryState.Default
             self.old result self.new }
+        ensures of { GivesFirst (by_crew self.old) C.ReadDirState.Clone (KnownOf S.FileSystem P.ProcessReadDir
+            C.ReadDirState.Clone C.DirEntryState.Default self.old (Ok (entry found.now)))
+            (greatest_depth (job_of self.old)) (to_read self.old) (option_map outcome result) (to_read self.new) }
     {
-        prove!(entry.read_children.is_some());
+        prove!(found.read_children.is_some());
+        if !self.is_next(found) {
+            self.stop();
+            return Some(Err(Error::lost()));
+        }
         self.next()
     }
 }

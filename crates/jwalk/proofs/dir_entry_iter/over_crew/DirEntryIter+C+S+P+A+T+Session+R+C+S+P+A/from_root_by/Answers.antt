@@ -1,0 +1,23 @@
+use Rattle.std.proofs.Common.{option_map, ap, ◌∙◌}
+use Rattle.walk_model.specs.Entry.{AtDepth}
+use Rattle.jwalk_read.specs.Options as options
+use Rattle.jwalk_read.specs.ReadDir.{reading}
+use Rattle.jwalk_read.specs.Job.{options_of}
+use Rattle.jwalk.proofs.CrewStartFacts.{refused_from_root, by_from_root, if_some_map}
+use Rattle.jwalk.proofs.dir_entry_iter.over_crew.DirEntryIter+C+S+P+A+T+Session+R+C+S+P+A.from_root_by.Goals as goal
+
+pub returns-in_default-clause-from_root : goal.returns-in_default-clause-from_root
+returns-in_default-clause-from_root g c =
+    let is = c.refused.ensures in
+    refused_from_root g.C.ReadDirState.Clone (option_map reading c.args.read) c.args.job c.refused.result is.own is.job is.refused is.items is.unread is.width is.early
+
+pub returns-in-Ok-clause-from_root : goal.returns-in-Ok-clause-from_root
+returns-in-Ok-clause-from_root g c =
+    let is = c.with_reads.ensures in
+    by_from_root g.C.ReadDirState.Clone (option_map reading c.args.read) c.args.job c.with_reads.result.0 c.with_reads.result.1 c.requires.mode (if_some_map reading (λ r. AtDepth 0 r.list) c.args.read c.requires.depth) is.by (is.job ∙ c.in-Ok.ensures.0) (rw c.in-Some.is is.begun)
+
+pub returns-in-Err-clause-from_root : goal.returns-in-Err-clause-from_root
+returns-in-Err-clause-from_root g c =
+    let is = c.refused-in-Err.ensures in
+    let same = c.in-Err.ensures in
+    refused_from_root g.C.ReadDirState.Clone (option_map reading c.args.read) c.args.job c.refused-in-Err.result is.own (is.job ∙ same) is.refused is.items is.unread (is.width ∙ ap (λ j. options.width_of (options_of j).parallelism) same) is.early

@@ -1,0 +1,8 @@
+//! Crews, whose workers read ahead for walks: what a walk asks of one, and what it is given.
+pub use jwalk_crew::arrival::{Arrival, arrive};
+pub use jwalk_crew::crew::Crew;
+pub use jwalk_crew::message::Message;
+pub use jwalk_crew::places::Places;
+pub use jwalk_crew::pool::{Missed, NoPool, Pool};
+pub use jwalk_crew::session::Session;
+pub use jwalk_crew::wanted::Wanted;

@@ -1,0 +1,58 @@
+//! The start of readings that a crew makes ahead.
+ghost use Rattle.std.specs.Prelude.{◌≡◌, map, OnErr, OnOk};
+ghost use Rattle.jwalk_read.specs.ReadDir.{spec};
+ghost use Rattle.jwalk_read.specs.Job.{callback};
+ghost use Rattle.jwalk.specs.CrewReads.{job_of, to_read};
+
+use crate::crew_reads::CrewReads;
+use jwalk_crew::crew::{Crew, NotStarted, Place};
+use jwalk_crew::session::Session;
+use jwalk_order::ordered_queue::OrderedMatcher;
+use jwalk_read::client_state::ClientState;
+use jwalk_read::process_read_dir::ProcessReadDir;
+use jwalk_read::read_dir_spec::ReadDirSpec;
+use std::alloc::Allocator;
+use std::sync::{Arc, Wait};
+use std::thread::Threads;
+use std::time::{Clock, Duration};
+use walk_fs::file_system::FileSystem;
+
+impl<
+    R: Wait + Threads + Clock + Drop + Send + Sync + 'static,
+    C: ClientState + Send + 'static,
+    S: FileSystem + Send + Sync + 'static,
+    P: ProcessReadDir<C, A> + Send + Sync + 'static,
+    A: Allocator + Copy + Send + Sync + 'static,
+> CrewReads<C, S, P, A, Session<R, C, S, P, A>>
+where
+    C::ReadDirState: Send + 'static,
+    C::DirEntryState: Send + 'static,
+{
+    /// Has a crew read these directories, and those below them. They are given twice: once for the walk, and once for the
+    /// workers. It waits for a place of the crew, no longer than the limit.
+    ///
+    /// # Errors
+    ///
+    /// Why the readings don't begin. Nothing is to be read then.
+    pub(crate) fn start(
+        &mut self,
+        crew: &Arc<Crew<R>, A>,
+        busy_timeout: Option<Duration>,
+        mut own: Vec<ReadDirSpec<C, A>, A>,
+        shared: Vec<ReadDirSpec<C, A>, A>,
+    ) -> Result<(), NotStarted>
+        requires { P.IsLawful (callback (job_of self.old)) }
+        ensures job { job_of self.new ≡ job_of self.old }
+        ensures to_read { OnOk result (to_read self.new ≡ map spec own.items) }
+        ensures unchanged { OnErr result (to_read self.new ≡ to_read self.old) }
+    {
+        let matcher = OrderedMatcher::with_roots(*own.allocator(), own.len())?;
+        let job = self.job.clone()?;
+        let place = Place::take(crew, busy_timeout)?;
+        self.pool = Some(Session::start(place, job, shared)?);
+        own.reverse();
+        self.unread = own;
+        self.matcher = matcher;
+        Ok(())
+    }
+}

@@ -1,0 +1,47 @@
+//! Readings in preorder, as a pool gives them.
+ghost use Rattle.std.specs.Prelude.{◌≡◌, true, map, IfOk, IfErr};
+ghost use Rattle.walk_model.specs.Error.{memory};
+ghost use Rattle.jwalk_read.specs.Error.{failure};
+ghost use Rattle.jwalk_read.specs.ReadDir.{spec};
+
+use crate::crew_reads::CrewReads;
+use crate::read_dir_iter::ReadDirIter;
+use crate::threads::InTurn;
+use jwalk_crew::pool::Pool;
+use jwalk_read::client_state::ClientState;
+use jwalk_read::error::Error;
+use jwalk_read::job::Job;
+use jwalk_read::process_read_dir::ProcessReadDir;
+use jwalk_read::read_dir_spec::ReadDirSpec;
+use std::alloc::Allocator;
+use walk_fs::file_system::FileSystem;
+
+impl<
+    C: ClientState,
+    S: FileSystem,
+    P: ProcessReadDir<C, A>,
+    A: Allocator + Copy,
+    L: Pool<C, S, P, A>,
+> ReadDirIter<C, S, P, A, InTurn, L> {
+    ghost use Rattle.jwalk.specs.ReadDirIter.{by_crew, job_of, to_read};
+
+    /// The readings of these directories and of all that is below them, as a pool gives them. Only a reading of the
+    /// directory that comes next, made by this job's options, is handed on.
+    ///
+    /// Fails only for want of memory.
+    pub fn over_pool(
+        job: Job<C, S, P, A>,
+        roots: Vec<ReadDirSpec<C, A>, A>,
+        pool: L,
+    ) -> Result<Self, Error<A>>
+        ensures by { IfOk result (λ reads. by_crew reads ≡ true) }
+        ensures job { IfOk result (λ reads. job_of reads ≡ job) }
+        ensures to_read { IfOk result (λ reads. to_read reads ≡ map spec roots.items) }
+        ensures memory { IfErr result (λ error. failure error ≡ memory) }
+    {
+        match CrewReads::over(job, roots, pool) {
+            Ok(reads) => Ok(ReadDirIter::CrewWalk(reads)),
+            Err(_) => Err(Error::memory()),
+        }
+    }
+}

@@ -1,0 +1,150 @@
+//! Walks over a crew.
+ghost use Rattle.std.specs.Prelude.{◌≡◌, ◌⊎◌, string_bytes, IfOk, IfErr, IfSome, IfNone, Some, None};
+ghost use Rattle.walk_model.specs.Options as parallelism;
+ghost use Rattle.jwalk_read.specs.Options.{mode_value};
+ghost use Rattle.walk_model.specs.Error.{memory, busy};
+ghost use Rattle.jwalk_read.specs.Error.{failure};
+ghost use Rattle.jwalk.specs.CrewStart.{start_failure};
+
+use crate::dir_entry_iter::DirEntryIter;
+use crate::threads::InTurn;
+use crate::walk_dir::WalkDirGeneric;
+use jwalk_crew::crew::{Crew, NotStarted};
+use jwalk_crew::session::Session;
+use jwalk_read::client_state::ClientState;
+use jwalk_read::error::Error;
+use jwalk_read::job::Job;
+use jwalk_read::mode::Mode;
+use jwalk_read::process_read_dir::{NoProcess, ProcessReadDir};
+use std::alloc::Allocator;
+use std::sync::Wait;
+use std::thread::Threads;
+use std::time::Clock;
+use walk_fs::file_system::FileSystem;
+
+impl<C: ClientState, S: FileSystem, A: Allocator + Copy, R: Wait + Clock + Drop> WalkDirGeneric<
+    C,
+    S,
+    NoProcess,
+    A,
+    InTurn,
+    Crew<R>,
+> {
+    ghost use Rattle.walk_model.specs.Options.{defaults};
+    ghost use Rattle.jwalk.specs.WalkDir.{file_system_of, root_of, state_of, options_of};
+
+    /// A walk that may be told to read by a crew, with `parallelism`. It is serial until then, as a `new` one.
+    pub fn with_crew(fs: S, root: String<A>) -> Self
+        ensures file_system { file_system_of result ≡ fs }
+        ensures root { root_of result ≡ string_bytes root }
+        ensures options { options_of result ≡ defaults }
+        ensures state { C.ReadDirState.is_default (state_of result) }
+        ensures crew { result.crew ≡ None }
+    {
+        WalkDirGeneric::with_no_options(fs, root)
+    }
+}
+
+/// The error that tells why a walk doesn't begin.
+fn error_of<A: Allocator + Copy>(why_not: NotStarted) -> Error<A>
+    ensures { failure result ≡ start_failure why_not }
+{
+    match why_not {
+        NotStarted::Busy => Error::busy(),
+        NotStarted::Memory => Error::memory(),
+    }
+}
+
+/// The crew, where the walk is to read by it.
+fn crew_to_ask<W: Drop>(mode: Mode, crew: Option<W>) -> Option<W>
+    ensures some { IfSome result (λ w. (mode_value mode ≡ parallelism.crew) × (crew ≡ Some w)) }
+    ensures none { IfNone result (mode_value mode ≡ parallelism.crew → crew ≡ None) }
+{
+    match mode {
+        Mode::Crew => crew,
+        Mode::Serial | Mode::Batches(_) => None,
+    }
+}
+
+impl<
+    R: Wait + Threads + Clock + Drop + Send + Sync + 'static,
+    C: ClientState + Send + 'static,
+    S: FileSystem + Send + Sync + 'static,
+    P: ProcessReadDir<C, A> + Send + Sync + 'static,
+    A: Allocator + Copy + Send + Sync + 'static,
+    T: Drop,
+> WalkDirGeneric<C, S, P, A, T, Crew<R>>
+where
+    C::ReadDirState: Send + 'static,
+    C::DirEntryState: Send + 'static,
+{
+    ghost use Rattle.jwalk.specs.WalkDir.{callback_of, options_of, Starts, Begins};
+
+    /// The walk begun, and why it doesn't begin, if so.
+    fn begin_by(
+        self,
+    ) -> (
+        DirEntryIter<C, S, P, A, T, Session<R, C, S, P, A>>,
+        Option<NotStarted>,
+    )
+        requires { P.IsLawful (callback_of self) }
+        ensures starts { Starts self result.0 }
+        ensures begins { Begins S.FileSystem P.ProcessReadDir C.ReadDirState.Clone C.DirEntryState.Default
+            self result.1 result.0 }
+    {
+        let alloc = *self.root.allocator();
+        let WalkDirGeneric {
+            fs,
+            root,
+            process,
+            options,
+            root_read_dir_state,
+            threads,
+            crew,
+        } = self;
+        let job = Job::with_options(alloc, fs, process, options);
+        let read = job.root_list(root.as_str(), root_read_dir_state).ok();
+        match crew_to_ask(options.mode(), crew) {
+            Some((crew, busy_timeout)) => {
+                DirEntryIter::from_root_by(alloc, threads, job, read, &crew, busy_timeout)
+            }
+            None => DirEntryIter::from_root_alone(alloc, threads, job, read),
+        }
+    }
+
+    /// The walk begun: its root's list is made, and the crew's workers begin to read. The walk waits for a place of its
+    /// crew first, as long as its `busy_timeout` says; a walk that no crew is to read for takes none.
+    ///
+    /// # Errors
+    ///
+    /// An error whose `is_busy` is true where no place was free in time, or no worker could be started; one whose
+    /// `is_memory` is true where memory runs out. Then no place is taken.
+    pub fn try_into_iter(
+        self,
+    ) -> Result<DirEntryIter<C, S, P, A, T, Session<R, C, S, P, A>>, Error<A>>
+        requires { P.IsLawful (callback_of self) }
+        ensures starts { IfOk result (Starts self) }
+        ensures begins { IfOk result (Begins S.FileSystem P.ProcessReadDir C.ReadDirState.Clone
+            C.DirEntryState.Default self None) }
+        ensures fails { IfErr result (λ error. (failure error ≡ memory)
+            ⊎ ((failure error ≡ busy) × ((options_of self).parallelism ≡ parallelism.crew))) }
+    {
+        match self.begin_by() {
+            (walk, None) => Ok(walk),
+            (_, Some(why_not)) => Err(error_of(why_not)),
+        }
+    }
+
+    /// The walk begun, as by `try_into_iter`. Where the crew is busy, the walk's answers are those of the root's list: the
+    /// error that tells of it in the place of each entry whose directory would be read. Where memory is refused, its
+    /// only answer is the error that tells of it.
+    pub fn into_iter(self) -> DirEntryIter<C, S, P, A, T, Session<R, C, S, P, A>>
+        requires { P.IsLawful (callback_of self) }
+        ensures starts { Starts self result }
+        ensures begins { (why_not : _) × Begins S.FileSystem P.ProcessReadDir C.ReadDirState.Clone
+            C.DirEntryState.Default self why_not result }
+    {
+        let (walk, _) = self.begin_by();
+        walk
+    }
+}
