@@ -5,6 +5,7 @@ use std::io::{ErrorKind, Read};
 use walk_text::asked::Asked;
 use walk_text::failure::Failure;
 use walk_text::input::read_tree;
+use walk_text::read_by::ReadBy;
 use walk_text::tree::build_tree;
 use walk_text::words::parse_words;
 
@@ -48,8 +49,12 @@ fn other_words_are_bad(rt: HostRuntime) {
         &["--batch", "2"],
         &["--batch", "x", "/r"],
         &["--batch", "--sort", "/r"],
-        &["--crew", "2", "/r"],
+        &["--crew", "2"],
+        &["--crew", "x", "/r"],
+        &["--crew", "--batch", "/r"],
+        &["--crew", "2", "--crew", "2", "/r"],
         &["--batch", "2", "--crew", "2", "/r"],
+        &["--crew", "2", "--batch", "2", "/r"],
         &["--tree", "--usage", "/r"],
     ];
     for words in ROWS {
@@ -61,13 +66,21 @@ fn is_no_number(alloc: Global, number: &str) -> bool {
     are_bad(alloc, &["--min", number, "--tree", "/t"])
         && are_bad(alloc, &["--max", number, "--tree", "/t"])
         && are_bad(alloc, &["--batch", number, "--tree", "/t"])
+        && are_bad(alloc, &["--crew", number, "--tree", "/t"])
 }
 
-// The greatest depth and the width of batches that a number asks for.
-fn numbers_of(alloc: Global, number: &str) -> Option<(Option<usize>, Option<usize>)> {
-    let words = texts(alloc, &["--max", number, "--batch", number, "/t"]).ok()?;
+// The greatest depth, and what directories are read by, that a number asks for behind the name of an option.
+fn numbers_of(alloc: Global, name: &str, number: &str) -> Option<(Option<usize>, Option<ReadBy>)> {
+    let words = texts(alloc, &["--max", number, name, number, "/t"]).ok()?;
     let asked = parse_words(words.as_slice())?.asked;
-    Some((asked.max, asked.batch))
+    Some((asked.max, asked.read_by))
+}
+
+fn is_number(alloc: Global, number: &str, value: usize) -> bool {
+    let batch = (Some(value), Some(ReadBy::Batch(value)));
+    let crew = (Some(value), Some(ReadBy::Crew(value)));
+    numbers_of(alloc, "--batch", number) == Some(batch)
+        && numbers_of(alloc, "--crew", number) == Some(crew)
 }
 
 #[test]
@@ -93,7 +106,7 @@ fn numbers_have_up_to_20_digits_and_fit(rt: HostRuntime) {
         ("18446744073709551615", usize::MAX),
     ];
     for (number, value) in GOOD {
-        assert!(rt; numbers_of(rt.alloc(), number) == Some((Some(*value), Some(*value))));
+        assert!(rt; is_number(rt.alloc(), number, *value));
     }
 }
 
@@ -104,7 +117,7 @@ fn are_same(asked: &Asked, wanted: &Asked) -> bool {
         && asked.follow == wanted.follow
         && asked.min == wanted.min
         && asked.max == wanted.max
-        && asked.batch == wanted.batch
+        && asked.read_by == wanted.read_by
 }
 
 // Whether words ask for this, and for a walk from this root.
@@ -125,7 +138,17 @@ static ORDERED: Asked = Asked {
     follow: true,
     min: Some(1),
     max: Some(2),
-    batch: Some(3),
+    read_by: Some(ReadBy::Batch(3)),
+};
+
+static BY_CREW: Asked = Asked {
+    tree: false,
+    sort: true,
+    hidden: false,
+    follow: false,
+    min: None,
+    max: Some(2),
+    read_by: Some(ReadBy::Crew(3)),
 };
 
 static HIDDEN: Asked = Asked {
@@ -135,8 +158,21 @@ static HIDDEN: Asked = Asked {
     follow: false,
     min: None,
     max: None,
-    batch: None,
+    read_by: None,
 };
+
+#[test]
+fn a_crew_is_named_in_any_place(rt: HostRuntime) {
+    const ROWS: &[&[&str]] = &[
+        &["--crew", "3", "--sort", "--max", "2", "/r"],
+        &["--sort", "--crew", "03", "--max", "2", "/r"],
+        &["--max", "2", "--sort", "--crew", "3", "/r"],
+    ];
+    for words in ROWS {
+        assert!(rt; ask_for(rt.alloc(), words, &BY_CREW, "/r"));
+    }
+    assert!(rt; ask_for(rt.alloc(), &["--hidden", "--crew"], &HIDDEN, "--crew"));
+}
 
 #[test]
 fn options_come_in_any_order_and_the_root_last(rt: HostRuntime) {

@@ -18,3 +18,9 @@ answers_over fs asked root = stateless_walk fs (options_for asked) root
 pub record PrintsOver (fs : Functions) (asked : Asked) (root : List ℕ) (old new : Option (List ℕ)) : Type 0 where
   pub prints : Appends old new (lines_of (answers_over fs asked root))
   pub clean : list_all is_ok (answers_over fs asked root) ≡ true
+
+-- Lines of entries were written, and of no errors.
+pub record PrintsEntries (old new : Option (List ℕ)) : Type 0 where
+  pub items : List (Item Worth Worth)
+  pub prints : Appends old new (lines_of items)
+  pub clean : list_all is_ok items ≡ true

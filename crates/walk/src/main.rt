@@ -1,6 +1,6 @@
 //! Walks the disk and prints one line for each answer:
-//! `walk [--tree] [--sort] [--hidden] [--follow] [--min N] [--max N] [--batch N] ROOT`. With `--tree` it walks the tree
-//! that the lines on standard input say.
+//! `walk [--tree] [--sort] [--hidden] [--follow] [--min N] [--max N] [--batch N | --crew N] ROOT`. With `--tree` it walks
+//! the tree that the lines on standard input say.
 #![tactic(auto)]
 
 mod answers;
@@ -28,13 +28,18 @@ fn words_of(rt: &HostRuntime) -> Result<Vec<String>, Failure> {
     Ok(words.skip(1).collect(rt.alloc())?)
 }
 
+/// The words, and the disk.
+fn call_of(rt: &HostRuntime) -> Result<(Vec<String>, RealFs), Failure> {
+    Ok((words_of(rt)?, RealFs::new(rt.clone()?)))
+}
+
 fn main(rt: HostRuntime) -> ExitCode {
     let mut err = rt.stderr();
-    let status = match words_of(&rt) {
-        Ok(words) => run(
+    let status = match call_of(&rt) {
+        Ok((words, disk)) => run(
             &rt,
             rt.alloc(),
-            RealFs::new(&rt),
+            disk,
             words.as_slice(),
             &mut rt.reader(),
             &mut io::writer(&rt),

@@ -8,16 +8,18 @@ use crate::source::Source;
 use jwalk::file_system::FileSystem;
 use std::alloc::Allocator;
 use std::io::{Read, Write};
+use std::sync::Wait;
 use std::thread::Threads;
+use std::time::Clock;
 use walk_text::failure::Failure;
 use walk_text::input::read_tree;
 use walk_text::words::parse_words;
 
 /// Walks as the words ask, and prints one line for each answer.
 fn try_run<
-    T: Threads + Sync,
-    S: FileSystem + Send + Sync,
-    A: Allocator + Copy + Send + Sync,
+    T: Wait + Threads + Clock + Clone + Drop + Send + Sync + 'static,
+    S: FileSystem + Send + Sync + 'static,
+    A: Allocator + Copy + Send + Sync + 'static,
     R: Read,
     W: Write,
     E: Write,
@@ -54,11 +56,11 @@ fn try_run<
 /// tree, and then nothing is printed. What is wrong is told on `err`, unless the output can't be written.
 ///
 /// The walk goes over the tree that the input says, if the words ask for that, and over the disk otherwise; the input
-/// isn't read then. Where the words ask for batches, threads of `rt` read them.
+/// isn't read then. Where the words ask for batches or a crew, threads of `rt` read.
 pub fn run<
-    T: Threads + Sync,
-    S: FileSystem + Send + Sync,
-    A: Allocator + Copy + Send + Sync,
+    T: Wait + Threads + Clock + Clone + Drop + Send + Sync + 'static,
+    S: FileSystem + Send + Sync + 'static,
+    A: Allocator + Copy + Send + Sync + 'static,
     R: Read,
     W: Write,
     E: Write,

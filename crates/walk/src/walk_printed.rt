@@ -1,4 +1,4 @@
-//! A walk's answers, printed, where threads read its batches.
+//! A walk's answers, printed, where threads read its directories.
 ghost use Rattle.std.specs.Prelude.{◌≡◌, IfOk, IfErr};
 ghost use Rattle.jwalk_read.specs.Job.{callback};
 ghost use Rattle.jwalk.specs.DirEntryIter.{job_of, Answers};
@@ -9,7 +9,7 @@ use crate::answers::{print_one, room, write_rest};
 use jwalk::file_system::FileSystem;
 use jwalk::read_dir::ProcessReadDir;
 use jwalk::threads::OnThreads;
-use jwalk::{ClientState, DirEntryIter};
+use jwalk::{ClientState, DirEntryIter, Pool};
 use std::alloc::Allocator;
 use std::io::Write;
 use std::thread::Threads;
@@ -24,7 +24,12 @@ pub fn print_walked<
     S: FileSystem + Send + Sync,
     P: ProcessReadDir<C, A> + Send + Sync,
     A: Allocator + Copy + Send + Sync,
->(alloc: A, walk: &mut DirEntryIter<C, S, P, A, OnThreads<T>>, out: &mut W) -> Result<bool, Failure>
+    L: Pool<C, S, P, A>,
+>(
+    alloc: A,
+    walk: &mut DirEntryIter<C, S, P, A, OnThreads<T>, L>,
+    out: &mut W,
+) -> Result<bool, Failure>
 where
     C::ReadDirState: Send,
     C::DirEntryState: Send,

@@ -3,3 +3,4 @@ pub mod Texts
 pub mod TextLineFacts
 pub mod BuiltFacts
 pub mod WordFacts
+pub mod AskedFacts

@@ -1,16 +1,25 @@
 -- The words of a call, option by option.
-use Rattle.std.proofs.Common.{◌≡◌, ◌≢◌, ℕ, List, [], ◌∷◌, ◌++◌, Option, Some, None, codes, if◌then◌else◌, bytes_eq, MatchOption, unwrap_or, ap, refl, sym, subst, ◌∙◌}
+use Rattle.std.proofs.Common.{◌≡◌, ◌≢◌, ◌<◌, ℕ, arith, length, List, [], ◌∷◌, ◌++◌, Option, Some, None, codes, if◌then◌else◌, bytes_eq, MatchOption, unwrap_or, ap, refl, sym, subst, ◌∙◌}
 use Rattle.std.proofs.lemmas.List.{same_from_push}
 use Rattle.walk_text.specs.Number.{value_of}
 use Rattle.walk_text.specs.Asked.{nothing, also}
 use Rattle.walk_text.specs.Words.{BeginWithNumber, BeginWithNamedNumber, Begin, AddAll, Add, Ask, AreGood}
 use Rattle.walk_text.specs.declared.asked.Asked.{Asked}
 use Rattle.walk_text.specs.declared.asked.Choice.{Choice}
-use Rattle.walk_text.specs.declared.asked.Choice.TheVariants.{Tree, Sort, Hidden, Follow, Min, Max, Batch}
+use Rattle.walk_text.specs.declared.asked.Choice.TheVariants.{Tree, Sort, Hidden, Follow, Min, Max, Read}
+use Rattle.walk_text.specs.declared.read_by.ReadBy.TheVariants.{Batch, Crew}
 
 -- an option and the words behind it
 abbrev split_as : Choice → List (List ℕ) → Option (Choice × List (List ℕ))
 split_as choice others = Some (choice, others)
+
+-- directories are read in batches of a width
+abbrev batch : ℕ → Choice
+batch width = Read (Batch width)
+
+-- directories are read by a crew of so many workers
+abbrev crew : ℕ → Choice
+crew workers = Read (Crew workers)
 
 -- an option with the number in front of these words
 numbered : (ℕ → Choice) → List (List ℕ) → Option (Choice × List (List ℕ))
@@ -26,7 +35,8 @@ named name behind =
     else if bytes_eq name (codes "--follow") then split_as Follow behind
     else if bytes_eq name (codes "--min") then numbered Min behind
     else if bytes_eq name (codes "--max") then numbered Max behind
-    else if bytes_eq name (codes "--batch") then numbered Batch behind
+    else if bytes_eq name (codes "--batch") then numbered batch behind
+    else if bytes_eq name (codes "--crew") then numbered crew behind
     else None
 
 -- the option that words begin with, and the words behind it
@@ -46,7 +56,8 @@ split_is words Hidden others begin = ap split begin
 split_is words Follow others begin = ap split begin
 split_is words (Min n) others (behind, is, number) = ap split is ∙ numbered_is Min behind n others number
 split_is words (Max n) others (behind, is, number) = ap split is ∙ numbered_is Max behind n others number
-split_is words (Batch n) others (behind, is, number) = ap split is ∙ numbered_is Batch behind n others number
+split_is words (Read (Batch n)) others (behind, is, number) = ap split is ∙ numbered_is batch behind n others number
+split_is words (Read (Crew n)) others (behind, is, number) = ap split is ∙ numbered_is crew behind n others number
 
 same_parts : (a b : Choice) (xs ys : List (List ℕ)) → split_as a xs ≡ split_as b ys → (a ≡ b) × (xs ≡ ys)
 same_parts a b xs ys same =
@@ -57,6 +68,24 @@ same_parts a b xs ys same =
 -- words begin with one option alone
 pub one_option : (words : List (List ℕ)) (a b : Choice) (xs ys : List (List ℕ)) → Begin words a xs → Begin words b ys → (a ≡ b) × (xs ≡ ys)
 one_option words a b xs ys first second = same_parts a b xs ys (sym (split_is words a xs first) ∙ split_is words b ys second)
+
+-- a number and the name in front of it are two words
+two_words : (name : List ℕ) (words : List (List ℕ)) (n : ℕ) (others : List (List ℕ)) → BeginWithNamedNumber name words n others → length others < length words
+two_words name words n others (behind, is, (digits, behind_is, number, value)) = omega (arith, ap length is, ap length behind_is)
+
+one_word : (name : List ℕ) (words others : List (List ℕ)) → words ≡ name ∷ others → length others < length words
+one_word name words others is = omega (arith, ap length is)
+
+-- words that begin with an option are more than those behind it
+pub fewer_behind : (words : List (List ℕ)) (choice : Choice) (others : List (List ℕ)) → Begin words choice others → length others < length words
+fewer_behind words Tree others begin = one_word (codes "--tree") words others begin
+fewer_behind words Sort others begin = one_word (codes "--sort") words others begin
+fewer_behind words Hidden others begin = one_word (codes "--hidden") words others begin
+fewer_behind words Follow others begin = one_word (codes "--follow") words others begin
+fewer_behind words (Min n) others begin = two_words (codes "--min") words n others begin
+fewer_behind words (Max n) others begin = two_words (codes "--max") words n others begin
+fewer_behind words (Read (Batch n)) others begin = two_words (codes "--batch") words n others begin
+fewer_behind words (Read (Crew n)) others begin = two_words (codes "--crew") words n others begin
 
 -- Words that begin with an option's name begin with no option where no number follows.
 lacks_number : (option : ℕ → Choice) (name : List ℕ) (behind : List (List ℕ)) → split (name ∷ behind) ≡ numbered option behind → ((words : List (List ℕ)) (n : ℕ) (others : List (List ℕ)) → Begin words (option n) others → BeginWithNamedNumber name words n others) → ((n : ℕ) (others : List (List ℕ)) → ¬ (BeginWithNumber behind n others)) → (choice : Choice) (others : List (List ℕ)) → ¬ (Begin (name ∷ behind) choice others)
@@ -81,7 +110,11 @@ lacks_max behind = lacks_number Max (codes "--max") behind refl (λ words n othe
 
 pub lacks_batch : (behind : List (List ℕ)) → ((n : ℕ) (others : List (List ℕ)) → ¬ (BeginWithNumber behind n others)) → (choice : Choice) (others : List (List ℕ)) → ¬ (Begin (codes "--batch" ∷ behind) choice others)
 unfolding split named
-lacks_batch behind = lacks_number Batch (codes "--batch") behind refl (λ words n others begin. begin)
+lacks_batch behind = lacks_number batch (codes "--batch") behind refl (λ words n others begin. begin)
+
+pub lacks_crew : (behind : List (List ℕ)) → ((n : ℕ) (others : List (List ℕ)) → ¬ (BeginWithNumber behind n others)) → (choice : Choice) (others : List (List ℕ)) → ¬ (Begin (codes "--crew" ∷ behind) choice others)
+unfolding split named
+lacks_crew behind = lacks_number crew (codes "--crew") behind refl (λ words n others begin. begin)
 
 -- no words begin with no option
 none_begins : (choice : Choice) (others : List (List ℕ)) → ¬ (Begin [] choice others)

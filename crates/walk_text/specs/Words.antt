@@ -4,7 +4,8 @@ use Rattle.walk_text.specs.Number.{IsNumber, value_of}
 use Rattle.walk_text.specs.Asked.{nothing, also}
 use Rattle.walk_text.specs.declared.asked.Asked.{Asked}
 use Rattle.walk_text.specs.declared.asked.Choice.{Choice}
-use Rattle.walk_text.specs.declared.asked.Choice.TheVariants.{Tree, Sort, Hidden, Follow, Min, Max, Batch}
+use Rattle.walk_text.specs.declared.asked.Choice.TheVariants.{Tree, Sort, Hidden, Follow, Min, Max, Read}
+use Rattle.walk_text.specs.declared.read_by.ReadBy.TheVariants.{Batch, Crew}
 
 -- the words begin with a number, and these stand behind it
 abbrev pub BeginWithNumber : List (List ℕ) → ℕ → List (List ℕ) → Type 0
@@ -22,7 +23,8 @@ Begin words Hidden others = words ≡ codes "--hidden" ∷ others
 Begin words Follow others = words ≡ codes "--follow" ∷ others
 Begin words (Min depth) others = BeginWithNamedNumber (codes "--min") words depth others
 Begin words (Max depth) others = BeginWithNamedNumber (codes "--max") words depth others
-Begin words (Batch width) others = BeginWithNamedNumber (codes "--batch") words width others
+Begin words (Read (Batch width)) others = BeginWithNamedNumber (codes "--batch") words width others
+Begin words (Read (Crew workers)) others = BeginWithNamedNumber (codes "--crew") words workers others
 
 -- the words are these options, one after another, and add what they ask for to what was asked for before
 abbrev pub AddAll : List Choice → List (List ℕ) → Asked → Asked → Type 0

@@ -1,6 +1,8 @@
 //! What the options of a call ask for.
 ghost use Rattle.std.specs.Prelude.{◌≡◌};
 
+use crate::read_by::ReadBy;
+
 /// One option of a call.
 #[derive(Clone, Copy)]
 pub enum Choice {
@@ -16,8 +18,8 @@ pub enum Choice {
     Min(usize),
     /// The greatest depth.
     Max(usize),
-    /// How many directories are read at a time, at most.
-    Batch(usize),
+    /// What directories are read by.
+    Read(ReadBy),
 }
 
 /// What options ask for together.
@@ -35,8 +37,8 @@ pub struct Asked {
     pub min: Option<usize>,
     /// The greatest depth, if one was named.
     pub max: Option<usize>,
-    /// How many directories are read at a time, at most, if a number was named.
-    pub batch: Option<usize>,
+    /// What directories are read by, if that was named.
+    pub read_by: Option<ReadBy>,
 }
 
 impl Asked {
@@ -53,7 +55,7 @@ impl Asked {
             follow: false,
             min: None,
             max: None,
-            batch: None,
+            read_by: None,
         }
     }
 
@@ -80,8 +82,8 @@ impl Asked {
                 max: Some(depth),
                 ..self
             }),
-            Choice::Batch(width) if self.batch.is_none() => Some(Asked {
-                batch: Some(width),
+            Choice::Read(by) if self.read_by.is_none() => Some(Asked {
+                read_by: Some(by),
                 ..self
             }),
             _ => None,

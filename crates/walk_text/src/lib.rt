@@ -8,6 +8,7 @@ pub mod input;
 mod lines;
 mod number;
 pub mod print;
+pub mod read_by;
 pub mod tree;
 mod tree_line;
 pub mod words;

@@ -7,6 +7,7 @@ ghost use Rattle.walk_text.specs.Words.{BeginWithNumber, Begin, Add, Ask, AreGoo
 
 use crate::asked::{Asked, Choice};
 use crate::number::parse_number;
+use crate::read_by::ReadBy;
 use std::alloc::Allocator;
 
 /// What the words ask for.
@@ -51,7 +52,11 @@ fn split_option<A: Allocator>(words: &[String<A>]) -> Option<(Choice, &[String<A
         }
         "--batch" => {
             let (width, others) = split_number(behind)?;
-            Some((Choice::Batch(width), others))
+            Some((Choice::Read(ReadBy::Batch(width)), others))
+        }
+        "--crew" => {
+            let (workers, others) = split_number(behind)?;
+            Some((Choice::Read(ReadBy::Crew(workers)), others))
         }
         _ => None,
     }

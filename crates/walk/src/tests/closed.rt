@@ -6,7 +6,9 @@ use std::alloc::{AllocError, Allocator, Global};
 use std::io;
 use std::io::{ErrorKind, Write};
 use std::sync::atomic::{AtomicUsize, Ordering};
+use std::sync::{Arc, Wait};
 use std::thread::Threads;
+use std::time::Clock;
 use walk_text::failure::Failure;
 use walk_text::tree::build_tree;
 
@@ -93,23 +95,28 @@ fn dir_lines(alloc: Global, count: u64) -> Result<String, AllocError> {
     Ok(lines)
 }
 
-fn watched_over(alloc: Global, lines: &str) -> Result<Watched, Failure> {
-    Ok(Watched {
+fn shared(alloc: Global, disk: Watched) -> Result<Arc<Watched>, AllocError> {
+    Ok(Arc::new(alloc, disk)?)
+}
+
+fn watched_over(alloc: Global, lines: &str) -> Result<Arc<Watched>, Failure> {
+    let disk = Watched {
         fs: build_tree(alloc, lines.as_bytes())?,
         calls: AtomicUsize::new(0),
-    })
+    };
+    Ok(shared(alloc, disk)?)
 }
 
 /// Whether the disk is asked for nothing once a write has failed, and isn't walked to its end.
 fn stops(
-    rt: &(impl Threads + Sync + AllocGlobal),
+    rt: &(impl Wait + Threads + Clock + Clone + Drop + Send + Sync + AllocGlobal + 'static),
     words: &[&str],
-    disk: &Watched,
+    disk: &Arc<Watched>,
 ) -> Result<bool, AllocError> {
     let words = texts(rt.alloc(), &[], words)?;
     let mut out = Closed {
         takes: 2,
-        disk,
+        disk: &**disk,
         calls: 0,
         failures: 0,
     };
@@ -118,7 +125,7 @@ fn stops(
     let status = run(
         rt,
         rt.alloc(),
-        disk,
+        disk.clone()?,
         words.as_slice(),
         &mut input,
         &mut out,

@@ -5,7 +5,9 @@ use std::alloc::{AllocError, Global};
 use std::io;
 use std::io::Read;
 use std::process::Abort;
+use std::sync::Wait;
 use std::thread::Threads;
+use std::time::Clock;
 use walk_text::failure::Failure;
 use walk_text::tree::build_tree;
 
@@ -45,8 +47,8 @@ pub fn texts(alloc: Global, front: &[&str], words: &[&str]) -> Result<Vec<String
     Ok(texts)
 }
 
-fn outcome<S: FileSystem + Send + Sync, R: Read>(
-    rt: &(impl Threads + Sync + AllocGlobal),
+fn outcome<S: FileSystem + Send + Sync + 'static, R: Read>(
+    rt: &(impl Wait + Threads + Clock + Clone + Drop + Send + Sync + AllocGlobal + 'static),
     disk: S,
     words: &[String],
     input: &mut R,
@@ -65,7 +67,7 @@ pub fn is(ran: &Ran, want: &Want<'_>) -> bool {
 
 /// Whether this comes of a call, where the disk is empty.
 pub fn comes<R: Read>(
-    rt: &(impl Threads + Sync + AllocGlobal),
+    rt: &(impl Wait + Threads + Clock + Clone + Drop + Send + Sync + AllocGlobal + 'static),
     words: &[&str],
     input: &mut R,
     want: &Want<'_>,
@@ -94,7 +96,7 @@ impl Read for Unread {
 
 /// Whether this comes of a call over a disk of these lines, and the input isn't read.
 fn comes_of_disk(
-    rt: &(impl Threads + Sync + AllocGlobal),
+    rt: &(impl Wait + Threads + Clock + Clone + Drop + Send + Sync + AllocGlobal + 'static),
     way: &[&str],
     (words, lines, want): &Row<'_>,
 ) -> Result<bool, Failure> {
@@ -107,7 +109,7 @@ fn comes_of_disk(
 
 /// Whether this comes of a call with `--tree` in front whose input has these lines, while the disk is empty.
 fn comes_of_tree(
-    rt: &(impl Threads + Sync + AllocGlobal),
+    rt: &(impl Wait + Threads + Clock + Clone + Drop + Send + Sync + AllocGlobal + 'static),
     way: &[&str],
     (words, lines, want): &Row<'_>,
 ) -> Result<bool, Failure> {
@@ -118,18 +120,21 @@ fn comes_of_tree(
     Ok(is(&ran, want))
 }
 
-/// The words that ask for one directory at a time, and for batches of several widths.
+/// The words that ask for one directory at a time, for batches of several widths, and for crews.
 const WAYS: &[&[&str]] = &[
     &[],
     &["--batch", "1"],
     &["--batch", "2"],
     &["--batch", "8"],
     &["--batch", "0"],
+    &["--crew", "1"],
+    &["--crew", "3"],
+    &["--crew", "0"],
 ];
 
 /// Whether a row comes as is said in each of these ways, be its tree the input's or the disk's.
 fn comes_in_each_way(
-    rt: &(impl Threads + Sync + AllocGlobal),
+    rt: &(impl Wait + Threads + Clock + Clone + Drop + Send + Sync + AllocGlobal + 'static),
     row: &Row<'_>,
 ) -> Result<bool, Failure> {
     for way in WAYS {
@@ -141,7 +146,10 @@ fn comes_in_each_way(
 }
 
 /// The number of the first row that comes otherwise of its words, where the lines are the input.
-fn first_wrong(rt: &(impl Threads + Sync + AllocGlobal), rows: &[Row<'_>]) -> Option<usize> {
+fn first_wrong(
+    rt: &(impl Wait + Threads + Clock + Clone + Drop + Send + Sync + AllocGlobal + 'static),
+    rows: &[Row<'_>],
+) -> Option<usize> {
     for (number, (words, input, want)) in rows.iter().enumerate() {
         if !comes(rt, words, &mut input.as_bytes(), want) {
             return Some(number);
@@ -152,7 +160,7 @@ fn first_wrong(rt: &(impl Threads + Sync + AllocGlobal), rows: &[Row<'_>]) -> Op
 
 /// The number of the first row that comes otherwise over the tree of its lines.
 fn first_wrong_over_tree(
-    rt: &(impl Threads + Sync + AllocGlobal),
+    rt: &(impl Wait + Threads + Clock + Clone + Drop + Send + Sync + AllocGlobal + 'static),
     rows: &[Row<'_>],
 ) -> Result<Option<usize>, Failure> {
     for (number, row) in rows.iter().enumerate() {
@@ -164,12 +172,18 @@ fn first_wrong_over_tree(
 }
 
 /// Each row comes of its words as is said, where the lines are the input and the disk is empty.
-pub fn all_come(rt: &(impl Abort + Threads + Sync + AllocGlobal), rows: &[Row<'_>]) {
+pub fn all_come(
+    rt: &(impl Abort + Wait + Threads + Clock + Clone + Drop + Send + Sync + AllocGlobal + 'static),
+    rows: &[Row<'_>],
+) {
     assert_eq!(rt; first_wrong(rt, rows), None);
 }
 
-/// Each row comes as is said over the tree of its lines, with and without batches: with `--tree` in front of its words and
+/// Each row comes as is said over the tree of its lines, whatever its directories are read by: with `--tree` in front of its words and
 /// the lines on the input, and without it over a disk that is the same tree.
-pub fn all_come_over_tree(rt: &(impl Abort + Threads + Sync + AllocGlobal), rows: &[Row<'_>]) {
+pub fn all_come_over_tree(
+    rt: &(impl Abort + Wait + Threads + Clock + Clone + Drop + Send + Sync + AllocGlobal + 'static),
+    rows: &[Row<'_>],
+) {
     assert_eq!(rt; first_wrong_over_tree(rt, rows), Ok(None));
 }

@@ -5,7 +5,9 @@ use jwalk::file_system::MemoryFs;
 use std::alloc::AllocError;
 use std::io;
 use std::io::{ErrorKind, Read, Write};
+use std::sync::Wait;
 use std::thread::Threads;
+use std::time::Clock;
 
 /// Neither reads nor writes: each call fails with an error of this kind.
 #[derive(Drop)]
@@ -28,7 +30,7 @@ impl Write for Broken {
 }
 
 fn comes_unread(
-    rt: &(impl Threads + Sync + AllocGlobal),
+    rt: &(impl Wait + Threads + Clock + Clone + Drop + Send + Sync + AllocGlobal + 'static),
     words: &[&str],
     kind: ErrorKind,
     want: &Want<'_>,
@@ -50,7 +52,7 @@ fn an_input_that_cannot_be_read_is_told(rt: HostRuntime) {
 
 /// Whether a call that writes there ends with this status and tells of nothing.
 fn ends<W: Write>(
-    rt: &(impl Threads + Sync + AllocGlobal),
+    rt: &(impl Wait + Threads + Clock + Clone + Drop + Send + Sync + AllocGlobal + 'static),
     words: &[&str],
     input: &str,
     out: &mut W,
@@ -77,6 +79,7 @@ fn ends<W: Write>(
 fn an_output_that_cannot_be_written_ends_the_walk(rt: HostRuntime) {
     let mut out = Broken(ErrorKind::BrokenPipe);
     assert!(rt; ends(&rt, &["--tree", "/t"], TREE_A, &mut out, 1));
+    assert!(rt; ends(&rt, &["--tree", "--crew", "3", "/t"], TREE_A, &mut out, 1));
 }
 
 /// Keeps what is written until it is flushed.
@@ -143,7 +146,11 @@ fn push_files(input: &mut String, out: &mut String, count: u64) -> Result<(), Al
     Ok(())
 }
 
-fn comes_of_pieces(rt: &(impl Threads + Sync + AllocGlobal), input: &str, out: &str) -> bool {
+fn comes_of_pieces(
+    rt: &(impl Wait + Threads + Clock + Clone + Drop + Send + Sync + AllocGlobal + 'static),
+    input: &str,
+    out: &str,
+) -> bool {
     comes(
         rt,
         &["--tree", "/r"],

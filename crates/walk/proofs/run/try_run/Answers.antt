@@ -2,6 +2,7 @@ use Rattle.std.proofs.Common.{◌≤◌, Some, None, sym, map, string_bytes}
 use Rattle.std.proofs.lemmas.Result.{IfOk-weaker}
 use Rattle.memory_fs.specs.MemoryFs.{tree_of}
 use Rattle.walk.specs.Run.{BeginsWalk}
+use Rattle.walk.proofs.RunFacts.{ok_both}
 use Rattle.walk.proofs.run.try_run.Goals as goal
 
 pub returns-then-request-clause-begins : goal.returns-then-request-clause-begins
@@ -25,17 +26,19 @@ returns-then-request-clause-unread g c = λ unasked.
 pub returns-then-request-clause-printed : goal.returns-then-request-clause-printed
 returns-then-request-clause-printed g c =
     let request = c.in-Some.request in
-    IfOk-weaker c.print_walk.result _ _ (λ status prints clean. record {
+    ok_both c.print_walk.result _ _ _ c.print_walk.ensures.entries c.print_walk.ensures.printed (λ status entries prints clean. record {
       walk = record { asked = request.asked; root = request.root.now; ask = c.in-Some.ensures.some; tree = Some (tree_of c.in_ok-tree.tree); wanted = sym c.if-request.true; builds = c.in_ok-tree.ensures.built };
-      over_tree = prints clean tt;
+      entries = entries clean;
+      over_tree = λ no_crew. prints clean no_crew tt;
       over_disk = tt;
-    }) c.print_walk.ensures.printed
+    })
 
 pub returns-clause-printed : goal.returns-clause-printed
 returns-clause-printed g c =
     let request = c.in-Some.request in
-    IfOk-weaker c.print_walk-2.result _ _ (λ status prints clean. record {
+    ok_both c.print_walk-2.result _ _ _ c.print_walk-2.ensures.entries c.print_walk-2.ensures.printed (λ status entries prints clean. record {
       walk = record { asked = request.asked; root = request.root.now; ask = c.in-Some.ensures.some; tree = None; wanted = sym c.if-request.false; builds = tt };
+      entries = entries clean;
       over_tree = tt;
       over_disk = prints clean;
-    }) c.print_walk-2.ensures.printed
+    })

@@ -1,8 +1,9 @@
-use Rattle.std.proofs.Common.{map, string_bytes, sym, subst, ◌∙◌}
+use Rattle.std.proofs.Common.{arith, map, string_bytes, sym, subst, ◌∙◌}
+use Rattle.std.proofs.lemmas.List.{length-map}
 use Rattle.walk_text.specs.Asked.{nothing}
 use Rattle.walk_text.proofs.Lists.{map-none, map-some}
 use Rattle.walk_text.proofs.Texts.{on_none}
-use Rattle.walk_text.proofs.WordFacts.{AsksAlike, alike_behind, asks_no_option, asks_twice, asks_only}
+use Rattle.walk_text.proofs.WordFacts.{AsksAlike, alike_behind, asks_no_option, asks_twice, asks_only, fewer_behind}
 use Rattle.walk_text.proofs.words.parse_options.Goals as goal
 
 pub returns-in_err-choice-clause-none : goal.returns-in_err-choice-clause-none
@@ -24,6 +25,13 @@ loop-left-preserved g c =
     let some = map-some string_bytes left (sym c.is_empty.ensures ∙ c.loop-left-test.true) in
     alike_behind nothing (map string_bytes c.args.words.now) c.loop-left.asked c.in_ok-asked.asked (map string_bytes left) (map string_bytes c.in_ok-choice.others.now) c.in_ok-choice.choice
     c.loop-left.invariant some c.in_ok-choice.ensures.some (sym c.also.ensures ∙ c.in_ok-asked.was)
+
+pub loop-left-smaller : goal.loop-left-smaller
+loop-left-smaller g c =
+    let left = c.loop-left.left.now in
+    let others = c.in_ok-choice.others.now in
+    let fewer = fewer_behind (map string_bytes left) c.in_ok-choice.choice (map string_bytes others) c.in_ok-choice.ensures.some in
+    omega (arith, fewer, length-map left string_bytes, length-map others string_bytes)
 
 pub returns-clause-only : goal.returns-clause-only
 returns-clause-only g c =
