@@ -3,11 +3,12 @@ ghost use Rattle.jwalk.specs.WalkDir.{callback_of};
 
 use jwalk::file_system::MemoryFs;
 use jwalk::read_dir::ProcessReadDir;
-use jwalk::{DirEntry, ReadChildren, WalkDirGeneric};
+use jwalk::{DirEntry, WalkDirGeneric};
 use std::alloc::{AllocError, Global};
 use std::test::Fail;
 use std::thread::Threads;
 use walk_fixtures::answers::{Answer, push_line};
+use walk_fixtures::moving::move_directory;
 use walk_fixtures::trees::{GROUPED, tree};
 use walk_fixtures::ways::{Asked, Setting, WAYS, Way};
 
@@ -82,43 +83,13 @@ fn entries_that_are_dropped(rt: HostRuntime) -> Result<(), Fail> {
     Ok(())
 }
 
-/// The directory of the entry of this name, taken away from it.
-fn taken_from(list: &mut Vec<Answer>, name: &str) -> Option<ReadChildren<((), ())>> {
-    for found in list.iter_mut() {
-        if let Ok(entry) = found {
-            if entry.file_name.as_str() == name {
-                return entry.read_children.take();
-            }
-        }
-    }
-    None
-}
-
-/// Gives a directory to the entry of this name.
-fn give_to(list: &mut Vec<Answer>, name: &str, directory: Option<ReadChildren<((), ())>>) {
-    let mut directory = directory;
-    for found in list.iter_mut() {
-        if let Ok(entry) = found {
-            if entry.file_name.as_str() == name {
-                entry.read_children = directory.take();
-            }
-        }
-    }
-}
-
-/// Moves the directory of a group to a file.
-fn move_group(list: &mut Vec<Answer>) {
-    let moved = taken_from(list, "group 1");
-    give_to(list, "c.txt", moved);
-}
-
 /// Whether what a moved directory holds comes after the file that it was moved to.
 fn moves<R: Threads + AllocGlobal + Sync>(rt: &R, fs: &MemoryFs, way: Way) -> bool {
     by_name(fs).shows_by(
         rt,
         |_depth, path, _state, list| {
             if path == "/t" {
-                move_group(list);
+                move_directory(list, "group 1", "c.txt");
             }
             Ok(())
         },

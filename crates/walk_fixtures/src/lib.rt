@@ -4,7 +4,9 @@
 
 pub mod answers;
 pub mod begun;
+pub mod crewed;
 pub mod listed_directory;
+pub mod moving;
 pub mod plain_walk;
 pub mod row;
 pub mod trees;

@@ -8,7 +8,7 @@ use crate::plain_walk::plain_answers;
 use crate::width::Width;
 use jwalk::file_system::FileSystem;
 use jwalk::read_dir::{ByFn, Job, NoProcess, ProcessReadDir};
-use jwalk::threads::OnThreads;
+use jwalk::threads::{InTurn, OnThreads};
 use jwalk::{ClientState, WalkDirGeneric};
 use jwalk_read::options::Options;
 use std::alloc::{AllocError, Global};
@@ -80,10 +80,13 @@ fn options_by(settings: &[Setting]) -> Options {
 }
 
 /// A walk yet to begin, without a callback.
-type Builder<C, S> = WalkDirGeneric<C, S, NoProcess>;
+type Builder<C, S, W> = WalkDirGeneric<C, S, NoProcess, Global, InTurn, W>;
 
 /// The walk with one option set.
-fn with<C: ClientState, S: FileSystem>(walk: Builder<C, S>, setting: Setting) -> Builder<C, S> {
+fn with<C: ClientState, S: FileSystem, W: Drop>(
+    walk: Builder<C, S, W>,
+    setting: Setting,
+) -> Builder<C, S, W> {
     match setting {
         Setting::Sort => walk.sort(true),
         Setting::Hidden => walk.skip_hidden(false),
@@ -95,10 +98,10 @@ fn with<C: ClientState, S: FileSystem>(walk: Builder<C, S>, setting: Setting) ->
 }
 
 /// The walk with these settings.
-fn with_all<C: ClientState, S: FileSystem>(
-    walk: Builder<C, S>,
+pub fn with_all<C: ClientState, S: FileSystem, W: Drop>(
+    walk: Builder<C, S, W>,
     settings: &[Setting],
-) -> Builder<C, S> {
+) -> Builder<C, S, W> {
     let mut walk = walk;
     for setting in settings {
         walk = with(walk, *setting);

@@ -21,7 +21,7 @@ impl Width {
     }
 
     /// The same as a builder is told it.
-    pub fn parallelism(self) -> Parallelism {
+    pub fn parallelism<W>(self) -> Parallelism<W> {
         match self {
             Width::Serial => Parallelism::Serial,
             Width::Batches(width) => Parallelism::RayonNewPool(width),
