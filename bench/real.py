@@ -1,6 +1,6 @@
 #!/usr/bin/env python3
-"""Times `walk` on the real disk beside `find`, and beside `fd` and `bfs` where they are installed; and in batches beside
-the walk that reads a directory at a time.
+"""Times `walk` on the real disk beside `find`, and beside `fd` and `bfs` where they are installed; and in batches and over
+crews beside the walk that reads a directory at a time, also over a tree in memory.
 
     python3 bench/real.py [FOLDER [PROGRAM]]
 
@@ -9,7 +9,8 @@ none is given). All of a tree's programs take turns, each with its output in a f
 doesn't count. A time is the best of five turns, and its ratio that of two such times; the ratio of processor times is the
 median of the turns' ratios. A peak of memory is that of the last turn, and no less than this script's own. The walk by name
 of /usr takes turns with the walk in the disk's order. In brackets is what the walk is to take at most. Walks in batches of
-each width take turns with the serial one.
+each width, and over crews of so many workers, take turns with the serial one. The tree in memory is read from the program's
+input: 10,101 directories, and the time to read it and to build it is in each of its times.
 """
 import os
 import shutil
@@ -22,6 +23,7 @@ from statistics import median
 PROGRAM = os.path.join(os.path.dirname(os.path.abspath(__file__)), "..", "crates", "walk", "out", "walk")
 TURNS = 5
 WIDTHS = (1, 4, 16, 64, 256)
+WORKERS = (1, 2, 4)
 
 
 def wide(folder):
@@ -38,9 +40,20 @@ def flat(folder):
             open(f"{folder}/dir-{directory:05d}/file-{i:02d}", "w").close()
 
 
+def deep(folder):
+    """40 chains of 100 directories in one another, each with 10 files."""
+    for chain in range(40):
+        path = f"{folder}/chain-{chain:02d}"
+        for _ in range(100):
+            os.mkdir(path)
+            for i in range(10):
+                open(f"{path}/file-{i}", "w").close()
+            path += "/d"
+
+
 def trees(folder):
-    """Each tree's name, its root, and the most of find's time that a walk of it may take."""
-    for make, bound in (wide, 2.3), (flat, 1.9):
+    """Each tree's name, its root, and the most of find's time that a walk of it may take, if that is said."""
+    for make, bound in (wide, 2.3), (flat, 1.9), (deep, None):
         root = os.path.join(folder, make.__name__)
         if not os.path.isdir(root):
             os.mkdir(root)
@@ -49,23 +62,34 @@ def trees(folder):
     yield "/usr", "/usr", 1.9
 
 
+def in_memory(folder):
+    """The file with the lines of a tree of small directories: a hundred with a hundred each."""
+    path = os.path.join(folder, "memory.txt")
+    with open(path, "w") as file:
+        file.write("d /r\n")
+        for outer in range(100):
+            file.write(f"d /r/{outer}\n")
+            file.writelines(f"d /r/{outer}/{inner}\n" for inner in range(100))
+    return path
+
+
 def programs(walk, root):
     """The programs that list all that stands below a root, hidden names too."""
     yield "walk", [walk, "--hidden", root]
     yield "find", ["find", root]
     for name in "fd", "fdfind":
         if shutil.which(name):
-            yield name, [name, "-uu", ".", root]
+            yield name, [name, "-uu", "-j4", ".", root]
             break
     if shutil.which("bfs"):
         yield "bfs", ["bfs", root]
 
 
-def run(words, output_path):
+def run(words, output_path, input_path=os.devnull):
     """The seconds, the processor seconds and the peak memory in KiB of one run."""
-    with open(output_path, "wb") as out:
+    with open(input_path, "rb") as source, open(output_path, "wb") as out:
         start = time.perf_counter()
-        child = subprocess.Popen(words, stdin=subprocess.DEVNULL, stdout=out)
+        child = subprocess.Popen(words, stdin=source, stdout=out)
         _, status, usage = os.wait4(child.pid, 0)
         seconds = time.perf_counter() - start
     if status != 0:
@@ -73,13 +97,13 @@ def run(words, output_path):
     return seconds, usage.ru_utime + usage.ru_stime, usage.ru_maxrss
 
 
-def turns(commands, output_path):
+def turns(commands, output_path, input_path=os.devnull):
     """The runs of each command, but for its first, and the lines that it printed."""
     runs = {name: [] for name, _ in commands}
     lines = {}
     for turn in range(TURNS + 1):
         for name, words in commands:
-            measured = run(words, output_path)
+            measured = run(words, output_path, input_path)
             if turn > 0:
                 runs[name].append(measured)
                 continue
@@ -103,7 +127,7 @@ def compare(tree, root, bound, walk, output):
         sys.exit(f"{tree}: walk printed {lines['walk']} lines, find {lines['find']}")
     find = runs["find"]
     for name, of in runs.items():
-        most = f"  (at most {bound})" if name == "walk" else ""
+        most = f"  (at most {bound})" if name == "walk" and bound else ""
         print(
             f"{tree:<6}{name:<8}{lines[name]:>9}{best(of) * 1e3:>10.1f}{best(of) / best(find):>8.2f}"
             f"{processor_ratio(of, find):>8.2f}{of[-1][2] / 1024:>8.1f}{most}"
@@ -120,16 +144,26 @@ def by_name(walk, output):
     )
 
 
-def batches(tree, root, walk, output):
-    ways = [[]] + [["--batch", str(width)] for width in WIDTHS]
-    commands = [(" ".join(way) or "serial", [walk, "--hidden", *way, root]) for way in ways]
-    runs, lines = turns(commands, output)
+def ways():
+    """The words for each way to read: a directory at a time, batches of each width, crews of so many workers."""
+    yield []
+    for width in WIDTHS:
+        yield ["--batch", str(width)]
+    for workers in WORKERS:
+        yield ["--crew", str(workers)]
+
+
+def side_by_side(tree, words, output, input_path=os.devnull):
+    """A walk in each way, by turns, beside the serial one and the best of the batches."""
+    commands = [(" ".join(way) or "serial", [*words[:-1], *way, words[-1]]) for way in ways()]
+    runs, lines = turns(commands, output, input_path)
     if len(set(lines.values())) > 1:
-        sys.exit(f"{tree}: batches print other lines: {lines}")
+        sys.exit(f"{tree}: not all ways print as many lines: {lines}")
     serial = runs["serial"]
+    batch = min((of for name, of in runs.items() if name.startswith("--batch")), key=best)
     for name, of in runs.items():
         print(
-            f"{tree:<6}{name:<12}{best(of) * 1e3:>10.1f}{best(of) / best(serial):>9.2f}"
+            f"{tree:<8}{name:<12}{best(of) * 1e3:>10.1f}{best(of) / best(serial):>9.2f}{best(of) / best(batch):>8.2f}"
             f"{processor_ratio(of, serial):>8.2f}{of[-1][2] / 1024:>8.1f}"
         )
 
@@ -143,9 +177,10 @@ def main():
     for tree, root, bound in trees(folder):
         compare(tree, root, bound, walk, output)
     by_name(walk, output)
-    print(f"{'tree':<6}{'way':<12}{'ms':>10}{'x serial':>9}{'cpu x':>8}{'MiB':>8}")
+    print(f"{'tree':<8}{'way':<12}{'ms':>10}{'x serial':>9}{'x batch':>8}{'cpu x':>8}{'MiB':>8}")
     for tree, root, _ in trees(folder):
-        batches(tree, root, walk, output)
+        side_by_side(tree, [walk, "--hidden", root], output)
+    side_by_side("memory", [walk, "--tree", "/r"], output, in_memory(folder))
     if len(sys.argv) < 2:
         subprocess.run(["rm", "-rf", folder], check=True)
 
