@@ -24,6 +24,8 @@ mod random_trees;
 #[cfg(test)]
 mod random_walks;
 #[cfg(test)]
+mod readings;
+#[cfg(test)]
 mod rows;
 #[cfg(test)]
 mod stand;

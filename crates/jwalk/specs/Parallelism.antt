@@ -1,5 +1,5 @@
 -- How a walk's directories are read, seen as a value.
-use Rattle.std.specs.Prelude.{◌≡◌, ◌==◌, if◌then◌else◌, Option, Some, None}
+use Rattle.std.specs.Prelude.{◌≡◌, ◌==◌, Bool, true, false, if◌then◌else◌, Option, Some, None}
 use Rattle.std.specs.Arc.{arc_value}
 use Rattle.std.specs.declared.sync.Arc.{Arc}
 use Rattle.std.specs.declared.time.Duration.{Duration}
@@ -13,6 +13,12 @@ abbrev pub parallelism_value : {W A : Type 0} → Parallelism W A → value.Para
 parallelism_value Serial = serial
 parallelism_value (RayonExistingPool pool busy_timeout) = crew
 parallelism_value (RayonNewPool n) = batches (if n == 0 then 8 else n)
+
+-- whether a crew reads
+abbrev pub is_by_crew : value.Parallelism → Bool
+is_by_crew serial = false
+is_by_crew (batches n) = false
+is_by_crew crew = true
 
 -- the crew, where it reads by one, and how long a walk waits for a place there
 abbrev pub crew_of : {W A : Type 0} → Parallelism W A → Option (Arc W A × Option Duration)

@@ -7,7 +7,7 @@ ghost use Rattle.jwalk_read.specs.Job.{greatest_depth, IsReadingBy};
 ghost use Rattle.jwalk_engine.specs.Reads.{StacksChildren, ReadsNextBy};
 ghost use Rattle.jwalk.specs.CrewReads.{job_of, to_read, next_address, IsBelow, IsNextBelow, IsTold, failure_of};
 
-mod started;
+pub(crate) mod started;
 
 use jwalk_crew::pool::{Missed, Pool};
 use jwalk_crew::wanted::Wanted;

@@ -7,6 +7,7 @@ ghost use Rattle.jwalk_read.specs.ReadDir.{spec, outcome};
 ghost use Rattle.jwalk_read.specs.Job.{callback};
 
 mod on_threads;
+mod over_crew;
 mod over_pool;
 
 use crate::crew_reads::{CrewReads, error_of};
@@ -108,6 +109,27 @@ impl<
             ReadDirIter::Walk(walk) => walk.begin(roots),
             ReadDirIter::ParWalk(walk, _) => walk.begin(roots),
             ReadDirIter::CrewWalk(_) => unreachable!(),
+        }
+    }
+
+    /// The readings of these directories and of all that is below them, by no crew.
+    fn alone(
+        threads: T,
+        job: Job<C, S, P, A>,
+        roots: Vec<ReadDirSpec<C, A>, A>,
+        mode: Mode,
+    ) -> Result<Self, Error<A>>
+        ensures own { IfOk result (λ reads. by_crew reads ≡ false) }
+        ensures job { IfOk result (λ reads. job_of reads ≡ job) }
+        ensures width { IfOk result (λ reads. width_of reads ≡ options.width_of (mode_value mode)) }
+        ensures to_read { IfOk result (λ reads. to_read reads ≡ map spec roots.items) }
+        ensures read_ahead { IfOk result (λ reads. BeginsWith (map spec roots.items) (read_ahead reads)) }
+        ensures memory { IfErr result (λ error. failure error ≡ memory) }
+    {
+        let mut reads = ReadDirIter::new(*roots.allocator(), threads, job, mode);
+        match reads.begin(roots) {
+            Ok(()) => Ok(reads),
+            Err(_) => Err(Error::memory()),
         }
     }
 
@@ -232,11 +254,7 @@ impl<
         ensures read_ahead { IfOk result (λ reads. BeginsWith (map spec roots.items) (read_ahead reads)) }
         ensures memory { IfErr result (λ error. failure error ≡ memory) }
     {
-        let mut reads = ReadDirIter::new(*roots.allocator(), threads, job, parallelism.mode());
-        match reads.begin(roots) {
-            Ok(()) => Ok(reads),
-            Err(_) => Err(Error::memory()),
-        }
+        ReadDirIter::alone(threads, job, roots, parallelism.mode())
     }
 }
 

@@ -84,3 +84,19 @@ impl<C: ClientState, A: Allocator + Copy> ReadDirSpec<C, A> {
         }))
     }
 }
+
+/// A clone has a clone of the state and shares the paths. Fails only for want of memory, or where the state's own does.
+impl<C: ClientState, A: Allocator + Copy> Clone for ReadDirSpec<C, A> {
+    ghost use Rattle.walk_model.specs.ReadDir.{IsClone};
+
+    ghost is_clone = { λ old new. IsClone C.ReadDirState.is_clone (spec old) (spec new) };
+
+    fn clone(&self) -> Result<Self, AllocError> {
+        Ok(ReadDirSpec {
+            depth: self.depth,
+            ancestors: self.ancestors.share()?,
+            path: self.path.clone()?,
+            client_read_state: self.client_read_state.clone()?,
+        })
+    }
+}

@@ -1,14 +1,17 @@
 //! The start of readings that a crew makes ahead.
 ghost use Rattle.std.specs.Prelude.{◌≡◌, map, OnErr, OnOk};
+ghost use Rattle.jwalk_read.specs.Error.{failure};
 ghost use Rattle.jwalk_read.specs.ReadDir.{spec};
 ghost use Rattle.jwalk_read.specs.Job.{callback};
 ghost use Rattle.jwalk.specs.CrewReads.{job_of, to_read};
+ghost use Rattle.jwalk.specs.CrewStart.{start_failure};
 
 use crate::crew_reads::CrewReads;
 use jwalk_crew::crew::{Crew, NotStarted, Place};
 use jwalk_crew::session::Session;
 use jwalk_order::ordered_queue::OrderedMatcher;
 use jwalk_read::client_state::ClientState;
+use jwalk_read::error::Error;
 use jwalk_read::process_read_dir::ProcessReadDir;
 use jwalk_read::read_dir_spec::ReadDirSpec;
 use std::alloc::Allocator;
@@ -16,6 +19,16 @@ use std::sync::{Arc, Wait};
 use std::thread::Threads;
 use std::time::{Clock, Duration};
 use walk_fs::file_system::FileSystem;
+
+/// The error that tells why a crew's readings don't begin.
+pub(crate) fn error_of<A: Allocator + Copy>(why_not: NotStarted) -> Error<A>
+    ensures { failure result ≡ start_failure why_not }
+{
+    match why_not {
+        NotStarted::Busy => Error::busy(),
+        NotStarted::Memory => Error::memory(),
+    }
+}
 
 impl<
     R: Wait + Threads + Clock + Drop + Send + Sync + 'static,

@@ -4,8 +4,8 @@ ghost use Rattle.walk_model.specs.Options as parallelism;
 ghost use Rattle.jwalk_read.specs.Options.{mode_value};
 ghost use Rattle.walk_model.specs.Error.{memory, busy};
 ghost use Rattle.jwalk_read.specs.Error.{failure};
-ghost use Rattle.jwalk.specs.CrewStart.{start_failure};
 
+use crate::crew_reads::started::error_of;
 use crate::dir_entry_iter::DirEntryIter;
 use crate::threads::InTurn;
 use crate::walk_dir::WalkDirGeneric;
@@ -42,16 +42,6 @@ impl<C: ClientState, S: FileSystem, A: Allocator + Copy, R: Wait + Clock + Drop>
         ensures crew { result.crew ≡ None }
     {
         WalkDirGeneric::with_no_options(fs, root)
-    }
-}
-
-/// The error that tells why a walk doesn't begin.
-fn error_of<A: Allocator + Copy>(why_not: NotStarted) -> Error<A>
-    ensures { failure result ≡ start_failure why_not }
-{
-    match why_not {
-        NotStarted::Busy => Error::busy(),
-        NotStarted::Memory => Error::memory(),
     }
 }
 
