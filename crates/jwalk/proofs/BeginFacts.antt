@@ -1,5 +1,5 @@
 -- How a walk begins.
-use Rattle.std.proofs.Common.{◌≡◌, ◌⊎◌, ◌∙◌, Bool, true, false, List, Option, Result, Ok, Err, IfOk, IfSome, IsSomeAnd, inl, inr, refl, sym, ap}
+use Rattle.std.proofs.Common.{◌≡◌, ◌⊎◌, ◌∙◌, Bool, true, false, List, Option, Result, Ok, Err, IfOk, IsSomeAnd, inl, inr, refl, sym, ap}
 use Rattle.std.specs.Result.{result_ok}
 use Rattle.walk_model.specs.ReadDir.{Reading}
 use Rattle.walk_model.specs.Listing.{Pair, paired}
@@ -13,8 +13,3 @@ held_view view v held (Err e) given is some value = absurd (rw is at some)
 pub by_flag : {Refused Held : Type 0} (flag : Bool) → (flag ≡ true → Refused) → (flag ≡ false → Held) → Refused ⊎ Held
 by_flag true refused held = inl (refused refl)
 by_flag false refused held = inr (held refl)
-
--- what is said of an `Ok` is said of it as an option
-pub if_some_of : {X F : Type 0} (P : X → Type 0) (read : Result X F) (given : Option X) → given ≡ result_ok read → IfOk read P → IfSome given P
-if_some_of P (Ok x) given is h = rw is h
-if_some_of P (Err f) given is h = rw is tt

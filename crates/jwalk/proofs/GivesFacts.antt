@@ -25,7 +25,7 @@ use Rattle.jwalk_read.specs.Job.{greatest_depth, job_by, ClonesCount, IsSteadyJo
 use Rattle.jwalk_read.specs.declared.read_dir_spec.ReadDirSpec.{ReadDirSpec}
 use Rattle.jwalk_board.specs.Board.{Board}
 use Rattle.jwalk_engine.specs.declared.read.Read.{Read}
-use Rattle.jwalk_engine.specs.Reads.{ReadsFirstBy, ReadsNextBy}
+use Rattle.jwalk_engine.specs.Reads.{MadeAsGiven, ReadsFirstBy, ReadsNextBy}
 use Rattle.jwalk_engine.specs.ReadAhead.{nothing_ahead}
 use Rattle.jwalk_engine.specs.BoardWalk as board
 use Rattle.jwalk_engine.specs.BoardWalk.{BoardWalk, IsSteadyWalk}
@@ -120,7 +120,7 @@ steady_board : {C S P A R E : Type 0} (files : FileSystem.Ghosts S) (process : P
 steady_board files process clone defaults walk given steady none =
     let early = board.early_of walk in
     let nothing : early ≡ [] = nil_from_length early (as_many walk.board ∙ ap length none) in
-    record { steady = steady; early = rw nothing (All-nil _) }
+    record { steady = steady; early = rw nothing (All-nil (MadeAsGiven files given walk.job)) }
 
 -- where nothing was read early over a steady job, it is steady
 pub steady_at_rest : {C S P A T L R E : Type 0} (files : FileSystem.Ghosts S) (process : ProcessReadDir.Ghosts P C A R E) (clone : Clone.Ghosts R) (defaults : Default.Ghosts E) (it : ReadDirIter C S P A T L R E) (given : Given R E) → by_crew it ≡ false → IsSteadyJob files process clone defaults (job_of it) given → (read_ahead it).done ≡ [] → IsSteadyReads files process clone defaults it given

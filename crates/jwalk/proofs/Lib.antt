@@ -8,6 +8,7 @@ pub mod FillFacts
 pub mod GivesFacts
 pub mod ListFacts
 pub mod ReceivedFacts
+pub mod ResultFacts
 pub mod StepFacts
 pub mod BeginFacts
 pub mod WholeFacts

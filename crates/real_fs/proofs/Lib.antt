@@ -1,1 +1,2 @@
+mod FaultFacts
 mod ListingFacts

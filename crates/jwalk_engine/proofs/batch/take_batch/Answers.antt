@@ -1,13 +1,15 @@
-use Rattle.std.proofs.Common.{◌≡◌, ◌∷◌, [], map, ap, sym, ◌∙◌, arith, subst}
+use Rattle.std.proofs.Common.{◌≡◌, ◌∷◌, [], map, ap, sym, ◌∙◌, arith, subst, refl}
 use Rattle.std.specs.Prelude.{All}
 use Rattle.std.proofs.lemmas.List.Elements.{All-nil, All-cons, All-append}
+use Rattle.std.proofs.lemmas.Result.{IfOk-from_err}
 use Rattle.jwalk_order.specs.Ordered.{child_count_of}
+use Rattle.jwalk_board.specs.Addresses.{times}
 use Rattle.jwalk_engine.specs.ToGive.{IsHeld}
 use Rattle.jwalk_engine.specs.Reads.{to_give}
 use Rattle.jwalk_engine.specs.ReadAhead.{ahead_on, LeastLeave}
 use Rattle.jwalk_engine.specs.Batch.{hand_of, seen_taken}
 use Rattle.jwalk_engine.proofs.BatchFacts.{held_more, same_more, fewer_queued}
-use Rattle.jwalk_engine.proofs.AheadFacts.{one_leaves}
+use Rattle.jwalk_engine.proofs.AheadFacts.{one_leaves, none_leave}
 use Rattle.jwalk_engine.proofs.batch.take_batch.Goals as goal
 
 pub loop-preserved : goal.loop-preserved
@@ -31,3 +33,63 @@ loop-preserved g c =
       frontier = ap (λ z. z.frontier) t.others ∙ old.frontier;
       running = ap (λ z. z.stopped) t.others ∙ t.running;
     }
+
+pub returns-in_err-taken-clause-number : goal.returns-in_err-taken-clause-number
+returns-in_err-taken-clause-number g c = IfOk-from_err c.from_residual.result _ c.from_residual.ensures.0
+
+pub returns-in_err-taken-clause-held : goal.returns-in_err-taken-clause-held
+returns-in_err-taken-clause-held g c = IfOk-from_err c.from_residual.result _ c.from_residual.ensures.0
+
+pub returns-in_err-taken-clause-unread : goal.returns-in_err-taken-clause-unread
+returns-in_err-taken-clause-unread g c = IfOk-from_err c.from_residual.result _ c.from_residual.ensures.0
+
+pub returns-in_err-taken-clause-same : goal.returns-in_err-taken-clause-same
+returns-in_err-taken-clause-same g c = IfOk-from_err c.from_residual.result _ c.from_residual.ensures.0
+
+pub returns-in_err-taken-clause-least : goal.returns-in_err-taken-clause-least
+returns-in_err-taken-clause-least g c = IfOk-from_err c.from_residual.result _ c.from_residual.ensures.0
+
+pub returns-in_err-taken-clause-frontier : goal.returns-in_err-taken-clause-frontier
+returns-in_err-taken-clause-frontier g c = IfOk-from_err c.from_residual.result _ c.from_residual.ensures.0
+
+pub returns-in_err-taken-clause-running : goal.returns-in_err-taken-clause-running
+returns-in_err-taken-clause-running g c = IfOk-from_err c.from_residual.result _ c.from_residual.ensures.0
+
+pub loop-init : goal.loop-init
+loop-init g c =
+    rw c.in_ok-taken.ensures.items (record {
+      number = refl;
+      room = c.in_ok-taken.ensures.capacity;
+      queued = omega arith;
+      fewer = omega (arith, c.min-count.ensures, c.queued.ensures);
+      held = λ a. ap (times a) c.requires.none_in_hand;
+      unread = All-nil _;
+      same = refl;
+      least = none_leave c.args.board.now;
+      frontier = refl;
+      running = c.requires.running;
+    })
+
+pub push_reserved-requires : goal.push_reserved-requires
+push_reserved-requires g c = omega (arith, c.loop.taken.ok.0, c.loop.invariant.number, c.loop.invariant.room)
+
+pub returns-clause-number : goal.returns-clause-number
+returns-clause-number g c = omega (arith, c.loop.invariant.number, c.min-count.ensures, c.queued.ensures)
+
+pub returns-clause-held : goal.returns-clause-held
+returns-clause-held g c = c.loop.invariant.held
+
+pub returns-clause-unread : goal.returns-clause-unread
+returns-clause-unread g c = c.loop.invariant.unread
+
+pub returns-clause-same : goal.returns-clause-same
+returns-clause-same g c = c.loop.invariant.same
+
+pub returns-clause-least : goal.returns-clause-least
+returns-clause-least g c = c.loop.invariant.least
+
+pub returns-clause-frontier : goal.returns-clause-frontier
+returns-clause-frontier g c = c.loop.invariant.frontier
+
+pub returns-clause-running : goal.returns-clause-running
+returns-clause-running g c = c.loop.invariant.running

@@ -1,22 +1,108 @@
-use Rattle.jwalk.specs.ReadDirIter.{by_crew}
+use Rattle.std.proofs.Common.{false, refl, arith}
+use Rattle.jwalk_read.specs.ReadDir.{outcome}
+use Rattle.jwalk.specs.CrewReads as crew
 use Rattle.jwalk.proofs.KnownFacts.{tells_refusal}
 use Rattle.jwalk.proofs.GivesFacts.{fewer_done}
+use Rattle.jwalk.proofs.ResultFacts.{none_ok, on_err, tells_missed, enters_by_crew}
 use Rattle.jwalk.proofs.read_dir_iter.ReadDirIter.read_next.Goals as goal
 
-pub returns-in_err-read_next-in-Walk-clause-tells : goal.returns-in_err-read_next-in-Walk-clause-tells
-returns-in_err-read_next-in-Walk-clause-tells g c = tells_refusal (by_crew c.args.self.now) c.from_residual.result c.from_residual.ensures.1
+pub returns-in_err-read_next-in-Walk : goal.returns-in_err-read_next-in-Walk
+returns-in_err-read_next-in-Walk g c =
+    let old = c.in-Walk.walk in
+    let read = c.read_next in
+    let refused = c.in_err-read_next-in-Walk.ensures in
+    let told = c.from_residual in
+    rw c.in-Walk.is
+    (record {
+      crew = refl;
+      job = read.ensures.job;
+      width = read.ensures.width;
+      ahead = fewer_done old read.new.self old.width read.ensures.ahead;
+      tells = tells_refusal false told.result told.ensures.1;
+      some = on_err told.result refused.some;
+      stopped = on_err told.result refused.stopped;
+      nothing_ahead = on_err told.result refused.nothing_ahead;
+      steady = read.ensures.steady;
+      next = none_ok _ told.result told.ensures.0;
+      enters = none_ok _ told.result told.ensures.0;
+    })
 
-pub returns-in_err-read_next-in-ParWalk-clause-ahead : goal.returns-in_err-read_next-in-ParWalk-clause-ahead
-returns-in_err-read_next-in-ParWalk-clause-ahead g c =
-    rw c.in-ParWalk.is (fewer_done c.in-ParWalk.walk c.read_next-in-ParWalk.new.self c.in-ParWalk.walk.width c.read_next-in-ParWalk.ensures.ahead)
+pub returns-in_ok-read_next-in-Walk : goal.returns-in_ok-read_next-in-Walk
+returns-in_ok-read_next-in-Walk g c =
+    let old = c.in-Walk.walk in
+    let read = c.read_next in
+    let came = c.in_ok-read_next-in-Walk.ensures in
+    rw c.in-Walk.is
+    (record {
+      crew = refl;
+      job = read.ensures.job;
+      width = read.ensures.width;
+      ahead = fewer_done old read.new.self old.width read.ensures.ahead;
+      tells = tt;
+      some = tt;
+      stopped = tt;
+      nothing_ahead = tt;
+      steady = read.ensures.steady;
+      next = came.next;
+      enters = came.enters;
+    })
 
-pub returns-in_err-read_next-in-ParWalk-clause-tells : goal.returns-in_err-read_next-in-ParWalk-clause-tells
-returns-in_err-read_next-in-ParWalk-clause-tells g c = tells_refusal (by_crew c.args.self.now) c.from_residual-in_err-read_next-in-ParWalk.result c.from_residual-in_err-read_next-in-ParWalk.ensures.1
+pub returns-in_err-read_next-in-ParWalk : goal.returns-in_err-read_next-in-ParWalk
+returns-in_err-read_next-in-ParWalk g c =
+    let old = c.in-ParWalk.walk in
+    let read = c.read_next-in-ParWalk in
+    let refused = c.in_err-read_next-in-ParWalk.ensures in
+    let told = c.from_residual-in_err-read_next-in-ParWalk in
+    rw c.in-ParWalk.is
+    (record {
+      crew = refl;
+      job = read.ensures.job;
+      width = read.ensures.width;
+      ahead = fewer_done old read.new.self old.width read.ensures.ahead;
+      tells = tells_refusal false told.result told.ensures.1;
+      some = on_err told.result refused.some;
+      stopped = on_err told.result refused.stopped;
+      nothing_ahead = on_err told.result refused.nothing_ahead;
+      steady = read.ensures.steady;
+      next = none_ok _ told.result told.ensures.0;
+      enters = none_ok _ told.result told.ensures.0;
+    })
 
-pub returns-in_ok-read_next-in-Walk-clause-ahead : goal.returns-in_ok-read_next-in-Walk-clause-ahead
-returns-in_ok-read_next-in-Walk-clause-ahead g c =
-    rw c.in-Walk.is (fewer_done c.in-Walk.walk c.read_next.new.self c.in-Walk.walk.width c.read_next.ensures.ahead)
+pub returns-in_ok-read_next-in-ParWalk : goal.returns-in_ok-read_next-in-ParWalk
+returns-in_ok-read_next-in-ParWalk g c =
+    let old = c.in-ParWalk.walk in
+    let read = c.read_next-in-ParWalk in
+    let came = c.in_ok-read_next-in-ParWalk.ensures in
+    rw c.in-ParWalk.is
+    (record {
+      crew = refl;
+      job = read.ensures.job;
+      width = read.ensures.width;
+      ahead = fewer_done old read.new.self old.width read.ensures.ahead;
+      tells = tt;
+      some = tt;
+      stopped = tt;
+      nothing_ahead = tt;
+      steady = read.ensures.steady;
+      next = came.next;
+      enters = came.enters;
+    })
 
-pub returns-in_ok-read_next-in-ParWalk-clause-ahead : goal.returns-in_ok-read_next-in-ParWalk-clause-ahead
-returns-in_ok-read_next-in-ParWalk-clause-ahead g c =
-    rw c.in-ParWalk.is (fewer_done c.in-ParWalk.walk c.read_next-in-ParWalk.new.self c.in-ParWalk.walk.width c.read_next-in-ParWalk.ensures.ahead)
+pub returns-in-CrewWalk : goal.returns-in-CrewWalk
+returns-in-CrewWalk g c =
+    let reads = c.in-CrewWalk.reads in
+    let read = c.read_next-in-CrewWalk in
+    rw c.in-CrewWalk.is
+    (record {
+      crew = refl;
+      job = read.ensures.job;
+      width = refl;
+      ahead = omega arith;
+      tells = tells_missed read.result;
+      some = read.ensures.some;
+      stopped = read.ensures.stopped;
+      nothing_ahead = on_err read.result refl;
+      steady = λ value steady. steady;
+      next = read.ensures.next;
+      enters = enters_by_crew g.S.FileSystem g.P.ProcessReadDir g.C.ReadDirState.Clone g.C.DirEntryState.Default (crew.job_of reads) (crew.next_address reads) outcome read.result;
+    })

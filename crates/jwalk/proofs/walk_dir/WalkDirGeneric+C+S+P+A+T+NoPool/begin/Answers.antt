@@ -1,5 +1,4 @@
 use Rattle.std.proofs.Common.{◌≡◌, ◌∙◌, ap}
-use Rattle.walk_model.specs.Entry.{AtDepth}
 use Rattle.walk_model.specs.Options.{Options}
 use Rattle.walk_model.specs.Listing.{paired}
 use Rattle.walk_model.specs.Counted.{Worth}
@@ -10,11 +9,8 @@ use Rattle.jwalk_read.specs.Given.{counted_reading}
 use Rattle.jwalk_read.specs.Job.{file_system, callback, options_of, job_by, IsSteady}
 use Rattle.jwalk.specs.DirEntryIter.{held_by}
 use Rattle.jwalk.specs.WalkDir.{job_for, file_system_of, root_of, state_of}
-use Rattle.jwalk.proofs.BeginFacts.{held_view, by_flag, if_some_of}
+use Rattle.jwalk.proofs.BeginFacts.{held_view, by_flag}
 use Rattle.jwalk.proofs.walk_dir.WalkDirGeneric+C+S+P+A+T+NoPool.begin.Goals as goal
-
-pub from_root-requires : goal.from_root-requires
-from_root-requires g c = if_some_of (λ r. AtDepth 0 (reading r).list) c.root_list-read.result c.ok.result c.ok.ensures.value c.root_list-read.ensures.depth
 
 pub returns-clause-starts : goal.returns-clause-starts
 returns-clause-starts g c =

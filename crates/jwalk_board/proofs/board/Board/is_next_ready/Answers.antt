@@ -1,4 +1,5 @@
-use Rattle.std.proofs.Common.{rules, ◌≡◌, ◌≢◌, [], IsTrue, subst}
+use Rattle.std.proofs.Common.{rules, ◌≡◌, ◌≢◌, [], IsTrue, subst, sym, ◌∙◌}
+use Rattle.std.proofs.lemmas.Bool.{false≢true}
 use Rattle.jwalk_order.specs.Frontier.{next_address}
 use Rattle.jwalk_order.specs.Ordered.{address_of}
 use Rattle.jwalk_board.specs.Addresses.{IsAmong}
@@ -8,7 +9,7 @@ use Rattle.jwalk_board.proofs.board.Board.is_next_ready.Goals as goal
 
 pub returns-then-not-is_none : goal.returns-then-not-is_none
 returns-then-not-is_none g c =
-    let some : c.self.inside.matcher ≢ [] = search rules in
+    let some : c.self.inside.matcher ≢ [] = λ empty. false≢true (sym c.if-not-is_none.true ∙ c.is_none.ensures.1 empty) in
     let forth : IsTrue c.eq.result → address_of c.in-Some.least.now ≡ next_address c.self.inside.matcher = search rules in
     let back : address_of c.in-Some.least.now ≡ next_address c.self.inside.matcher → IsTrue c.eq.result = search rules in
     rw (← c.self.view_is) (
@@ -18,6 +19,5 @@ returns-then-not-is_none g c =
 
 pub returns-else-not-is_none : goal.returns-else-not-is_none
 returns-else-not-is_none g c =
-    let is_none : IsTrue c.is_none.result = search rules in
-    let none : c.self.inside.matcher ≡ [] = c.is_none.ensures.0 is_none in
+    let none : c.self.inside.matcher ≡ [] = c.is_none.ensures.0 c.if-not-is_none.false in
     rw (← c.self.view_is) (search rules, λ ready. absurd (ready.0 none))

@@ -3,6 +3,7 @@ use Rattle.std.proofs.lemmas.Bool.{false≢true}
 use Rattle.std.proofs.lemmas.Option.{slice_get-map}
 use Rattle.std.specs.List.{slice_get}
 use Rattle.std.specs.Option.{option_map}
+use Rattle.std.proofs.lemmas.Result.{IfOk-from_err}
 use Rattle.jwalk_order.specs.IndexPath.{address}
 use Rattle.jwalk_board.specs.Rehearsal.{Follows}
 use Rattle.jwalk_board.specs.Run.{finish_by}
@@ -60,3 +61,30 @@ returns-in-Ok-clause-follows g c = λ given fixed roots r f.
     stage_as t roots (finish_by r k (slice_get r.hands k)) _ _ _ _ _ _ _ _ (ap (λ z. map (option_map (seen_item v)) (set hands.items k z)) c.take.ensures.after) refl refl refl
     (played_finish v w t falls roots r hands.items (map (seen_item w) done.handed_out.items) (map address done.taken.items) done.board c.finish.new.self k c.in-Some.item
     c.in_ok-reading.reading c.in_ok-reading.children.items f holds (c.in_ok-reading.ensures.reading given fixed) (c.in_ok-reading.ensures.children given fixed) c.in-Ok.ensures.finished)
+
+pub returns-then-worker-len-clause-kept : goal.returns-then-worker-len-clause-kept
+returns-then-worker-len-clause-kept g c = c.requires.under_way
+
+pub index_mut-requires : goal.index_mut-requires
+index_mut-requires g c = subst (λ n. c.args.worker < n) c.len.ensures c.if-worker-len.false
+
+pub returns-in_default-clause-kept : goal.returns-in_default-clause-kept
+returns-in_default-clause-kept g c =
+    let hands = c.args.stage.now.hands in
+    let k = c.args.worker in
+    let there : k < length hands.items = omega (arith, hands.ok.0, c.len.ensures) in
+    let free = get_read hands.items k c.index_mut.result.now there c.index_mut.ensures.value ∙ ap Some (sym c.take.ensures.value ∙ c.in_default.is) in
+    let same : set hands.items k c.take.new.self ≡ hands.items = ap (set hands.items k) c.take.ensures.after ∙ set_same hands.items k None free in
+    subst (λ l. IsUnderWay l c.args.stage.now.done.board) (sym same) c.requires.under_way
+
+pub returns-in_err-reading-clause-kept : goal.returns-in_err-reading-clause-kept
+returns-in_err-reading-clause-kept g c = IfOk-from_err c.from_residual.result _ c.from_residual.ensures.0
+
+pub returns-in_err-reading-clause-follows : goal.returns-in_err-reading-clause-follows
+returns-in_err-reading-clause-follows g c = λ given fixed roots r f. IfOk-from_err c.from_residual.result _ c.from_residual.ensures.0
+
+pub returns-in-Err-clause-kept : goal.returns-in-Err-clause-kept
+returns-in-Err-clause-kept g c = tt
+
+pub returns-in-Err-clause-follows : goal.returns-in-Err-clause-follows
+returns-in-Err-clause-follows g c = λ given fixed roots r f. tt

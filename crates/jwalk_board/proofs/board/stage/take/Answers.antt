@@ -4,6 +4,7 @@ use Rattle.std.proofs.lemmas.List.{map-append}
 use Rattle.std.proofs.lemmas.Option.{slice_get-map}
 use Rattle.std.specs.List.{slice_get}
 use Rattle.std.specs.Option.{option_map}
+use Rattle.std.proofs.lemmas.Result.{IfOk-from_err}
 use Rattle.jwalk_order.specs.IndexPath.{address}
 use Rattle.jwalk_board.specs.Addressed.{addresses_of}
 use Rattle.jwalk_board.specs.Plan.{specs_in_preorder}
@@ -61,3 +62,15 @@ returns-in-Err-2-clause-follows g c = λ given t roots r falls f.
     let same = take_refused v w t falls roots r _ _ _ _ k c.in-Err.refusal f e c.in-Err.ensures.refused (λ q. false≢true (sym c.if-is_memory.false ∙ c.is_memory.ensures.1 q)) in
     stage_as t roots (take_by (addresses_of (specs_in_preorder t roots)) r k (slice_get r.hands k)) _ _ _ _ _ _ _ _ refl refl refl (ap (seen_board v w) c.in-Err.ensures.unchanged)
     (subst (λ z. Follows t roots z (stage_of v w c.args.stage.now)) (sym same) f)
+
+pub returns-in_err-try_clone-in-Ok-clause-kept : goal.returns-in_err-try_clone-in-Ok-clause-kept
+returns-in_err-try_clone-in-Ok-clause-kept g c = IfOk-from_err c.from_residual.result _ c.from_residual.ensures.0
+
+pub returns-in_err-try_clone-in-Ok-clause-follows : goal.returns-in_err-try_clone-in-Ok-clause-follows
+returns-in_err-try_clone-in-Ok-clause-follows g c = λ given t roots r falls f. IfOk-from_err c.from_residual.result _ c.from_residual.ensures.0
+
+pub returns-in_err-push-in-Ok-clause-kept : goal.returns-in_err-push-in-Ok-clause-kept
+returns-in_err-push-in-Ok-clause-kept g c = IfOk-from_err c.from_residual-in_err-push-in-Ok.result _ c.from_residual-in_err-push-in-Ok.ensures.0
+
+pub returns-in_err-push-in-Ok-clause-follows : goal.returns-in_err-push-in-Ok-clause-follows
+returns-in_err-push-in-Ok-clause-follows g c = λ given t roots r falls f. IfOk-from_err c.from_residual-in_err-push-in-Ok.result _ c.from_residual-in_err-push-in-Ok.ensures.0

@@ -1,4 +1,5 @@
-use Rattle.std.proofs.Common.{ap}
+use Rattle.std.proofs.Common.{ap, refl}
+use Rattle.std.proofs.lemmas.List.Elements.{All-nil}
 use Rattle.jwalk_read.specs.ReadDir.{spec}
 use Rattle.jwalk_engine.specs.Reads.{spec_of}
 use Rattle.jwalk_engine.proofs.Steps.{gives-new}
@@ -10,3 +11,23 @@ returns-in-Ok-clause-to_read g c = ap (λ left. left.to_read) (gives-new spec sp
 
 pub returns-in-Ok-clause-read_ahead : goal.returns-in-Ok-clause-read_ahead
 returns-in-Ok-clause-read_ahead g c = begins c.args.roots.items c.in-Ok.board c.in-Ok.ensures.made
+
+pub invariant_of-self : goal.invariant_of-self
+invariant_of-self g c =
+    let new = c.in-Ok.ensures.made in
+    (c.self.invariant.0, record { running = new.running; none_in_hand = new.in_hand; made = rw new.ready (All-nil _) })
+
+pub invariant_of-self-in-Err : goal.invariant_of-self-in-Err
+invariant_of-self-in-Err g c = (c.self.invariant.0, tt)
+
+pub returns-in-Ok-clause-early : goal.returns-in-Ok-clause-early
+returns-in-Ok-clause-early g c = rw c.in-Ok.ensures.made.ready refl
+
+pub returns-clause-early : goal.returns-clause-early
+returns-clause-early g c = refl
+
+pub returns-clause-stopped : goal.returns-clause-stopped
+returns-clause-stopped g c = refl
+
+pub returns-clause-nothing_ahead : goal.returns-clause-nothing_ahead
+returns-clause-nothing_ahead g c = refl

@@ -1,4 +1,4 @@
-use Rattle.std.proofs.Common.{◌+◌, ◌++◌, ◌∷◌, [], map, ap, ◌∙◌}
+use Rattle.std.proofs.Common.{◌+◌, ◌++◌, ◌∷◌, [], map, ap, sym, ◌∙◌, append-nil}
 use Rattle.std.proofs.lemmas.List.{map-append}
 use Rattle.walk_model.proofs.HeldFacts.{AtDepth-append}
 use Rattle.jwalk_read.specs.Entry.{item}
@@ -19,3 +19,12 @@ returns-in_ok-push-in-Some-clause-value g c = λ given fixed default.
     let added = c.in-Some.item ∷ [] in
     let is = rw c.in-Some.is at (c.in_ok-item.ensures.value given fixed default) in
     ap (counted_list given) c.in_ok-push-in-Some.ensures.items ∙ counted-append given old added ∙ ap (λ l. counted_list given old ++ l) is
+
+pub returns-in-None-clause-depth : goal.returns-in-None-clause-depth
+returns-in-None-clause-depth g c = λ before. before
+
+pub returns-in-None-clause-value : goal.returns-in-None-clause-value
+returns-in-None-clause-value g c = λ given fixed default.
+    let old = c.args.items.now.items in
+    let is = rw c.in-None.is at (c.in_ok-item.ensures.value given fixed default) in
+    sym (append-nil (counted_list given old)) ∙ ap (λ l. counted_list given old ++ l) is

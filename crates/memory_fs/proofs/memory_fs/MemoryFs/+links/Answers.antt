@@ -1,13 +1,14 @@
-use Rattle.std.proofs.Common.{◌≡◌, ℕ, true, List, [], ◌++◌, map, length, eqb, Some, Err, sym, ap, subst, ◌∙◌, arith}
+use Rattle.std.proofs.Common.{◌≡◌, ℕ, true, List, [], ◌++◌, map, length, eqb, Some, Err, sym, ap, subst, ◌∙◌, arith, ◌∷◌, ◌≤◌, None}
 use Rattle.std.proofs.lemmas.Bool.{false≢true, eqb-true}
 use Rattle.std.proofs.lemmas.List.{nil_from_length}
-use Rattle.std.proofs.lemmas.Result.{err_from_is_err_and}
+use Rattle.std.proofs.lemmas.Result.{err_from_is_err_and, IfOk-from_err, IfOk-weaker}
 use Rattle.std.specs.Path.{path_components, components_remaining}
 use Rattle.walk_model.specs.PathTexts.{component_read, component_seen, components_left}
+use Rattle.walk_model.specs.Paths.{Component}
 use Rattle.walk_model.proofs.PathFacts.{path_components-read, next_read}
 use Rattle.memory_fs.specs.declared.hit.Hit.{Hit as CodeHit}
 use Rattle.memory_fs.specs.Hit.{hit_seen, answer_seen}
-use Rattle.memory_fs.specs.Branch.{go_on, reached, LinkLeadsOn}
+use Rattle.memory_fs.specs.Branch.{go_on, reached, LinkLeadsOn, IsWithin}
 use Rattle.memory_fs.specs.Table.{branches}
 use Rattle.memory_fs.proofs.WalkLemmas.{no_target, by_target, IsReady, ready-link, ready-plain, walk_on}
 use Rattle.memory_fs.proofs.memory_fs.MemoryFs.+links.Goals as goal
@@ -84,3 +85,79 @@ walk-loop-component-preserved g t c =
           (components_left c.args.components) (components_left c.loop-component.component-iterator) (components_left c.next.new.self) (component_seen c.in-Some.component) c.step.result
           c.loop-component.invariant.2 (next_read (components_remaining c.loop-component.component-iterator) (components_remaining c.next.new.self) (Some c.in-Some.component) c.in-Some.ensures.steps) ready c.step.ensures.value follow rest,
     )
+
+pub followed-returns-in_err-hit-clause-settled : goal.followed-returns-in_err-hit-clause-settled
+followed-returns-in_err-hit-clause-settled g t c = IfOk-from_err c.from_residual.result _ c.from_residual.ensures.0
+
+pub followed-returns-in_err-hit-clause-within : goal.followed-returns-in_err-hit-clause-within
+followed-returns-in_err-hit-clause-within g t c = IfOk-from_err c.from_residual.result _ c.from_residual.ensures.0
+
+pub followed-returns-in_err-hit-clause-fewer : goal.followed-returns-in_err-hit-clause-fewer
+followed-returns-in_err-hit-clause-fewer g t c = IfOk-from_err c.from_residual.result _ c.from_residual.ensures.0
+
+pub followed-returns-in-Link-clause-settled : goal.followed-returns-in-Link-clause-settled
+followed-returns-in-Link-clause-settled g t c = c.followed.ensures.settled
+
+pub followed-returns-in-Link-clause-within : goal.followed-returns-in-Link-clause-within
+followed-returns-in-Link-clause-within g t c = c.followed.ensures.within
+
+pub followed-returns-in-Link-clause-fewer : goal.followed-returns-in-Link-clause-fewer
+followed-returns-in-Link-clause-fewer g t c =
+    IfOk-weaker c.followed.result (λ (r : CodeHit × ℕ). r.1 ≤ c.in_ok-hit.left) (λ (r : CodeHit × ℕ). r.1 ≤ c.args.links) (λ r h. omega (arith, h, c.in_ok-hit.ensures.fewer))
+    c.followed.ensures.fewer
+
+pub followed-returns-in-Dir-clause-within : goal.followed-returns-in-Dir-clause-within
+followed-returns-in-Dir-clause-within g t c = c.in_ok-hit.ensures.within
+
+pub followed-returns-in-Dir-clause-fewer : goal.followed-returns-in-Dir-clause-fewer
+followed-returns-in-Dir-clause-fewer g t c = omega (arith, c.in_ok-hit.ensures.fewer)
+
+pub followed-returns-in-File-clause-within : goal.followed-returns-in-File-clause-within
+followed-returns-in-File-clause-within g t c = c.in_ok-hit.ensures.within
+
+pub followed-returns-in-File-clause-fewer : goal.followed-returns-in-File-clause-fewer
+followed-returns-in-File-clause-fewer g t c = omega (arith, c.in_ok-hit.ensures.fewer)
+
+pub walk-returns-in_err-end-clause-value : goal.walk-returns-in_err-end-clause-value
+walk-returns-in_err-end-clause-value g t c = λ follow left.
+    let table = branches c.args.self.now.table in
+    let rest = component_seen c.in-Some.component ∷ components_left c.next.new.self ++ left in
+    let p = err_from_is_err_and c.from_residual.result c.from_residual.ensures.1 in
+    sym (c.loop-component.invariant.2 follow left)
+    ∙ ap (λ (cs : List Component). reached table follow c.loop-component.left (hit_seen c.loop-component.hit) (cs ++ left))
+    (next_read (components_remaining c.loop-component.component-iterator) (components_remaining c.next.new.self) (Some c.in-Some.component) c.in-Some.ensures.steps)
+    ∙ ap (λ (h : CodeHit). reached table follow c.loop-component.left (hit_seen h) rest) c.in-Link.is
+    ∙ c.followed.ensures.value follow rest tt
+    ∙ ap (go_on (λ (r : CodeHit × ℕ). reached table follow r.1 (hit_seen r.0) rest)) c.in_err-end.was
+    ∙ sym (ap (go_on (λ (r : CodeHit × ℕ). reached table follow r.1 (hit_seen r.0) left)) (p.1 ∙ ap (λ e. Err e) p.2))
+
+pub walk-returns-in_err-end-clause-within : goal.walk-returns-in_err-end-clause-within
+walk-returns-in_err-end-clause-within g t c = IfOk-from_err c.from_residual.result _ c.from_residual.ensures.0
+
+pub walk-returns-in_err-end-clause-fewer : goal.walk-returns-in_err-end-clause-fewer
+walk-returns-in_err-end-clause-fewer g t c = IfOk-from_err c.from_residual.result _ c.from_residual.ensures.0
+
+pub walk-returns-in_err-hit-clause-within : goal.walk-returns-in_err-hit-clause-within
+walk-returns-in_err-hit-clause-within g t c = IfOk-from_err c.from_residual-in_err-hit.result _ c.from_residual-in_err-hit.ensures.0
+
+pub walk-returns-in_err-hit-clause-fewer : goal.walk-returns-in_err-hit-clause-fewer
+walk-returns-in_err-hit-clause-fewer g t c = IfOk-from_err c.from_residual-in_err-hit.result _ c.from_residual-in_err-hit.ensures.0
+
+pub walk-returns-clause-value : goal.walk-returns-clause-value
+walk-returns-clause-value g t c = λ follow left.
+    sym (c.loop-component.invariant.2 follow left)
+    ∙ ap (λ (cs : List Component). reached (branches c.args.self.now.table) follow c.loop-component.left (hit_seen c.loop-component.hit) (cs ++ left))
+    (next_read (components_remaining c.loop-component.component-iterator) (components_remaining c.next.new.self) None c.in-None.ensures.steps).0
+
+pub walk-returns-clause-within : goal.walk-returns-clause-within
+walk-returns-clause-within g t c = c.loop-component.invariant.0
+
+pub walk-returns-clause-fewer : goal.walk-returns-clause-fewer
+walk-returns-clause-fewer g t c = c.loop-component.invariant.1
+
+pub walk-step-requires : goal.walk-step-requires
+walk-step-requires g t c =
+    elim c.match-hit.branch [
+      | walk-in-Link+in_ok-end w ↦ subst (λ (h : CodeHit). IsWithin (branches c.args.self.now.table) (hit_seen h)) (sym w.hit-is) w.in_ok-end.ensures.within
+      | walk-in_default w ↦ subst (λ (h : CodeHit). IsWithin (branches c.args.self.now.table) (hit_seen h)) (sym w.hit-is) c.loop-component.invariant.0
+    ]

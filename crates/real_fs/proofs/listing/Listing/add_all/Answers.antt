@@ -1,4 +1,5 @@
 use Rattle.std.proofs.Common.{◌++◌, [], ◌∷◌, sym, ◌∙◌}
+use Rattle.real_fs.proofs.FaultFacts.{on_ok_at_err}
 use Rattle.real_fs.proofs.ListingFacts.{adds_on, gone_child, gone_other}
 use Rattle.real_fs.proofs.listing.Listing.add_all.Goals as goal
 
@@ -24,3 +25,6 @@ loop-left-preserved g c =
         gone_other so_far.0 c.args.names.now c.loop-left.left.now c.split_name.result.0.now c.split_name.result.1.now so_far.1.1 c.split_name.ensures.name c.split_name.ensures.rest test,
       ),
     )
+
+pub returns-in_err-add : goal.returns-in_err-add
+returns-in_err-add g c = on_ok_at_err c.from_residual.result _ _ c.from_residual.ensures.1

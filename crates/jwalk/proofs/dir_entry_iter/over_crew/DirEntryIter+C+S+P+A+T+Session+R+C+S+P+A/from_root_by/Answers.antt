@@ -1,4 +1,4 @@
-use Rattle.std.proofs.Common.{option_map, ap, ◌∙◌}
+use Rattle.std.proofs.Common.{option_map, inl, inr, refl, ap, ◌∙◌}
 use Rattle.walk_model.specs.Entry.{AtDepth}
 use Rattle.jwalk_read.specs.Options as options
 use Rattle.jwalk_read.specs.ReadDir.{reading}
@@ -21,3 +21,12 @@ returns-in-Err-clause-from_root g c =
     let is = c.refused-in-Err.ensures in
     let same = c.in-Err.ensures in
     refused_from_root g.C.ReadDirState.Clone (option_map reading c.args.read) c.args.job c.refused-in-Err.result is.own (is.job ∙ same) is.refused is.items is.unread (is.width ∙ ap (λ j. options.width_of (options_of j).parallelism) same) is.early
+
+pub returns-in_default-clause-by : goal.returns-in_default-clause-by
+returns-in_default-clause-by g c = inl refl
+
+pub returns-in-Ok-clause-by : goal.returns-in-Ok-clause-by
+returns-in-Ok-clause-by g c = inr c.with_reads.ensures.by
+
+pub returns-in-Err-clause-by : goal.returns-in-Err-clause-by
+returns-in-Err-clause-by g c = inl refl

@@ -1,6 +1,6 @@
 use Rattle.std.proofs.Common.{heap_items, length, ◌<◌, ◌∷◌, refl, arith}
 use Rattle.std.proofs.lemmas.Option.{IfSome_then}
-use Rattle.jwalk_board.proofs.Tops.{first_from_bound, among_from_top, first-of_front, if_some_with}
+use Rattle.jwalk_board.proofs.Tops.{first_from_bound, among_from_top, first-of_front, if_some_with, top_addressed}
 use Rattle.jwalk_board.proofs.board.address_heap.AddressHeap.peek.Goals as goal
 
 pub returns-in-Some-clause-some : goal.returns-in-Some-clause-some
@@ -23,3 +23,14 @@ pub returns-in-None-clause-least : goal.returns-in-None-clause-least
 returns-in-None-clause-least g c =
     rw (← c.self.view_is, c.in-None.is)
     (IfSome_then c.peek.result c.peek.ensures.greatest (λ x h. first_from_bound x.now (heap_items c.self.inside.others) (h c.self.invariant.0)))
+
+pub returns-in-Some-clause-top : goal.returns-in-Some-clause-top
+returns-in-Some-clause-top g c = rw (← c.self.view_is, c.in-Some.is) refl
+
+pub returns-in-Some-clause-none : goal.returns-in-Some-clause-none
+returns-in-Some-clause-none g c = tt
+
+pub returns-in-None-clause-top : goal.returns-in-None-clause-top
+returns-in-None-clause-top g c =
+    rw (← c.self.view_is, c.in-None.is)
+    (IfSome_then c.peek.result c.peek.ensures.lookup (λ x first. top_addressed x.now (heap_items c.self.inside.others) first))
