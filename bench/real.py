@@ -9,8 +9,8 @@ none is given). All of a tree's programs take turns, each with its output in a f
 doesn't count. A time is the best of five turns, and its ratio that of two such times; the ratio of processor times is the
 median of the turns' ratios. A peak of memory is that of the last turn, and no less than this script's own. The walk by name
 of /usr takes turns with the walk in the disk's order. In brackets is what the walk is to take at most. Walks in batches of
-each width, and over crews of so many workers, take turns with the serial one. The tree in memory is read from the program's
-input: 10,101 directories, and the time to read it and to build it is in each of its times.
+each width, and over crews of so many workers, take turns with the serial one and with the other programs. The tree in
+memory is read from the program's input: 10,101 directories, and the time to read it and to build it is in each of its times.
 """
 import os
 import shutil
@@ -153,18 +153,19 @@ def ways():
         yield ["--crew", str(workers)]
 
 
-def side_by_side(tree, words, output, input_path=os.devnull):
-    """A walk in each way, by turns, beside the serial one and the best of the batches."""
+def side_by_side(tree, words, output, input_path=os.devnull, others=()):
+    """A walk in each way, by turns, beside the serial one, the best of the batches, and `find` if it is among the others."""
     commands = [(" ".join(way) or "serial", [*words[:-1], *way, words[-1]]) for way in ways()]
-    runs, lines = turns(commands, output, input_path)
-    if len(set(lines.values())) > 1:
+    runs, lines = turns([*commands, *others], output, input_path)
+    if len({lines[name] for name, _ in commands}) > 1:
         sys.exit(f"{tree}: not all ways print as many lines: {lines}")
     serial = runs["serial"]
     batch = min((of for name, of in runs.items() if name.startswith("--batch")), key=best)
     for name, of in runs.items():
+        find = f"{best(of) / best(runs['find']):>8.2f}" if "find" in runs else f"{'-':>8}"
         print(
             f"{tree:<8}{name:<12}{best(of) * 1e3:>10.1f}{best(of) / best(serial):>9.2f}{best(of) / best(batch):>8.2f}"
-            f"{processor_ratio(of, serial):>8.2f}{of[-1][2] / 1024:>8.1f}"
+            f"{find}{processor_ratio(of, serial):>8.2f}{of[-1][2] / 1024:>8.1f}"
         )
 
 
@@ -177,9 +178,10 @@ def main():
     for tree, root, bound in trees(folder):
         compare(tree, root, bound, walk, output)
     by_name(walk, output)
-    print(f"{'tree':<8}{'way':<12}{'ms':>10}{'x serial':>9}{'x batch':>8}{'cpu x':>8}{'MiB':>8}")
+    print(f"{'tree':<8}{'way':<12}{'ms':>10}{'x serial':>9}{'x batch':>8}{'x find':>8}{'cpu x':>8}{'MiB':>8}")
     for tree, root, _ in trees(folder):
-        side_by_side(tree, [walk, "--hidden", root], output)
+        others = [(name, words) for name, words in programs(walk, root) if name != "walk"]
+        side_by_side(tree, [walk, "--hidden", root], output, others=others)
     side_by_side("memory", [walk, "--tree", "/r"], output, in_memory(folder))
     if len(sys.argv) < 2:
         subprocess.run(["rm", "-rf", folder], check=True)
