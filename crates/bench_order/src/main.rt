@@ -3,83 +3,73 @@
 //! a digest of the addresses in the order in which they came.
 #![tactic(auto)]
 
-mod board_run;
 mod digest;
-mod failure;
 mod heap_run;
-mod queue_run;
+mod jwalk_run;
 mod scrambled;
 mod tree;
-mod words;
 
-use crate::board_run::run_board;
 use crate::digest::Digest;
-use crate::failure::Failure;
 use crate::heap_run::{run_heap, run_tree_heap};
-use crate::queue_run::run_queue;
+use crate::jwalk_run::{run_board, run_queue};
 use crate::scrambled::scrambled_addresses;
 use crate::tree::Tree;
-use crate::words::{Part, Shape, TreeShape, parse_job};
 use std::alloc::Global;
 use std::env;
 use std::process::ExitCode;
 
-/// A job on scrambled addresses.
-fn run_scrambled(alloc: Global, part: Part, count: usize) -> Result<Digest, Failure> {
+/// A job on scrambled addresses. The part `input` makes what the others work on, and nothing else.
+fn run_scrambled(alloc: Global, part: &str, count: usize) -> Option<Digest> {
     let addresses = scrambled_addresses(alloc, count)?;
     match part {
-        Part::Input => Ok(Digest::new()),
-        Part::Heap => run_heap(alloc, addresses),
-        Part::Jwalk => run_queue(alloc, addresses),
+        "input" => Some(Digest::new()),
+        "heap" => run_heap(alloc, addresses),
+        "jwalk" => run_queue(alloc, addresses),
+        _ => None,
     }
 }
 
 /// A job on a tree.
-fn run_tree(alloc: Global, part: Part, shape: TreeShape, count: usize) -> Result<Digest, Failure> {
-    let tree = Tree::new(alloc, shape, count)?;
+fn run_tree(alloc: Global, part: &str, tree: &Tree) -> Option<Digest> {
     match part {
-        Part::Input => Ok(Digest::new()),
-        Part::Heap => run_tree_heap(alloc, &tree),
-        Part::Jwalk => run_board(alloc, &tree),
+        "input" => Some(Digest::new()),
+        "heap" => run_tree_heap(alloc, tree),
+        "jwalk" => run_board(alloc, tree),
+        _ => None,
     }
 }
 
 /// Does the job that three words ask for.
-fn run_job(alloc: Global, words: &[String]) -> Result<Digest, Failure> {
+fn run_job(alloc: Global, words: &[String]) -> Option<Digest> {
     let [part, shape, count] = words else {
-        return Err(Failure::BadWords);
+        return None;
     };
-    let Some(job) = parse_job(part.as_str(), shape.as_str(), count.as_str()) else {
-        return Err(Failure::BadWords);
-    };
-    match job.shape {
-        Shape::Scrambled => run_scrambled(alloc, job.part, job.count),
-        Shape::Tree(shape) => run_tree(alloc, job.part, shape, job.count),
+    let count = count.parse::<u32>().ok()? as usize;
+    if shape.as_str() == "scrambled" {
+        return run_scrambled(alloc, part.as_str(), count);
     }
+    let tree = Tree::new(alloc, shape.as_str(), count)?;
+    run_tree(alloc, part.as_str(), &tree)
 }
 
-/// Does the jobs one after another, and prints a line for each.
-fn run(rt: &HostRuntime) -> Result<(), Failure> {
-    let Ok(args) = env::args(rt) else {
-        return Err(Failure::BadWords);
-    };
-    let words: Vec<String> = args.skip(1).collect(rt.alloc())?;
+/// Does the jobs one after another, and prints a line for each. None at the first that can't be done.
+fn run(rt: &HostRuntime) -> Option<()> {
+    let args = env::args(rt).ok()?;
+    let words: Vec<String> = args.skip(1).collect(rt.alloc()).ok()?;
     for job in words.chunks(3) {
         let digest = run_job(rt.alloc(), job)?;
         for word in job {
-            print!(rt; "{word} ")?;
+            print!(rt; "{word} ").ok()?;
         }
-        println!(rt; "{}", digest.value())?;
+        println!(rt; "{}", digest.value).ok()?;
     }
-    Ok(())
+    Some(())
 }
 
 fn main(rt: HostRuntime) -> ExitCode {
-    match run(&rt) {
-        Ok(()) => ExitCode::SUCCESS,
-        Err(failure) => {
-            let _ = eprintln!(rt; "bench_order: {failure}");
-            ExitCode::from(failure.status())
-        }
+    if run(&rt).is_some() {
+        return ExitCode::SUCCESS;
     }
+    let _ = eprintln!(rt; "bench_order: a job can't be done");
+    ExitCode::FAILURE
 }

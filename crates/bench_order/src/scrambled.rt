@@ -1,45 +1,31 @@
 //! Addresses in an order that looks random.
-ghost use Rattle.std.specs.Prelude.{◌≡◌, IfOk, vec_len};
-ghost use Rattle.std.specs.List.Sorted.{IsPermutation};
-
-use std::alloc::{AllocError, Global};
+use std::alloc::Global;
 
 /// The address of the node with this number, where the nodes of a tree are numbered from 0, level by level, and each has
 /// ten children.
-fn address(alloc: Global, number: usize) -> Result<Vec<usize>, AllocError> {
+fn address(alloc: Global, number: usize) -> Option<Vec<usize>> {
     let mut indices = Vec::new(alloc);
     let mut node = number;
     while node > 0 {
-        indices.push((node - 1) % 10)?;
+        indices.push((node - 1) % 10).ok()?;
         node = (node - 1) / 10;
     }
-    indices.push(0)?;
+    indices.push(0).ok()?;
     indices.reverse();
-    Ok(indices)
+    Some(indices)
 }
 
-/// Numbers in an order that looks random, and is the same each time.
-fn scramble(mut numbers: Vec<usize>) -> Vec<usize>
-    ensures { IsPermutation numbers.items result.items }
-{
+/// The addresses of the first nodes, in an order that looks random and is the same each time.
+pub fn scrambled_addresses(alloc: Global, count: usize) -> Option<Vec<Vec<usize>>> {
+    let mut addresses = Vec::new(alloc);
     let mut state: u64 = 1;
-    for i in 1..numbers.len() {
+    for number in 0..count {
+        addresses.push(address(alloc, number)?).ok()?;
         state = state
             .wrapping_mul(6364136223846793005)
             .wrapping_add(1442695040888963407);
-        numbers.swap(i, (state >> 33) as usize % (i + 1));
+        let last = addresses.len() - 1;
+        addresses.swap(last, (state >> 33) as usize % addresses.len());
     }
-    numbers
-}
-
-/// The addresses of the first nodes, scrambled.
-pub fn scrambled_addresses(alloc: Global, count: usize) -> Result<Vec<Vec<usize>>, AllocError>
-    ensures { IfOk result (λ addresses. vec_len addresses ≡ count) }
-{
-    let numbers = scramble((0..count).collect(alloc)?);
-    let mut addresses = Vec::new(alloc);
-    for number in numbers.iter() {
-        addresses.push(address(alloc, *number)?)?;
-    }
-    Ok(addresses)
+    Some(addresses)
 }

@@ -1,6 +1,5 @@
 //! Trees of directories.
-use crate::words::TreeShape;
-use std::alloc::{AllocError, Global};
+use std::alloc::Global;
 
 /// A tree by its numbers of children.
 #[derive(Drop)]
@@ -11,29 +10,32 @@ pub struct Tree {
 }
 
 /// How many directories lie at and below each root of a tree with so many.
-fn root_sizes(alloc: Global, shape: TreeShape, count: usize) -> Result<Vec<usize>, AllocError> {
+fn root_sizes(alloc: Global, shape: &str, count: usize) -> Option<Vec<usize>> {
     match shape {
-        TreeShape::Wide | TreeShape::Bushy => Ok(vec![in alloc; count]?),
-        TreeShape::Chains => vec![in alloc; 100; count / 100],
+        "wide" | "bushy" => vec![in alloc; count].ok(),
+        "chains" => vec![in alloc; 100; count / 100].ok(),
+        _ => None,
     }
 }
 
-/// How many lie at and below each child of a directory that has so many below it.
-fn child_sizes(alloc: Global, shape: TreeShape, below: usize) -> Result<Vec<usize>, AllocError> {
+/// How many lie at and below each child of a directory that has so many below it: in `wide` trees one directory has all
+/// others in it, in `bushy` ones each has ten as long as there are as many, and in `chains` a hundred are in one another.
+fn child_sizes(alloc: Global, shape: &str, below: usize) -> Option<Vec<usize>> {
     match shape {
-        TreeShape::Wide => vec![in alloc; 1; below],
-        TreeShape::Bushy => (0..10)
+        "wide" => vec![in alloc; 1; below].ok(),
+        "bushy" => (0..10)
             .map(|i| below / 10 + usize::from(i < below % 10))
             .filter(|size| *size > 0)
-            .collect(alloc),
-        TreeShape::Chains if below > 0 => Ok(vec![in alloc; below]?),
-        TreeShape::Chains => Ok(Vec::new(alloc)),
+            .collect(alloc)
+            .ok(),
+        _ if below > 0 => vec![in alloc; below].ok(),
+        _ => Some(Vec::new(alloc)),
     }
 }
 
 impl Tree {
     /// A tree with so many directories. Of chains there are only full ones.
-    pub fn new(alloc: Global, shape: TreeShape, count: usize) -> Result<Self, AllocError> {
+    pub fn new(alloc: Global, shape: &str, count: usize) -> Option<Self> {
         let mut sizes = root_sizes(alloc, shape, count)?;
         let roots = sizes.len();
         let mut child_counts = Vec::new(alloc);
@@ -42,11 +44,11 @@ impl Tree {
                 break;
             };
             let mut below = child_sizes(alloc, shape, size.saturating_sub(1))?;
-            child_counts.push(below.len())?;
+            child_counts.push(below.len()).ok()?;
             below.reverse();
-            sizes.append(&mut below)?;
+            sizes.append(&mut below).ok()?;
         }
-        Ok(Tree {
+        Some(Tree {
             roots,
             child_counts,
         })

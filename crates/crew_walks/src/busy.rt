@@ -1,11 +1,13 @@
 //! Walks whose crew is busy, and how many a crew serves.
 use crate::stand::Stand;
-use jwalk::Error;
 use jwalk::file_system::MemoryFs;
 use jwalk::read_dir::NoProcess;
+use jwalk::{Crew, Error};
+use jwalk_crew::crew::Place;
 use std::alloc::AllocError;
-use std::sync::Wait;
+use std::sync::{Arc, Wait};
 use std::test::Fail;
+use std::thread;
 use std::thread::Threads;
 use std::time::{Clock, Duration};
 use walk_fixtures::answers::Answer;
@@ -130,5 +132,47 @@ fn as_many_walks_at_once_as_there_are_places(rt: HostRuntime) -> Result<(), Fail
     assert_eq!(rt; stand.crew.in_use(), 1);
     drop(second);
     assert_eq!(rt; stand.crew.in_use(), 0);
+    Ok(())
+}
+
+/// Takes a place, and gives it back a while later on another thread.
+fn takes_for_a_while<R: Wait + Threads + Clock + Clone + Drop + Send + Sync + 'static>(
+    rt: &R,
+    crew: &Arc<Crew<R>>,
+) -> Option<()> {
+    let clock: R = rt.clone().ok()?;
+    let place = Place::take(crew, None).ok()?;
+    let holder = thread::spawn(rt, move || {
+        thread::sleep(&clock, Duration::from_millis(20));
+        drop(place);
+    });
+    holder.ok()?;
+    Some(())
+}
+
+#[test]
+fn who_waits_gets_the_place_that_is_given_back(rt: HostRuntime) -> Result<(), Fail> {
+    let stand = one_place(&rt)?;
+    assert!(rt; takes_for_a_while(&rt, &stand.crew).is_some());
+    let waits = stand.crewed("/t/a.txt", &[]);
+    assert!(rt; waits.shows(stand.alloc, NoProcess, "0 f /t/a.txt"));
+    assert_eq!(rt; stand.crew.in_use(), 0);
+    Ok(())
+}
+
+#[test]
+fn no_places_and_no_workers_count_as_one(rt: HostRuntime) -> Result<(), Fail> {
+    let stand = Stand::new(&rt, tree(rt.alloc(), GROUPED)?, 0, 0)?;
+    let held = stand.crewed("/t", &[]).begun(stand.alloc)?;
+    assert!(rt; is_refused(&impatient(&stand, "/t"), &stand)?);
+    drop(held);
+    let next = impatient(&stand, "/t/group 1");
+    assert!(rt;
+        next.shows(
+            stand.alloc,
+            NoProcess,
+            "0 d /t/group 1; 1 f /t/group 1/d.txt"
+        )
+    );
     Ok(())
 }

@@ -1,8 +1,9 @@
 //! Walks over a crew and their answers, which are those of walks without one.
 use crate::alike::{Counts, first_difference};
 use crate::stand::Stand;
-use jwalk::file_system::{FileSystem, MemoryFs};
+use jwalk::file_system::{BuildError, FileSystem, MemoryFs};
 use jwalk::read_dir::NoProcess;
+use std::alloc::Global;
 use std::sync::Wait;
 use std::test::Fail;
 use std::thread::Threads;
@@ -24,10 +25,10 @@ struct Row {
 fn is_serial<
     R: Wait + Threads + Clock + AllocGlobal + Drop + Send + Sync + 'static,
     S: FileSystem + Send + Sync + 'static,
->(rt: &R, stand: &Stand<R, S>, row: &Row) -> Result<bool, Fail> {
-    let alone = stand.alone(row.root, row.settings);
+>(rt: &R, stand: &Stand<R, S>, root: &str, settings: &[Setting]) -> Result<bool, Fail> {
+    let alone = stand.alone(root, settings);
     let serial = alone.found::<_, Counts, _>(rt, NoProcess, Way::InTurn(Width::Serial))?;
-    let crewed = stand.crewed(row.root, row.settings);
+    let crewed = stand.crewed(root, settings);
     let found = crewed.found::<Counts, _>(rt.alloc(), NoProcess)?;
     Ok(first_difference(found.as_slice(), serial.as_slice()).is_none())
 }
@@ -41,7 +42,10 @@ fn holds<R: Wait + Threads + Clock + AllocGlobal + Clone + Drop + Send + Sync + 
     let alloc = rt.alloc();
     let stand = Stand::new(rt, tree(alloc, row.steps)?, 1, workers)?;
     let crewed = stand.crewed(row.root, row.settings);
-    Ok(crewed.shows(alloc, NoProcess, row.answers) && is_serial(rt, &stand, row)?)
+    Ok(
+        crewed.shows(alloc, NoProcess, row.answers)
+            && is_serial(rt, &stand, row.root, row.settings)?,
+    )
 }
 
 #[test]
@@ -102,6 +106,42 @@ const ROWS: &[Row] = &[
 fn the_answers_of_serial_walks_with_two_workers(rt: HostRuntime) -> Result<(), Fail> {
     for row in ROWS {
         assert!(rt; holds(&rt, row, 2)?, "{} with {:?}", row.root, row.settings);
+    }
+    Ok(())
+}
+
+/// Adds a directory with a file to `/r`, and to every seventh a directory.
+fn add_sibling(alloc: Global, fs: &mut MemoryFs, number: usize) -> Result<(), BuildError> {
+    let mut path = format!(in alloc; "/r/{number}")?;
+    fs.add_dir(path.as_str())?;
+    path.push_str("/a")?;
+    fs.add_file(path.as_str(), 1)?;
+    if number % 7 == 0 {
+        path.push_str("-dir")?;
+        fs.add_dir(path.as_str())?;
+    }
+    Ok(())
+}
+
+/// Two hundred directories beside one another, and forty in one another.
+fn wide_and_deep(alloc: Global) -> Result<MemoryFs, BuildError> {
+    let mut fs = tree(alloc, &[Step::Dir("/r")])?;
+    for number in 0..200 {
+        add_sibling(alloc, &mut fs, number)?;
+    }
+    let mut path = String::from_str(alloc, "/r")?;
+    for _ in 0..40 {
+        path.push_str("/d")?;
+        fs.add_dir(path.as_str())?;
+    }
+    Ok(fs)
+}
+
+#[test]
+fn many_directories_and_a_long_chain_with_one_to_four_workers(rt: HostRuntime) -> Result<(), Fail> {
+    for workers in [1, 2, 4] {
+        let stand = Stand::new(&rt, wide_and_deep(rt.alloc())?, 1, workers)?;
+        assert!(rt; is_serial(&rt, &stand, "/r", &[])?, "{} workers", workers);
     }
     Ok(())
 }

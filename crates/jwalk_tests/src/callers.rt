@@ -1,7 +1,3 @@
 //! What the functions of `proved_walk` answer, by worked examples.
-#![tactic(auto)]
-
-#[cfg(test)]
 mod callbacks;
-#[cfg(test)]
 mod walks;

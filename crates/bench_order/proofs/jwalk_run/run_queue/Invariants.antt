@@ -1,5 +1,5 @@
 use Rattle.std.proofs.Common.{◌≡◌}
-use Rattle.bench_order.proofs.queue_run.run_queue.Given as goal
+use Rattle.bench_order.proofs.jwalk_run.run_queue.Given as goal
 
 -- Each item that was pushed is pending.
 abbrev pub invariant-loop-value : goal.invariant-loop-value

@@ -1,3 +1,0 @@
-pub mod Digest
-pub mod Failure
-pub mod Words
