@@ -32,6 +32,8 @@ impl<'f> Drop for Prepared<'f> {
 }
 
 impl<'f> Pool<States, &'f MemoryFs, NoProcess, Global> for Prepared<'f> {
+    ghost comes_from = { λ _ _. ⊥ };
+
     fn next(&mut self, wanted: &Wanted) -> Result<Ordered<Told<'f>>, Missed> {
         match arrive(&mut self.board, wanted) {
             Arrival::Entered(item) => Ok(item),

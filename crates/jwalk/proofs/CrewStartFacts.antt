@@ -5,17 +5,21 @@ use Rattle.std.specs.declared.clone.Clone as Clone
 use Rattle.walk_model.specs.Error.{memory, busy}
 use Rattle.walk_model.specs.Entry.{Item, AtDepth, has_directory}
 use Rattle.walk_model.specs.Options.{crew}
-use Rattle.walk_model.specs.ReadDir.{Reading}
+use Rattle.std.specs.List.{AllZip}
+use Rattle.walk_model.specs.ReadDir.{Spec, Reading, IsClone, AreClones}
 use Rattle.jwalk_read.specs.declared.read_dir.ReadDir.{ReadDir}
-use Rattle.jwalk_read.specs.ReadDir.{reading}
+use Rattle.jwalk_read.specs.declared.read_dir_spec.ReadDirSpec.{ReadDirSpec}
+use Rattle.jwalk_read.specs.ReadDir.{reading, spec}
 use Rattle.walk_model.specs.Counted.{Worth, entry_by, children_by}
 use Rattle.walk_model.specs.Listing.{Pair, nothing, paired}
 use Rattle.walk_model.specs.Held.{pair_up, sources, first_source, after_first}
+use Rattle.walk_model.proofs.CloneFacts.{counted_clones}
 use Rattle.walk_model.proofs.HeldFacts.{directories}
 use Rattle.jwalk_read.specs.Given.{Given, counted_item, counted_spec, counted_reading}
 use Rattle.jwalk_read.specs.declared.job.Job.{Job}
 use Rattle.jwalk_read.specs.Options as options
 use Rattle.jwalk_read.specs.Job.{options_of, greatest_depth, ClonesCount}
+use Rattle.jwalk_crew.specs.Origin.{CountAlike}
 use Rattle.jwalk_crew.specs.declared.crew.NotStarted.{NotStarted}
 use Rattle.jwalk_crew.specs.declared.crew.NotStarted.TheVariants.{Busy, Memory}
 use Rattle.jwalk.specs.DirEntryIter.{by_crew, width_of, early_of, job_of, items_of, unread_of, held, held_by, IsWithin, IsSourced, IsRefused}
@@ -25,6 +29,20 @@ use Rattle.jwalk.specs.declared.read_dir_iter.ReadDirIter.{ReadDirIter}
 use Rattle.jwalk.specs.declared.read_dir_iter.ReadDirIter.TheVariants.{Walk, ParWalk, CrewWalk}
 use Rattle.jwalk.specs.declared.dir_entry_iter.DirEntryIter.{DirEntryIter}
 use Rattle.jwalk.proofs.AnswerFacts.{held_by_rest, held_refused, rest_sourced, list_sourced, holds_list, within_root}
+
+-- clones of the same directories count alike
+pub alike_clones : {R : Type 0} (clone : Clone.Ghosts R) (specs these those : List (Spec R)) → AreClones clone.is_clone specs these → AreClones clone.is_clone specs those → CountAlike clone these those
+alike_clones clone specs these those made others view kept = counted_clones clone.is_clone view kept specs these made ∙ sym (counted_clones clone.is_clone view kept specs those others)
+
+-- so do clones that were made one by one
+zipped_clones : {C A R E : Type 0} (clone : Clone.Ghosts R) (specs made : List (ReadDirSpec C A R E)) → AllZip (λ x y. IsClone clone.is_clone (spec x) (spec y)) specs made → AreClones clone.is_clone (map spec specs) (map spec made)
+zipped_clones clone [] [] zipped = tt
+zipped_clones clone [] (y ∷ made) zipped = absurd zipped
+zipped_clones clone (x ∷ specs) [] zipped = absurd zipped
+zipped_clones clone (x ∷ specs) (y ∷ made) zipped = (zipped.0, zipped_clones clone specs made zipped.1)
+
+pub alike_copies : {C A R E : Type 0} (clone : Clone.Ghosts R) (specs made : List (ReadDirSpec C A R E)) → AllZip (λ x y. IsClone clone.is_clone (spec x) (spec y)) specs made → CountAlike clone (map spec made) (map spec specs)
+alike_copies clone specs made zipped view kept = counted_clones clone.is_clone view kept (map spec specs) (map spec made) (zipped_clones clone specs made zipped)
 
 module _ {R E : Type 0} where
   -- errors have no depth

@@ -2,6 +2,7 @@
 pub use jwalk_crew::arrival::{Arrival, arrive};
 pub use jwalk_crew::crew::Crew;
 pub use jwalk_crew::message::Message;
+pub use jwalk_crew::origin::Origin;
 pub use jwalk_crew::places::Places;
 pub use jwalk_crew::pool::{Missed, NoPool, Pool};
 pub use jwalk_crew::session::Session;

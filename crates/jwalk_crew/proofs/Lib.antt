@@ -1,1 +1,3 @@
 mod ArrivalFacts
+pub mod OriginFacts
+mod SharedFacts

@@ -89,6 +89,8 @@ impl<C: ClientState, S: FileSystem, P: ProcessReadDir<C, A>, A: Allocator + Copy
         requires { P.IsLawful (callback (arc_value job)) }
         ensures job { result.0.job ≡ arc_value job }
         ensures of { result.0.of ≡ of }
+        ensures lawful { IsLawfulMessage S.FileSystem P.ProcessReadDir C.ReadDirState.Clone
+            C.DirEntryState.Default result.0 }
         ensures children { MatchResult result.0.outcome
             (λ o. AreClones C.ReadDirState.is_clone (children_of (outcome o)) (map spec result.1.items))
             (λ _. result.1.items ≡ []) }

@@ -1,5 +1,7 @@
 //! What gives a walk its readings.
 ghost use Rattle.std.specs.Prelude.{◌≡◌, IfOk, IsOk};
+ghost use Rattle.jwalk_board.specs.Addressed.{addressed};
+ghost use Rattle.jwalk_crew.specs.Origin.{Origin, IsMessageOf};
 ghost use Rattle.jwalk_crew.specs.Wanted.{Fits};
 
 use crate::message::Message;
@@ -31,6 +33,10 @@ impl From<AllocError> for Missed {
 
 /// What gives the readings of a walk's directories, made ahead by others. Users name it as a bound only.
 pub trait Pool<C: ClientState, S: FileSystem, P: ProcessReadDir<C, A>, A: Allocator + Copy>: Drop {
+    /// What its readings come from: it is made for the walk of this job that begins with these directories. A pool of
+    /// which nothing is to be said has `⊥` here.
+    ghost comes_from: { Self → Origin C S P A C.ReadDirState C.DirEntryState → Type 0 };
+
     /// The reading that is wanted, once it is there.
     ///
     /// # Errors
@@ -38,7 +44,10 @@ pub trait Pool<C: ClientState, S: FileSystem, P: ProcessReadDir<C, A>, A: Alloca
     /// `Memory` if memory ran out, the workers' or for the hand-out, and `Lost` if the reading won't come.
     fn next(&mut self, wanted: &Wanted<A>) -> Result<Ordered<Message<C, S, P, A>, A>, Missed>
         ensures fits { IfOk result (Fits wanted.now) }
-        ensures made { IfOk result (λ item. IsOk item.value.outcome) };
+        ensures made { IfOk result (λ item. IsOk item.value.outcome) }
+        ensures of { IfOk result (λ item. (origin : _) → Self.comes_from self.old origin → IsMessageOf S.FileSystem
+            P.ProcessReadDir C.ReadDirState.Clone C.DirEntryState.Default origin (addressed item)) }
+        ensures same { (origin : _) → Self.comes_from self.old origin → Self.comes_from self.new origin };
 
     /// How many readings were made and not handed on.
     fn ahead(&self) -> usize;
@@ -50,6 +59,8 @@ pub struct NoPool(());
 
 impl<C: ClientState, S: FileSystem, P: ProcessReadDir<C, A>, A: Allocator + Copy> Pool<C, S, P, A>
     for NoPool {
+    ghost comes_from = { λ _ _. ⊥ };
+
     fn next(&mut self, _wanted: &Wanted<A>) -> Result<Ordered<Message<C, S, P, A>, A>, Missed>
         ensures { result ≡ Err Missed.Lost }
     {

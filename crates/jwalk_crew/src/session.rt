@@ -1,24 +1,25 @@
 //! A walk over a crew.
-ghost use Rattle.std.specs.Prelude.{◌≡◌, IfOk};
+ghost use Rattle.std.specs.Prelude.{◌≡◌, IfOk, map};
 ghost use Rattle.std.specs.Arc.{arc_value};
 ghost use Rattle.jwalk_read.specs.Job.{callback};
+ghost use Rattle.jwalk_read.specs.ReadDir.{spec};
+ghost use Rattle.jwalk_crew.specs.Origin.{CountAlike};
 
-use crate::arrival::{Arrival, arrive};
-use crate::crew::{Crew, NotStarted, Place};
-use crate::desk::Desk;
+use crate::arrival::Arrival;
+use crate::crew::{NotStarted, Place};
 use crate::message::Message;
+use crate::origin::Origin;
 use crate::pool::{Missed, Pool};
+use crate::shared::Shared;
 use crate::waiting::wait_a_turn;
 use crate::wanted::Wanted;
-use crate::worker::{Shared, start_workers};
-use jwalk_board::board::Board;
+use crate::worker::start_workers;
 use jwalk_order::ordered::Ordered;
 use jwalk_read::client_state::ClientState;
-use jwalk_read::job::Job;
 use jwalk_read::process_read_dir::ProcessReadDir;
 use jwalk_read::read_dir_spec::ReadDirSpec;
-use std::alloc::{AllocError, Allocator, Global};
-use std::sync::{Arc, Condvar, Mutex, Wait};
+use std::alloc::{Allocator, Global};
+use std::sync::{Arc, Wait};
 use std::thread::Threads;
 use std::time::Clock;
 use walk_fs::file_system::FileSystem;
@@ -57,19 +58,24 @@ impl<
     P: ProcessReadDir<C, A>,
     A: Allocator + Copy,
 > Pool<C, S, P, A> for Session<R, C, S, P, A> {
+    ghost use Rattle.std.specs.Prelude.{◌≡◌};
+    ghost use Rattle.std.specs.Arc.{arc_value};
+
+    ghost comes_from = { λ session origin. (arc_value session.shared).work ≡ origin };
+
     fn next(&mut self, wanted: &Wanted<A>) -> Result<Ordered<Message<C, S, P, A>, A>, Missed> {
         let shared = &*self.shared;
         let rt = &shared.crew.rt;
-        let mut desk = shared.desk.lock(rt);
+        let mut sleepers = shared.sleepers.lock(rt);
         for _ in rt.forever() {
-            match arrive(&mut desk.board, wanted) {
+            match shared.arrival(wanted) {
                 Arrival::Entered(item) => return Ok(item),
                 Arrival::Memory => return Err(Missed::Memory),
                 Arrival::Lost => return Err(Missed::Lost),
                 Arrival::Wait => {
-                    desk.sleepers.set_walk(true);
-                    desk = wait_a_turn(rt, &shared.arrived, desk);
-                    desk.sleepers.set_walk(false);
+                    sleepers.set_walk(true);
+                    sleepers = wait_a_turn(rt, &shared.arrived, sleepers);
+                    sleepers.set_walk(false);
                 }
             }
         }
@@ -77,38 +83,11 @@ impl<
     }
 
     fn ahead(&self) -> usize {
-        let desk = self.shared.desk.lock(&self.shared.crew.rt);
-        desk.board.ready()
+        let sleepers = self.shared.sleepers.lock(&self.shared.crew.rt);
+        let ready = self.shared.ready();
+        drop(sleepers);
+        ready
     }
-}
-
-/// A board over these roots that can be shared.
-fn share<
-    R: Wait + Clock + Drop,
-    C: ClientState,
-    S: FileSystem,
-    P: ProcessReadDir<C, A>,
-    A: Allocator + Copy,
->(
-    crew: &Arc<Crew<R>, A>,
-    job: Arc<Job<C, S, P, A>, A>,
-    roots: Vec<ReadDirSpec<C, A>, A>,
-) -> Result<Arc<Shared<R, C, S, P, A>, A>, AllocError>
-    ensures { IfOk result (λ shared. (arc_value shared).job ≡ job) }
-{
-    let alloc = *roots.allocator();
-    let crew = crew.clone()?;
-    let Ok(board) = Board::new(roots) else {
-        return Err(AllocError);
-    };
-    let shared = Shared {
-        crew,
-        job,
-        desk: Mutex::new(Desk::new(board)),
-        queued: Condvar::new(),
-        arrived: Condvar::new(),
-    };
-    Ok(Arc::new(alloc, shared)?)
 }
 
 impl<
@@ -123,18 +102,23 @@ where
     C::DirEntryState: Send + 'static,
 {
     /// Starts the workers of a walk that has a place: from here on they read these directories, and those below them.
+    /// The directories are clones of those that the walk begins with.
     ///
     /// # Errors
     ///
     /// `Memory` where memory runs out. `Busy` where no worker could be started. The place is then given back.
     pub fn start(
         place: Place<R, A>,
-        job: Arc<Job<C, S, P, A>, A>,
+        origin: &Origin<C, S, P, A>,
         roots: Vec<ReadDirSpec<C, A>, A>,
     ) -> Result<Self, NotStarted>
-        requires { P.IsLawful (callback (arc_value job)) }
+        requires lawful { P.IsLawful (callback origin.now.job) }
+        requires alike { CountAlike C.ReadDirState.Clone (map spec roots.items) origin.now.roots }
+        ensures { IfOk result (λ session. (arc_value session.shared).work ≡ origin.now) }
     {
-        let Ok(shared) = share(place.crew(), job, roots) else {
+        let alloc = *roots.allocator();
+        let shared = Shared::new(place.crew(), origin, roots)?;
+        let Ok(shared) = Arc::new(alloc, shared) else {
             return Err(NotStarted::Memory);
         };
         let started = start_workers(&shared, place.crew().workers());

@@ -1,87 +1,27 @@
 //! The threads that read for a walk.
-ghost use Rattle.std.specs.Prelude.{◌≤◌};
+ghost use Rattle.std.specs.Prelude.{◌≤◌, IfSome};
 ghost use Rattle.std.specs.Arc.{arc_value};
+ghost use Rattle.jwalk_order.specs.IndexPath.{address as indices_of};
+ghost use Rattle.jwalk_order.specs.Ordered.{address_of};
 ghost use Rattle.jwalk_read.specs.Job.{callback};
+ghost use Rattle.jwalk_read.specs.ReadDir.{spec};
+ghost use Rattle.jwalk_crew.specs.Origin.{IsAt, IsMadeAt};
 
-use crate::crew::Crew;
-use crate::desk::Desk;
 use crate::hand_in::HandIn;
 use crate::message::Message;
-use crate::steps::{Calls, Turn, take_turn};
+use crate::shared::Shared;
+use crate::steps::Turn;
 use crate::waiting::wait_a_turn;
 use jwalk_order::ordered::Ordered;
 use jwalk_read::client_state::ClientState;
-use jwalk_read::job::Job;
 use jwalk_read::process_read_dir::ProcessReadDir;
 use jwalk_read::read_dir_spec::ReadDirSpec;
 use std::alloc::Allocator;
-use std::sync::{Arc, Condvar, Mutex, Wait};
+use std::sync::{Arc, Wait};
 use std::thread;
 use std::thread::Threads;
 use std::time::Clock;
 use walk_fs::file_system::FileSystem;
-
-/// What a walk and its workers share.
-pub(crate) struct Shared<
-    R: Wait + Clock + Drop,
-    C: ClientState,
-    S: FileSystem,
-    P: ProcessReadDir<C, A>,
-    A: Allocator + Copy,
-> {
-    pub(crate) crew: Arc<Crew<R>, A>,
-    pub(crate) job: Arc<Job<C, S, P, A>, A>,
-    pub(crate) desk: Mutex<Desk<ReadDirSpec<C, A>, Message<C, S, P, A>, A>>,
-    /// Called where a worker may find something queued, or nothing more will be.
-    pub(crate) queued: Condvar,
-    /// Called where the walk's next reading is ready, or none will be.
-    pub(crate) arrived: Condvar,
-}
-
-impl<
-    R: Wait + Clock + Drop,
-    C: ClientState,
-    S: FileSystem,
-    P: ProcessReadDir<C, A>,
-    A: Allocator + Copy,
-> Drop for Shared<R, C, S, P, A> {
-    fn drop(self) {
-        let Shared {
-            crew: _,
-            job: _,
-            desk: _,
-            queued: _,
-            arrived: _,
-        } = self;
-    }
-}
-
-impl<
-    R: Wait + Clock + Drop,
-    C: ClientState,
-    S: FileSystem,
-    P: ProcessReadDir<C, A>,
-    A: Allocator + Copy,
-> Shared<R, C, S, P, A> {
-    /// Calls those who sleep.
-    fn call(&self, calls: Calls) {
-        if calls.walk {
-            self.arrived.notify_one();
-        }
-        for _ in 0..calls.workers {
-            self.queued.notify_one();
-        }
-    }
-
-    /// Stops the board, and with it the workers and the walk.
-    pub(crate) fn stop(&self) {
-        let mut desk = self.desk.lock(&self.crew.rt);
-        desk.board.stop();
-        let calls = desk.sleepers.called_by(Calls::all());
-        drop(desk);
-        self.call(calls);
-    }
-}
 
 /// A thread of a walk: it takes directories, reads them and hands in what came of it.
 pub(crate) struct Worker<
@@ -115,32 +55,39 @@ impl<
 > Worker<R, C, S, P, A> {
     /// Hands in what was read, if anything, and takes a directory as soon as one is queued: none once the board is done
     /// or stopped.
-    fn next(&self, read: Option<HandIn<C, S, P, A>>) -> Option<Ordered<ReadDirSpec<C, A>, A>> {
+    fn next(&self, read: Option<HandIn<C, S, P, A>>) -> Option<Ordered<ReadDirSpec<C, A>, A>>
+        requires { IfSome read (λ h. IsMadeAt S.FileSystem P.ProcessReadDir C.ReadDirState.Clone
+            C.DirEntryState.Default (arc_value self.now.shared).work (indices_of h.address) h.message
+            h.children.items) }
+        ensures { IfSome result (λ item. IsAt S.FileSystem P.ProcessReadDir C.ReadDirState.Clone
+            C.DirEntryState.Default (arc_value self.now.shared).work (address_of item) (spec item.value)) }
+    {
         let rt = &self.shared.crew.rt;
-        let mut desk = self.shared.desk.lock(rt);
-        let _refused = read.map(|read| read.finish(&mut desk.board));
+        let mut sleepers = self.shared.sleepers.lock(rt);
+        if let Some(read) = read {
+            self.shared.hand_in(read);
+        }
         for _ in rt.forever() {
-            let turn = take_turn(&mut desk.board);
-            let wanted = Calls::after_turn(&desk.board, &turn);
-            let calls = desk.sleepers.called_by(wanted);
+            let (turn, wanted) = self.shared.turn();
+            let calls = sleepers.called_by(wanted);
             match turn {
                 Turn::Wait if calls.is_empty() => {
-                    desk.sleepers.add_worker();
-                    desk = wait_a_turn(rt, &self.shared.queued, desk);
-                    desk.sleepers.remove_worker();
+                    sleepers.add_worker();
+                    sleepers = wait_a_turn(rt, &self.shared.queued, sleepers);
+                    sleepers.remove_worker();
                 }
                 Turn::Wait => {
-                    drop(desk);
+                    drop(sleepers);
                     self.shared.call(calls);
-                    desk = self.shared.desk.lock(rt);
+                    sleepers = self.shared.sleepers.lock(rt);
                 }
                 Turn::Read(item) => {
-                    drop(desk);
+                    drop(sleepers);
                     self.shared.call(calls);
                     return Some(item);
                 }
                 Turn::End => {
-                    drop(desk);
+                    drop(sleepers);
                     self.shared.call(calls);
                     return None;
                 }
@@ -151,7 +98,12 @@ impl<
 
     /// Reads a directory that was taken. None where memory is refused, which stops the board.
     fn read(&self, item: Ordered<ReadDirSpec<C, A>, A>) -> Option<HandIn<C, S, P, A>>
-        requires { P.IsLawful (callback (arc_value (arc_value self.now.shared).job)) }
+        requires lawful { P.IsLawful (callback (arc_value (arc_value self.now.shared).job)) }
+        requires at { IsAt S.FileSystem P.ProcessReadDir C.ReadDirState.Clone C.DirEntryState.Default
+            (arc_value self.now.shared).work (address_of item) (spec item.value) }
+        ensures { IfSome result (λ h. IsMadeAt S.FileSystem P.ProcessReadDir C.ReadDirState.Clone
+            C.DirEntryState.Default (arc_value self.now.shared).work (indices_of h.address) h.message
+            h.children.items) }
     {
         let Ordered {
             value: of,

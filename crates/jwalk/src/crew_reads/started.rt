@@ -3,11 +3,13 @@ ghost use Rattle.std.specs.Prelude.{◌≡◌, map, OnErr, OnOk};
 ghost use Rattle.jwalk_read.specs.Error.{failure};
 ghost use Rattle.jwalk_read.specs.ReadDir.{spec};
 ghost use Rattle.jwalk_read.specs.Job.{callback};
+ghost use Rattle.jwalk_crew.specs.Origin.{CountAlike};
 ghost use Rattle.jwalk.specs.CrewReads.{job_of, to_read};
 ghost use Rattle.jwalk.specs.CrewStart.{start_failure};
 
 use crate::crew_reads::CrewReads;
 use jwalk_crew::crew::{Crew, NotStarted, Place};
+use jwalk_crew::origin::Origin;
 use jwalk_crew::session::Session;
 use jwalk_order::ordered_queue::OrderedMatcher;
 use jwalk_read::client_state::ClientState;
@@ -51,10 +53,11 @@ where
         &mut self,
         crew: &Arc<Crew<R>, A>,
         busy_timeout: Option<Duration>,
-        mut own: Vec<ReadDirSpec<C, A>, A>,
+        own: Vec<ReadDirSpec<C, A>, A>,
         shared: Vec<ReadDirSpec<C, A>, A>,
     ) -> Result<(), NotStarted>
-        requires { P.IsLawful (callback (job_of self.old)) }
+        requires lawful { P.IsLawful (callback (job_of self.old)) }
+        requires alike { CountAlike C.ReadDirState.Clone (map spec shared.items) (map spec own.items) }
         ensures job { job_of self.new ≡ job_of self.old }
         ensures to_read { OnOk result (to_read self.new ≡ map spec own.items) }
         ensures unchanged { OnErr result (to_read self.new ≡ to_read self.old) }
@@ -62,7 +65,9 @@ where
         let matcher = OrderedMatcher::with_roots(*own.allocator(), own.len())?;
         let job = self.job.clone()?;
         let place = Place::take(crew, busy_timeout)?;
-        self.pool = Some(Session::start(place, job, shared)?);
+        let origin = Origin::new(job, own);
+        self.pool = Some(Session::start(place, &origin, shared)?);
+        let mut own = origin.into_roots();
         own.reverse();
         self.unread = own;
         self.matcher = matcher;

@@ -2,6 +2,7 @@ use Rattle.std.proofs.Common.{map, refl}
 use Rattle.walk_model.specs.ReadDir.{children, AreClones}
 use Rattle.jwalk_read.specs.ReadDir.{reading, spec}
 use Rattle.jwalk.specs.CrewReads.{to_read}
+use Rattle.jwalk.proofs.CrewStartFacts.{alike_clones}
 use Rattle.jwalk.proofs.ResultFacts.{none_on_ok, on_err, on_ok_as}
 use Rattle.jwalk.proofs.dir_entry_iter.over_crew.start_reads.Goals as goal
 
@@ -10,6 +11,9 @@ returns-in_err-own g c = record { job = refl; to_read = none_on_ok _ c.from_resi
 
 pub returns-in_err-shared : goal.returns-in_err-shared
 returns-in_err-shared g c = record { job = refl; to_read = none_on_ok _ c.from_residual-in_err-shared.result c.from_residual-in_err-shared.ensures.0; unchanged = on_err c.from_residual-in_err-shared.result refl }
+
+pub start-requires-clause-alike : goal.start-requires-clause-alike
+start-requires-clause-alike g c κs within = alike_clones g.C.ReadDirState.Clone (children (reading c.args.read.now)) (map spec c.in_ok-shared.shared.items) (map spec c.in_ok-own.own.items) c.in_ok-shared.ensures c.in_ok-own.ensures
 
 pub returns : goal.returns
 returns g c = record {

@@ -19,6 +19,6 @@ returns-in_err-start g c = record { job = refl; to_read = none_on_ok _ c.from_re
 pub returns : goal.returns
 returns g c = record {
   job = refl;
-  to_read = ap (map spec) (ap reverse c.reverse.ensures.items ∙ reverse-reverse c.args.own.items);
+  to_read = ap (map spec) (ap reverse c.reverse.ensures.items ∙ reverse-reverse c.into_roots-own.result.items) ∙ c.into_roots-own.ensures ∙ ap (λ o. o.roots) c.new-origin.ensures;
   unchanged = tt;
 }

@@ -1,4 +1,5 @@
 use Rattle.std.proofs.Common.{◌∙◌}
+use Rattle.jwalk.proofs.CrewStartFacts.{alike_copies}
 use Rattle.jwalk.proofs.ResultFacts.{none_ok}
 use Rattle.jwalk.proofs.read_dir_iter.over_crew.CrewReads+C+S+P+A+Session+R+C+S+P+A.by_workers.Goals as goal
 
@@ -13,3 +14,6 @@ returns-in_err-start g c = record { job = none_ok _ c.from_residual-in_err-start
 
 pub returns : goal.returns
 returns g c = record { job = c.start.ensures.job ∙ c.in-Ok.ensures.0; to_read = c.in_ok-start.ensures.to_read }
+
+pub start-requires-clause-alike : goal.start-requires-clause-alike
+start-requires-clause-alike g c κs within = alike_copies g.C.ReadDirState.Clone c.args.roots.items c.in_ok-shared.shared.items c.in_ok-shared.ensures.cases.0

@@ -1,0 +1,8 @@
+use Rattle.jwalk_crew.proofs.SharedFacts.{arrived_of}
+use Rattle.jwalk_crew.proofs.shared.Shared.arrival.Goals as goal
+
+pub put_back-requires : goal.put_back-requires
+put_back-requires g c = (arrived_of _ _ _ _ _ _ _ c.in-Some.ensures _ _ c.arrive-arrival.ensures).1
+
+pub returns : goal.returns
+returns g c = (arrived_of _ _ _ _ _ _ _ c.in-Some.ensures _ _ c.arrive-arrival.ensures).0

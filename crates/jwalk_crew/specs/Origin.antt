@@ -1,0 +1,65 @@
+-- Where the readings of a walk come from, and which directory stands at an address.
+use Rattle.std.specs.Prelude.{◌≡◌, ℕ, List, [], ◌∷◌, map, length, All, Option, Some, None, slice_get, IfOk, MatchResult}
+use Rattle.std.specs.declared.clone.Clone as Clone
+use Rattle.std.specs.declared.default.Default as Default
+use Rattle.walk_model.specs.Counted.{Worth, spec_by}
+use Rattle.walk_model.specs.Job.{reading}
+use Rattle.walk_model.specs.ReadDir.{Spec, Outcome, children_of, AreClones}
+use Rattle.walk_fs.specs.declared.file_system.FileSystem as FileSystem
+use Rattle.jwalk_board.specs.Addressed.{Addressed}
+use Rattle.jwalk_board.specs.Board.{Board}
+use Rattle.jwalk_read.specs.declared.process_read_dir.ProcessReadDir as ProcessReadDir
+use Rattle.jwalk_read.specs.declared.job.Job.{Job}
+use Rattle.jwalk_read.specs.declared.read_dir_spec.ReadDirSpec.{ReadDirSpec}
+use Rattle.jwalk_read.specs.Given.{Given, counted_spec}
+use Rattle.jwalk_read.specs.Job.{IsSteadyJob, job_by}
+use Rattle.jwalk_read.specs.ReadDir.{spec, outcome}
+use Rattle.jwalk_crew.specs.Message.{Message, IsLawfulMessage}
+
+-- What reads for a walk, and the directories that the walk begins with.
+pub record Origin (C S P A R E : Type 0) : Type 0 where
+  pub job : Job C S P A R E
+  pub roots : List (Spec R)
+
+module _ {X : Type 0} (below : X → List X) where
+  -- what is come to from something by the indexes of children
+  abbrev pub reached : Option X → List ℕ → Option X
+  reached x [] = x
+  reached None (i ∷ a) = None
+  reached (Some x) (i ∷ a) = reached (slice_get (below x) i) a
+
+  -- what stands at an address, below these roots
+  abbrev pub at_address : List X → List ℕ → Option X
+  at_address roots [] = None
+  at_address roots (i ∷ a) = reached (slice_get roots i) a
+
+-- by each view of states in which a clone counts as what it was made of, these directories count as those
+abbrev pub CountAlike : {R : Type 0} → Clone.Ghosts R → List (Spec R) → List (Spec R) → Type 0
+CountAlike {R} clone these those = (view : R → Worth) → ((x y : R) → clone.is_clone x y → view y ≡ view x) → map (spec_by view) these ≡ map (spec_by view) those
+
+module _ {C S P A R E : Type 0} (files : FileSystem.Ghosts S) (process : ProcessReadDir.Ghosts P C A R E) (clone : Clone.Ghosts R) (defaults : Default.Ghosts E) where
+  -- the directory at an address of the walk, as it counts over what is given
+  abbrev pub spec_at : Origin C S P A R E → Given R E → List ℕ → Option (Spec Worth)
+  spec_at origin given = at_address (λ s. children_of (reading (job_by files given origin.job) s)) (map (counted_spec given) origin.roots)
+
+  -- Over all that the job is steady over, this is the directory at an address of the walk.
+  abbrev pub IsAt : Origin C S P A R E → List ℕ → Spec R → Type 0
+  IsAt origin a s = (given : Given R E) → IsSteadyJob files process clone defaults origin.job given → spec_at origin given a ≡ Some (counted_spec given s)
+
+  -- The message is of the walk's own job, and of the directory at its address; it has as many children as directories were found.
+  pub record IsMessageOf (origin : Origin C S P A R E) (item : Addressed (Message C S P A R E)) : Type 0 where
+    pub job : item.value.job ≡ origin.job
+    pub at : IsAt origin item.at (spec item.value.of)
+    pub count : IfOk item.value.outcome (λ read. item.child_count ≡ length (children_of (outcome read)))
+
+  -- All that is queued, and all that is ready, is the walk's own.
+  pub record IsBoardOf (origin : Origin C S P A R E) (b : Board (ReadDirSpec C A R E) (Message C S P A R E)) : Type 0 where
+    pub queued : All (λ x. IsAt origin x.at (spec x.value)) b.queued
+    pub ready : All (IsMessageOf origin) b.ready
+
+  -- What a worker made of the directory at an address of the walk, by the walk's own job, with the directories below it.
+  pub record IsMadeAt (origin : Origin C S P A R E) (a : List ℕ) (message : Message C S P A R E) (children : List (ReadDirSpec C A R E)) : Type 0 where
+    pub job : message.job ≡ origin.job
+    pub at : IsAt origin a (spec message.of)
+    pub lawful : IsLawfulMessage files process clone defaults message
+    pub below : MatchResult message.outcome (λ read. AreClones clone.is_clone (children_of (outcome read)) (map spec children)) (λ _. children ≡ [])

@@ -1,0 +1,63 @@
+//! The board that a walk and its workers share.
+ghost use Rattle.std.specs.Prelude.{◌≡◌};
+
+use crate::message::Message;
+use crate::origin::Origin;
+use counted_slot::Fits;
+use exclusive::Exclusive;
+use jwalk_board::board::Board;
+use jwalk_read::client_state::ClientState;
+use jwalk_read::process_read_dir::ProcessReadDir;
+use jwalk_read::read_dir_spec::ReadDirSpec;
+use std::alloc::Allocator;
+use walk_fs::file_system::FileSystem;
+
+/// A board that a walk and its workers share.
+pub(crate) type SharedBoard<C, S, P, A> = Board<ReadDirSpec<C, A>, Message<C, S, P, A>, A>;
+
+/// The board of a walk while nobody works on it: all that is queued on it, and all that is ready, comes from where the
+/// walk began.
+pub(crate) struct Work<
+    C: ClientState,
+    S: FileSystem,
+    P: ProcessReadDir<C, A>,
+    A: Allocator + Copy,
+> {
+    board: Exclusive<SharedBoard<C, S, P, A>>,
+}
+
+impl<C: ClientState, S: FileSystem, P: ProcessReadDir<C, A>, A: Allocator + Copy> Drop
+    for Work<C, S, P, A> {
+    fn drop(self) {
+        let Work { board: _ } = self;
+    }
+}
+
+impl<C: ClientState, S: FileSystem, P: ProcessReadDir<C, A>, A: Allocator + Copy> Fits
+    for Work<C, S, P, A> {
+    type Tag = Origin<C, S, P, A>;
+
+    ghost use Rattle.jwalk_crew.specs.Origin.{IsBoardOf};
+
+    ghost fits = { λ origin work. IsBoardOf S.FileSystem P.ProcessReadDir C.ReadDirState.Clone C.DirEntryState.Default
+        origin work.board };
+}
+
+impl<C: ClientState, S: FileSystem, P: ProcessReadDir<C, A>, A: Allocator + Copy> Work<C, S, P, A> {
+    /// A board that is put back.
+    pub(crate) fn new(board: SharedBoard<C, S, P, A>) -> Self
+        ensures { result.board ≡ board }
+    {
+        Work {
+            board: Exclusive::new(board),
+        }
+    }
+
+    /// The board, to be worked on.
+    pub(crate) fn into_board(self) -> SharedBoard<C, S, P, A>
+        ensures { result ≡ self.board }
+    {
+        let Work { board } = self;
+        board.into_inner()
+    }
+}
