@@ -1,20 +1,17 @@
 -- What the steps on a board keep of where its readings come from.
 use Rattle.std.proofs.Common.{◌≡◌, ◌∙◌, ℕ, suc, ◌+◌, List, [], ◌∷◌, ◌++◌, map, length, All, Option, Some, None, option_map, slice_get, Result, Ok, Err, IfOk, MatchResult, true, refl, sym, ap, subst, arith}
-use Rattle.std.specs.List.Sorted.{IsPermutation}
 use Rattle.std.specs.declared.alloc.AllocError.{AllocError}
 use Rattle.std.specs.declared.clone.Clone as Clone
 use Rattle.std.specs.declared.default.Default as Default
 use Rattle.std.proofs.lemmas.List.{length-map}
 use Rattle.std.proofs.lemmas.List.Elements.{All-nil, All-cons, All-head, All-tail, All-append}
 use Rattle.std.proofs.lemmas.List.Sorted.{All-permutation}
-use Rattle.std.proofs.lemmas.Option.{none-some, same_Some, slice_get-map}
-use Rattle.walk_model.specs.Counted.{Worth}
+use Rattle.std.proofs.lemmas.Option.{none-some, slice_get-map}
 use Rattle.walk_model.specs.Job.{reading}
 use Rattle.walk_model.specs.ReadDir.{Spec, Outcome, children_of, AreClones}
 use Rattle.walk_model.proofs.CloneFacts.{same_length, counted_clones}
 use Rattle.walk_model.proofs.CountedFacts.{counted-children_of}
 use Rattle.walk_fs.specs.declared.file_system.FileSystem as FileSystem
-use Rattle.jwalk_order.specs.Frontier.{children_from}
 use Rattle.jwalk_order.specs.Ordered.{address_of}
 use Rattle.jwalk_order.specs.declared.ordered.Ordered.{Ordered}
 use Rattle.jwalk_board.specs.Addressed.{Addressed, addressed, numbered}
@@ -24,11 +21,11 @@ use Rattle.jwalk_read.specs.declared.job.Job.{Job}
 use Rattle.jwalk_read.specs.declared.read_dir.ReadDir.{ReadDir}
 use Rattle.jwalk_read.specs.declared.error.Error.{Error}
 use Rattle.jwalk_read.specs.declared.read_dir_spec.ReadDirSpec.{ReadDirSpec}
-use Rattle.jwalk_read.specs.Given.{Given, counted_spec, counted_outcome}
+use Rattle.jwalk_read.specs.Given.{Given, counted_spec}
 use Rattle.jwalk_read.specs.Job.{IsSteadyJob, IsReadingOf, IsAsGiven, job_by}
 use Rattle.jwalk_read.specs.ReadDir.{spec, outcome}
 use Rattle.jwalk_crew.specs.Message.{Message}
-use Rattle.jwalk_crew.specs.Origin.{Origin, reached, at_address, CountAlike, spec_at, IsAt, IsMessageOf, IsBoardOf, IsMadeAt}
+use Rattle.jwalk_crew.specs.Origin.{Origin, reached, at_address, CountAlike, IsAt, IsMessageOf, IsBoardOf, IsMadeAt}
 
 module _ {X : Type 0} (below : X → List X) where
   one_further : (x : Option X) (a : List ℕ) (i : ℕ) (y : X) → reached below x a ≡ Some y → reached below x (a ++ i ∷ []) ≡ slice_get (below y) i

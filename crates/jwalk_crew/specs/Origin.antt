@@ -4,7 +4,7 @@ use Rattle.std.specs.declared.clone.Clone as Clone
 use Rattle.std.specs.declared.default.Default as Default
 use Rattle.walk_model.specs.Counted.{Worth, spec_by}
 use Rattle.walk_model.specs.Job.{reading}
-use Rattle.walk_model.specs.ReadDir.{Spec, Outcome, children_of, AreClones}
+use Rattle.walk_model.specs.ReadDir.{Spec, children_of, AreClones}
 use Rattle.walk_fs.specs.declared.file_system.FileSystem as FileSystem
 use Rattle.jwalk_board.specs.Addressed.{Addressed}
 use Rattle.jwalk_board.specs.Board.{Board}
