@@ -6,3 +6,4 @@ pub mod Places
 pub mod Shared
 pub mod Steps
 pub mod Crew
+pub mod Session

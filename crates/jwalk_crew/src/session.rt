@@ -1,9 +1,9 @@
 //! A walk over a crew.
 ghost use Rattle.std.specs.Prelude.{◌≡◌, IfOk, map};
-ghost use Rattle.std.specs.Arc.{arc_value};
 ghost use Rattle.jwalk_read.specs.Job.{callback};
 ghost use Rattle.jwalk_read.specs.ReadDir.{spec};
 ghost use Rattle.jwalk_crew.specs.Origin.{CountAlike};
+ghost use Rattle.jwalk_crew.specs.Session.{origin_of};
 
 use crate::arrival::Arrival;
 use crate::crew::{NotStarted, Place};
@@ -59,9 +59,9 @@ impl<
     A: Allocator + Copy,
 > Pool<C, S, P, A> for Session<R, C, S, P, A> {
     ghost use Rattle.std.specs.Prelude.{◌≡◌};
-    ghost use Rattle.std.specs.Arc.{arc_value};
+    ghost use Rattle.jwalk_crew.specs.Session.{origin_of};
 
-    ghost comes_from = { λ session origin. (arc_value session.shared).work ≡ origin };
+    ghost comes_from = { λ session origin. origin_of session ≡ origin };
 
     fn next(&mut self, wanted: &Wanted<A>) -> Result<Ordered<Message<C, S, P, A>, A>, Missed> {
         let shared = &*self.shared;
@@ -114,7 +114,7 @@ where
     ) -> Result<Self, NotStarted>
         requires lawful { P.IsLawful (callback origin.now.job) }
         requires alike { CountAlike C.ReadDirState.Clone (map spec roots.items) origin.now.roots }
-        ensures { IfOk result (λ session. (arc_value session.shared).work ≡ origin.now) }
+        ensures { IfOk result (λ session. origin_of session ≡ origin.now) }
     {
         let alloc = *roots.allocator();
         let shared = Shared::new(place.crew(), origin, roots)?;

@@ -1,5 +1,5 @@
 //! What a walk and its workers share, and their steps on its board.
-ghost use Rattle.std.specs.Prelude.{◌≡◌, IfOk, IfSome, map};
+ghost use Rattle.std.specs.Prelude.{◌≡◌, IfOk, IfSome, box_value, map};
 ghost use Rattle.std.specs.Arc.{arc_value};
 ghost use Rattle.jwalk_order.specs.IndexPath.{address as indices_of};
 ghost use Rattle.jwalk_read.specs.ReadDir.{spec};
@@ -84,7 +84,11 @@ impl<
     {
         let crew = crew.clone()?;
         let job = origin.job().clone()?;
+        let alloc = *roots.allocator();
         let Ok(board) = Board::new(roots) else {
+            return Err(AllocError);
+        };
+        let Ok(board) = Box::new(alloc, board) else {
             return Err(AllocError);
         };
         Ok(Shared {
@@ -99,8 +103,8 @@ impl<
 
     /// Takes the board out, while the lock is held: it is there.
     fn take_out(&self) -> Option<SharedBoard<C, S, P, A>>
-        ensures { IfSome result (IsBoardOf S.FileSystem P.ProcessReadDir C.ReadDirState.Clone C.DirEntryState.Default
-            self.now.work) }
+        ensures { IfSome result (λ board. IsBoardOf S.FileSystem P.ProcessReadDir C.ReadDirState.Clone
+            C.DirEntryState.Default self.now.work (box_value board)) }
     {
         let (found, claim) = self.work.turn(FREE, TAKEN);
         if found != FREE {
@@ -113,7 +117,7 @@ impl<
     /// Puts the board back, while the lock is held.
     fn put_back(&self, board: SharedBoard<C, S, P, A>)
         requires { IsBoardOf S.FileSystem P.ProcessReadDir C.ReadDirState.Clone C.DirEntryState.Default
-            self.now.work board }
+            self.now.work (box_value board) }
     {
         let work = Some(Work::new(board));
         let (found, claim) = self.work.turn(FREE, TAKEN);
@@ -132,7 +136,7 @@ impl<
         let Some(mut board) = self.take_out() else {
             return;
         };
-        let _refused = read.finish(&mut board);
+        let _refused = read.finish(&mut *board);
         self.put_back(board);
     }
 
@@ -144,8 +148,8 @@ impl<
         let Some(mut board) = self.take_out() else {
             return (Turn::End, Calls::all());
         };
-        let turn = take_turn(&mut board);
-        let calls = Calls::after_turn(&board, &turn);
+        let turn = take_turn(&mut *board);
+        let calls = Calls::after_turn(&*board, &turn);
         self.put_back(board);
         (turn, calls)
     }
@@ -158,7 +162,7 @@ impl<
         let Some(mut board) = self.take_out() else {
             return Arrival::Lost;
         };
-        let arrival = arrive(&mut board, wanted);
+        let arrival = arrive(&mut *board, wanted);
         self.put_back(board);
         arrival
     }

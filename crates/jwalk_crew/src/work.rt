@@ -12,8 +12,8 @@ use jwalk_read::read_dir_spec::ReadDirSpec;
 use std::alloc::Allocator;
 use walk_fs::file_system::FileSystem;
 
-/// A board that a walk and its workers share.
-pub(crate) type SharedBoard<C, S, P, A> = Board<ReadDirSpec<C, A>, Message<C, S, P, A>, A>;
+/// A board that a walk and its workers share. It is boxed, so that taking it out and putting it back moves a pointer.
+pub(crate) type SharedBoard<C, S, P, A> = Box<Board<ReadDirSpec<C, A>, Message<C, S, P, A>, A>, A>;
 
 /// The board of a walk while nobody works on it: all that is queued on it, and all that is ready, comes from where the
 /// walk began.
@@ -37,10 +37,11 @@ impl<C: ClientState, S: FileSystem, P: ProcessReadDir<C, A>, A: Allocator + Copy
     for Work<C, S, P, A> {
     type Tag = Origin<C, S, P, A>;
 
+    ghost use Rattle.std.specs.Prelude.{box_value};
     ghost use Rattle.jwalk_crew.specs.Origin.{IsBoardOf};
 
     ghost fits = { λ origin work. IsBoardOf S.FileSystem P.ProcessReadDir C.ReadDirState.Clone C.DirEntryState.Default
-        origin work.board };
+        origin (box_value work.board) };
 }
 
 impl<C: ClientState, S: FileSystem, P: ProcessReadDir<C, A>, A: Allocator + Copy> Work<C, S, P, A> {
