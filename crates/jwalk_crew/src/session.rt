@@ -68,7 +68,7 @@ impl<
         let rt = &shared.crew.rt;
         let mut sleepers = shared.sleepers.lock(rt);
         for _ in rt.forever() {
-            match shared.arrival(wanted) {
+            match shared.arrival(&sleepers, wanted) {
                 Arrival::Entered(item) => return Ok(item),
                 Arrival::Memory => return Err(Missed::Memory),
                 Arrival::Lost => return Err(Missed::Lost),
@@ -84,7 +84,7 @@ impl<
 
     fn ahead(&self) -> usize {
         let sleepers = self.shared.sleepers.lock(&self.shared.crew.rt);
-        let ready = self.shared.ready();
+        let ready = self.shared.ready(&sleepers);
         drop(sleepers);
         ready
     }

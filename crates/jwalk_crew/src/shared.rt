@@ -21,7 +21,7 @@ use jwalk_read::job::Job;
 use jwalk_read::process_read_dir::ProcessReadDir;
 use jwalk_read::read_dir_spec::ReadDirSpec;
 use std::alloc::{AllocError, Allocator};
-use std::sync::{Arc, Condvar, Mutex, Wait};
+use std::sync::{Arc, Condvar, Mutex, MutexGuard, Wait};
 use std::time::Clock;
 use walk_fs::file_system::FileSystem;
 
@@ -35,7 +35,7 @@ pub(crate) struct Shared<
 > {
     pub(crate) crew: Arc<Crew<R>, A>,
     pub(crate) job: Arc<Job<C, S, P, A>, A>,
-    /// The lock: whoever works on the board holds it.
+    /// The lock: whoever works on the board holds it, and shows its guard. The guard's type doesn't say whose lock it is.
     pub(crate) sleepers: Mutex<Sleepers>,
     /// The board, which is taken out and put back while the lock is held, so that nobody waits for it. A clause sees it
     /// as where the walk began, and whoever takes it out knows that all that stands on it comes from there.
@@ -101,8 +101,8 @@ impl<
         })
     }
 
-    /// Takes the board out, while the lock is held: it is there.
-    fn take_out(&self) -> Option<SharedBoard<C, S, P, A>>
+    /// Takes the board out: it is there, since the caller holds the lock. The guard witnesses that, and is not read.
+    fn take_out(&self, _held: &MutexGuard<'_, Sleepers>) -> Option<SharedBoard<C, S, P, A>>
         ensures { IfSome result (λ board. IsBoardOf S.FileSystem P.ProcessReadDir C.ReadDirState.Clone
             C.DirEntryState.Default self.now.work (box_value board)) }
     {
@@ -114,8 +114,8 @@ impl<
         Some(claim.put(None, FREE)?.into_board())
     }
 
-    /// Puts the board back, while the lock is held.
-    fn put_back(&self, board: SharedBoard<C, S, P, A>)
+    /// Puts the board back, under the same hold of the lock: the guard witnesses that, and is not read.
+    fn put_back(&self, _held: &MutexGuard<'_, Sleepers>, board: SharedBoard<C, S, P, A>)
         requires { IsBoardOf S.FileSystem P.ProcessReadDir C.ReadDirState.Clone C.DirEntryState.Default
             self.now.work (box_value board) }
     {
@@ -128,62 +128,69 @@ impl<
         }
     }
 
-    /// Hands in what a worker read, while the lock is held.
-    pub(crate) fn hand_in(&self, read: HandIn<C, S, P, A>)
+    /// Hands in what a worker read.
+    pub(crate) fn hand_in(&self, held: &MutexGuard<'_, Sleepers>, read: HandIn<C, S, P, A>)
         requires { IsMadeAt S.FileSystem P.ProcessReadDir C.ReadDirState.Clone C.DirEntryState.Default
             self.now.work (indices_of read.address) read.message read.children.items }
     {
-        let Some(mut board) = self.take_out() else {
+        let Some(mut board) = self.take_out(held) else {
             return;
         };
         let _refused = read.finish(&mut *board);
-        self.put_back(board);
+        self.put_back(held, board);
     }
 
-    /// A worker's turn at the board, while the lock is held: what it does next, and whom that calls.
-    pub(crate) fn turn(&self) -> (Turn<ReadDirSpec<C, A>, A>, Calls)
+    /// A worker's turn at the board: what it does next, and whom that calls.
+    pub(crate) fn turn(
+        &self,
+        held: &MutexGuard<'_, Sleepers>,
+    ) -> (Turn<ReadDirSpec<C, A>, A>, Calls)
         ensures { IsTurnOf S.FileSystem P.ProcessReadDir C.ReadDirState.Clone C.DirEntryState.Default
             self.now.work result.0 }
     {
-        let Some(mut board) = self.take_out() else {
+        let Some(mut board) = self.take_out(held) else {
             return (Turn::End, Calls::all());
         };
         let turn = take_turn(&mut *board);
         let calls = Calls::after_turn(&*board, &turn);
-        self.put_back(board);
+        self.put_back(held, board);
         (turn, calls)
     }
 
-    /// Asks the board for the reading that is wanted, while the lock is held.
-    pub(crate) fn arrival(&self, wanted: &Wanted<A>) -> Arrival<C, S, P, A>
+    /// Asks the board for the reading that is wanted.
+    pub(crate) fn arrival(
+        &self,
+        held: &MutexGuard<'_, Sleepers>,
+        wanted: &Wanted<A>,
+    ) -> Arrival<C, S, P, A>
         ensures { IsArrivalOf S.FileSystem P.ProcessReadDir C.ReadDirState.Clone C.DirEntryState.Default
             self.now.work wanted.now result }
     {
-        let Some(mut board) = self.take_out() else {
+        let Some(mut board) = self.take_out(held) else {
             return Arrival::Lost;
         };
         let arrival = arrive(&mut *board, wanted);
-        self.put_back(board);
+        self.put_back(held, board);
         arrival
     }
 
-    /// How many readings are ready, while the lock is held.
-    pub(crate) fn ready(&self) -> usize {
-        let Some(board) = self.take_out() else {
+    /// How many readings are ready.
+    pub(crate) fn ready(&self, held: &MutexGuard<'_, Sleepers>) -> usize {
+        let Some(board) = self.take_out(held) else {
             return 0;
         };
         let ready = board.ready();
-        self.put_back(board);
+        self.put_back(held, board);
         ready
     }
 
-    /// Stops the board, while the lock is held.
-    fn stop_board(&self) {
-        let Some(mut board) = self.take_out() else {
+    /// Stops the board.
+    fn stop_board(&self, held: &MutexGuard<'_, Sleepers>) {
+        let Some(mut board) = self.take_out(held) else {
             return;
         };
         board.stop();
-        self.put_back(board);
+        self.put_back(held, board);
     }
 
     /// Calls those who sleep.
@@ -199,7 +206,7 @@ impl<
     /// Stops the board, and with it the workers and the walk.
     pub(crate) fn stop(&self) {
         let mut sleepers = self.sleepers.lock(&self.crew.rt);
-        self.stop_board();
+        self.stop_board(&sleepers);
         let calls = sleepers.called_by(Calls::all());
         drop(sleepers);
         self.call(calls);

@@ -65,10 +65,10 @@ impl<
         let rt = &self.shared.crew.rt;
         let mut sleepers = self.shared.sleepers.lock(rt);
         if let Some(read) = read {
-            self.shared.hand_in(read);
+            self.shared.hand_in(&sleepers, read);
         }
         for _ in rt.forever() {
-            let (turn, wanted) = self.shared.turn();
+            let (turn, wanted) = self.shared.turn(&sleepers);
             let calls = sleepers.called_by(wanted);
             match turn {
                 Turn::Wait if calls.is_empty() => {
