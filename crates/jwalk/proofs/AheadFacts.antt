@@ -16,6 +16,7 @@ use Rattle.jwalk_read.specs.declared.job.Job.{Job}
 use Rattle.jwalk_read.specs.Job.{greatest_depth}
 use Rattle.jwalk_engine.specs.Reads.{ReadsNextBy}
 use Rattle.jwalk_engine.specs.ReadAhead.{ReadAhead, HandsOnAt, ReadsLeast}
+use Rattle.jwalk_crew.specs.declared.pool.Pool as Pool
 use Rattle.jwalk.specs.declared.dir_entry_iter.DirEntryIter.{DirEntryIter}
 use Rattle.jwalk.specs.ReadDirIter.{EntersBy, EntersNextBy}
 use Rattle.jwalk.specs.Step.{IsAtDirectory, PassesNext}
@@ -65,7 +66,7 @@ module _ {C S P A R E : Type 0} (files : FileSystem.Ghosts S) (process : Process
     | inr reads ↦ omega (arith, least_join old reads.1.0 reads.1.1, one_leaves at reads.1.0 new reads.1.2)
   ]
 
-module _ {C S P A T L R E : Type 0} (files : FileSystem.Ghosts S) (process : ProcessReadDir.Ghosts P C A R E) (clone : Clone.Ghosts R) (defaults : Default.Ghosts E) (old : DirEntryIter C S P A T L R E) where
+module _ {C S P A T L R E : Type 0} (files : FileSystem.Ghosts S) (process : ProcessReadDir.Ghosts P C A R E) (clone : Clone.Ghosts R) (defaults : Default.Ghosts E) (pool : Pool.Ghosts L C S P A R E) (old : DirEntryIter C S P A T L R E) where
   -- nothing more is read where what was read ahead stays as it is
   pub grows_no_more : (entered : ℕ) (mid new : DirEntryIter C S P A T L R E) → read_ahead new ≡ read_ahead mid → length (early_of mid) + entered ≤ length (early_of old) + entered * width_of old → length (early_of new) + entered ≤ length (early_of old) + entered * width_of old
   grows_no_more entered mid new same grown =
@@ -73,16 +74,16 @@ module _ {C S P A T L R E : Type 0} (files : FileSystem.Ghosts S) (process : Pro
       subst (λ n. n + entered ≤ length (early_of old) + entered * width_of old) (sym as_many) grown
 
   -- what is read ahead grows by less than the width with each directory that is entered
-  pub grows : {entered : ℕ} {new : DirEntryIter C S P A T L R E} → PassesMany files process clone defaults old entered new → length (early_of new) + entered ≤ length (early_of old) + entered * width_of old
+  pub grows : {entered : ℕ} {new : DirEntryIter C S P A T L R E} → PassesMany files process clone defaults pool old entered new → length (early_of new) + entered ≤ length (early_of old) + entered * width_of old
   grows none_passed = omega arith
   grows (one_passed {entered} {mid} {new} many next alone same) = grows_no_more entered mid new same (grows many)
   grows (one_entered {mid} {new} many next at enters) =
       omega (arith, grows many, enters_fewer files process clone defaults (job_of old) (width_of old) (by_crew old) (next_address mid) (read_ahead mid) (read_ahead new) enters)
 
-module _ {C S P A T L R E : Type 0} (files : FileSystem.Ghosts S) (process : ProcessReadDir.Ghosts P C A R E) (clone : Clone.Ghosts R) (defaults : Default.Ghosts E) (old new : DirEntryIter C S P A T L R E) where
+module _ {C S P A T L R E : Type 0} (files : FileSystem.Ghosts S) (process : ProcessReadDir.Ghosts P C A R E) (clone : Clone.Ghosts R) (defaults : Default.Ghosts E) (pool : Pool.Ghosts L C S P A R E) (old new : DirEntryIter C S P A T L R E) where
   -- a directory's entry is passed, where this came of its reading
   pub entered_if_any : (x : Item R E) (rest : List (Item R E)) (read : Option (Outcome R E)) (left : List (Spec R)) (mid : ReadAhead R) → items_of old ≡ x ∷ rest → has_directory x ≡ true
-      → ReadsNextBy clone (KnownAt files process clone defaults old (next_address old) x) (greatest_depth (job_of old)) (unread_of old) read left
+      → ReadsNextBy clone (KnownAt files process clone defaults pool old (next_address old) x) (greatest_depth (job_of old)) (unread_of old) read left
       → EntersNextBy files process clone defaults (by_crew old) (job_of old) (width_of old) (next_address old) (read_ahead old) read mid → read_ahead new ≡ mid
       → EntersIfAny files process clone defaults old new
   entered_if_any x rest None left mid items dir reads enters same = inr (at_nothing (items_of old) (unread_of old) reads.0, same ∙ enters)
@@ -95,11 +96,11 @@ module _ {C S P A T L R E : Type 0} (files : FileSystem.Ghosts S) (process : Pro
     | inr alone ↦ alone.1
   ]
 
-module _ {C S P A T L R E : Type 0} (files : FileSystem.Ghosts S) (process : ProcessReadDir.Ghosts P C A R E) (clone : Clone.Ghosts R) (defaults : Default.Ghosts E) (old mid new : DirEntryIter C S P A T L R E) where
+module _ {C S P A T L R E : Type 0} (files : FileSystem.Ghosts S) (process : ProcessReadDir.Ghosts P C A R E) (clone : Clone.Ghosts R) (defaults : Default.Ghosts E) (pool : Pool.Ghosts L C S P A R E) (old mid new : DirEntryIter C S P A T L R E) where
   -- one item more is passed
-  pub one_more : (entered : ℕ) (passed : Item R E) → PassesMany files process clone defaults old entered mid → by_crew mid ≡ by_crew old → job_of mid ≡ job_of old → width_of mid ≡ width_of old
-      → PassesNext clone (KnownAt files process clone defaults old (next_address mid)) (job_of old) (items_of mid) (unread_of mid) passed (items_of new) (unread_of new) → EntersIfAny files process clone defaults mid new
-      → (n : ℕ) × PassesMany files process clone defaults old n new
+  pub one_more : (entered : ℕ) (passed : Item R E) → PassesMany files process clone defaults pool old entered mid → by_crew mid ≡ by_crew old → job_of mid ≡ job_of old → width_of mid ≡ width_of old
+      → PassesNext clone (KnownAt files process clone defaults pool old (next_address mid)) (job_of old) (items_of mid) (unread_of mid) passed (items_of new) (unread_of new) → EntersIfAny files process clone defaults mid new
+      → (n : ℕ) × PassesMany files process clone defaults pool old n new
   one_more entered passed many crew job width next any = elim any [
     | inl at ↦
         let EntersOver : Bool → Job C S P A R E → ℕ → Type 0 = λ b j w. EntersBy files process clone defaults b j w (next_address mid) (read_ahead mid) (read_ahead new) in

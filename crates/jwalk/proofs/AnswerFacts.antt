@@ -24,12 +24,13 @@ use Rattle.jwalk_read.specs.Error.{failure}
 use Rattle.jwalk_read.specs.Entry.{item}
 use Rattle.jwalk_read.specs.Given.{Given, counted_item, counted_spec, counted_reading}
 use Rattle.jwalk_read.specs.Job.{options_of, greatest_depth, job_by, ClonesCount}
+use Rattle.jwalk_crew.specs.declared.pool.Pool as Pool
 use Rattle.jwalk.specs.declared.dir_entry_iter.DirEntryIter.{DirEntryIter}
 use Rattle.jwalk.specs.Step.{ReadsUpTo, IsAtDirectory, StopsAtDirectory}
 use Rattle.jwalk_engine.specs.ReadAhead.{nothing_ahead}
 use Rattle.jwalk.specs.ReadDirIter.{Tells}
 use Rattle.jwalk.specs.DirEntryIter.{by_crew, job_of, min_depth_of, items_of, unread_of, width_of, read_ahead, GoesAhead, GrowsAhead, held, held_by, refusal, to_come, IsSourced, Stops, Known, StaysSteady, Answers}
-use Rattle.jwalk.proofs.KnownFacts.{own_tells, own_if_steady, clones_if_steady, items_known}
+use Rattle.jwalk.proofs.KnownFacts.{clones_if_steady, items_known}
 use Rattle.jwalk.proofs.StepFacts.{next_within, next_lighter, next_count, next_plain, next_listed, left_within, left_lighter, left_count, left_plain, left_to_come}
 
 -- at a directory nothing is said of the answer but what its reading tells
@@ -76,7 +77,7 @@ module _ {C S P A T L R E : Type 0} where
       let both = sourced (items_of it) (unread_of it) count in
       record { each = rw (held_rest it started) both.0; unread = rw (held_rest it started) both.1 }
 
-module _ {C S P A T L R E : Type 0} (files : FileSystem.Ghosts S) (process : ProcessReadDir.Ghosts P C A R E) (clone : Clone.Ghosts R) (defaults : Default.Ghosts E) (old new : DirEntryIter C S P A T L R E) where
+module _ {C S P A T L R E : Type 0} (files : FileSystem.Ghosts S) (process : ProcessReadDir.Ghosts P C A R E) (clone : Clone.Ghosts R) (defaults : Default.Ghosts E) (pool : Pool.Ghosts L C S P A R E) (old new : DirEntryIter C S P A T L R E) where
   -- what is listed of items and specifications over the old walk's job
   abbrev Listing : Given R E → List (Item R E) → List (Spec R) → List (Item Worth Worth)
   Listing given items specs = listing (reading (job_by files given (job_of old))) (greatest_depth (job_of old)) (pair_up (map (counted_item given) items) (map (counted_spec given) specs))
@@ -90,16 +91,16 @@ module _ {C S P A T L R E : Type 0} (files : FileSystem.Ghosts S) (process : Pro
       ∙ ap (value.to_come (reading (job_by files given (job_of old))) (min_depth_of old) (greatest_depth (job_of old))) (held_by_rest given new started)
 
   -- a walk that was not refused at its start enters directories
-  goes_ahead : (answer : Option (Item R E)) → old.refused ≡ false → GrowsAhead files process clone defaults old new → GoesAhead files process clone defaults old answer new
+  goes_ahead : (answer : Option (Item R E)) → old.refused ≡ false → GrowsAhead files process clone defaults pool old new → GoesAhead files process clone defaults pool old answer new
   goes_ahead answer began grown =
-      subst (λ b. MatchBool b (read_ahead new ≡ read_ahead old) ((IsSomeAnd answer (λ a. Stops (by_crew old) a new) × (read_ahead new ≡ nothing_ahead)) ⊎ GrowsAhead files process clone defaults old new)) (sym began) (inr grown)
+      subst (λ b. MatchBool b (read_ahead new ≡ read_ahead old) ((IsSomeAnd answer (λ a. Stops (by_crew old) a new) × (read_ahead new ≡ nothing_ahead)) ⊎ GrowsAhead files process clone defaults pool old new)) (sym began) (inr grown)
 
   -- items were left out, and then one is passed that is answered
   abbrev Knows : Item R E → Spec R → Outcome R E → Type 0
-  Knows = Known files process clone defaults old
+  Knows = Known files process clone defaults pool old
 
   answers_some : (x : Result (DirEntry C A R E) (Error A)) → old.refused ≡ false → new.refused ≡ false → by_crew new ≡ by_crew old → job_of new ≡ job_of old
-      → ReadsUpTo clone Knows (job_of old) (items_of old) (unread_of old) (Some (item x)) (items_of new) (unread_of new) → width_of new ≡ width_of old → StaysSteady files process clone defaults old new → GrowsAhead files process clone defaults old new → Answers files process clone defaults old (Some x) new
+      → ReadsUpTo clone Knows (job_of old) (items_of old) (unread_of old) (Some (item x)) (items_of new) (unread_of new) → width_of new ≡ width_of old → StaysSteady files process clone defaults pool old new → GrowsAhead files process clone defaults pool old new → Answers files process clone defaults pool old (Some x) new
   answers_some x began started crew job reads width keeps grown =
       let j = job_of old in
       let left = reads.2 in
@@ -125,14 +126,14 @@ module _ {C S P A T L R E : Type 0} (files : FileSystem.Ghosts S) (process : Pro
         ahead = goes_ahead (Some (item x)) began grown;
         coming = λ given counted. inr (
             come_old given began
-            ∙ left_to_come clone Knows j (items_of old) (unread_of old) files given (clones_if_steady files process clone defaults old.reads given counted) (items_known files process clone defaults old given counted) left
-            ∙ ap (answers (min_depth_of old)) (next_listed clone Knows j files given (clones_if_steady files process clone defaults old.reads given counted) (items_known files process clone defaults old given counted) next)
+            ∙ left_to_come clone Knows j (items_of old) (unread_of old) files given (clones_if_steady files process clone defaults pool old.reads given counted) (items_known files process clone defaults pool old given counted) left
+            ∙ ap (answers (min_depth_of old)) (next_listed clone Knows j files given (clones_if_steady files process clone defaults pool old.reads given counted) (items_known files process clone defaults pool old given counted) next)
             ∙ rw (counted-is_answered given.read_dir_state given.dir_entry_state (min_depth_of old) (item x), kept) (ap (λ l. counted_item given (item x) ∷ l) (sym (come_new given started job))));
       }
 
   -- all that was held is left out
   answers_none : old.refused ≡ false → new.refused ≡ false → by_crew new ≡ by_crew old → job_of new ≡ job_of old
-      → ReadsUpTo clone Knows (job_of old) (items_of old) (unread_of old) None (items_of new) (unread_of new) → width_of new ≡ width_of old → StaysSteady files process clone defaults old new → GrowsAhead files process clone defaults old new → Answers files process clone defaults old None new
+      → ReadsUpTo clone Knows (job_of old) (items_of old) (unread_of old) None (items_of new) (unread_of new) → width_of new ≡ width_of old → StaysSteady files process clone defaults pool old new → GrowsAhead files process clone defaults pool old new → Answers files process clone defaults pool old None new
   answers_none began started crew job reads width keeps grown =
       let j = job_of old in
       let left = reads.2 in
@@ -158,18 +159,18 @@ module _ {C S P A T L R E : Type 0} (files : FileSystem.Ghosts S) (process : Pro
         ahead = goes_ahead None began grown;
         coming = λ given counted.
             come_old given began
-            ∙ left_to_come clone Knows j (items_of old) (unread_of old) files given (clones_if_steady files process clone defaults old.reads given counted) (items_known files process clone defaults old given counted) left
+            ∙ left_to_come clone Knows j (items_of old) (unread_of old) files given (clones_if_steady files process clone defaults pool old.reads given counted) (items_known files process clone defaults pool old given counted) left
             ∙ ap (λ l. answers (min_depth_of old) (Listing given l unread)) none;
       }
 
   pub answers_reads : (answer : Option (Result (DirEntry C A R E) (Error A))) → old.refused ≡ false → new.refused ≡ false → by_crew new ≡ by_crew old → job_of new ≡ job_of old
-      → ReadsUpTo clone Knows (job_of old) (items_of old) (unread_of old) (option_map item answer) (items_of new) (unread_of new) → width_of new ≡ width_of old → StaysSteady files process clone defaults old new → GrowsAhead files process clone defaults old new → Answers files process clone defaults old answer new
+      → ReadsUpTo clone Knows (job_of old) (items_of old) (unread_of old) (option_map item answer) (items_of new) (unread_of new) → width_of new ≡ width_of old → StaysSteady files process clone defaults pool old new → GrowsAhead files process clone defaults pool old new → Answers files process clone defaults pool old answer new
   answers_reads None began started crew job reads width keeps grown = answers_none began started crew job reads width keeps grown
   answers_reads (Some x) began started crew job reads width keeps grown = answers_some x began started crew job reads width keeps grown
 
   -- the walk ends early below a directory
   pub answers_stopped : (error : Error A) → Tells (by_crew old) (failure error) → old.refused ≡ false → new.refused ≡ false → by_crew new ≡ by_crew old → job_of new ≡ job_of old → items_of new ≡ [] → unread_of new ≡ []
-      → StopsAtDirectory clone Knows (job_of old) (items_of old) (unread_of old) → width_of new ≡ width_of old → StaysSteady files process clone defaults old new → read_ahead new ≡ nothing_ahead → Answers files process clone defaults old (Some (Err error)) new
+      → StopsAtDirectory clone Knows (job_of old) (items_of old) (unread_of old) → width_of new ≡ width_of old → StaysSteady files process clone defaults pool old new → read_ahead new ≡ nothing_ahead → Answers files process clone defaults pool old (Some (Err error)) new
   answers_stopped error tells began started crew job none no_unread stops width keeps nothing_left =
       let j = job_of old in
       let left = stops.2 in
@@ -189,11 +190,11 @@ module _ {C S P A T L R E : Type 0} (files : FileSystem.Ghosts S) (process : Pro
         width = width;
         steady = keeps;
         ahead = rw began (inl (stopped, nothing_left));
-        coming = λ given counted. inl (record { tells = ap Err (own_tells (by_crew old) (failure error) (own_if_steady files process clone defaults old.reads given counted) tells); nothing_held = after; nothing_unread = no_unread });
+        coming = λ given counted. inl stopped;
       }
 
   -- a walk that was refused at its start tells of it
-  pub answers_refusal : (error : Error A) → failure error ≡ memory → old.refused ≡ true → new.refused ≡ false → by_crew new ≡ by_crew old → job_of new ≡ job_of old → items_of new ≡ items_of old → unread_of new ≡ unread_of old → width_of new ≡ width_of old → StaysSteady files process clone defaults old new → read_ahead new ≡ read_ahead old → Answers files process clone defaults old (Some (Err error)) new
+  pub answers_refusal : (error : Error A) → failure error ≡ memory → old.refused ≡ true → new.refused ≡ false → by_crew new ≡ by_crew old → job_of new ≡ job_of old → items_of new ≡ items_of old → unread_of new ≡ unread_of old → width_of new ≡ width_of old → StaysSteady files process clone defaults pool old new → read_ahead new ≡ read_ahead old → Answers files process clone defaults pool old (Some (Err error)) new
   answers_refusal error told refused started crew job items unread width keeps same_ahead =
       let front = held_refused old refused in
       let rest : held new ≡ pair_up (items_of old) (unread_of old) = held_rest new started ∙ ap (λ l. pair_up l (unread_of new)) items ∙ ap (pair_up (items_of old)) unread in

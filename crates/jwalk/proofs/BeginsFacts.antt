@@ -1,5 +1,5 @@
 -- How a builder's walk begins where it may be told to read by a crew.
-use Rattle.std.proofs.Common.{◌≡◌, ◌∙◌, ◌⊎◌, ℕ, true, false, List, map, Option, Some, None, Result, Ok, Err, IfOk, IfSome, IsSome, IsSomeAnd, inl, inr, refl, sym, ap, subst}
+use Rattle.std.proofs.Common.{◌≡◌, ◌∙◌, ◌⊎◌, ℕ, true, List, map, Option, Some, None, Result, Ok, Err, IfOk, IfSome, IsSome, IsSomeAnd, inl, inr, refl, sym, ap, subst}
 use Rattle.std.specs.Prelude.{option_map}
 use Rattle.std.specs.Result.{result_ok}
 use Rattle.std.specs.declared.clone.Clone as Clone
@@ -22,9 +22,9 @@ use Rattle.jwalk_read.specs.Job as job
 use Rattle.jwalk_read.specs.Job.{file_system, callback, job_by, IsSteady}
 use Rattle.jwalk_crew.specs.declared.crew.NotStarted.{NotStarted}
 use Rattle.jwalk_crew.specs.declared.crew.NotStarted.TheVariants.{Busy, Memory}
-use Rattle.jwalk.specs.DirEntryIter.{by_crew, held_by, IsRefused}
+use Rattle.jwalk.specs.DirEntryIter.{by_crew, held_by}
 use Rattle.jwalk.specs.CrewStart.{busy_pair, start_failure, HoldsList, IsFromRoot}
-use Rattle.jwalk.specs.WalkDir.{file_system_of, callback_of, root_of, state_of, options_of, job_for, Starts, Holds, HoldsUnless, Begins}
+use Rattle.jwalk.specs.WalkDir.{file_system_of, callback_of, root_of, state_of, options_of, job_for, Starts, HoldsUnless, Begins}
 use Rattle.jwalk.specs.declared.dir_entry_iter.DirEntryIter.{DirEntryIter}
 use Rattle.jwalk.specs.declared.walk_dir.WalkDirGeneric.{WalkDirGeneric}
 
@@ -94,20 +94,3 @@ module _ {C S P A T W L R E : Type 0} (files : FileSystem.Ghosts S) (process : P
       by = λ by. sym (ap (λ o. o.parallelism) options) ∙ is.by by;
       reads = reads;
     }
-
-  holds_unless : (why_not : Option NotStarted) → ¬ (why_not ≡ Some Busy) → HoldsUnless files process clone defaults why_not walk it → IsRefused it ⊎ Holds files process clone defaults walk it
-  holds_unless None free holds = inr holds
-  holds_unless (Some Busy) free holds = absurd (free refl)
-  holds_unless (Some Memory) free holds = inl holds
-
-  module _ (why_not : Option NotStarted) (begins : Begins files process clone defaults walk why_not it) (not_crew : ¬ ((options_of walk).parallelism ≡ crew)) where
-    -- a walk that no crew is to read for is read by none
-    pub begins_own : by_crew it ≡ false
-    begins_own = elim (by_crew it) as (λ b. by_crew it ≡ b → by_crew it ≡ false) [
-      | true ↦ λ is. absurd (not_crew (begins.by is))
-      | false ↦ λ is. is
-    ] refl
-
-    -- and it holds its root's list, unless memory was refused
-    pub begins_holds : IsRefused it ⊎ Holds files process clone defaults walk it
-    begins_holds = holds_unless why_not (λ is. not_crew (begins.busy is)) begins.holds

@@ -18,17 +18,19 @@ use Rattle.jwalk_read.specs.declared.dir_entry.DirEntry.{DirEntry}
 use Rattle.jwalk_read.specs.Entry.{item}
 use Rattle.jwalk_read.specs.Given.{Given, counted_item}
 use Rattle.jwalk_read.specs.Job.{options_of, greatest_depth, job_by}
+use Rattle.jwalk_crew.specs.declared.pool.Pool as Pool
 use Rattle.jwalk.specs.declared.dir_entry_iter.DirEntryIter.{DirEntryIter}
-use Rattle.jwalk.specs.DirEntryIter.{by_crew, job_of, min_depth_of, width_of, held, weight_of, to_come, IsWithin, IsSourced, Refuses, IsSteadyWalk, Answers, ComesFirst, EndsRefused, FillCalls, Fills}
+use Rattle.jwalk.specs.ReadDirIter.{Tells}
+use Rattle.jwalk.specs.DirEntryIter.{by_crew, job_of, min_depth_of, width_of, held, weight_of, to_come, IsWithin, IsSourced, Stops, IsSteadyWalk, Answers, ComesFirst, EndsEarly, FillCalls, Fills}
 use Rattle.jwalk.proofs.AnswerFacts.{held_by_nothing}
 
 -- where nothing is held, nothing is answered
 nothing_answered : {R E : Type 0} (min_depth : ℕ) (old : List (Pair R E)) (x : Item R E) (new : List (Pair R E)) → old ≡ [] → AnswersPlainly min_depth old (Some x) new → ⊥
 nothing_answered min_depth old x new none plain = let no = rw none at plain in absurd (let is : Some x ≡ None = no.0 in cc)
 
-module _ {C S P A T L R E : Type 0} (files : FileSystem.Ghosts S) (process : ProcessReadDir.Ghosts P C A R E) (clone : Clone.Ghosts R) (defaults : Default.Ghosts E) where
+module _ {C S P A T L R E : Type 0} (files : FileSystem.Ghosts S) (process : ProcessReadDir.Ghosts P C A R E) (clone : Clone.Ghosts R) (defaults : Default.Ghosts E) (pool : Pool.Ghosts L C S P A R E) where
   abbrev Steps : DirEntryIter C S P A T L R E → Option (Result (DirEntry C A R E) (Error A)) → DirEntryIter C S P A T L R E → Type 0
-  Steps = Answers files process clone defaults
+  Steps = Answers files process clone defaults pool
 
   -- calls change no job
   pub same_job : (xs : List (Result (DirEntry C A R E) (Error A))) (s t : DirEntryIter C S P A T L R E) → Yields Steps s xs t → job_of t ≡ job_of s
@@ -59,8 +61,8 @@ module _ {C S P A T L R E : Type 0} (files : FileSystem.Ghosts S) (process : Pro
   sourced (x ∷ xs) s t (j, step, rest) h = sourced xs j t rest (step.sourced h)
 
   -- a steady walk stays so
-  pub stays_steady : (given : Given R E) (xs : List (Result (DirEntry C A R E) (Error A))) (s t : DirEntryIter C S P A T L R E) → Yields Steps s xs t → IsSteadyWalk files process clone defaults s given → IsSteadyWalk files process clone defaults t given
-  stays_steady given [] s t same steady = subst (λ k. IsSteadyWalk files process clone defaults k given) same steady
+  pub stays_steady : (given : Given R E) (xs : List (Result (DirEntry C A R E) (Error A))) (s t : DirEntryIter C S P A T L R E) → Yields Steps s xs t → IsSteadyWalk files process clone defaults pool s given → IsSteadyWalk files process clone defaults pool t given
+  stays_steady given [] s t same steady = subst (λ k. IsSteadyWalk files process clone defaults pool k given) same steady
   stays_steady given (x ∷ xs) s t (j, step, rest) steady = stays_steady given xs j t rest (step.steady given steady)
 
   -- each answer makes the walk lighter
@@ -73,36 +75,40 @@ module _ {C S P A T L R E : Type 0} (files : FileSystem.Ghosts S) (process : Pro
   none_after [] s t none same = (refl, same)
   none_after (x ∷ xs) s t none (j, step, rest) = absurd (nothing_answered (min_depth_of s) (held s) (item x) (held j) none step.plain)
 
-  refused : (given : Given R E) (x : Result (DirEntry C A R E) (Error A)) (xs : List (Result (DirEntry C A R E) (Error A))) (s j t : DirEntryIter C S P A T L R E) → Refuses (item x) j → Yields Steps j xs t → EndsRefused files given s (map item (x ∷ xs)) t
-  refused given x xs s j t refuses rest =
-      let no_more = none_after xs j t refuses.nothing_held rest in
+  stopped : (given : Given R E) (x : Result (DirEntry C A R E) (Error A)) (xs : List (Result (DirEntry C A R E) (Error A))) (s j t : DirEntryIter C S P A T L R E) → Stops (by_crew s) (item x) j → Yields Steps j xs t → EndsEarly files given s (map item (x ∷ xs)) t
+  stopped given x xs s j t stops rest =
+      let no_more = none_after xs j t stops.nothing_held rest in
       record {
         before = [];
         missed = to_come files given s;
+        error = stops.error;
         beginning = refl;
-        told = rw (no_more.0, refuses.tells) refl;
-        nothing_held = subst (λ k. held k ≡ []) no_more.1 refuses.nothing_held;
+        told = rw (no_more.0, stops.told) refl;
+        tells = stops.tells;
+        nothing_held = subst (λ k. held k ≡ []) no_more.1 stops.nothing_held;
       }
 
-  one_more : (given : Given R E) (x : Item R E) (answered : List (Item R E)) (s j t : DirEntryIter C S P A T L R E) → ComesFirst files given s (x ∷ []) j → ComesFirst files given j answered t ⊎ EndsRefused files given j answered t → ComesFirst files given s (x ∷ answered) t ⊎ EndsRefused files given s (x ∷ answered) t
-  one_more given x answered s j t first more = elim more [
+  one_more : (given : Given R E) (x : Item R E) (answered : List (Item R E)) (s j t : DirEntryIter C S P A T L R E) → by_crew j ≡ by_crew s → ComesFirst files given s (x ∷ []) j → ComesFirst files given j answered t ⊎ EndsEarly files given j answered t → ComesFirst files given s (x ∷ answered) t ⊎ EndsEarly files given s (x ∷ answered) t
+  one_more given x answered s j t crew first more = elim more [
     | inl comes ↦ inl (first ∙ ap (λ l. counted_item given x ∷ l) comes)
     | inr ends ↦ inr (record {
       before = x ∷ ends.before;
       missed = ends.missed;
+      error = ends.error;
       beginning = first ∙ ap (λ l. counted_item given x ∷ l) ends.beginning;
       told = ap (λ l. x ∷ l) ends.told;
+      tells = subst (λ b. Tells b ends.error) crew ends.tells;
       nothing_held = ends.nothing_held;
     })
   ]
 
-  -- what calls answer is the first of what was to come, or a beginning of it and then a refusal
-  pub come : (given : Given R E) (xs : List (Result (DirEntry C A R E) (Error A))) (s t : DirEntryIter C S P A T L R E) → IsSteadyWalk files process clone defaults s given → Yields Steps s xs t → ComesFirst files given s (map item xs) t ⊎ EndsRefused files given s (map item xs) t
+  -- what calls answer is the first of what was to come, or a beginning of it and then the error that tells why the walk ends early
+  pub come : (given : Given R E) (xs : List (Result (DirEntry C A R E) (Error A))) (s t : DirEntryIter C S P A T L R E) → IsSteadyWalk files process clone defaults pool s given → Yields Steps s xs t → ComesFirst files given s (map item xs) t ⊎ EndsEarly files given s (map item xs) t
   come given [] s t steady same = inl (ap (to_come files given) same)
   come given (x ∷ xs) s t steady (j, step, rest) =
       elim (step.coming given steady) [
-        | inl refuses ↦ inr (refused given x xs s j t refuses rest)
-        | inr first ↦ one_more given (item x) (map item xs) s j t first (come given xs j t (step.steady given steady) rest)
+        | inl stops ↦ inr (stopped given x xs s j t stops rest)
+        | inr first ↦ one_more given (item x) (map item xs) s j t step.crew first (come given xs j t (step.steady given steady) rest)
       ]
 
 -- calls after calls
@@ -110,42 +116,42 @@ pub calls_on : {S X : Type 0} (steps : S → Option X → S → Type 0) (xs ys :
 calls_on steps [] ys s t u same rest = subst (λ k. Yields steps k ys u) (sym same) rest
 calls_on steps (x ∷ xs) ys s t u (j, first, more) rest = (j, first, calls_on steps xs ys j t u more rest)
 
-module _ {C S P A T L R E : Type 0} (files : FileSystem.Ghosts S) (process : ProcessReadDir.Ghosts P C A R E) (clone : Clone.Ghosts R) (defaults : Default.Ghosts E) (n told : ℕ) (start old new : DirEntryIter C S P A T L R E) (earlier answered : List (Result (DirEntry C A R E) (Error A))) where
+module _ {C S P A T L R E : Type 0} (files : FileSystem.Ghosts S) (process : ProcessReadDir.Ghosts P C A R E) (clone : Clone.Ghosts R) (defaults : Default.Ghosts E) (pool : Pool.Ghosts L C S P A R E) (n told : ℕ) (start old new : DirEntryIter C S P A T L R E) (earlier answered : List (Result (DirEntry C A R E) (Error A))) where
   -- calls of `next`, and then a call of `fill` that told all that it was asked for, are so many calls of `next`
-  pub filled_on : Yields (Answers files process clone defaults) start earlier old → FillCalls files process clone defaults n old answered (Ok told) new → told ≡ n → Yields (Answers files process clone defaults) start (earlier ++ answered) new
+  pub filled_on : Yields (Answers files process clone defaults pool) start earlier old → FillCalls files process clone defaults pool n old answered (Ok told) new → told ≡ n → Yields (Answers files process clone defaults pool) start (earlier ++ answered) new
   filled_on before calls all =
-      calls_on (Answers files process clone defaults) earlier answered start old new before
+      calls_on (Answers files process clone defaults pool) earlier answered start old new before
       (elim calls [ inl full ↦ full.1 | inr ended ↦ absurd (omega (arith, ended.0, all)) ])
 
   -- where it told fewer, they are all up to the one that answers `None`
-  pub filled_to_end : Yields (Answers files process clone defaults) start earlier old → FillCalls files process clone defaults n old answered (Ok told) new → told ≢ n → Drains (Answers files process clone defaults) start (earlier ++ answered)
+  pub filled_to_end : Yields (Answers files process clone defaults pool) start earlier old → FillCalls files process clone defaults pool n old answered (Ok told) new → told ≢ n → Drains (Answers files process clone defaults pool) start (earlier ++ answered)
   filled_to_end before calls fewer = elim calls [
     | inl full ↦ absurd (fewer full.0)
     | inr ended ↦
         let last = ended.1.0 in
-        (new, (last, calls_on (Answers files process clone defaults) earlier answered start old last before ended.1.1, ended.1.2))
+        (new, (last, calls_on (Answers files process clone defaults pool) earlier answered start old last before ended.1.1, ended.1.2))
   ]
 
-module _ {C S P A T L R E : Type 0} (files : FileSystem.Ghosts S) (process : ProcessReadDir.Ghosts P C A R E) (clone : Clone.Ghosts R) (defaults : Default.Ghosts E) (n : ℕ) (old : DirEntryIter C S P A T L R E) (before : List (Result (DirEntry C A R E) (Error A))) where
+module _ {C S P A T L R E : Type 0} (files : FileSystem.Ghosts S) (process : ProcessReadDir.Ghosts P C A R E) (clone : Clone.Ghosts R) (defaults : Default.Ghosts E) (pool : Pool.Ghosts L C S P A R E) (n : ℕ) (old : DirEntryIter C S P A T L R E) (before : List (Result (DirEntry C A R E) (Error A))) where
   -- What was filled in so far: as many answers as are counted, n at most, each of a call of `next`.
   pub record Filled (filled : ℕ) (now : List (Result (DirEntry C A R E) (Error A))) (new : DirEntryIter C S P A T L R E) : Type 0 where
     pub answered : List (Result (DirEntry C A R E) (Error A))
     pub appended : now ≡ before ++ answered
     pub number : filled ≡ length answered
     pub few : filled ≤ n
-    pub calls : Yields (Answers files process clone defaults) old answered new
+    pub calls : Yields (Answers files process clone defaults pool) old answered new
 
-  pub one_filled : (filled : ℕ) (now : List (Result (DirEntry C A R E) (Error A))) (mid new : DirEntryIter C S P A T L R E) (x : Result (DirEntry C A R E) (Error A)) → Filled filled now mid → filled < n → Answers files process clone defaults mid (Some x) new → Filled (filled + 1) (now ++ x ∷ []) new
+  pub one_filled : (filled : ℕ) (now : List (Result (DirEntry C A R E) (Error A))) (mid new : DirEntryIter C S P A T L R E) (x : Result (DirEntry C A R E) (Error A)) → Filled filled now mid → filled < n → Answers files process clone defaults pool mid (Some x) new → Filled (filled + 1) (now ++ x ∷ []) new
   one_filled filled now mid new x sofar less step = record {
     answered = sofar.answered ++ x ∷ [];
     appended = ap (λ l. l ++ x ∷ []) sofar.appended ∙ append_assoc before sofar.answered (x ∷ []);
     number = rw sofar.number (sym (length-append sofar.answered (x ∷ [])));
     few = omega (arith, less);
-    calls = calls_on (Answers files process clone defaults) sofar.answered (x ∷ []) old mid new sofar.calls (new, step, refl);
+    calls = calls_on (Answers files process clone defaults pool) sofar.answered (x ∷ []) old mid new sofar.calls (new, step, refl);
   }
 
   -- all that were asked for
-  pub fills_up : (filled : ℕ) (now : List (Result (DirEntry C A R E) (Error A))) (new : DirEntryIter C S P A T L R E) → Filled filled now new → n ≤ filled → Fills files process clone defaults n old before (Ok filled) now new
+  pub fills_up : (filled : ℕ) (now : List (Result (DirEntry C A R E) (Error A))) (new : DirEntryIter C S P A T L R E) → Filled filled now new → n ≤ filled → Fills files process clone defaults pool n old before (Ok filled) now new
   fills_up filled now new sofar no_more = record {
     answered = sofar.answered;
     appended = sofar.appended;
@@ -153,18 +159,18 @@ module _ {C S P A T L R E : Type 0} (files : FileSystem.Ghosts S) (process : Pro
     all = inl (omega (arith, no_more, sofar.few));
     fewer = tt;
     calls = inl (omega (arith, no_more, sofar.few), sofar.calls);
-    crew = same_crew files process clone defaults sofar.answered old new sofar.calls;
-    job = same_job files process clone defaults sofar.answered old new sofar.calls;
-    width = same_width files process clone defaults sofar.answered old new sofar.calls;
-    depths = within files process clone defaults sofar.answered old new sofar.calls;
-    sourced = sourced files process clone defaults sofar.answered old new sofar.calls;
-    lighter = lighter files process clone defaults sofar.answered old new sofar.calls;
-    steady = λ given. stays_steady files process clone defaults given sofar.answered old new sofar.calls;
-    coming = λ given steady. come files process clone defaults given sofar.answered old new steady sofar.calls;
+    crew = same_crew files process clone defaults pool sofar.answered old new sofar.calls;
+    job = same_job files process clone defaults pool sofar.answered old new sofar.calls;
+    width = same_width files process clone defaults pool sofar.answered old new sofar.calls;
+    depths = within files process clone defaults pool sofar.answered old new sofar.calls;
+    sourced = sourced files process clone defaults pool sofar.answered old new sofar.calls;
+    lighter = lighter files process clone defaults pool sofar.answered old new sofar.calls;
+    steady = λ given. stays_steady files process clone defaults pool given sofar.answered old new sofar.calls;
+    coming = λ given steady. come files process clone defaults pool given sofar.answered old new steady sofar.calls;
   }
 
   -- room for one more was refused
-  pub fills_in_part : (told : Result ℕ AllocError) (filled : ℕ) (now : List (Result (DirEntry C A R E) (Error A))) (new : DirEntryIter C S P A T L R E) → IsErr told → Filled filled now new → filled < n → Fills files process clone defaults n old before told now new
+  pub fills_in_part : (told : Result ℕ AllocError) (filled : ℕ) (now : List (Result (DirEntry C A R E) (Error A))) (new : DirEntryIter C S P A T L R E) → IsErr told → Filled filled now new → filled < n → Fills files process clone defaults pool n old before told now new
   fills_in_part (Ok k) filled now new failed sofar less = let no : false ≡ true = failed in absurd cc
   fills_in_part (Err error) filled now new failed sofar less = record {
     answered = sofar.answered;
@@ -173,27 +179,27 @@ module _ {C S P A T L R E : Type 0} (files : FileSystem.Ghosts S) (process : Pro
     all = tt;
     fewer = omega (arith, less, sofar.number);
     calls = sofar.calls;
-    crew = same_crew files process clone defaults sofar.answered old new sofar.calls;
-    job = same_job files process clone defaults sofar.answered old new sofar.calls;
-    width = same_width files process clone defaults sofar.answered old new sofar.calls;
-    depths = within files process clone defaults sofar.answered old new sofar.calls;
-    sourced = sourced files process clone defaults sofar.answered old new sofar.calls;
-    lighter = lighter files process clone defaults sofar.answered old new sofar.calls;
-    steady = λ given. stays_steady files process clone defaults given sofar.answered old new sofar.calls;
-    coming = λ given steady. come files process clone defaults given sofar.answered old new steady sofar.calls;
+    crew = same_crew files process clone defaults pool sofar.answered old new sofar.calls;
+    job = same_job files process clone defaults pool sofar.answered old new sofar.calls;
+    width = same_width files process clone defaults pool sofar.answered old new sofar.calls;
+    depths = within files process clone defaults pool sofar.answered old new sofar.calls;
+    sourced = sourced files process clone defaults pool sofar.answered old new sofar.calls;
+    lighter = lighter files process clone defaults pool sofar.answered old new sofar.calls;
+    steady = λ given. stays_steady files process clone defaults pool given sofar.answered old new sofar.calls;
+    coming = λ given steady. come files process clone defaults pool given sofar.answered old new steady sofar.calls;
   }
 
   -- the call after some answers ends them
-  at_end : (given : Given R E) (answered : List (Item R E)) (mid new : DirEntryIter C S P A T L R E) → to_come files given mid ≡ [] → held new ≡ [] → ComesFirst files given old answered mid ⊎ EndsRefused files given old answered mid → ComesFirst files given old answered new ⊎ EndsRefused files given old answered new
+  at_end : (given : Given R E) (answered : List (Item R E)) (mid new : DirEntryIter C S P A T L R E) → to_come files given mid ≡ [] → held new ≡ [] → ComesFirst files given old answered mid ⊎ EndsEarly files given old answered mid → ComesFirst files given old answered new ⊎ EndsEarly files given old answered new
   at_end given answered mid new none over sofar = elim sofar [
     | inl comes ↦ inl (comes ∙ ap (λ l. map (counted_item given) answered ++ l) (none ∙ sym (ap (value.to_come (reading (job_by files given (job_of new))) (min_depth_of new) (greatest_depth (job_of new))) (held_by_nothing given new over))))
-    | inr ends ↦ inr (record { before = ends.before; missed = ends.missed; beginning = ends.beginning; told = ends.told; nothing_held = over })
+    | inr ends ↦ inr (record { before = ends.before; missed = ends.missed; error = ends.error; beginning = ends.beginning; told = ends.told; tells = ends.tells; nothing_held = over })
   ]
 
   -- the walk ended
-  pub fills_all : (filled : ℕ) (now : List (Result (DirEntry C A R E) (Error A))) (mid new : DirEntryIter C S P A T L R E) → Filled filled now mid → filled < n → Answers files process clone defaults mid None new → Fills files process clone defaults n old before (Ok filled) now new
+  pub fills_all : (filled : ℕ) (now : List (Result (DirEntry C A R E) (Error A))) (mid new : DirEntryIter C S P A T L R E) → Filled filled now mid → filled < n → Answers files process clone defaults pool mid None new → Fills files process clone defaults pool n old before (Ok filled) now new
   fills_all filled now mid new sofar less last =
-      let same = same_job files process clone defaults sofar.answered old mid sofar.calls in
+      let same = same_job files process clone defaults pool sofar.answered old mid sofar.calls in
       record {
         answered = sofar.answered;
         appended = sofar.appended;
@@ -201,16 +207,16 @@ module _ {C S P A T L R E : Type 0} (files : FileSystem.Ghosts S) (process : Pro
         all = inr last.ended;
         fewer = tt;
         calls = inr (less, (mid, sofar.calls, last));
-        crew = last.crew ∙ same_crew files process clone defaults sofar.answered old mid sofar.calls;
+        crew = last.crew ∙ same_crew files process clone defaults pool sofar.answered old mid sofar.calls;
         job = last.job ∙ same;
-        width = last.width ∙ same_width files process clone defaults sofar.answered old mid sofar.calls;
-        depths = λ h. let more = within files process clone defaults sofar.answered old mid sofar.calls h in (more.0, (last.depths more.1).1);
-        sourced = λ h. last.sourced (sourced files process clone defaults sofar.answered old mid sofar.calls h);
-        lighter = let nothing : weight_of new ≡ 0 = ap (value.weight (greatest_depth (job_of new))) last.ended in omega (arith, nothing, lighter files process clone defaults sofar.answered old mid sofar.calls);
-        steady = λ given steady. last.steady given (stays_steady files process clone defaults given sofar.answered old mid sofar.calls steady);
+        width = last.width ∙ same_width files process clone defaults pool sofar.answered old mid sofar.calls;
+        depths = λ h. let more = within files process clone defaults pool sofar.answered old mid sofar.calls h in (more.0, (last.depths more.1).1);
+        sourced = λ h. last.sourced (sourced files process clone defaults pool sofar.answered old mid sofar.calls h);
+        lighter = let nothing : weight_of new ≡ 0 = ap (value.weight (greatest_depth (job_of new))) last.ended in omega (arith, nothing, lighter files process clone defaults pool sofar.answered old mid sofar.calls);
+        steady = λ given steady. last.steady given (stays_steady files process clone defaults pool given sofar.answered old mid sofar.calls steady);
         coming = λ given steady.
             at_end given (map item sofar.answered) mid new
-            (last.coming given (stays_steady files process clone defaults given sofar.answered old mid sofar.calls steady))
+            (last.coming given (stays_steady files process clone defaults pool given sofar.answered old mid sofar.calls steady))
             last.ended
-            (come files process clone defaults given sofar.answered old mid steady sofar.calls);
+            (come files process clone defaults pool given sofar.answered old mid steady sofar.calls);
       }

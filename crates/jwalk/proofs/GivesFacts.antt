@@ -1,11 +1,10 @@
 -- What one call of an iterator over readings gives.
-use Rattle.std.proofs.Common.{◌≡◌, ◌≢◌, ◌∙◌, ◌<◌, ◌≤◌, ◌+◌, ◌++◌, [], ◌∷◌, ℕ, Bool, false, Result, Err, inl, inr, List, Option, Some, None, IfSome, map, length, refl, sym, ap}
+use Rattle.std.proofs.Common.{◌≡◌, ◌≢◌, ◌∙◌, ◌<◌, ◌≤◌, ◌+◌, ◌++◌, [], ◌∷◌, ℕ, Bool, false, Result, Ok, Err, inl, inr, List, Option, Some, None, IfSome, IfOk, map, length, refl, sym, ap}
 use Rattle.std.specs.Prelude.{option_map}
 use Rattle.std.proofs.lemmas.List.{map-append, length-map, nil_from_length}
 use Rattle.std.proofs.lemmas.List.Elements.{All-nil}
 use Rattle.std.specs.declared.clone.Clone as Clone
 use Rattle.std.specs.declared.default.Default as Default
-use Rattle.walk_model.specs.Error.{memory}
 use Rattle.walk_model.specs.ReadDir.{Spec, Outcome, children_of}
 use Rattle.walk_model.specs.Preorder.{preorder}
 use Rattle.walk_model.specs.Held.{spec_weight}
@@ -26,16 +25,17 @@ use Rattle.jwalk_read.specs.declared.read_dir_spec.ReadDirSpec.{ReadDirSpec}
 use Rattle.jwalk_board.specs.Board.{Board}
 use Rattle.jwalk_engine.specs.declared.read.Read.{Read}
 use Rattle.jwalk_engine.specs.Reads.{MadeAsGiven, ReadsFirstBy, ReadsNextBy}
-use Rattle.jwalk_engine.specs.ReadAhead.{nothing_ahead}
+use Rattle.jwalk_engine.specs.ReadAhead.{nothing_ahead, BeginsWith}
 use Rattle.jwalk_engine.specs.BoardWalk as board
 use Rattle.jwalk_engine.specs.BoardWalk.{BoardWalk, IsSteadyWalk}
+use Rattle.jwalk_crew.specs.declared.pool.Pool as Pool
 use Rattle.jwalk.specs.declared.read_dir_iter.ReadDirIter.{ReadDirIter}
 use Rattle.jwalk.specs.declared.read_dir_iter.ReadDirIter.TheVariants.{Walk, ParWalk, CrewWalk}
-use Rattle.jwalk.specs.ReadDirIter.{by_crew, job_of, to_read, width_of, read_ahead, early_of, next_address, Tells, GivesError, GivesFirst, GivesPreorder, Known, EntersNextBy, IsSteadyReads, StaysSteady, Gives}
-use Rattle.jwalk.proofs.KnownFacts.{own_error, own_if_steady, clones_if_steady, known_if_steady}
+use Rattle.jwalk.specs.ReadDirIter.{by_crew, job_of, to_read, width_of, read_ahead, early_of, next_address, Tells, GivesError, GivesFirst, GivesPreorder, Known, EntersNextBy, IsSteadyReads, StartsSteady, StaysSteady, Gives}
+use Rattle.jwalk.proofs.KnownFacts.{clones_if_steady, known_if_steady}
 
 module _ {C S P A R E : Type 0} (b : Bool) (clone : Clone.Ghosts R) (known : Spec R → Outcome R E → Type 0) (job : Job C S P A R E) (old new : List (Spec R)) where
-  module _ (files : FileSystem.Ghosts S) (given : Given R E) (own : b ≡ false) (cloned : ClonesCount clone given) (as_given : (s : Spec R) (o : Outcome R E) → known s o → IsAsGiven files given job s o) where
+  module _ (files : FileSystem.Ghosts S) (given : Given R E) (cloned : ClonesCount clone given) (as_given : (s : Spec R) (o : Outcome R E) → known s o → IsAsGiven files given job s o) where
     first_in_preorder : (read : Outcome R E) → ReadsFirstBy clone known (greatest_depth job) old read new → preorder (reading (job_by files given job)) (greatest_depth job) (map (counted_spec given) old) ≡ counted_outcome given read ∷ preorder (reading (job_by files given job)) (greatest_depth job) (map (counted_spec given) new)
     first_in_preorder read reads =
         let view = given.read_dir_state in
@@ -49,13 +49,13 @@ module _ {C S P A R E : Type 0} (b : Bool) (clone : Clone.Ghosts R) (known : Spe
         ∙ ap (λ l. counted_outcome given read ∷ preorder (reading (job_by files given job)) (greatest_depth job) l) left
 
     -- readings that are given one by one come in preorder
-    pub given_in_preorder : (read : Option (Outcome R E)) → GivesFirst b clone known (greatest_depth job) old read new → GivesPreorder (reading (job_by files given job)) (greatest_depth job) (map (counted_spec given) old) (option_map (counted_outcome given) read) (map (counted_spec given) new)
+    pub given_in_preorder : (read : Option (Outcome R E)) → GivesFirst b clone known (greatest_depth job) old read new → GivesPreorder b (reading (job_by files given job)) (greatest_depth job) (map (counted_spec given) old) (option_map (counted_outcome given) read) (map (counted_spec given) new)
     given_in_preorder None gives = elim gives [
-      | inl refused ↦ absurd (let no : ◌≡◌ {A = Option (Outcome R E)} None (Some (Err memory)) = own_error b None own refused.0 in cc)
+      | inl ends ↦ absurd (let no : ◌≡◌ {A = Option (Outcome R E)} None (Some (Err ends.0.error)) = ends.0.told in cc)
       | inr none ↦ ap (λ l. preorder (reading (job_by files given job)) (greatest_depth job) (map (counted_spec given) l)) none.0
     ]
     given_in_preorder (Some read) gives = elim gives [
-      | inl refused ↦ inl (let is : Some read ≡ Some (Err memory) = own_error b (Some read) own refused.0 in let told : read ≡ Err memory = cc in ap (counted_outcome given) told, ap (map (counted_spec given)) refused.2)
+      | inl ends ↦ inl (record { error = ends.0.error; told = ap (option_map (counted_outcome given)) ends.0.told; tells = ends.0.tells }, ap (map (counted_spec given)) ends.2)
       | inr reads ↦ inr (first_in_preorder read reads)
     ]
 
@@ -76,13 +76,13 @@ as_many (Some b) = length-map b.ready _ ∙ sym (length-map b.ready _)
 pub fewer_done : {C S P A R E : Type 0} (old new : BoardWalk C S P A R E) (width : ℕ) → length (board.early_of new) + 1 ≤ length (board.early_of old) + width → length (board.read_ahead new).done + 1 ≤ length (board.read_ahead old).done + width
 fewer_done old new width fewer = rw (sym (as_many new.board), sym (as_many old.board)) fewer
 
-module _ {C S P A T L R E : Type 0} (files : FileSystem.Ghosts S) (process : ProcessReadDir.Ghosts P C A R E) (clone : Clone.Ghosts R) (defaults : Default.Ghosts E) (old new : ReadDirIter C S P A T L R E) where
+module _ {C S P A T L R E : Type 0} (files : FileSystem.Ghosts S) (process : ProcessReadDir.Ghosts P C A R E) (clone : Clone.Ghosts R) (defaults : Default.Ghosts E) (pool : Pool.Ghosts L C S P A R E) (old new : ReadDirIter C S P A T L R E) where
   -- one call that read on
   pub gives_read : (read : Option (Result (ReadDir C A R E) (Error A))) → by_crew new ≡ by_crew old → job_of new ≡ job_of old → width_of new ≡ width_of old → length (early_of new) + 1 ≤ length (early_of old) + width_of old
-      → StaysSteady files process clone defaults old new
-      → ReadsNextBy clone (Known files process clone defaults old) (greatest_depth (job_of old)) (to_read old) (option_map outcome read) (to_read new)
+      → StaysSteady files process clone defaults pool old new
+      → ReadsNextBy clone (Known files process clone defaults pool old) (greatest_depth (job_of old)) (to_read old) (option_map outcome read) (to_read new)
       → EntersNextBy files process clone defaults (by_crew old) (job_of old) (width_of old) (next_address old) (read_ahead old) (option_map outcome read) (read_ahead new)
-      → Gives files process clone defaults old read new
+      → Gives files process clone defaults pool old read new
   gives_read read crew job width ahead steady next enters = record {
     crew = crew;
     job = job;
@@ -91,13 +91,13 @@ module _ {C S P A T L R E : Type 0} (files : FileSystem.Ghosts S) (process : Pro
     ahead = ahead;
     steady = steady;
     first = inr next;
-    preorder = λ given counted. given_in_preorder (by_crew old) clone (Known files process clone defaults old) (job_of old) (to_read old) (to_read new) files given (own_if_steady files process clone defaults old given counted) (clones_if_steady files process clone defaults old given counted) (known_if_steady files process clone defaults old given counted) (option_map outcome read) (inr next);
+    preorder = λ given counted. given_in_preorder (by_crew old) clone (Known files process clone defaults pool old) (job_of old) (to_read old) (to_read new) files given (clones_if_steady files process clone defaults pool old given counted) (known_if_steady files process clone defaults pool old given counted) (option_map outcome read) (inr next);
   }
 
   -- one call after which the readings end early
   pub gives_stopped : (error : Error A) → Tells (by_crew old) (failure error) → by_crew new ≡ by_crew old → job_of new ≡ job_of old → width_of new ≡ width_of old → length (early_of new) + 1 ≤ length (early_of old) + width_of old
-      → StaysSteady files process clone defaults old new → to_read old ≢ [] → to_read new ≡ [] → read_ahead new ≡ nothing_ahead
-      → Gives files process clone defaults old (Some (Err error)) new
+      → StaysSteady files process clone defaults pool old new → to_read old ≢ [] → to_read new ≡ [] → read_ahead new ≡ nothing_ahead
+      → Gives files process clone defaults pool old (Some (Err error)) new
   gives_stopped error tells crew job width ahead steady some none nothing =
       let told : GivesError {R = R} {E = E} (by_crew old) (Some (Err (failure error))) = record { error = failure error; told = refl; tells = tells } in
       record {
@@ -108,7 +108,7 @@ module _ {C S P A T L R E : Type 0} (files : FileSystem.Ghosts S) (process : Pro
         ahead = ahead;
         steady = steady;
         first = inl (told, some, none);
-        preorder = λ given counted. given_in_preorder (by_crew old) clone (Known files process clone defaults old) (job_of old) (to_read old) (to_read new) files given (own_if_steady files process clone defaults old given counted) (clones_if_steady files process clone defaults old given counted) (known_if_steady files process clone defaults old given counted) (Some (Err (failure error))) (inl (told, some, none));
+        preorder = λ given counted. given_in_preorder (by_crew old) clone (Known files process clone defaults pool old) (job_of old) (to_read old) (to_read new) files given (clones_if_steady files process clone defaults pool old given counted) (known_if_steady files process clone defaults pool old given counted) (Some (Err (failure error))) (inl (told, some, none));
       }
 
 -- what is said of a value, whatever it is, is said of what it is seen as
@@ -123,7 +123,12 @@ steady_board files process clone defaults walk given steady none =
     record { steady = steady; early = rw nothing (All-nil (MadeAsGiven files given walk.job)) }
 
 -- where nothing was read early over a steady job, it is steady
-pub steady_at_rest : {C S P A T L R E : Type 0} (files : FileSystem.Ghosts S) (process : ProcessReadDir.Ghosts P C A R E) (clone : Clone.Ghosts R) (defaults : Default.Ghosts E) (it : ReadDirIter C S P A T L R E) (given : Given R E) → by_crew it ≡ false → IsSteadyJob files process clone defaults (job_of it) given → (read_ahead it).done ≡ [] → IsSteadyReads files process clone defaults it given
-steady_at_rest files process clone defaults (Walk walk) given own steady none = steady_board files process clone defaults walk given steady none
-steady_at_rest files process clone defaults (ParWalk walk threads) given own steady none = steady_board files process clone defaults walk given steady none
-steady_at_rest files process clone defaults (CrewWalk reads) given own steady none = absurd cc
+pub steady_at_rest : {C S P A T L R E : Type 0} (files : FileSystem.Ghosts S) (process : ProcessReadDir.Ghosts P C A R E) (clone : Clone.Ghosts R) (defaults : Default.Ghosts E) (pool : Pool.Ghosts L C S P A R E) (it : ReadDirIter C S P A T L R E) (given : Given R E) → by_crew it ≡ false → IsSteadyJob files process clone defaults (job_of it) given → (read_ahead it).done ≡ [] → IsSteadyReads files process clone defaults pool it given
+steady_at_rest files process clone defaults pool (Walk walk) given own steady none = steady_board files process clone defaults walk given steady none
+steady_at_rest files process clone defaults pool (ParWalk walk threads) given own steady none = steady_board files process clone defaults walk given steady none
+steady_at_rest files process clone defaults pool (CrewWalk reads) given own steady none = absurd cc
+
+-- so readings that begin with their roots are steady, if no crew makes them
+pub alone_steady : {C S P A T L R E F : Type 0} (files : FileSystem.Ghosts S) (process : ProcessReadDir.Ghosts P C A R E) (clone : Clone.Ghosts R) (defaults : Default.Ghosts E) (pool : Pool.Ghosts L C S P A R E) (roots : List (Spec R)) (made : Result (ReadDirIter C S P A T L R E) F) → IfOk made (λ it. by_crew it ≡ false) → IfOk made (λ it. BeginsWith roots (read_ahead it)) → IfOk made (StartsSteady files process clone defaults pool)
+alone_steady files process clone defaults pool roots (Ok it) own begins = λ given steady. steady_at_rest files process clone defaults pool it given own steady begins.done
+alone_steady files process clone defaults pool roots (Err f) own begins = tt

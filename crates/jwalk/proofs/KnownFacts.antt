@@ -1,5 +1,5 @@
 -- What is known of a walk's readings, where no crew makes them, and where one does.
-use Rattle.std.proofs.Common.{◌≡◌, [], ◌∷◌, Bool, true, false, Option, Some, None, Result, Err, Ok, IfErr, IsErrAnd, List, ℕ, inl, inr, refl, ap, subst, ◌∙◌}
+use Rattle.std.proofs.Common.{◌≡◌, [], ◌∷◌, Bool, true, false, Option, Some, None, Result, Err, Ok, IfErr, IsErrAnd, List, ℕ, inl, inr, ap, subst}
 use Rattle.std.specs.declared.clone.Clone as Clone
 use Rattle.std.specs.declared.default.Default as Default
 use Rattle.walk_model.specs.Error.{Failure, memory}
@@ -10,16 +10,17 @@ use Rattle.jwalk_read.specs.declared.process_read_dir.ProcessReadDir as ProcessR
 use Rattle.jwalk_read.specs.declared.job.Job.{Job}
 use Rattle.jwalk_engine.specs.Reads.{ReadsNextBy}
 use Rattle.jwalk_read.specs.Given.{Given}
-use Rattle.jwalk_read.specs.Job.{ClonesCount, IsAsGiven}
+use Rattle.jwalk_read.specs.Job.{ClonesCount, IsAsGiven, IsGivenOver}
 use Rattle.jwalk_crew.specs.declared.pool.Missed.{Missed}
 use Rattle.jwalk_crew.specs.declared.pool.Missed.TheVariants.{Memory}
+use Rattle.jwalk_crew.specs.declared.pool.Pool as Pool
 use Rattle.jwalk.specs.declared.read_dir_iter.ReadDirIter.{ReadDirIter}
 use Rattle.jwalk.specs.declared.read_dir_iter.ReadDirIter.TheVariants.{Walk, ParWalk, CrewWalk}
 use Rattle.jwalk.specs.declared.dir_entry_iter.DirEntryIter.{DirEntryIter}
 use Rattle.jwalk.specs.CrewReads.{failure_of, IsNextBelow}
 use Rattle.jwalk.specs.ReadDirIter as readings
 use Rattle.jwalk.specs.ReadDirIter.{Tells, GivesError, GivesFirst, IsSteadyReads, KnownBy}
-use Rattle.jwalk.specs.DirEntryIter.{by_crew, job_of, next_address, IsSteadyWalk, StaysSteady, Known, KnownAt}
+use Rattle.jwalk.specs.DirEntryIter.{by_crew, job_of, IsSteadyWalk, StaysSteady, Known, KnownAt}
 
 -- want of memory may end any walk early
 pub tells_memory : (b : Bool) (f : Failure) → f ≡ memory → Tells b f
@@ -31,69 +32,55 @@ pub tells_refusal : {T : Type 0} (b : Bool) (r : Result T Missed) → IsErrAnd r
 tells_refusal b (Ok x) refused = tt
 tells_refusal b (Err m) refused = tells_memory b (failure_of m) (ap failure_of refused)
 
--- and nothing else one that no crew reads for
-pub own_tells : (b : Bool) (f : Failure) → b ≡ false → Tells b f → f ≡ memory
-own_tells false f own tells = tells
-own_tells true f own tells = absurd cc
-
-pub own_error : {R E : Type 0} (b : Bool) (given : Option (Outcome R E)) → b ≡ false → GivesError b given → given ≡ Some (Err memory)
-own_error b given own gives = gives.told ∙ ap (λ f. Some (Err f)) (own_tells b gives.error own gives.tells)
-
 -- it speaks of the first alone
 first_below : {R E : Type 0} (b : Bool) (x : Item R E) (s : Spec R) (rest : List (Spec R)) → IsNextBelow b x (s ∷ rest) → IsNextBelow b x (s ∷ [])
 first_below false x s rest h = tt
 first_below true x s rest h = h
 
-module _ {C S P A R E : Type 0} (files : FileSystem.Ghosts S) (process : ProcessReadDir.Ghosts P C A R E) (clone : Clone.Ghosts R) (defaults : Default.Ghosts E) where
-  -- what is steady is read by no crew
-  pub own_if_steady : {T L : Type 0} (it : ReadDirIter C S P A T L R E) (given : Given R E) → IsSteadyReads files process clone defaults it given → readings.by_crew it ≡ false
-  own_if_steady (Walk walk) given steady = refl
-  own_if_steady (ParWalk walk threads) given steady = refl
-  own_if_steady (CrewWalk reads) given steady = absurd steady
-
-  -- its clones count as what they are made of
-  pub clones_if_steady : {T L : Type 0} (it : ReadDirIter C S P A T L R E) (given : Given R E) → IsSteadyReads files process clone defaults it given → ClonesCount clone given
+module _ {C S P A L R E : Type 0} (files : FileSystem.Ghosts S) (process : ProcessReadDir.Ghosts P C A R E) (clone : Clone.Ghosts R) (defaults : Default.Ghosts E) (pool : Pool.Ghosts L C S P A R E) where
+  -- where it is steady, clones count as what they are made of
+  pub clones_if_steady : {T : Type 0} (it : ReadDirIter C S P A T L R E) (given : Given R E) → IsSteadyReads files process clone defaults pool it given → ClonesCount clone given
   clones_if_steady (Walk walk) given steady = steady.steady.clones
   clones_if_steady (ParWalk walk threads) given steady = steady.steady.clones
-  clones_if_steady (CrewWalk reads) given steady = absurd steady
+  clones_if_steady (CrewWalk reads) given steady = steady.steady.clones
 
   -- and what is known of a reading is that it is the definition's
-  pub known_if_steady : {T L : Type 0} (it : ReadDirIter C S P A T L R E) (given : Given R E) → IsSteadyReads files process clone defaults it given → (s : Spec R) (o : Outcome R E) → readings.Known files process clone defaults it s o → IsAsGiven files given (readings.job_of it) s o
+  pub known_if_steady : {T : Type 0} (it : ReadDirIter C S P A T L R E) (given : Given R E) → IsSteadyReads files process clone defaults pool it given → (s : Spec R) (o : Outcome R E) → readings.Known files process clone defaults pool it s o → IsAsGiven files given (readings.job_of it) s o
   known_if_steady (Walk walk) given steady s o known = known given steady
   known_if_steady (ParWalk walk threads) given steady s o known = known given steady
-  known_if_steady (CrewWalk reads) given steady s o known = absurd steady
+  known_if_steady (CrewWalk reads) given steady s o known = known.1 given steady
 
   -- at whatever address
-  known_anywhere : (b : Bool) (counts : Given R E → Type 0) (job : Job C S P A R E) (at there : List ℕ) (s : Spec R) (o : Outcome R E) → b ≡ false → KnownBy files process clone defaults b counts job at s o → KnownBy files process clone defaults b counts job there s o
-  known_anywhere false counts job at there s o own known = known
-  known_anywhere true counts job at there s o own known = absurd cc
+  known_anywhere : (b : Bool) (counts : Given R E → Type 0) (job : Job C S P A R E) (at : List ℕ) (s : Spec R) (o : Outcome R E) → KnownBy files process clone defaults b counts job at s o → IsGivenOver files counts job s o
+  known_anywhere false counts job at s o known = known
+  known_anywhere true counts job at s o known = known.1
 
   -- also of the reading of an item's directory
-  pub items_known : {T L : Type 0} (it : DirEntryIter C S P A T L R E) (given : Given R E) → IsSteadyWalk files process clone defaults it given → (x : Item R E) (s : Spec R) (o : Outcome R E) → Known files process clone defaults it x s o → IsAsGiven files given (job_of it) s o
-  items_known it given steady x s o known = known_if_steady it.reads given steady s o (known_anywhere (by_crew it) (IsSteadyWalk files process clone defaults it) (job_of it) known.0 (next_address it) s o (own_if_steady it.reads given steady) known.1.0)
+  pub items_known : {T : Type 0} (it : DirEntryIter C S P A T L R E) (given : Given R E) → IsSteadyWalk files process clone defaults pool it given → (x : Item R E) (s : Spec R) (o : Outcome R E) → Known files process clone defaults pool it x s o → IsAsGiven files given (job_of it) s o
+  items_known it given steady x s o known = known_anywhere (by_crew it) (IsSteadyWalk files process clone defaults pool it) (job_of it) known.0 s o known.1.0 given steady
 
   -- where less counts as given, no more need be known
   known_by : (b : Bool) (counts fewer : Given R E → Type 0) (job : Job C S P A R E) (at : List ℕ) → ((given : Given R E) → fewer given → counts given) → (s : Spec R) (o : Outcome R E) → KnownBy files process clone defaults b counts job at s o → KnownBy files process clone defaults b fewer job at s o
   known_by false counts fewer job at within s o known = λ given f. known given (within given f)
-  known_by true counts fewer job at within s o known = known
+  known_by true counts fewer job at within s o known = (known.0, λ given f. known.1 given (within given f))
 
   -- what is known later was known before
-  pub known_before : {T L : Type 0} (old new : DirEntryIter C S P A T L R E) → by_crew new ≡ by_crew old → job_of new ≡ job_of old → StaysSteady files process clone defaults old new → (at : List ℕ) (x : Item R E) (s : Spec R) (o : Outcome R E) → KnownAt files process clone defaults new at x s o → KnownAt files process clone defaults old at x s o
+  pub known_before : {T : Type 0} (old new : DirEntryIter C S P A T L R E) → by_crew new ≡ by_crew old → job_of new ≡ job_of old → StaysSteady files process clone defaults pool old new → (at : List ℕ) (x : Item R E) (s : Spec R) (o : Outcome R E) → KnownAt files process clone defaults pool new at x s o → KnownAt files process clone defaults pool old at x s o
   known_before old new crew job stays at x s o known = (
-    known_by (by_crew old) (IsSteadyWalk files process clone defaults new) (IsSteadyWalk files process clone defaults old) (job_of old) at stays s o
-        (subst (λ b. KnownBy files process clone defaults b (IsSteadyWalk files process clone defaults new) (job_of old) at s o) crew
-        (subst (λ j. KnownBy files process clone defaults (by_crew new) (IsSteadyWalk files process clone defaults new) j at s o) job known.0)),
+    known_by (by_crew old) (IsSteadyWalk files process clone defaults pool new) (IsSteadyWalk files process clone defaults pool old) (job_of old) at stays s o
+        (subst (λ b. KnownBy files process clone defaults b (IsSteadyWalk files process clone defaults pool new) (job_of old) at s o) crew
+        (subst (λ j. KnownBy files process clone defaults (by_crew new) (IsSteadyWalk files process clone defaults pool new) j at s o) job known.0)),
     subst (λ b. IsNextBelow b x (s ∷ [])) crew known.1,
   )
 
   -- What is known of the next reading is known of it as that of an item's directory, if the directory that comes next is this one.
-  pub known_of : {T L : Type 0} (it : ReadDirIter C S P A T L R E) (max_depth : ℕ) (x : Item R E) (old : List (Spec R)) (read : Option (Outcome R E)) (new : List (Spec R)) → IsNextBelow (readings.by_crew it) x old → ReadsNextBy clone (readings.Known files process clone defaults it) max_depth old read new → ReadsNextBy clone (readings.KnownOf files process clone defaults it x) max_depth old read new
+  pub known_of : {T : Type 0} (it : ReadDirIter C S P A T L R E) (max_depth : ℕ) (x : Item R E) (old : List (Spec R)) (read : Option (Outcome R E)) (new : List (Spec R)) → IsNextBelow (readings.by_crew it) x old → ReadsNextBy clone (readings.Known files process clone defaults pool it) max_depth old read new → ReadsNextBy clone (readings.KnownOf files process clone defaults pool it x) max_depth old read new
   known_of it max_depth x old None new below reads = reads
   known_of it max_depth x old (Some o) new below reads =
       let reading = reads.reading in
       record { first = reads.first; rest = reads.rest; took = reads.took; reading = record { lawful = reading.lawful; few = reading.few; value = (reading.value, first_below (readings.by_crew it) x reads.first reads.rest (subst (IsNextBelow (readings.by_crew it) x) reads.took below)) }; stacks = reads.stacks }
 
-  pub gives_of : {T L : Type 0} (it : ReadDirIter C S P A T L R E) (max_depth : ℕ) (x : Item R E) (old : List (Spec R)) (given : Option (Outcome R E)) (new : List (Spec R)) → IsNextBelow (readings.by_crew it) x old → GivesFirst (readings.by_crew it) clone (readings.Known files process clone defaults it) max_depth old given new → GivesFirst (readings.by_crew it) clone (readings.KnownOf files process clone defaults it x) max_depth old given new
+  pub gives_of : {T : Type 0} (it : ReadDirIter C S P A T L R E) (max_depth : ℕ) (x : Item R E) (old : List (Spec R)) (given : Option (Outcome R E)) (new : List (Spec R)) → IsNextBelow (readings.by_crew it) x old → GivesFirst (readings.by_crew it) clone (readings.Known files process clone defaults pool it) max_depth old given new → GivesFirst (readings.by_crew it) clone (readings.KnownOf files process clone defaults pool it x) max_depth old given new
   gives_of it max_depth x old given new below first = elim first [
     | inl ends ↦ inl ends
     | inr reads ↦ inr (known_of it max_depth x old given new below reads)

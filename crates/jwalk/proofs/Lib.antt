@@ -1,5 +1,6 @@
 pub mod KnownFacts
 pub mod CrewFacts
+pub mod CrewSteadyFacts
 pub mod CrewStartFacts
 pub mod BeginsFacts
 pub mod AheadFacts
@@ -12,6 +13,7 @@ pub mod ResultFacts
 pub mod StepFacts
 pub mod BeginFacts
 pub mod WholeFacts
+pub mod CleanFacts
 pub mod SameFacts
 -- what callers cite of a callback's lists
 pub use Rattle.jwalk_read.proofs.GivenFacts as GivenFacts

@@ -24,6 +24,7 @@ use Rattle.jwalk_read.specs.Entry.{item}
 use Rattle.jwalk_read.specs.Given.{Given, counted_entry, counted_item, counted_spec, counted_outcome}
 use Rattle.jwalk_read.specs.Job.{options_of, greatest_depth, job_by, ClonesCount, IsAsGiven}
 use Rattle.jwalk_engine.specs.Reads.{ReadsFirstBy, ReadsNextBy}
+use Rattle.jwalk_crew.specs.declared.pool.Pool as Pool
 use Rattle.jwalk.specs.declared.dir_entry_iter.DirEntryIter.{DirEntryIter}
 use Rattle.jwalk.specs.Step.{Receives, PassesNext, passed_plainly, passed_entering, LeavesOut, none_left_out, one_left_out, ReadsUpTo}
 use Rattle.jwalk.specs.DirEntryIter.{by_crew, job_of, min_depth_of, items_of, unread_of, width_of, next_address, Known, KnownAt, StaysSteady, EntersIfAny, PassesMany, none_passed, GrowsAhead}
@@ -175,55 +176,55 @@ module _ {C S P A R E : Type 0} (clone : Clone.Ghosts R) (known : Item R E → S
         ∙ ap (answers (options_of job).min_depth) (next_listed files given cloned as_given next)
         ∙ rw (counted-is_answered given.read_dir_state given.dir_entry_state (options_of job).min_depth passed, out) refl
 
-module _ {C S P A T L R E : Type 0} (files : FileSystem.Ghosts S) (process : ProcessReadDir.Ghosts P C A R E) (clone : Clone.Ghosts R) (defaults : Default.Ghosts E) where
+module _ {C S P A T L R E : Type 0} (files : FileSystem.Ghosts S) (process : ProcessReadDir.Ghosts P C A R E) (clone : Clone.Ghosts R) (defaults : Default.Ghosts E) (pool : Pool.Ghosts L C S P A R E) where
   -- What was passed over so far is left out.
   pub record PassedOver (old new : DirEntryIter C S P A T L R E) : Type 0 where
     pub crew : by_crew new ≡ by_crew old
     pub job : job_of new ≡ job_of old
     pub refused : new.refused ≡ old.refused
     pub width : width_of new ≡ width_of old
-    pub steady : StaysSteady files process clone defaults old new
-    pub leaves : LeavesOut clone (Known files process clone defaults old) (job_of old) (items_of old) (unread_of old) (items_of new) (unread_of new)
+    pub steady : StaysSteady files process clone defaults pool old new
+    pub leaves : LeavesOut clone (Known files process clone defaults pool old) (job_of old) (items_of old) (unread_of old) (items_of new) (unread_of new)
     pub entered : ℕ
-    pub passes : PassesMany files process clone defaults old entered new
+    pub passes : PassesMany files process clone defaults pool old entered new
 
   -- One call of a walk's `pass`.
   pub record Passes (old : DirEntryIter C S P A T L R E) (passed : Result (DirEntry C A R E) (Error A)) (new : DirEntryIter C S P A T L R E) : Type 0 where
     pub crew : by_crew new ≡ by_crew old
     pub job : job_of new ≡ job_of old
     pub refused : new.refused ≡ old.refused
-    pub steady : StaysSteady files process clone defaults old new
-    pub next : PassesNext clone (KnownAt files process clone defaults old (next_address old)) (job_of old) (items_of old) (unread_of old) (item passed) (items_of new) (unread_of new)
+    pub steady : StaysSteady files process clone defaults pool old new
+    pub next : PassesNext clone (KnownAt files process clone defaults pool old (next_address old)) (job_of old) (items_of old) (unread_of old) (item passed) (items_of new) (unread_of new)
     pub width : width_of new ≡ width_of old
     pub ahead : EntersIfAny files process clone defaults old new
 
   pub none_passed_over : (it : DirEntryIter C S P A T L R E) → PassedOver it it
   none_passed_over it = record { crew = refl; job = refl; refused = refl; width = refl; steady = λ given steady. steady; leaves = none_left_out; entered = 0; passes = none_passed }
 
-  passes_by : (old mid new : DirEntryIter C S P A T L R E) (passed : Result (DirEntry C A R E) (Error A)) → PassedOver old mid → Passes mid passed new → PassesNext clone (KnownAt files process clone defaults old (next_address mid)) (job_of old) (items_of mid) (unread_of mid) (item passed) (items_of new) (unread_of new)
+  passes_by : (old mid new : DirEntryIter C S P A T L R E) (passed : Result (DirEntry C A R E) (Error A)) → PassedOver old mid → Passes mid passed new → PassesNext clone (KnownAt files process clone defaults pool old (next_address mid)) (job_of old) (items_of mid) (unread_of mid) (item passed) (items_of new) (unread_of new)
   passes_by old mid new passed over passes =
-      subst (λ j. PassesNext clone (KnownAt files process clone defaults old (next_address mid)) j (items_of mid) (unread_of mid) (item passed) (items_of new) (unread_of new)) over.job
-      (next_over clone (KnownAt files process clone defaults mid (next_address mid)) (job_of mid) (KnownAt files process clone defaults old (next_address mid)) (known_before files process clone defaults old mid over.crew over.job over.steady (next_address mid)) passes.next)
+      subst (λ j. PassesNext clone (KnownAt files process clone defaults pool old (next_address mid)) j (items_of mid) (unread_of mid) (item passed) (items_of new) (unread_of new)) over.job
+      (next_over clone (KnownAt files process clone defaults pool mid (next_address mid)) (job_of mid) (KnownAt files process clone defaults pool old (next_address mid)) (known_before files process clone defaults pool old mid over.crew over.job over.steady (next_address mid)) passes.next)
 
-  passes_on : (old mid new : DirEntryIter C S P A T L R E) (passed : Result (DirEntry C A R E) (Error A)) → PassedOver old mid → Passes mid passed new → PassesNext clone (Known files process clone defaults old) (job_of old) (items_of mid) (unread_of mid) (item passed) (items_of new) (unread_of new)
+  passes_on : (old mid new : DirEntryIter C S P A T L R E) (passed : Result (DirEntry C A R E) (Error A)) → PassedOver old mid → Passes mid passed new → PassesNext clone (Known files process clone defaults pool old) (job_of old) (items_of mid) (unread_of mid) (item passed) (items_of new) (unread_of new)
   passes_on old mid new passed over passes =
-      next_over clone (KnownAt files process clone defaults old (next_address mid)) (job_of old) (Known files process clone defaults old) (λ x s o known. (next_address mid, known)) (passes_by old mid new passed over passes)
+      next_over clone (KnownAt files process clone defaults pool old (next_address mid)) (job_of old) (Known files process clone defaults pool old) (λ x s o known. (next_address mid, known)) (passes_by old mid new passed over passes)
 
-  many_on : (old mid new : DirEntryIter C S P A T L R E) (passed : Result (DirEntry C A R E) (Error A)) → PassedOver old mid → Passes mid passed new → (n : ℕ) × PassesMany files process clone defaults old n new
+  many_on : (old mid new : DirEntryIter C S P A T L R E) (passed : Result (DirEntry C A R E) (Error A)) → PassedOver old mid → Passes mid passed new → (n : ℕ) × PassesMany files process clone defaults pool old n new
   many_on old mid new passed over passes =
-      one_more files process clone defaults old mid new over.entered (item passed) over.passes over.crew over.job over.width (passes_by old mid new passed over passes) passes.ahead
+      one_more files process clone defaults pool old mid new over.entered (item passed) over.passes over.crew over.job over.width (passes_by old mid new passed over passes) passes.ahead
 
   -- the directories that are entered up to the first that is answered
-  pub grows_to_answer : (old mid new : DirEntryIter C S P A T L R E) (passed : Result (DirEntry C A R E) (Error A)) → PassedOver old mid → Passes mid passed new → GrowsAhead files process clone defaults old new
+  pub grows_to_answer : (old mid new : DirEntryIter C S P A T L R E) (passed : Result (DirEntry C A R E) (Error A)) → PassedOver old mid → Passes mid passed new → GrowsAhead files process clone defaults pool old new
   grows_to_answer old mid new passed over passes =
       let more = many_on old mid new passed over passes in
-      record { entered = more.0; last = new; passes = more.1; same = refl; ahead = grows files process clone defaults old more.1 }
+      record { entered = more.0; last = new; passes = more.1; same = refl; ahead = grows files process clone defaults pool old more.1 }
 
   -- and up to the end
-  pub grows_to_end : (old mid new : DirEntryIter C S P A T L R E) → PassedOver old mid → items_of mid ≡ [] → EntersIfAny files process clone defaults mid new → GrowsAhead files process clone defaults old new
+  pub grows_to_end : (old mid new : DirEntryIter C S P A T L R E) → PassedOver old mid → items_of mid ≡ [] → EntersIfAny files process clone defaults mid new → GrowsAhead files process clone defaults pool old new
   grows_to_end old mid new over none any =
-      let same = nothing_more files process clone defaults mid new none any in
-      record { entered = over.entered; last = mid; passes = over.passes; same = same; ahead = grows_no_more files process clone defaults old over.entered mid new same (grows files process clone defaults old over.passes) }
+      let same = nothing_more files process clone defaults pool mid new none any in
+      record { entered = over.entered; last = mid; passes = over.passes; same = same; ahead = grows_no_more files process clone defaults pool old over.entered mid new same (grows files process clone defaults pool old over.passes) }
 
   pub one_passed_over : (old mid new : DirEntryIter C S P A T L R E) (passed : Result (DirEntry C A R E) (Error A)) → PassedOver old mid → Passes mid passed new → is_answered (min_depth_of new) (item passed) ≡ false → PassedOver old new
   one_passed_over old mid new passed over passes out = let more = many_on old mid new passed over passes in record {
@@ -238,9 +239,9 @@ module _ {C S P A T L R E : Type 0} (files : FileSystem.Ghosts S) (process : Pro
   }
 
   -- the first that is answered after what was passed over
-  pub one_answered : (old mid new : DirEntryIter C S P A T L R E) (passed : Result (DirEntry C A R E) (Error A)) → PassedOver old mid → Passes mid passed new → is_answered (min_depth_of new) (item passed) ≡ true → ReadsUpTo clone (Known files process clone defaults old) (job_of old) (items_of old) (unread_of old) (Some (item passed)) (items_of new) (unread_of new)
+  pub one_answered : (old mid new : DirEntryIter C S P A T L R E) (passed : Result (DirEntry C A R E) (Error A)) → PassedOver old mid → Passes mid passed new → is_answered (min_depth_of new) (item passed) ≡ true → ReadsUpTo clone (Known files process clone defaults pool old) (job_of old) (items_of old) (unread_of old) (Some (item passed)) (items_of new) (unread_of new)
   one_answered old mid new passed over passes kept =
       (items_of mid, unread_of mid, over.leaves, (passes_on old mid new passed over passes, subst (λ j. is_answered (options_of j).min_depth (item passed) ≡ true) (passes.job ∙ over.job) kept))
 
   pub passes_lighter : (old new : DirEntryIter C S P A T L R E) (passed : Result (DirEntry C A R E) (Error A)) → Passes old passed new → weight (greatest_depth (job_of new)) (pair_up (items_of new) (unread_of new)) < weight (greatest_depth (job_of old)) (pair_up (items_of old) (unread_of old))
-  passes_lighter old new passed passes = rw passes.job (next_lighter clone (KnownAt files process clone defaults old (next_address old)) (job_of old) passes.next)
+  passes_lighter old new passed passes = rw passes.job (next_lighter clone (KnownAt files process clone defaults pool old (next_address old)) (job_of old) passes.next)

@@ -1,12 +1,12 @@
 -- Readings that a crew makes ahead, and what is known of each.
-use Rattle.std.specs.Prelude.{◌≡◌, ℕ, Bool, true, false, List, [], ◌∷◌, map, reverse, Ok, Err, IfOk, IsSomeAnd}
+use Rattle.std.specs.Prelude.{◌≡◌, ℕ, Bool, true, false, List, [], ◌∷◌, ◌++◌, map, reverse, length, Option, Some, None, Ok, Err, IfOk, IfSome, IsSomeAnd}
 use Rattle.std.specs.Arc.{arc_value}
 use Rattle.std.specs.declared.clone.Clone as Clone
 use Rattle.std.specs.declared.default.Default as Default
 use Rattle.walk_model.specs.Error.{Failure, memory, lost}
 use Rattle.walk_model.specs.Options.{ReadsAs}
 use Rattle.walk_model.specs.Entry.{Item}
-use Rattle.walk_model.specs.ReadDir.{Spec, Outcome, spec_below}
+use Rattle.walk_model.specs.ReadDir.{Spec, Outcome, spec_below, children_of, AreClones}
 use Rattle.walk_fs.specs.declared.file_system.FileSystem as FileSystem
 use Rattle.jwalk_order.specs.Frontier as frontier
 use Rattle.jwalk_order.specs.Ordered.{address_of}
@@ -15,8 +15,11 @@ use Rattle.jwalk_read.specs.declared.process_read_dir.ProcessReadDir as ProcessR
 use Rattle.jwalk_read.specs.declared.job.Job.{Job}
 use Rattle.jwalk_read.specs.ReadDir.{spec}
 use Rattle.jwalk_read.specs.ReadDir.{outcome as view}
-use Rattle.jwalk_read.specs.Job.{options_of, IsReadingOf}
+use Rattle.jwalk_read.specs.Given.{Given, counted_spec}
+use Rattle.jwalk_read.specs.Job.{options_of, IsReadingOf, IsSteadyJob, IsGivenOver}
 use Rattle.jwalk_crew.specs.Message.{Message}
+use Rattle.jwalk_crew.specs.Origin.{Origin, spec_at}
+use Rattle.jwalk_crew.specs.declared.pool.Pool as Pool
 use Rattle.jwalk_crew.specs.declared.pool.Missed.{Missed}
 use Rattle.jwalk_crew.specs.declared.pool.Missed.TheVariants.{Memory, Lost}
 use Rattle.jwalk.specs.declared.crew_reads.CrewReads.{CrewReads}
@@ -64,3 +67,43 @@ pub record IsTold {C S P A R E : Type 0} (files : FileSystem.Ghosts S) (process 
 abbrev pub failure_of : Missed → Failure
 failure_of Memory = memory
 failure_of Lost = lost
+
+-- the addresses of the readings that a pool has still to give: none where there is no pool
+abbrev pub awaited : {L : Type 0} → Option L → List (List ℕ) → List (List ℕ)
+awaited None addresses = []
+awaited (Some pool) addresses = addresses
+
+-- Readings begin: at the addresses of roots stand the directories that are to be read, and this is what is told of the pool that gives them.
+pub record BeginsBy {C S P A L R E : Type 0} (made : L → Origin C S P A R E → Type 0) (it : CrewReads C S P A L R E) : Type 0 where
+  pub addresses : it.matcher ≡ frontier.roots (length (to_read it))
+  pub pool : IsSomeAnd it.pool (λ p. made p (record { job = job_of it; roots = to_read it }))
+
+module _ {C S P A L R E : Type 0} (files : FileSystem.Ghosts S) (process : ProcessReadDir.Ghosts P C A R E) (clone : Clone.Ghosts R) (defaults : Default.Ghosts E) (pool : Pool.Ghosts L C S P A R E) where
+  -- Over what is given, what a pool gives at these addresses are readings of these directories: the job is steady, the pool's readings are made by it, and below the directories that the pool began with, these stand there.
+  pub record IsSteadyOver (job : Job C S P A R E) (from : Option L) (addresses : List (List ℕ)) (specs : List (Spec R)) (given : Given R E) : Type 0 where
+    pub steady : IsSteadyJob files process clone defaults job given
+    pub roots : List (Spec R)
+    pub comes : IfSome from (λ p. pool.comes_from p (record { job = job; roots = roots }))
+    pub at : map (spec_at files process clone defaults (record { job = job; roots = roots }) given) (awaited from addresses) ≡ map (λ s. Some (counted_spec given s)) specs
+
+  -- Over what is given a crew's readings are those of the directories that are to be read.
+  abbrev pub IsSteadyCrew : CrewReads C S P A L R E → Given R E → Type 0
+  IsSteadyCrew it = IsSteadyOver (job_of it) it.pool it.matcher (to_read it)
+
+  -- Over all that their job is steady over, they are.
+  abbrev pub StartsSteady : CrewReads C S P A L R E → Type 0
+  StartsSteady it = (given : Given R E) → IsSteadyJob files process clone defaults (job_of it) given → IsSteadyCrew it given
+
+  -- They stay steady over all that they were steady over.
+  abbrev pub StaysSteady : CrewReads C S P A L R E → CrewReads C S P A L R E → Type 0
+  StaysSteady old new = (given : Given R E) → IsSteadyCrew old given → IsSteadyCrew new given
+
+  -- The same while this directory, which comes next, isn't among those that are kept any more.
+  abbrev pub IsSteadyBefore : CrewReads C S P A L R E → Spec R → Given R E → Type 0
+  IsSteadyBefore it first = IsSteadyOver (job_of it) it.pool it.matcher (first ∷ to_read it)
+
+  -- The first directory is read: its reading is the definition's over all over which what was to be read was steady, and what is left, with clones of the directories below it in its place, is steady over that.
+  pub record ReadsSteadily (old : CrewReads C S P A L R E) (first : Spec R) (outcome : Outcome R E) (new : CrewReads C S P A L R E) : Type 0 where
+    pub value : (rest : List (Spec R)) → IsGivenOver files (IsSteadyOver (job_of old) old.pool old.matcher (first ∷ rest)) (job_of old) first outcome
+    pub steady : (rest front : List (Spec R)) → AreClones clone.is_clone (children_of outcome) front
+        → (given : Given R E) → IsSteadyOver (job_of old) old.pool old.matcher (first ∷ rest) given → IsSteadyOver (job_of old) new.pool new.matcher (front ++ rest) given

@@ -1,5 +1,5 @@
 -- What a walk holds, and what one of its answers does.
-use Rattle.std.specs.Prelude.{◌≡◌, ◌≢◌, ◌≤◌, ◌<◌, ◌+◌, ◌-◌, ◌*◌, ◌^◌, ◌⊎◌, ℕ, suc, min, Bool, true, false, List, [], ◌∷◌, ◌++◌, length, map, reverse, Option, Some, None, IfSome, IfNone, IfOk, IfErr, IsSomeAnd, MatchBool, option_map, Result, Ok, Err}
+use Rattle.std.specs.Prelude.{◌≡◌, ◌≤◌, ◌<◌, ◌+◌, ◌-◌, ◌*◌, ◌^◌, ◌⊎◌, ℕ, suc, min, Bool, true, false, List, [], ◌∷◌, ◌++◌, length, map, reverse, Option, Some, None, IfSome, IfNone, IfOk, IfErr, IsSomeAnd, MatchBool, option_map, Result, Ok, Err}
 use Rattle.std.specs.declared.clone.Clone as Clone
 use Rattle.std.specs.declared.default.Default as Default
 use Rattle.std.specs.declared.alloc.AllocError.{AllocError}
@@ -21,11 +21,17 @@ use Rattle.jwalk_read.specs.Entry.{item}
 use Rattle.jwalk_read.specs.Given.{Given, counted_item, counted_spec}
 use Rattle.jwalk_read.specs.Job.{options_of, greatest_depth, job_by}
 use Rattle.jwalk_engine.specs.ReadAhead.{ReadAhead, nothing_ahead}
+use Rattle.jwalk_crew.specs.declared.pool.Pool as Pool
 use Rattle.jwalk.specs.ReadDirIter as readings
 use Rattle.jwalk.specs.CrewReads.{IsNextBelow}
 use Rattle.jwalk.specs.ReadDirIter.{to_read, Tells, IsSteadyReads, KnownBy, EntersBy}
 use Rattle.jwalk.specs.Step.{IsAtDirectory, PassesNext, ReadsUpTo}
 use Rattle.jwalk.specs.declared.dir_entry_iter.DirEntryIter.{DirEntryIter}
+
+-- the item is an error that tells why a walk ends early
+abbrev pub TellsEnd : {R E : Type 0} → Bool → Item R E → Type 0
+TellsEnd crew (Ok e) = ⊥
+TellsEnd crew (Err f) = Tells crew f
 
 -- what stands in front of a walk that was refused at its start: the error that tells of it
 abbrev pub refusal : {R E : Type 0} → Bool → List (Pair R E)
@@ -33,10 +39,14 @@ refusal true = record { item = Err memory; source = nothing } ∷ []
 refusal false = []
 
 module _ {C A R E : Type 0} where
-  -- none of the answers tells of want of memory
+  -- none of the answers tells why a walk ends early: of want of memory, or that a crew's reading won't come
+  abbrev pub NoneEnds : Bool → List (Result (DirEntry C A R E) (Error A)) → Type 0
+  NoneEnds crew [] = Unit {0}
+  NoneEnds crew (x ∷ answered) = (¬ TellsEnd crew (item x)) × NoneEnds crew answered
+
+  -- none of them tells of want of memory, which alone ends a walk early that no crew reads for
   abbrev pub NoneRefused : List (Result (DirEntry C A R E) (Error A)) → Type 0
-  NoneRefused [] = Unit {0}
-  NoneRefused (x ∷ answered) = (item x ≢ Err memory) × NoneRefused answered
+  NoneRefused = NoneEnds false
 
 module _ {C S P A T L R E : Type 0} where
   -- whether a crew reads its directories
@@ -99,12 +109,6 @@ module _ {C S P A T L R E : Type 0} where
     pub each : AreSourced (held it)
     pub unread : unread_of it ≡ sources (held it)
 
-  -- the answer tells of want of memory, and nothing is held or unread any more
-  pub record Refuses (answer : Item R E) (new : DirEntryIter C S P A T L R E) : Type 0 where
-    pub tells : answer ≡ Err memory
-    pub nothing_held : held new ≡ []
-    pub nothing_unread : unread_of new ≡ []
-
   -- the answer tells why the walk ends early, and nothing is held or unread any more
   pub record Stops (crew : Bool) (answer : Item R E) (new : DirEntryIter C S P A T L R E) : Type 0 where
     pub error : Failure
@@ -122,23 +126,32 @@ module _ {C S P A T L R E : Type 0} where
   abbrev pub ComesFirst : FileSystem.Ghosts S → Given R E → DirEntryIter C S P A T L R E → List (Item R E) → DirEntryIter C S P A T L R E → Type 0
   ComesFirst files given old answered new = to_come files given old ≡ map (counted_item given) answered ++ to_come files given new
 
-  -- The first of what is to come is answered and the rest is left, or memory was refused; there is no answer where nothing is to come.
+  -- The first of what is to come is answered and the rest is left, or the walk ends early; there is no answer where nothing is to come.
   abbrev pub AnswersFirst : FileSystem.Ghosts S → Given R E → DirEntryIter C S P A T L R E → Option (Item R E) → DirEntryIter C S P A T L R E → Type 0
   AnswersFirst files given old None new = to_come files given old ≡ []
-  AnswersFirst files given old (Some answer) new = Refuses answer new ⊎ ComesFirst files given old (answer ∷ []) new
+  AnswersFirst files given old (Some answer) new = Stops (by_crew old) answer new ⊎ ComesFirst files given old (answer ∷ []) new
 
-  -- These answers are a beginning of what was to come, and then the one error that tells of want of memory. Nothing is held then.
-  pub record EndsRefused (files : FileSystem.Ghosts S) (given : Given R E) (old : DirEntryIter C S P A T L R E) (answered : List (Item R E)) (new : DirEntryIter C S P A T L R E) : Type 0 where
+  -- These answers are a beginning of what was to come, and then the one error that tells why the walk ends early. Nothing is held then.
+  pub record EndsEarly (files : FileSystem.Ghosts S) (given : Given R E) (old : DirEntryIter C S P A T L R E) (answered : List (Item R E)) (new : DirEntryIter C S P A T L R E) : Type 0 where
     pub before : List (Item R E)
     pub missed : List (Item Worth Worth)
+    pub error : Failure
     pub beginning : to_come files given old ≡ map (counted_item given) before ++ missed
-    pub told : answered ≡ before ++ Err memory ∷ []
+    pub told : answered ≡ before ++ Err error ∷ []
+    pub tells : Tells (by_crew old) error
     pub nothing_held : held new ≡ []
 
 module _ {C S P A T L R E : Type 0} (files : FileSystem.Ghosts S) (process : ProcessReadDir.Ghosts P C A R E) (clone : Clone.Ghosts R) (defaults : Default.Ghosts E) where
+  -- The next directory is entered, if one is to be read below the first item; else what was read ahead stays as it is.
+  abbrev pub EntersIfAny : DirEntryIter C S P A T L R E → DirEntryIter C S P A T L R E → Type 0
+  EntersIfAny old new =
+      (IsAtDirectory (items_of old) (unread_of old) × EntersBy files process clone defaults (by_crew old) (job_of old) (width_of old) (next_address old) (read_ahead old) (read_ahead new))
+      ⊎ ((¬ IsAtDirectory (items_of old) (unread_of old)) × (read_ahead new ≡ read_ahead old))
+
+module _ {C S P A T L R E : Type 0} (files : FileSystem.Ghosts S) (process : ProcessReadDir.Ghosts P C A R E) (clone : Clone.Ghosts R) (defaults : Default.Ghosts E) (pool : Pool.Ghosts L C S P A R E) where
   -- Over what is given a walk is steady: its job is, and what it read ahead is as the definition has it.
   abbrev pub IsSteadyWalk : DirEntryIter C S P A T L R E → Given R E → Type 0
-  IsSteadyWalk it = IsSteadyReads files process clone defaults it.reads
+  IsSteadyWalk it = IsSteadyReads files process clone defaults pool it.reads
 
   -- What is known of the reading at an address, by which an item's directory is entered: a crew's is that of the directory below this item.
   abbrev pub KnownAt : DirEntryIter C S P A T L R E → List ℕ → Item R E → Spec R → Outcome R E → Type 0
@@ -147,6 +160,10 @@ module _ {C S P A T L R E : Type 0} (files : FileSystem.Ghosts S) (process : Pro
   -- the same at some address
   abbrev pub Known : DirEntryIter C S P A T L R E → Item R E → Spec R → Outcome R E → Type 0
   Known it x spec outcome = (at : List ℕ) × KnownAt it at x spec outcome
+
+  -- Over all that its job is steady over, it is.
+  abbrev pub StartsSteady : DirEntryIter C S P A T L R E → Type 0
+  StartsSteady it = readings.StartsSteady files process clone defaults pool it.reads
 
   -- It stays steady over all that it was steady over.
   abbrev pub StaysSteady : DirEntryIter C S P A T L R E → DirEntryIter C S P A T L R E → Type 0
@@ -158,12 +175,6 @@ module _ {C S P A T L R E : Type 0} (files : FileSystem.Ghosts S) (process : Pro
       MatchBool old.refused
       (unread_of new ≡ unread_of old)
       (IsSomeAnd answer (λ a. Stops (by_crew old) a new) ⊎ ReadsUpTo clone (Known old) (job_of old) (items_of old) (unread_of old) answer (items_of new) (unread_of new))
-
-  -- The next directory is entered, if one is to be read below the first item; else what was read ahead stays as it is.
-  abbrev pub EntersIfAny : DirEntryIter C S P A T L R E → DirEntryIter C S P A T L R E → Type 0
-  EntersIfAny old new =
-      (IsAtDirectory (items_of old) (unread_of old) × EntersBy files process clone defaults (by_crew old) (job_of old) (width_of old) (next_address old) (read_ahead old) (read_ahead new))
-      ⊎ ((¬ IsAtDirectory (items_of old) (unread_of old)) × (read_ahead new ≡ read_ahead old))
 
   -- Items are passed one after another, and so many directories are entered with them, each by the reading at its address.
   pub data PassesMany (old : DirEntryIter C S P A T L R E) : ℕ → DirEntryIter C S P A T L R E → Type 0 where
@@ -224,7 +235,7 @@ module _ {C S P A T L R E : Type 0} (files : FileSystem.Ghosts S) (process : Pro
     pub lighter : weight_of new + length answered ≤ weight_of old
     pub steady : StaysSteady old new
     pub coming : (given : Given R E) → IsSteadyWalk old given
-        → ComesFirst files given old (map item answered) new ⊎ EndsRefused files given old (map item answered) new
+        → ComesFirst files given old (map item answered) new ⊎ EndsEarly files given old (map item answered) new
 
   -- Calls from here on answer items until `None`, and n is their number, or the greatest `usize` where there are more.
   abbrev pub Counts : DirEntryIter C S P A T L R E → ℕ → Type 0

@@ -3,9 +3,10 @@ ghost use Rattle.std.specs.Prelude.{◌≡◌, ◌≢◌, ◌↔◌, ◌++◌, t
 ghost use Rattle.jwalk_read.specs.Error.{failure};
 ghost use Rattle.jwalk_read.specs.Entry.{entry};
 ghost use Rattle.jwalk_read.specs.ReadDir.{spec, outcome};
-ghost use Rattle.jwalk_read.specs.Job.{greatest_depth, IsReadingBy};
+ghost use Rattle.jwalk_read.specs.Job.{greatest_depth, IsReadingBy, IsGivenOver};
 ghost use Rattle.jwalk_engine.specs.Reads.{StacksChildren, ReadsNextBy};
-ghost use Rattle.jwalk.specs.CrewReads.{job_of, to_read, next_address, IsBelow, IsNextBelow, IsTold, failure_of};
+ghost use Rattle.jwalk.specs.CrewReads.{job_of, to_read, next_address, IsBelow, IsNextBelow, IsTold, BeginsBy, IsSteadyBefore, IsSteadyCrew, StartsSteady, StaysSteady, ReadsSteadily, failure_of};
+ghost use Rattle.jwalk.specs.ReadDirIter.{KnownBy};
 
 pub(crate) mod started;
 
@@ -87,9 +88,11 @@ impl<
 > CrewReads<C, S, P, A, L> {
     /// Readings of a crew with nothing to read yet. Where memory is refused, the job is given back.
     pub(crate) fn new(alloc: A, job: Job<C, S, P, A>) -> Result<Self, Job<C, S, P, A>>
-        ensures { MatchResult result
+        ensures made { MatchResult result
             (λ reads. (job_of reads ≡ job) × (to_read reads ≡ []))
             (λ back. back ≡ job) }
+        ensures steady { IfOk result (StartsSteady S.FileSystem P.ProcessReadDir C.ReadDirState.Clone
+            C.DirEntryState.Default L.Pool) }
     {
         let Ok(matcher) = OrderedMatcher::with_roots(alloc, 0) else {
             return Err(job);
@@ -113,6 +116,7 @@ impl<
     ) -> Result<Self, AllocError>
         ensures job { IfOk result (λ reads. job_of reads ≡ job) }
         ensures to_read { IfOk result (λ reads. to_read reads ≡ map spec roots.items) }
+        ensures begins { IfOk result (BeginsBy (λ given origin. given ≡ pool)) }
     {
         let alloc = *roots.allocator();
         let matcher = OrderedMatcher::with_roots(alloc, roots.len())?;
@@ -150,6 +154,8 @@ impl<
         ensures to_read { to_read self.new ≡ to_read self.old }
         ensures told { IfOk result (λ read. IsTold S.FileSystem P.ProcessReadDir C.ReadDirState.Clone
             C.DirEntryState.Default (job_of self.old) (next_address self.old) (spec of.now) (outcome read)) }
+        ensures steadily { IfOk result (λ read. ReadsSteadily S.FileSystem P.ProcessReadDir C.ReadDirState.Clone
+            C.DirEntryState.Default L.Pool self.old (spec of.now) (outcome read) self.new) }
     {
         let Some(pool) = &mut self.pool else {
             return Err(Missed::Lost);
@@ -167,7 +173,7 @@ impl<
 
     /// Puts directories in front of those that are still to be read.
     fn put_in_front(&mut self, mut specs: Vec<ReadDirSpec<C, A>, A>) -> Result<(), AllocError>
-        ensures job { job_of self.new ≡ job_of self.old }
+        ensures others { self.new ≡ record self.old { unread = self.new.unread } }
         ensures to_read { OnOk result (to_read self.new ≡ map spec specs.items ++ to_read self.old) }
     {
         specs.reverse();
@@ -183,6 +189,13 @@ impl<
             (greatest_depth (job_of self.old)) (spec of) (outcome read)) }
         ensures stacks { IfOk result (λ read. StacksChildren C.ReadDirState.Clone (to_read self.old)
             (outcome read) (to_read self.new)) }
+        ensures value { IfOk result (λ read. IsGivenOver S.FileSystem (IsSteadyBefore S.FileSystem
+            P.ProcessReadDir C.ReadDirState.Clone C.DirEntryState.Default L.Pool self.old (spec of))
+            (job_of self.old) (spec of) (outcome read)) }
+        ensures steady { OnOk result ((given : _) → IsSteadyBefore S.FileSystem P.ProcessReadDir
+            C.ReadDirState.Clone C.DirEntryState.Default L.Pool self.old (spec of) given
+            → IsSteadyCrew S.FileSystem P.ProcessReadDir C.ReadDirState.Clone C.DirEntryState.Default L.Pool
+            self.new given) }
     {
         let outcome = self.read(&of)?;
         let below = directories_of(*of.path.allocator(), &outcome)?;
@@ -199,8 +212,11 @@ impl<
         ensures job { job_of self.new ≡ job_of self.old }
         ensures some { OnErr result (to_read self.old ≢ []) }
         ensures stopped { OnErr result (to_read self.new ≡ []) }
-        ensures next { IfOk result (λ o. ReadsNextBy C.ReadDirState.Clone (IsTold S.FileSystem P.ProcessReadDir
-            C.ReadDirState.Clone C.DirEntryState.Default (job_of self.old) (next_address self.old))
+        ensures steady { StaysSteady S.FileSystem P.ProcessReadDir C.ReadDirState.Clone C.DirEntryState.Default
+            L.Pool self.old self.new }
+        ensures next { IfOk result (λ o. ReadsNextBy C.ReadDirState.Clone (KnownBy S.FileSystem P.ProcessReadDir
+            C.ReadDirState.Clone C.DirEntryState.Default true (IsSteadyCrew S.FileSystem P.ProcessReadDir
+            C.ReadDirState.Clone C.DirEntryState.Default L.Pool self.old) (job_of self.old) (next_address self.old))
             (greatest_depth (job_of self.old)) (to_read self.old) (option_map outcome o) (to_read self.new)) }
     {
         let Some(of) = self.unread.pop() else {
@@ -227,6 +243,8 @@ impl<
     pub(crate) fn stop(&mut self)
         ensures job { job_of self.new ≡ job_of self.old }
         ensures to_read { to_read self.new ≡ [] }
+        ensures steady { StartsSteady S.FileSystem P.ProcessReadDir C.ReadDirState.Clone C.DirEntryState.Default
+            L.Pool self.new }
     {
         self.unread.clear();
         self.pool = None;

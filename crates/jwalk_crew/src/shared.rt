@@ -35,7 +35,7 @@ pub(crate) struct Shared<
 > {
     pub(crate) crew: Arc<Crew<R>, A>,
     pub(crate) job: Arc<Job<C, S, P, A>, A>,
-    /// The lock: whoever works on the board holds it, and shows its guard. The guard's type doesn't say whose lock it is.
+    /// The lock: whoever works on the board holds it, and shows its guard, whose type doesn't say of which lock it is.
     pub(crate) sleepers: Mutex<Sleepers>,
     /// The board, which is taken out and put back while the lock is held, so that nobody waits for it. A clause sees it
     /// as where the walk began, and whoever takes it out knows that all that stands on it comes from there.

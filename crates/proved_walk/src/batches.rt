@@ -5,7 +5,8 @@ ghost use Rattle.jwalk.specs.DirEntryIter.{job_of, Counts};
 
 use jwalk::file_system::FileSystem;
 use jwalk::read_dir::ProcessReadDir;
-use jwalk::{ClientState, DirEntryIter};
+use jwalk::threads::InTurn;
+use jwalk::{ClientState, DirEntryIter, Pool};
 use std::alloc::{AllocError, Allocator};
 
 /// Counts a walk's answers as `count` does, a hundred at a time. It ends over every file system.
@@ -14,9 +15,11 @@ pub fn count_in_batches<
     S: FileSystem,
     P: ProcessReadDir<C, A>,
     A: Allocator + Copy,
->(alloc: A, mut walk: DirEntryIter<C, S, P, A>) -> Result<usize, AllocError>
+    L: Pool<C, S, P, A>,
+>(alloc: A, mut walk: DirEntryIter<C, S, P, A, InTurn, L>) -> Result<usize, AllocError>
     requires { P.IsLawful (callback (job_of walk)) }
-    ensures { IfOk result (Counts S.FileSystem P.ProcessReadDir C.ReadDirState.Clone C.DirEntryState.Default walk) }
+    ensures { IfOk result (Counts S.FileSystem P.ProcessReadDir C.ReadDirState.Clone C.DirEntryState.Default L.Pool
+        walk) }
 {
     let mut found = Vec::new(alloc);
     let mut count: usize = 0;

@@ -3,6 +3,7 @@
 
 pub mod anywhere;
 pub mod batches;
+pub mod by_crew;
 pub mod counted;
 pub mod filtering;
 pub mod hands_on_names;

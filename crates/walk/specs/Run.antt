@@ -5,7 +5,6 @@ use Rattle.walk_fs.specs.declared.file_system.FileSystem as FileSystem
 use Rattle.walk_text.specs.declared.asked.Asked.{Asked}
 use Rattle.walk_text.specs.declared.failure.Failure.{Failure}
 use Rattle.walk_text.specs.declared.failure.Failure.TheVariants.{BadWords, BadTree, Memory, Output}
-use Rattle.walk_text.specs.Asked.{AsksNoCrew}
 use Rattle.walk_text.specs.Failure.{status_of}
 use Rattle.walk_text.specs.Words.{Ask, AreGood, AskForTree}
 use Rattle.walk_text.specs.TextLines.{text_lines}
@@ -21,12 +20,12 @@ pub record BeginsWalk (words : List (List ℕ)) (to_come : Option (List ℕ)) : 
   pub wanted : is_some tree ≡ asked.tree
   pub builds : IfSome tree (λ t. IfSome to_come (λ bytes. Builds (text_lines bytes) t))
 
--- The walk that begins so was printed, and no answer is an error. Where no crew reads its directories, it was printed whole: over its tree or, where it has none, over the disk, if that always answers the same.
+-- The walk that begins so was printed, and no answer is an error. It was printed whole: over its tree or, where it has none, over the disk, if that always answers the same.
 pub record PrintsWalk {S : Type 0} (files : FileSystem.Ghosts S) (disk : S) (words : List (List ℕ)) (to_come old new : Option (List ℕ)) : Type 0 where
   pub walk : BeginsWalk words to_come
   pub entries : PrintsEntries old new
-  pub over_tree : IfSome walk.tree (λ t. AsksNoCrew walk.asked → PrintsOver (functions_of t) walk.asked walk.root old new)
-  pub over_disk : IfNone walk.tree (AsksNoCrew walk.asked → files.IsFixed disk → PrintsOver (files.functions disk) walk.asked walk.root old new)
+  pub over_tree : IfSome walk.tree (λ t. PrintsOver (functions_of t) walk.asked walk.root old new)
+  pub over_disk : IfNone walk.tree (files.IsFixed disk → PrintsOver (files.functions disk) walk.asked walk.root old new)
 
 -- why a call begins no walk: its words ask for none, or the bytes to come build no tree where one is asked for, or memory was refused
 abbrev pub TellsOfCall : List (List ℕ) → Option (List ℕ) → Failure → Type 0

@@ -2,7 +2,7 @@
 ghost use Rattle.std.specs.Prelude.{◌≡◌, ◌≤◌, string_bytes, IfOk, IfErr, OnErr};
 ghost use Rattle.jwalk.specs.Parallelism.{parallelism_value};
 ghost use Rattle.jwalk.specs.WalkDir.{file_system_of, root_of, options_of};
-ghost use Rattle.walk_text.specs.Asked.{parallelism_by, options_for, AsksNoCrew};
+ghost use Rattle.walk_text.specs.Asked.{parallelism_by, options_for};
 ghost use Rattle.walk.specs.AskedWalk.{PrintsEntries, PrintsOver};
 
 use crate::answers::status_once;
@@ -86,7 +86,7 @@ pub fn print_walk<
     ensures memory { IfErr result (λ failure. failure ≡ Failure.Memory) }
     ensures untouched { OnErr result (W.contents out.new ≡ W.contents out.old) }
     ensures entries { IfOk result (λ status. status ≡ 0 → PrintsEntries (W.contents out.old) (W.contents out.new)) }
-    ensures printed { IfOk result (λ status. status ≡ 0 → AsksNoCrew request.now.asked → S.IsFixed fs
+    ensures printed { IfOk result (λ status. status ≡ 0 → S.IsFixed fs
         → PrintsOver (S.functions fs) request.now.asked request.now.root.now (W.contents out.old) (W.contents out.new)) }
 {
     let root = String::from_str(alloc, request.root)?;

@@ -35,7 +35,7 @@ where
     C::DirEntryState: Send,
     requires { P.IsLawful (callback (job_of walk.old)) }
     ensures printed { IfOk result (PrintsAll (Answers S.FileSystem P.ProcessReadDir C.ReadDirState.Clone
-        C.DirEntryState.Default) walk.old (W.contents out.old) (W.contents out.new)) }
+        C.DirEntryState.Default L.Pool) walk.old (W.contents out.old) (W.contents out.new)) }
     ensures status { IfErr result (λ failure. status_of failure ≡ 1) }
 {
     let mut gathered = room(alloc)?;

@@ -3,4 +3,3 @@ pub mod Texts
 pub mod TextLineFacts
 pub mod BuiltFacts
 pub mod WordFacts
-pub mod AskedFacts

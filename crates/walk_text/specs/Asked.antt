@@ -41,13 +41,3 @@ with_read_by by = with_parallelism (parallelism_by by)
 abbrev pub options_for : Asked → Options
 options_for asked =
     where_named with_read_by asked.read_by (where_named with_max_depth asked.max (where_named with_min_depth asked.min (with_follow_links asked.follow (with_skip_hidden (not asked.hidden) (with_sort asked.sort defaults)))))
-
--- what directories are read by is no crew
-abbrev pub IsNoCrew : Option ReadBy → Type 0
-IsNoCrew None = Unit {0}
-IsNoCrew (Some (Batch width)) = Unit {0}
-IsNoCrew (Some (Crew workers)) = ⊥
-
--- no crew is asked for
-abbrev pub AsksNoCrew : Asked → Type 0
-AsksNoCrew asked = IsNoCrew asked.read_by

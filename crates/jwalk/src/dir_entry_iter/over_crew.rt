@@ -6,14 +6,16 @@ ghost use Rattle.walk_model.specs.ReadDir.{children, AreClones};
 ghost use Rattle.jwalk_read.specs.Entry.{item};
 ghost use Rattle.jwalk_read.specs.ReadDir.{reading};
 ghost use Rattle.jwalk_read.specs.Job.{callback};
+ghost use Rattle.jwalk_crew.specs.Session.{origin_of};
 ghost use Rattle.jwalk.specs.CrewReads as reads_by;
 ghost use Rattle.jwalk.specs.CrewStart.{busied, left_of, is_refusal};
-ghost use Rattle.jwalk.specs.DirEntryIter.{by_crew, job_of, items_of, unread_of};
+ghost use Rattle.jwalk.specs.DirEntryIter.{by_crew, job_of, items_of, StartsSteady};
 
 use crate::crew_reads::CrewReads;
 use crate::dir_entry_iter::DirEntryIter;
 use crate::read_dir_iter::ReadDirIter;
 use jwalk_crew::crew::{Crew, NotStarted};
+use jwalk_crew::pool::Pool;
 use jwalk_crew::session::Session;
 use jwalk_read::client_state::ClientState;
 use jwalk_read::dir_entry::DirEntry;
@@ -99,7 +101,8 @@ where
     ensures job { reads_by.job_of reads.new ≡ reads_by.job_of reads.old }
     ensures to_read { OnOk result (AreClones C.ReadDirState.is_clone
         (children (reading read.now)) (reads_by.to_read reads.new)) }
-    ensures unchanged { OnErr result (reads_by.to_read reads.new ≡ reads_by.to_read reads.old) }
+    ensures begins { OnOk result (reads_by.BeginsBy (λ session origin. origin_of session ≡ origin) reads.new) }
+    ensures unchanged { OnErr result (reads.new ≡ reads.old) }
 {
     let own = read.read_children_specs()?;
     let shared = read.read_children_specs()?;
@@ -127,11 +130,9 @@ where
         read: ReadDir<C, A>,
         why_not: Option<NotStarted>,
     ) -> Self
-        ensures job { job_of result ≡ reads_by.job_of reads }
-        ensures unread { unread_of result ≡ reads_by.to_read reads }
+        ensures reads { result.reads ≡ ReadDirIter.CrewWalk reads }
         ensures items { items_of result ≡ left_of why_not (reading read).list }
         ensures refused { result.refused ≡ is_refusal why_not }
-        ensures by { by_crew result ≡ true }
     {
         let mut items = left(read.into_results_list(), why_not);
         items.reverse();
@@ -151,9 +152,13 @@ where
     ) -> (Self, Option<NotStarted>)
         requires lawful { P.IsLawful (callback (reads_by.job_of reads)) }
         requires nothing { reads_by.to_read reads ≡ [] }
+        requires steady { reads_by.StartsSteady S.FileSystem P.ProcessReadDir C.ReadDirState.Clone
+            C.DirEntryState.Default ⟦<Session<R, C, S, P, A> as Pool<C, S, P, A>>⟧ reads }
         ensures by { by_crew result.0 ≡ true }
         ensures job { job_of result.0 ≡ reads_by.job_of reads }
         ensures begun { IsBegun C.ReadDirState.Clone (Some (reading read)) result.1 result.0 }
+        ensures steady { StartsSteady S.FileSystem P.ProcessReadDir C.ReadDirState.Clone C.DirEntryState.Default
+            ⟦<Session<R, C, S, P, A> as Pool<C, S, P, A>>⟧ result.0 }
     {
         match start_reads(&mut reads, crew, busy_timeout, &read) {
             Ok(()) => (DirEntryIter::begun(reads, read, None), None),
@@ -180,6 +185,8 @@ where
         requires depth { IfSome read (λ r. AtDepth 0 (reading r).list) }
         ensures from_root { IsFromRoot C.ReadDirState.Clone (option_map reading read) job result.1 result.0 }
         ensures by { (result.1 ≡ Some NotStarted.Memory) ⊎ (by_crew result.0 ≡ true) }
+        ensures steady { StartsSteady S.FileSystem P.ProcessReadDir C.ReadDirState.Clone C.DirEntryState.Default
+            ⟦<Session<R, C, S, P, A> as Pool<C, S, P, A>>⟧ result.0 }
     {
         let Some(read) = read else {
             return (
@@ -204,7 +211,9 @@ where
         read: Option<ReadDir<C, A>>,
     ) -> (Self, Option<NotStarted>)
         requires { IfSome read (λ r. AtDepth 0 (reading r).list) }
-        ensures { IsFromRoot C.ReadDirState.Clone (option_map reading read) job result.1 result.0 }
+        ensures from_root { IsFromRoot C.ReadDirState.Clone (option_map reading read) job result.1 result.0 }
+        ensures steady { StartsSteady S.FileSystem P.ProcessReadDir C.ReadDirState.Clone C.DirEntryState.Default
+            ⟦<Session<R, C, S, P, A> as Pool<C, S, P, A>>⟧ result.0 }
     {
         let walk = DirEntryIter::from_root(alloc, threads, job, read);
         if walk.is_refused() {

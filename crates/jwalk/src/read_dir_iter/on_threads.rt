@@ -46,10 +46,10 @@ where
         ensures some { OnErr result (to_read self.old ≢ []) }
         ensures stopped { OnErr result (to_read self.new ≡ []) }
         ensures nothing_ahead { OnErr result (read_ahead self.new ≡ nothing_ahead) }
-        ensures steady { StaysSteady S.FileSystem P.ProcessReadDir C.ReadDirState.Clone C.DirEntryState.Default
+        ensures steady { StaysSteady S.FileSystem P.ProcessReadDir C.ReadDirState.Clone C.DirEntryState.Default L.Pool
             self.old self.new }
         ensures next { IfOk result (λ o. ReadsNextBy C.ReadDirState.Clone
-            (Known S.FileSystem P.ProcessReadDir C.ReadDirState.Clone C.DirEntryState.Default self.old)
+            (Known S.FileSystem P.ProcessReadDir C.ReadDirState.Clone C.DirEntryState.Default L.Pool self.old)
             (greatest_depth (job_of self.old)) (to_read self.old) (option_map outcome o) (to_read self.new)) }
         ensures enters { IfOk result (λ o. EntersNextBy S.FileSystem P.ProcessReadDir C.ReadDirState.Clone
             C.DirEntryState.Default (by_crew self.old) (job_of self.old) (width_of self.old)
@@ -66,7 +66,7 @@ where
     /// readings that are made together.
     pub fn next(&mut self) -> Option<Outcome<C, A>>
         requires { P.IsLawful (callback (job_of self.old)) }
-        ensures { Gives S.FileSystem P.ProcessReadDir C.ReadDirState.Clone C.DirEntryState.Default
+        ensures { Gives S.FileSystem P.ProcessReadDir C.ReadDirState.Clone C.DirEntryState.Default L.Pool
             self.old result self.new }
     {
         match self.read_next_on() {
@@ -81,10 +81,10 @@ where
     pub fn next_of(&mut self, found: &DirEntry<C, A>) -> Option<Outcome<C, A>>
         requires lawful { P.IsLawful (callback (job_of self.old)) }
         requires has_directory { IsSome found.now.read_children }
-        ensures gives { Gives S.FileSystem P.ProcessReadDir C.ReadDirState.Clone C.DirEntryState.Default
+        ensures gives { Gives S.FileSystem P.ProcessReadDir C.ReadDirState.Clone C.DirEntryState.Default L.Pool
             self.old result self.new }
         ensures of { GivesFirst (by_crew self.old) C.ReadDirState.Clone (KnownOf S.FileSystem P.ProcessReadDir
-            C.ReadDirState.Clone C.DirEntryState.Default self.old (Ok (entry found.now)))
+            C.ReadDirState.Clone C.DirEntryState.Default L.Pool self.old (Ok (entry found.now)))
             (greatest_depth (job_of self.old)) (to_read self.old) (option_map outcome result) (to_read self.new) }
     {
         prove!(found.read_children.is_some());

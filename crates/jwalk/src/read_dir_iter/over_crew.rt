@@ -11,6 +11,7 @@ use crate::crew_reads::started::error_of;
 use crate::parallelism::Parallelism;
 use crate::read_dir_iter::ReadDirIter;
 use jwalk_crew::crew::{Crew, NotStarted};
+use jwalk_crew::pool::Pool;
 use jwalk_crew::session::Session;
 use jwalk_read::client_state::ClientState;
 use jwalk_read::error::Error;
@@ -34,7 +35,8 @@ where
     C::ReadDirState: Send + 'static,
     C::DirEntryState: Send + 'static,
 {
-    ghost use Rattle.jwalk.specs.CrewReads.{job_of, to_read};
+    ghost use Rattle.jwalk_crew.specs.Session.{origin_of};
+    ghost use Rattle.jwalk.specs.CrewReads.{job_of, to_read, BeginsBy};
 
     /// Readings of these directories, and of those below them, that a crew makes.
     fn by_workers(
@@ -46,6 +48,7 @@ where
         requires { P.IsLawful (callback job) }
         ensures job { IfOk result (λ reads. job_of reads ≡ job) }
         ensures to_read { IfOk result (λ reads. to_read reads ≡ map spec roots.items) }
+        ensures begins { IfOk result (BeginsBy (λ session origin. origin_of session ≡ origin)) }
     {
         let shared = roots.clone()?;
         let Ok(mut reads) = CrewReads::new(*roots.allocator(), job) else {
@@ -71,7 +74,7 @@ where
     ghost use Rattle.jwalk_read.specs.Options as options;
     ghost use Rattle.jwalk_engine.specs.ReadAhead.{BeginsWith};
     ghost use Rattle.jwalk.specs.Parallelism.{parallelism_value, is_by_crew};
-    ghost use Rattle.jwalk.specs.ReadDirIter.{by_crew, job_of, to_read, width_of, read_ahead};
+    ghost use Rattle.jwalk.specs.ReadDirIter.{by_crew, job_of, to_read, width_of, read_ahead, StartsSteady};
 
     /// The readings of these directories and of all that is below them, as `try_new` makes them; a crew may be told to
     /// read, whose workers begin at once. Then a place of the crew is waited for first, as long as its `busy_timeout`
@@ -94,6 +97,8 @@ where
         ensures to_read { IfOk result (λ reads. to_read reads ≡ map spec roots.items) }
         ensures read_ahead { IfOk result (λ reads. by_crew reads ≡ false
             → BeginsWith (map spec roots.items) (read_ahead reads)) }
+        ensures steady { IfOk result (StartsSteady S.FileSystem P.ProcessReadDir C.ReadDirState.Clone
+            C.DirEntryState.Default ⟦<Session<R, C, S, P, A> as Pool<C, S, P, A>>⟧) }
         ensures fails { IfErr result (λ error. (failure error ≡ memory)
             ⊎ ((failure error ≡ busy) × (parallelism_value parallelism ≡ value.crew))) }
     {

@@ -23,7 +23,7 @@ impl<
     A: Allocator + Copy,
     L: Pool<C, S, P, A>,
 > ReadDirIter<C, S, P, A, InTurn, L> {
-    ghost use Rattle.jwalk.specs.ReadDirIter.{by_crew, job_of, to_read};
+    ghost use Rattle.jwalk.specs.ReadDirIter.{by_crew, job_of, to_read, StartsSteady};
 
     /// The readings of these directories and of all that is below them, as a pool gives them. Only a reading of the
     /// directory that comes next, made by this job's options, is handed on.
@@ -37,6 +37,9 @@ impl<
         ensures by { IfOk result (λ reads. by_crew reads ≡ true) }
         ensures job { IfOk result (λ reads. job_of reads ≡ job) }
         ensures to_read { IfOk result (λ reads. to_read reads ≡ map spec roots.items) }
+        ensures steady { L.comes_from pool (record { job = job; roots = map spec roots.items })
+            → IfOk result (StartsSteady S.FileSystem P.ProcessReadDir C.ReadDirState.Clone C.DirEntryState.Default
+            L.Pool) }
         ensures memory { IfErr result (λ error. failure error ≡ memory) }
     {
         match CrewReads::over(job, roots, pool) {

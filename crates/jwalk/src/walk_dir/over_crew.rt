@@ -10,6 +10,7 @@ use crate::dir_entry_iter::DirEntryIter;
 use crate::threads::InTurn;
 use crate::walk_dir::WalkDirGeneric;
 use jwalk_crew::crew::{Crew, NotStarted};
+use jwalk_crew::pool::Pool;
 use jwalk_crew::session::Session;
 use jwalk_read::client_state::ClientState;
 use jwalk_read::error::Error;
@@ -69,6 +70,7 @@ where
     C::DirEntryState: Send + 'static,
 {
     ghost use Rattle.jwalk.specs.WalkDir.{callback_of, options_of, Starts, Begins};
+    ghost use Rattle.jwalk.specs.DirEntryIter.{StartsSteady};
 
     /// The walk begun, and why it doesn't begin, if so.
     fn begin_by(
@@ -81,6 +83,8 @@ where
         ensures starts { Starts self result.0 }
         ensures begins { Begins S.FileSystem P.ProcessReadDir C.ReadDirState.Clone C.DirEntryState.Default
             self result.1 result.0 }
+        ensures steady { StartsSteady S.FileSystem P.ProcessReadDir C.ReadDirState.Clone C.DirEntryState.Default
+            ⟦<Session<R, C, S, P, A> as Pool<C, S, P, A>>⟧ result.0 }
     {
         let alloc = *self.root.allocator();
         let WalkDirGeneric {
@@ -116,6 +120,8 @@ where
         ensures starts { IfOk result (Starts self) }
         ensures begins { IfOk result (Begins S.FileSystem P.ProcessReadDir C.ReadDirState.Clone
             C.DirEntryState.Default self None) }
+        ensures steady { IfOk result (StartsSteady S.FileSystem P.ProcessReadDir C.ReadDirState.Clone
+            C.DirEntryState.Default ⟦<Session<R, C, S, P, A> as Pool<C, S, P, A>>⟧) }
         ensures fails { IfErr result (λ error. (failure error ≡ memory)
             ⊎ ((failure error ≡ busy) × ((options_of self).parallelism ≡ parallelism.crew))) }
     {
@@ -133,6 +139,8 @@ where
         ensures starts { Starts self result }
         ensures begins { (why_not : _) × Begins S.FileSystem P.ProcessReadDir C.ReadDirState.Clone
             C.DirEntryState.Default self why_not result }
+        ensures steady { StartsSteady S.FileSystem P.ProcessReadDir C.ReadDirState.Clone C.DirEntryState.Default
+            ⟦<Session<R, C, S, P, A> as Pool<C, S, P, A>>⟧ result }
     {
         let (walk, _) = self.begin_by();
         walk

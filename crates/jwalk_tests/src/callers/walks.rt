@@ -3,11 +3,14 @@ use jwalk::WalkDirGeneric;
 use jwalk::file_system::{FileSystem, MemoryFs};
 use jwalk::read_dir::NoProcess;
 use proved_walk::batches::count_in_batches;
+use proved_walk::by_crew::walk_by_crew;
 use proved_walk::counted::Counted;
 use proved_walk::whole::walk_whole;
 use std::alloc::{AllocError, Global};
+use std::sync::Arc;
 use std::test::Fail;
 use walk_fixtures::answers::lines_of;
+use walk_fixtures::crewed::{Crewed, crew_of};
 use walk_fixtures::trees::{GROUPED, SMALL, tree};
 use walk_fixtures::wide::wide_directory;
 
@@ -33,6 +36,26 @@ fn a_whole_walk_in_one_list(rt: HostRuntime) -> Result<(), Fail> {
     let fs = tree(rt.alloc(), SMALL)?;
     let wanted = "0 d /r; 1 f /r/b; 1 d /r/s; 2 f /r/s/x; 1 f /r/a";
     assert_eq!(rt; whole_lines(rt.alloc(), &fs)?.as_str(), wanted);
+    Ok(())
+}
+
+#[test]
+fn a_whole_walk_by_a_crew_in_one_list(rt: HostRuntime) -> Result<(), Fail> {
+    let fs = Arc::new(rt.alloc(), tree(rt.alloc(), SMALL)?)?;
+    let crew = crew_of(&rt, 1, 2)?;
+    let asked = Crewed {
+        crew: &crew,
+        busy_timeout: None,
+        fs: &fs,
+        root: "/r",
+        settings: &[],
+    };
+    let lines = match walk_by_crew(rt.alloc(), asked.builder::<((), ())>(rt.alloc())?) {
+        Ok(found) => lines_of(rt.alloc(), found.as_slice())?,
+        Err(_) => String::new(rt.alloc()),
+    };
+    let wanted = "0 d /r; 1 f /r/b; 1 d /r/s; 2 f /r/s/x; 1 f /r/a";
+    assert_eq!(rt; lines.as_str(), wanted);
     Ok(())
 }
 

@@ -12,7 +12,7 @@ returns g c = λ fixed none.
     let fs = made.file_system ∙ c.new.ensures.file_system in
     let options = made.options ∙ c.new.ensures.options in
     let root = made.root ∙ c.new.ensures.root in
-    let whole = whole_filled _ _ _ _ (filtering no_target) c.process_read_dir-walk.result c.into_iter.result c.fill.new.self (2 ^ 64 - 1) c.in_ok-fill.field-0 c.new-found.result.items found.items begun.own begun.starts begun.holds
+    let whole = whole_filled _ _ _ _ _ (filtering no_target) c.process_read_dir-walk.result c.into_iter.result c.fill.new.self (2 ^ 64 - 1) c.in_ok-fill.field-0 c.new-found.result.items found.items begun.own begun.starts begun.holds
     (record { file_system = rw fs fixed; callback = (no_target, λ depth name type answer fits text k. search (rules, tests), λ depth path state list. refl); clones = λ x y is. refl; default = λ x is. refl })
     c.in_ok-fill.ensures c.new-found.ensures.items (omega (arith, found.ok.0, found.ok.1, found.small)) none in
     rw (fs, options, root) at whole

@@ -17,7 +17,7 @@ returns g c = λ fixed none.
     let options : options_of walk ≡ defaults = built.options ∙ c.new.ensures.options in
     let root = built.root ∙ c.new.ensures.root in
     let fixed_there = subst g.S.FileSystem.IsFixed (sym file_system) fixed in
-    let whole = whole_filled _ _ _ _ root_alone walk c.into_iter.result c.fill.new.self (2 ^ 64 - 1) c.in_ok-fill.field-0 c.new-found.result.items found.items begun.own begun.starts begun.holds
+    let whole = whole_filled _ _ _ _ _ root_alone walk c.into_iter.result c.fill.new.self (2 ^ 64 - 1) c.in_ok-fill.field-0 c.new-found.result.items found.items begun.own begun.starts begun.holds
     (record { file_system = fixed_there; callback = λ depth path state state' list list' answer deep gives. made_empty depth path answer state state' (map item list.items) (map item list'.items) (ap (λ v. map item v.items) (sym gives.9) ∙ gives.10.1.1 ∙ ap (λ v. emptied depth (map item v.items)) gives.7); clones = λ x y is. refl; default = λ x is. refl })
     c.in_ok-fill.ensures c.new-found.ensures.items (omega (arith, found.ok.0, found.ok.1, found.small)) none in
     rw (file_system, options, root) at whole

@@ -29,7 +29,7 @@ returns-then-request-clause-printed g c =
     ok_both c.print_walk.result _ _ _ c.print_walk.ensures.entries c.print_walk.ensures.printed (λ status entries prints clean. record {
       walk = record { asked = request.asked; root = request.root.now; ask = c.in-Some.ensures.some; tree = Some (tree_of c.in_ok-tree.tree); wanted = sym c.if-request.true; builds = c.in_ok-tree.ensures.built };
       entries = entries clean;
-      over_tree = λ no_crew. prints clean no_crew tt;
+      over_tree = prints clean tt;
       over_disk = tt;
     })
 

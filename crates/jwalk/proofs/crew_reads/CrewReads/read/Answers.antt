@@ -5,6 +5,7 @@ use Rattle.jwalk_read.specs.Job.{options_of}
 use Rattle.jwalk_crew.specs.Wanted.{IsFor}
 use Rattle.jwalk.specs.CrewReads.{job_of, next_address}
 use Rattle.jwalk.proofs.CrewFacts.{told}
+use Rattle.jwalk.proofs.CrewSteadyFacts.{reads_steadily}
 use Rattle.jwalk.proofs.ResultFacts.{none_ok}
 use Rattle.jwalk.proofs.crew_reads.CrewReads.read.Goals as goal
 
@@ -19,28 +20,38 @@ returns-clause-told g c =
     (rw (sym c.in_ok-into_outcome.ensures.outcome) at c.into_outcome.ensures.lawful)
 
 pub returns-in_default : goal.returns-in_default
-returns-in_default g c = record { job = refl; to_read = refl; told = tt }
+returns-in_default g c = record { job = refl; to_read = refl; told = tt; steadily = tt }
 
 pub returns-then-is_none : goal.returns-then-is_none
-returns-then-is_none g c = record { job = refl; to_read = refl; told = tt }
+returns-then-is_none g c = record { job = refl; to_read = refl; told = tt; steadily = tt }
 
 pub returns-in_err-address : goal.returns-in_err-address
-returns-in_err-address g c = record { job = refl; to_read = refl; told = none_ok _ c.from_residual.result c.from_residual.ensures.0 }
+returns-in_err-address g c = record { job = refl; to_read = refl; told = none_ok _ c.from_residual.result c.from_residual.ensures.0; steadily = none_ok _ c.from_residual.result c.from_residual.ensures.0 }
 
 pub returns-in_err-wanted : goal.returns-in_err-wanted
-returns-in_err-wanted g c = record { job = refl; to_read = refl; told = none_ok _ c.from_residual-in_err-wanted.result c.from_residual-in_err-wanted.ensures.0 }
+returns-in_err-wanted g c = record { job = refl; to_read = refl; told = none_ok _ c.from_residual-in_err-wanted.result c.from_residual-in_err-wanted.ensures.0; steadily = none_ok _ c.from_residual-in_err-wanted.result c.from_residual-in_err-wanted.ensures.0 }
 
 pub returns-in_err-item : goal.returns-in_err-item
-returns-in_err-item g c = record { job = refl; to_read = refl; told = none_ok _ c.from_residual-in_err-item.result c.from_residual-in_err-item.ensures.0 }
+returns-in_err-item g c = record { job = refl; to_read = refl; told = none_ok _ c.from_residual-in_err-item.result c.from_residual-in_err-item.ensures.0; steadily = none_ok _ c.from_residual-in_err-item.result c.from_residual-in_err-item.ensures.0 }
 
 pub returns-in_err-advance_past : goal.returns-in_err-advance_past
-returns-in_err-advance_past g c = record { job = refl; to_read = refl; told = none_ok _ c.from_residual-in_err-advance_past.result c.from_residual-in_err-advance_past.ensures.0 }
+returns-in_err-advance_past g c = record { job = refl; to_read = refl; told = none_ok _ c.from_residual-in_err-advance_past.result c.from_residual-in_err-advance_past.ensures.0; steadily = none_ok _ c.from_residual-in_err-advance_past.result c.from_residual-in_err-advance_past.ensures.0 }
 
 pub returns-in_err-into_outcome : goal.returns-in_err-into_outcome
-returns-in_err-into_outcome g c = record { job = refl; to_read = refl; told = none_ok _ c.from_residual-in_err-into_outcome.result c.from_residual-in_err-into_outcome.ensures.0 }
+returns-in_err-into_outcome g c = record { job = refl; to_read = refl; told = none_ok _ c.from_residual-in_err-into_outcome.result c.from_residual-in_err-into_outcome.ensures.0; steadily = none_ok _ c.from_residual-in_err-into_outcome.result c.from_residual-in_err-into_outcome.ensures.0 }
 
 pub returns-clause-job : goal.returns-clause-job
 returns-clause-job g c = refl
 
 pub returns-clause-to_read : goal.returns-clause-to_read
 returns-clause-to_read g c = refl
+
+pub returns-clause-steadily : goal.returns-clause-steadily
+returns-clause-steadily g c =
+    reads_steadily g.S.FileSystem g.P.ProcessReadDir g.C.ReadDirState.Clone g.C.DirEntryState.Default g.L.Pool c.args.self.now _ c.in-Some.pool c.next.new.self (spec c.args.of.now) c.in_ok-into_outcome.field-0 c.in_ok-item.item c.in-Some.is refl
+    (c.in_ok-item.ensures.fits.at ∙ c.in_ok-wanted.ensures.at ∙ c.in_ok-address.ensures ∙ c.looking_for.ensures)
+    c.in_ok-advance_past.ensures.passed
+    c.in_ok-item.ensures.of
+    c.in_ok-item.ensures.same
+    (sym c.in_ok-into_outcome.ensures.outcome)
+    (rw (sym c.in_ok-into_outcome.ensures.outcome) at c.into_outcome.ensures.lawful)

@@ -10,4 +10,4 @@ use Rattle.jwalk.proofs.read_dir_iter.ReadDirIter+C+S+P+A+InTurn+L.next_of.Goals
 pub returns-clause-of : goal.returns-clause-of
 returns-clause-of g c =
     let old = c.args.self.now in
-    gives_of g.S.FileSystem g.P.ProcessReadDir g.C.ReadDirState.Clone g.C.DirEntryState.Default old (greatest_depth (job_of old)) (Ok (entry c.args.found.now)) (to_read old) (option_map outcome c.next_or_stop.result) (to_read c.next_or_stop.new.self) (c.if-not-is_next.ensures.below refl) c.next_or_stop.ensures.first
+    gives_of g.S.FileSystem g.P.ProcessReadDir g.C.ReadDirState.Clone g.C.DirEntryState.Default g.L.Pool old (greatest_depth (job_of old)) (Ok (entry c.args.found.now)) (to_read old) (option_map outcome c.next_or_stop.result) (to_read c.next_or_stop.new.self) (c.if-not-is_next.ensures.below refl) c.next_or_stop.ensures.first

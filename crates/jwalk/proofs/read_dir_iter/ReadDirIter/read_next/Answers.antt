@@ -102,7 +102,7 @@ returns-in-CrewWalk g c =
       some = read.ensures.some;
       stopped = read.ensures.stopped;
       nothing_ahead = on_err read.result refl;
-      steady = λ value steady. steady;
+      steady = read.ensures.steady;
       next = read.ensures.next;
       enters = enters_by_crew g.S.FileSystem g.P.ProcessReadDir g.C.ReadDirState.Clone g.C.DirEntryState.Default (crew.job_of reads) (crew.next_address reads) outcome read.result;
     })

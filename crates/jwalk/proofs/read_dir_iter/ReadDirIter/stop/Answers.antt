@@ -1,4 +1,5 @@
-use Rattle.std.proofs.Common.{refl}
+use Rattle.std.proofs.Common.{refl, sym, subst}
+use Rattle.jwalk_read.specs.Job.{IsSteadyJob}
 use Rattle.jwalk.proofs.read_dir_iter.ReadDirIter.stop.Goals as goal
 
 pub returns-in-Walk : goal.returns-in-Walk
@@ -14,4 +15,4 @@ returns-in-ParWalk g c =
 pub returns-in-CrewWalk : goal.returns-in-CrewWalk
 returns-in-CrewWalk g c =
     let stopped = c.stop-in-CrewWalk.ensures in
-    rw c.in-CrewWalk.is (record { crew = refl; job = stopped.job; width = refl; to_read = stopped.to_read; read_ahead = refl; steady = λ value steady. steady })
+    rw c.in-CrewWalk.is (record { crew = refl; job = stopped.job; width = refl; to_read = stopped.to_read; read_ahead = refl; steady = λ value steady. stopped.steady value (subst (λ j. IsSteadyJob g.S.FileSystem g.P.ProcessReadDir g.C.ReadDirState.Clone g.C.DirEntryState.Default j value) (sym stopped.job) steady.steady) })

@@ -26,7 +26,7 @@ returns-in-Some-Err g c =
       refused = refl;
       end = tt;
       steady = λ given steady. steady;
-      passed = rw items (next_alone g.C.ReadDirState.Clone (KnownAt g.S.FileSystem g.P.ProcessReadDir g.C.ReadDirState.Clone g.C.DirEntryState.Default old (next_address old)) (job_of old) (Err (failure c.in-Some-Err.error)) (map item (reverse c.pop.new.self.items)) (unread_of old) refl);
+      passed = rw items (next_alone g.C.ReadDirState.Clone (KnownAt g.S.FileSystem g.P.ProcessReadDir g.C.ReadDirState.Clone g.C.DirEntryState.Default g.L.Pool old (next_address old)) (job_of old) (Err (failure c.in-Some-Err.error)) (map item (reverse c.pop.new.self.items)) (unread_of old) refl);
       width = refl;
       ahead = inr (alone_at (items_of old) (map item (reverse c.pop.new.self.items)) (Err (failure c.in-Some-Err.error)) (unread_of old) items refl, refl);
       tells = tt;
@@ -43,7 +43,7 @@ returns-then-is_none g c =
       refused = refl;
       end = tt;
       steady = λ given steady. steady;
-      passed = rw items (next_alone g.C.ReadDirState.Clone (KnownAt g.S.FileSystem g.P.ProcessReadDir g.C.ReadDirState.Clone g.C.DirEntryState.Default old (next_address old)) (job_of old) (Ok (entry c.in-Some-Ok.found)) (map item (reverse c.pop.new.self.items)) (unread_of old) (is_some-map children c.in-Some-Ok.found.read_children ∙ c.if-is_none.ensures));
+      passed = rw items (next_alone g.C.ReadDirState.Clone (KnownAt g.S.FileSystem g.P.ProcessReadDir g.C.ReadDirState.Clone g.C.DirEntryState.Default g.L.Pool old (next_address old)) (job_of old) (Ok (entry c.in-Some-Ok.found)) (map item (reverse c.pop.new.self.items)) (unread_of old) (is_some-map children c.in-Some-Ok.found.read_children ∙ c.if-is_none.ensures));
       width = refl;
       ahead = inr (alone_at (items_of old) (map item (reverse c.pop.new.self.items)) (Ok (entry c.in-Some-Ok.found)) (unread_of old) items (is_some-map children c.in-Some-Ok.found.read_children ∙ c.if-is_none.ensures), refl);
       tells = tt;
@@ -56,7 +56,7 @@ returns-in_ok-entered-in-Some-Ok g c =
     let read = c.read_next_on in
     let entered = c.in_ok-entered-in-Some-Ok.ensures in
     let items = popped old.items.items c.pop.new.self.items (Ok c.in-Some-Ok.found) (rw c.in-Some-Ok.field-0-is at c.in-Some-Ok.ensures.items) in
-    let next = known_of g.S.FileSystem g.P.ProcessReadDir g.C.ReadDirState.Clone g.C.DirEntryState.Default old.reads (greatest_depth (job_of old)) (Ok (entry c.in-Some-Ok.found)) (unread_of old) (option_map outcome c.in_ok-read-in-Some-Ok.read) (to_read c.read_next_on.new.self) (c.if-not-is_next.ensures.below refl) c.in_ok-read-in-Some-Ok.ensures.next in
+    let next = known_of g.S.FileSystem g.P.ProcessReadDir g.C.ReadDirState.Clone g.C.DirEntryState.Default g.L.Pool old.reads (greatest_depth (job_of old)) (Ok (entry c.in-Some-Ok.found)) (unread_of old) (option_map outcome c.in_ok-read-in-Some-Ok.read) (to_read c.read_next_on.new.self) (c.if-not-is_next.ensures.below refl) c.in_ok-read-in-Some-Ok.ensures.next in
     record {
       crew = ap readings.by_crew entered.reads ∙ read.ensures.crew;
       job = ap readings.job_of entered.reads ∙ read.ensures.job;
@@ -64,10 +64,10 @@ returns-in_ok-entered-in-Some-Ok g c =
       end = tt;
       steady = rw entered.reads read.ensures.steady;
       passed = rw (items, ap to_read entered.reads)
-          (next_received g.C.ReadDirState.Clone (KnownAt g.S.FileSystem g.P.ProcessReadDir g.C.ReadDirState.Clone g.C.DirEntryState.Default old (next_address old)) (job_of old) (option_map outcome c.in_ok-read-in-Some-Ok.read) (Ok (entry c.in-Some-Ok.found)) (map item (reverse c.pop.new.self.items)) (unread_of old) _ (items_of c.entered.new.self) _
+          (next_received g.C.ReadDirState.Clone (KnownAt g.S.FileSystem g.P.ProcessReadDir g.C.ReadDirState.Clone g.C.DirEntryState.Default g.L.Pool old (next_address old)) (job_of old) (option_map outcome c.in_ok-read-in-Some-Ok.read) (Ok (entry c.in-Some-Ok.found)) (map item (reverse c.pop.new.self.items)) (unread_of old) _ (items_of c.entered.new.self) _
           (is_some-map children c.in-Some-Ok.found.read_children ∙ c.if-is_none.ensures) next entered.received);
       width = ap readings.width_of entered.reads ∙ read.ensures.width;
-      ahead = entered_if_any g.S.FileSystem g.P.ProcessReadDir g.C.ReadDirState.Clone g.C.DirEntryState.Default old c.entered.new.self (Ok (entry c.in-Some-Ok.found)) (map item (reverse c.pop.new.self.items)) (option_map outcome c.in_ok-read-in-Some-Ok.read) (to_read read.new.self) (readings.read_ahead read.new.self)
+      ahead = entered_if_any g.S.FileSystem g.P.ProcessReadDir g.C.ReadDirState.Clone g.C.DirEntryState.Default g.L.Pool old c.entered.new.self (Ok (entry c.in-Some-Ok.found)) (map item (reverse c.pop.new.self.items)) (option_map outcome c.in_ok-read-in-Some-Ok.read) (to_read read.new.self) (readings.read_ahead read.new.self)
           items (is_some-map children c.in-Some-Ok.found.read_children ∙ c.if-is_none.ensures) next c.in_ok-read-in-Some-Ok.ensures.enters (ap readings.read_ahead entered.reads);
       tells = tt;
       stopped = tt;
@@ -90,7 +90,7 @@ returns-in_err-entered-in-Some-Ok g c =
       width = ap readings.width_of entered.reads ∙ read.ensures.width;
       ahead = none_on_ok _ told.result told.ensures.0;
       tells = tells_refusal (by_crew old) told.result told.ensures.1;
-      stopped = at_read g.C.ReadDirState.Clone (readings.Known g.S.FileSystem g.P.ProcessReadDir g.C.ReadDirState.Clone g.C.DirEntryState.Default old.reads) (greatest_depth (job_of old)) outcome c.in_ok-read-in-Some-Ok.read told.result
+      stopped = at_read g.C.ReadDirState.Clone (readings.Known g.S.FileSystem g.P.ProcessReadDir g.C.ReadDirState.Clone g.C.DirEntryState.Default g.L.Pool old.reads) (greatest_depth (job_of old)) outcome c.in_ok-read-in-Some-Ok.read told.result
           (items_of old) (map item (reverse c.pop.new.self.items)) (Ok (entry c.in-Some-Ok.found)) (unread_of old) (to_read read.new.self)
           items (is_some-map children c.in-Some-Ok.found.read_children ∙ c.if-is_none.ensures) entered.stopped c.in_ok-read-in-Some-Ok.ensures.next;
     }

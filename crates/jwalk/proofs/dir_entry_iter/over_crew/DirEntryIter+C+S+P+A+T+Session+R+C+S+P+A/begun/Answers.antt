@@ -6,10 +6,8 @@ use Rattle.jwalk.proofs.dir_entry_iter.over_crew.DirEntryIter+C+S+P+A+T+Session+
 
 pub returns : goal.returns
 returns g c = record {
-  job = refl;
-  unread = refl;
+  reads = refl;
   items = ap (map item) (ap reverse c.reverse.ensures.items ∙ reverse-reverse c.left-items.result.items)
       ∙ c.left-items.ensures ∙ ap (left_of c.args.why_not) c.into_results_list.ensures;
   refused = c.is_refused.ensures;
-  by = refl;
 }

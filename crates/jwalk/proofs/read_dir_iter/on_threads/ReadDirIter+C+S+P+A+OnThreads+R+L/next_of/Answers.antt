@@ -10,4 +10,4 @@ use Rattle.jwalk.proofs.read_dir_iter.on_threads.ReadDirIter+C+S+P+A+OnThreads+R
 pub returns-clause-of : goal.returns-clause-of
 returns-clause-of g c =
     let old = c.args.self.now in
-    gives_of g.S.FileSystem g.P.ProcessReadDir g.C.ReadDirState.Clone g.C.DirEntryState.Default old (greatest_depth (job_of old)) (Ok (entry c.args.found.now)) (to_read old) (option_map outcome c.next.result) (to_read c.next.new.self) (c.if-not-is_next.ensures.below refl) c.next.ensures.first
+    gives_of g.S.FileSystem g.P.ProcessReadDir g.C.ReadDirState.Clone g.C.DirEntryState.Default g.L.Pool old (greatest_depth (job_of old)) (Ok (entry c.args.found.now)) (to_read old) (option_map outcome c.next.result) (to_read c.next.new.self) (c.if-not-is_next.ensures.below refl) c.next.ensures.first
