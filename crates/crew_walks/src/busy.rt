@@ -49,7 +49,7 @@ fn is_refused<R: Wait + Threads + Clock + Drop + Send + Sync + 'static>(
     stand: &Stand<R, MemoryFs>,
 ) -> Result<bool, AllocError> {
     let tried = crewed.tried(stand.alloc)?;
-    Ok(match tried {
+    Ok(match &tried {
         Ok(_) => false,
         Err(error) => error.is_busy(),
     })
@@ -107,7 +107,8 @@ fn a_root_without_a_directory_takes_a_place(rt: HostRuntime) -> Result<(), Fail>
     let stand = one_place(&rt)?;
     let held = stand.crewed("/t/a.txt", &[]).begun(stand.alloc)?;
     assert_eq!(rt; stand.crew.in_use(), 1);
-    assert!(rt; is_refused(&impatient(&stand, "/t"), &stand)?);
+    let second = impatient(&stand, "/t");
+    assert!(rt; is_refused(&second, &stand)?);
     drop(held);
     assert_eq!(rt; stand.crew.in_use(), 0);
     Ok(())
@@ -164,7 +165,8 @@ fn who_waits_gets_the_place_that_is_given_back(rt: HostRuntime) -> Result<(), Fa
 fn no_places_and_no_workers_count_as_one(rt: HostRuntime) -> Result<(), Fail> {
     let stand = Stand::new(&rt, tree(rt.alloc(), GROUPED)?, 0, 0)?;
     let held = stand.crewed("/t", &[]).begun(stand.alloc)?;
-    assert!(rt; is_refused(&impatient(&stand, "/t"), &stand)?);
+    let second = impatient(&stand, "/t");
+    assert!(rt; is_refused(&second, &stand)?);
     drop(held);
     let next = impatient(&stand, "/t/group 1");
     assert!(rt;

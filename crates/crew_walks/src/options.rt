@@ -36,6 +36,12 @@ fn by_crew<R: Wait + Clock + Drop>(
     })
 }
 
+/// A walk by the crew.
+fn crewed<R: Wait + Clock + Drop>(stand: &Stand<R, MemoryFs>) -> Result<Builder<R>, AllocError> {
+    let by = by_crew(stand)?;
+    Ok(builder(stand)?.parallelism(by))
+}
+
 /// Whether a walk takes so many places of the crew, and answers all.
 fn takes<R: Wait + Threads + Clock + Drop + Send + Sync + 'static>(
     stand: &Stand<R, MemoryFs>,
@@ -63,13 +69,11 @@ fn a_walk_takes_a_place_where_the_crew_is_to_read(rt: HostRuntime) -> Result<(),
     let stand = two_workers(&rt)?;
     let walk = builder(&stand)?;
     assert!(rt; takes(&stand, walk, 0, ALL)?);
-    let walk = builder(&stand)?.parallelism(by_crew(&stand)?);
+    let walk = crewed(&stand)?;
     assert!(rt; takes(&stand, walk, 1, ALL)?);
     let walk = builder(&stand)?.parallelism(Parallelism::RayonNewPool(2));
     assert!(rt; takes(&stand, walk, 0, ALL)?);
-    let walk = builder(&stand)?
-        .parallelism(by_crew(&stand)?)
-        .parallelism(Parallelism::Serial);
+    let walk = crewed(&stand)?.parallelism(Parallelism::Serial);
     assert!(rt; takes(&stand, walk, 0, ALL)?);
     assert_eq!(rt; stand.crew.in_use(), 0);
     Ok(())
@@ -79,9 +83,10 @@ fn a_walk_takes_a_place_where_the_crew_is_to_read(rt: HostRuntime) -> Result<(),
 fn a_small_depth_makes_a_walk_serial_until_it_is_told_again(rt: HostRuntime) -> Result<(), Fail> {
     const SHALLOW: &str = "0 d /r; 1 d /r/a; 1 d /r/b; 1 d /r/c";
     let stand = two_workers(&rt)?;
-    let walk = builder(&stand)?.parallelism(by_crew(&stand)?).max_depth(1);
+    let walk = crewed(&stand)?.max_depth(1);
     assert!(rt; takes(&stand, walk, 0, SHALLOW)?);
-    let walk = builder(&stand)?.max_depth(1).parallelism(by_crew(&stand)?);
+    let by = by_crew(&stand)?;
+    let walk = builder(&stand)?.max_depth(1).parallelism(by);
     assert!(rt; takes(&stand, walk, 1, SHALLOW)?);
     Ok(())
 }
@@ -89,7 +94,7 @@ fn a_small_depth_makes_a_walk_serial_until_it_is_told_again(rt: HostRuntime) -> 
 #[test]
 fn a_walk_without_the_crew_is_not_busy(rt: HostRuntime) -> Result<(), Fail> {
     let stand = two_workers(&rt)?;
-    let held = builder(&stand)?.parallelism(by_crew(&stand)?).into_iter();
+    let held = crewed(&stand)?.into_iter();
     let walk = builder(&stand)?;
     assert!(rt; takes(&stand, walk, 1, ALL)?);
     let walk = builder(&stand)?.parallelism(Parallelism::RayonNewPool(2));
@@ -131,7 +136,7 @@ fn looped<R: Wait + Threads + Clock + Drop + Send + Sync + 'static>(
     stand: &Stand<R, MemoryFs>,
 ) -> Result<usize, AllocError> {
     let mut count: usize = 0;
-    for answer in builder(stand)?.parallelism(by_crew(stand)?).into_iter() {
+    for answer in crewed(stand)?.into_iter() {
         if answer.is_ok() {
             count = count.saturating_add(1);
         }
@@ -152,8 +157,7 @@ fn on_threads<R: Wait + Threads + Clock + Drop + Send + Sync + 'static>(
     rt: &R,
     stand: &Stand<R, MemoryFs>,
 ) -> Result<String, AllocError> {
-    let walk = builder(stand)?.parallelism(by_crew(stand)?);
-    let mut walk = walk.threads(rt).into_iter();
+    let mut walk = crewed(stand)?.threads(rt).into_iter();
     let mut found = Vec::new(stand.alloc);
     walk.fill(100, &mut found)?;
     lines_of(stand.alloc, found.as_slice())

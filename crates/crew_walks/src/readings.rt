@@ -54,7 +54,7 @@ fn by_crew<R: Wait + Clock + Drop>(
 }
 
 /// Whether the readings don't begin, since the crew is busy.
-fn is_busy<R: Wait + Clock + Drop>(tried: Option<Result<Reads<R>, Error>>) -> bool {
+fn is_busy<R: Wait + Clock + Drop>(tried: &Option<Result<Reads<R>, Error>>) -> bool {
     match tried {
         Some(Err(error)) => error.is_busy(),
         _ => false,
@@ -62,8 +62,8 @@ fn is_busy<R: Wait + Clock + Drop>(tried: Option<Result<Reads<R>, Error>>) -> bo
 }
 
 /// Whether seven readings come, and then none.
-fn gives_seven<R: Wait + Clock + Drop>(tried: Option<Result<Reads<R>, Error>>) -> bool {
-    let Some(Ok(mut reads)) = tried else {
+fn gives_seven<R: Wait + Clock + Drop>(tried: &mut Option<Result<Reads<R>, Error>>) -> bool {
+    let Some(Ok(reads)) = tried else {
         return false;
     };
     for _ in 0..7 {
@@ -77,12 +77,16 @@ fn gives_seven<R: Wait + Clock + Drop>(tried: Option<Result<Reads<R>, Error>>) -
 #[test]
 fn readings_from_the_directories_of_a_list_by_a_crew(rt: HostRuntime) -> Result<(), Fail> {
     let stand = Stand::new(&rt, tree(rt.alloc(), FORKED)?, 1, 2)?;
-    let held = tried(&stand, by_crew(&stand)?);
+    let mut held = tried(&stand, by_crew(&stand)?);
     assert_eq!(rt; stand.crew.in_use(), 1);
-    assert!(rt; is_busy(tried(&stand, by_crew(&stand)?)));
-    assert!(rt; gives_seven(tried(&stand, Parallelism::Serial)));
-    assert!(rt; gives_seven(tried(&stand, Parallelism::RayonNewPool(2))));
-    assert!(rt; gives_seven(held));
+    let second = tried(&stand, by_crew(&stand)?);
+    assert!(rt; is_busy(&second));
+    let mut serial = tried(&stand, Parallelism::Serial);
+    assert!(rt; gives_seven(&mut serial));
+    let mut in_batches = tried(&stand, Parallelism::RayonNewPool(2));
+    assert!(rt; gives_seven(&mut in_batches));
+    assert!(rt; gives_seven(&mut held));
+    drop(held);
     assert_eq!(rt; stand.crew.in_use(), 0);
     Ok(())
 }
