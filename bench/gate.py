@@ -64,8 +64,8 @@ def part_of(pid):
     except OSError:
         return None
     crate = words[words.index("--crate-name") + 1]
-    # a must-fail edit is tried on a copy of the crate
-    if not folder.startswith(os.getcwd() + os.sep):
+    # a must-fail edit is tried on a copy of the crate, in a folder of this name
+    if os.path.basename(folder).startswith("rt-edit-"):
         return crate, "edits"
     return crate, "tests" if "--test" in words else "proof"
 

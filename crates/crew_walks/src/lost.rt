@@ -32,7 +32,11 @@ impl<'f> Drop for Prepared<'f> {
 }
 
 impl<'f> Pool<States, &'f MemoryFs, NoProcess, Global> for Prepared<'f> {
+    ghost use Rattle.std.specs.Prelude.{[]};
+
     ghost comes_from = { λ _ _. ⊥ };
+
+    ghost awaits = { λ _. [] };
 
     fn next(&mut self, wanted: &Wanted) -> Result<Ordered<Told<'f>>, Missed> {
         match arrive(&mut self.board, wanted) {

@@ -23,14 +23,16 @@ use Rattle.jwalk_read.specs.declared.job.Job.{Job}
 use Rattle.jwalk_read.specs.Error.{failure}
 use Rattle.jwalk_read.specs.Entry.{item}
 use Rattle.jwalk_read.specs.Given.{Given, counted_item, counted_spec, counted_reading}
-use Rattle.jwalk_read.specs.Job.{options_of, greatest_depth, job_by, ClonesCount}
+use Rattle.jwalk_read.specs.Job.{options_of, greatest_depth, job_by, ClonesCount, IsSteadyJob}
 use Rattle.jwalk_crew.specs.declared.pool.Pool as Pool
 use Rattle.jwalk.specs.declared.dir_entry_iter.DirEntryIter.{DirEntryIter}
 use Rattle.jwalk.specs.Step.{ReadsUpTo, IsAtDirectory, StopsAtDirectory}
 use Rattle.jwalk_engine.specs.ReadAhead.{nothing_ahead}
 use Rattle.jwalk.specs.ReadDirIter.{Tells}
-use Rattle.jwalk.specs.DirEntryIter.{by_crew, job_of, min_depth_of, items_of, unread_of, width_of, read_ahead, GoesAhead, GrowsAhead, held, held_by, refusal, to_come, IsSourced, Stops, Known, StaysSteady, Answers}
+use Rattle.jwalk.specs.DirEntryIter.{by_crew, job_of, min_depth_of, items_of, unread_of, width_of, read_ahead, GoesAhead, GrowsAhead, held, held_by, refusal, to_come, IsSourced, Stops, ArePlaced, IsSteadyWalk, Known, StaysSteady, ReadsStaySteady, Answers}
+use Rattle.jwalk.proofs.GivesFacts.{steady_at_rest}
 use Rattle.jwalk.proofs.KnownFacts.{clones_if_steady, items_known}
+use Rattle.jwalk.proofs.PlacedFacts.{answered_placed, unread_placed}
 use Rattle.jwalk.proofs.StepFacts.{next_within, next_lighter, next_count, next_plain, next_listed, left_within, left_lighter, left_count, left_plain, left_to_come}
 
 -- at a directory nothing is said of the answer but what its reading tells
@@ -95,12 +97,16 @@ module _ {C S P A T L R E : Type 0} (files : FileSystem.Ghosts S) (process : Pro
   goes_ahead answer began grown =
       subst (λ b. MatchBool b (read_ahead new ≡ read_ahead old) ((IsSomeAnd answer (λ a. Stops (by_crew old) a new) × (read_ahead new ≡ nothing_ahead)) ⊎ GrowsAhead files process clone defaults pool old new)) (sym began) (inr grown)
 
+  -- a walk stays steady where its readings do, and its directories stay below their items
+  stays : by_crew new ≡ by_crew old → ReadsStaySteady files process clone defaults pool old new → (ArePlaced (by_crew old) (items_of old) (unread_of old) → ArePlaced (by_crew old) (items_of new) (unread_of new)) → StaysSteady files process clone defaults pool old new
+  stays crew keeps placed = λ given steady. record { reads = keeps given steady.reads; placed = rw crew (placed steady.placed) }
+
   -- items were left out, and then one is passed that is answered
   abbrev Knows : Item R E → Spec R → Outcome R E → Type 0
   Knows = Known files process clone defaults pool old
 
   answers_some : (x : Result (DirEntry C A R E) (Error A)) → old.refused ≡ false → new.refused ≡ false → by_crew new ≡ by_crew old → job_of new ≡ job_of old
-      → ReadsUpTo clone Knows (job_of old) (items_of old) (unread_of old) (Some (item x)) (items_of new) (unread_of new) → width_of new ≡ width_of old → StaysSteady files process clone defaults pool old new → GrowsAhead files process clone defaults pool old new → Answers files process clone defaults pool old (Some x) new
+      → ReadsUpTo clone Knows (job_of old) (items_of old) (unread_of old) (Some (item x)) (items_of new) (unread_of new) → width_of new ≡ width_of old → ReadsStaySteady files process clone defaults pool old new → GrowsAhead files process clone defaults pool old new → Answers files process clone defaults pool old (Some x) new
   answers_some x began started crew job reads width keeps grown =
       let j = job_of old in
       let left = reads.2 in
@@ -122,18 +128,18 @@ module _ {C S P A T L R E : Type 0} (files : FileSystem.Ghosts S) (process : Pro
         lighter = rw (before, after, job) (omega (arith, left_lighter clone Knows j (items_of old) (unread_of old) left, next_lighter clone Knows j next));
         reads = rw began (inr reads);
         width = width;
-        steady = keeps;
+        steady = stays crew keeps (answered_placed clone Knows j (items_of old) (unread_of old) (by_crew old) (Some (item x)) (items_of new) (unread_of new) reads);
         ahead = goes_ahead (Some (item x)) began grown;
         coming = λ given counted. inr (
             come_old given began
-            ∙ left_to_come clone Knows j (items_of old) (unread_of old) files given (clones_if_steady files process clone defaults pool old.reads given counted) (items_known files process clone defaults pool old given counted) left
-            ∙ ap (answers (min_depth_of old)) (next_listed clone Knows j files given (clones_if_steady files process clone defaults pool old.reads given counted) (items_known files process clone defaults pool old given counted) next)
+            ∙ left_to_come clone Knows j (items_of old) (unread_of old) files given (clones_if_steady files process clone defaults pool old.reads given counted.reads) (items_known files process clone defaults pool old given counted.reads) left
+            ∙ ap (answers (min_depth_of old)) (next_listed clone Knows j files given (clones_if_steady files process clone defaults pool old.reads given counted.reads) (items_known files process clone defaults pool old given counted.reads) next)
             ∙ rw (counted-is_answered given.read_dir_state given.dir_entry_state (min_depth_of old) (item x), kept) (ap (λ l. counted_item given (item x) ∷ l) (sym (come_new given started job))));
       }
 
   -- all that was held is left out
   answers_none : old.refused ≡ false → new.refused ≡ false → by_crew new ≡ by_crew old → job_of new ≡ job_of old
-      → ReadsUpTo clone Knows (job_of old) (items_of old) (unread_of old) None (items_of new) (unread_of new) → width_of new ≡ width_of old → StaysSteady files process clone defaults pool old new → GrowsAhead files process clone defaults pool old new → Answers files process clone defaults pool old None new
+      → ReadsUpTo clone Knows (job_of old) (items_of old) (unread_of old) None (items_of new) (unread_of new) → width_of new ≡ width_of old → ReadsStaySteady files process clone defaults pool old new → GrowsAhead files process clone defaults pool old new → Answers files process clone defaults pool old None new
   answers_none began started crew job reads width keeps grown =
       let j = job_of old in
       let left = reads.2 in
@@ -155,23 +161,23 @@ module _ {C S P A T L R E : Type 0} (files : FileSystem.Ghosts S) (process : Pro
         lighter = tt;
         reads = rw began (inr reads);
         width = width;
-        steady = keeps;
+        steady = stays crew keeps (answered_placed clone Knows j (items_of old) (unread_of old) (by_crew old) None (items_of new) (unread_of new) reads);
         ahead = goes_ahead None began grown;
         coming = λ given counted.
             come_old given began
-            ∙ left_to_come clone Knows j (items_of old) (unread_of old) files given (clones_if_steady files process clone defaults pool old.reads given counted) (items_known files process clone defaults pool old given counted) left
+            ∙ left_to_come clone Knows j (items_of old) (unread_of old) files given (clones_if_steady files process clone defaults pool old.reads given counted.reads) (items_known files process clone defaults pool old given counted.reads) left
             ∙ ap (λ l. answers (min_depth_of old) (Listing given l unread)) none;
       }
 
   pub answers_reads : (answer : Option (Result (DirEntry C A R E) (Error A))) → old.refused ≡ false → new.refused ≡ false → by_crew new ≡ by_crew old → job_of new ≡ job_of old
-      → ReadsUpTo clone Knows (job_of old) (items_of old) (unread_of old) (option_map item answer) (items_of new) (unread_of new) → width_of new ≡ width_of old → StaysSteady files process clone defaults pool old new → GrowsAhead files process clone defaults pool old new → Answers files process clone defaults pool old answer new
+      → ReadsUpTo clone Knows (job_of old) (items_of old) (unread_of old) (option_map item answer) (items_of new) (unread_of new) → width_of new ≡ width_of old → ReadsStaySteady files process clone defaults pool old new → GrowsAhead files process clone defaults pool old new → Answers files process clone defaults pool old answer new
   answers_reads None began started crew job reads width keeps grown = answers_none began started crew job reads width keeps grown
   answers_reads (Some x) began started crew job reads width keeps grown = answers_some x began started crew job reads width keeps grown
 
   -- the walk ends early below a directory
-  pub answers_stopped : (error : Error A) → Tells (by_crew old) (failure error) → old.refused ≡ false → new.refused ≡ false → by_crew new ≡ by_crew old → job_of new ≡ job_of old → items_of new ≡ [] → unread_of new ≡ []
-      → StopsAtDirectory clone Knows (job_of old) (items_of old) (unread_of old) → width_of new ≡ width_of old → StaysSteady files process clone defaults pool old new → read_ahead new ≡ nothing_ahead → Answers files process clone defaults pool old (Some (Err error)) new
-  answers_stopped error tells began started crew job none no_unread stops width keeps nothing_left =
+  pub answers_stopped : (error : Error A) → Tells (by_crew old) (failure error) → ((given : Given R E) → IsSteadyWalk files process clone defaults pool old given → Tells false (failure error)) → old.refused ≡ false → new.refused ≡ false → by_crew new ≡ by_crew old → job_of new ≡ job_of old → items_of new ≡ [] → unread_of new ≡ []
+      → StopsAtDirectory clone Knows (job_of old) (items_of old) (unread_of old) → width_of new ≡ width_of old → ReadsStaySteady files process clone defaults pool old new → read_ahead new ≡ nothing_ahead → Answers files process clone defaults pool old (Some (Err error)) new
+  answers_stopped error tells steadily began started crew job none no_unread stops width keeps nothing_left =
       let j = job_of old in
       let left = stops.2 in
       let at = stops.3 in
@@ -188,13 +194,13 @@ module _ {C S P A T L R E : Type 0} (files : FileSystem.Ghosts S) (process : Pro
         lighter = rw (before, after) (omega (arith, left_lighter clone Knows j (items_of old) (unread_of old) left, heavy_at (greatest_depth j) stops.0 stops.1 at));
         reads = rw began (inl stopped);
         width = width;
-        steady = keeps;
+        steady = stays crew keeps (λ placed. unread_placed (by_crew old) (items_of new) (unread_of new) no_unread);
         ahead = rw began (inl (stopped, nothing_left));
-        coming = λ given counted. inl stopped;
+        coming = λ given counted. inl (record { error = failure error; told = refl; tells = steadily given counted; nothing_held = after; nothing_unread = no_unread });
       }
 
   -- a walk that was refused at its start tells of it
-  pub answers_refusal : (error : Error A) → failure error ≡ memory → old.refused ≡ true → new.refused ≡ false → by_crew new ≡ by_crew old → job_of new ≡ job_of old → items_of new ≡ items_of old → unread_of new ≡ unread_of old → width_of new ≡ width_of old → StaysSteady files process clone defaults pool old new → read_ahead new ≡ read_ahead old → Answers files process clone defaults pool old (Some (Err error)) new
+  pub answers_refusal : (error : Error A) → failure error ≡ memory → old.refused ≡ true → new.refused ≡ false → by_crew new ≡ by_crew old → job_of new ≡ job_of old → items_of new ≡ items_of old → unread_of new ≡ unread_of old → width_of new ≡ width_of old → ReadsStaySteady files process clone defaults pool old new → read_ahead new ≡ read_ahead old → Answers files process clone defaults pool old (Some (Err error)) new
   answers_refusal error told refused started crew job items unread width keeps same_ahead =
       let front = held_refused old refused in
       let rest : held new ≡ pair_up (items_of old) (unread_of old) = held_rest new started ∙ ap (λ l. pair_up l (unread_of new)) items ∙ ap (pair_up (items_of old)) unread in
@@ -208,7 +214,7 @@ module _ {C S P A T L R E : Type 0} (files : FileSystem.Ghosts S) (process : Pro
         lighter = rw (front, rest, job) (omega arith);
         reads = rw refused unread;
         width = width;
-        steady = keeps;
+        steady = stays crew keeps (λ placed. rw (items, unread) placed);
         ahead = rw refused same_ahead;
         coming = λ given counted. inr (
             ap (value.to_come (reading (job_by files given (job_of old))) (min_depth_of old) (greatest_depth (job_of old))) (held_by_refused given old refused)
@@ -216,6 +222,10 @@ module _ {C S P A T L R E : Type 0} (files : FileSystem.Ghosts S) (process : Pro
             ∙ ap (λ f. Err f ∷ answers (min_depth_of old) (Listing given (items_of old) (unread_of old))) (sym told)
             ∙ ap (λ l. Err (failure error) ∷ l) (ap (λ l. answers (min_depth_of old) (Listing given l (unread_of old))) (sym items) ∙ ap (λ l. answers (min_depth_of old) (Listing given (items_of new) l)) (sym unread) ∙ sym (come_new given started job)));
       }
+
+-- a walk that no crew reads for is steady over a steady job, where nothing was read early
+pub alone_steady : {C S P A T L R E : Type 0} (files : FileSystem.Ghosts S) (process : ProcessReadDir.Ghosts P C A R E) (clone : Clone.Ghosts R) (defaults : Default.Ghosts E) (pool : Pool.Ghosts L C S P A R E) (it : DirEntryIter C S P A T L R E) (given : Given R E) → by_crew it ≡ false → IsSteadyJob files process clone defaults (job_of it) given → (read_ahead it).done ≡ [] → IsSteadyWalk files process clone defaults pool it given
+alone_steady files process clone defaults pool it given own steady none = record { reads = steady_at_rest files process clone defaults pool it.reads given own steady none; placed = rw own tt }
 
 -- an iterator that gets lighter with each answer may be asked again
 pub goes_on : {T : Type 0} {may : Type 0} (r : Option T) (fewer : Type 0) → may → IfSome r (λ x. fewer) → OnSome r (may × Unit {0} × fewer)

@@ -24,7 +24,7 @@ use Rattle.jwalk_crew.specs.declared.pool.Pool as Pool
 use Rattle.jwalk.specs.declared.dir_entry_iter.DirEntryIter.{DirEntryIter}
 use Rattle.jwalk.specs.declared.walk_dir.WalkDirGeneric.{WalkDirGeneric}
 use Rattle.jwalk.specs.CrewStart.{busied, busy_pair}
-use Rattle.jwalk.specs.DirEntryIter.{by_crew, job_of, min_depth_of, to_come, IsSteadyWalk, Answers}
+use Rattle.jwalk.specs.DirEntryIter.{job_of, min_depth_of, to_come, IsSteadyWalk, Answers}
 use Rattle.jwalk.specs.WalkDir.{file_system_of, callback_of, root_of, state_of, job_for, Starts, HoldsUnless}
 use Rattle.jwalk.proofs.WholeFacts.{all_answered, comes_whole, entries_tell, whole}
 
@@ -69,11 +69,11 @@ module _ {C S P A T W L R E : Type 0} (files : FileSystem.Ghosts S) (process : P
   -- a walk that was begun, or whose crew was busy, and that was asked up to `None`
   pub clean_whole : (why_not : Option NotStarted) → HoldsUnless files process clone defaults why_not walk it → IsSteadyWalk files process clone defaults pool it given → Starts walk it → IsSteady files process clone defaults (file_system_of walk) (callback_of walk) given → Drains (Answers files process clone defaults pool) it xs → list_all is_ok xs ≡ true
       → counted_list given xs ≡ whole_walk (job_for files given walk) (root_of walk) (given.read_dir_state (state_of walk))
-  clean_whole None holds steadily starts steady drains clean = whole files process clone defaults pool given walk it xs steadily starts (inr holds) steady drains (entries_tell (by_crew it) xs clean)
-  clean_whole (Some Memory) refused steadily starts steady drains clean = whole files process clone defaults pool given walk it xs steadily starts (inl refused) steady drains (entries_tell (by_crew it) xs clean)
+  clean_whole None holds steadily starts steady drains clean = whole files process clone defaults pool given walk it xs steadily starts (inr holds) steady drains (entries_tell xs clean)
+  clean_whole (Some Memory) refused steadily starts steady drains clean = whole files process clone defaults pool given walk it xs steadily starts (inl refused) steady drains (entries_tell xs clean)
   clean_whole (Some Busy) holds steadily starts steady drains clean =
       let list = root_list (job_for files given walk) (root_of walk) (given.read_dir_state (state_of walk)) in
-      let came = all_answered files process clone defaults pool given xs it steadily drains (entries_tell (by_crew it) xs clean) in
+      let came = all_answered files process clone defaults pool given xs it steadily drains (entries_tell xs clean) in
       let read = reading (job_by files given (job_of it)) in
       let listed : to_come files given it ≡ answers (min_depth_of it) (map busied list.list)
       = ap (held_value.to_come read (min_depth_of it) (greatest_depth (job_of it))) (holds given steady)

@@ -20,7 +20,6 @@ use Rattle.jwalk_read.specs.Given.{Given, counted_item}
 use Rattle.jwalk_read.specs.Job.{options_of, greatest_depth, job_by}
 use Rattle.jwalk_crew.specs.declared.pool.Pool as Pool
 use Rattle.jwalk.specs.declared.dir_entry_iter.DirEntryIter.{DirEntryIter}
-use Rattle.jwalk.specs.ReadDirIter.{Tells}
 use Rattle.jwalk.specs.DirEntryIter.{by_crew, job_of, min_depth_of, width_of, held, weight_of, to_come, IsWithin, IsSourced, Stops, IsSteadyWalk, Answers, ComesFirst, EndsEarly, FillCalls, Fills}
 use Rattle.jwalk.proofs.AnswerFacts.{held_by_nothing}
 
@@ -75,40 +74,36 @@ module _ {C S P A T L R E : Type 0} (files : FileSystem.Ghosts S) (process : Pro
   none_after [] s t none same = (refl, same)
   none_after (x ∷ xs) s t none (j, step, rest) = absurd (nothing_answered (min_depth_of s) (held s) (item x) (held j) none step.plain)
 
-  stopped : (given : Given R E) (x : Result (DirEntry C A R E) (Error A)) (xs : List (Result (DirEntry C A R E) (Error A))) (s j t : DirEntryIter C S P A T L R E) → Stops (by_crew s) (item x) j → Yields Steps j xs t → EndsEarly files given s (map item (x ∷ xs)) t
+  stopped : (given : Given R E) (x : Result (DirEntry C A R E) (Error A)) (xs : List (Result (DirEntry C A R E) (Error A))) (s j t : DirEntryIter C S P A T L R E) → Stops false (item x) j → Yields Steps j xs t → EndsEarly files given s (map item (x ∷ xs)) t
   stopped given x xs s j t stops rest =
       let no_more = none_after xs j t stops.nothing_held rest in
       record {
         before = [];
         missed = to_come files given s;
-        error = stops.error;
         beginning = refl;
-        told = rw (no_more.0, stops.told) refl;
-        tells = stops.tells;
+        told = rw (no_more.0, stops.told, stops.tells) refl;
         nothing_held = subst (λ k. held k ≡ []) no_more.1 stops.nothing_held;
       }
 
-  one_more : (given : Given R E) (x : Item R E) (answered : List (Item R E)) (s j t : DirEntryIter C S P A T L R E) → by_crew j ≡ by_crew s → ComesFirst files given s (x ∷ []) j → ComesFirst files given j answered t ⊎ EndsEarly files given j answered t → ComesFirst files given s (x ∷ answered) t ⊎ EndsEarly files given s (x ∷ answered) t
-  one_more given x answered s j t crew first more = elim more [
+  one_more : (given : Given R E) (x : Item R E) (answered : List (Item R E)) (s j t : DirEntryIter C S P A T L R E) → ComesFirst files given s (x ∷ []) j → ComesFirst files given j answered t ⊎ EndsEarly files given j answered t → ComesFirst files given s (x ∷ answered) t ⊎ EndsEarly files given s (x ∷ answered) t
+  one_more given x answered s j t first more = elim more [
     | inl comes ↦ inl (first ∙ ap (λ l. counted_item given x ∷ l) comes)
     | inr ends ↦ inr (record {
       before = x ∷ ends.before;
       missed = ends.missed;
-      error = ends.error;
       beginning = first ∙ ap (λ l. counted_item given x ∷ l) ends.beginning;
       told = ap (λ l. x ∷ l) ends.told;
-      tells = subst (λ b. Tells b ends.error) crew ends.tells;
       nothing_held = ends.nothing_held;
     })
   ]
 
-  -- what calls answer is the first of what was to come, or a beginning of it and then the error that tells why the walk ends early
+  -- what calls answer is the first of what was to come, or a beginning of it and then the error that tells of want of memory
   pub come : (given : Given R E) (xs : List (Result (DirEntry C A R E) (Error A))) (s t : DirEntryIter C S P A T L R E) → IsSteadyWalk files process clone defaults pool s given → Yields Steps s xs t → ComesFirst files given s (map item xs) t ⊎ EndsEarly files given s (map item xs) t
   come given [] s t steady same = inl (ap (to_come files given) same)
   come given (x ∷ xs) s t steady (j, step, rest) =
       elim (step.coming given steady) [
         | inl stops ↦ inr (stopped given x xs s j t stops rest)
-        | inr first ↦ one_more given (item x) (map item xs) s j t step.crew first (come given xs j t (step.steady given steady) rest)
+        | inr first ↦ one_more given (item x) (map item xs) s j t first (come given xs j t (step.steady given steady) rest)
       ]
 
 -- calls after calls
@@ -193,7 +188,7 @@ module _ {C S P A T L R E : Type 0} (files : FileSystem.Ghosts S) (process : Pro
   at_end : (given : Given R E) (answered : List (Item R E)) (mid new : DirEntryIter C S P A T L R E) → to_come files given mid ≡ [] → held new ≡ [] → ComesFirst files given old answered mid ⊎ EndsEarly files given old answered mid → ComesFirst files given old answered new ⊎ EndsEarly files given old answered new
   at_end given answered mid new none over sofar = elim sofar [
     | inl comes ↦ inl (comes ∙ ap (λ l. map (counted_item given) answered ++ l) (none ∙ sym (ap (value.to_come (reading (job_by files given (job_of new))) (min_depth_of new) (greatest_depth (job_of new))) (held_by_nothing given new over))))
-    | inr ends ↦ inr (record { before = ends.before; missed = ends.missed; error = ends.error; beginning = ends.beginning; told = ends.told; tells = ends.tells; nothing_held = over })
+    | inr ends ↦ inr (record { before = ends.before; missed = ends.missed; beginning = ends.beginning; told = ends.told; nothing_held = over })
   ]
 
   -- the walk ended

@@ -32,9 +32,9 @@ use Rattle.jwalk_crew.specs.declared.pool.Pool as Pool
 use Rattle.jwalk.specs.declared.read_dir_iter.ReadDirIter.{ReadDirIter}
 use Rattle.jwalk.specs.declared.read_dir_iter.ReadDirIter.TheVariants.{Walk, ParWalk, CrewWalk}
 use Rattle.jwalk.specs.ReadDirIter.{by_crew, job_of, to_read, width_of, read_ahead, early_of, next_address, Tells, GivesError, GivesFirst, GivesPreorder, Known, EntersNextBy, IsSteadyReads, StartsSteady, StaysSteady, Gives}
-use Rattle.jwalk.proofs.KnownFacts.{clones_if_steady, known_if_steady}
+use Rattle.jwalk.proofs.KnownFacts.{tells_memory, clones_if_steady, known_if_steady}
 
-module _ {C S P A R E : Type 0} (b : Bool) (clone : Clone.Ghosts R) (known : Spec R → Outcome R E → Type 0) (job : Job C S P A R E) (old new : List (Spec R)) where
+module _ {C S P A R E : Type 0} (clone : Clone.Ghosts R) (known : Spec R → Outcome R E → Type 0) (job : Job C S P A R E) (old new : List (Spec R)) where
   module _ (files : FileSystem.Ghosts S) (given : Given R E) (cloned : ClonesCount clone given) (as_given : (s : Spec R) (o : Outcome R E) → known s o → IsAsGiven files given job s o) where
     first_in_preorder : (read : Outcome R E) → ReadsFirstBy clone known (greatest_depth job) old read new → preorder (reading (job_by files given job)) (greatest_depth job) (map (counted_spec given) old) ≡ counted_outcome given read ∷ preorder (reading (job_by files given job)) (greatest_depth job) (map (counted_spec given) new)
     first_in_preorder read reads =
@@ -49,20 +49,20 @@ module _ {C S P A R E : Type 0} (b : Bool) (clone : Clone.Ghosts R) (known : Spe
         ∙ ap (λ l. counted_outcome given read ∷ preorder (reading (job_by files given job)) (greatest_depth job) l) left
 
     -- readings that are given one by one come in preorder
-    pub given_in_preorder : (read : Option (Outcome R E)) → GivesFirst b clone known (greatest_depth job) old read new → GivesPreorder b (reading (job_by files given job)) (greatest_depth job) (map (counted_spec given) old) (option_map (counted_outcome given) read) (map (counted_spec given) new)
-    given_in_preorder None gives = elim gives [
+    pub given_in_preorder : (may_lose : Bool) (read : Option (Outcome R E)) → GivesFirst may_lose clone known (greatest_depth job) old read new → GivesPreorder may_lose (reading (job_by files given job)) (greatest_depth job) (map (counted_spec given) old) (option_map (counted_outcome given) read) (map (counted_spec given) new)
+    given_in_preorder may_lose None gives = elim gives [
       | inl ends ↦ absurd (let no : ◌≡◌ {A = Option (Outcome R E)} None (Some (Err ends.0.error)) = ends.0.told in cc)
       | inr none ↦ ap (λ l. preorder (reading (job_by files given job)) (greatest_depth job) (map (counted_spec given) l)) none.0
     ]
-    given_in_preorder (Some read) gives = elim gives [
+    given_in_preorder may_lose (Some read) gives = elim gives [
       | inl ends ↦ inl (record { error = ends.0.error; told = ap (option_map (counted_outcome given)) ends.0.told; tells = ends.0.tells }, ap (map (counted_spec given)) ends.2)
       | inr reads ↦ inr (first_in_preorder read reads)
     ]
 
   -- what is to be read weighs less then
-  pub gives_fewer : (read : Option (Outcome R E)) → GivesFirst b clone known (greatest_depth job) old read new → IfSome read (λ _. spec_weight (greatest_depth job) new < spec_weight (greatest_depth job) old)
-  gives_fewer None gives = tt
-  gives_fewer (Some read) gives = elim gives [
+  pub gives_fewer : (b : Bool) (read : Option (Outcome R E)) → GivesFirst b clone known (greatest_depth job) old read new → IfSome read (λ _. spec_weight (greatest_depth job) new < spec_weight (greatest_depth job) old)
+  gives_fewer b None gives = tt
+  gives_fewer b (Some read) gives = elim gives [
     | inl refused ↦ rw refused.2 (heavy_specs (greatest_depth job) old refused.1)
     | inr reads ↦ rw (reads.took, reads.stacks.left) (fewer_to_read (greatest_depth job) clone.is_clone reads.first reads.rest reads.stacks.front read reads.reading.lawful reads.reading.few reads.stacks.clones)
   ]
@@ -78,12 +78,12 @@ fewer_done old new width fewer = rw (sym (as_many new.board), sym (as_many old.b
 
 module _ {C S P A T L R E : Type 0} (files : FileSystem.Ghosts S) (process : ProcessReadDir.Ghosts P C A R E) (clone : Clone.Ghosts R) (defaults : Default.Ghosts E) (pool : Pool.Ghosts L C S P A R E) (old new : ReadDirIter C S P A T L R E) where
   -- one call that read on
-  pub gives_read : (read : Option (Result (ReadDir C A R E) (Error A))) → by_crew new ≡ by_crew old → job_of new ≡ job_of old → width_of new ≡ width_of old → length (early_of new) + 1 ≤ length (early_of old) + width_of old
+  pub gives_read : (asks_for_any : Bool) (read : Option (Result (ReadDir C A R E) (Error A))) → by_crew new ≡ by_crew old → job_of new ≡ job_of old → width_of new ≡ width_of old → length (early_of new) + 1 ≤ length (early_of old) + width_of old
       → StaysSteady files process clone defaults pool old new
       → ReadsNextBy clone (Known files process clone defaults pool old) (greatest_depth (job_of old)) (to_read old) (option_map outcome read) (to_read new)
       → EntersNextBy files process clone defaults (by_crew old) (job_of old) (width_of old) (next_address old) (read_ahead old) (option_map outcome read) (read_ahead new)
-      → Gives files process clone defaults pool old read new
-  gives_read read crew job width ahead steady next enters = record {
+      → Gives files process clone defaults pool asks_for_any old read new
+  gives_read asks_for_any read crew job width ahead steady next enters = record {
     crew = crew;
     job = job;
     width = width;
@@ -91,14 +91,14 @@ module _ {C S P A T L R E : Type 0} (files : FileSystem.Ghosts S) (process : Pro
     ahead = ahead;
     steady = steady;
     first = inr next;
-    preorder = λ given counted. given_in_preorder (by_crew old) clone (Known files process clone defaults pool old) (job_of old) (to_read old) (to_read new) files given (clones_if_steady files process clone defaults pool old given counted) (known_if_steady files process clone defaults pool old given counted) (option_map outcome read) (inr next);
+    preorder = λ given counted. given_in_preorder clone (Known files process clone defaults pool old) (job_of old) (to_read old) (to_read new) files given (clones_if_steady files process clone defaults pool old given counted) (known_if_steady files process clone defaults pool old given counted) asks_for_any (option_map outcome read) (inr next);
   }
 
   -- one call after which the readings end early
-  pub gives_stopped : (error : Error A) → Tells (by_crew old) (failure error) → by_crew new ≡ by_crew old → job_of new ≡ job_of old → width_of new ≡ width_of old → length (early_of new) + 1 ≤ length (early_of old) + width_of old
+  pub gives_stopped : (asks_for_any : Bool) (error : Error A) → Tells (by_crew old) (failure error) → ((given : Given R E) → IsSteadyReads files process clone defaults pool old given → Tells asks_for_any (failure error)) → by_crew new ≡ by_crew old → job_of new ≡ job_of old → width_of new ≡ width_of old → length (early_of new) + 1 ≤ length (early_of old) + width_of old
       → StaysSteady files process clone defaults pool old new → to_read old ≢ [] → to_read new ≡ [] → read_ahead new ≡ nothing_ahead
-      → Gives files process clone defaults pool old (Some (Err error)) new
-  gives_stopped error tells crew job width ahead steady some none nothing =
+      → Gives files process clone defaults pool asks_for_any old (Some (Err error)) new
+  gives_stopped asks_for_any error tells steadily crew job width ahead steady some none nothing =
       let told : GivesError {R = R} {E = E} (by_crew old) (Some (Err (failure error))) = record { error = failure error; told = refl; tells = tells } in
       record {
         crew = crew;
@@ -108,8 +108,29 @@ module _ {C S P A T L R E : Type 0} (files : FileSystem.Ghosts S) (process : Pro
         ahead = ahead;
         steady = steady;
         first = inl (told, some, none);
-        preorder = λ given counted. given_in_preorder (by_crew old) clone (Known files process clone defaults pool old) (job_of old) (to_read old) (to_read new) files given (clones_if_steady files process clone defaults pool old given counted) (known_if_steady files process clone defaults pool old given counted) (Some (Err (failure error))) (inl (told, some, none));
+        preorder = λ given counted. inl (record { error = failure error; told = refl; tells = steadily given counted }, ap (map (counted_spec given)) none);
       }
+
+-- where no reading may be lost, fewer errors end them than where one may
+may_lose : {R E : Type 0} (b : Bool) (reading : Spec R → Outcome R E) (max_depth : ℕ) (old new : List (Spec R)) (given : Option (Outcome R E)) → GivesPreorder false reading max_depth old given new → GivesPreorder b reading max_depth old given new
+may_lose b reading max_depth old new None gives = gives
+may_lose b reading max_depth old new (Some given) gives = elim gives [
+  | inl ends ↦ inl (record { error = ends.0.error; told = ends.0.told; tells = tells_memory b ends.0.error ends.0.tells }, ends.1)
+  | inr comes ↦ inr comes
+]
+
+-- so what the next reading gives is what any may
+pub gives_any : {C S P A T L R E : Type 0} (files : FileSystem.Ghosts S) (process : ProcessReadDir.Ghosts P C A R E) (clone : Clone.Ghosts R) (defaults : Default.Ghosts E) (pool : Pool.Ghosts L C S P A R E) (b : Bool) (old new : ReadDirIter C S P A T L R E) (read : Option (Result (ReadDir C A R E) (Error A))) → Gives files process clone defaults pool false old read new → Gives files process clone defaults pool b old read new
+gives_any files process clone defaults pool b old new read gives = record {
+  crew = gives.crew;
+  job = gives.job;
+  width = gives.width;
+  enters = gives.enters;
+  ahead = gives.ahead;
+  steady = gives.steady;
+  first = gives.first;
+  preorder = λ given steady. may_lose b _ _ _ _ _ (gives.preorder given steady);
+}
 
 -- what is said of a value, whatever it is, is said of what it is seen as
 pub some_of : {X Y : Type 0} (P : Type 0) (f : X → Y) (o : Option X) → IfSome (option_map f o) (λ _. P) → IfSome o (λ _. P)

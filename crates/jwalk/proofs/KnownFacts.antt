@@ -12,15 +12,15 @@ use Rattle.jwalk_engine.specs.Reads.{ReadsNextBy}
 use Rattle.jwalk_read.specs.Given.{Given}
 use Rattle.jwalk_read.specs.Job.{ClonesCount, IsAsGiven, IsGivenOver}
 use Rattle.jwalk_crew.specs.declared.pool.Missed.{Missed}
-use Rattle.jwalk_crew.specs.declared.pool.Missed.TheVariants.{Memory}
+use Rattle.jwalk_crew.specs.declared.pool.Missed.TheVariants.{Memory, Lost}
 use Rattle.jwalk_crew.specs.declared.pool.Pool as Pool
 use Rattle.jwalk.specs.declared.read_dir_iter.ReadDirIter.{ReadDirIter}
 use Rattle.jwalk.specs.declared.read_dir_iter.ReadDirIter.TheVariants.{Walk, ParWalk, CrewWalk}
 use Rattle.jwalk.specs.declared.dir_entry_iter.DirEntryIter.{DirEntryIter}
-use Rattle.jwalk.specs.CrewReads.{failure_of, IsNextBelow}
+use Rattle.jwalk.specs.CrewReads.{failure_of, NotLost, IsNextBelow}
 use Rattle.jwalk.specs.ReadDirIter as readings
 use Rattle.jwalk.specs.ReadDirIter.{Tells, GivesError, GivesFirst, IsSteadyReads, KnownBy}
-use Rattle.jwalk.specs.DirEntryIter.{by_crew, job_of, IsSteadyWalk, StaysSteady, Known, KnownAt}
+use Rattle.jwalk.specs.DirEntryIter.{by_crew, job_of, ReadsStaySteady, Known, KnownAt}
 
 -- want of memory may end any walk early
 pub tells_memory : (b : Bool) (f : Failure) → f ≡ memory → Tells b f
@@ -31,6 +31,11 @@ tells_memory true f is = inl is
 pub tells_refusal : {T : Type 0} (b : Bool) (r : Result T Missed) → IsErrAnd r (λ m. m ≡ Memory) → IfErr r (λ m. Tells b (failure_of m))
 tells_refusal b (Ok x) refused = tt
 tells_refusal b (Err m) refused = tells_memory b (failure_of m) (ap failure_of refused)
+
+-- over what a reading can't be lost over, what is missed is told as want of memory
+pub told_refused : {R E : Type 0} (counts : Given R E → Type 0) (missed : Missed) (f : Failure) → f ≡ failure_of missed → NotLost counts missed → (given : Given R E) → counts given → Tells false f
+told_refused counts Memory f is never given steady = is
+told_refused counts Lost f is never given steady = absurd (never given steady)
 
 -- it speaks of the first alone
 first_below : {R E : Type 0} (b : Bool) (x : Item R E) (s : Spec R) (rest : List (Spec R)) → IsNextBelow b x (s ∷ rest) → IsNextBelow b x (s ∷ [])
@@ -56,8 +61,8 @@ module _ {C S P A L R E : Type 0} (files : FileSystem.Ghosts S) (process : Proce
   known_anywhere true counts job at s o known = known.1
 
   -- also of the reading of an item's directory
-  pub items_known : {T : Type 0} (it : DirEntryIter C S P A T L R E) (given : Given R E) → IsSteadyWalk files process clone defaults pool it given → (x : Item R E) (s : Spec R) (o : Outcome R E) → Known files process clone defaults pool it x s o → IsAsGiven files given (job_of it) s o
-  items_known it given steady x s o known = known_anywhere (by_crew it) (IsSteadyWalk files process clone defaults pool it) (job_of it) known.0 s o known.1.0 given steady
+  pub items_known : {T : Type 0} (it : DirEntryIter C S P A T L R E) (given : Given R E) → IsSteadyReads files process clone defaults pool it.reads given → (x : Item R E) (s : Spec R) (o : Outcome R E) → Known files process clone defaults pool it x s o → IsAsGiven files given (job_of it) s o
+  items_known it given steady x s o known = known_anywhere (by_crew it) (IsSteadyReads files process clone defaults pool it.reads) (job_of it) known.0 s o known.1.0 given steady
 
   -- where less counts as given, no more need be known
   known_by : (b : Bool) (counts fewer : Given R E → Type 0) (job : Job C S P A R E) (at : List ℕ) → ((given : Given R E) → fewer given → counts given) → (s : Spec R) (o : Outcome R E) → KnownBy files process clone defaults b counts job at s o → KnownBy files process clone defaults b fewer job at s o
@@ -65,11 +70,11 @@ module _ {C S P A L R E : Type 0} (files : FileSystem.Ghosts S) (process : Proce
   known_by true counts fewer job at within s o known = (known.0, λ given f. known.1 given (within given f))
 
   -- what is known later was known before
-  pub known_before : {T : Type 0} (old new : DirEntryIter C S P A T L R E) → by_crew new ≡ by_crew old → job_of new ≡ job_of old → StaysSteady files process clone defaults pool old new → (at : List ℕ) (x : Item R E) (s : Spec R) (o : Outcome R E) → KnownAt files process clone defaults pool new at x s o → KnownAt files process clone defaults pool old at x s o
+  pub known_before : {T : Type 0} (old new : DirEntryIter C S P A T L R E) → by_crew new ≡ by_crew old → job_of new ≡ job_of old → ReadsStaySteady files process clone defaults pool old new → (at : List ℕ) (x : Item R E) (s : Spec R) (o : Outcome R E) → KnownAt files process clone defaults pool new at x s o → KnownAt files process clone defaults pool old at x s o
   known_before old new crew job stays at x s o known = (
-    known_by (by_crew old) (IsSteadyWalk files process clone defaults pool new) (IsSteadyWalk files process clone defaults pool old) (job_of old) at stays s o
-        (subst (λ b. KnownBy files process clone defaults b (IsSteadyWalk files process clone defaults pool new) (job_of old) at s o) crew
-        (subst (λ j. KnownBy files process clone defaults (by_crew new) (IsSteadyWalk files process clone defaults pool new) j at s o) job known.0)),
+    known_by (by_crew old) (IsSteadyReads files process clone defaults pool new.reads) (IsSteadyReads files process clone defaults pool old.reads) (job_of old) at stays s o
+        (subst (λ b. KnownBy files process clone defaults b (IsSteadyReads files process clone defaults pool new.reads) (job_of old) at s o) crew
+        (subst (λ j. KnownBy files process clone defaults (by_crew new) (IsSteadyReads files process clone defaults pool new.reads) j at s o) job known.0)),
     subst (λ b. IsNextBelow b x (s ∷ [])) crew known.1,
   )
 

@@ -1,4 +1,5 @@
 pub mod KnownFacts
+pub mod PlacedFacts
 pub mod CrewFacts
 pub mod CrewSteadyFacts
 pub mod CrewStartFacts

@@ -1,15 +1,16 @@
 -- What is said of a call that may fail.
-use Rattle.std.proofs.Common.{◌≡◌, ℕ, true, false, List, Option, Some, None, Result, Ok, Err, IfOk, IfErr, IsErr, OnErr, OnOk, inl, inr, refl, sym, subst, arith}
+use Rattle.std.proofs.Common.{◌≡◌, ℕ, true, false, List, Option, Some, None, Result, Ok, Err, IfOk, IfErr, IsErr, IsErrAnd, OnErr, OnOk, inl, inr, refl, sym, subst, arith}
 use Rattle.std.specs.Prelude.{option_map}
 use Rattle.std.specs.declared.clone.Clone as Clone
 use Rattle.std.specs.declared.default.Default as Default
 use Rattle.walk_fs.specs.declared.file_system.FileSystem as FileSystem
 use Rattle.jwalk_read.specs.declared.process_read_dir.ProcessReadDir as ProcessReadDir
 use Rattle.jwalk_read.specs.declared.job.Job.{Job}
+use Rattle.jwalk_read.specs.Given.{Given}
 use Rattle.jwalk_engine.specs.ReadAhead.{nothing_ahead}
 use Rattle.jwalk_crew.specs.declared.pool.Missed.{Missed}
 use Rattle.jwalk_crew.specs.declared.pool.Missed.TheVariants.{Memory, Lost}
-use Rattle.jwalk.specs.CrewReads.{failure_of}
+use Rattle.jwalk.specs.CrewReads.{failure_of, NotLost}
 use Rattle.jwalk.specs.ReadDirIter.{Tells, EntersNextBy}
 
 -- what failed is no `Ok`
@@ -36,6 +37,26 @@ pub tells_missed : {T : Type 0} (r : Result T Missed) → IfErr r (λ m. Tells t
 tells_missed (Ok x) = tt
 tells_missed (Err Memory) = inl refl
 tells_missed (Err Lost) = inr refl
+
+-- where memory was refused, nothing is lost
+pub refused_not_lost : {T R E : Type 0} (counts : Given R E → Type 0) (r : Result T Missed) → IsErrAnd r (λ m. m ≡ Memory) → IfErr r (NotLost counts)
+refused_not_lost counts (Ok x) refused = tt
+refused_not_lost counts (Err m) refused = rw refused tt
+
+-- what can't be lost isn't
+pub not_lost_if : {R E : Type 0} (counts : Given R E → Type 0) (missed : Missed) → (missed ≡ Lost → (given : Given R E) → ¬ counts given) → NotLost counts missed
+not_lost_if counts Memory never = tt
+not_lost_if counts Lost never = never refl
+
+-- nor is it where less counts
+pub fewer_not_lost : {R E : Type 0} (counts fewer : Given R E → Type 0) (missed : Missed) → ((given : Given R E) → fewer given → counts given) → NotLost counts missed → NotLost fewer missed
+fewer_not_lost counts fewer Memory within never = tt
+fewer_not_lost counts fewer Lost within never = λ given f. never given (within given f)
+
+-- nor where it is passed on
+pub passed_not_lost : {T R E : Type 0} (counts : Given R E → Type 0) (missed : Missed) (r : Result T Missed) → IsErrAnd r (λ m. m ≡ missed) → NotLost counts missed → IfErr r (NotLost counts)
+passed_not_lost counts missed (Ok x) same never = tt
+passed_not_lost counts missed (Err m) same never = rw same never
 
 -- what a crew's readings are entered with stays nothing
 pub enters_by_crew : {C S P A R E X Y F : Type 0} (files : FileSystem.Ghosts S) (process : ProcessReadDir.Ghosts P C A R E) (clone : Clone.Ghosts R) (defaults : Default.Ghosts E) (job : Job C S P A R E) (at : List ℕ) (view : X → Y) (r : Result (Option X) F)

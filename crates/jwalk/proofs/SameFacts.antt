@@ -16,7 +16,7 @@ use Rattle.jwalk_read.specs.Given.{Given, counted_item}
 use Rattle.jwalk_read.specs.Job.{greatest_depth, job_by}
 use Rattle.jwalk_crew.specs.declared.pool.Pool as Pool
 use Rattle.jwalk.specs.declared.dir_entry_iter.DirEntryIter.{DirEntryIter}
-use Rattle.jwalk.specs.DirEntryIter.{by_crew, job_of, min_depth_of, to_come, TellsEnd, IsSteadyWalk, Answers}
+use Rattle.jwalk.specs.DirEntryIter.{job_of, min_depth_of, to_come, TellsMemory, IsSteadyWalk, Answers}
 use Rattle.jwalk.proofs.AnswerFacts.{held_by_nothing}
 
 module _ {C S P A R E : Type 0} (files : FileSystem.Ghosts S) (process : ProcessReadDir.Ghosts P C A R E) (clone : Clone.Ghosts R) (defaults : Default.Ghosts E) (given : Given R E) where
@@ -29,13 +29,13 @@ module _ {C S P A R E : Type 0} (files : FileSystem.Ghosts S) (process : Process
   coming_from None rest = rest
   coming_from (Some answer) rest = answer ∷ rest
 
-  answered_first : {T L : Type 0} (pool : Pool.Ghosts L C S P A R E) (old new : DirEntryIter C S P A T L R E) (answer : Option (Result (DirEntry C A R E) (Error A))) → IsSteadyWalk files process clone defaults pool old given → Answers files process clone defaults pool old answer new → IfSome (option_map item answer) (λ a. ¬ TellsEnd (by_crew old) a)
+  answered_first : {T L : Type 0} (pool : Pool.Ghosts L C S P A R E) (old new : DirEntryIter C S P A T L R E) (answer : Option (Result (DirEntry C A R E) (Error A))) → IsSteadyWalk files process clone defaults pool old given → Answers files process clone defaults pool old answer new → IfSome (option_map item answer) (λ a. ¬ TellsMemory a)
       → (to_come files given old ≡ coming_from (counted_answer answer) (to_come files given new)) × (answer ≡ None → to_come files given new ≡ [])
   answered_first pool old new None steady call told =
       let nothing_left : to_come files given new ≡ [] = ap (value.to_come (reading (job_by files given (job_of new))) (min_depth_of new) (greatest_depth (job_of new))) (held_by_nothing given new call.ended) in
       (call.coming given steady ∙ sym nothing_left, λ none. nothing_left)
   answered_first pool old new (Some x) steady call told = elim (call.coming given steady) [
-    | inl stops ↦ absurd (told (subst (TellsEnd (by_crew old)) (sym stops.told) stops.tells))
+    | inl stops ↦ absurd (told (subst TellsMemory (sym stops.told) stops.tells))
     | inr first ↦ (first, λ none. cc)
   ]
 
@@ -49,10 +49,10 @@ module _ {C S P A R E : Type 0} (files : FileSystem.Ghosts S) (process : Process
   same_by (Some x) None rest others same ends end = let no : x ∷ rest ≡ [] = same ∙ end refl in cc
   same_by (Some x) (Some y) rest others same ends end = (cc, cc)
 
-  -- Two walks that have the same to come, whatever reads their directories and however many together, answer the same where neither tells why it ends early, and the same is to come then.
+  -- Two walks that have the same to come, whatever reads their directories and however many together, answer the same where neither tells of want of memory, and the same is to come then.
   pub same_answer : {T U L M : Type 0} (pool : Pool.Ghosts L C S P A R E) (its : Pool.Ghosts M C S P A R E) (old new : DirEntryIter C S P A T L R E) (other next : DirEntryIter C S P A U M R E) (answer told : Option (Result (DirEntry C A R E) (Error A)))
       → IsSteadyWalk files process clone defaults pool old given → IsSteadyWalk files process clone defaults its other given → Answers files process clone defaults pool old answer new → Answers files process clone defaults its other told next
-      → IfSome (option_map item answer) (λ a. ¬ TellsEnd (by_crew old) a) → IfSome (option_map item told) (λ a. ¬ TellsEnd (by_crew other) a)
+      → IfSome (option_map item answer) (λ a. ¬ TellsMemory a) → IfSome (option_map item told) (λ a. ¬ TellsMemory a)
       → to_come files given old ≡ to_come files given other → (counted_answer answer ≡ counted_answer told) × (to_come files given new ≡ to_come files given next)
   same_answer pool its old new other next answer told steady steadily call call' plain plainly same =
       let one = answered_first pool old new answer steady call plain in

@@ -27,8 +27,9 @@ use Rattle.jwalk_engine.specs.Reads.{ReadsFirstBy, ReadsNextBy}
 use Rattle.jwalk_crew.specs.declared.pool.Pool as Pool
 use Rattle.jwalk.specs.declared.dir_entry_iter.DirEntryIter.{DirEntryIter}
 use Rattle.jwalk.specs.Step.{Receives, PassesNext, passed_plainly, passed_entering, LeavesOut, none_left_out, one_left_out, ReadsUpTo}
-use Rattle.jwalk.specs.DirEntryIter.{by_crew, job_of, min_depth_of, items_of, unread_of, width_of, next_address, Known, KnownAt, StaysSteady, EntersIfAny, PassesMany, none_passed, GrowsAhead}
+use Rattle.jwalk.specs.DirEntryIter.{by_crew, job_of, min_depth_of, items_of, unread_of, width_of, next_address, Known, KnownAt, IsSteadyWalk, ReadsStaySteady, EntersIfAny, PassesMany, none_passed, GrowsAhead}
 use Rattle.jwalk.proofs.KnownFacts.{known_before}
+use Rattle.jwalk.proofs.PlacedFacts.{left_placed}
 use Rattle.jwalk.proofs.AheadFacts.{grows, grows_no_more, one_more, nothing_more}
 
 -- a source that gives nothing takes no specification
@@ -183,7 +184,7 @@ module _ {C S P A T L R E : Type 0} (files : FileSystem.Ghosts S) (process : Pro
     pub job : job_of new ≡ job_of old
     pub refused : new.refused ≡ old.refused
     pub width : width_of new ≡ width_of old
-    pub steady : StaysSteady files process clone defaults pool old new
+    pub steady : ReadsStaySteady files process clone defaults pool old new
     pub leaves : LeavesOut clone (Known files process clone defaults pool old) (job_of old) (items_of old) (unread_of old) (items_of new) (unread_of new)
     pub entered : ℕ
     pub passes : PassesMany files process clone defaults pool old entered new
@@ -193,7 +194,7 @@ module _ {C S P A T L R E : Type 0} (files : FileSystem.Ghosts S) (process : Pro
     pub crew : by_crew new ≡ by_crew old
     pub job : job_of new ≡ job_of old
     pub refused : new.refused ≡ old.refused
-    pub steady : StaysSteady files process clone defaults pool old new
+    pub steady : ReadsStaySteady files process clone defaults pool old new
     pub next : PassesNext clone (KnownAt files process clone defaults pool old (next_address old)) (job_of old) (items_of old) (unread_of old) (item passed) (items_of new) (unread_of new)
     pub width : width_of new ≡ width_of old
     pub ahead : EntersIfAny files process clone defaults old new
@@ -213,6 +214,13 @@ module _ {C S P A T L R E : Type 0} (files : FileSystem.Ghosts S) (process : Pro
   many_on : (old mid new : DirEntryIter C S P A T L R E) (passed : Result (DirEntry C A R E) (Error A)) → PassedOver old mid → Passes mid passed new → (n : ℕ) × PassesMany files process clone defaults pool old n new
   many_on old mid new passed over passes =
       one_more files process clone defaults pool old mid new over.entered (item passed) over.passes over.crew over.job over.width (passes_by old mid new passed over passes) passes.ahead
+
+  -- where the walk was steady, it is so once items were passed over
+  pub over_steady : (old mid : DirEntryIter C S P A T L R E) → PassedOver old mid → (given : Given R E) → IsSteadyWalk files process clone defaults pool old given → IsSteadyWalk files process clone defaults pool mid given
+  over_steady old mid over given steady = record {
+    reads = over.steady given steady.reads;
+    placed = rw over.crew (left_placed clone (Known files process clone defaults pool old) (job_of old) (items_of old) (unread_of old) (by_crew old) (items_of mid) (unread_of mid) over.leaves steady.placed);
+  }
 
   -- the directories that are entered up to the first that is answered
   pub grows_to_answer : (old mid new : DirEntryIter C S P A T L R E) (passed : Result (DirEntry C A R E) (Error A)) → PassedOver old mid → Passes mid passed new → GrowsAhead files process clone defaults pool old new

@@ -29,40 +29,30 @@ use Rattle.jwalk_read.specs.Job.{options_of, greatest_depth, job_by, IsSteady}
 use Rattle.jwalk_crew.specs.declared.pool.Pool as Pool
 use Rattle.jwalk.specs.declared.dir_entry_iter.DirEntryIter.{DirEntryIter}
 use Rattle.jwalk.specs.declared.walk_dir.WalkDirGeneric.{WalkDirGeneric}
-use Rattle.jwalk.specs.ReadDirIter.{Tells}
-use Rattle.jwalk.specs.DirEntryIter.{by_crew, job_of, min_depth_of, items_of, unread_of, held, held_by, refusal, to_come, TellsEnd, NoneEnds, NoneRefused, IsRefused, StartsSteady, IsSteadyWalk, Answers, Fills}
+use Rattle.jwalk.specs.DirEntryIter.{by_crew, job_of, min_depth_of, items_of, unread_of, held, held_by, refusal, to_come, TellsMemory, NoneRefused, IsRefused, StartsSteady, IsSteadyWalk, Answers, Fills}
 use Rattle.jwalk.specs.WalkDir as builder
 use Rattle.jwalk.specs.WalkDir.{file_system_of, callback_of, root_of, state_of, job_for, Starts, Holds}
-use Rattle.jwalk.proofs.AnswerFacts.{held_by_nothing}
+use Rattle.jwalk.proofs.AnswerFacts.{held_by_nothing, alone_steady}
 use Rattle.jwalk.proofs.FillFacts.{stays_steady, come}
-use Rattle.jwalk.proofs.GivesFacts.{steady_at_rest}
-use Rattle.jwalk.proofs.KnownFacts.{tells_memory}
 
 module _ {C A R E : Type 0} where
-  -- answers that end with an error that tells why the walk ends early tell of it
-  end_told : (crew : Bool) (error : Failure) (xs : List (Result (DirEntry C A R E) (Error A))) (before : List (Item R E)) → map item xs ≡ before ++ Err error ∷ [] → Tells crew error → NoneEnds crew xs → ⊥
-  end_told crew error [] [] is tells none = absurd cc
-  end_told crew error [] (b ∷ before) is tells none = absurd cc
-  end_told crew error (x ∷ xs) [] is tells none = let told : Err error ≡ item x = cc in none.0 (subst (TellsEnd crew) told tells)
-  end_told crew error (x ∷ xs) (b ∷ before) is tells none = let rest : map item xs ≡ before ++ Err error ∷ [] = cc in end_told crew error xs before rest tells none.1
+  -- answers that end with the error that tells of want of memory tell of it
+  end_told : (xs : List (Result (DirEntry C A R E) (Error A))) (before : List (Item R E)) → map item xs ≡ before ++ Err memory ∷ [] → NoneRefused xs → ⊥
+  end_told [] [] is none = absurd cc
+  end_told [] (b ∷ before) is none = absurd cc
+  end_told (x ∷ xs) [] is none = let told : Err memory ≡ item x = cc in none.0 (subst TellsMemory told refl)
+  end_told (x ∷ xs) (b ∷ before) is none = let rest : map item xs ≡ before ++ Err memory ∷ [] = cc in end_told xs before rest none.1
 
   -- entries tell of none
-  pub entries_tell : (crew : Bool) (xs : List (Result (DirEntry C A R E) (Error A))) → list_all is_ok xs ≡ true → NoneEnds crew xs
-  entries_tell crew [] all = tt
-  entries_tell crew (Ok e ∷ xs) all = (λ is. is, entries_tell crew xs all)
-  entries_tell crew (Err f ∷ xs) all = let no : false ≡ true = all in cc
-
-  -- where none tells why a walk over a crew ends early, none tells why another does
-  pub none_ends : (crew : Bool) (xs : List (Result (DirEntry C A R E) (Error A))) → NoneEnds true xs → NoneEnds crew xs
-  none_ends true xs none = none
-  none_ends false [] none = tt
-  none_ends false (Ok e ∷ xs) none = (none.0, none_ends false xs none.1)
-  none_ends false (Err f ∷ xs) none = (λ is. none.0 (inl is), none_ends false xs none.1)
+  pub entries_tell : (xs : List (Result (DirEntry C A R E) (Error A))) → list_all is_ok xs ≡ true → NoneRefused xs
+  entries_tell [] all = tt
+  entries_tell (Ok e ∷ xs) all = (λ is. is, entries_tell xs all)
+  entries_tell (Err f ∷ xs) all = let no : false ≡ true = all in cc
 
   -- where none of two lists one behind the other tells of it, none of the second does
-  last_tell : (crew : Bool) (before xs : List (Result (DirEntry C A R E) (Error A))) → NoneEnds crew (before ++ xs) → NoneEnds crew xs
-  last_tell crew [] xs none = none
-  last_tell crew (b ∷ before) xs none = last_tell crew before xs none.1
+  last_tell : (before xs : List (Result (DirEntry C A R E) (Error A))) → NoneRefused (before ++ xs) → NoneRefused xs
+  last_tell [] xs none = none
+  last_tell (b ∷ before) xs none = last_tell before xs none.1
 
 -- two lists one behind the other, as they count
 counted_append : {C A R E : Type 0} (given : Given R E) (before xs : List (Result (DirEntry C A R E) (Error A))) → counted_list given (before ++ xs) ≡ counted_list given before ++ counted_list given xs
@@ -86,10 +76,10 @@ refused_by {R} {E} given false (Err f ∷ []) specs is =
 refused_by given false (Err f ∷ x ∷ items) specs is = absurd cc
 
 -- what counts as the one answer that tells of want of memory is that answer
-refusal_among : {C A R E : Type 0} (given : Given R E) (crew : Bool) (xs : List (Result (DirEntry C A R E) (Error A))) → counted_list given xs ≡ Err memory ∷ [] → NoneEnds crew xs → ⊥
-refusal_among given crew [] is none = absurd cc
-refusal_among given crew (Ok e ∷ xs) is none = absurd cc
-refusal_among given crew (Err f ∷ xs) is none = let told : failure f ≡ memory = cc in none.0 (tells_memory crew (failure f) told)
+refusal_among : {C A R E : Type 0} (given : Given R E) (xs : List (Result (DirEntry C A R E) (Error A))) → counted_list given xs ≡ Err memory ∷ [] → NoneRefused xs → ⊥
+refusal_among given [] is none = absurd cc
+refusal_among given (Ok e ∷ xs) is none = absurd cc
+refusal_among given (Err f ∷ xs) is none = let told : failure f ≡ memory = cc in none.0 told
 
 module _ {C S P A T L R E : Type 0} (files : FileSystem.Ghosts S) (process : ProcessReadDir.Ghosts P C A R E) (clone : Clone.Ghosts R) (defaults : Default.Ghosts E) (pool : Pool.Ghosts L C S P A R E) (given : Given R E) where
   -- a walk whose start was refused has that to tell, and nothing else
@@ -98,8 +88,8 @@ module _ {C S P A T L R E : Type 0} (files : FileSystem.Ghosts S) (process : Pro
       ap (held_value.to_come (reading (job_by files given (job_of it))) (min_depth_of it) (greatest_depth (job_of it))) (refused_by given it.refused (items_of it) (unread_of it) refused.tells)
       ∙ ap (answers (min_depth_of it)) (alone (reading (job_by files given (job_of it))) (greatest_depth (job_of it)) (Err memory) [] [] refl)
 
-  -- calls up to `None` answer all that was to come, unless one of them tells why the walk ends early
-  pub all_answered : (xs : List (Result (DirEntry C A R E) (Error A))) (it : DirEntryIter C S P A T L R E) → IsSteadyWalk files process clone defaults pool it given → Drains (Answers files process clone defaults pool) it xs → NoneEnds (by_crew it) xs → to_come files given it ≡ counted_list given xs
+  -- calls up to `None` answer all that was to come, unless one of them tells of want of memory
+  pub all_answered : (xs : List (Result (DirEntry C A R E) (Error A))) (it : DirEntryIter C S P A T L R E) → IsSteadyWalk files process clone defaults pool it given → Drains (Answers files process clone defaults pool) it xs → NoneRefused xs → to_come files given it ≡ counted_list given xs
   all_answered xs it steady drains none =
       let last = drains.1.0 in
       let calls = drains.1.1 in
@@ -107,11 +97,11 @@ module _ {C S P A T L R E : Type 0} (files : FileSystem.Ghosts S) (process : Pro
       let nothing_left : to_come files given last ≡ [] = ended.coming given (stays_steady files process clone defaults pool given xs it last calls steady) in
       elim (come files process clone defaults pool given xs it last steady calls) [
         | inl comes ↦ comes ∙ ap (λ l. counted_list given xs ++ l) nothing_left ∙ append-nil (counted_list given xs)
-        | inr ends ↦ absurd (end_told (by_crew it) ends.error xs ends.before ends.told ends.tells none)
+        | inr ends ↦ absurd (end_told xs ends.before ends.told none)
       ]
 
-  -- After a call of `fill` that told fewer answers than it was asked for, all that was to come stands in the vector, behind what it held before, unless one of them tells why the walk ends early.
-  pub all_filled : (n k : ℕ) (before after : List (Result (DirEntry C A R E) (Error A))) (it new : DirEntryIter C S P A T L R E) → IsSteadyWalk files process clone defaults pool it given → Fills files process clone defaults pool n it before (Ok k) after new → k < n → NoneEnds (by_crew it) after
+  -- After a call of `fill` that told fewer answers than it was asked for, all that was to come stands in the vector, behind what it held before, unless one of them tells of want of memory.
+  pub all_filled : (n k : ℕ) (before after : List (Result (DirEntry C A R E) (Error A))) (it new : DirEntryIter C S P A T L R E) → IsSteadyWalk files process clone defaults pool it given → Fills files process clone defaults pool n it before (Ok k) after new → k < n → NoneRefused after
       → counted_list given after ≡ counted_list given before ++ to_come files given it
   all_filled n k before after it new steady fills fewer none =
       let ended : held new ≡ [] = elim fills.all [ inl all ↦ absurd (omega (arith, all, fewer)) | inr over ↦ over ] in
@@ -119,7 +109,7 @@ module _ {C S P A T L R E : Type 0} (files : FileSystem.Ghosts S) (process : Pro
       let nothing_left : to_come files given new ≡ [] = ap coming (held_by_nothing given new ended) in
       let came : to_come files given it ≡ counted_list given fills.answered = elim (fills.coming given steady) [
         | inl comes ↦ comes ∙ ap (λ l. counted_list given fills.answered ++ l) nothing_left ∙ append-nil (counted_list given fills.answered)
-        | inr ends ↦ absurd (end_told (by_crew it) ends.error fills.answered ends.before ends.told ends.tells (last_tell (by_crew it) before fills.answered (subst (NoneEnds (by_crew it)) fills.appended none)))
+        | inr ends ↦ absurd (end_told fills.answered ends.before ends.told (last_tell before fills.answered (subst NoneRefused fills.appended none)))
       ] in
       ap (counted_list given) fills.appended
       ∙ counted_append given before fills.answered
@@ -136,12 +126,12 @@ module _ {C S P A T W L R E : Type 0} (files : FileSystem.Ghosts S) (process : P
       ∙ ap (λ options. coming (file_system_of walk) options (held_by given it)) starts.options
       ∙ ap (coming (file_system_of walk) (builder.options_of walk)) holds
 
-  -- A walk that was begun answered the whole walk from its root, where its answers are all that was to come, and none tells why the walk ends early.
-  answered_whole : (walk : WalkDirGeneric C S P A T W R E) (it : DirEntryIter C S P A T L R E) (xs : List (Result (DirEntry C A R E) (Error A))) → Starts walk it → IsRefused it ⊎ Holds files process clone defaults walk it → IsSteady files process clone defaults (file_system_of walk) (callback_of walk) given → NoneEnds (by_crew it) xs → to_come files given it ≡ counted_list given xs
+  -- A walk that was begun answered the whole walk from its root, where its answers are all that was to come, and none tells of want of memory.
+  answered_whole : (walk : WalkDirGeneric C S P A T W R E) (it : DirEntryIter C S P A T L R E) (xs : List (Result (DirEntry C A R E) (Error A))) → Starts walk it → IsRefused it ⊎ Holds files process clone defaults walk it → IsSteady files process clone defaults (file_system_of walk) (callback_of walk) given → NoneRefused xs → to_come files given it ≡ counted_list given xs
       → counted_list given xs ≡ whole_walk (job_for files given walk) (root_of walk) (given.read_dir_state (state_of walk))
   answered_whole walk it xs starts begun steady none came =
       elim begun [
-        | inl refused ↦ absurd (refusal_among given (by_crew it) xs (sym came ∙ to_come_refused files process clone defaults pool given it refused) none)
+        | inl refused ↦ absurd (refusal_among given xs (sym came ∙ to_come_refused files process clone defaults pool given it refused) none)
         | inr holds ↦ sym came ∙ comes_whole walk it starts (holds given steady)
       ]
 
@@ -151,16 +141,16 @@ module _ {C S P A T W L R E : Type 0} (files : FileSystem.Ghosts S) (process : P
 
   -- and one that no crew reads for is
   pub steady_start : (walk : WalkDirGeneric C S P A T W R E) (it : DirEntryIter C S P A T L R E) → by_crew it ≡ false → Starts walk it → IsSteady files process clone defaults (file_system_of walk) (callback_of walk) given → IsSteadyWalk files process clone defaults pool it given
-  steady_start walk it own starts steady = steady_begun walk it (λ value steadily. steady_at_rest files process clone defaults pool it.reads value own steadily starts.early) starts steady
+  steady_start walk it own starts steady = steady_begun walk it (λ value steadily. alone_steady files process clone defaults pool it value own steadily starts.early) starts steady
 
-  -- A walk that was begun and asked up to `None`, where no answer tells why the walk ends early, answered the whole walk from its root.
-  pub whole : (walk : WalkDirGeneric C S P A T W R E) (it : DirEntryIter C S P A T L R E) (xs : List (Result (DirEntry C A R E) (Error A))) → IsSteadyWalk files process clone defaults pool it given → Starts walk it → IsRefused it ⊎ Holds files process clone defaults walk it → IsSteady files process clone defaults (file_system_of walk) (callback_of walk) given → Drains (Answers files process clone defaults pool) it xs → NoneEnds (by_crew it) xs
+  -- A walk that was begun and asked up to `None`, where no answer tells of want of memory, answered the whole walk from its root.
+  pub whole : (walk : WalkDirGeneric C S P A T W R E) (it : DirEntryIter C S P A T L R E) (xs : List (Result (DirEntry C A R E) (Error A))) → IsSteadyWalk files process clone defaults pool it given → Starts walk it → IsRefused it ⊎ Holds files process clone defaults walk it → IsSteady files process clone defaults (file_system_of walk) (callback_of walk) given → Drains (Answers files process clone defaults pool) it xs → NoneRefused xs
       → counted_list given xs ≡ whole_walk (job_for files given walk) (root_of walk) (given.read_dir_state (state_of walk))
   whole walk it xs steadily starts begun steady drains none =
       answered_whole walk it xs starts begun steady none (all_answered files process clone defaults pool given xs it steadily drains none)
 
-  -- A walk that was begun and filled into an empty vector, which holds fewer answers than were asked for then, answered the whole walk from its root, unless one of them tells why the walk ends early.
-  pub filled_whole : (walk : WalkDirGeneric C S P A T W R E) (it new : DirEntryIter C S P A T L R E) (n k : ℕ) (before xs : List (Result (DirEntry C A R E) (Error A))) → IsSteadyWalk files process clone defaults pool it given → Starts walk it → IsRefused it ⊎ Holds files process clone defaults walk it → IsSteady files process clone defaults (file_system_of walk) (callback_of walk) given → Fills files process clone defaults pool n it before (Ok k) xs new → before ≡ [] → length xs < n → NoneEnds (by_crew it) xs
+  -- A walk that was begun and filled into an empty vector, which holds fewer answers than were asked for then, answered the whole walk from its root, unless one of them tells of want of memory.
+  pub filled_whole : (walk : WalkDirGeneric C S P A T W R E) (it new : DirEntryIter C S P A T L R E) (n k : ℕ) (before xs : List (Result (DirEntry C A R E) (Error A))) → IsSteadyWalk files process clone defaults pool it given → Starts walk it → IsRefused it ⊎ Holds files process clone defaults walk it → IsSteady files process clone defaults (file_system_of walk) (callback_of walk) given → Fills files process clone defaults pool n it before (Ok k) xs new → before ≡ [] → length xs < n → NoneRefused xs
       → counted_list given xs ≡ whole_walk (job_for files given walk) (root_of walk) (given.read_dir_state (state_of walk))
   filled_whole walk it new n k before xs steadily starts begun steady fills empty fewer none =
       let among : length xs ≡ length before + length fills.answered = ap length fills.appended ∙ length-append before fills.answered in
@@ -171,7 +161,7 @@ module _ {C S P A T W L R E : Type 0} (files : FileSystem.Ghosts S) (process : P
   pub whole_filled : (walk : WalkDirGeneric C S P A T W R E) (it new : DirEntryIter C S P A T L R E) (n k : ℕ) (before xs : List (Result (DirEntry C A R E) (Error A))) → by_crew it ≡ false → Starts walk it → IsRefused it ⊎ Holds files process clone defaults walk it → IsSteady files process clone defaults (file_system_of walk) (callback_of walk) given → Fills files process clone defaults pool n it before (Ok k) xs new → before ≡ [] → length xs < n → NoneRefused xs
       → counted_list given xs ≡ whole_walk (job_for files given walk) (root_of walk) (given.read_dir_state (state_of walk))
   whole_filled walk it new n k before xs own starts begun steady fills empty fewer none =
-      filled_whole walk it new n k before xs (steady_start walk it own starts steady) starts begun steady fills empty fewer (subst (λ b. NoneEnds b xs) (sym own) none)
+      filled_whole walk it new n k before xs (steady_start walk it own starts steady) starts begun steady fills empty fewer none
 
 -- what a walk with no callback answers is said by the file system, the options and the root that its builder was given
 pub stateless_of : {C S P A T W R E : Type 0} (functions : S → Functions) (walk : WalkDirGeneric C S P A T W R E) (fs : S) (options : Options) (root : List ℕ) → file_system_of walk ≡ fs → builder.options_of walk ≡ options → root_of walk ≡ root

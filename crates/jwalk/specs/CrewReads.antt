@@ -68,22 +68,32 @@ abbrev pub failure_of : Missed → Failure
 failure_of Memory = memory
 failure_of Lost = lost
 
+-- why a reading that counts over something didn't come: not that it won't
+abbrev pub NotLost : {R E : Type 0} → (Given R E → Type 0) → Missed → Type 0
+NotLost counts Memory = Unit {0}
+NotLost {R} {E} counts Lost = (given : Given R E) → ¬ counts given
+
 -- the addresses of the readings that a pool has still to give: none where there is no pool
 abbrev pub awaited : {L : Type 0} → Option L → List (List ℕ) → List (List ℕ)
 awaited None addresses = []
 awaited (Some pool) addresses = addresses
 
+-- a pool is made for a walk, and has the readings at these addresses still to give
+abbrev pub IsMadeFor : {C S P A L R E : Type 0} → Pool.Ghosts L C S P A R E → L → Origin C S P A R E → List (List ℕ) → Type 0
+IsMadeFor pool p origin addresses = pool.comes_from p origin × (pool.awaits p ≡ addresses)
+
 -- Readings begin: at the addresses of roots stand the directories that are to be read, and this is what is told of the pool that gives them.
-pub record BeginsBy {C S P A L R E : Type 0} (made : L → Origin C S P A R E → Type 0) (it : CrewReads C S P A L R E) : Type 0 where
+pub record BeginsBy {C S P A L R E : Type 0} (made : L → Origin C S P A R E → List (List ℕ) → Type 0) (it : CrewReads C S P A L R E) : Type 0 where
   pub addresses : it.matcher ≡ frontier.roots (length (to_read it))
-  pub pool : IsSomeAnd it.pool (λ p. made p (record { job = job_of it; roots = to_read it }))
+  pub pool : IsSomeAnd it.pool (λ p. made p (record { job = job_of it; roots = to_read it }) it.matcher)
 
 module _ {C S P A L R E : Type 0} (files : FileSystem.Ghosts S) (process : ProcessReadDir.Ghosts P C A R E) (clone : Clone.Ghosts R) (defaults : Default.Ghosts E) (pool : Pool.Ghosts L C S P A R E) where
-  -- Over what is given, what a pool gives at these addresses are readings of these directories: the job is steady, the pool's readings are made by it, and below the directories that the pool began with, these stand there.
+  -- Over what is given, what a pool gives at these addresses are readings of these directories: the job is steady, the pool's readings are made by it and come at these addresses, and below the directories that the pool began with, these stand there.
   pub record IsSteadyOver (job : Job C S P A R E) (from : Option L) (addresses : List (List ℕ)) (specs : List (Spec R)) (given : Given R E) : Type 0 where
     pub steady : IsSteadyJob files process clone defaults job given
     pub roots : List (Spec R)
     pub comes : IfSome from (λ p. pool.comes_from p (record { job = job; roots = roots }))
+    pub awaits : IfSome from (λ p. pool.awaits p ≡ addresses)
     pub at : map (spec_at files process clone defaults (record { job = job; roots = roots }) given) (awaited from addresses) ≡ map (λ s. Some (counted_spec given s)) specs
 
   -- Over what is given a crew's readings are those of the directories that are to be read.

@@ -9,7 +9,7 @@ use Rattle.walk_model.specs.Entry.{Item, NoDeeper, IsBetween, AllBetween}
 use Rattle.walk_model.specs.ReadDir.{Spec, Outcome}
 use Rattle.walk_model.specs.Counted.{Worth}
 use Rattle.walk_model.specs.Job.{reading}
-use Rattle.walk_model.specs.Listing.{Pair, nothing}
+use Rattle.walk_model.specs.Listing.{Pair, Source, nothing, unread, was_read}
 use Rattle.walk_model.specs.Held as value
 use Rattle.walk_model.specs.Held.{pair_up, weight, sources, AnswersPlainly, AreSourced}
 use Rattle.walk_fs.specs.declared.file_system.FileSystem as FileSystem
@@ -19,19 +19,35 @@ use Rattle.jwalk_read.specs.declared.dir_entry.DirEntry.{DirEntry}
 use Rattle.jwalk_read.specs.declared.job.Job.{Job}
 use Rattle.jwalk_read.specs.Entry.{item}
 use Rattle.jwalk_read.specs.Given.{Given, counted_item, counted_spec}
-use Rattle.jwalk_read.specs.Job.{options_of, greatest_depth, job_by}
+use Rattle.jwalk_read.specs.Job.{options_of, greatest_depth, job_by, IsSteadyJob}
 use Rattle.jwalk_engine.specs.ReadAhead.{ReadAhead, nothing_ahead}
 use Rattle.jwalk_crew.specs.declared.pool.Pool as Pool
 use Rattle.jwalk.specs.ReadDirIter as readings
-use Rattle.jwalk.specs.CrewReads.{IsNextBelow}
+use Rattle.jwalk.specs.CrewReads.{IsBelow, IsNextBelow}
 use Rattle.jwalk.specs.ReadDirIter.{to_read, Tells, IsSteadyReads, KnownBy, EntersBy}
 use Rattle.jwalk.specs.Step.{IsAtDirectory, PassesNext, ReadsUpTo}
 use Rattle.jwalk.specs.declared.dir_entry_iter.DirEntryIter.{DirEntryIter}
 
--- the item is an error that tells why a walk ends early
-abbrev pub TellsEnd : {R E : Type 0} → Bool → Item R E → Type 0
-TellsEnd crew (Ok e) = ⊥
-TellsEnd crew (Err f) = Tells crew f
+-- the item is the error that tells of want of memory
+abbrev pub TellsMemory : {R E : Type 0} → Item R E → Type 0
+TellsMemory (Ok e) = ⊥
+TellsMemory (Err f) = f ≡ memory
+
+-- the directory that is to be read for an item, if there is one, is the one below it
+abbrev pub IsSourceBelow : {R E : Type 0} → Item R E → Source R E → Type 0
+IsSourceBelow x nothing = Unit {0}
+IsSourceBelow x (unread spec) = IsBelow x spec
+IsSourceBelow x (was_read spec outcome) = IsBelow x spec
+
+-- it is so of every pair
+abbrev pub AreBelow : {R E : Type 0} → List (Pair R E) → Type 0
+AreBelow [] = Unit {0}
+AreBelow (p ∷ held) = IsSourceBelow p.item p.source × AreBelow held
+
+-- Each directory that is to be read stands with the item that it is below. Where no crew reads, nothing is said.
+abbrev pub ArePlaced : {R E : Type 0} → Bool → List (Item R E) → List (Spec R) → Type 0
+ArePlaced false items specs = Unit {0}
+ArePlaced true items specs = AreBelow (pair_up items specs)
 
 -- what stands in front of a walk that was refused at its start: the error that tells of it
 abbrev pub refusal : {R E : Type 0} → Bool → List (Pair R E)
@@ -39,14 +55,10 @@ refusal true = record { item = Err memory; source = nothing } ∷ []
 refusal false = []
 
 module _ {C A R E : Type 0} where
-  -- none of the answers tells why a walk ends early: of want of memory, or that a crew's reading won't come
-  abbrev pub NoneEnds : Bool → List (Result (DirEntry C A R E) (Error A)) → Type 0
-  NoneEnds crew [] = Unit {0}
-  NoneEnds crew (x ∷ answered) = (¬ TellsEnd crew (item x)) × NoneEnds crew answered
-
-  -- none of them tells of want of memory, which alone ends a walk early that no crew reads for
+  -- none of the answers tells of want of memory, which alone ends a walk early that is steady
   abbrev pub NoneRefused : List (Result (DirEntry C A R E) (Error A)) → Type 0
-  NoneRefused = NoneEnds false
+  NoneRefused [] = Unit {0}
+  NoneRefused (x ∷ answered) = (¬ TellsMemory (item x)) × NoneRefused answered
 
 module _ {C S P A T L R E : Type 0} where
   -- whether a crew reads its directories
@@ -126,19 +138,17 @@ module _ {C S P A T L R E : Type 0} where
   abbrev pub ComesFirst : FileSystem.Ghosts S → Given R E → DirEntryIter C S P A T L R E → List (Item R E) → DirEntryIter C S P A T L R E → Type 0
   ComesFirst files given old answered new = to_come files given old ≡ map (counted_item given) answered ++ to_come files given new
 
-  -- The first of what is to come is answered and the rest is left, or the walk ends early; there is no answer where nothing is to come.
+  -- The first of what is to come is answered and the rest is left, or memory was refused and the walk ends; there is no answer where nothing is to come.
   abbrev pub AnswersFirst : FileSystem.Ghosts S → Given R E → DirEntryIter C S P A T L R E → Option (Item R E) → DirEntryIter C S P A T L R E → Type 0
   AnswersFirst files given old None new = to_come files given old ≡ []
-  AnswersFirst files given old (Some answer) new = Stops (by_crew old) answer new ⊎ ComesFirst files given old (answer ∷ []) new
+  AnswersFirst files given old (Some answer) new = Stops false answer new ⊎ ComesFirst files given old (answer ∷ []) new
 
-  -- These answers are a beginning of what was to come, and then the one error that tells why the walk ends early. Nothing is held then.
+  -- These answers are a beginning of what was to come, and then the one error that tells of want of memory. Nothing is held then.
   pub record EndsEarly (files : FileSystem.Ghosts S) (given : Given R E) (old : DirEntryIter C S P A T L R E) (answered : List (Item R E)) (new : DirEntryIter C S P A T L R E) : Type 0 where
     pub before : List (Item R E)
     pub missed : List (Item Worth Worth)
-    pub error : Failure
     pub beginning : to_come files given old ≡ map (counted_item given) before ++ missed
-    pub told : answered ≡ before ++ Err error ∷ []
-    pub tells : Tells (by_crew old) error
+    pub told : answered ≡ before ++ Err memory ∷ []
     pub nothing_held : held new ≡ []
 
 module _ {C S P A T L R E : Type 0} (files : FileSystem.Ghosts S) (process : ProcessReadDir.Ghosts P C A R E) (clone : Clone.Ghosts R) (defaults : Default.Ghosts E) where
@@ -149,13 +159,14 @@ module _ {C S P A T L R E : Type 0} (files : FileSystem.Ghosts S) (process : Pro
       ⊎ ((¬ IsAtDirectory (items_of old) (unread_of old)) × (read_ahead new ≡ read_ahead old))
 
 module _ {C S P A T L R E : Type 0} (files : FileSystem.Ghosts S) (process : ProcessReadDir.Ghosts P C A R E) (clone : Clone.Ghosts R) (defaults : Default.Ghosts E) (pool : Pool.Ghosts L C S P A R E) where
-  -- Over what is given a walk is steady: its job is, and what it read ahead is as the definition has it.
-  abbrev pub IsSteadyWalk : DirEntryIter C S P A T L R E → Given R E → Type 0
-  IsSteadyWalk it = IsSteadyReads files process clone defaults pool it.reads
+  -- Over what is given a walk is steady: its job is, and what it read ahead, or its crew gives, is as the definition has it; and a crew's readings are those of the directories below its items.
+  pub record IsSteadyWalk (it : DirEntryIter C S P A T L R E) (given : Given R E) : Type 0 where
+    pub reads : IsSteadyReads files process clone defaults pool it.reads given
+    pub placed : ArePlaced (by_crew it) (items_of it) (unread_of it)
 
   -- What is known of the reading at an address, by which an item's directory is entered: a crew's is that of the directory below this item.
   abbrev pub KnownAt : DirEntryIter C S P A T L R E → List ℕ → Item R E → Spec R → Outcome R E → Type 0
-  KnownAt it at x spec outcome = KnownBy files process clone defaults (by_crew it) (IsSteadyWalk it) (job_of it) at spec outcome × IsNextBelow (by_crew it) x (spec ∷ [])
+  KnownAt it at x spec outcome = KnownBy files process clone defaults (by_crew it) (IsSteadyReads files process clone defaults pool it.reads) (job_of it) at spec outcome × IsNextBelow (by_crew it) x (spec ∷ [])
 
   -- the same at some address
   abbrev pub Known : DirEntryIter C S P A T L R E → Item R E → Spec R → Outcome R E → Type 0
@@ -163,7 +174,11 @@ module _ {C S P A T L R E : Type 0} (files : FileSystem.Ghosts S) (process : Pro
 
   -- Over all that its job is steady over, it is.
   abbrev pub StartsSteady : DirEntryIter C S P A T L R E → Type 0
-  StartsSteady it = readings.StartsSteady files process clone defaults pool it.reads
+  StartsSteady it = (given : Given R E) → IsSteadyJob files process clone defaults (job_of it) given → IsSteadyWalk it given
+
+  -- Its readings stay steady over all that they were steady over.
+  abbrev pub ReadsStaySteady : DirEntryIter C S P A T L R E → DirEntryIter C S P A T L R E → Type 0
+  ReadsStaySteady old new = readings.StaysSteady files process clone defaults pool old.reads new.reads
 
   -- It stays steady over all that it was steady over.
   abbrev pub StaysSteady : DirEntryIter C S P A T L R E → DirEntryIter C S P A T L R E → Type 0

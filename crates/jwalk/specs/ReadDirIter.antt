@@ -79,9 +79,9 @@ pub record GivesError {R E : Type 0} (by_crew : Bool) (given : Option (Outcome R
 
 -- Readings come in preorder: the first of those still to come is given and the rest is left, or an error tells why they end early and nothing is.
 abbrev pub GivesPreorder : {R E : Type 0} → Bool → (Spec R → Outcome R E) → ℕ → List (Spec R) → Option (Outcome R E) → List (Spec R) → Type 0
-GivesPreorder by_crew reading max_depth old None new = preorder reading max_depth old ≡ []
-GivesPreorder by_crew reading max_depth old (Some given) new =
-    (GivesError by_crew (Some given) × (new ≡ [])) ⊎ (preorder reading max_depth old ≡ given ∷ preorder reading max_depth new)
+GivesPreorder may_lose reading max_depth old None new = preorder reading max_depth old ≡ []
+GivesPreorder may_lose reading max_depth old (Some given) new =
+    (GivesError may_lose (Some given) × (new ≡ [])) ⊎ (preorder reading max_depth old ≡ given ∷ preorder reading max_depth new)
 
 -- The first is read; or an error is given that tells why not, and nothing is left to be read.
 abbrev pub GivesFirst : {R E : Type 0} → Bool → Clone.Ghosts R → (Spec R → Outcome R E → Type 0) → ℕ → List (Spec R) → Option (Outcome R E) → List (Spec R) → Type 0
@@ -132,8 +132,8 @@ module _ {C S P A L R E : Type 0} (files : FileSystem.Ghosts S) (process : Proce
   abbrev pub KnownOf : {T : Type 0} → ReadDirIter C S P A T L R E → Item R E → Spec R → Outcome R E → Type 0
   KnownOf it x spec outcome = Known it spec outcome × IsNextBelow (by_crew it) x (spec ∷ [])
 
-  -- One call of an iterator over readings. By value, what it gives comes in preorder.
-  pub record Gives {T : Type 0} (old : ReadDirIter C S P A T L R E) (given : Option (Result (ReadDir C A R E) (Error A))) (new : ReadDirIter C S P A T L R E) : Type 0 where
+  -- One call of an iterator over readings. By value, what it gives comes in preorder; only where it is asked for another directory than the next one may a crew's readings end by one that won't come.
+  pub record Gives {T : Type 0} (asks_for_any : Bool) (old : ReadDirIter C S P A T L R E) (given : Option (Result (ReadDir C A R E) (Error A))) (new : ReadDirIter C S P A T L R E) : Type 0 where
     pub crew : by_crew new ≡ by_crew old
     pub job : job_of new ≡ job_of old
     pub width : width_of new ≡ width_of old
@@ -142,4 +142,4 @@ module _ {C S P A L R E : Type 0} (files : FileSystem.Ghosts S) (process : Proce
     pub steady : StaysSteady old new
     pub first : GivesFirst (by_crew old) clone (Known old) (greatest_depth (job_of old)) (to_read old) (option_map outcome given) (to_read new)
     pub preorder : (value : Given R E) → IsSteadyReads old value
-        → GivesPreorder (by_crew old) (reading (job_by files value (job_of old))) (greatest_depth (job_of old)) (map (counted_spec value) (to_read old)) (option_map (counted_outcome value) (option_map outcome given)) (map (counted_spec value) (to_read new))
+        → GivesPreorder asks_for_any (reading (job_by files value (job_of old))) (greatest_depth (job_of old)) (map (counted_spec value) (to_read old)) (option_map (counted_outcome value) (option_map outcome given)) (map (counted_spec value) (to_read new))

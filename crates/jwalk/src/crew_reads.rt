@@ -1,11 +1,11 @@
 //! Readings that a crew makes ahead.
-ghost use Rattle.std.specs.Prelude.{◌≡◌, ◌≢◌, ◌↔◌, ◌++◌, true, false, IsTrue, Ok, [], map, IfOk, MatchResult, OnErr, OnOk, option_map};
+ghost use Rattle.std.specs.Prelude.{◌≡◌, ◌≢◌, ◌↔◌, ◌∷◌, ◌++◌, true, false, IsTrue, Ok, [], map, IfOk, IfErr, MatchResult, OnErr, OnOk, option_map};
 ghost use Rattle.jwalk_read.specs.Error.{failure};
 ghost use Rattle.jwalk_read.specs.Entry.{entry};
 ghost use Rattle.jwalk_read.specs.ReadDir.{spec, outcome};
 ghost use Rattle.jwalk_read.specs.Job.{greatest_depth, IsReadingBy, IsGivenOver};
 ghost use Rattle.jwalk_engine.specs.Reads.{StacksChildren, ReadsNextBy};
-ghost use Rattle.jwalk.specs.CrewReads.{job_of, to_read, next_address, IsBelow, IsNextBelow, IsTold, BeginsBy, IsSteadyBefore, IsSteadyCrew, StartsSteady, StaysSteady, ReadsSteadily, failure_of};
+ghost use Rattle.jwalk.specs.CrewReads.{job_of, to_read, next_address, IsBelow, IsNextBelow, IsTold, BeginsBy, NotLost, IsSteadyOver, IsSteadyBefore, IsSteadyCrew, StartsSteady, StaysSteady, ReadsSteadily, failure_of};
 ghost use Rattle.jwalk.specs.ReadDirIter.{KnownBy};
 
 pub(crate) mod started;
@@ -116,7 +116,7 @@ impl<
     ) -> Result<Self, AllocError>
         ensures job { IfOk result (λ reads. job_of reads ≡ job) }
         ensures to_read { IfOk result (λ reads. to_read reads ≡ map spec roots.items) }
-        ensures begins { IfOk result (BeginsBy (λ given origin. given ≡ pool)) }
+        ensures begins { IfOk result (BeginsBy (λ given origin addresses. given ≡ pool)) }
     {
         let alloc = *roots.allocator();
         let matcher = OrderedMatcher::with_roots(alloc, roots.len())?;
@@ -141,6 +141,7 @@ impl<
     pub(crate) fn is_next(&self, found: &DirEntry<C, A>) -> bool
         ensures some { result ≡ false → to_read self.now ≢ [] }
         ensures below { result ≡ true → IsNextBelow true (Ok (entry found.now)) (to_read self.now) }
+        ensures other { result ≡ false → ¬ IsNextBelow true (Ok (entry found.now)) (to_read self.now) }
     {
         match self.unread.last() {
             Some(of) => is_below(of, found),
@@ -156,6 +157,8 @@ impl<
             C.DirEntryState.Default (job_of self.old) (next_address self.old) (spec of.now) (outcome read)) }
         ensures steadily { IfOk result (λ read. ReadsSteadily S.FileSystem P.ProcessReadDir C.ReadDirState.Clone
             C.DirEntryState.Default L.Pool self.old (spec of.now) (outcome read) self.new) }
+        ensures comes { (rest : _) → IfErr result (NotLost (IsSteadyOver S.FileSystem P.ProcessReadDir C.ReadDirState.Clone
+            C.DirEntryState.Default L.Pool (job_of self.old) self.old.pool self.old.matcher (spec of.now ∷ rest))) }
     {
         let Some(pool) = &mut self.pool else {
             return Err(Missed::Lost);
@@ -196,6 +199,8 @@ impl<
             C.ReadDirState.Clone C.DirEntryState.Default L.Pool self.old (spec of) given
             → IsSteadyCrew S.FileSystem P.ProcessReadDir C.ReadDirState.Clone C.DirEntryState.Default L.Pool
             self.new given) }
+        ensures comes { IfErr result (NotLost (IsSteadyBefore S.FileSystem P.ProcessReadDir C.ReadDirState.Clone
+            C.DirEntryState.Default L.Pool self.old (spec of))) }
     {
         let outcome = self.read(&of)?;
         let below = directories_of(*of.path.allocator(), &outcome)?;
@@ -207,9 +212,12 @@ impl<
     ///
     /// # Errors
     ///
-    /// If memory runs out, or the reading won't come. Nothing is left to be read then.
+    /// If memory runs out, or the reading won't come: over what is steady, every reading comes. Nothing is left to be
+    /// read then.
     pub(crate) fn read_next(&mut self) -> Result<Option<Outcome<C, A>>, Missed>
         ensures job { job_of self.new ≡ job_of self.old }
+        ensures comes { IfErr result (NotLost (IsSteadyCrew S.FileSystem P.ProcessReadDir C.ReadDirState.Clone
+            C.DirEntryState.Default L.Pool self.old)) }
         ensures some { OnErr result (to_read self.old ≢ []) }
         ensures stopped { OnErr result (to_read self.new ≡ []) }
         ensures steady { StaysSteady S.FileSystem P.ProcessReadDir C.ReadDirState.Clone C.DirEntryState.Default

@@ -75,9 +75,9 @@ impl<
     ghost use Rattle.jwalk_read.specs.Options as options;
     ghost use Rattle.jwalk_read.specs.Job.{ClonesCount, options_of};
     ghost use Rattle.jwalk_engine.specs.ReadAhead.{nothing_ahead};
-    ghost use Rattle.jwalk.specs.CrewReads.{failure_of};
+    ghost use Rattle.jwalk.specs.CrewReads.{failure_of, NotLost};
     ghost use Rattle.jwalk.specs.ReadDirIter.{Tells};
-    ghost use Rattle.jwalk.specs.DirEntryIter.{by_crew, job_of, min_depth_of, items_of, unread_of, width_of, read_ahead, early_of, held_by, next_address, IsWithin, IsSourced, IsRefused, Known, KnownAt, StaysSteady, EntersIfAny, GrowsAhead, Answers, Counts};
+    ghost use Rattle.jwalk.specs.DirEntryIter.{by_crew, job_of, min_depth_of, items_of, unread_of, width_of, read_ahead, early_of, held_by, next_address, IsWithin, IsSourced, IsRefused, Known, KnownAt, IsSteadyWalk, ReadsStaySteady, EntersIfAny, GrowsAhead, Answers, Counts};
     ghost use Rattle.jwalk.specs.Step.{IsAtDirectory, Receives, PassesNext, ReadsUpTo, StopsAtDirectory};
 
     /// A walk whose start was refused, which needs no memory.
@@ -171,8 +171,8 @@ impl<
         ensures items { items_of self.new ≡ [] }
         ensures unread { unread_of self.new ≡ [] }
         ensures read_ahead { read_ahead self.new ≡ nothing_ahead }
-        ensures steady { StaysSteady S.FileSystem P.ProcessReadDir C.ReadDirState.Clone C.DirEntryState.Default L.Pool
-            self.old self.new }
+        ensures steady { ReadsStaySteady S.FileSystem P.ProcessReadDir C.ReadDirState.Clone C.DirEntryState.Default
+            L.Pool self.old self.new }
     {
         self.items.clear();
         self.reads.stop();
@@ -209,8 +209,8 @@ impl<
         ensures refused { self.new.refused ≡ self.old.refused }
         ensures end { IfOk result (λ o. IfNone o
             ((items_of self.old ≡ []) × (items_of self.new ≡ []) × (unread_of self.new ≡ unread_of self.old))) }
-        ensures steady { StaysSteady S.FileSystem P.ProcessReadDir C.ReadDirState.Clone C.DirEntryState.Default L.Pool
-            self.old self.new }
+        ensures steady { ReadsStaySteady S.FileSystem P.ProcessReadDir C.ReadDirState.Clone C.DirEntryState.Default
+            L.Pool self.old self.new }
         ensures passed { IfOk result (λ o. IfSome o (λ passed. PassesNext C.ReadDirState.Clone
             (KnownAt S.FileSystem P.ProcessReadDir C.ReadDirState.Clone C.DirEntryState.Default L.Pool self.old
             (next_address self.old))
@@ -220,6 +220,8 @@ impl<
         ensures ahead { OnOk result (EntersIfAny S.FileSystem P.ProcessReadDir C.ReadDirState.Clone
             C.DirEntryState.Default self.old self.new) }
         ensures tells { IfErr result (λ missed. Tells (by_crew self.old) (failure_of missed)) }
+        ensures comes { IfErr result (NotLost (IsSteadyWalk S.FileSystem P.ProcessReadDir C.ReadDirState.Clone
+            C.DirEntryState.Default L.Pool self.old)) }
         ensures stopped { OnErr result (IsAtDirectory (items_of self.old) (unread_of self.old)) }
     {
         match self.items.pop() {
@@ -270,8 +272,8 @@ impl<
         ensures crew { by_crew self.new ≡ by_crew self.old }
         ensures job { job_of self.new ≡ job_of self.old }
         ensures refused { self.new.refused ≡ self.old.refused }
-        ensures steady { StaysSteady S.FileSystem P.ProcessReadDir C.ReadDirState.Clone C.DirEntryState.Default L.Pool
-            self.old self.new }
+        ensures steady { ReadsStaySteady S.FileSystem P.ProcessReadDir C.ReadDirState.Clone C.DirEntryState.Default
+            L.Pool self.old self.new }
         ensures reads { IfOk result (λ answer. ReadsUpTo C.ReadDirState.Clone
             (Known S.FileSystem P.ProcessReadDir C.ReadDirState.Clone C.DirEntryState.Default L.Pool self.old)
             (job_of self.old) (items_of self.old) (unread_of self.old)
@@ -280,6 +282,8 @@ impl<
         ensures ahead { OnOk result (GrowsAhead S.FileSystem P.ProcessReadDir C.ReadDirState.Clone
             C.DirEntryState.Default L.Pool self.old self.new) }
         ensures tells { IfErr result (λ missed. Tells (by_crew self.old) (failure_of missed)) }
+        ensures comes { IfErr result (NotLost (IsSteadyWalk S.FileSystem P.ProcessReadDir C.ReadDirState.Clone
+            C.DirEntryState.Default L.Pool self.old)) }
         ensures stopped { OnErr result (StopsAtDirectory C.ReadDirState.Clone
             (Known S.FileSystem P.ProcessReadDir C.ReadDirState.Clone C.DirEntryState.Default L.Pool self.old)
             (job_of self.old) (items_of self.old) (unread_of self.old)) }

@@ -78,8 +78,8 @@ impl<
     ghost use Rattle.jwalk_read.specs.Job.{greatest_depth};
     ghost use Rattle.jwalk_engine.specs.Reads.{ReadsNextBy};
     ghost use Rattle.jwalk_engine.specs.ReadAhead.{nothing_ahead, BeginsWith};
-    ghost use Rattle.jwalk.specs.CrewReads.{failure_of, IsNextBelow};
-    ghost use Rattle.jwalk.specs.ReadDirIter.{by_crew, job_of, to_read, width_of, read_ahead, early_of, next_address, Tells, StaysSteady, Known, EntersNextBy, Gives};
+    ghost use Rattle.jwalk.specs.CrewReads.{failure_of, IsNextBelow, NotLost};
+    ghost use Rattle.jwalk.specs.ReadDirIter.{by_crew, job_of, to_read, width_of, read_ahead, early_of, next_address, Tells, IsSteadyReads, StaysSteady, Known, EntersNextBy, Gives};
 
     /// Readings with nothing to read yet, by no crew.
     pub(crate) fn new(alloc: A, threads: T, job: Job<C, S, P, A>, mode: Mode) -> Self
@@ -152,6 +152,8 @@ impl<
         ensures enters { IfOk result (λ o. EntersNextBy S.FileSystem P.ProcessReadDir C.ReadDirState.Clone
             C.DirEntryState.Default (by_crew self.old) (job_of self.old) (width_of self.old)
             (next_address self.old) (read_ahead self.old) (option_map outcome o) (read_ahead self.new)) }
+        ensures comes { IfErr result (NotLost (IsSteadyReads S.FileSystem P.ProcessReadDir C.ReadDirState.Clone
+            C.DirEntryState.Default L.Pool self.old)) }
     {
         match self {
             ReadDirIter::Walk(walk) => Ok(walk.read_next()?),
@@ -166,6 +168,7 @@ impl<
         ensures own { result ≡ false → by_crew self.now ≡ true }
         ensures some { result ≡ false → to_read self.now ≢ [] }
         ensures below { result ≡ true → IsNextBelow (by_crew self.now) (Ok (entry found.now)) (to_read self.now) }
+        ensures other { result ≡ false → ¬ IsNextBelow (by_crew self.now) (Ok (entry found.now)) (to_read self.now) }
     {
         match self {
             ReadDirIter::Walk(_) => true,
@@ -177,7 +180,7 @@ impl<
     /// The next reading; or the error that tells why it won't come, and nothing is left to be read.
     fn next_or_stop(&mut self) -> Option<Outcome<C, A>>
         requires { P.IsLawful (callback (job_of self.old)) }
-        ensures { Gives S.FileSystem P.ProcessReadDir C.ReadDirState.Clone C.DirEntryState.Default L.Pool
+        ensures { Gives S.FileSystem P.ProcessReadDir C.ReadDirState.Clone C.DirEntryState.Default L.Pool false
             self.old result self.new }
     {
         match self.read_next() {
@@ -266,6 +269,7 @@ impl<
     L: Pool<C, S, P, A>,
 > ReadDirIter<C, S, P, A, InTurn, L> {
     ghost use Rattle.jwalk_read.specs.Job.{greatest_depth};
+    ghost use Rattle.jwalk.specs.CrewReads.{IsNextBelow};
     ghost use Rattle.jwalk.specs.ReadDirIter.{by_crew, job_of, to_read, KnownOf, GivesFirst, Gives};
 
     /// The reading of an entry's directory: the next one, where the entries are those of the readings so far in the
@@ -274,6 +278,9 @@ impl<
         requires lawful { P.IsLawful (callback (job_of self.old)) }
         requires has_directory { IsSome found.now.read_children }
         ensures gives { Gives S.FileSystem P.ProcessReadDir C.ReadDirState.Clone C.DirEntryState.Default L.Pool
+            (by_crew self.old) self.old result self.new }
+        ensures next { IsNextBelow (by_crew self.old) (Ok (entry found.now)) (to_read self.old)
+            → Gives S.FileSystem P.ProcessReadDir C.ReadDirState.Clone C.DirEntryState.Default L.Pool false
             self.old result self.new }
         ensures of { GivesFirst (by_crew self.old) C.ReadDirState.Clone (KnownOf S.FileSystem P.ProcessReadDir
             C.ReadDirState.Clone C.DirEntryState.Default L.Pool self.old (Ok (entry found.now)))
@@ -305,7 +312,7 @@ impl<
 
     ghost can_next = { λ s. P.IsLawful (callback (job_of s)) };
 
-    ghost next_gives = { Gives S.FileSystem P.ProcessReadDir C.ReadDirState.Clone C.DirEntryState.Default L.Pool };
+    ghost next_gives = { Gives S.FileSystem P.ProcessReadDir C.ReadDirState.Clone C.DirEntryState.Default L.Pool false };
 
     ghost remaining = { λ s. at_most (spec_weight (greatest_depth (job_of s)) (to_read s)) };
 

@@ -1,3 +1,4 @@
 mod ArrivalFacts
+mod DueFacts
 pub mod OriginFacts
 mod SharedFacts

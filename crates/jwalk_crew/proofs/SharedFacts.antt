@@ -1,9 +1,10 @@
--- A board that comes from where a walk began stays so by each step on it.
-use Rattle.std.proofs.Common.{◌≡◌, true, inl, inr, sym, subst, Result, Ok, Err, OnOk, OnErr, List, ℕ}
+-- A board that comes from where a walk began stays so by each step on it, and only a hand-out changes what it has still to hand out.
+use Rattle.std.proofs.Common.{◌≡◌, true, inl, inr, sym, ap, subst, Result, Ok, Err, OnOk, OnErr, List, ℕ}
 use Rattle.std.specs.declared.clone.Clone as Clone
 use Rattle.std.specs.declared.default.Default as Default
 use Rattle.walk_fs.specs.declared.file_system.FileSystem as FileSystem
-use Rattle.jwalk_board.specs.Board.{Board, Finishes}
+use Rattle.jwalk_order.specs.declared.ordered.Ordered.{Ordered}
+use Rattle.jwalk_board.specs.Board.{Board, HandsOut, Finishes}
 use Rattle.jwalk_read.specs.declared.process_read_dir.ProcessReadDir as ProcessReadDir
 use Rattle.jwalk_read.specs.declared.read_dir_spec.ReadDirSpec.{ReadDirSpec}
 use Rattle.jwalk_crew.specs.declared.arrival.Arrival.{Arrival}
@@ -18,6 +19,23 @@ use Rattle.jwalk_crew.specs.Shared.{IsTurnOf, IsArrivalOf}
 use Rattle.jwalk_crew.specs.Steps.{Turns}
 use Rattle.jwalk_crew.proofs.OriginFacts.{taken_of, handed_of, finished_of, stopped_of}
 
+module _ {S R : Type 0} (old new : Board S R) where
+  pub stopped_frontier : new ≡ record old { stopped = true } → new.frontier ≡ old.frontier
+  stopped_frontier is = ap (λ b. b.frontier) is
+
+  pub turned_frontier : {A : Type 0} (t : Turn S A) → Turns old t new → new.frontier ≡ old.frontier
+  turned_frontier (turn.Read item) takes = ap (λ b. b.frontier) takes.others
+  turned_frontier turn.Wait refused = ap (λ b. b.frontier) refused.1
+  turned_frontier turn.End ends = elim ends [
+    | inl refused ↦ ap (λ b. b.frontier) refused.1
+    | inr stopped ↦ stopped_frontier stopped.1
+  ]
+
+  pub handed_in_frontier : {T F : Type 0} (r : Result T F) (a : List ℕ) (reading : R) (children : List S) → OnOk r (Finishes a reading children old new)
+      → OnErr r (new ≡ record old { stopped = true }) → new.frontier ≡ old.frontier
+  handed_in_frontier (Ok x) a reading children done stopped = ap (λ b. b.frontier) done.others
+  handed_in_frontier (Err e) a reading children done stopped = stopped_frontier stopped
+
 module _ {C S P A R E : Type 0} (files : FileSystem.Ghosts S) (process : ProcessReadDir.Ghosts P C A R E) (clone : Clone.Ghosts R) (defaults : Default.Ghosts E) (origin : Origin C S P A R E) (old new : Board (ReadDirSpec C A R E) (Message C S P A R E)) (of : IsBoardOf files process clone defaults origin old) where
   pub same_of : new ≡ old → IsBoardOf files process clone defaults origin new
   same_of is = subst (IsBoardOf files process clone defaults origin) (sym is) of
@@ -30,22 +48,42 @@ module _ {C S P A R E : Type 0} (files : FileSystem.Ghosts S) (process : Process
     | inr stopped ↦ (tt, stopped_of files process clone defaults origin old new of stopped.1)
   ]
 
-  pub arrived_of : (wanted : Wanted A) (a : Arrival C S P A R E) → Arrives old wanted a new → IsArrivalOf files process clone defaults origin wanted a × IsBoardOf files process clone defaults origin new
-  arrived_of wanted (Entered item) comes =
-      let handed = handed_of files process clone defaults origin old new of item comes.0 in
-      ((comes.1, comes.2, handed.0), handed.1)
-  arrived_of wanted Memory comes = elim comes [
-    | inl refused ↦ (tt, same_of refused.unchanged)
+  handed_board : (item : Ordered (Message C S P A R E) A) → HandsOut item old new → IsBoardOf files process clone defaults origin new
+  handed_board item out = (handed_of files process clone defaults origin old new of item out).1
+
+  pub arrived_board : (wanted : Wanted A) (a : Arrival C S P A R E) → Arrives old wanted a new → IsBoardOf files process clone defaults origin new
+  arrived_board wanted (Entered item) comes = handed_board item comes.0
+  arrived_board wanted Memory comes = elim comes [
+    | inl refused ↦ same_of refused.unchanged
     | inr others ↦ elim others [
-      | inl refused ↦ (tt, same_of refused.unchanged)
-      | inr gives ↦ (tt, (handed_of files process clone defaults origin old new of gives.item gives.hands_out).1)
+      | inl refused ↦ same_of refused.unchanged
+      | inr gives ↦ handed_board gives.item gives.hands_out
     ]
   ]
-  arrived_of wanted Lost comes = elim comes [
-    | inl refused ↦ (tt, same_of refused.unchanged)
-    | inr gives ↦ (tt, (handed_of files process clone defaults origin old new of gives.item gives.hands_out).1)
+  arrived_board wanted Lost comes = elim comes [
+    | inl refused ↦ same_of refused.unchanged
+    | inr gives ↦ handed_board gives.item gives.hands_out
   ]
-  arrived_of wanted Wait comes = (tt, same_of comes.unchanged)
+  arrived_board wanted Wait comes = same_of comes.unchanged
+
+  pub arrived_of : (wanted : Wanted A) (a : Arrival C S P A R E) → Arrives old wanted a new → IsArrivalOf files process clone defaults origin old.frontier wanted a new.frontier
+  arrived_of wanted (Entered item) comes = record {
+    fits = comes.1;
+    made = comes.2;
+    of = (handed_of files process clone defaults origin old new of item comes.0).0;
+    further = ap (λ b. b.frontier) comes.0.others;
+  }
+  arrived_of wanted Memory comes = tt
+  arrived_of wanted Lost comes = elim comes [
+    | inl refused ↦ inl refused.refused.1
+    | inr gives ↦ inr (record {
+      item = gives.item;
+      next = gives.hands_out.next;
+      of = (handed_of files process clone defaults origin old new of gives.item gives.hands_out).0;
+      another = gives.checked;
+    })
+  ]
+  arrived_of wanted Wait comes = ap (λ b. b.frontier) comes.unchanged
 
   pub handed_in_of : {T F : Type 0} (r : Result T F) (a : List ℕ) (message : Message C S P A R E) (children : List (ReadDirSpec C A R E)) → IsMadeAt files process clone defaults origin a message children
       → OnOk r (Finishes a message children old new) → OnErr r (new ≡ record old { stopped = true }) → IsBoardOf files process clone defaults origin new

@@ -4,6 +4,7 @@ pub mod Arrival
 pub mod Origin
 pub mod Places
 pub mod Shared
+pub mod Due
 pub mod Steps
 pub mod Crew
 pub mod Session

@@ -1,18 +1,23 @@
 -- What comes of a step on the board that a walk and its workers share.
-use Rattle.std.specs.Prelude.{IsOk}
+use Rattle.std.specs.Prelude.{◌≡◌, ◌⊎◌, ℕ, List, [], IsOk, Result, Ok, Err}
 use Rattle.std.specs.declared.clone.Clone as Clone
 use Rattle.std.specs.declared.default.Default as Default
 use Rattle.walk_fs.specs.declared.file_system.FileSystem as FileSystem
-use Rattle.jwalk_order.specs.Ordered.{address_of}
+use Rattle.jwalk_order.specs.Frontier.{next_address, passed}
+use Rattle.jwalk_order.specs.Ordered.{address_of, child_count_of}
+use Rattle.jwalk_order.specs.declared.ordered.Ordered.{Ordered}
 use Rattle.jwalk_board.specs.Addressed.{addressed}
 use Rattle.jwalk_read.specs.declared.process_read_dir.ProcessReadDir as ProcessReadDir
 use Rattle.jwalk_read.specs.declared.read_dir_spec.ReadDirSpec.{ReadDirSpec}
 use Rattle.jwalk_read.specs.ReadDir.{spec}
 use Rattle.jwalk_crew.specs.declared.arrival.Arrival.{Arrival}
 use Rattle.jwalk_crew.specs.declared.arrival.Arrival.TheVariants.{Entered, Memory, Lost, Wait}
+use Rattle.jwalk_crew.specs.declared.pool.Missed.{Missed}
+use Rattle.jwalk_crew.specs.declared.pool.Missed.TheVariants as missed
 use Rattle.jwalk_crew.specs.declared.steps.Turn.{Turn}
 use Rattle.jwalk_crew.specs.declared.steps.Turn.TheVariants as turn
 use Rattle.jwalk_crew.specs.declared.wanted.Wanted.{Wanted}
+use Rattle.jwalk_crew.specs.Message.{Message}
 use Rattle.jwalk_crew.specs.Origin.{Origin, IsAt, IsMessageOf}
 use Rattle.jwalk_crew.specs.Wanted.{Fits}
 
@@ -23,9 +28,33 @@ module _ {C S P A R E : Type 0} (files : FileSystem.Ghosts S) (process : Process
   IsTurnOf turn.Wait = Unit {0}
   IsTurnOf turn.End = Unit {0}
 
-  -- what arrives is a reading that is waited for, by the walk's own job and of the directory at its address
-  abbrev pub IsArrivalOf : Wanted A → Arrival C S P A R E → Type 0
-  IsArrivalOf wanted (Entered item) = Fits wanted item × IsOk item.value.outcome × IsMessageOf files process clone defaults origin (addressed item)
-  IsArrivalOf wanted Memory = Unit {0}
-  IsArrivalOf wanted Lost = Unit {0}
-  IsArrivalOf wanted Wait = Unit {0}
+  -- The reading that is waited for came, by the walk's own job and of the directory at its address; these addresses were awaited before it, and those after it.
+  pub record IsReading (before : List (List ℕ)) (wanted : Wanted A) (item : Ordered (Message C S P A R E) A) (after : List (List ℕ)) : Type 0 where
+    pub fits : Fits wanted item
+    pub made : IsOk item.value.outcome
+    pub of : IsMessageOf files process clone defaults origin (addressed item)
+    pub further : after ≡ passed before (child_count_of item)
+
+  -- Another reading stands at the address that is awaited first.
+  pub record IsAnother (awaited : List (List ℕ)) (wanted : Wanted A) : Type 0 where
+    pub item : Ordered (Message C S P A R E) A
+    pub next : address_of item ≡ next_address awaited
+    pub of : IsMessageOf files process clone defaults origin (addressed item)
+    pub another : ¬ Fits wanted item
+
+  -- No address is awaited any more, or another reading stands there.
+  abbrev pub IsLost : List (List ℕ) → Wanted A → Type 0
+  IsLost awaited wanted = (awaited ≡ []) ⊎ IsAnother awaited wanted
+
+  -- what a walk finds that waits for a reading, by the addresses that are awaited before and after
+  abbrev pub IsArrivalOf : List (List ℕ) → Wanted A → Arrival C S P A R E → List (List ℕ) → Type 0
+  IsArrivalOf before wanted (Entered item) after = IsReading before wanted item after
+  IsArrivalOf before wanted Memory after = Unit {0}
+  IsArrivalOf before wanted Lost after = IsLost before wanted
+  IsArrivalOf before wanted Wait after = after ≡ before
+
+  -- what it is answered in the end
+  abbrev pub IsAnswerOf : List (List ℕ) → Wanted A → Result (Ordered (Message C S P A R E) A) Missed → List (List ℕ) → Type 0
+  IsAnswerOf before wanted (Ok item) after = IsReading before wanted item after
+  IsAnswerOf before wanted (Err missed.Memory) after = Unit {0}
+  IsAnswerOf before wanted (Err missed.Lost) after = IsLost before wanted

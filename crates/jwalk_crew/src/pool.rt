@@ -1,6 +1,9 @@
 //! What gives a walk its readings.
-ghost use Rattle.std.specs.Prelude.{◌≡◌, IfOk, IsOk};
+ghost use Rattle.std.specs.Prelude.{◌≡◌, ℕ, List, [], IfOk, IsOk};
+ghost use Rattle.jwalk_order.specs.Frontier.{passed};
+ghost use Rattle.jwalk_order.specs.Ordered.{child_count_of};
 ghost use Rattle.jwalk_board.specs.Addressed.{addressed};
+ghost use Rattle.jwalk_crew.specs.Due.{IsDue};
 ghost use Rattle.jwalk_crew.specs.Origin.{Origin, IsMessageOf};
 ghost use Rattle.jwalk_crew.specs.Wanted.{Fits};
 
@@ -37,17 +40,26 @@ pub trait Pool<C: ClientState, S: FileSystem, P: ProcessReadDir<C, A>, A: Alloca
     /// which nothing is to be said has `⊥` here.
     ghost comes_from: { Self → Origin C S P A C.ReadDirState C.DirEntryState → Type 0 };
 
-    /// The reading that is wanted, once it is there.
+    /// The addresses of the readings that it has still to give, the next one first.
+    ghost awaits: { Self → List (List ℕ) };
+
+    /// The reading that is wanted, once it is there. The addresses of the directories below it are then awaited in its
+    /// stead.
     ///
     /// # Errors
     ///
-    /// `Memory` if memory ran out, the workers' or for the hand-out, and `Lost` if the reading won't come.
+    /// `Memory` if memory ran out, the workers' or for the hand-out, and `Lost` if the reading won't come. No reading
+    /// that is due is lost.
     fn next(&mut self, wanted: &Wanted<A>) -> Result<Ordered<Message<C, S, P, A>, A>, Missed>
         ensures fits { IfOk result (Fits wanted.now) }
         ensures made { IfOk result (λ item. IsOk item.value.outcome) }
         ensures of { IfOk result (λ item. (origin : _) → Self.comes_from self.old origin → IsMessageOf S.FileSystem
             P.ProcessReadDir C.ReadDirState.Clone C.DirEntryState.Default origin (addressed item)) }
-        ensures same { (origin : _) → Self.comes_from self.old origin → Self.comes_from self.new origin };
+        ensures same { (origin : _) → Self.comes_from self.old origin → Self.comes_from self.new origin }
+        ensures further { IfOk result (λ item. Self.awaits self.new ≡ passed (Self.awaits self.old)
+            (child_count_of item)) }
+        ensures due { result ≡ Err Missed.Lost → (origin : _) → Self.comes_from self.old origin → ¬ IsDue S.FileSystem
+            P.ProcessReadDir C.ReadDirState.Clone C.DirEntryState.Default origin (Self.awaits self.old) wanted.now };
 
     /// How many readings were made and not handed on.
     fn ahead(&self) -> usize;
@@ -60,6 +72,8 @@ pub struct NoPool(());
 impl<C: ClientState, S: FileSystem, P: ProcessReadDir<C, A>, A: Allocator + Copy> Pool<C, S, P, A>
     for NoPool {
     ghost comes_from = { λ _ _. ⊥ };
+
+    ghost awaits = { λ _. [] };
 
     fn next(&mut self, _wanted: &Wanted<A>) -> Result<Ordered<Message<C, S, P, A>, A>, Missed>
         ensures { result ≡ Err Missed.Lost }

@@ -1,9 +1,11 @@
 //! A walk over a crew.
-ghost use Rattle.std.specs.Prelude.{◌≡◌, IfOk, map};
+ghost use Rattle.std.specs.Prelude.{◌≡◌, false, IfOk, length, map};
+ghost use Rattle.std.specs.Arc.{arc_value};
+ghost use Rattle.keyed_slot.specs.Keyed.{tag_of, key_mark, is_out, Opens};
 ghost use Rattle.jwalk_read.specs.Job.{callback};
 ghost use Rattle.jwalk_read.specs.ReadDir.{spec};
 ghost use Rattle.jwalk_crew.specs.Origin.{CountAlike};
-ghost use Rattle.jwalk_crew.specs.Session.{origin_of};
+ghost use Rattle.jwalk_crew.specs.Shared.{IsAnswerOf};
 
 use crate::arrival::Arrival;
 use crate::crew::{NotStarted, Place};
@@ -13,11 +15,13 @@ use crate::pool::{Missed, Pool};
 use crate::shared::Shared;
 use crate::waiting::wait_a_turn;
 use crate::wanted::Wanted;
+use crate::work::Work;
 use crate::worker::start_workers;
 use jwalk_order::ordered::Ordered;
 use jwalk_read::client_state::ClientState;
 use jwalk_read::process_read_dir::ProcessReadDir;
 use jwalk_read::read_dir_spec::ReadDirSpec;
+use keyed_slot::slot::Key;
 use std::alloc::{Allocator, Global};
 use std::sync::{Arc, Wait};
 use std::thread::Threads;
@@ -35,6 +39,8 @@ pub struct Session<
 > {
     place: Place<R, A>,
     shared: Arc<Shared<R, C, S, P, A>, A>,
+    key: Key<Work<C, S, P, A>>,
+    ghost own: { Opens key (arc_value shared).work × (is_out key ≡ false) },
 }
 
 impl<
@@ -45,10 +51,50 @@ impl<
     A: Allocator + Copy,
 > Drop for Session<R, C, S, P, A> {
     fn drop(self) {
-        let Session { place, shared } = self;
+        let Session {
+            place,
+            shared,
+            key: _,
+        } = self;
         shared.stop();
         drop(place);
     }
+}
+
+/// Waits until the reading that is wanted is there, or it is known why it isn't to come.
+fn wait_for<
+    R: Wait + Clock + Drop,
+    C: ClientState,
+    S: FileSystem,
+    P: ProcessReadDir<C, A>,
+    A: Allocator + Copy,
+>(
+    shared: &Shared<R, C, S, P, A>,
+    key: &mut Key<Work<C, S, P, A>>,
+    wanted: &Wanted<A>,
+) -> Result<Ordered<Message<C, S, P, A>, A>, Missed>
+    requires opens { Opens key.old shared.now.work }
+    requires home { is_out key.old ≡ false }
+    ensures opens { Opens key.new shared.now.work }
+    ensures home { is_out key.new ≡ false }
+    ensures answer { IsAnswerOf S.FileSystem P.ProcessReadDir C.ReadDirState.Clone C.DirEntryState.Default
+        (tag_of shared.now.work) (key_mark key.old) wanted.now result (key_mark key.new) }
+{
+    let rt = &shared.crew.rt;
+    let mut sleepers = shared.sleepers.lock(rt);
+    for _ in rt.forever() {
+        match shared.arrival(&sleepers, key, wanted) {
+            Arrival::Entered(item) => return Ok(item),
+            Arrival::Memory => return Err(Missed::Memory),
+            Arrival::Lost => return Err(Missed::Lost),
+            Arrival::Wait => {
+                sleepers.set_walk(true);
+                sleepers = wait_a_turn(rt, &shared.arrived, sleepers);
+                sleepers.set_walk(false);
+            }
+        }
+    }
+    unreachable!()
 }
 
 impl<
@@ -59,27 +105,14 @@ impl<
     A: Allocator + Copy,
 > Pool<C, S, P, A> for Session<R, C, S, P, A> {
     ghost use Rattle.std.specs.Prelude.{◌≡◌};
-    ghost use Rattle.jwalk_crew.specs.Session.{origin_of};
+    ghost use Rattle.jwalk_crew.specs.Session.{origin_of, awaited_by};
 
     ghost comes_from = { λ session origin. origin_of session ≡ origin };
 
+    ghost awaits = { awaited_by };
+
     fn next(&mut self, wanted: &Wanted<A>) -> Result<Ordered<Message<C, S, P, A>, A>, Missed> {
-        let shared = &*self.shared;
-        let rt = &shared.crew.rt;
-        let mut sleepers = shared.sleepers.lock(rt);
-        for _ in rt.forever() {
-            match shared.arrival(&sleepers, wanted) {
-                Arrival::Entered(item) => return Ok(item),
-                Arrival::Memory => return Err(Missed::Memory),
-                Arrival::Lost => return Err(Missed::Lost),
-                Arrival::Wait => {
-                    sleepers.set_walk(true);
-                    sleepers = wait_a_turn(rt, &shared.arrived, sleepers);
-                    sleepers.set_walk(false);
-                }
-            }
-        }
-        unreachable!()
+        wait_for(&*self.shared, &mut self.key, wanted)
     }
 
     fn ahead(&self) -> usize {
@@ -101,6 +134,9 @@ where
     C::ReadDirState: Send + 'static,
     C::DirEntryState: Send + 'static,
 {
+    ghost use Rattle.jwalk_order.specs.Frontier.{roots as root_addresses};
+    ghost use Rattle.jwalk_crew.specs.Session.{origin_of, awaited_by};
+
     /// Starts the workers of a walk that has a place: from here on they read these directories, and those below them.
     /// The directories are clones of those that the walk begins with.
     ///
@@ -114,15 +150,16 @@ where
     ) -> Result<Self, NotStarted>
         requires lawful { P.IsLawful (callback origin.now.job) }
         requires alike { CountAlike C.ReadDirState.Clone (map spec roots.items) origin.now.roots }
-        ensures { IfOk result (λ session. origin_of session ≡ origin.now) }
+        ensures origin { IfOk result (λ session. origin_of session ≡ origin.now) }
+        ensures awaits { IfOk result (λ session. awaited_by session ≡ root_addresses (length roots.items)) }
     {
         let alloc = *roots.allocator();
-        let shared = Shared::new(place.crew(), origin, roots)?;
+        let (shared, key) = Shared::new(place.crew(), origin, roots)?;
         let Ok(shared) = Arc::new(alloc, shared) else {
             return Err(NotStarted::Memory);
         };
         let started = start_workers(&shared, place.crew().workers());
-        let session = Session { place, shared };
+        let session = Session { place, shared, key };
         if started > 0 {
             Ok(session)
         } else {

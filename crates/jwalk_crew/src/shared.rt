@@ -1,6 +1,8 @@
 //! What a walk and its workers share, and their steps on its board.
-ghost use Rattle.std.specs.Prelude.{◌≡◌, IfOk, IfSome, box_value, map};
+ghost use Rattle.std.specs.Prelude.{◌≡◌, false, IfOk, IfSome, box_value, length, map};
 ghost use Rattle.std.specs.Arc.{arc_value};
+ghost use Rattle.keyed_slot.specs.Keyed.{tag_of, key_mark, is_out, loan_mark, Opens, IsOwed};
+ghost use Rattle.jwalk_order.specs.Frontier.{roots as root_addresses};
 ghost use Rattle.jwalk_order.specs.IndexPath.{address as indices_of};
 ghost use Rattle.jwalk_read.specs.ReadDir.{spec};
 ghost use Rattle.jwalk_crew.specs.Origin.{CountAlike, IsBoardOf, IsMadeAt};
@@ -14,12 +16,12 @@ use crate::sleepers::Sleepers;
 use crate::steps::{Calls, Turn, take_turn};
 use crate::wanted::Wanted;
 use crate::work::{SharedBoard, Work};
-use counted_slot::{Counted, FREE, TAKEN};
 use jwalk_board::board::Board;
 use jwalk_read::client_state::ClientState;
 use jwalk_read::job::Job;
 use jwalk_read::process_read_dir::ProcessReadDir;
 use jwalk_read::read_dir_spec::ReadDirSpec;
+use keyed_slot::slot::{Key, KeyedSlot, Loan};
 use std::alloc::{AllocError, Allocator};
 use std::sync::{Arc, Condvar, Mutex, MutexGuard, Wait};
 use std::time::Clock;
@@ -37,14 +39,15 @@ pub(crate) struct Shared<
     pub(crate) job: Arc<Job<C, S, P, A>, A>,
     /// The lock: whoever works on the board holds it, and shows its guard, whose type doesn't say of which lock it is.
     pub(crate) sleepers: Mutex<Sleepers>,
-    /// The board, which is taken out and put back while the lock is held, so that nobody waits for it. A clause sees it
-    /// as where the walk began, and whoever takes it out knows that all that stands on it comes from there.
-    pub(crate) work: Counted<Option<Work<C, S, P, A>>>,
+    /// The board, which is taken out and put back while the lock is held, so that nobody finds it out. Whoever takes it
+    /// knows that all that stands on it comes from where the walk began. The walk has the key: it alone hands readings
+    /// out.
+    pub(crate) work: KeyedSlot<Work<C, S, P, A>, A>,
     /// Called where a worker may find something queued, or nothing more will be.
     pub(crate) queued: Condvar,
     /// Called where the walk's next reading is ready, or none will be.
     pub(crate) arrived: Condvar,
-    ghost own: { arc_value job ≡ work.job },
+    ghost own: { arc_value job ≡ (tag_of work).job },
 }
 
 impl<
@@ -73,14 +76,17 @@ impl<
     P: ProcessReadDir<C, A>,
     A: Allocator + Copy,
 > Shared<R, C, S, P, A> {
-    /// What the workers of a walk are given: the roots of the walk are queued on its board.
+    /// What the workers of a walk are given: the roots of the walk are queued on its board. The key is for the walk.
     pub(crate) fn new(
         crew: &Arc<Crew<R>, A>,
         origin: &Origin<C, S, P, A>,
         roots: Vec<ReadDirSpec<C, A>, A>,
-    ) -> Result<Self, AllocError>
+    ) -> Result<(Self, Key<Work<C, S, P, A>>), AllocError>
         requires { CountAlike C.ReadDirState.Clone (map spec roots.items) origin.now.roots }
-        ensures { IfOk result (λ shared. shared.work ≡ origin.now) }
+        ensures origin { IfOk result (λ made. tag_of made.0.work ≡ origin.now) }
+        ensures opens { IfOk result (λ made. Opens made.1 made.0.work) }
+        ensures home { IfOk result (λ made. is_out made.1 ≡ false) }
+        ensures mark { IfOk result (λ made. key_mark made.1 ≡ root_addresses (length roots.items)) }
     {
         let crew = crew.clone()?;
         let job = origin.job().clone()?;
@@ -91,53 +97,58 @@ impl<
         let Ok(board) = Box::new(alloc, board) else {
             return Err(AllocError);
         };
-        Ok(Shared {
+        let (work, key) = KeyedSlot::new(alloc, Work::new(board), origin)?;
+        let shared = Shared {
             crew,
             job,
             sleepers: Mutex::new(Sleepers::none()),
-            work: Counted::new(Some(Work::new(board)), origin),
+            work,
             queued: Condvar::new(),
             arrived: Condvar::new(),
-        })
+        };
+        Ok((shared, key))
     }
 
     /// Takes the board out: it is there, since the caller holds the lock. The guard witnesses that, and is not read.
-    fn take_out(&self, _held: &MutexGuard<'_, Sleepers>) -> Option<SharedBoard<C, S, P, A>>
-        ensures { IfSome result (λ board. IsBoardOf S.FileSystem P.ProcessReadDir C.ReadDirState.Clone
-            C.DirEntryState.Default self.now.work (box_value board)) }
+    fn take_out(
+        &self,
+        _held: &MutexGuard<'_, Sleepers>,
+    ) -> Option<(SharedBoard<C, S, P, A>, Loan<Work<C, S, P, A>>)>
+        ensures board { IfSome result (λ taken. IsBoardOf S.FileSystem P.ProcessReadDir C.ReadDirState.Clone
+            C.DirEntryState.Default (tag_of self.now.work) (box_value taken.0)) }
+        ensures mark { IfSome result (λ taken. loan_mark taken.1 ≡ (box_value taken.0).frontier) }
+        ensures owed { IfSome result (λ taken. IsOwed taken.1 self.now.work) }
     {
-        let (found, claim) = self.work.turn(FREE, TAKEN);
-        if found != FREE {
-            claim.done();
-            return None;
-        }
-        Some(claim.put(None, FREE)?.into_board())
+        let (work, loan) = self.work.take()?;
+        Some((work.into_board(), loan))
     }
 
-    /// Puts the board back, under the same hold of the lock: the guard witnesses that, and is not read.
-    fn put_back(&self, _held: &MutexGuard<'_, Sleepers>, board: SharedBoard<C, S, P, A>)
-        requires { IsBoardOf S.FileSystem P.ProcessReadDir C.ReadDirState.Clone C.DirEntryState.Default
-            self.now.work (box_value board) }
+    /// Puts the board back, under the same hold of the lock: the guard witnesses that, and is not read. Nothing was
+    /// handed out.
+    fn put_back(
+        &self,
+        _held: &MutexGuard<'_, Sleepers>,
+        board: SharedBoard<C, S, P, A>,
+        loan: Loan<Work<C, S, P, A>>,
+    )
+        requires board { IsBoardOf S.FileSystem P.ProcessReadDir C.ReadDirState.Clone C.DirEntryState.Default
+            (tag_of self.now.work) (box_value board) }
+        requires mark { (box_value board).frontier ≡ loan_mark loan }
+        requires owed { IsOwed loan self.now.work }
     {
-        let work = Some(Work::new(board));
-        let (found, claim) = self.work.turn(FREE, TAKEN);
-        if found == FREE {
-            let _old = claim.put(work, FREE);
-        } else {
-            claim.done();
-        }
+        self.work.put_back(Work::new(board), loan);
     }
 
     /// Hands in what a worker read.
     pub(crate) fn hand_in(&self, held: &MutexGuard<'_, Sleepers>, read: HandIn<C, S, P, A>)
         requires { IsMadeAt S.FileSystem P.ProcessReadDir C.ReadDirState.Clone C.DirEntryState.Default
-            self.now.work (indices_of read.address) read.message read.children.items }
+            (tag_of self.now.work) (indices_of read.address) read.message read.children.items }
     {
-        let Some(mut board) = self.take_out(held) else {
+        let Some((mut board, loan)) = self.take_out(held) else {
             return;
         };
         let _refused = read.finish(&mut *board);
-        self.put_back(held, board);
+        self.put_back(held, board, loan);
     }
 
     /// A worker's turn at the board: what it does next, and whom that calls.
@@ -146,51 +157,57 @@ impl<
         held: &MutexGuard<'_, Sleepers>,
     ) -> (Turn<ReadDirSpec<C, A>, A>, Calls)
         ensures { IsTurnOf S.FileSystem P.ProcessReadDir C.ReadDirState.Clone C.DirEntryState.Default
-            self.now.work result.0 }
+            (tag_of self.now.work) result.0 }
     {
-        let Some(mut board) = self.take_out(held) else {
+        let Some((mut board, loan)) = self.take_out(held) else {
             return (Turn::End, Calls::all());
         };
         let turn = take_turn(&mut *board);
         let calls = Calls::after_turn(&*board, &turn);
-        self.put_back(held, board);
+        self.put_back(held, board, loan);
         (turn, calls)
     }
 
-    /// Asks the board for the reading that is wanted.
+    /// Asks the board for the reading that is wanted, by the walk's key. Where the board is out, it isn't ready yet.
     pub(crate) fn arrival(
         &self,
-        held: &MutexGuard<'_, Sleepers>,
+        _held: &MutexGuard<'_, Sleepers>,
+        key: &mut Key<Work<C, S, P, A>>,
         wanted: &Wanted<A>,
     ) -> Arrival<C, S, P, A>
-        ensures { IsArrivalOf S.FileSystem P.ProcessReadDir C.ReadDirState.Clone C.DirEntryState.Default
-            self.now.work wanted.now result }
+        requires opens { Opens key.old self.now.work }
+        requires home { is_out key.old ≡ false }
+        ensures opens { Opens key.new self.now.work }
+        ensures home { is_out key.new ≡ false }
+        ensures arrival { IsArrivalOf S.FileSystem P.ProcessReadDir C.ReadDirState.Clone C.DirEntryState.Default
+            (tag_of self.now.work) (key_mark key.old) wanted.now result (key_mark key.new) }
     {
-        let Some(mut board) = self.take_out(held) else {
-            return Arrival::Lost;
+        let Some(work) = self.work.take_with(key) else {
+            return Arrival::Wait;
         };
+        let mut board = work.into_board();
         let arrival = arrive(&mut *board, wanted);
-        self.put_back(held, board);
+        self.work.put_back_with(Work::new(board), key);
         arrival
     }
 
     /// How many readings are ready.
     pub(crate) fn ready(&self, held: &MutexGuard<'_, Sleepers>) -> usize {
-        let Some(board) = self.take_out(held) else {
+        let Some((board, loan)) = self.take_out(held) else {
             return 0;
         };
         let ready = board.ready();
-        self.put_back(held, board);
+        self.put_back(held, board, loan);
         ready
     }
 
     /// Stops the board.
     fn stop_board(&self, held: &MutexGuard<'_, Sleepers>) {
-        let Some(mut board) = self.take_out(held) else {
+        let Some((mut board, loan)) = self.take_out(held) else {
             return;
         };
         board.stop();
-        self.put_back(held, board);
+        self.put_back(held, board, loan);
     }
 
     /// Calls those who sleep.

@@ -3,12 +3,12 @@ ghost use Rattle.std.specs.Prelude.{◌≡◌};
 
 use crate::message::Message;
 use crate::origin::Origin;
-use counted_slot::Fits;
-use exclusive::Exclusive;
 use jwalk_board::board::Board;
+use jwalk_order::ordered_queue::OrderedMatcher;
 use jwalk_read::client_state::ClientState;
 use jwalk_read::process_read_dir::ProcessReadDir;
 use jwalk_read::read_dir_spec::ReadDirSpec;
+use keyed_slot::marked::Marked;
 use std::alloc::Allocator;
 use walk_fs::file_system::FileSystem;
 
@@ -16,14 +16,14 @@ use walk_fs::file_system::FileSystem;
 pub(crate) type SharedBoard<C, S, P, A> = Box<Board<ReadDirSpec<C, A>, Message<C, S, P, A>, A>, A>;
 
 /// The board of a walk while nobody works on it: all that is queued on it, and all that is ready, comes from where the
-/// walk began.
+/// walk began. Its mark is the addresses that it has still to hand out.
 pub(crate) struct Work<
     C: ClientState,
     S: FileSystem,
     P: ProcessReadDir<C, A>,
     A: Allocator + Copy,
 > {
-    board: Exclusive<SharedBoard<C, S, P, A>>,
+    board: SharedBoard<C, S, P, A>,
 }
 
 impl<C: ClientState, S: FileSystem, P: ProcessReadDir<C, A>, A: Allocator + Copy> Drop
@@ -33,15 +33,19 @@ impl<C: ClientState, S: FileSystem, P: ProcessReadDir<C, A>, A: Allocator + Copy
     }
 }
 
-impl<C: ClientState, S: FileSystem, P: ProcessReadDir<C, A>, A: Allocator + Copy> Fits
+impl<C: ClientState, S: FileSystem, P: ProcessReadDir<C, A>, A: Allocator + Copy> Marked
     for Work<C, S, P, A> {
     type Tag = Origin<C, S, P, A>;
+
+    type Mark = OrderedMatcher<A>;
 
     ghost use Rattle.std.specs.Prelude.{box_value};
     ghost use Rattle.jwalk_crew.specs.Origin.{IsBoardOf};
 
     ghost fits = { λ origin work. IsBoardOf S.FileSystem P.ProcessReadDir C.ReadDirState.Clone C.DirEntryState.Default
         origin (box_value work.board) };
+
+    ghost mark = { λ work. (box_value work.board).frontier };
 }
 
 impl<C: ClientState, S: FileSystem, P: ProcessReadDir<C, A>, A: Allocator + Copy> Work<C, S, P, A> {
@@ -49,9 +53,7 @@ impl<C: ClientState, S: FileSystem, P: ProcessReadDir<C, A>, A: Allocator + Copy
     pub(crate) fn new(board: SharedBoard<C, S, P, A>) -> Self
         ensures { result.board ≡ board }
     {
-        Work {
-            board: Exclusive::new(board),
-        }
+        Work { board }
     }
 
     /// The board, to be worked on.
@@ -59,6 +61,6 @@ impl<C: ClientState, S: FileSystem, P: ProcessReadDir<C, A>, A: Allocator + Copy
         ensures { result ≡ self.board }
     {
         let Work { board } = self;
-        board.into_inner()
+        board
     }
 }

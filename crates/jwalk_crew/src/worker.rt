@@ -1,6 +1,7 @@
 //! The threads that read for a walk.
 ghost use Rattle.std.specs.Prelude.{◌≤◌, IfSome};
 ghost use Rattle.std.specs.Arc.{arc_value};
+ghost use Rattle.keyed_slot.specs.Keyed.{tag_of};
 ghost use Rattle.jwalk_order.specs.IndexPath.{address as indices_of};
 ghost use Rattle.jwalk_order.specs.Ordered.{address_of};
 ghost use Rattle.jwalk_read.specs.Job.{callback};
@@ -57,10 +58,10 @@ impl<
     /// or stopped.
     fn next(&self, read: Option<HandIn<C, S, P, A>>) -> Option<Ordered<ReadDirSpec<C, A>, A>>
         requires { IfSome read (λ h. IsMadeAt S.FileSystem P.ProcessReadDir C.ReadDirState.Clone
-            C.DirEntryState.Default (arc_value self.now.shared).work (indices_of h.address) h.message
+            C.DirEntryState.Default (tag_of (arc_value self.now.shared).work) (indices_of h.address) h.message
             h.children.items) }
         ensures { IfSome result (λ item. IsAt S.FileSystem P.ProcessReadDir C.ReadDirState.Clone
-            C.DirEntryState.Default (arc_value self.now.shared).work (address_of item) (spec item.value)) }
+            C.DirEntryState.Default (tag_of (arc_value self.now.shared).work) (address_of item) (spec item.value)) }
     {
         let rt = &self.shared.crew.rt;
         let mut sleepers = self.shared.sleepers.lock(rt);
@@ -100,9 +101,9 @@ impl<
     fn read(&self, item: Ordered<ReadDirSpec<C, A>, A>) -> Option<HandIn<C, S, P, A>>
         requires lawful { P.IsLawful (callback (arc_value (arc_value self.now.shared).job)) }
         requires at { IsAt S.FileSystem P.ProcessReadDir C.ReadDirState.Clone C.DirEntryState.Default
-            (arc_value self.now.shared).work (address_of item) (spec item.value) }
+            (tag_of (arc_value self.now.shared).work) (address_of item) (spec item.value) }
         ensures { IfSome result (λ h. IsMadeAt S.FileSystem P.ProcessReadDir C.ReadDirState.Clone
-            C.DirEntryState.Default (arc_value self.now.shared).work (indices_of h.address) h.message
+            C.DirEntryState.Default (tag_of (arc_value self.now.shared).work) (indices_of h.address) h.message
             h.children.items) }
     {
         let Ordered {

@@ -4,7 +4,7 @@ ghost use Rattle.jwalk.specs.walk_model.Walk.{whole_walk};
 ghost use Rattle.jwalk.specs.jwalk_read.Given.{counted_list};
 ghost use Rattle.jwalk.specs.jwalk_read.Job.{IsSteady};
 ghost use Rattle.jwalk.specs.WalkDir.{file_system_of, callback_of, root_of, state_of, job_for};
-ghost use Rattle.jwalk.specs.DirEntryIter.{NoneEnds};
+ghost use Rattle.jwalk.specs.DirEntryIter.{NoneRefused};
 
 use jwalk::error::Result as Answer;
 use jwalk::file_system::FileSystem;
@@ -18,8 +18,8 @@ use std::time::Clock;
 
 /// All that a walk answers which a crew may be told to read for, with its states as they count. Over a file system that
 /// always answers the same, where the callback makes what is given, and where clones and defaults of states count so,
-/// it is the whole walk of the definition, however the workers take turns, unless one of the answers tells why the walk
-/// ends early.
+/// it is the whole walk of the definition, however the workers take turns, unless one of the answers tells of want of
+/// memory.
 ///
 /// # Errors
 ///
@@ -40,7 +40,7 @@ where
     requires { P.IsLawful (callback_of walk) }
     ensures { IfOk result (λ found. (given : _) → IsSteady S.FileSystem P.ProcessReadDir
         C.ReadDirState.Clone C.DirEntryState.Default (file_system_of walk) (callback_of walk) given
-        → NoneEnds true found.items → counted_list given found.items
+        → NoneRefused found.items → counted_list given found.items
         ≡ whole_walk (job_for S.FileSystem given walk) (root_of walk) (given.read_dir_state (state_of walk))) }
 {
     let mut found = Vec::new(alloc);

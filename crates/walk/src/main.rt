@@ -3,19 +3,11 @@
 //! the tree that the lines on standard input say.
 #![tactic(auto)]
 
-mod answers;
-mod asked_walk;
-mod run;
-mod source;
-#[cfg(test)]
-mod tests;
-mod walk_printed;
-
-use crate::run::run;
 use jwalk::file_system::RealFs;
 use std::io::ErrorKind;
 use std::process::ExitCode;
 use std::{env, io};
+use walk_run::run::run;
 use walk_text::failure::Failure;
 
 /// The words behind the program's name. Words that aren't text are bad ones.

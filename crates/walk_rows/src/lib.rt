@@ -1,4 +1,4 @@
-//! Walks and their answers in one table, each read in every way.
+//! Walks and their answers in one table, each read in every way, and runs of the program.
 #![tactic(auto)]
 
 #[cfg(test)]
@@ -13,6 +13,8 @@ mod links;
 mod options;
 #[cfg(test)]
 mod parts;
+#[cfg(test)]
+mod program;
 #[cfg(test)]
 mod roots;
 #[cfg(test)]

@@ -4,7 +4,7 @@ ghost use Rattle.jwalk_read.specs.Error.{failure};
 ghost use Rattle.jwalk_read.specs.ReadDir.{spec};
 ghost use Rattle.jwalk_read.specs.Job.{callback};
 ghost use Rattle.jwalk_crew.specs.Origin.{CountAlike};
-ghost use Rattle.jwalk_crew.specs.Session.{origin_of};
+ghost use Rattle.jwalk_crew.specs.Session.{origin_of, awaited_by};
 ghost use Rattle.jwalk.specs.CrewReads.{job_of, to_read, BeginsBy};
 ghost use Rattle.jwalk.specs.CrewStart.{start_failure};
 
@@ -61,7 +61,8 @@ where
         requires alike { CountAlike C.ReadDirState.Clone (map spec shared.items) (map spec own.items) }
         ensures job { job_of self.new ≡ job_of self.old }
         ensures to_read { OnOk result (to_read self.new ≡ map spec own.items) }
-        ensures begins { OnOk result (BeginsBy (λ session origin. origin_of session ≡ origin) self.new) }
+        ensures begins { OnOk result (BeginsBy (λ session origin addresses.
+            (origin_of session ≡ origin) × (awaited_by session ≡ addresses)) self.new) }
         ensures unchanged { OnErr result (self.new ≡ self.old) }
     {
         let matcher = OrderedMatcher::with_roots(*own.allocator(), own.len())?;

@@ -27,9 +27,9 @@ where
     C::ReadDirState: Send,
     C::DirEntryState: Send,
 {
-    ghost use Rattle.jwalk.specs.CrewReads.{failure_of};
+    ghost use Rattle.jwalk.specs.CrewReads.{failure_of, NotLost};
     ghost use Rattle.jwalk.specs.ReadDirIter.{Tells};
-    ghost use Rattle.jwalk.specs.DirEntryIter.{by_crew, job_of, items_of, unread_of, width_of, next_address, Known, KnownAt, StaysSteady, EntersIfAny, GrowsAhead, Answers, Fills};
+    ghost use Rattle.jwalk.specs.DirEntryIter.{by_crew, job_of, items_of, unread_of, width_of, next_address, Known, KnownAt, IsSteadyWalk, ReadsStaySteady, EntersIfAny, GrowsAhead, Answers, Fills};
     ghost use Rattle.jwalk.specs.Step.{IsAtDirectory, PassesNext, ReadsUpTo, StopsAtDirectory};
 
     /// The next item, passed on.
@@ -40,8 +40,8 @@ where
         ensures refused { self.new.refused ≡ self.old.refused }
         ensures end { IfOk result (λ o. IfNone o
             ((items_of self.old ≡ []) × (items_of self.new ≡ []) × (unread_of self.new ≡ unread_of self.old))) }
-        ensures steady { StaysSteady S.FileSystem P.ProcessReadDir C.ReadDirState.Clone C.DirEntryState.Default L.Pool
-            self.old self.new }
+        ensures steady { ReadsStaySteady S.FileSystem P.ProcessReadDir C.ReadDirState.Clone C.DirEntryState.Default
+            L.Pool self.old self.new }
         ensures passed { IfOk result (λ o. IfSome o (λ passed. PassesNext C.ReadDirState.Clone
             (KnownAt S.FileSystem P.ProcessReadDir C.ReadDirState.Clone C.DirEntryState.Default L.Pool self.old
             (next_address self.old))
@@ -51,6 +51,8 @@ where
         ensures ahead { OnOk result (EntersIfAny S.FileSystem P.ProcessReadDir C.ReadDirState.Clone
             C.DirEntryState.Default self.old self.new) }
         ensures tells { IfErr result (λ missed. Tells (by_crew self.old) (failure_of missed)) }
+        ensures comes { IfErr result (NotLost (IsSteadyWalk S.FileSystem P.ProcessReadDir C.ReadDirState.Clone
+            C.DirEntryState.Default L.Pool self.old)) }
         ensures stopped { OnErr result (IsAtDirectory (items_of self.old) (unread_of self.old)) }
     {
         match self.items.pop() {
@@ -75,8 +77,8 @@ where
         ensures crew { by_crew self.new ≡ by_crew self.old }
         ensures job { job_of self.new ≡ job_of self.old }
         ensures refused { self.new.refused ≡ self.old.refused }
-        ensures steady { StaysSteady S.FileSystem P.ProcessReadDir C.ReadDirState.Clone C.DirEntryState.Default L.Pool
-            self.old self.new }
+        ensures steady { ReadsStaySteady S.FileSystem P.ProcessReadDir C.ReadDirState.Clone C.DirEntryState.Default
+            L.Pool self.old self.new }
         ensures reads { IfOk result (λ answer. ReadsUpTo C.ReadDirState.Clone
             (Known S.FileSystem P.ProcessReadDir C.ReadDirState.Clone C.DirEntryState.Default L.Pool self.old)
             (job_of self.old) (items_of self.old) (unread_of self.old)
@@ -85,6 +87,8 @@ where
         ensures ahead { OnOk result (GrowsAhead S.FileSystem P.ProcessReadDir C.ReadDirState.Clone
             C.DirEntryState.Default L.Pool self.old self.new) }
         ensures tells { IfErr result (λ missed. Tells (by_crew self.old) (failure_of missed)) }
+        ensures comes { IfErr result (NotLost (IsSteadyWalk S.FileSystem P.ProcessReadDir C.ReadDirState.Clone
+            C.DirEntryState.Default L.Pool self.old)) }
         ensures stopped { OnErr result (StopsAtDirectory C.ReadDirState.Clone
             (Known S.FileSystem P.ProcessReadDir C.ReadDirState.Clone C.DirEntryState.Default L.Pool self.old)
             (job_of self.old) (items_of self.old) (unread_of self.old)) }

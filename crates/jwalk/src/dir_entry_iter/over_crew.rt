@@ -6,7 +6,7 @@ ghost use Rattle.walk_model.specs.ReadDir.{children, AreClones};
 ghost use Rattle.jwalk_read.specs.Entry.{item};
 ghost use Rattle.jwalk_read.specs.ReadDir.{reading};
 ghost use Rattle.jwalk_read.specs.Job.{callback};
-ghost use Rattle.jwalk_crew.specs.Session.{origin_of};
+ghost use Rattle.jwalk_crew.specs.Session.{origin_of, awaited_by};
 ghost use Rattle.jwalk.specs.CrewReads as reads_by;
 ghost use Rattle.jwalk.specs.CrewStart.{busied, left_of, is_refusal};
 ghost use Rattle.jwalk.specs.DirEntryIter.{by_crew, job_of, items_of, StartsSteady};
@@ -101,7 +101,8 @@ where
     ensures job { reads_by.job_of reads.new ≡ reads_by.job_of reads.old }
     ensures to_read { OnOk result (AreClones C.ReadDirState.is_clone
         (children (reading read.now)) (reads_by.to_read reads.new)) }
-    ensures begins { OnOk result (reads_by.BeginsBy (λ session origin. origin_of session ≡ origin) reads.new) }
+    ensures begins { OnOk result (reads_by.BeginsBy (λ session origin addresses.
+        (origin_of session ≡ origin) × (awaited_by session ≡ addresses)) reads.new) }
     ensures unchanged { OnErr result (reads.new ≡ reads.old) }
 {
     let own = read.read_children_specs()?;

@@ -1,5 +1,5 @@
 //! Readings in preorder, where threads make those that are made together.
-ghost use Rattle.std.specs.Prelude.{◌≡◌, ◌≢◌, ◌≤◌, ◌+◌, Ok, [], length, IfOk, IfErr, OnErr, IsSome, option_map};
+ghost use Rattle.std.specs.Prelude.{◌≡◌, ◌≢◌, ◌≤◌, ◌+◌, false, Ok, [], length, IfOk, IfErr, OnErr, IsSome, option_map};
 ghost use Rattle.jwalk_read.specs.Entry.{entry};
 ghost use Rattle.jwalk_read.specs.ReadDir.{outcome};
 ghost use Rattle.jwalk_read.specs.Job.{callback};
@@ -32,8 +32,8 @@ where
     ghost use Rattle.jwalk_read.specs.Job.{greatest_depth};
     ghost use Rattle.jwalk_engine.specs.Reads.{ReadsNextBy};
     ghost use Rattle.jwalk_engine.specs.ReadAhead.{nothing_ahead};
-    ghost use Rattle.jwalk.specs.CrewReads.{failure_of};
-    ghost use Rattle.jwalk.specs.ReadDirIter.{by_crew, job_of, to_read, width_of, read_ahead, early_of, next_address, Tells, StaysSteady, Known, KnownOf, EntersNextBy, GivesFirst, Gives};
+    ghost use Rattle.jwalk.specs.CrewReads.{failure_of, IsNextBelow, NotLost};
+    ghost use Rattle.jwalk.specs.ReadDirIter.{by_crew, job_of, to_read, width_of, read_ahead, early_of, next_address, Tells, IsSteadyReads, StaysSteady, Known, KnownOf, EntersNextBy, GivesFirst, Gives};
 
     /// The next reading.
     pub(crate) fn read_next_on(&mut self) -> Result<Option<Outcome<C, A>>, Missed>
@@ -54,6 +54,8 @@ where
         ensures enters { IfOk result (λ o. EntersNextBy S.FileSystem P.ProcessReadDir C.ReadDirState.Clone
             C.DirEntryState.Default (by_crew self.old) (job_of self.old) (width_of self.old)
             (next_address self.old) (read_ahead self.old) (option_map outcome o) (read_ahead self.new)) }
+        ensures comes { IfErr result (NotLost (IsSteadyReads S.FileSystem P.ProcessReadDir C.ReadDirState.Clone
+            C.DirEntryState.Default L.Pool self.old)) }
     {
         match self {
             ReadDirIter::Walk(walk) => Ok(walk.read_next()?),
@@ -66,7 +68,7 @@ where
     /// readings that are made together.
     pub fn next(&mut self) -> Option<Outcome<C, A>>
         requires { P.IsLawful (callback (job_of self.old)) }
-        ensures { Gives S.FileSystem P.ProcessReadDir C.ReadDirState.Clone C.DirEntryState.Default L.Pool
+        ensures { Gives S.FileSystem P.ProcessReadDir C.ReadDirState.Clone C.DirEntryState.Default L.Pool false
             self.old result self.new }
     {
         match self.read_next_on() {
@@ -82,6 +84,9 @@ where
         requires lawful { P.IsLawful (callback (job_of self.old)) }
         requires has_directory { IsSome found.now.read_children }
         ensures gives { Gives S.FileSystem P.ProcessReadDir C.ReadDirState.Clone C.DirEntryState.Default L.Pool
+            (by_crew self.old) self.old result self.new }
+        ensures next { IsNextBelow (by_crew self.old) (Ok (entry found.now)) (to_read self.old)
+            → Gives S.FileSystem P.ProcessReadDir C.ReadDirState.Clone C.DirEntryState.Default L.Pool false
             self.old result self.new }
         ensures of { GivesFirst (by_crew self.old) C.ReadDirState.Clone (KnownOf S.FileSystem P.ProcessReadDir
             C.ReadDirState.Clone C.DirEntryState.Default L.Pool self.old (Ok (entry found.now)))

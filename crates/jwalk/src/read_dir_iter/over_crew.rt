@@ -35,7 +35,7 @@ where
     C::ReadDirState: Send + 'static,
     C::DirEntryState: Send + 'static,
 {
-    ghost use Rattle.jwalk_crew.specs.Session.{origin_of};
+    ghost use Rattle.jwalk_crew.specs.Session.{origin_of, awaited_by};
     ghost use Rattle.jwalk.specs.CrewReads.{job_of, to_read, BeginsBy};
 
     /// Readings of these directories, and of those below them, that a crew makes.
@@ -48,7 +48,8 @@ where
         requires { P.IsLawful (callback job) }
         ensures job { IfOk result (λ reads. job_of reads ≡ job) }
         ensures to_read { IfOk result (λ reads. to_read reads ≡ map spec roots.items) }
-        ensures begins { IfOk result (BeginsBy (λ session origin. origin_of session ≡ origin)) }
+        ensures begins { IfOk result (BeginsBy (λ session origin addresses.
+            (origin_of session ≡ origin) × (awaited_by session ≡ addresses))) }
     {
         let shared = roots.clone()?;
         let Ok(mut reads) = CrewReads::new(*roots.allocator(), job) else {

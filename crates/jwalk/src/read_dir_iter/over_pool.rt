@@ -1,5 +1,5 @@
 //! Readings in preorder, as a pool gives them.
-ghost use Rattle.std.specs.Prelude.{◌≡◌, true, map, IfOk, IfErr};
+ghost use Rattle.std.specs.Prelude.{◌≡◌, true, length, map, IfOk, IfErr};
 ghost use Rattle.walk_model.specs.Error.{memory};
 ghost use Rattle.jwalk_read.specs.Error.{failure};
 ghost use Rattle.jwalk_read.specs.ReadDir.{spec};
@@ -23,6 +23,8 @@ impl<
     A: Allocator + Copy,
     L: Pool<C, S, P, A>,
 > ReadDirIter<C, S, P, A, InTurn, L> {
+    ghost use Rattle.jwalk_order.specs.Frontier.{roots as root_addresses};
+    ghost use Rattle.jwalk.specs.CrewReads.{IsMadeFor};
     ghost use Rattle.jwalk.specs.ReadDirIter.{by_crew, job_of, to_read, StartsSteady};
 
     /// The readings of these directories and of all that is below them, as a pool gives them. Only a reading of the
@@ -37,9 +39,9 @@ impl<
         ensures by { IfOk result (λ reads. by_crew reads ≡ true) }
         ensures job { IfOk result (λ reads. job_of reads ≡ job) }
         ensures to_read { IfOk result (λ reads. to_read reads ≡ map spec roots.items) }
-        ensures steady { L.comes_from pool (record { job = job; roots = map spec roots.items })
-            → IfOk result (StartsSteady S.FileSystem P.ProcessReadDir C.ReadDirState.Clone C.DirEntryState.Default
-            L.Pool) }
+        ensures steady { IsMadeFor L.Pool pool (record { job = job; roots = map spec roots.items })
+            (root_addresses (length roots.items)) → IfOk result (StartsSteady S.FileSystem P.ProcessReadDir
+            C.ReadDirState.Clone C.DirEntryState.Default L.Pool) }
         ensures memory { IfErr result (λ error. failure error ≡ memory) }
     {
         match CrewReads::over(job, roots, pool) {

@@ -1,6 +1,7 @@
 use Rattle.std.proofs.Common.{◌∙◌, false, refl, sym, subst}
 use Rattle.jwalk.specs.ReadDirIter.{Tells}
 use Rattle.jwalk.specs.DirEntryIter.{by_crew}
+use Rattle.jwalk.proofs.KnownFacts.{told_refused}
 use Rattle.jwalk.proofs.AnswerFacts.{answers_refusal, answers_reads, answers_stopped}
 use Rattle.jwalk.proofs.dir_entry_iter.DirEntryIter.next_answer.Goals as goal
 
@@ -17,4 +18,4 @@ returns-in-Ok g c =
 pub returns-in-Err : goal.returns-in-Err
 returns-in-Err g c =
     let began = c.if-self.false in
-    answers_stopped g.S.FileSystem g.P.ProcessReadDir g.C.ReadDirState.Clone g.C.DirEntryState.Default g.L.Pool c.args.self.now c.stop.new.self c.error_of.result (subst (Tells (by_crew c.args.self.now)) (sym c.error_of.ensures) c.in-Err.ensures.tells) began (c.stop.ensures.refused ∙ c.next_kept.ensures.refused ∙ began) (c.stop.ensures.crew ∙ c.next_kept.ensures.crew) (c.stop.ensures.job ∙ c.next_kept.ensures.job) c.stop.ensures.items c.stop.ensures.unread c.in-Err.ensures.stopped (c.stop.ensures.width ∙ c.next_kept.ensures.width) (λ given steady. c.stop.ensures.steady given (c.next_kept.ensures.steady given steady)) c.stop.ensures.read_ahead
+    answers_stopped g.S.FileSystem g.P.ProcessReadDir g.C.ReadDirState.Clone g.C.DirEntryState.Default g.L.Pool c.args.self.now c.stop.new.self c.error_of.result (subst (Tells (by_crew c.args.self.now)) (sym c.error_of.ensures) c.in-Err.ensures.tells) (told_refused _ c.in-Err.missed _ c.error_of.ensures c.in-Err.ensures.comes) began (c.stop.ensures.refused ∙ c.next_kept.ensures.refused ∙ began) (c.stop.ensures.crew ∙ c.next_kept.ensures.crew) (c.stop.ensures.job ∙ c.next_kept.ensures.job) c.stop.ensures.items c.stop.ensures.unread c.in-Err.ensures.stopped (c.stop.ensures.width ∙ c.next_kept.ensures.width) (λ given steady. c.stop.ensures.steady given (c.next_kept.ensures.steady given steady)) c.stop.ensures.read_ahead

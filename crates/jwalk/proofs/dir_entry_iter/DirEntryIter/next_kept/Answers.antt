@@ -1,6 +1,6 @@
 use Rattle.std.proofs.Common.{◌∙◌}
-use Rattle.jwalk.proofs.StepFacts.{none_passed_over, one_passed_over, one_answered, grows_to_answer, grows_to_end, passes_lighter}
-use Rattle.jwalk.proofs.ResultFacts.{none_ok, none_on_ok}
+use Rattle.jwalk.proofs.StepFacts.{none_passed_over, over_steady, one_passed_over, one_answered, grows_to_answer, grows_to_end, passes_lighter}
+use Rattle.jwalk.proofs.ResultFacts.{none_ok, none_on_ok, fewer_not_lost, passed_not_lost}
 use Rattle.jwalk.proofs.dir_entry_iter.DirEntryIter.next_kept.Goals as goal
 
 pub loop-passed-init : goal.loop-passed-init
@@ -83,3 +83,8 @@ returns-in_err-passed-clause-reads g c = none_ok _ c.from_residual.result c.from
 
 pub returns-in_err-passed-clause-ahead : goal.returns-in_err-passed-clause-ahead
 returns-in_err-passed-clause-ahead g c = none_on_ok _ c.from_residual.result c.from_residual.ensures.0
+
+pub returns-in_err-passed-clause-comes : goal.returns-in_err-passed-clause-comes
+returns-in_err-passed-clause-comes g c =
+    passed_not_lost _ c.in_err-passed.field-0.0 c.from_residual.result c.from_residual.ensures.1
+    (fewer_not_lost _ _ c.in_err-passed.field-0.0 (λ given steady. over_steady g.S.FileSystem g.P.ProcessReadDir g.C.ReadDirState.Clone g.C.DirEntryState.Default g.L.Pool c.args.self.now c.loop-passed.self c.loop-passed.invariant given steady) c.in_err-passed.ensures.comes)

@@ -3,7 +3,7 @@ use Rattle.jwalk_read.specs.ReadDir.{outcome}
 use Rattle.jwalk.specs.CrewReads as crew
 use Rattle.jwalk.proofs.KnownFacts.{tells_refusal}
 use Rattle.jwalk.proofs.GivesFacts.{fewer_done}
-use Rattle.jwalk.proofs.ResultFacts.{none_ok, on_err, tells_missed, enters_by_crew}
+use Rattle.jwalk.proofs.ResultFacts.{none_ok, refused_not_lost, on_err, tells_missed, enters_by_crew}
 use Rattle.jwalk.proofs.read_dir_iter.ReadDirIter.read_next.Goals as goal
 
 pub returns-in_err-read_next-in-Walk : goal.returns-in_err-read_next-in-Walk
@@ -25,6 +25,7 @@ returns-in_err-read_next-in-Walk g c =
       steady = read.ensures.steady;
       next = none_ok _ told.result told.ensures.0;
       enters = none_ok _ told.result told.ensures.0;
+      comes = refused_not_lost _ told.result told.ensures.1;
     })
 
 pub returns-in_ok-read_next-in-Walk : goal.returns-in_ok-read_next-in-Walk
@@ -45,6 +46,7 @@ returns-in_ok-read_next-in-Walk g c =
       steady = read.ensures.steady;
       next = came.next;
       enters = came.enters;
+      comes = tt;
     })
 
 pub returns-in_err-read_next-in-ParWalk : goal.returns-in_err-read_next-in-ParWalk
@@ -66,6 +68,7 @@ returns-in_err-read_next-in-ParWalk g c =
       steady = read.ensures.steady;
       next = none_ok _ told.result told.ensures.0;
       enters = none_ok _ told.result told.ensures.0;
+      comes = refused_not_lost _ told.result told.ensures.1;
     })
 
 pub returns-in_ok-read_next-in-ParWalk : goal.returns-in_ok-read_next-in-ParWalk
@@ -86,6 +89,7 @@ returns-in_ok-read_next-in-ParWalk g c =
       steady = read.ensures.steady;
       next = came.next;
       enters = came.enters;
+      comes = tt;
     })
 
 pub returns-in-CrewWalk : goal.returns-in-CrewWalk
@@ -105,4 +109,5 @@ returns-in-CrewWalk g c =
       steady = read.ensures.steady;
       next = read.ensures.next;
       enters = enters_by_crew g.S.FileSystem g.P.ProcessReadDir g.C.ReadDirState.Clone g.C.DirEntryState.Default (crew.job_of reads) (crew.next_address reads) outcome read.result;
+      comes = read.ensures.comes;
     })

@@ -1,8 +1,22 @@
-use Rattle.jwalk_crew.proofs.SharedFacts.{same_of, arrived_of}
+use Rattle.std.proofs.Common.{◌∙◌, sym, ap, subst, box_value}
+use Rattle.keyed_slot.specs.Keyed.{tag_of, key_mark}
+use Rattle.jwalk_crew.specs.Shared.{IsArrivalOf}
+use Rattle.jwalk_crew.proofs.SharedFacts.{same_of, arrived_board, arrived_of}
 use Rattle.jwalk_crew.proofs.shared.Shared.arrival.Goals as goal
 
-pub put_back-requires : goal.put_back-requires
-put_back-requires g c = (arrived_of _ _ _ _ _ _ _ (same_of _ _ _ _ _ _ _ c.in-Some.ensures c.deref_mut.ensures.value) _ _ c.arrive-arrival.ensures).1
+pub put_back_with-requires-clause-fits : goal.put_back_with-requires-clause-fits
+put_back_with-requires-clause-fits g c =
+    let own = same_of _ _ _ _ _ _ _ c.in-Some.ensures.fits (c.deref_mut.ensures.value ∙ ap box_value c.into_board-board.ensures) in
+    same_of _ _ _ _ _ _ _ (arrived_board _ _ _ _ _ _ _ own _ _ c.arrive-arrival.ensures) (ap box_value c.new.ensures)
 
-pub returns : goal.returns
-returns g c = (arrived_of _ _ _ _ _ _ _ (same_of _ _ _ _ _ _ _ c.in-Some.ensures c.deref_mut.ensures.value) _ _ c.arrive-arrival.ensures).0
+pub returns-clause-arrival : goal.returns-clause-arrival
+returns-clause-arrival g c =
+    let is = c.deref_mut.ensures.value ∙ ap box_value c.into_board-board.ensures in
+    let before = ap (λ b. b.frontier) is ∙ c.in-Some.ensures.mark in
+    let back = ap box_value c.new.ensures in
+    let after = sym (c.put_back_with.ensures.mark ∙ ap (λ b. b.frontier) back) in
+    let Arrived = IsArrivalOf g.S.FileSystem g.P.ProcessReadDir g.C.ReadDirState.Clone g.C.DirEntryState.Default (tag_of c.args.self.now.work) in
+    let own = same_of _ _ _ _ _ _ _ c.in-Some.ensures.fits is in
+    subst (λ m. Arrived m c.args.wanted.now c.arrive-arrival.result (key_mark c.put_back_with.new.key)) before
+    (subst (λ m. Arrived c.deref_mut.result.now.frontier c.args.wanted.now c.arrive-arrival.result m) after
+    (arrived_of _ _ _ _ _ _ _ own _ _ c.arrive-arrival.ensures))

@@ -2,7 +2,7 @@ use Rattle.std.proofs.Common.{◌≡◌, ◌∙◌, map, reverse, length, refl, 
 use Rattle.std.proofs.lemmas.List.{reverse-reverse, length-map}
 use Rattle.jwalk_order.specs.Frontier.{roots}
 use Rattle.jwalk_read.specs.ReadDir.{spec}
-use Rattle.jwalk.proofs.CrewSteadyFacts.{origin_same}
+use Rattle.jwalk.proofs.CrewSteadyFacts.{origin_same, alike_length}
 use Rattle.jwalk.proofs.ResultFacts.{none_on_ok, on_err}
 use Rattle.jwalk.proofs.crew_reads.started.CrewReads+C+S+P+A+Session+R+C+S+P+A.start.Goals as goal
 
@@ -31,7 +31,7 @@ returns-clause-begins g c =
     = ap (map spec) (ap reverse c.reverse.ensures.items ∙ reverse-reverse c.into_roots-own.result.items) ∙ c.into_roots-own.ensures ∙ ap (λ o. o.roots) c.new-origin.ensures in
     record {
       addresses = c.in_ok-matcher.ensures ∙ ap roots (c.len.ensures ∙ c.args.own.ok.0 ∙ sym (length-map own spec) ∙ ap length (sym same));
-      pool = c.in_ok-start.ensures ∙ c.new-origin.ensures ∙ origin_same _ _ _ _ c.in_ok-job.ensures.cases (sym same);
+      pool = (c.in_ok-start.ensures.origin ∙ c.new-origin.ensures ∙ origin_same _ _ _ _ c.in_ok-job.ensures.cases (sym same), c.in_ok-start.ensures.awaits ∙ ap roots (sym (length-map c.args.shared.items spec) ∙ alike_length g.C.ReadDirState.Clone (map spec c.args.shared.items) (map spec own) c.requires.alike ∙ length-map own spec ∙ sym c.args.own.ok.0 ∙ sym c.len.ensures) ∙ sym c.in_ok-matcher.ensures);
     }
 
 pub returns-clause-unchanged : goal.returns-clause-unchanged

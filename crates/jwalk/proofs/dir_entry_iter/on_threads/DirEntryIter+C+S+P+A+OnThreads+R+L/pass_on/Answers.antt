@@ -12,7 +12,8 @@ use Rattle.jwalk.proofs.ListFacts.{is_some-map}
 use Rattle.jwalk.proofs.ReceivedFacts.{popped}
 use Rattle.jwalk.proofs.AheadFacts.{nothing_at, alone_at, at_read, entered_if_any}
 use Rattle.jwalk.proofs.KnownFacts.{tells_refusal, known_of}
-use Rattle.jwalk.proofs.ResultFacts.{none_ok, none_on_ok, on_err}
+use Rattle.jwalk.proofs.ResultFacts.{none_ok, none_on_ok, on_err, refused_not_lost, fewer_not_lost, passed_not_lost}
+use Rattle.jwalk.proofs.PlacedFacts.{placed_next}
 use Rattle.jwalk.proofs.StepFacts.{next_alone, next_received}
 use Rattle.jwalk.proofs.dir_entry_iter.on_threads.DirEntryIter+C+S+P+A+OnThreads+R+L.pass_on.Goals as goal
 
@@ -30,6 +31,7 @@ returns-in-Some-Err g c =
       width = refl;
       ahead = inr (alone_at (items_of old) (map item (reverse c.pop.new.self.items)) (Err (failure c.in-Some-Err.error)) (unread_of old) items refl, refl);
       tells = tt;
+      comes = tt;
       stopped = tt;
     }
 
@@ -47,6 +49,7 @@ returns-then-is_none g c =
       width = refl;
       ahead = inr (alone_at (items_of old) (map item (reverse c.pop.new.self.items)) (Ok (entry c.in-Some-Ok.found)) (unread_of old) items (is_some-map children c.in-Some-Ok.found.read_children ∙ c.if-is_none.ensures), refl);
       tells = tt;
+      comes = tt;
       stopped = tt;
     }
 
@@ -70,6 +73,7 @@ returns-in_ok-entered-in-Some-Ok g c =
       ahead = entered_if_any g.S.FileSystem g.P.ProcessReadDir g.C.ReadDirState.Clone g.C.DirEntryState.Default g.L.Pool old c.entered.new.self (Ok (entry c.in-Some-Ok.found)) (map item (reverse c.pop.new.self.items)) (option_map outcome c.in_ok-read-in-Some-Ok.read) (to_read read.new.self) (readings.read_ahead read.new.self)
           items (is_some-map children c.in-Some-Ok.found.read_children ∙ c.if-is_none.ensures) next c.in_ok-read-in-Some-Ok.ensures.enters (ap readings.read_ahead entered.reads);
       tells = tt;
+      comes = tt;
       stopped = tt;
     }
 
@@ -90,6 +94,7 @@ returns-in_err-entered-in-Some-Ok g c =
       width = ap readings.width_of entered.reads ∙ read.ensures.width;
       ahead = none_on_ok _ told.result told.ensures.0;
       tells = tells_refusal (by_crew old) told.result told.ensures.1;
+      comes = refused_not_lost _ told.result told.ensures.1;
       stopped = at_read g.C.ReadDirState.Clone (readings.Known g.S.FileSystem g.P.ProcessReadDir g.C.ReadDirState.Clone g.C.DirEntryState.Default g.L.Pool old.reads) (greatest_depth (job_of old)) outcome c.in_ok-read-in-Some-Ok.read told.result
           (items_of old) (map item (reverse c.pop.new.self.items)) (Ok (entry c.in-Some-Ok.found)) (unread_of old) (to_read read.new.self)
           items (is_some-map children c.in-Some-Ok.found.read_children ∙ c.if-is_none.ensures) entered.stopped c.in_ok-read-in-Some-Ok.ensures.next;
@@ -110,6 +115,7 @@ returns-in-None g c =
       width = refl;
       ahead = inr (nothing_at (items_of old) (unread_of old) nothing, refl);
       tells = tt;
+      comes = tt;
       stopped = tt;
     }
 
@@ -127,6 +133,7 @@ returns-then-not-is_next g c =
       width = refl;
       ahead = tt;
       tells = rw (c.if-not-is_next.ensures.own refl) (inr refl);
+      comes = λ given steady. c.if-not-is_next.ensures.other refl (placed_next (by_crew old) (Ok (entry c.in-Some-Ok.found)) (map item (reverse c.pop.new.self.items)) (unread_of old) (is_some-map children c.in-Some-Ok.found.read_children ∙ c.if-is_none.ensures) (rw items at steady.placed));
       stopped = rw items ((is_some-map children c.in-Some-Ok.found.read_children ∙ c.if-is_none.ensures), c.if-not-is_next.ensures.some refl);
     }
 
@@ -146,5 +153,6 @@ returns-in_err-read-in-Some-Ok g c =
       width = read.width;
       ahead = none_on_ok _ told.result told.ensures.0;
       tells = search rules;
+      comes = passed_not_lost _ c.in_err-read-in-Some-Ok.field-0.0 told.result told.ensures.1 (fewer_not_lost _ _ c.in_err-read-in-Some-Ok.field-0.0 (λ given steady. steady.reads) c.in_err-read-in-Some-Ok.ensures.comes);
       stopped = on_err told.result (rw items ((is_some-map children c.in-Some-Ok.found.read_children ∙ c.if-is_none.ensures), c.in_err-read-in-Some-Ok.ensures.some));
     }

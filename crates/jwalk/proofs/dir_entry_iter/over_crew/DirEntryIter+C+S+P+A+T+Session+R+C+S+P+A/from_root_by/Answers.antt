@@ -4,7 +4,7 @@ use Rattle.jwalk_read.specs.Options as options
 use Rattle.jwalk_read.specs.ReadDir.{reading}
 use Rattle.jwalk_read.specs.Job.{options_of}
 use Rattle.jwalk.proofs.CrewStartFacts.{refused_from_root, by_from_root, if_some_map}
-use Rattle.jwalk.proofs.GivesFacts.{steady_at_rest}
+use Rattle.jwalk.proofs.AnswerFacts.{alone_steady}
 use Rattle.jwalk.proofs.dir_entry_iter.over_crew.DirEntryIter+C+S+P+A+T+Session+R+C+S+P+A.from_root_by.Goals as goal
 
 pub returns-in_default-clause-from_root : goal.returns-in_default-clause-from_root
@@ -33,7 +33,7 @@ pub returns-in-Err-clause-by : goal.returns-in-Err-clause-by
 returns-in-Err-clause-by g c = inl refl
 
 pub returns-in_default-clause-steady : goal.returns-in_default-clause-steady
-returns-in_default-clause-steady g c = λ given steady. steady_at_rest g.S.FileSystem g.P.ProcessReadDir g.C.ReadDirState.Clone g.C.DirEntryState.Default _ c.refused.result.reads given c.refused.ensures.own steady c.refused.ensures.early
+returns-in_default-clause-steady g c = λ given steady. alone_steady g.S.FileSystem g.P.ProcessReadDir g.C.ReadDirState.Clone g.C.DirEntryState.Default _ c.refused.result given c.refused.ensures.own steady c.refused.ensures.early
 
 pub returns-in-Err-clause-steady : goal.returns-in-Err-clause-steady
-returns-in-Err-clause-steady g c = λ given steady. steady_at_rest g.S.FileSystem g.P.ProcessReadDir g.C.ReadDirState.Clone g.C.DirEntryState.Default _ c.refused-in-Err.result.reads given c.refused-in-Err.ensures.own steady c.refused-in-Err.ensures.early
+returns-in-Err-clause-steady g c = λ given steady. alone_steady g.S.FileSystem g.P.ProcessReadDir g.C.ReadDirState.Clone g.C.DirEntryState.Default _ c.refused-in-Err.result given c.refused-in-Err.ensures.own steady c.refused-in-Err.ensures.early

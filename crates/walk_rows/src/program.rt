@@ -1,0 +1,8 @@
+//! Runs of the program over texts.
+mod closed;
+mod lines;
+mod links;
+mod runs;
+mod streams;
+mod trees;
+mod words;

@@ -1,0 +1,35 @@
+-- The lines of answers and whether they are entries, whatever their states count as.
+use Rattle.std.proofs.Common.{◌≡◌, ◌++◌, ◌∙◌, ℕ, true, List, [], ◌∷◌, map, Option, Some, None, Result, Ok, Err, is_ok, ap, refl, sym, subst}
+use Rattle.std.specs.List.{list_all}
+use Rattle.std.specs.Io.KnownBytes.{Appends}
+use Rattle.walk_model.specs.Entry.{Item}
+use Rattle.walk_model.specs.Lines.{line_of, lines_of}
+use Rattle.jwalk_read.specs.declared.dir_entry.DirEntry.{DirEntry}
+use Rattle.jwalk_read.specs.declared.error.Error.{Error}
+use Rattle.jwalk_read.specs.Entry.{item}
+use Rattle.jwalk_read.specs.Given.{Given, counted_item}
+use Rattle.walk_run.specs.AskedWalk.{PrintsEntries}
+
+module _ {R E : Type 0} (given : Given R E) where
+  -- a line doesn't tell states
+  same_line : (x : Item R E) → line_of (counted_item given x) ≡ line_of x
+  same_line (Err f) = refl
+  same_line (Ok e) = elim e.read_children as (λ o. line_of (counted_item given (Ok (record e { read_children = o }))) ≡ line_of {R = R} {E = E} (Ok (record e { read_children = o }))) [ None ↦ refl | Some c ↦ refl ]
+
+  pub same_lines : (xs : List (Item R E)) → lines_of (map (counted_item given) xs) ≡ lines_of xs
+  same_lines [] = refl
+  same_lines (x ∷ xs) = ap (λ l. l ++ lines_of (map (counted_item given) xs)) (same_line x) ∙ ap (λ l. line_of x ++ l) (same_lines xs)
+
+  -- answers are entries where their values are
+  pub all_entries : {C A : Type 0} (xs : List (Result (DirEntry C A R E) (Error A))) → list_all is_ok (map (counted_item given) (map item xs)) ≡ list_all is_ok xs
+  all_entries [] = refl
+  all_entries (Ok e ∷ xs) = all_entries xs
+  all_entries (Err f ∷ xs) = refl
+
+  -- lines of answers that are all entries are lines of entries
+  pub prints_entries : {C A : Type 0} (old new : Option (List ℕ)) (xs : List (Result (DirEntry C A R E) (Error A))) → true ≡ list_all is_ok xs → Appends old new (lines_of (map item xs)) → PrintsEntries old new
+  prints_entries old new xs all prints = record {
+    items = map (counted_item given) (map item xs);
+    prints = subst (λ l. Appends old new l) (sym (same_lines (map item xs))) prints;
+    clean = all_entries xs ∙ sym all;
+  }

@@ -1,0 +1,96 @@
+//! The walk that is asked for, over any file system, printed.
+ghost use Rattle.std.specs.Prelude.{◌≡◌, ◌≤◌, string_bytes, IfOk, IfErr, OnErr};
+ghost use Rattle.jwalk.specs.Parallelism.{parallelism_value};
+ghost use Rattle.jwalk.specs.WalkDir.{file_system_of, root_of, options_of};
+ghost use Rattle.walk_text.specs.Asked.{parallelism_by, options_for};
+ghost use Rattle.walk_run.specs.AskedWalk.{PrintsEntries, PrintsOver};
+
+use crate::answers::status_once;
+use crate::walk_printed::print_walked;
+use jwalk::file_system::FileSystem;
+use jwalk::read_dir::NoProcess;
+use jwalk::threads::OnThreads;
+use jwalk::{Crew, Parallelism, WalkDirGeneric};
+use std::alloc::{AllocError, Allocator};
+use std::io::Write;
+use std::sync::{Arc, Wait};
+use std::thread::Threads;
+use std::time::Clock;
+use walk_text::asked::Asked;
+use walk_text::failure::Failure;
+use walk_text::read_by::ReadBy;
+use walk_text::words::Request;
+
+/// What directories are read by. A crew is there for one walk alone.
+fn parallelism_of<T: Wait + Clock + Clone + Drop, A: Allocator + Copy>(
+    rt: &T,
+    alloc: A,
+    by: ReadBy,
+) -> Result<Parallelism<Crew<T>, A>, AllocError>
+    ensures { IfOk result (λ it. parallelism_value it ≡ parallelism_by by) }
+{
+    match by {
+        ReadBy::Batch(width) => Ok(Parallelism::RayonNewPool(width)),
+        ReadBy::Crew(workers) => {
+            let crew = Crew::new(rt.clone()?, 1, workers);
+            Ok(Parallelism::RayonExistingPool {
+                pool: Arc::new(alloc, crew)?,
+                busy_timeout: None,
+            })
+        }
+    }
+}
+
+/// The walk that is asked for. Its options are set one after another: the order, hidden names, links, the least depth, the
+/// greatest, and last what directories are read by, which holds whatever the greatest depth is.
+fn walk_of<'t, T: Wait + Threads + Clock + Clone + Drop, S: FileSystem, A: Allocator + Copy>(
+    rt: &'t T,
+    fs: S,
+    root: String<A>,
+    asked: Asked,
+) -> Result<WalkDirGeneric<((), ()), S, NoProcess, A, OnThreads<&'t T>, Crew<T>>, AllocError>
+    ensures file_system { IfOk result (λ walk. file_system_of walk ≡ fs) }
+    ensures root { IfOk result (λ walk. root_of walk ≡ string_bytes root) }
+    ensures options { IfOk result (λ walk. options_of walk ≡ options_for asked) }
+{
+    let alloc = *root.allocator();
+    let mut walk = WalkDirGeneric::with_crew(fs, root)
+        .threads(rt)
+        .sort(asked.sort)
+        .skip_hidden(!asked.hidden)
+        .follow_links(asked.follow);
+    if let Some(least) = asked.min {
+        walk = walk.min_depth(least);
+    }
+    if let Some(greatest) = asked.max {
+        walk = walk.max_depth(greatest);
+    }
+    if let Some(by) = asked.read_by {
+        walk = walk.parallelism(parallelism_of(rt, alloc, by)?);
+    }
+    Ok(walk)
+}
+
+/// Walks over a file system as is asked for, prints one line for each answer, and answers the status: 0 where the walk
+/// ended and no answer was an error, and 1 otherwise.
+///
+/// Fails for want of memory alone, before anything is printed.
+pub fn print_walk<
+    T: Wait + Threads + Clock + Clone + Drop + Send + Sync + 'static,
+    S: FileSystem + Send + Sync + 'static,
+    A: Allocator + Copy + Send + Sync + 'static,
+    W: Write,
+    E: Write,
+>(rt: &T, alloc: A, fs: S, request: &Request<'_>, out: &mut W, err: &mut E) -> Result<u8, Failure>
+    ensures status { IfOk result (λ status. status ≤ 1) }
+    ensures memory { IfErr result (λ failure. failure ≡ Failure.Memory) }
+    ensures untouched { OnErr result (W.contents out.new ≡ W.contents out.old) }
+    ensures entries { IfOk result (λ status. status ≡ 0 → PrintsEntries (W.contents out.old) (W.contents out.new)) }
+    ensures printed { IfOk result (λ status. status ≡ 0 → S.IsFixed fs
+        → PrintsOver (S.functions fs) request.now.asked request.now.root.now (W.contents out.old) (W.contents out.new)) }
+{
+    let root = String::from_str(alloc, request.root)?;
+    let walk = walk_of(rt, fs, root, request.asked)?;
+    let mut answers = walk.into_iter();
+    Ok(status_once(print_walked(alloc, &mut answers, out), err))
+}

@@ -1,0 +1,48 @@
+//! A walk's answers, printed, where threads read its directories.
+ghost use Rattle.std.specs.Prelude.{◌≡◌, IfOk, IfErr};
+ghost use Rattle.jwalk_read.specs.Job.{callback};
+ghost use Rattle.jwalk.specs.DirEntryIter.{job_of, Answers};
+ghost use Rattle.walk_text.specs.Failure.{status_of};
+ghost use Rattle.walk_run.specs.Answers.{PrintsAll};
+
+use crate::answers::{print_one, room, write_rest};
+use jwalk::file_system::FileSystem;
+use jwalk::read_dir::ProcessReadDir;
+use jwalk::threads::OnThreads;
+use jwalk::{ClientState, DirEntryIter, Pool};
+use std::alloc::Allocator;
+use std::io::Write;
+use std::thread::Threads;
+use walk_text::failure::Failure;
+
+/// Prints a line for each answer of a walk, and tells whether none was an error. It asks by the walk's own `next`, which has
+/// threads read a batch; that of an iterator, which a `for` calls, can start none.
+pub fn print_walked<
+    T: Threads + Sync + Drop,
+    W: Write,
+    C: ClientState + Send,
+    S: FileSystem + Send + Sync,
+    P: ProcessReadDir<C, A> + Send + Sync,
+    A: Allocator + Copy + Send + Sync,
+    L: Pool<C, S, P, A>,
+>(
+    alloc: A,
+    walk: &mut DirEntryIter<C, S, P, A, OnThreads<T>, L>,
+    out: &mut W,
+) -> Result<bool, Failure>
+where
+    C::ReadDirState: Send,
+    C::DirEntryState: Send,
+    requires { P.IsLawful (callback (job_of walk.old)) }
+    ensures printed { IfOk result (PrintsAll (Answers S.FileSystem P.ProcessReadDir C.ReadDirState.Clone
+        C.DirEntryState.Default L.Pool) walk.old (W.contents out.old) (W.contents out.new)) }
+    ensures status { IfErr result (λ failure. status_of failure ≡ 1) }
+{
+    let mut gathered = room(alloc)?;
+    let mut clean = true;
+    while let Some(answer) = walk.next() {
+        clean &= print_one(answer, &mut gathered, out)?;
+    }
+    write_rest(&mut gathered, out)?;
+    Ok(clean)
+}
