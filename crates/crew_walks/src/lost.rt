@@ -1,14 +1,14 @@
 //! Readings that are of another directory than the one that comes next.
+use crew_parts::arrival::{Arrival, arrive};
+use crew_parts::message::Message;
+use crew_parts::wanted::Wanted;
 use jwalk::board::Board;
 use jwalk::file_system::{FileSystem, MemoryFs};
 use jwalk::ordered::Ordered;
 use jwalk::read_dir::{Job, NoProcess, ReadDirSpec};
 use jwalk::read_dir_iter::ReadDirIter;
 use jwalk::threads::InTurn;
-use jwalk_crew::arrival::{Arrival, arrive};
-use jwalk_crew::message::Message;
 use jwalk_crew::pool::{Missed, Pool};
-use jwalk_crew::wanted::Wanted;
 use std::alloc::Global;
 use std::sync::Arc;
 use std::test::Fail;

@@ -12,20 +12,21 @@ use Rattle.walk_model.specs.Listing.{paired}
 use Rattle.walk_model.specs.Job as value
 use Rattle.walk_model.specs.Job.{root_list}
 use Rattle.walk_fs.specs.declared.file_system.FileSystem as FileSystem
-use Rattle.jwalk_read.specs.declared.process_read_dir.ProcessReadDir as ProcessReadDir
+use Rattle.read_parts.specs.declared.process_read_dir.ProcessReadDir as ProcessReadDir
 use Rattle.jwalk_read.specs.declared.job.Job.{Job}
 use Rattle.jwalk_read.specs.declared.read_dir.ReadDir.{ReadDir}
 use Rattle.jwalk_read.specs.ReadDir.{reading}
-use Rattle.jwalk_read.specs.Options.{width_of}
-use Rattle.jwalk_read.specs.Given.{Given, counted_reading}
+use Rattle.read_parts.specs.Options.{width_of}
+use Rattle.read_parts.specs.Given.{Given, counted_reading}
 use Rattle.jwalk_read.specs.Job as job
 use Rattle.jwalk_read.specs.Job.{file_system, callback, job_by, IsSteady}
 use Rattle.jwalk_crew.specs.declared.crew.NotStarted.{NotStarted}
 use Rattle.jwalk_crew.specs.declared.crew.NotStarted.TheVariants.{Busy, Memory}
-use Rattle.jwalk.specs.DirEntryIter.{by_crew, held_by}
-use Rattle.jwalk.specs.CrewStart.{busy_pair, start_failure, HoldsList, IsFromRoot}
+use Rattle.jwalk_entries.specs.DirEntryIter.{by_crew, held_by}
+use Rattle.jwalk_readings.specs.CrewReads.{start_failure}
+use Rattle.jwalk_entries.specs.CrewStart.{busy_pair, HoldsList, IsFromRoot}
 use Rattle.jwalk.specs.WalkDir.{file_system_of, callback_of, root_of, state_of, options_of, job_for, Starts, HoldsUnless, Begins}
-use Rattle.jwalk.specs.declared.dir_entry_iter.DirEntryIter.{DirEntryIter}
+use Rattle.jwalk_entries.specs.declared.dir_entry_iter.DirEntryIter.{DirEntryIter}
 use Rattle.jwalk.specs.declared.walk_dir.WalkDirGeneric.{WalkDirGeneric}
 
 -- what is held of a view is held of what it is the view of

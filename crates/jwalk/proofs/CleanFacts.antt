@@ -13,18 +13,18 @@ use Rattle.walk_model.specs.Job.{reading, root_list}
 use Rattle.walk_model.specs.Held as held_value
 use Rattle.walk_model.specs.Walk.{whole_walk}
 use Rattle.walk_fs.specs.declared.file_system.FileSystem as FileSystem
-use Rattle.jwalk_read.specs.declared.process_read_dir.ProcessReadDir as ProcessReadDir
-use Rattle.jwalk_read.specs.declared.error.Error.{Error}
-use Rattle.jwalk_read.specs.declared.dir_entry.DirEntry.{DirEntry}
-use Rattle.jwalk_read.specs.Given.{Given, counted_list}
+use Rattle.read_parts.specs.declared.process_read_dir.ProcessReadDir as ProcessReadDir
+use Rattle.read_parts.specs.declared.error.Error.{Error}
+use Rattle.read_parts.specs.declared.dir_entry.DirEntry.{DirEntry}
+use Rattle.read_parts.specs.Given.{Given, counted_list}
 use Rattle.jwalk_read.specs.Job.{greatest_depth, job_by, IsSteady}
 use Rattle.jwalk_crew.specs.declared.crew.NotStarted.{NotStarted}
 use Rattle.jwalk_crew.specs.declared.crew.NotStarted.TheVariants.{Busy, Memory}
 use Rattle.jwalk_crew.specs.declared.pool.Pool as Pool
-use Rattle.jwalk.specs.declared.dir_entry_iter.DirEntryIter.{DirEntryIter}
+use Rattle.jwalk_entries.specs.declared.dir_entry_iter.DirEntryIter.{DirEntryIter}
 use Rattle.jwalk.specs.declared.walk_dir.WalkDirGeneric.{WalkDirGeneric}
-use Rattle.jwalk.specs.CrewStart.{busied, busy_pair}
-use Rattle.jwalk.specs.DirEntryIter.{job_of, min_depth_of, to_come, IsSteadyWalk, Answers}
+use Rattle.jwalk_entries.specs.CrewStart.{busied, busy_pair}
+use Rattle.jwalk_entries.specs.DirEntryIter.{job_of, min_depth_of, to_come, IsSteadyWalk, Answers}
 use Rattle.jwalk.specs.WalkDir.{file_system_of, callback_of, root_of, state_of, job_for, Starts, HoldsUnless}
 use Rattle.jwalk.proofs.WholeFacts.{all_answered, comes_whole, entries_tell, whole}
 

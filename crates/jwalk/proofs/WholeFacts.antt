@@ -19,21 +19,21 @@ use Rattle.walk_model.specs.Job.{reading, root_list}
 use Rattle.walk_model.specs.Walk.{whole_walk, stateless_walk}
 use Rattle.walk_model.proofs.HeldFacts.{alone}
 use Rattle.walk_fs.specs.declared.file_system.FileSystem as FileSystem
-use Rattle.jwalk_read.specs.declared.process_read_dir.ProcessReadDir as ProcessReadDir
-use Rattle.jwalk_read.specs.declared.error.Error.{Error}
-use Rattle.jwalk_read.specs.declared.dir_entry.DirEntry.{DirEntry}
-use Rattle.jwalk_read.specs.Error.{failure}
-use Rattle.jwalk_read.specs.Entry.{item}
-use Rattle.jwalk_read.specs.Given.{Given, counted_item, counted_spec, counted_list}
+use Rattle.read_parts.specs.declared.process_read_dir.ProcessReadDir as ProcessReadDir
+use Rattle.read_parts.specs.declared.error.Error.{Error}
+use Rattle.read_parts.specs.declared.dir_entry.DirEntry.{DirEntry}
+use Rattle.read_parts.specs.Error.{failure}
+use Rattle.read_parts.specs.Entry.{item}
+use Rattle.read_parts.specs.Given.{Given, counted_item, counted_spec, counted_list}
 use Rattle.jwalk_read.specs.Job.{options_of, greatest_depth, job_by, IsSteady}
 use Rattle.jwalk_crew.specs.declared.pool.Pool as Pool
-use Rattle.jwalk.specs.declared.dir_entry_iter.DirEntryIter.{DirEntryIter}
+use Rattle.jwalk_entries.specs.declared.dir_entry_iter.DirEntryIter.{DirEntryIter}
 use Rattle.jwalk.specs.declared.walk_dir.WalkDirGeneric.{WalkDirGeneric}
-use Rattle.jwalk.specs.DirEntryIter.{by_crew, job_of, min_depth_of, items_of, unread_of, held, held_by, refusal, to_come, TellsMemory, NoneRefused, IsRefused, StartsSteady, IsSteadyWalk, Answers, Fills}
+use Rattle.jwalk_entries.specs.DirEntryIter.{by_crew, is_refused, job_of, min_depth_of, items_of, unread_of, held, held_by, refusal, to_come, TellsMemory, NoneRefused, IsRefused, StartsSteady, IsSteadyWalk, Answers, Fills}
 use Rattle.jwalk.specs.WalkDir as builder
 use Rattle.jwalk.specs.WalkDir.{file_system_of, callback_of, root_of, state_of, job_for, Starts, Holds}
-use Rattle.jwalk.proofs.AnswerFacts.{held_by_nothing, alone_steady}
-use Rattle.jwalk.proofs.FillFacts.{stays_steady, come}
+use Rattle.jwalk_entries.proofs.AnswerFacts.{held_by_nothing, alone_steady}
+use Rattle.jwalk_entries.proofs.FillFacts.{stays_steady, come}
 
 module _ {C A R E : Type 0} where
   -- answers that end with the error that tells of want of memory tell of it
@@ -85,7 +85,7 @@ module _ {C S P A T L R E : Type 0} (files : FileSystem.Ghosts S) (process : Pro
   -- a walk whose start was refused has that to tell, and nothing else
   to_come_refused : (it : DirEntryIter C S P A T L R E) → IsRefused it → to_come files given it ≡ Err memory ∷ []
   to_come_refused it refused =
-      ap (held_value.to_come (reading (job_by files given (job_of it))) (min_depth_of it) (greatest_depth (job_of it))) (refused_by given it.refused (items_of it) (unread_of it) refused.tells)
+      ap (held_value.to_come (reading (job_by files given (job_of it))) (min_depth_of it) (greatest_depth (job_of it))) (refused_by given (is_refused it) (items_of it) (unread_of it) refused.tells)
       ∙ ap (answers (min_depth_of it)) (alone (reading (job_by files given (job_of it))) (greatest_depth (job_of it)) (Err memory) [] [] refl)
 
   -- calls up to `None` answer all that was to come, unless one of them tells of want of memory

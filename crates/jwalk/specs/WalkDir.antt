@@ -8,20 +8,20 @@ use Rattle.walk_model.specs.Listing.{paired}
 use Rattle.walk_model.specs.Counted.{Worth, blank}
 use Rattle.walk_model.specs.Job.{Job, root_list}
 use Rattle.walk_fs.specs.declared.file_system.FileSystem as FileSystem
-use Rattle.jwalk_read.specs.declared.process_read_dir.ProcessReadDir as ProcessReadDir
-use Rattle.jwalk_read.specs.Options.{options_value, width_of}
-use Rattle.jwalk_read.specs.Given.{Given}
+use Rattle.read_parts.specs.declared.process_read_dir.ProcessReadDir as ProcessReadDir
+use Rattle.read_parts.specs.Options.{options_value, width_of}
+use Rattle.read_parts.specs.Given.{Given}
 use Rattle.jwalk_read.specs.Job as job
 use Rattle.jwalk_read.specs.Job.{file_system, callback, IsSteady}
-use Rattle.jwalk.specs.DirEntryIter as iter
+use Rattle.jwalk_entries.specs.DirEntryIter as iter
 use Rattle.jwalk_crew.specs.declared.crew.NotStarted.{NotStarted}
 use Rattle.jwalk_crew.specs.declared.crew.NotStarted.TheVariants.{Busy, Memory}
-use Rattle.jwalk.specs.declared.parallelism.Parallelism.{Parallelism}
-use Rattle.jwalk.specs.Parallelism.{parallelism_value, crew_of}
-use Rattle.jwalk.specs.CrewStart.{busy_pair}
-use Rattle.jwalk.specs.DirEntryIter.{by_crew, job_of, items_of, held_by, IsWithin, IsSourced, IsRefused}
+use Rattle.jwalk_readings.specs.declared.parallelism.Parallelism.{Parallelism}
+use Rattle.jwalk_readings.specs.Parallelism.{parallelism_value, crew_of}
+use Rattle.jwalk_entries.specs.CrewStart.{busy_pair}
+use Rattle.jwalk_entries.specs.DirEntryIter.{by_crew, job_of, items_of, held_by, IsWithin, IsSourced, IsRefused}
 use Rattle.jwalk.specs.declared.walk_dir.WalkDirGeneric.{WalkDirGeneric}
-use Rattle.jwalk.specs.declared.dir_entry_iter.DirEntryIter.{DirEntryIter}
+use Rattle.jwalk_entries.specs.declared.dir_entry_iter.DirEntryIter.{DirEntryIter}
 
 -- no callback, and states that count as nothing
 abbrev pub stateless : {R E : Type 0} → Given R E

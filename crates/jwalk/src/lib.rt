@@ -11,23 +11,20 @@
 #![tactic(auto)]
 
 pub mod crew;
-mod crew_reads;
-pub mod dir_entry_iter;
 pub mod file_system;
-mod parallelism;
 pub mod read_dir;
-pub mod read_dir_iter;
-pub mod threads;
 mod walk_dir;
 
 pub use crew::{Crew, NoPool, Pool};
-pub use dir_entry_iter::DirEntryIter;
 pub use jwalk_board::board;
+pub use jwalk_entries::dir_entry_iter;
+pub use jwalk_entries::dir_entry_iter::DirEntryIter;
 pub use jwalk_order::{index_path, ordered, ordered_queue};
-pub use jwalk_read::client_state::ClientState;
-pub use jwalk_read::dir_entry::{DirEntry, ReadChildren};
-pub use jwalk_read::error::{Error, Result};
-pub use jwalk_read::{dir_entry, error};
-pub use parallelism::Parallelism;
+pub use jwalk_readings::parallelism::Parallelism;
+pub use jwalk_readings::{read_dir_iter, threads};
+pub use read_parts::client_state::ClientState;
+pub use read_parts::dir_entry::{DirEntry, ReadChildren};
+pub use read_parts::error::{Error, Result};
+pub use read_parts::{dir_entry, error};
 pub use walk_dir::{WalkDir, WalkDirGeneric};
 pub use walk_paths::path_text;

@@ -4,6 +4,6 @@ pub use jwalk_process::calls::{Calls, Closure};
 pub use jwalk_process::filter_entry::FilterEntry;
 pub use jwalk_process::skip_names::SkipNames;
 pub use jwalk_read::job::Job;
-pub use jwalk_read::process_read_dir::{NoProcess, ProcessReadDir};
 pub use jwalk_read::read_dir::ReadDir;
-pub use jwalk_read::read_dir_spec::ReadDirSpec;
+pub use read_parts::process_read_dir::{NoProcess, ProcessReadDir};
+pub use read_parts::read_dir_spec::ReadDirSpec;

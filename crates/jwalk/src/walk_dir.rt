@@ -1,22 +1,22 @@
 //! The builder of a walk.
 ghost use Rattle.std.specs.Prelude.{◌≡◌, ◌⊎◌, true, false, None, string_bytes, IfOk, IfErr};
 ghost use Rattle.walk_model.specs.Error.{memory};
-ghost use Rattle.jwalk_read.specs.Error.{failure};
+ghost use Rattle.read_parts.specs.Error.{failure};
 
 mod over_crew;
 
-use crate::dir_entry_iter::DirEntryIter;
-use crate::parallelism::Parallelism;
-use crate::threads::{InTurn, OnThreads};
 use jwalk_crew::pool::NoPool;
+use jwalk_entries::dir_entry_iter::DirEntryIter;
 use jwalk_process::by_fn::ByFn;
 use jwalk_process::calls::Closure;
-use jwalk_read::client_state::ClientState;
-use jwalk_read::dir_entry::DirEntry;
-use jwalk_read::error::Error;
 use jwalk_read::job::Job;
-use jwalk_read::options::Options;
-use jwalk_read::process_read_dir::{NoProcess, ProcessReadDir};
+use jwalk_readings::parallelism::Parallelism;
+use jwalk_readings::threads::{InTurn, OnThreads};
+use read_parts::client_state::ClientState;
+use read_parts::dir_entry::DirEntry;
+use read_parts::error::Error;
+use read_parts::options::Options;
+use read_parts::process_read_dir::{NoProcess, ProcessReadDir};
 use real_fs::real_fs::RealFs;
 use std::alloc::{AllocError, Allocator, Global};
 use std::rt::{Files, HostRuntime};
@@ -266,16 +266,16 @@ impl<
     T: Drop,
 > WalkDirGeneric<C, S, P, A, T, NoPool> {
     ghost use Rattle.jwalk.specs.WalkDir.{callback_of, Starts, Holds};
-    ghost use Rattle.jwalk.specs.DirEntryIter.{by_crew, IsRefused};
+    ghost use Rattle.jwalk_entries.specs.DirEntryIter.{by_crew, is_refused, IsRefused};
 
     /// The walk begun, whether memory was refused or not.
     fn begin(self) -> DirEntryIter<C, S, P, A, T>
         requires { P.IsLawful (callback_of self) }
         ensures own { by_crew result ≡ false }
         ensures starts { Starts self result }
-        ensures holds { result.refused ≡ false
+        ensures holds { is_refused result ≡ false
             → Holds S.FileSystem P.ProcessReadDir C.ReadDirState.Clone C.DirEntryState.Default self result }
-        ensures refused { result.refused ≡ true → IsRefused result }
+        ensures refused { is_refused result ≡ true → IsRefused result }
     {
         let alloc = *self.root.allocator();
         let WalkDirGeneric {
@@ -372,7 +372,7 @@ impl<C: ClientState, S: FileSystem, A: Allocator + Copy, T: Drop> IntoIterator
     type IntoIter = DirEntryIter<C, S, NoProcess, A, T>;
 
     ghost use Rattle.jwalk.specs.WalkDir.{Starts, Holds};
-    ghost use Rattle.jwalk.specs.DirEntryIter.{by_crew, IsRefused};
+    ghost use Rattle.jwalk_entries.specs.DirEntryIter.{by_crew, IsRefused};
 
     ghost into_iter_gives = { λ walk it. (by_crew it ≡ false) × Starts walk it × (IsRefused it ⊎ Holds S.FileSystem
         ⟦<NoProcess as ProcessReadDir<C, A>>⟧ C.ReadDirState.Clone C.DirEntryState.Default walk it) };

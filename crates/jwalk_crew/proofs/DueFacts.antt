@@ -10,19 +10,19 @@ use Rattle.jwalk_order.specs.Frontier.{next_address}
 use Rattle.jwalk_order.specs.Ordered.{address_of}
 use Rattle.jwalk_order.specs.declared.ordered.Ordered.{Ordered}
 use Rattle.jwalk_board.specs.Addressed.{addressed}
-use Rattle.jwalk_read.specs.declared.process_read_dir.ProcessReadDir as ProcessReadDir
-use Rattle.jwalk_read.specs.Given.{Given, counted_spec}
+use Rattle.read_parts.specs.declared.process_read_dir.ProcessReadDir as ProcessReadDir
+use Rattle.read_parts.specs.Given.{Given, counted_spec}
 use Rattle.jwalk_read.specs.Job.{options_of}
-use Rattle.jwalk_read.specs.Options.{options_value}
-use Rattle.jwalk_read.specs.ReadDir.{spec}
+use Rattle.read_parts.specs.Options.{options_value}
+use Rattle.read_parts.specs.ReadDirSpec.{spec}
 use Rattle.jwalk_crew.specs.declared.pool.Missed.{Missed}
 use Rattle.jwalk_crew.specs.declared.pool.Missed.TheVariants.{Lost}
-use Rattle.jwalk_crew.specs.declared.wanted.Wanted.{Wanted}
+use Rattle.crew_parts.specs.declared.wanted.Wanted.{Wanted}
 use Rattle.jwalk_crew.specs.Due.{IsDue}
-use Rattle.jwalk_crew.specs.Message.{Message}
+use Rattle.crew_parts.specs.Message.{Message}
 use Rattle.jwalk_crew.specs.Origin.{Origin, IsMessageOf, spec_at}
 use Rattle.jwalk_crew.specs.Shared.{IsLost, IsAnswerOf}
-use Rattle.jwalk_crew.specs.Wanted.{Fits, IsDirectory}
+use Rattle.crew_parts.specs.Wanted.{Fits, IsDirectory}
 
 -- a directory that counts as the one that is wanted is that one
 counted_alike : {A R E : Type 0} (given : Given R E) (wanted : Wanted A) (this that : Spec R) → counted_spec given this ≡ counted_spec given that → IsDirectory wanted that → IsDirectory wanted this

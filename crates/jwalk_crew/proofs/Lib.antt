@@ -1,4 +1,3 @@
-mod ArrivalFacts
 mod DueFacts
 pub mod OriginFacts
 mod SharedFacts

@@ -7,13 +7,13 @@ use Rattle.walk_model.specs.ReadDir.{Spec}
 use Rattle.walk_fs.specs.declared.file_system.FileSystem as FileSystem
 use Rattle.jwalk_order.specs.Frontier.{next_address}
 use Rattle.jwalk_order.specs.IndexPath.{address}
-use Rattle.jwalk_read.specs.declared.process_read_dir.ProcessReadDir as ProcessReadDir
-use Rattle.jwalk_read.specs.Given.{Given, counted_spec}
+use Rattle.read_parts.specs.declared.process_read_dir.ProcessReadDir as ProcessReadDir
+use Rattle.read_parts.specs.Given.{Given, counted_spec}
 use Rattle.jwalk_read.specs.Job.{IsSteadyJob, options_of}
-use Rattle.jwalk_read.specs.Options.{options_value}
-use Rattle.jwalk_crew.specs.declared.wanted.Wanted.{Wanted}
+use Rattle.read_parts.specs.Options.{options_value}
+use Rattle.crew_parts.specs.declared.wanted.Wanted.{Wanted}
 use Rattle.jwalk_crew.specs.Origin.{Origin, spec_at}
-use Rattle.jwalk_crew.specs.Wanted.{IsDirectory}
+use Rattle.crew_parts.specs.Wanted.{IsDirectory}
 
 module _ {C S P A R E : Type 0} (files : FileSystem.Ghosts S) (process : ProcessReadDir.Ghosts P C A R E) (clone : Clone.Ghosts R) (defaults : Default.Ghosts E) where
   -- The reading that is wanted is the one that comes next: over something that the walk's job is steady over, its directory is the one at the first of the addresses that are awaited, and it is wanted there, by options that read as the job's.

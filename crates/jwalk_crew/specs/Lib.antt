@@ -1,8 +1,4 @@
-pub mod Message
-pub mod Wanted
-pub mod Arrival
 pub mod Origin
-pub mod Places
 pub mod Shared
 pub mod Due
 pub mod Steps

@@ -8,13 +8,14 @@ use Rattle.walk_model.specs.ReadDir.{Spec, children_of, AreClones}
 use Rattle.walk_fs.specs.declared.file_system.FileSystem as FileSystem
 use Rattle.jwalk_board.specs.Addressed.{Addressed}
 use Rattle.jwalk_board.specs.Board.{Board}
-use Rattle.jwalk_read.specs.declared.process_read_dir.ProcessReadDir as ProcessReadDir
+use Rattle.read_parts.specs.declared.process_read_dir.ProcessReadDir as ProcessReadDir
 use Rattle.jwalk_read.specs.declared.job.Job.{Job}
-use Rattle.jwalk_read.specs.declared.read_dir_spec.ReadDirSpec.{ReadDirSpec}
-use Rattle.jwalk_read.specs.Given.{Given, counted_spec}
+use Rattle.read_parts.specs.declared.read_dir_spec.ReadDirSpec.{ReadDirSpec}
+use Rattle.read_parts.specs.Given.{Given, counted_spec}
 use Rattle.jwalk_read.specs.Job.{IsSteadyJob, job_by}
-use Rattle.jwalk_read.specs.ReadDir.{spec, outcome}
-use Rattle.jwalk_crew.specs.Message.{Message, IsLawfulMessage}
+use Rattle.read_parts.specs.ReadDirSpec.{spec}
+use Rattle.jwalk_read.specs.ReadDir.{outcome}
+use Rattle.crew_parts.specs.Message.{Message, IsLawfulMessage}
 
 -- What reads for a walk, and the directories that the walk begins with.
 pub record Origin (C S P A R E : Type 0) : Type 0 where

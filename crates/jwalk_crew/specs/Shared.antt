@@ -7,19 +7,19 @@ use Rattle.jwalk_order.specs.Frontier.{next_address, passed}
 use Rattle.jwalk_order.specs.Ordered.{address_of, child_count_of}
 use Rattle.jwalk_order.specs.declared.ordered.Ordered.{Ordered}
 use Rattle.jwalk_board.specs.Addressed.{addressed}
-use Rattle.jwalk_read.specs.declared.process_read_dir.ProcessReadDir as ProcessReadDir
-use Rattle.jwalk_read.specs.declared.read_dir_spec.ReadDirSpec.{ReadDirSpec}
-use Rattle.jwalk_read.specs.ReadDir.{spec}
-use Rattle.jwalk_crew.specs.declared.arrival.Arrival.{Arrival}
-use Rattle.jwalk_crew.specs.declared.arrival.Arrival.TheVariants.{Entered, Memory, Lost, Wait}
+use Rattle.read_parts.specs.declared.process_read_dir.ProcessReadDir as ProcessReadDir
+use Rattle.read_parts.specs.declared.read_dir_spec.ReadDirSpec.{ReadDirSpec}
+use Rattle.read_parts.specs.ReadDirSpec.{spec}
+use Rattle.crew_parts.specs.declared.arrival.Arrival.{Arrival}
+use Rattle.crew_parts.specs.declared.arrival.Arrival.TheVariants.{Entered, Memory, Lost, Wait}
 use Rattle.jwalk_crew.specs.declared.pool.Missed.{Missed}
 use Rattle.jwalk_crew.specs.declared.pool.Missed.TheVariants as missed
 use Rattle.jwalk_crew.specs.declared.steps.Turn.{Turn}
 use Rattle.jwalk_crew.specs.declared.steps.Turn.TheVariants as turn
-use Rattle.jwalk_crew.specs.declared.wanted.Wanted.{Wanted}
-use Rattle.jwalk_crew.specs.Message.{Message}
+use Rattle.crew_parts.specs.declared.wanted.Wanted.{Wanted}
+use Rattle.crew_parts.specs.Message.{Message}
 use Rattle.jwalk_crew.specs.Origin.{Origin, IsAt, IsMessageOf}
-use Rattle.jwalk_crew.specs.Wanted.{Fits}
+use Rattle.crew_parts.specs.Wanted.{Fits}
 
 module _ {C S P A R E : Type 0} (files : FileSystem.Ghosts S) (process : ProcessReadDir.Ghosts P C A R E) (clone : Clone.Ghosts R) (defaults : Default.Ghosts E) (origin : Origin C S P A R E) where
   -- what a worker takes is the directory at its address of the walk

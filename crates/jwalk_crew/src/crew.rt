@@ -2,8 +2,8 @@
 ghost use Rattle.std.specs.Prelude.{◌≡◌, min, max};
 ghost use Rattle.jwalk_crew.specs.Crew.{workers_of};
 
-use crate::places::Places;
 use crate::waiting::Patience;
+use crew_parts::places::Places;
 use std::alloc::{AllocError, Allocator, Global};
 use std::sync::{Arc, Condvar, Mutex, Wait};
 use std::time::{Clock, Duration};

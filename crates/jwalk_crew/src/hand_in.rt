@@ -3,13 +3,13 @@ ghost use Rattle.std.specs.Prelude.{◌≡◌, true, OnErr, OnOk};
 ghost use Rattle.jwalk_order.specs.IndexPath.{address as indices_of};
 ghost use Rattle.jwalk_board.specs.Board.{Finishes};
 
-use crate::message::Message;
 use crate::steps::finish_or_stop;
+use crew_parts::message::Message;
 use jwalk_board::board::{Board, FinishFault};
 use jwalk_order::index_path::IndexPath;
-use jwalk_read::client_state::ClientState;
-use jwalk_read::process_read_dir::ProcessReadDir;
-use jwalk_read::read_dir_spec::ReadDirSpec;
+use read_parts::client_state::ClientState;
+use read_parts::process_read_dir::ProcessReadDir;
+use read_parts::read_dir_spec::ReadDirSpec;
 use std::alloc::Allocator;
 use walk_fs::file_system::FileSystem;
 

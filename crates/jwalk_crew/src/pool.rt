@@ -5,13 +5,13 @@ ghost use Rattle.jwalk_order.specs.Ordered.{child_count_of};
 ghost use Rattle.jwalk_board.specs.Addressed.{addressed};
 ghost use Rattle.jwalk_crew.specs.Due.{IsDue};
 ghost use Rattle.jwalk_crew.specs.Origin.{Origin, IsMessageOf};
-ghost use Rattle.jwalk_crew.specs.Wanted.{Fits};
+ghost use Rattle.crew_parts.specs.Wanted.{Fits};
 
-use crate::message::Message;
-use crate::wanted::Wanted;
+use crew_parts::message::Message;
+use crew_parts::wanted::Wanted;
 use jwalk_order::ordered::Ordered;
-use jwalk_read::client_state::ClientState;
-use jwalk_read::process_read_dir::ProcessReadDir;
+use read_parts::client_state::ClientState;
+use read_parts::process_read_dir::ProcessReadDir;
 use std::alloc::{AllocError, Allocator};
 use walk_fs::file_system::FileSystem;
 

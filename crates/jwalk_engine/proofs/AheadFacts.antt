@@ -24,10 +24,11 @@ use Rattle.jwalk_board.specs.Addresses.{is_same, times}
 use Rattle.jwalk_board.proofs.Opens.{times-addresses_of, times-on_board}
 use Rattle.jwalk_board.proofs.Sets.{times-itself}
 use Rattle.jwalk_board.specs.Seen.{seen}
-use Rattle.jwalk_read.specs.declared.process_read_dir.ProcessReadDir as ProcessReadDir
-use Rattle.jwalk_read.specs.declared.read_dir_spec.ReadDirSpec.{ReadDirSpec}
+use Rattle.read_parts.specs.declared.process_read_dir.ProcessReadDir as ProcessReadDir
+use Rattle.read_parts.specs.declared.read_dir_spec.ReadDirSpec.{ReadDirSpec}
 use Rattle.jwalk_read.specs.declared.job.Job.{Job}
-use Rattle.jwalk_read.specs.ReadDir.{spec, outcome}
+use Rattle.read_parts.specs.ReadDirSpec.{spec}
+use Rattle.jwalk_read.specs.ReadDir.{outcome}
 use Rattle.jwalk_read.specs.Job.{IsReadingOf}
 use Rattle.jwalk_engine.specs.declared.read.Read.{Read}
 use Rattle.jwalk_engine.specs.declared.batch.Made.{Made}

@@ -6,7 +6,7 @@ use Rattle.std.specs.declared.clone.Clone as Clone
 use Rattle.std.specs.declared.default.Default as Default
 use Rattle.std.proofs.lemmas.List.Elements.{All-nil, All-cons, All-head, All-tail}
 use Rattle.walk_fs.specs.declared.file_system.FileSystem as FileSystem
-use Rattle.jwalk_read.specs.declared.process_read_dir.ProcessReadDir as ProcessReadDir
+use Rattle.read_parts.specs.declared.process_read_dir.ProcessReadDir as ProcessReadDir
 use Rattle.jwalk_read.specs.declared.job.Job.{Job}
 use Rattle.std.specs.List.Sorted.{IsPermutation}
 use Rattle.std.proofs.lemmas.List.{reverse-append, map-append, length-map}
@@ -20,8 +20,8 @@ use Rattle.jwalk_board.specs.Board.{Board, IsWhole, Takes, Finishes}
 use Rattle.jwalk_board.specs.Addressed.{Addressed, addressed, addresses_of}
 use Rattle.jwalk_board.proofs.Sets.{times-permutation, times-itself}
 use Rattle.jwalk_board.proofs.Opens.{whole_finished}
-use Rattle.jwalk_read.specs.declared.read_dir_spec.ReadDirSpec.{ReadDirSpec}
-use Rattle.jwalk_read.specs.ReadDir.{spec}
+use Rattle.read_parts.specs.declared.read_dir_spec.ReadDirSpec.{ReadDirSpec}
+use Rattle.read_parts.specs.ReadDirSpec.{spec}
 use Rattle.jwalk_engine.specs.declared.read.Read.{Read}
 use Rattle.jwalk_engine.specs.ToGive.{IsHeld, Makes, MakesAll}
 use Rattle.jwalk_engine.specs.Reads.{spec_of, to_give, IsSound, ReadsSome}

@@ -20,11 +20,12 @@ use Rattle.jwalk_board.specs.Refusal.{RefusesHandOut}
 use Rattle.jwalk_board.specs.declared.board.refusal.HandOutRefusal.TheVariants.{NotReady}
 use Rattle.jwalk_board.proofs.Sets.{same, times-append, times-permutation, times-itself}
 use Rattle.jwalk_board.proofs.Opens.{times-addresses_of, times-on_board, next_least}
-use Rattle.jwalk_read.specs.declared.process_read_dir.ProcessReadDir as ProcessReadDir
-use Rattle.jwalk_read.specs.declared.read_dir_spec.ReadDirSpec.{ReadDirSpec}
+use Rattle.read_parts.specs.declared.process_read_dir.ProcessReadDir as ProcessReadDir
+use Rattle.read_parts.specs.declared.read_dir_spec.ReadDirSpec.{ReadDirSpec}
 use Rattle.jwalk_read.specs.declared.job.Job.{Job}
-use Rattle.jwalk_read.specs.ReadDir.{spec, outcome}
-use Rattle.jwalk_read.specs.Given.{Given}
+use Rattle.read_parts.specs.ReadDirSpec.{spec}
+use Rattle.jwalk_read.specs.ReadDir.{outcome}
+use Rattle.read_parts.specs.Given.{Given}
 use Rattle.jwalk_engine.specs.declared.read.Read.{Read}
 use Rattle.jwalk_engine.specs.Reads.{spec_of, to_give, IsSoundOver, ReadsFirst}
 use Rattle.jwalk_engine.specs.ReadAhead.{ReadAhead, ahead_on, unread, StandsBefore, ReadsLeast, HandsOnAt, EntersNext}

@@ -17,11 +17,12 @@ use Rattle.jwalk_board.specs.Board.{Board, IsWhole, Takes, Finishes}
 use Rattle.jwalk_board.specs.Addressed.{addressed}
 use Rattle.jwalk_board.proofs.Sets.{times-permutation}
 use Rattle.jwalk_board.proofs.Opens.{whole_taken, whole_finished}
-use Rattle.jwalk_read.specs.declared.process_read_dir.ProcessReadDir as ProcessReadDir
-use Rattle.jwalk_read.specs.declared.read_dir_spec.ReadDirSpec.{ReadDirSpec}
+use Rattle.read_parts.specs.declared.process_read_dir.ProcessReadDir as ProcessReadDir
+use Rattle.read_parts.specs.declared.read_dir_spec.ReadDirSpec.{ReadDirSpec}
 use Rattle.jwalk_read.specs.declared.job.Job.{Job}
-use Rattle.jwalk_read.specs.ReadDir.{spec, outcome}
-use Rattle.jwalk_read.specs.Given.{Given}
+use Rattle.read_parts.specs.ReadDirSpec.{spec}
+use Rattle.jwalk_read.specs.ReadDir.{outcome}
+use Rattle.read_parts.specs.Given.{Given}
 use Rattle.jwalk_read.specs.Job.{IsSteadyJob, IsReadingOf}
 use Rattle.jwalk_engine.specs.declared.read.Read.{Read}
 use Rattle.jwalk_engine.specs.ToGive.{ToGive, IsHeld, HandsOn}

@@ -6,11 +6,11 @@ use Rattle.walk_model.specs.ReadDir.{Spec, Outcome}
 use Rattle.walk_fs.specs.declared.file_system.FileSystem as FileSystem
 use Rattle.jwalk_order.specs.Frontier.{next_address}
 use Rattle.jwalk_board.specs.Board.{Board}
-use Rattle.jwalk_read.specs.declared.process_read_dir.ProcessReadDir as ProcessReadDir
-use Rattle.jwalk_read.specs.declared.read_dir_spec.ReadDirSpec.{ReadDirSpec}
+use Rattle.read_parts.specs.declared.process_read_dir.ProcessReadDir as ProcessReadDir
+use Rattle.read_parts.specs.declared.read_dir_spec.ReadDirSpec.{ReadDirSpec}
 use Rattle.jwalk_read.specs.declared.job.Job.{Job}
 use Rattle.jwalk_read.specs.ReadDir.{outcome}
-use Rattle.jwalk_read.specs.Given.{Given}
+use Rattle.read_parts.specs.Given.{Given}
 use Rattle.jwalk_engine.specs.declared.read.Read.{Read}
 use Rattle.jwalk_engine.specs.ToGive.{ToGive, HandsOn}
 use Rattle.jwalk_engine.specs.Reads.{spec_of, to_give, IsMade, IsSteadyWith, ReadsSome, ReadsNext}

@@ -10,10 +10,10 @@ use Rattle.jwalk_board.specs.Addresses.{IsAmong}
 use Rattle.jwalk_board.specs.Board.{Board}
 use Rattle.jwalk_board.specs.Addressed.{Addressed, addresses_of, numbered}
 use Rattle.jwalk_board.specs.Seen.{seen}
-use Rattle.jwalk_read.specs.declared.process_read_dir.ProcessReadDir as ProcessReadDir
-use Rattle.jwalk_read.specs.declared.read_dir_spec.ReadDirSpec.{ReadDirSpec}
+use Rattle.read_parts.specs.declared.process_read_dir.ProcessReadDir as ProcessReadDir
+use Rattle.read_parts.specs.declared.read_dir_spec.ReadDirSpec.{ReadDirSpec}
 use Rattle.jwalk_read.specs.declared.job.Job.{Job}
-use Rattle.jwalk_read.specs.ReadDir.{spec}
+use Rattle.read_parts.specs.ReadDirSpec.{spec}
 use Rattle.jwalk_engine.specs.declared.read.Read.{Read}
 use Rattle.jwalk_engine.specs.Reads.{spec_of, IsSound}
 

@@ -7,11 +7,12 @@ use Rattle.walk_model.specs.ReadDir.{Spec, Outcome, IsLawful, list_of, children_
 use Rattle.walk_fs.specs.declared.file_system.FileSystem as FileSystem
 use Rattle.jwalk_board.specs.Board.{Board}
 use Rattle.jwalk_board.specs.Addressed.{Addressed}
-use Rattle.jwalk_read.specs.declared.process_read_dir.ProcessReadDir as ProcessReadDir
-use Rattle.jwalk_read.specs.declared.read_dir_spec.ReadDirSpec.{ReadDirSpec}
+use Rattle.read_parts.specs.declared.process_read_dir.ProcessReadDir as ProcessReadDir
+use Rattle.read_parts.specs.declared.read_dir_spec.ReadDirSpec.{ReadDirSpec}
 use Rattle.jwalk_read.specs.declared.job.Job.{Job}
-use Rattle.jwalk_read.specs.ReadDir.{spec, outcome}
-use Rattle.jwalk_read.specs.Given.{Given}
+use Rattle.read_parts.specs.ReadDirSpec.{spec}
+use Rattle.jwalk_read.specs.ReadDir.{outcome}
+use Rattle.read_parts.specs.Given.{Given}
 use Rattle.jwalk_read.specs.Job.{greatest_depth, IsSteadyJob, IsAsGiven, IsReadingBy, IsGivenOver, IsReadingOver}
 use Rattle.jwalk_engine.specs.declared.read.Read.{Read}
 use Rattle.jwalk_engine.specs.ToGive as board

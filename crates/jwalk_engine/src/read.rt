@@ -5,9 +5,9 @@ ghost use Rattle.jwalk_board.specs.Board.{Finishes};
 
 use jwalk_board::board::Board;
 use jwalk_order::index_path::IndexPath;
-use jwalk_read::client_state::ClientState;
 pub use jwalk_read::read_dir::Outcome;
-use jwalk_read::read_dir_spec::ReadDirSpec;
+use read_parts::client_state::ClientState;
+use read_parts::read_dir_spec::ReadDirSpec;
 use std::alloc::{AllocError, Allocator};
 
 /// What came of a directory's reading, with the directory that was read.

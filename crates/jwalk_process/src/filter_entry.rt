@@ -1,12 +1,12 @@
 //! Entries that are kept where a test of them is true.
 ghost use Rattle.std.specs.Prelude.{map};
-ghost use Rattle.jwalk_read.specs.Entry.{item};
+ghost use Rattle.read_parts.specs.Entry.{item};
 ghost use Rattle.jwalk_process.specs.FilterEntry.{IsAnswered, IsFilteredBy};
 
-use jwalk_read::client_state::ClientState;
-use jwalk_read::dir_entry::DirEntry;
-use jwalk_read::error::Error;
-use jwalk_read::process_read_dir::ProcessReadDir;
+use read_parts::client_state::ClientState;
+use read_parts::dir_entry::DirEntry;
+use read_parts::error::Error;
+use read_parts::process_read_dir::ProcessReadDir;
 use std::alloc::{AllocError, Allocator};
 use walk_model::file_type::FileType;
 

@@ -1,12 +1,12 @@
 //! Directories that are answered and not entered, by their names.
 ghost use Rattle.std.specs.Prelude.{◌≡◌, map, string_bytes};
-ghost use Rattle.jwalk_read.specs.Entry.{item};
+ghost use Rattle.read_parts.specs.Entry.{item};
 ghost use Rattle.jwalk_process.specs.SkipNames.{is_one_of, skipped_item};
 
-use jwalk_read::client_state::ClientState;
-use jwalk_read::dir_entry::DirEntry;
-use jwalk_read::error::Error;
-use jwalk_read::process_read_dir::ProcessReadDir;
+use read_parts::client_state::ClientState;
+use read_parts::dir_entry::DirEntry;
+use read_parts::error::Error;
+use read_parts::process_read_dir::ProcessReadDir;
 use std::alloc::{AllocError, Allocator, Global};
 
 /// A callback by which directories of some names are answered and not entered.

@@ -4,10 +4,10 @@ use Rattle.std.proofs.lemmas.Grind.{flat_map-append}
 use Rattle.std.proofs.lemmas.List.{map-append}
 use Rattle.walk_model.specs.Entry.{Item}
 use Rattle.walk_model.specs.ReadDir.{Spec, spec_of, children, AreClones}
-use Rattle.jwalk_read.specs.declared.dir_entry.DirEntry.{DirEntry}
-use Rattle.jwalk_read.specs.declared.error.Error.{Error}
-use Rattle.jwalk_read.specs.Entry.{item}
-use Rattle.jwalk_read.specs.Given.{Given, counted_item, counted_list}
+use Rattle.read_parts.specs.declared.dir_entry.DirEntry.{DirEntry}
+use Rattle.read_parts.specs.declared.error.Error.{Error}
+use Rattle.read_parts.specs.Entry.{item}
+use Rattle.read_parts.specs.Given.{Given, counted_item, counted_list}
 
 -- items as they count, one list after another
 pub counted-append : {C A R E : Type 0} (given : Given R E) (l m : List (Result (DirEntry C A R E) (Error A))) → counted_list given (l ++ m) ≡ counted_list given l ++ counted_list given m
@@ -23,7 +23,3 @@ AreClones-append is_clone [] [] more others h k = k
 AreClones-append is_clone [] (c ∷ clones) more others h k = absurd h
 AreClones-append is_clone (s ∷ specs) [] more others h k = absurd h
 AreClones-append is_clone (s ∷ specs) (c ∷ clones) more others h k = (h.0, AreClones-append is_clone specs clones more others h.1 k)
-
--- a call at equal arguments
-pub same_call : {T U L Z : Type 0} (f : T → U → L → Z) {t t' : T} {u u' : U} {l l' : L} {z : Z} → t' ≡ t → u' ≡ u → l' ≡ l → f t' u' l' ≡ z → f t u l ≡ z
-same_call f {t} {t'} {u} {u'} {l} {l'} p q r e = ap (λ x. f x u l) (sym p) ∙ ap (λ x. f t' x l) (sym q) ∙ ap (f t' u') (sym r) ∙ e

@@ -6,10 +6,9 @@ use Rattle.walk_model.specs.ReadDir.{Outcome, AreClones, children_of}
 use Rattle.walk_model.specs.Counted.{Worth}
 use Rattle.walk_model.proofs.CloneFacts.{counted_clones}
 use Rattle.walk_model.proofs.CountedFacts.{counted-children_of}
-use Rattle.jwalk_read.specs.declared.read_dir_spec.ReadDirSpec.{ReadDirSpec}
-use Rattle.jwalk_read.specs.ReadDir.{spec}
-use Rattle.jwalk_read.specs.Given.{Given, counted_spec, counted_outcome}
-use Rattle.jwalk_read.specs.Job.{ClonesCount}
+use Rattle.read_parts.specs.declared.read_dir_spec.ReadDirSpec.{ReadDirSpec}
+use Rattle.read_parts.specs.ReadDirSpec.{spec}
+use Rattle.read_parts.specs.Given.{Given, counted_spec, counted_outcome, ClonesCount}
 
 -- where clones count as what they were made of, clones of an outcome's directories are those of what it counts as
 pub counted_directories : {C A R E : Type 0} (clone : Clone.Ghosts R) (given : Given R E) (outcome : Outcome R E) (value : Outcome Worth Worth) (specs : List (ReadDirSpec C A R E))

@@ -7,10 +7,10 @@ use Rattle.walk_model.specs.ReadDir.{Spec, Outcome, IsLawful, list_of}
 use Rattle.walk_model.specs.Counted.{Worth}
 use Rattle.walk_model.specs.Job as value
 use Rattle.walk_fs.specs.declared.file_system.FileSystem as FileSystem
-use Rattle.jwalk_read.specs.declared.process_read_dir.ProcessReadDir as ProcessReadDir
+use Rattle.read_parts.specs.declared.process_read_dir.ProcessReadDir as ProcessReadDir
 use Rattle.jwalk_read.specs.declared.job.Job.{Job}
-use Rattle.jwalk_read.specs.Options.{options_value}
-use Rattle.jwalk_read.specs.Given.{Given, counted_spec, counted_outcome}
+use Rattle.read_parts.specs.Options.{options_value}
+use Rattle.read_parts.specs.Given.{Given, counted_spec, counted_outcome, ClonesCount, DefaultsCount}
 
 module _ {C S P A R E : Type 0} where
   abbrev pub file_system : Job C S P A R E → S
@@ -24,14 +24,6 @@ module _ {C S P A R E : Type 0} where
 
   abbrev pub greatest_depth : Job C S P A R E → ℕ
   greatest_depth job = (options_of job).max_depth
-
--- a clone counts as what it was made of
-abbrev pub ClonesCount : {R E : Type 0} → Clone.Ghosts R → Given R E → Type 0
-ClonesCount {R} clone given = (x y : R) → clone.is_clone x y → given.read_dir_state y ≡ given.read_dir_state x
-
--- a default counts as the state of a new entry
-abbrev pub DefaultsCount : {R E : Type 0} → Default.Ghosts E → Given R E → Type 0
-DefaultsCount {E = E} default given = (x : E) → default.is_default x → given.dir_entry_state x ≡ given.new_entry
 
 -- the job over a fixed file system and what is given
 abbrev pub job_by : {C S P A R E : Type 0} → FileSystem.Ghosts S → Given R E → Job C S P A R E → value.Job Worth Worth

@@ -1,11 +1,4 @@
-pub mod Text
-pub mod Ancestors
-pub mod Error
-pub mod Entry
 pub mod ReadDir
-pub mod Options
-pub mod Given
 pub mod Job
-pub mod Sorting
 pub mod Plan
 pub mod PlanFacts

@@ -1,18 +1,12 @@
--- Directories to be read, and readings, seen as values.
+-- Readings seen as values.
 use Rattle.std.specs.Prelude.{map, Result, Ok, Err}
-use Rattle.walk_model.specs.ReadDir.{Spec, Reading, Outcome}
-use Rattle.jwalk_read.specs.declared.read_dir_spec.ReadDirSpec.{ReadDirSpec}
+use Rattle.walk_model.specs.ReadDir.{Reading, Outcome}
 use Rattle.jwalk_read.specs.declared.read_dir.ReadDir.{ReadDir}
-use Rattle.jwalk_read.specs.declared.error.Error.{Error}
-use Rattle.jwalk_read.specs.Text.{text}
-use Rattle.jwalk_read.specs.Ancestors.{texts}
-use Rattle.jwalk_read.specs.Error.{failure}
-use Rattle.jwalk_read.specs.Entry.{item}
+use Rattle.read_parts.specs.declared.error.Error.{Error}
+use Rattle.read_parts.specs.Error.{failure}
+use Rattle.read_parts.specs.Entry.{item}
 
 module _ {C A R E : Type 0} where
-  abbrev pub spec : ReadDirSpec C A R E → Spec R
-  spec s = record { depth = s.depth; path = text s.path; ancestors = texts s.ancestors; state = s.client_read_state }
-
   abbrev pub reading : ReadDir C A R E → Reading R E
   reading r = record { state = r.read_dir_state; list = map item r.results_list.items }
 

@@ -1,35 +1,36 @@
 //! One reading of a directory.
-ghost use Rattle.std.specs.Prelude.{◌≡◌, ◌+◌, ◌<◌, ◌^◌, ◌&&◌, ◌++◌, Some, IfOk, OnOk, length, map, option_map, option_to_list, string_bytes};
+ghost use Rattle.std.specs.Prelude.{◌≡◌, ◌+◌, ◌<◌, ◌^◌, ◌++◌, Some, IfOk, OnOk, length, map, option_map, option_to_list, string_bytes};
 ghost use Rattle.std.specs.IoError.{error_kind};
 ghost use Rattle.walk_model.specs.Error.{io};
-ghost use Rattle.walk_model.specs.Entry.{AtDepth, is_hidden, children_at};
+ghost use Rattle.walk_model.specs.Entry.{AtDepth, children_at};
 ghost use Rattle.walk_model.specs.FileType.{is_dir};
 ghost use Rattle.walk_model.specs.Paths.{join};
 ghost use Rattle.walk_model.specs.Job as value;
 ghost use Rattle.walk_fs.specs.Views.{listed, named};
-ghost use Rattle.jwalk_read.specs.Text.{text};
-ghost use Rattle.jwalk_read.specs.Ancestors.{texts};
-ghost use Rattle.jwalk_read.specs.Error.{failure};
-ghost use Rattle.jwalk_read.specs.Entry.{entry, item, children};
-ghost use Rattle.jwalk_read.specs.ReadDir.{spec, outcome, reading};
-ghost use Rattle.jwalk_read.specs.Options.{options_value, reads_by};
-ghost use Rattle.jwalk_read.specs.Given.{counted_spec, counted_reading, counted_list, counted_entry};
-ghost use Rattle.jwalk_read.specs.Job.{file_system, callback, options_of, DefaultsCount, job_by, IsSteadyJob, IsReadingOf};
+ghost use Rattle.read_parts.specs.Text.{text};
+ghost use Rattle.read_parts.specs.Ancestors.{texts};
+ghost use Rattle.read_parts.specs.Error.{failure};
+ghost use Rattle.read_parts.specs.Entry.{entry, item, children};
+ghost use Rattle.read_parts.specs.ReadDirSpec.{spec};
+ghost use Rattle.jwalk_read.specs.ReadDir.{outcome, reading};
+ghost use Rattle.read_parts.specs.Options.{options_value, reads_by};
+ghost use Rattle.read_parts.specs.Given.{counted_spec, counted_reading, counted_list, counted_entry, DefaultsCount};
+ghost use Rattle.jwalk_read.specs.Job.{file_system, callback, options_of, job_by, IsSteadyJob, IsReadingOf};
 
 mod links;
 mod plan;
 mod root;
 
-use crate::ancestors::Ancestors;
-use crate::client_state::ClientState;
-use crate::dir_entry::DirEntry;
-use crate::error::Error;
-use crate::options::Options;
-use crate::process_read_dir::ProcessReadDir;
-use crate::read_children::ReadChildren;
 use crate::read_dir::ReadDir;
-use crate::read_dir_spec::ReadDirSpec;
-use crate::sorting::in_order;
+use read_parts::ancestors::Ancestors;
+use read_parts::client_state::ClientState;
+use read_parts::dir_entry::DirEntry;
+use read_parts::error::Error;
+use read_parts::options::Options;
+use read_parts::process_read_dir::ProcessReadDir;
+use read_parts::processed::processed;
+use read_parts::read_children::ReadChildren;
+use read_parts::read_dir_spec::ReadDirSpec;
 use std::alloc::{AllocError, Allocator, Global};
 use std::io;
 use std::marker::PhantomData;
@@ -60,13 +61,6 @@ impl<C: ClientState, S: Drop, P: Drop, A: Allocator + Copy> Drop for Job<C, S, P
             of: _,
         } = self;
     }
-}
-
-/// Whether a name starts with a dot.
-fn is_hidden(name: &str) -> bool
-    ensures { result ≡ is_hidden name.now }
-{
-    matches!(name.as_bytes(), [b'.', ..])
 }
 
 impl<C: ClientState, S: FileSystem, P: ProcessReadDir<C, A>, A: Allocator + Copy> Job<C, S, P, A> {
@@ -141,33 +135,25 @@ impl<C: ClientState, S: FileSystem, P: ProcessReadDir<C, A>, A: Allocator + Copy
         name: String<A>,
         file_type: FileType,
     ) -> Result<DirEntry<C, A>, AllocError>
-        requires fits { of.now.depth + 1 < 2 ^ 64 }
+        requires fits { (spec of.now).depth + 1 < 2 ^ 64 }
         requires inside { (g : _) → texts inside.now
             ≡ value.ancestors_in (job_by S.FileSystem g self.now) (counted_spec g (spec of.now)) }
-        ensures depth { IfOk result (λ e. e.depth ≡ of.now.depth + 1) }
+        ensures depth { IfOk result (λ e. e.depth ≡ (spec of.now).depth + 1) }
         ensures value { (g : _) → DefaultsCount C.DirEntryState.Default g
             → IfOk result (λ e. counted_entry g (entry e)
             ≡ value.entry_in (job_by S.FileSystem g self.now)
             (counted_spec g (spec of.now)) (string_bytes name) file_type) }
     {
         let read_children = self.children_in(of, name.as_str(), file_type)?;
-        Ok(DirEntry {
-            depth: of.depth + 1,
-            file_name: name,
+        Ok(DirEntry::new(
+            of.depth() + 1,
+            name,
             file_type,
-            client_state: C::DirEntryState::default(),
-            parent_path: of.path.clone()?,
+            of.path.clone()?,
             read_children,
-            through_link: false,
-            ancestors: inside.share()?,
-        })
-    }
-
-    /// Whether an item of this name is left out.
-    fn skips(&self, name: &str) -> bool
-        ensures { result ≡ (options_of self.now).skip_hidden && is_hidden name.now }
-    {
-        self.options.skip_hidden && is_hidden(name)
+            false,
+            inside.share()?,
+        ))
     }
 
     /// The error of a name whose type could not be told.
@@ -177,13 +163,13 @@ impl<C: ClientState, S: FileSystem, P: ProcessReadDir<C, A>, A: Allocator + Copy
         name: &str,
         err: io::Error,
     ) -> Result<Error<A>, AllocError>
-        requires { of.now.depth + 1 < 2 ^ 64 }
+        requires { (spec of.now).depth + 1 < 2 ^ 64 }
         ensures { IfOk result (λ e. failure e
-            ≡ io (of.now.depth + 1) (Some (join (text of.now.path) name.now)) (error_kind err)) }
+            ≡ io ((spec of.now).depth + 1) (Some (join (text of.now.path) name.now)) (error_kind err)) }
     {
         let joined = path_text::join(self.alloc, of.path.as_str(), name)?;
         let path = Arc::new(self.alloc, joined)?;
-        Ok(Error::from_path(of.depth + 1, path, err))
+        Ok(Error::from_path(of.depth() + 1, path, err))
     }
 
     /// What an item of a listing that has a name gives: nothing where it is hidden and skipped.
@@ -193,10 +179,10 @@ impl<C: ClientState, S: FileSystem, P: ProcessReadDir<C, A>, A: Allocator + Copy
         inside: &Ancestors<A>,
         found: Listed<A>,
     ) -> Result<Option<Result<DirEntry<C, A>, Error<A>>>, AllocError>
-        requires fits { of.now.depth + 1 < 2 ^ 64 }
+        requires fits { (spec of.now).depth + 1 < 2 ^ 64 }
         requires inside { (g : _) → texts inside.now
             ≡ value.ancestors_in (job_by S.FileSystem g self.now) (counted_spec g (spec of.now)) }
-        ensures depth { IfOk result (λ o. AtDepth (of.now.depth + 1) (map item (option_to_list o))) }
+        ensures depth { IfOk result (λ o. AtDepth ((spec of.now).depth + 1) (map item (option_to_list o))) }
         ensures value { (g : _) → S.IsFixed (file_system self.now) → DefaultsCount C.DirEntryState.Default g
             → IfOk result (λ o. counted_list g (option_to_list o)
             ≡ value.named (job_by S.FileSystem g self.now) (counted_spec g (spec of.now)) (named found)) }
@@ -205,7 +191,7 @@ impl<C: ClientState, S: FileSystem, P: ProcessReadDir<C, A>, A: Allocator + Copy
         match file_type {
             Err(err) => Ok(Some(Err(self.untyped(of, name.as_str(), err)?))),
             Ok(file_type) => {
-                if self.skips(name.as_str()) {
+                if self.options.skips(name.as_str()) {
                     return Ok(None);
                 }
                 let found = self.entry_in(of, inside, name, file_type)?;
@@ -221,16 +207,16 @@ impl<C: ClientState, S: FileSystem, P: ProcessReadDir<C, A>, A: Allocator + Copy
         inside: &Ancestors<A>,
         found: io::Result<Listed<A>>,
     ) -> Result<Option<Result<DirEntry<C, A>, Error<A>>>, AllocError>
-        requires fits { of.now.depth + 1 < 2 ^ 64 }
+        requires fits { (spec of.now).depth + 1 < 2 ^ 64 }
         requires inside { (g : _) → texts inside.now
             ≡ value.ancestors_in (job_by S.FileSystem g self.now) (counted_spec g (spec of.now)) }
-        ensures depth { IfOk result (λ o. AtDepth (of.now.depth + 1) (map item (option_to_list o))) }
+        ensures depth { IfOk result (λ o. AtDepth ((spec of.now).depth + 1) (map item (option_to_list o))) }
         ensures value { (g : _) → S.IsFixed (file_system self.now) → DefaultsCount C.DirEntryState.Default g
             → IfOk result (λ o. counted_list g (option_to_list o)
             ≡ value.item_of (job_by S.FileSystem g self.now) (counted_spec g (spec of.now)) (listed found)) }
     {
         match found {
-            Err(err) => Ok(Some(Err(Error::from_io(of.depth + 1, err)))),
+            Err(err) => Ok(Some(Err(Error::from_io(of.depth() + 1, err)))),
             Ok(found) => self.named(of, inside, found),
         }
     }
@@ -243,11 +229,11 @@ impl<C: ClientState, S: FileSystem, P: ProcessReadDir<C, A>, A: Allocator + Copy
         inside: &Ancestors<A>,
         found: io::Result<Listed<A>>,
     ) -> Result<(), AllocError>
-        requires fits { of.now.depth + 1 < 2 ^ 64 }
+        requires fits { (spec of.now).depth + 1 < 2 ^ 64 }
         requires inside { (g : _) → texts inside.now
             ≡ value.ancestors_in (job_by S.FileSystem g self.now) (counted_spec g (spec of.now)) }
-        ensures depth { AtDepth (of.now.depth + 1) (map item items.old.items)
-            → OnOk result (AtDepth (of.now.depth + 1) (map item items.new.items)) }
+        ensures depth { AtDepth ((spec of.now).depth + 1) (map item items.old.items)
+            → OnOk result (AtDepth ((spec of.now).depth + 1) (map item items.new.items)) }
         ensures value { (g : _) → S.IsFixed (file_system self.now) → DefaultsCount C.DirEntryState.Default g
             → OnOk result (counted_list g items.new.items
             ≡ counted_list g items.old.items ++ value.item_of (job_by S.FileSystem g self.now)
@@ -268,8 +254,8 @@ impl<C: ClientState, S: FileSystem, P: ProcessReadDir<C, A>, A: Allocator + Copy
         of: &ReadDirSpec<C, A>,
         listing: Vec<io::Result<Listed<A>>, A>,
     ) -> Result<Vec<Result<DirEntry<C, A>, Error<A>>, A>, AllocError>
-        requires { of.now.depth + 1 < 2 ^ 64 }
-        ensures depth { IfOk result (λ v. AtDepth (of.now.depth + 1) (map item v.items)) }
+        requires { (spec of.now).depth + 1 < 2 ^ 64 }
+        ensures depth { IfOk result (λ v. AtDepth ((spec of.now).depth + 1) (map item v.items)) }
         ensures value { (g : _) → S.IsFixed (file_system self.now) → DefaultsCount C.DirEntryState.Default g
             → IfOk result (λ v. counted_list g v.items
             ≡ value.raw (job_by S.FileSystem g self.now)
@@ -283,23 +269,6 @@ impl<C: ClientState, S: FileSystem, P: ProcessReadDir<C, A>, A: Allocator + Copy
         Ok(items)
     }
 
-    /// The items of a listing in the order that is asked for.
-    fn ordered(
-        &self,
-        of: &ReadDirSpec<C, A>,
-        listing: Vec<io::Result<Listed<A>>, A>,
-    ) -> Result<Vec<Result<DirEntry<C, A>, Error<A>>, A>, AllocError>
-        requires { of.now.depth + 1 < 2 ^ 64 }
-        ensures depth { IfOk result (λ v. AtDepth (of.now.depth + 1) (map item v.items)) }
-        ensures value { (g : _) → S.IsFixed (file_system self.now) → DefaultsCount C.DirEntryState.Default g
-            → IfOk result (λ v. counted_list g v.items
-            ≡ value.ordered (job_by S.FileSystem g self.now)
-            (counted_spec g (spec of.now)) (map listed listing.items)) }
-    {
-        let items = self.raw(of, listing)?;
-        Ok(in_order(self.options.sort, items)?)
-    }
-
     /// The list of a directory that could be listed, after the callback.
     fn processed(
         &self,
@@ -307,22 +276,19 @@ impl<C: ClientState, S: FileSystem, P: ProcessReadDir<C, A>, A: Allocator + Copy
         listing: Vec<io::Result<Listed<A>>, A>,
     ) -> Result<ReadDir<C, A>, AllocError>
         requires lawful { P.IsLawful (callback self.now) }
-        requires fits { of.now.depth + 1 < 2 ^ 64 }
-        ensures depth { IfOk result (λ r. AtDepth (of.now.depth + 1) (reading r).list) }
+        requires fits { (spec of.now).depth + 1 < 2 ^ 64 }
+        ensures depth { IfOk result (λ r. AtDepth ((spec of.now).depth + 1) (reading r).list) }
         ensures few { IfOk result (λ r. length (reading r).list < 2 ^ 64) }
         ensures value { (g : _)
             → IsSteadyJob S.FileSystem P.ProcessReadDir C.ReadDirState.Clone C.DirEntryState.Default self.now g
-            → IfOk result (λ r. g.processed (Some of.now.depth) (text of.now.path)
+            → IfOk result (λ r. g.processed (Some (spec of.now).depth) (text of.now.path)
             (g.read_dir_state of.now.client_read_state)
             (value.ordered (job_by S.FileSystem g self.now) (counted_spec g (spec of.now)) (map listed listing.items))
             ≡ counted_reading g (reading r)) }
     {
-        let mut items = self.ordered(of, listing)?;
-        let mut state = of.client_read_state.clone()?;
-        self.process
-            .process(Some(of.depth), of.path.as_str(), &mut state, &mut items)?;
-        let _count = items.len();
-        Ok(ReadDir::new(state, items))
+        let items = self.raw(of, listing)?;
+        let made = processed(&self.process, self.options, of, items)?;
+        Ok(ReadDir::new(made.state, made.items))
     }
 
     /// Reads one directory: its list, or the error that listing it ended in, which has the directory's depth and path.
@@ -339,13 +305,13 @@ impl<C: ClientState, S: FileSystem, P: ProcessReadDir<C, A>, A: Allocator + Copy
         ensures { IfOk result (λ o. IsReadingOf S.FileSystem P.ProcessReadDir C.ReadDirState.Clone
             C.DirEntryState.Default self.now (spec of.now) (outcome o)) }
     {
-        if of.depth >= self.options.max_depth {
+        if !self.options.reads(of.depth()) {
             let state = of.client_read_state.clone()?;
             return Ok(Ok(ReadDir::new(state, Vec::new(self.alloc))));
         }
         match self.fs.read_dir(self.alloc, of.path.as_str()) {
             Ok(listing) => Ok(Ok(self.processed(of, listing)?)),
-            Err(Fault::Io(err)) => Ok(Err(Error::from_path(of.depth, of.path.clone()?, err))),
+            Err(Fault::Io(err)) => Ok(Err(Error::from_path(of.depth(), of.path.clone()?, err))),
             Err(Fault::Memory) => Err(AllocError),
         }
     }

@@ -1,7 +1,7 @@
 -- Texts as states.
 use Rattle.std.specs.Prelude.{Option, Some, None, String, string_bytes}
 use Rattle.walk_model.specs.Counted.{Worth, blank, bytes}
-use Rattle.jwalk_read.specs.Given.{Given}
+use Rattle.read_parts.specs.Given.{Given}
 
 -- a text counts by its bytes
 abbrev pub worth_of : {A : Type 0} → Option (String A) → Worth

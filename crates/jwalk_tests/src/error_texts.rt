@@ -116,16 +116,23 @@ fn texts_of(alloc: Global, answers: &[Result<Entry, Error>]) -> Result<String, A
     Ok(texts)
 }
 
+/// The texts of all errors that a walk meets.
+fn texts_over<S: FileSystem>(alloc: Global, fs: S) -> Result<String, AllocError> {
+    let found = all_answers(alloc, walk(alloc, fs, "/d")?)?;
+    texts_of(alloc, found.as_slice())
+}
+
 /// Whether a walk tells the text of the one error that it meets.
-fn is_told(alloc: Global, failing: Failing) -> Result<bool, AllocError> {
+fn is_told(alloc: Global, failing: Failing) -> bool {
     let text = "block 17 can't be read";
-    let walk = walk(alloc, Telling { failing, text }, "/d")?;
-    let found = all_answers(alloc, walk)?;
-    Ok(texts_of(alloc, found.as_slice())?.as_str() == text)
+    match texts_over(alloc, Telling { failing, text }) {
+        Ok(told) => told.as_str() == text,
+        Err(_) => false,
+    }
 }
 
 #[test]
-fn errors_keep_their_own_texts(rt: HostRuntime) -> Result<(), AllocError> {
+fn errors_keep_their_own_texts(rt: HostRuntime) {
     const ALL: &[Failing] = &[
         Failing::Item,
         Failing::Type,
@@ -133,7 +140,6 @@ fn errors_keep_their_own_texts(rt: HostRuntime) -> Result<(), AllocError> {
         Failing::Root,
     ];
     for failing in ALL {
-        assert!(rt; is_told(rt.alloc(), *failing)?);
+        assert!(rt; is_told(rt.alloc(), *failing));
     }
-    Ok(())
 }

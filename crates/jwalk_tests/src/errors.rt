@@ -1,22 +1,16 @@
 //! What errors tell, and the metadata of entries.
-use crate::lines::{Builder, Entry, builder};
+use crate::lines::{Builder, Entry, builder, over_tree};
 use jwalk::Error;
 use jwalk::file_system::{BuildError, FileSystem, FileType, MemoryFs, Metadata};
-use std::alloc::{AllocError, Global};
+use std::alloc::Global;
 use std::io::ErrorKind;
-use std::test::Fail;
 use walk_fixtures::listed_directory::{Item, ListedDirectory};
 use walk_fixtures::trees::{DENIED, LOOPED, Step, tree};
 use walk_fixtures::watched::{Failing, Watched};
 
-/// The last answer of a walk, if it is an entry.
-fn last_entry<S: FileSystem>(walk: Builder<S>) -> Option<Entry> {
-    walk.into_iter().last()?.ok()
-}
-
-/// The last answer of a walk, if it is an error.
-fn last_error<S: FileSystem>(walk: Builder<S>) -> Option<Error> {
-    walk.into_iter().last()?.err()
+/// The last answer of a walk, if there is one.
+fn last<S: FileSystem>(walk: Builder<S>) -> Option<Result<Entry, Error>> {
+    walk.into_iter().last()
 }
 
 fn is_printed(alloc: Global, error: &Error, text: &str) -> bool {
@@ -37,78 +31,88 @@ fn tells(alloc: Global, error: &Error, kind: ErrorKind, text: &str) -> bool {
 }
 
 /// Whether an error of this kind, which a file system answered, is told by this text and then its own.
-fn tells_own(
-    alloc: Global,
-    error: &Error,
-    kind: ErrorKind,
-    lead: &str,
-) -> Result<bool, AllocError> {
-    let Some(err) = error.io_error() else {
-        return Ok(false);
-    };
-    let text = format!(in alloc; "{lead}{err}")?;
-    Ok(err.kind() == kind && text.len() > lead.len() && tells(alloc, error, kind, text.as_str()))
+fn tells_own(alloc: Global, error: &Error, kind: ErrorKind, lead: &str) -> Option<bool> {
+    let err = error.io_error()?;
+    let text = format!(in alloc; "{lead}{err}").ok()?;
+    Some(err.kind() == kind && text.len() > lead.len() && tells(alloc, error, kind, text.as_str()))
+}
+
+fn is_at(error: &Error, depth: usize, path: Option<&str>) -> bool {
+    error.depth() == depth && error.path() == path
+}
+
+/// The kind of the error that a file system answered.
+fn kind_of(error: Error) -> Option<ErrorKind> {
+    Some(error.into_io_error()?.kind())
 }
 
 /// What is said of the loop in the looped tree.
 const LOOP_TEXT: &str = "File system loop found: /r/a/b/c/a-link points to an ancestor /r/a";
 
-#[test]
-fn a_loop_tells_of_the_link_and_of_the_ancestor(rt: HostRuntime) -> Result<(), Fail> {
-    let walk = builder(rt.alloc(), tree(rt.alloc(), LOOPED)?, "/r")?;
-    let error = last_error(walk.follow_links(true)).ok_or("no error")?;
-    assert!(rt; tells(rt.alloc(), &error, ErrorKind::Other, LOOP_TEXT));
-    assert!(rt; error.into_io_error().is_none());
-    Ok(())
+/// The error of the loop, where a walk follows the link.
+fn loop_error(alloc: Global) -> Option<Error> {
+    last(over_tree(alloc, LOOPED, "/r").ok()?.follow_links(true))?.err()
 }
 
-/// The error that an entry's directory has.
-fn error_of(entry: &Entry) -> Option<&Error> {
-    entry.read_children.as_ref()?.error()
+fn tells_of_the_loop(alloc: Global) -> Option<bool> {
+    let error = loop_error(alloc)?;
+    Some(tells(alloc, &error, ErrorKind::Other, LOOP_TEXT) && kind_of(error).is_none())
 }
 
 #[test]
-fn a_failed_reading_has_its_directorys_depth_and_path(rt: HostRuntime) -> Result<(), Fail> {
-    let walk = builder(rt.alloc(), tree(rt.alloc(), DENIED)?, "/t")?;
-    let entry = last_entry(walk.sort(true)).ok_or("no entry")?;
-    let error = error_of(&entry).ok_or("no error")?;
+fn a_loop_tells_of_the_link_and_of_the_ancestor(rt: HostRuntime) {
+    assert!(rt; tells_of_the_loop(rt.alloc()) == Some(true));
+}
+
+/// The entry of the directory that may not be listed.
+fn denied_entry(alloc: Global) -> Option<Entry> {
+    last(over_tree(alloc, DENIED, "/t").ok()?.sort(true))?.ok()
+}
+
+/// Whether an entry's directory has the error that it may not be listed.
+fn is_denied(alloc: Global, entry: &Entry) -> Option<bool> {
+    let error = entry.read_children.as_ref()?.error()?;
     let lead = "IO error for operation on /t/group 2: ";
-    assert!(rt; tells_own(rt.alloc(), error, ErrorKind::PermissionDenied, lead)?);
-    assert!(rt; error.depth() == 1 && error.path() == Some("/t/group 2"));
-    Ok(())
+    let is_told = tells_own(alloc, error, ErrorKind::PermissionDenied, lead)?;
+    Some(is_told && is_at(error, 1, Some("/t/group 2")))
+}
+
+/// Whether a walk meets the directory that may not be listed.
+fn meets_denied(alloc: Global) -> Option<bool> {
+    is_denied(alloc, &denied_entry(alloc)?)
+}
+
+#[test]
+fn a_failed_reading_has_its_directorys_depth_and_path(rt: HostRuntime) {
+    assert!(rt; meets_denied(rt.alloc()) == Some(true));
 }
 
 /// The error of an item that could not be read.
-fn unread(alloc: Global, kind: ErrorKind) -> Result<Option<Error>, AllocError> {
+fn unread(alloc: Global, kind: ErrorKind) -> Option<Error> {
     let fs = ListedDirectory {
         path: "/d",
         file_type: FileType::Dir,
         target: Some(FileType::Dir),
         items: &[Item::Unread(kind)],
     };
-    Ok(last_error(builder(alloc, fs, "/d")?))
+    last(builder(alloc, fs, "/d").ok()?)?.err()
 }
 
-fn has_kind(error: Error, kind: ErrorKind) -> bool {
-    match error.into_io_error() {
-        Some(err) => err.kind() == kind,
-        None => false,
-    }
+/// Whether an item that could not be read has its own text, and no path.
+fn tells_of_the_unread(alloc: Global, kind: ErrorKind) -> Option<bool> {
+    let error = unread(alloc, kind)?;
+    let is_told = is_at(&error, 1, None) && tells_own(alloc, &error, kind, "")?;
+    Some(is_told && kind_of(error) == Some(kind))
 }
 
 #[test]
-fn an_error_without_a_path_tells_its_own_text(rt: HostRuntime) -> Result<(), Fail> {
-    let error = unread(rt.alloc(), ErrorKind::InvalidData)?.ok_or("no error")?;
-    assert!(rt; error.depth() == 1 && error.path().is_none());
-    assert!(rt; tells_own(rt.alloc(), &error, ErrorKind::InvalidData, "")?);
-    assert!(rt; has_kind(error, ErrorKind::InvalidData));
-    Ok(())
+fn an_error_without_a_path_tells_its_own_text(rt: HostRuntime) {
+    assert!(rt; tells_of_the_unread(rt.alloc(), ErrorKind::InvalidData) == Some(true));
 }
 
 /// Whether an error has nothing but its text.
 fn is_bare(alloc: Global, error: &Error, text: &str) -> bool {
-    error.depth() == 0
-        && error.path().is_none()
+    is_at(error, 0, None)
         && error.loop_ancestor().is_none()
         && error.io_error().is_none()
         && tells(alloc, error, ErrorKind::Other, text)
@@ -119,17 +123,21 @@ fn causes(error: &Error) -> (bool, bool, bool) {
     (error.is_busy(), error.is_memory(), error.is_lost())
 }
 
+/// Whether an error has nothing but its text and its cause.
+fn has_cause(alloc: Global, error: Error, text: &str, wanted: (bool, bool, bool)) -> bool {
+    is_bare(alloc, &error, text) && causes(&error) == wanted
+}
+
 #[test]
-fn errors_of_a_crew_and_of_memory(rt: HostRuntime) -> Result<(), Fail> {
+fn errors_of_a_crew_and_of_memory(rt: HostRuntime) {
     let busy = "rayon thread-pool too busy or dependency loop detected - \
                 aborting before possibility of deadlock";
-    assert!(rt; is_bare(rt.alloc(), &Error::busy(), busy));
-    assert!(rt; is_bare(rt.alloc(), &Error::memory(), "memory refused for the walk"));
-    assert!(rt; is_bare(rt.alloc(), &Error::lost(), "a reading of the crew is lost"));
-    assert!(rt; causes(&Error::busy()) == (true, false, false));
-    assert!(rt; causes(&Error::memory()) == (false, true, false));
-    assert!(rt; causes(&Error::lost()) == (false, false, true));
-    Ok(())
+    let memory = "memory refused for the walk";
+    let lost = "a reading of the crew is lost";
+    let is_busy = has_cause(rt.alloc(), Error::busy(), busy, (true, false, false));
+    let is_memory = has_cause(rt.alloc(), Error::memory(), memory, (false, true, false));
+    let is_lost = has_cause(rt.alloc(), Error::lost(), lost, (false, false, true));
+    assert!(rt; is_busy && is_memory && is_lost);
 }
 
 /// How many bytes the paths of a walk have; the first error ends it.
@@ -142,20 +150,21 @@ fn path_bytes<S: FileSystem>(walk: Builder<S>) -> anyhow::Result<usize> {
     Ok(bytes)
 }
 
-fn is_told(rt: &impl AllocGlobal, failed: &anyhow::Error, text: &str) -> Result<bool, AllocError> {
-    Ok(failed.to_string(rt.alloc())?.as_str() == text)
+/// How many bytes the paths of the looped tree have.
+fn looped_bytes(alloc: Global, follow: bool) -> anyhow::Result<usize> {
+    path_bytes(over_tree(alloc, LOOPED, "/r")?.follow_links(follow))
+}
+
+/// The text of the error that ends a walk through the loop.
+fn loop_text(alloc: Global) -> Option<String> {
+    looped_bytes(alloc, true).err()?.to_string(alloc).ok()
 }
 
 #[test]
-fn a_question_mark_keeps_the_text_of_an_error(rt: HostRuntime) -> Result<(), Fail> {
-    let links = builder(rt.alloc(), tree(rt.alloc(), LOOPED)?, "/r")?;
-    assert!(rt; path_bytes(links).ok() == Some(2 + 4 + 6 + 8 + 15));
-    let loops = builder(rt.alloc(), tree(rt.alloc(), LOOPED)?, "/r")?;
-    let failed = path_bytes(loops.follow_links(true))
-        .err()
-        .ok_or("no error")?;
-    assert!(rt; is_told(&rt, &failed, LOOP_TEXT)?);
-    Ok(())
+fn a_question_mark_keeps_the_text_of_an_error(rt: HostRuntime) {
+    let bytes = looped_bytes(rt.alloc(), false).ok();
+    let text = loop_text(rt.alloc());
+    assert!(rt; bytes == Some(2 + 4 + 6 + 8 + 15) && text.as_deref() == Some(LOOP_TEXT));
 }
 
 /// A directory of a file and a link to it.
@@ -165,31 +174,30 @@ const LINKED_FILE: &[Step] = &[
     Step::Link("f", "/r/l"),
 ];
 
-/// The metadata of the last entry of a walk, which may follow links.
-fn last_metadata<S: FileSystem>(alloc: Global, fs: &S, follow: bool) -> Option<Metadata> {
-    let walk = builder(alloc, fs, "/r").ok()?;
-    last_entry(walk.follow_links(follow))?.metadata(fs).ok()
+/// The entry of the link, or of the file where a walk follows it.
+fn link(alloc: Global, follow: bool) -> Option<Entry> {
+    let walk = over_tree(alloc, LINKED_FILE, "/r").ok()?;
+    last(walk.follow_links(follow))?.ok()
+}
+
+/// The metadata of the link, or of the file where a walk follows it.
+fn link_metadata(alloc: Global, follow: bool) -> Option<Metadata> {
+    let fs = tree(alloc, LINKED_FILE).ok()?;
+    link(alloc, follow)?.metadata(&fs).ok()
 }
 
 #[test]
-fn the_metadata_of_a_link_and_of_what_was_followed(rt: HostRuntime) -> Result<(), Fail> {
-    let fs = tree(rt.alloc(), LINKED_FILE)?;
-    let link = last_metadata(rt.alloc(), &fs, false);
-    assert!(rt; link == Some(Metadata::new(FileType::Symlink, 1)));
-    let file = last_metadata(rt.alloc(), &fs, true);
-    assert!(rt; file == Some(Metadata::new(FileType::File, 7)));
-    Ok(())
-}
-
-/// The entry of the link.
-fn link(alloc: Global) -> Option<Entry> {
-    let fs = tree(alloc, LINKED_FILE).ok()?;
-    last_entry(builder(alloc, &fs, "/r").ok()?)
+fn the_metadata_of_a_link_and_of_what_was_followed(rt: HostRuntime) {
+    let link = link_metadata(rt.alloc(), false);
+    let file = link_metadata(rt.alloc(), true);
+    let is_link = link == Some(Metadata::new(FileType::Symlink, 1));
+    let is_file = file == Some(Metadata::new(FileType::File, 7));
+    assert!(rt; is_link && is_file);
 }
 
 /// The error of the link's metadata over another file system.
 fn metadata_error<S: FileSystem>(alloc: Global, fs: &S) -> Option<Error> {
-    link(alloc)?.metadata(fs).err()
+    link(alloc, false)?.metadata(fs).err()
 }
 
 /// The same directory once the link is removed.
@@ -199,36 +207,49 @@ fn without_the_link(alloc: Global) -> Result<MemoryFs, BuildError> {
     Ok(fs)
 }
 
-#[test]
-fn the_metadata_of_what_is_gone(rt: HostRuntime) -> Result<(), Fail> {
-    let fs = without_the_link(rt.alloc())?;
-    let error = metadata_error(rt.alloc(), &fs).ok_or("no error")?;
-    assert!(rt; error.depth() == 1 && error.path() == Some("/r/l"));
-    assert!(rt; has_kind(error, ErrorKind::NotFound));
-    Ok(())
+/// Whether the link's metadata is not found once the link is removed.
+fn is_gone(alloc: Global) -> Option<bool> {
+    let fs = without_the_link(alloc).ok()?;
+    let error = metadata_error(alloc, &fs)?;
+    Some(is_at(&error, 1, Some("/r/l")) && kind_of(error) == Some(ErrorKind::NotFound))
 }
 
 #[test]
-fn the_metadata_where_memory_is_refused(rt: HostRuntime) -> Result<(), Fail> {
+fn the_metadata_of_what_is_gone(rt: HostRuntime) {
+    assert!(rt; is_gone(rt.alloc()) == Some(true));
+}
+
+/// The error of the link's metadata where memory for it is refused.
+fn refused_metadata(alloc: Global) -> Option<Error> {
     let failing = Failing::MetadataForMemory("/r/l");
-    let fs = Watched::new(tree(rt.alloc(), LINKED_FILE)?, failing);
-    let error = metadata_error(rt.alloc(), &fs).ok_or("no error")?;
-    assert!(rt; is_bare(rt.alloc(), &error, "memory refused for the walk"));
-    Ok(())
-}
-
-fn shown(alloc: Global, walk: Builder<MemoryFs>) -> Result<String, AllocError> {
-    let answers = (last_entry(walk), Error::<Global>::lost());
-    format!(in alloc; "{answers:?}")
+    let fs = Watched::new(tree(alloc, LINKED_FILE).ok()?, failing);
+    metadata_error(alloc, &fs)
 }
 
 #[test]
-fn entries_and_errors_are_shown(rt: HostRuntime) -> Result<(), Fail> {
-    let fs = tree(rt.alloc(), &[Step::Dir("/r")])?;
+fn the_metadata_where_memory_is_refused(rt: HostRuntime) {
+    let error = refused_metadata(rt.alloc());
+    let text = "memory refused for the walk";
+    assert!(rt; matches!(&error, Some(error) if is_bare(rt.alloc(), error, text)));
+}
+
+/// An entry and an error as `Debug` shows them.
+fn shown(alloc: Global, entry: Option<Entry>) -> Option<String> {
+    let answers = (entry, Error::<Global>::lost());
+    format!(in alloc; "{answers:?}").ok()
+}
+
+/// The entry of an empty root.
+fn empty_root(alloc: Global) -> Option<Entry> {
+    last(over_tree(alloc, &[Step::Dir("/r")], "/r").ok()?)?.ok()
+}
+
+#[test]
+fn entries_and_errors_are_shown(rt: HostRuntime) {
     let wanted = "(Some(DirEntry { depth: 0, file_name: \"r\", file_type: Dir, client_state: (), \
                   parent_path: \"/\", read_children: Some(ReadChildren { path: \"/r\", error: None, \
                   client_read_state: None }), through_link: false, .. }), \
                   Error { depth: 0, inner: Lost })";
-    assert!(rt; shown(rt.alloc(), builder(rt.alloc(), fs, "/r")?)?.as_str() == wanted);
-    Ok(())
+    let shown = shown(rt.alloc(), empty_root(rt.alloc()));
+    assert!(rt; shown.as_deref() == Some(wanted));
 }

@@ -1,10 +1,10 @@
 //! What each getter of each entry answers.
-use crate::lines::{Builder, Entry, builder};
+use crate::lines::{Entry, in_a_for_loop, over_tree};
 use jwalk::Error;
-use jwalk::file_system::{BuildError, FileSystem};
+use jwalk::file_system::BuildError;
 use std::alloc::{AllocError, Global};
 use walk_fixtures::answers::{letter, push};
-use walk_fixtures::trees::{SMALL, Step, tree};
+use walk_fixtures::trees::{SMALL, Step};
 
 /// What the getters of an entry answer: depth, name, parent, the letter of its type, and `+` where it has a directory
 /// to be read.
@@ -29,19 +29,19 @@ fn push_getters(text: &mut String, answer: &Result<Entry, Error>) -> Result<(), 
     }
 }
 
-/// The getters of all answers of a walk, parted by `; `.
-fn in_a_for_loop<S: FileSystem>(alloc: Global, walk: Builder<S>) -> Result<String, AllocError> {
+/// The getters of all answers, parted by `; `.
+fn getters_of(alloc: Global, answers: &[Result<Entry, Error>]) -> Result<String, AllocError> {
     let mut text = String::new(alloc);
-    for answer in walk {
-        push_getters(&mut text, &answer)?;
+    for answer in answers {
+        push_getters(&mut text, answer)?;
     }
     Ok(text)
 }
 
 /// The getters of all that a walk over the tree answers that these steps build.
 fn getters_from(alloc: Global, steps: &[Step], root: &str) -> Result<String, BuildError> {
-    let fs = tree(alloc, steps)?;
-    Ok(in_a_for_loop(alloc, builder(alloc, fs, root)?)?)
+    let found = in_a_for_loop(alloc, over_tree(alloc, steps, root)?)?;
+    Ok(getters_of(alloc, found.as_slice())?)
 }
 
 /// A walk with the options as they are, and the getters of its entries.

@@ -5,7 +5,6 @@ use jwalk::file_system::{FileSystem, MemoryFs};
 use jwalk::read_dir::{Job, NoProcess, ProcessReadDir, ReadDirSpec};
 use jwalk::{ClientState, DirEntry, Error};
 use std::alloc::{AllocError, Global};
-use std::test::Fail;
 use walk_fixtures::trees::{GROUPED, tree};
 use walk_fixtures::watched::{Failing, Watched};
 
@@ -79,51 +78,52 @@ fn are_groups(specs: &[ReadDirSpec<Noted>]) -> bool {
     }
 }
 
-fn leads_to_groups(job: &Job<Noted, MemoryFs, NotesNames>, root: &ReadDirSpec<Noted>) -> bool {
-    match specs_in(job, root) {
-        Some(specs) => root.path.as_str() == "/t" && are_groups(specs.as_slice()),
-        None => false,
-    }
+/// Whether the root is the one that was named, and its directories are the two groups.
+fn has_groups(job: &Job<Noted, MemoryFs, NotesNames>) -> Option<bool> {
+    let root = root_spec(job)?;
+    let specs = specs_in(job, &root)?;
+    Some(root.path.as_str() == "/t" && are_groups(specs.as_slice()))
 }
 
-// Whether the root is the one that was named, and its directories are the two groups.
-fn has_groups(job: &Job<Noted, MemoryFs, NotesNames>) -> bool {
-    match root_spec(job) {
-        Some(root) => leads_to_groups(job, &root),
-        None => false,
-    }
-}
-
-#[test]
-fn a_reading_has_its_items_and_directories_in_order(rt: HostRuntime) -> Result<(), Fail> {
-    let fs = tree(rt.alloc(), GROUPED)?;
-    let job = Job::<Noted, _, _>::new(rt.alloc(), fs, NotesNames, false, true, false, usize::MAX);
-    assert!(rt; has_groups(&job));
-    Ok(())
-}
-
-// Whether the root has no directories, as far as a job reads.
-fn has_none<S: FileSystem>(job: &Job<((), ()), S, NoProcess>) -> bool {
-    let Some(root) = root_spec(job) else {
-        return false;
-    };
-    match specs_in(job, &root) {
-        Some(specs) => specs.is_empty(),
-        None => false,
-    }
+/// Whether the root of the grouped tree has the two groups.
+fn tree_has_groups(alloc: Global) -> Option<bool> {
+    let fs = tree(alloc, GROUPED).ok()?;
+    has_groups(&Job::new(alloc, fs, NotesNames, false, true, false, usize::MAX))
 }
 
 #[test]
-fn nothing_is_read_at_the_greatest_depth(rt: HostRuntime) -> Result<(), Fail> {
-    let fs = Watched::new(tree(rt.alloc(), GROUPED)?, Failing::Never);
-    let job = Job::<((), ()), _, _>::new(rt.alloc(), &fs, NoProcess, false, true, false, 0);
-    assert!(rt; has_none(&job));
-    assert!(rt; fs.lists() == 0);
-    Ok(())
+fn a_reading_has_its_items_and_directories_in_order(rt: HostRuntime) {
+    assert!(rt; tree_has_groups(rt.alloc()) == Some(true));
+}
+
+/// A reading without a callback.
+type Plain<S> = Job<((), ()), S, NoProcess>;
+
+/// A reading as far as this depth.
+fn plain<S: FileSystem>(alloc: Global, fs: S, max_depth: usize) -> Plain<S> {
+    Job::new(alloc, fs, NoProcess, false, true, false, max_depth)
+}
+
+// How many directories the root has, as far as a job reads.
+fn directories<S: FileSystem>(job: &Plain<S>) -> Option<usize> {
+    let root = root_spec(job)?;
+    Some(specs_in(job, &root)?.len())
+}
+
+/// How many directories the root has at the greatest depth, and how many listings were asked for.
+fn directories_and_lists(alloc: Global) -> Option<(usize, usize)> {
+    let fs = Watched::new(tree(alloc, GROUPED).ok()?, Failing::Never);
+    let found = directories(&plain(alloc, &fs, 0))?;
+    Some((found, fs.lists()))
+}
+
+#[test]
+fn nothing_is_read_at_the_greatest_depth(rt: HostRuntime) {
+    assert!(rt; directories_and_lists(rt.alloc()) == Some((0, 0)));
 }
 
 /// The root's entry, if it comes alone.
-fn root_of<S: FileSystem>(job: &Job<((), ()), S, NoProcess>) -> Option<DirEntry<((), ())>> {
+fn root_of<S: FileSystem>(job: &Plain<S>) -> Option<DirEntry<((), ())>> {
     let read = job.root_list("/t", ()).ok()?;
     if read.results_list().len() != 1 {
         return None;
@@ -132,24 +132,19 @@ fn root_of<S: FileSystem>(job: &Job<((), ()), S, NoProcess>) -> Option<DirEntry<
 }
 
 /// The entry of the root of the grouped tree.
-fn root_of_the_grouped_tree(alloc: Global) -> Result<DirEntry<((), ())>, Fail> {
-    let fs = tree(alloc, GROUPED)?;
-    let job = Job::<((), ()), _, _>::new(alloc, fs, NoProcess, false, true, false, usize::MAX);
-    Ok(root_of(&job).ok_or("not one root")?)
+fn root_of_the_grouped_tree(alloc: Global) -> Option<DirEntry<((), ())>> {
+    let fs = tree(alloc, GROUPED).ok()?;
+    root_of(&plain(alloc, fs, usize::MAX))
 }
 
-fn is_at(entry: &DirEntry<((), ())>, wanted: &str) -> bool {
-    match entry.path() {
-        Ok(path) => path.as_str() == wanted,
-        Err(_) => false,
-    }
+/// The path of that entry.
+fn root_path(alloc: Global) -> Option<String> {
+    root_of_the_grouped_tree(alloc)?.path().ok()
 }
 
 #[test]
-fn a_reading_gives_its_list_out(rt: HostRuntime) -> Result<(), Fail> {
-    let root = root_of_the_grouped_tree(rt.alloc())?;
-    assert!(rt; is_at(&root, "/t"));
-    Ok(())
+fn a_reading_gives_its_list_out(rt: HostRuntime) {
+    assert!(rt; root_path(rt.alloc()).as_deref() == Some("/t"));
 }
 
 /// The error that an entry's directory has.
@@ -161,17 +156,13 @@ fn is_bare_memory(error: &Error) -> bool {
     error.is_memory() && error.depth() == 0 && error.path().is_none()
 }
 
-fn holds_error(root: DirEntry<((), ())>) -> bool {
-    let failed = root.with_error(Error::memory());
-    match error_of(&failed) {
-        Some(error) => is_bare_memory(error),
-        None => false,
-    }
+/// Whether the root's entry, which is given an error, has it.
+fn holds_error(alloc: Global) -> Option<bool> {
+    let failed = root_of_the_grouped_tree(alloc)?.with_error(Error::memory());
+    Some(is_bare_memory(error_of(&failed)?))
 }
 
 #[test]
-fn an_entry_holds_the_error_of_its_directory(rt: HostRuntime) -> Result<(), Fail> {
-    let root = root_of_the_grouped_tree(rt.alloc())?;
-    assert!(rt; holds_error(root));
-    Ok(())
+fn an_entry_holds_the_error_of_its_directory(rt: HostRuntime) {
+    assert!(rt; holds_error(rt.alloc()) == Some(true));
 }

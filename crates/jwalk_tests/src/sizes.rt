@@ -2,8 +2,7 @@
 use crate::lines::{Entry, Walk, builder, is_over, next_entry, next_path, walk};
 use jwalk::Error;
 use jwalk::file_system::{BuildError, FileSystem, MemoryFs};
-use std::alloc::{AllocError, Global};
-use std::test::Fail;
+use std::alloc::Global;
 use walk_fixtures::watched::{Failing, Watched};
 use walk_fixtures::wide::{FILES, file_path, scrambled, wide_directory};
 
@@ -27,7 +26,7 @@ fn files_are_next<S: FileSystem>(alloc: Global, walk: &mut Walk<S>, by_name: boo
 }
 
 /// A walk has the directory and all its files, of one listing.
-fn has_all_files(alloc: Global, by_name: bool) -> Result<bool, Fail> {
+fn has_all_files(alloc: Global, by_name: bool) -> Result<bool, BuildError> {
     let fs = Watched::new(wide_directory(alloc)?, Failing::Never);
     let mut walk = builder(alloc, &fs, "/d")?.sort(by_name).into_iter();
     let is_first = next_entry(&mut walk).is_some();
@@ -35,38 +34,39 @@ fn has_all_files(alloc: Global, by_name: bool) -> Result<bool, Fail> {
 }
 
 #[test]
-fn many_files_as_they_were_made(rt: HostRuntime) -> Result<(), Fail> {
-    assert!(rt; has_all_files(rt.alloc(), false)?);
-    Ok(())
+fn many_files_as_they_were_made(rt: HostRuntime) {
+    assert!(rt; matches!(has_all_files(rt.alloc(), false), Ok(true)));
 }
 
 #[test]
-fn many_files_by_name(rt: HostRuntime) -> Result<(), Fail> {
-    assert!(rt; has_all_files(rt.alloc(), true)?);
-    Ok(())
+fn many_files_by_name(rt: HostRuntime) {
+    assert!(rt; matches!(has_all_files(rt.alloc(), true), Ok(true)));
 }
 
 /// A call for all answers gives so many, and 5001 are then there.
-fn fills(
-    walk: &mut Walk<MemoryFs>,
+fn fills<S: FileSystem>(
+    walk: &mut Walk<S>,
     found: &mut Vec<Result<Entry, Error>>,
     count: usize,
-) -> Result<bool, AllocError> {
-    Ok(walk.fill(usize::MAX, found)? == count && found.len() == 5_001)
+) -> bool {
+    matches!(walk.fill(usize::MAX, found), Ok(added) if added == count) && found.len() == 5_001
 }
 
 /// A first call gives all answers, and a second none.
-fn comes_at_once(alloc: Global, walk: &mut Walk<MemoryFs>) -> Result<bool, AllocError> {
+fn comes_at_once<S: FileSystem>(alloc: Global, walk: &mut Walk<S>) -> bool {
     let mut found = Vec::new(alloc);
-    Ok(fills(walk, &mut found, 5_001)? && fills(walk, &mut found, 0)?)
+    fills(walk, &mut found, 5_001) && fills(walk, &mut found, 0)
+}
+
+/// Whether all answers of the wide directory come at once.
+fn wide_comes_at_once(alloc: Global) -> Result<bool, BuildError> {
+    let mut walk = walk(alloc, wide_directory(alloc)?, "/d")?;
+    Ok(comes_at_once(alloc, &mut walk))
 }
 
 #[test]
-fn all_answers_by_one_call(rt: HostRuntime) -> Result<(), Fail> {
-    let mut walk = walk(rt.alloc(), wide_directory(rt.alloc())?, "/d")?;
-    let is_whole = comes_at_once(rt.alloc(), &mut walk)?;
-    assert!(rt; is_whole);
-    Ok(())
+fn all_answers_by_one_call(rt: HostRuntime) {
+    assert!(rt; matches!(wide_comes_at_once(rt.alloc()), Ok(true)));
 }
 
 /// A directory in a directory, and so on, down to a depth of 30 below the first.
@@ -97,15 +97,14 @@ fn depths_are_next<S: FileSystem>(walk: &mut Walk<S>, depths: usize) -> bool {
     is_over(walk)
 }
 
-fn goes_down(alloc: Global, fs: &Watched, depths: usize) -> Result<bool, AllocError> {
-    let mut walk = walk(alloc, fs, "/c")?;
-    Ok(depths_are_next(&mut walk, depths))
+/// A walk goes down the chain, and lists each directory once.
+fn goes_down_once(alloc: Global) -> Result<bool, BuildError> {
+    let fs = Watched::new(chain(alloc)?, Failing::Never);
+    let mut walk = walk(alloc, &fs, "/c")?;
+    Ok(depths_are_next(&mut walk, 31) && fs.lists() == 31)
 }
 
 #[test]
-fn a_chain_of_directories(rt: HostRuntime) -> Result<(), Fail> {
-    let fs = Watched::new(chain(rt.alloc())?, Failing::Never);
-    assert!(rt; goes_down(rt.alloc(), &fs, 31)?);
-    assert!(rt; fs.lists() == 31);
-    Ok(())
+fn a_chain_of_directories(rt: HostRuntime) {
+    assert!(rt; matches!(goes_down_once(rt.alloc()), Ok(true)));
 }

@@ -4,5 +4,3 @@
 pub mod marked;
 mod rule;
 pub mod slot;
-#[cfg(test)]
-mod tests;

@@ -1,8 +1,7 @@
 //! Boards: what is taken, finished and handed out.
+use crate::given::{address, counts, is_at};
 use jwalk_board::board::{Board, FinishFault, FinishRefusal, HandOutRefusal, TakeRefusal};
-use jwalk_order::index_path::IndexPath;
-use jwalk_order::ordered::Ordered;
-use std::alloc::{AllocError, Global};
+use std::alloc::Global;
 use std::process::Abort;
 
 type Names = Board<&'static str, &'static str>;
@@ -11,16 +10,18 @@ type Fault = FinishFault<&'static str, &'static str>;
 
 // One step of a play on a board, with what is to come of it.
 enum Step {
-    // The item at this address is taken.
-    Takes(&'static [usize]),
-    TakesNone(TakeRefusal),
+    // The item at this address is taken, or none.
+    Takes(Result<&'static [usize], TakeRefusal>),
     // What was taken at this address is finished, with a reading and with children.
     Finishes(&'static [usize], &'static str, &'static [&'static str]),
+    // The root is finished, with so many children.
+    FinishesRoot(usize),
     // Nothing at this address is in hand, and all of it is given back.
     FinishesNone(&'static [usize]),
-    // The item at this address is handed out, with so many children.
-    HandsOut(&'static [usize], usize),
-    HandsOutNone(HandOutRefusal),
+    // The item at this address is handed out, with so many children, or none.
+    HandsOut(Result<(&'static [usize], usize), HandOutRefusal>),
+    // Only children of only children are taken, finished and handed out, on 299 levels.
+    GoesDown,
     // So many are queued, in hand, ready and pending.
     Counts([usize; 4]),
     Stops,
@@ -29,42 +30,23 @@ enum Step {
 // What a step does. None of it promises anything: a test that calls the board itself carries each call's contract to
 // its end.
 
-fn path(alloc: Global, indices: &[usize]) -> Result<IndexPath, AllocError> {
-    Ok(IndexPath::new(Vec::from_slice(alloc, indices)?))
-}
-
-fn is_at(item: &Ordered<&'static str>, indices: &[usize], child_count: usize) -> bool {
-    item.index_path.indices.as_slice() == indices && item.child_count() == child_count
-}
-
-fn takes(board: &mut Names, indices: &[usize]) -> bool {
+fn takes(board: &mut Names, wanted: Result<&[usize], TakeRefusal>) -> bool {
     match board.take() {
-        Ok(item) => is_at(&item, indices, 0),
-        Err(_) => false,
+        Ok(item) => matches!(wanted, Ok(indices) if is_at(&item, indices, 0)),
+        Err(refusal) => wanted.err() == Some(refusal),
     }
-}
-
-fn takes_none(board: &mut Names, refusal: TakeRefusal) -> bool {
-    board.take().err() == Some(refusal)
 }
 
 fn finish(
     board: &mut Names,
-    address: IndexPath,
-    reading: &'static str,
-    children: Vec<&'static str>,
-) -> Option<Fault> {
-    board.finish(address, reading, children).err()
-}
-
-// An address and children.
-fn given(
     alloc: Global,
     indices: &[usize],
+    reading: &'static str,
     children: &[&'static str],
-) -> Result<(IndexPath, Vec<&'static str>), AllocError> {
-    let address = path(alloc, indices)?;
-    Ok((address, Vec::from_slice(alloc, children)?))
+) -> Option<Result<(), Fault>> {
+    let address = address(alloc, indices)?;
+    let children = Vec::from_slice(alloc, children).ok()?;
+    Some(board.finish(address, reading, children))
 }
 
 fn finishes(
@@ -74,8 +56,15 @@ fn finishes(
     reading: &'static str,
     children: &[&'static str],
 ) -> bool {
-    match given(alloc, indices, children) {
-        Ok((address, children)) => finish(board, address, reading, children).is_none(),
+    matches!(
+        finish(board, alloc, indices, reading, children),
+        Some(Ok(()))
+    )
+}
+
+fn finishes_root(board: &mut Names, alloc: Global, child_count: usize) -> bool {
+    match vec![in alloc; "n"; child_count] {
+        Ok(children) => finishes(board, alloc, &[0], "r", children.as_slice()),
         Err(_) => false,
     }
 }
@@ -88,33 +77,31 @@ fn gives_back(fault: &Fault, indices: &[usize]) -> bool {
 }
 
 fn finishes_none(board: &mut Names, alloc: Global, indices: &[usize]) -> bool {
-    match given(alloc, indices, &["y"]) {
-        Ok((address, children)) => match finish(board, address, "x", children) {
-            Some(fault) => gives_back(&fault, indices),
-            None => false,
-        },
-        Err(_) => false,
+    match &finish(board, alloc, indices, "x", &["y"]) {
+        Some(Err(fault)) => gives_back(fault, indices),
+        _ => false,
     }
 }
 
-fn hands_out(board: &mut Names, indices: &[usize], child_count: usize) -> bool {
+fn hands_out(board: &mut Names, wanted: Result<(&[usize], usize), HandOutRefusal>) -> bool {
     match board.hand_out() {
-        Ok(item) => is_at(&item, indices, child_count),
-        Err(_) => false,
+        Ok(item) => matches!(wanted, Ok((indices, children)) if is_at(&item, indices, children)),
+        Err(refusal) => wanted.err() == Some(refusal),
     }
 }
 
-fn hands_out_none(board: &mut Names, refusal: HandOutRefusal) -> bool {
-    board.hand_out().err() == Some(refusal)
-}
-
-fn counts(board: &Names) -> [usize; 4] {
-    [
-        board.queued(),
-        board.in_hand(),
-        board.ready(),
-        board.pending(),
-    ]
+// Takes the only child of only children at each address down to this one, finishes it with one child and hands it out.
+fn goes_down(board: &mut Names, alloc: Global, indices: &[usize]) -> bool {
+    for length in 1..indices.len() {
+        let above = &indices[..length];
+        if !takes(board, Ok(above))
+            || !finishes(board, alloc, above, "d", &["d"])
+            || !hands_out(board, Ok((above, 1)))
+        {
+            return false;
+        }
+    }
+    true
 }
 
 fn stops(board: &mut Names) -> bool {
@@ -124,14 +111,14 @@ fn stops(board: &mut Names) -> bool {
 
 fn goes(board: &mut Names, alloc: Global, step: &Step) -> bool {
     match step {
-        Step::Takes(indices) => takes(board, indices),
-        Step::TakesNone(refusal) => takes_none(board, *refusal),
+        Step::Takes(wanted) => takes(board, *wanted),
         Step::Finishes(indices, reading, children) => {
             finishes(board, alloc, indices, reading, children)
         }
+        Step::FinishesRoot(child_count) => finishes_root(board, alloc, *child_count),
         Step::FinishesNone(indices) => finishes_none(board, alloc, indices),
-        Step::HandsOut(indices, child_count) => hands_out(board, indices, *child_count),
-        Step::HandsOutNone(refusal) => hands_out_none(board, *refusal),
+        Step::HandsOut(wanted) => hands_out(board, *wanted),
+        Step::GoesDown => goes_down(board, alloc, [0; 300].as_slice()),
         Step::Counts(wanted) => counts(board) == *wanted,
         Step::Stops => stops(board),
     }
@@ -147,107 +134,72 @@ fn wrong(board: &mut Names, alloc: Global, steps: &[Step]) -> Option<usize> {
     None
 }
 
-fn with_roots(alloc: Global, roots: &[&'static str]) -> Option<Names> {
-    Board::new(Vec::from_slice(alloc, roots).ok()?).ok()
-}
-
-// The same on a board with one root.
-fn first_wrong(alloc: Global, steps: &[Step]) -> Option<usize> {
-    match with_roots(alloc, &["r"]) {
-        Some(mut board) => wrong(&mut board, alloc, steps),
-        None => Some(0),
+// The same on a board with so many roots.
+fn first_wrong(alloc: Global, root_count: usize, steps: &[Step]) -> Option<usize> {
+    let Ok(roots) = vec![in alloc; "r"; root_count] else {
+        return Some(0);
+    };
+    match Board::new(roots) {
+        Ok(mut board) => wrong(&mut board, alloc, steps),
+        Err(_) => Some(0),
     }
 }
 
 // Each step goes as is said.
-fn all_go(rt: &(impl Abort + AllocGlobal), steps: &[Step]) {
-    assert_eq!(rt; first_wrong(rt.alloc(), steps), None);
+fn all_go(rt: &(impl Abort + AllocGlobal), root_count: usize, steps: &[Step]) {
+    assert_eq!(rt; first_wrong(rt.alloc(), root_count, steps), None);
 }
 
 #[test]
 fn a_root_with_two_leaves_is_handed_out_in_order(rt: HostRuntime) {
     const STEPS: &[Step] = &[
-        Step::Takes(&[0]),
+        Step::Takes(Ok(&[0])),
         Step::Finishes(&[0], "r", &["a", "b"]),
-        Step::Takes(&[0, 0]),
-        Step::Takes(&[0, 1]),
-        Step::TakesNone(TakeRefusal::Empty),
+        Step::Takes(Ok(&[0, 0])),
+        Step::Takes(Ok(&[0, 1])),
+        Step::Takes(Err(TakeRefusal::Empty)),
         Step::Finishes(&[0, 1], "b", &[]),
-        Step::HandsOut(&[0], 2),
-        Step::HandsOutNone(HandOutRefusal::NotReady),
+        Step::HandsOut(Ok((&[0], 2))),
+        Step::HandsOut(Err(HandOutRefusal::NotReady)),
         Step::Counts([0, 1, 1, 1]),
         Step::Finishes(&[0, 0], "a", &[]),
-        Step::HandsOut(&[0, 0], 0),
-        Step::HandsOut(&[0, 1], 0),
-        Step::HandsOutNone(HandOutRefusal::Done),
-        Step::TakesNone(TakeRefusal::Done),
+        Step::HandsOut(Ok((&[0, 0], 0))),
+        Step::HandsOut(Ok((&[0, 1], 0))),
+        Step::HandsOut(Err(HandOutRefusal::Done)),
+        Step::Takes(Err(TakeRefusal::Done)),
         Step::Stops,
-        Step::TakesNone(TakeRefusal::Stopped),
+        Step::Takes(Err(TakeRefusal::Stopped)),
     ];
-    all_go(&rt, STEPS);
+    all_go(&rt, 1, STEPS);
 }
 
 #[test]
 fn only_what_is_in_hand_is_finished(rt: HostRuntime) {
     const STEPS: &[Step] = &[
-        Step::Takes(&[0]),
+        Step::Takes(Ok(&[0])),
         Step::Finishes(&[0], "r", &["a", "b"]),
         Step::FinishesNone(&[0, 5]),
         Step::Counts([2, 0, 1, 2]),
         Step::FinishesNone(&[0]),
         Step::Counts([2, 0, 1, 2]),
     ];
-    all_go(&rt, STEPS);
-}
-
-// Takes the only child of only children at this address, finishes it with one child and hands it out.
-fn steps_down(board: &mut Names, alloc: Global, indices: &[usize]) -> bool {
-    takes(board, indices)
-        && finishes(board, alloc, indices, "d", &["d"])
-        && hands_out(board, indices, 1)
-}
-
-fn steps_down_to(board: &mut Names, alloc: Global, indices: &[usize]) -> bool {
-    for length in 1..indices.len() {
-        if !steps_down(board, alloc, &indices[..length]) {
-            return false;
-        }
-    }
-    counts(board) == [1, 0, 0, 1]
-}
-
-// Whether a board goes down so far, by only children.
-fn is_deep(alloc: Global, indices: &[usize]) -> bool {
-    match with_roots(alloc, &["r"]) {
-        Some(mut board) => steps_down_to(&mut board, alloc, indices),
-        None => false,
-    }
+    all_go(&rt, 1, STEPS);
 }
 
 #[test]
 fn a_long_chain_is_finished_and_handed_out(rt: HostRuntime) {
-    assert!(rt; is_deep(rt.alloc(), [0; 300].as_slice()));
-}
-
-fn has_many_children(board: &mut Names, alloc: Global, names: &[&'static str]) -> bool {
-    takes(board, &[0])
-        && finishes(board, alloc, &[0], "r", names)
-        && counts(board) == [5999, 0, 1, 5999]
-        && hands_out(board, &[0], 3000)
-        && takes(board, &[0, 0])
-}
-
-// Whether a board takes so many roots, and as many children of the first.
-fn is_wide(alloc: Global, count: usize) -> Result<bool, AllocError> {
-    let names = vec![in alloc; "n"; count]?;
-    match with_roots(alloc, names.as_slice()) {
-        Some(mut board) => Ok(has_many_children(&mut board, alloc, names.as_slice())),
-        None => Ok(false),
-    }
+    const STEPS: &[Step] = &[Step::GoesDown, Step::Counts([1, 0, 0, 1])];
+    all_go(&rt, 1, STEPS);
 }
 
 #[test]
-fn many_roots_have_many_children(rt: HostRuntime) -> Result<(), AllocError> {
-    assert!(rt; is_wide(rt.alloc(), 3000)?);
-    Ok(())
+fn many_roots_have_many_children(rt: HostRuntime) {
+    const STEPS: &[Step] = &[
+        Step::Takes(Ok(&[0])),
+        Step::FinishesRoot(3000),
+        Step::Counts([5999, 0, 1, 5999]),
+        Step::HandsOut(Ok((&[0], 3000))),
+        Step::Takes(Ok(&[0, 0])),
+    ];
+    all_go(&rt, 3000, STEPS);
 }

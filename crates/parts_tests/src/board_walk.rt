@@ -1,77 +1,13 @@
 //! Readings over a board, in turn and on threads.
-ghost use Rattle.std.specs.Prelude.{◌≤◌};
-ghost use Rattle.walk_model.specs.Tree.{functions_of, only_root};
-
+use crate::given::{self, Refusing, States, push_names, roots_of};
 use jwalk_engine::board_walk::BoardWalk;
 use jwalk_read::job::Job;
-use jwalk_read::process_read_dir::NoProcess;
-use jwalk_read::read_dir::ReadDir;
-use jwalk_read::read_dir_spec::ReadDirSpec;
-use memory_fs::build_error::BuildError;
-use memory_fs::memory_fs::MemoryFs;
-use std::alloc::{AllocError, Allocator, Global};
-use std::io;
-use std::test::Fail;
+use jwalk_read::read_dir::Outcome;
+use read_parts::process_read_dir::NoProcess;
+use std::alloc::{AllocError, Global};
 use std::thread::Threads;
-use walk_fs::fault::Fault;
-use walk_fs::file_system::FileSystem;
-use walk_fs::listed::Listed;
-use walk_model::metadata::Metadata;
-
-/// A tree in memory that is refused memory when one of its directories is listed.
-#[derive(Drop)]
-pub(crate) struct Refusing {
-    pub(crate) fs: MemoryFs,
-    pub(crate) at: &'static str,
-}
-
-impl FileSystem for Refusing {
-    ghost IsFixed = { λ _. ⊥ };
-
-    ghost functions = { λ _. functions_of only_root };
-
-    fn read_dir<A: Allocator + Copy>(
-        &self,
-        alloc: A,
-        path: &str,
-    ) -> Result<Vec<io::Result<Listed<A>>, A>, Fault> {
-        if path == self.at {
-            Err(Fault::Memory)
-        } else {
-            self.fs.read_dir(alloc, path)
-        }
-    }
-
-    fn metadata(&self, path: &str) -> Result<Metadata, Fault> {
-        self.fs.metadata(path)
-    }
-
-    fn symlink_metadata(&self, path: &str) -> Result<Metadata, Fault> {
-        self.fs.symlink_metadata(path)
-    }
-
-    fn read_link<A: Allocator + Copy>(&self, alloc: A, path: &str) -> Result<String<A>, Fault> {
-        self.fs.read_link(alloc, path)
-    }
-}
-
-type States = ((), ());
 
 type Walk<'f> = BoardWalk<States, &'f Refusing, NoProcess>;
-
-fn add_dirs(fs: &mut MemoryFs, dirs: &[&str]) -> Result<(), BuildError> {
-    for dir in dirs {
-        fs.add_dir(dir)?;
-    }
-    Ok(())
-}
-
-/// These directories and no others, of which the one at this path is refused memory.
-fn tree(alloc: Global, dirs: &[&str], at: &'static str) -> Result<Refusing, BuildError> {
-    let mut fs = MemoryFs::new(alloc);
-    add_dirs(&mut fs, dirs)?;
-    Ok(Refusing { fs, at })
-}
 
 /// Three directories with one in each.
 const TWINS: [&str; 7] = ["/r", "/r/a", "/r/a/x", "/r/b", "/r/b/x", "/r/c", "/r/c/x"];
@@ -89,142 +25,132 @@ const MANY: [&str; 67] = [
 
 const DIGITS: [&str; 10] = ["0", "1", "2", "3", "4", "5", "6", "7", "8", "9"];
 
-/// Adds the names in a reading, and how many others are ahead.
-fn push_reading(text: &mut String, read: &ReadDir<States>, ahead: usize) -> Result<(), AllocError> {
-    for found in read.results_list() {
-        if let Ok(entry) = found {
-            text.push_str(entry.file_name())?;
-        }
+/// These directories and no others, of which the one at this path is refused memory.
+fn tree(alloc: Global, dirs: &[&str], at: &'static str) -> Option<Refusing> {
+    let fs = given::tree(alloc, dirs)?;
+    Some(Refusing { fs, at })
+}
+
+/// A walk over all that is below the root, with so many directories read together; none without a width.
+fn walk(alloc: Global, fs: &Refusing, width: usize) -> Option<Walk<'_>> {
+    if width == 0 {
+        return None;
     }
-    text.push_str(DIGITS.get(ahead).unwrap_or(&"+"))?;
-    text.push_str(" ")
-}
-
-/// The directory at the root.
-fn roots_of(job: &Job<States, &Refusing, NoProcess>) -> Option<Vec<ReadDirSpec<States>>> {
-    let list = job.root_list("/r", ()).ok()?;
-    list.read_children_specs().ok()
-}
-
-/// A walk over all that is below the root.
-fn walk(alloc: Global, fs: &Refusing, width: usize) -> Option<Walk<'_>>
-    requires { 1 ≤ width }
-{
     let job = Job::new(alloc, fs, NoProcess, true, true, false, usize::MAX);
-    let roots = roots_of(&job)?;
+    let roots = roots_of(&job, "/r")?;
     BoardWalk::try_new(alloc, job, roots, width).ok()
 }
 
-fn push_next(text: &mut String, walk: &mut Walk<'_>) -> Option<()> {
-    let read = walk.read_next().ok()??.ok()?;
-    push_reading(text, &read, walk.ahead()).ok()
+/// How the directories are read.
+#[derive(Clone, Copy)]
+enum By {
+    Turn,
+    Threads,
 }
 
-fn push_next_on(rt: &(impl Threads + Sync), text: &mut String, walk: &mut Walk<'_>) -> Option<()> {
-    let read = walk.read_next_on(rt).ok()??.ok()?;
-    push_reading(text, &read, walk.ahead()).ok()
+/// The next reading.
+fn next(
+    rt: &(impl Threads + Sync),
+    walk: &mut Walk<'_>,
+    by: By,
+) -> Result<Option<Outcome<States, Global>>, AllocError> {
+    match by {
+        By::Turn => walk.read_next(),
+        By::Threads => walk.read_next_on(rt),
+    }
 }
 
-/// The names in each reading, and after each how many are ahead.
-fn readings(alloc: Global, fs: &Refusing, width: usize) -> Option<String>
-    requires { 1 ≤ width }
-{
-    let mut walk = walk(alloc, fs, width)?;
+/// Adds what comes next: the names in a reading, or that there is an error or a refusal. None at the end.
+fn push_next(
+    text: &mut String,
+    next: Result<Option<Outcome<States, Global>>, AllocError>,
+) -> Option<()> {
+    match next {
+        Ok(Some(Ok(read))) => push_names(text, &read),
+        Ok(Some(Err(_))) => text.push_str("error").ok(),
+        Ok(None) => None,
+        Err(_) => text.push_str("refused").ok(),
+    }
+}
+
+/// Adds how many others are ahead.
+fn push_ahead(text: &mut String, ahead: usize) -> Option<()> {
+    text.push_str(DIGITS.get(ahead).unwrap_or(&"+")).ok()?;
+    text.push_str(" ").ok()
+}
+
+/// What comes of a walk: each reading, and after each how many others are ahead.
+fn readings(
+    rt: &(impl Threads + Sync),
+    alloc: Global,
+    walk: &mut Walk<'_>,
+    by: By,
+) -> Option<String> {
     let mut text = String::new(alloc);
     for _ in 0..100 {
-        if push_next(&mut text, &mut walk).is_none() {
+        if push_next(&mut text, next(rt, walk, by)).is_none() {
             break;
         }
+        push_ahead(&mut text, walk.ahead())?;
     }
     Some(text)
 }
 
-/// The same, read on threads.
-fn readings_on(
+/// Whether this comes of a walk.
+fn gives(
     rt: &(impl Threads + Sync),
     alloc: Global,
     fs: &Refusing,
     width: usize,
-) -> Option<String>
-    requires { 1 ≤ width }
-{
-    let mut walk = walk(alloc, fs, width)?;
-    let mut text = String::new(alloc);
-    for _ in 0..100 {
-        if push_next_on(rt, &mut text, &mut walk).is_none() {
-            break;
-        }
+    by: By,
+    wanted: &str,
+) -> bool {
+    match walk(alloc, fs, width) {
+        Some(mut walk) => readings(rt, alloc, &mut walk, by).as_deref() == Some(wanted),
+        None => false,
     }
-    Some(text)
 }
 
-/// Both ways of reading give these.
+/// Whether both ways of reading these directories give this, where the one at a path is refused memory.
 fn both_give(
-    rt: &(impl Threads + Sync),
-    alloc: Global,
-    fs: &Refusing,
+    rt: &(impl Threads + Sync + AllocGlobal),
+    dirs: &[&str],
+    at: &'static str,
     width: usize,
     wanted: &str,
-) -> bool
-    requires { 1 ≤ width }
-{
-    readings(alloc, fs, width).as_deref() == Some(wanted)
-        && readings_on(rt, alloc, fs, width).as_deref() == Some(wanted)
+) -> bool {
+    let alloc = rt.alloc();
+    match &tree(alloc, dirs, at) {
+        Some(fs) => {
+            gives(rt, alloc, fs, width, By::Turn, wanted)
+                && gives(rt, alloc, fs, width, By::Threads, wanted)
+        }
+        None => false,
+    }
 }
 
 #[test]
-fn directories_are_read_in_order_however_many_together(rt: HostRuntime) -> Result<(), Fail> {
-    let alloc = rt.alloc();
-    let fs = tree(alloc, &TWINS, "")?;
-    assert!(rt; both_give(&rt, alloc, &fs, 1, "abc0 x0 0 x0 0 x0 0 "));
-    assert!(rt; both_give(&rt, alloc, &fs, 2, "abc0 x1 2 x1 0 x0 0 "));
-    assert!(rt; both_give(&rt, alloc, &fs, 8, "abc0 x2 4 x3 2 x1 0 "));
-    Ok(())
+fn directories_are_read_in_order_however_many_together(rt: HostRuntime) {
+    const ROWS: &[(usize, &str)] = &[
+        (1, "abc0 x0 0 x0 0 x0 0 "),
+        (2, "abc0 x1 2 x1 0 x0 0 "),
+        (8, "abc0 x2 4 x3 2 x1 0 "),
+    ];
+    for (width, wanted) in ROWS {
+        assert!(rt; both_give(&rt, &TWINS, "", *width, wanted));
+    }
 }
 
 #[test]
-fn threads_read_a_wide_batch_in_order(rt: HostRuntime) -> Result<(), Fail> {
-    let alloc = rt.alloc();
-    let fs = tree(alloc, &MANY, "")?;
+fn threads_read_a_wide_batch_in_order(rt: HostRuntime) {
     let wanted = "ABCDEFGabcdefghijklmnopqrstuvwxyz0 \
                   A+ + B+ + C+ + D+ + E+ + F+ + G+ + a+ + b+ + c+ + d+ + e+ + f+ + g+ + h+ + i+ + j+ + \
                   k+ + l+ + m+ + n+ + o+ + p+ + q+ + r+ + s+ + t+ + u+ + v9 8 w7 6 x5 4 y3 2 z1 0 ";
-    assert!(rt; both_give(&rt, alloc, &fs, 64, wanted));
-    Ok(())
-}
-
-/// Nothing is left, also nothing that was read early.
-fn is_over(walk: &mut Walk<'_>) -> bool {
-    walk.ahead() == 0 && matches!(walk.read_next(), Ok(None))
-}
-
-/// The first reading comes, the second is refused, and then the walk is over.
-fn ends_refused(alloc: Global, fs: &Refusing, width: usize) -> bool
-    requires { 1 ≤ width }
-{
-    let Some(mut walk) = walk(alloc, fs, width) else {
-        return false;
-    };
-    matches!(walk.read_next(), Ok(Some(Ok(_)))) && walk.read_next().is_err() && is_over(&mut walk)
-}
-
-/// The same, read on threads.
-fn ends_refused_on(rt: &(impl Threads + Sync), alloc: Global, fs: &Refusing, width: usize) -> bool
-    requires { 1 ≤ width }
-{
-    let Some(mut walk) = walk(alloc, fs, width) else {
-        return false;
-    };
-    matches!(walk.read_next_on(rt), Ok(Some(Ok(_))))
-        && walk.read_next_on(rt).is_err()
-        && is_over(&mut walk)
+    assert!(rt; both_give(&rt, &MANY, "", 64, wanted));
 }
 
 #[test]
-fn a_refusal_in_the_middle_of_a_batch_ends_the_walk(rt: HostRuntime) -> Result<(), Fail> {
-    let alloc = rt.alloc();
-    let fs = tree(alloc, &MANY, "/r/e")?;
-    assert!(rt; ends_refused(alloc, &fs, 64));
-    assert!(rt; ends_refused_on(&rt, alloc, &fs, 64));
-    Ok(())
+fn a_refusal_in_the_middle_of_a_batch_ends_the_walk(rt: HostRuntime) {
+    let wanted = "ABCDEFGabcdefghijklmnopqrstuvwxyz0 refused0 ";
+    assert!(rt; both_give(&rt, &MANY, "/r/e", 64, wanted));
 }

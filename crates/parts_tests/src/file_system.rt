@@ -52,15 +52,16 @@ fn kind<T: Drop>(answer: Result<T, Fault>) -> Option<ErrorKind> {
 }
 
 fn length<S: FileSystem>(fs: S) -> Option<u64> {
-    fs.metadata("/f").ok().map(|m| m.len())
+    match fs.metadata("/f") {
+        Ok(metadata) => Some(metadata.len()),
+        Err(_) => None,
+    }
 }
 
 #[test]
 fn answers_may_change(rt: HostRuntime) {
     let fs = Growing { len: Cell::new(0) };
-    assert_eq!(rt; length(&fs), Some(1));
-    assert_eq!(rt; length(&fs), Some(2));
-    assert_eq!(rt; length(fs), Some(3));
+    assert!(rt; [length(&fs), length(&fs), length(fs)] == [Some(1), Some(2), Some(3)]);
 }
 
 fn is_text(answer: Result<String, Fault>, wanted: &str) -> bool {
@@ -96,9 +97,11 @@ fn want_of_memory_is_a_fault_of_its_own(rt: HostRuntime) {
     assert!(rt; matches!(fails(AllocError), Err(Fault::Memory)));
 }
 
+fn keeps(wanted: ErrorKind) -> bool {
+    kind(fails(io::Error::from(wanted))) == Some(wanted)
+}
+
 #[test]
 fn an_error_keeps_its_kind(rt: HostRuntime) {
-    for wanted in [ErrorKind::NotFound, ErrorKind::OutOfMemory] {
-        assert_eq!(rt; kind(fails(io::Error::from(wanted))), Some(wanted));
-    }
+    assert!(rt; keeps(ErrorKind::NotFound) && keeps(ErrorKind::OutOfMemory));
 }

@@ -1,24 +1,22 @@
 //! Addresses in a heap, in a set and side by side.
+use crate::given::address;
 use jwalk_order::index_path::IndexPath;
 use std::alloc::{AllocError, Global};
 use std::collections::BinaryHeap;
-
-fn path(alloc: Global, indices: &[usize]) -> Result<IndexPath, AllocError> {
-    Ok(IndexPath::new(Vec::from_slice(alloc, indices)?))
-}
 
 fn is(address: &IndexPath, indices: &[usize]) -> bool {
     address.indices.as_slice() == indices
 }
 
-type Three<'a> = (&'a [usize], &'a [usize], &'a [usize]);
-
-fn heap_of(alloc: Global, lists: &Three<'_>) -> Result<BinaryHeap<IndexPath>, AllocError> {
-    let mut heap = BinaryHeap::new(alloc);
-    heap.push(path(alloc, lists.0)?)?;
-    heap.push(path(alloc, lists.1)?)?;
-    heap.push(path(alloc, lists.2)?)?;
-    Ok(heap)
+fn push_all(
+    heap: &mut BinaryHeap<IndexPath>,
+    alloc: Global,
+    lists: &[&[usize]],
+) -> Result<(), AllocError> {
+    for indices in lists {
+        heap.push(IndexPath::new(Vec::from_slice(alloc, indices)?))?;
+    }
+    Ok(())
 }
 
 fn gives(heap: &mut BinaryHeap<IndexPath>, indices: &[usize]) -> bool {
@@ -29,22 +27,21 @@ fn gives(heap: &mut BinaryHeap<IndexPath>, indices: &[usize]) -> bool {
 }
 
 // Whether a greatest-first heap of these gives a root, its first child and its second.
-fn come_in_order(alloc: Global, lists: &Three<'_>) -> bool {
-    match heap_of(alloc, lists) {
-        Ok(mut heap) => {
-            gives(&mut heap, &[0]) && gives(&mut heap, &[0, 0]) && gives(&mut heap, &[0, 1])
-        }
-        Err(_) => false,
-    }
+fn come_in_order(alloc: Global, lists: &[&[usize]]) -> bool {
+    let mut heap = BinaryHeap::new(alloc);
+    push_all(&mut heap, alloc, lists).is_ok()
+        && gives(&mut heap, &[0])
+        && gives(&mut heap, &[0, 0])
+        && gives(&mut heap, &[0, 1])
 }
 
-const ORDERS: &[Three<'static>] = &[
-    (&[0], &[0, 0], &[0, 1]),
-    (&[0], &[0, 1], &[0, 0]),
-    (&[0, 0], &[0], &[0, 1]),
-    (&[0, 0], &[0, 1], &[0]),
-    (&[0, 1], &[0], &[0, 0]),
-    (&[0, 1], &[0, 0], &[0]),
+const ORDERS: &[&[&[usize]]] = &[
+    &[&[0], &[0, 0], &[0, 1]],
+    &[&[0], &[0, 1], &[0, 0]],
+    &[&[0, 0], &[0], &[0, 1]],
+    &[&[0, 0], &[0, 1], &[0]],
+    &[&[0, 1], &[0], &[0, 0]],
+    &[&[0, 1], &[0, 0], &[0]],
 ];
 
 #[test]
@@ -68,66 +65,58 @@ fn has_clone(address: &IndexPath) -> bool {
     }
 }
 
-// Goes to the child 1 of the root 0, and on to the next.
-fn goes_down(address: &mut IndexPath) -> bool {
-    if address.push(1).is_err() {
+// Goes from the root 0 down to its child 1, on to the next, and up again.
+fn goes_about(address: &mut IndexPath) -> bool {
+    if address.push(1).is_err() || !is(address, &[0, 1]) {
         return false;
     }
-    let is_there = is(address, &[0, 1]);
     address.increment_last();
-    is_there
-}
-
-// Goes up from the child 2 of the root 0.
-fn goes_up(address: &mut IndexPath) -> bool {
     address.pop() == Some(2)
         && address.pop() == Some(0)
         && address.pop().is_none()
         && address.is_empty()
 }
 
-fn goes_about(mut address: IndexPath) -> bool {
-    has_child(&address, 2, &[0, 2])
-        && has_clone(&address)
-        && goes_down(&mut address)
-        && goes_up(&mut address)
-}
-
 #[test]
-fn an_address_goes_down_and_up(rt: HostRuntime) -> Result<(), AllocError> {
-    let address = path(rt.alloc(), &[0])?;
-    assert!(rt; goes_about(address));
-    Ok(())
+fn an_address_goes_down_and_up(rt: HostRuntime) {
+    let Some(mut root) = address(rt.alloc(), &[0]) else {
+        panic!(rt; "memory is there")
+    };
+    assert!(rt; has_child(&root, 2, &[0, 2]) && has_clone(&root) && goes_about(&mut root));
 }
 
 // Goes down from no index by `adding`.
-fn added(alloc: Global, indices: &[usize]) -> Result<IndexPath, AllocError> {
-    let mut address = path(alloc, &[])?;
+fn added(alloc: Global, indices: &[usize]) -> Option<IndexPath> {
+    let mut address = address(alloc, &[])?;
     for index in indices {
-        address = address.adding(*index)?;
+        address = address.adding(*index).ok()?;
     }
-    Ok(address)
+    Some(address)
 }
 
 // Goes down from no index by `push`.
-fn pushed(alloc: Global, indices: &[usize]) -> Result<IndexPath, AllocError> {
-    let mut address = path(alloc, &[])?;
+fn pushed(alloc: Global, indices: &[usize]) -> Option<IndexPath> {
+    let mut address = address(alloc, &[])?;
     for index in indices {
-        address.push(*index)?;
+        address.push(*index).ok()?;
     }
-    Ok(address)
+    Some(address)
 }
 
 // Whether both ways lead down these indices.
-fn lead_down(alloc: Global, indices: &[usize]) -> Result<bool, AllocError> {
+fn lead_down(alloc: Global, indices: &[usize]) -> Option<bool> {
     let address = pushed(alloc, indices)?;
     let same = added(alloc, indices)?;
-    Ok(is(&address, indices) && same == address && has_clone(&address))
+    Some(is(&address, indices) && same == address && has_clone(&address))
+}
+
+// Whether both lead down so many indices, the greatest first.
+fn lead_far_down(alloc: Global, count: usize) -> Option<bool> {
+    let indices: Vec<usize> = (0..count).rev().collect(alloc).ok()?;
+    lead_down(alloc, indices.as_slice())
 }
 
 #[test]
-fn an_address_may_be_long(rt: HostRuntime) -> Result<(), AllocError> {
-    let indices: Vec<usize> = (0..300).rev().collect(rt.alloc())?;
-    assert!(rt; lead_down(rt.alloc(), indices.as_slice())?);
-    Ok(())
+fn an_address_may_be_long(rt: HostRuntime) {
+    assert!(rt; lead_far_down(rt.alloc(), 300) == Some(true));
 }

@@ -1,36 +1,44 @@
 //! Queues by address.
-use jwalk_order::index_path::IndexPath;
+use crate::given::address;
 use jwalk_order::ordered::Ordered;
 use jwalk_order::ordered_queue::{OrderedQueue, Ordering, Step};
-use std::alloc::{AllocError, Global};
+use std::alloc::Global;
 use std::process::Abort;
+
+// What a step gives.
+#[derive(Clone, Copy)]
+enum Next<'a> {
+    // The item at this address.
+    Item(&'a [usize]),
+    // Nothing yet.
+    Nothing,
+    // Nothing any more.
+    End,
+}
 
 // One call on a queue, with what comes of it.
 enum Turn {
     // An item at this address, with so many children, is let in.
     LetsIn(&'static [usize], usize),
-    // The next step gives the item at this address.
-    Gives(&'static [usize]),
-    Waits,
-    IsDone,
+    Gives(Next<'static>),
     Pends(usize),
     // All that is pending is completed.
     Completes,
     Stops,
     // An iterator has one more.
     HasNext(bool),
+    Reserves(usize),
+    // So many children of a root are let in, the last first, and are given in order.
+    SortsChildren(usize),
+    // Only children of only children are let in, the last first, and are given in order.
+    SortsChain,
 }
 
 // What the turns do. None of it promises anything: a test that calls the queue itself carries each call's contract to
 // its end.
 
-fn at(alloc: Global, indices: &[usize], child_count: usize) -> Result<Ordered<()>, AllocError> {
-    let path = IndexPath::new(Vec::from_slice(alloc, indices)?);
-    Ok(Ordered::new((), path, child_count))
-}
-
-fn push(queue: &mut OrderedQueue<()>, item: Ordered<()>) -> bool {
-    queue.pending() < usize::MAX && queue.push(item).is_ok()
+fn item(alloc: Global, indices: &[usize], child_count: usize) -> Option<Ordered<()>> {
+    Some(Ordered::new((), address(alloc, indices)?, child_count))
 }
 
 fn lets_in(
@@ -39,29 +47,21 @@ fn lets_in(
     indices: &[usize],
     children: usize,
 ) -> bool {
-    match at(alloc, indices, children) {
-        Ok(item) => push(queue, item),
+    match item(alloc, indices, children) {
+        Some(item) => queue.pending() < usize::MAX && queue.push(item).is_ok(),
+        None => false,
+    }
+}
+
+fn gives(queue: &mut OrderedQueue<()>, wanted: Next<'_>) -> bool {
+    match queue.iter().step() {
+        Ok(Step::Item(item)) => {
+            matches!(wanted, Next::Item(indices) if item.index_path.indices.as_slice() == indices)
+        }
+        Ok(Step::Empty) => matches!(wanted, Next::Nothing),
+        Ok(Step::Done) => matches!(wanted, Next::End),
         Err(_) => false,
     }
-}
-
-fn step(queue: &mut OrderedQueue<()>) -> Result<Step<()>, AllocError> {
-    queue.iter().step()
-}
-
-fn gives(queue: &mut OrderedQueue<()>, indices: &[usize]) -> bool {
-    match step(queue) {
-        Ok(Step::Item(item)) => item.index_path.indices.as_slice() == indices,
-        _ => false,
-    }
-}
-
-fn waits(queue: &mut OrderedQueue<()>) -> bool {
-    matches!(step(queue), Ok(Step::Empty))
-}
-
-fn is_done(queue: &mut OrderedQueue<()>) -> bool {
-    matches!(step(queue), Ok(Step::Done))
 }
 
 fn completes(queue: &mut OrderedQueue<()>) -> bool {
@@ -82,16 +82,46 @@ fn has_next(queue: &mut OrderedQueue<()>) -> bool {
     queue.iter().next().is_some()
 }
 
+fn sorts_children(queue: &mut OrderedQueue<()>, alloc: Global, count: usize) -> bool {
+    for i in (0..count).rev() {
+        if !lets_in(queue, alloc, &[0, i], 0) {
+            return false;
+        }
+    }
+    for i in 0..count {
+        if !gives(queue, Next::Item(&[0, i])) {
+            return false;
+        }
+    }
+    true
+}
+
+// Sorts the only children that lie above an address.
+fn sorts_chain(queue: &mut OrderedQueue<()>, alloc: Global, indices: &[usize]) -> bool {
+    for length in (1..indices.len()).rev() {
+        if !lets_in(queue, alloc, &indices[..length], 1) {
+            return false;
+        }
+    }
+    for length in 1..indices.len() {
+        if !gives(queue, Next::Item(&indices[..length])) {
+            return false;
+        }
+    }
+    true
+}
+
 fn goes(queue: &mut OrderedQueue<()>, alloc: Global, turn: &Turn) -> bool {
     match turn {
         Turn::LetsIn(indices, children) => lets_in(queue, alloc, indices, *children),
-        Turn::Gives(indices) => gives(queue, indices),
-        Turn::Waits => waits(queue),
-        Turn::IsDone => is_done(queue),
+        Turn::Gives(wanted) => gives(queue, *wanted),
         Turn::Pends(count) => queue.pending() == *count,
         Turn::Completes => completes(queue),
         Turn::Stops => stops(queue),
         Turn::HasNext(wanted) => has_next(queue) == *wanted,
+        Turn::Reserves(count) => queue.reserve(*count).is_ok(),
+        Turn::SortsChildren(count) => sorts_children(queue, alloc, *count),
+        Turn::SortsChain => sorts_chain(queue, alloc, [0; 300].as_slice()),
     }
 }
 
@@ -124,13 +154,13 @@ fn a_relaxed_queue_gives_the_least_that_is_there(rt: HostRuntime) {
         Turn::LetsIn(&[0, 1], 0),
         Turn::LetsIn(&[0], 0),
         Turn::LetsIn(&[0, 0], 0),
-        Turn::Gives(&[0]),
-        Turn::Gives(&[0, 0]),
-        Turn::Gives(&[0, 1]),
-        Turn::Waits,
+        Turn::Gives(Next::Item(&[0])),
+        Turn::Gives(Next::Item(&[0, 0])),
+        Turn::Gives(Next::Item(&[0, 1])),
+        Turn::Gives(Next::Nothing),
         Turn::Pends(3),
         Turn::Completes,
-        Turn::IsDone,
+        Turn::Gives(Next::End),
     ];
     all_go(&rt, Ordering::Relaxed, TURNS);
 }
@@ -139,11 +169,11 @@ fn a_relaxed_queue_gives_the_least_that_is_there(rt: HostRuntime) {
 fn a_strict_queue_waits_for_the_next_address(rt: HostRuntime) {
     const TURNS: &[Turn] = &[
         Turn::LetsIn(&[0, 0], 0),
-        Turn::Waits,
+        Turn::Gives(Next::Nothing),
         Turn::LetsIn(&[0], 1),
-        Turn::Gives(&[0]),
-        Turn::Gives(&[0, 0]),
-        Turn::IsDone,
+        Turn::Gives(Next::Item(&[0])),
+        Turn::Gives(Next::Item(&[0, 0])),
+        Turn::Gives(Next::End),
         Turn::Pends(2),
     ];
     all_go(&rt, Ordering::Strict, TURNS);
@@ -155,43 +185,50 @@ fn a_second_item_at_a_passed_address_holds_a_strict_queue_up(rt: HostRuntime) {
         Turn::LetsIn(&[0], 1),
         Turn::LetsIn(&[0], 1),
         Turn::LetsIn(&[0, 0], 0),
-        Turn::Gives(&[0]),
-        Turn::Waits,
+        Turn::Gives(Next::Item(&[0])),
+        Turn::Gives(Next::Nothing),
     ];
     all_go(&rt, Ordering::Strict, TURNS);
 }
 
 fn of_no_roots_is_done(alloc: Global) -> bool {
     match OrderedQueue::<(), Global>::with_roots(alloc, Ordering::Strict, 0) {
-        Ok(mut queue) => is_done(&mut queue),
+        Ok(mut queue) => gives(&mut queue, Next::End),
         Err(_) => false,
     }
 }
 
 #[test]
 fn nothing_comes_of_no_roots_or_after_a_stop(rt: HostRuntime) {
-    const TURNS: &[Turn] = &[Turn::LetsIn(&[0], 0), Turn::Stops, Turn::IsDone];
+    const TURNS: &[Turn] = &[Turn::LetsIn(&[0], 0), Turn::Stops, Turn::Gives(Next::End)];
     assert!(rt; of_no_roots_is_done(rt.alloc()));
     all_go(&rt, Ordering::Relaxed, TURNS);
 }
 
 // Pushes two items after a reserve of two.
-fn lets_two_in(alloc: Global, first: Ordered<()>, second: Ordered<()>) -> Result<bool, AllocError> {
-    let mut queue = OrderedQueue::new(alloc, Ordering::Relaxed)?;
-    queue.reserve(2)?;
+fn lets_two_in(alloc: Global, first: Ordered<()>, second: Ordered<()>) -> bool {
+    let Ok(mut queue) = OrderedQueue::new(alloc, Ordering::Relaxed) else {
+        return false;
+    };
+    if queue.reserve(2).is_err() {
+        return false;
+    }
     let first = queue.push(first).is_ok();
     prove!(first);
     let second = queue.push(second).is_ok();
     prove!(second);
-    Ok(first && second)
+    first && second
+}
+
+fn takes_two(alloc: Global) -> Option<bool> {
+    let first = item(alloc, &[0], 0)?;
+    let second = item(alloc, &[0, 0], 0)?;
+    Some(lets_two_in(alloc, first, second))
 }
 
 #[test]
-fn two_pushes_succeed_after_a_reserve_of_two(rt: HostRuntime) -> Result<(), AllocError> {
-    let first = at(rt.alloc(), &[0], 0)?;
-    let second = at(rt.alloc(), &[0, 0], 0)?;
-    assert!(rt; lets_two_in(rt.alloc(), first, second)?);
-    Ok(())
+fn two_pushes_succeed_after_a_reserve_of_two(rt: HostRuntime) {
+    assert!(rt; takes_two(rt.alloc()) == Some(true));
 }
 
 #[test]
@@ -201,69 +238,19 @@ fn an_iterator_gives_what_can_come(rt: HostRuntime) {
         Turn::LetsIn(&[0], 2),
         Turn::HasNext(true),
         Turn::HasNext(false),
-        Turn::Waits,
+        Turn::Gives(Next::Nothing),
     ];
     all_go(&rt, Ordering::Strict, TURNS);
 }
 
-// Lets so many children of a root in, the last first.
-fn lets_children_in(queue: &mut OrderedQueue<()>, alloc: Global, count: usize) -> bool {
-    for i in (0..count).rev() {
-        if !lets_in(queue, alloc, &[0, i], 0) {
-            return false;
-        }
-    }
-    true
-}
-
-fn gives_children(queue: &mut OrderedQueue<()>, count: usize) -> bool {
-    for i in 0..count {
-        if !gives(queue, &[0, i]) {
-            return false;
-        }
-    }
-    true
-}
-
-fn takes_many(alloc: Global, count: usize) -> Result<bool, AllocError> {
-    let mut queue = OrderedQueue::new(alloc, Ordering::Relaxed)?;
-    queue.reserve(count)?;
-    Ok(lets_children_in(&mut queue, alloc, count) && gives_children(&mut queue, count))
+#[test]
+fn many_pushes_succeed_after_a_reserve(rt: HostRuntime) {
+    const TURNS: &[Turn] = &[Turn::Reserves(3000), Turn::SortsChildren(3000)];
+    all_go(&rt, Ordering::Relaxed, TURNS);
 }
 
 #[test]
-fn many_pushes_succeed_after_a_reserve(rt: HostRuntime) -> Result<(), AllocError> {
-    assert!(rt; takes_many(rt.alloc(), 3000)?);
-    Ok(())
-}
-
-// Lets the only children in that lie above an address, the last first.
-fn lets_chain_in(queue: &mut OrderedQueue<()>, alloc: Global, indices: &[usize]) -> bool {
-    for length in (1..indices.len()).rev() {
-        if !lets_in(queue, alloc, &indices[..length], 1) {
-            return false;
-        }
-    }
-    true
-}
-
-fn gives_chain(queue: &mut OrderedQueue<()>, indices: &[usize]) -> bool {
-    for length in 1..indices.len() {
-        if !gives(queue, &indices[..length]) {
-            return false;
-        }
-    }
-    true
-}
-
-fn takes_chain(alloc: Global, indices: &[usize]) -> Result<bool, AllocError> {
-    let mut queue = OrderedQueue::new(alloc, Ordering::Strict)?;
-    let is_in = lets_chain_in(&mut queue, alloc, indices);
-    Ok(is_in && gives_chain(&mut queue, indices) && waits(&mut queue))
-}
-
-#[test]
-fn a_strict_queue_gives_a_long_chain(rt: HostRuntime) -> Result<(), AllocError> {
-    assert!(rt; takes_chain(rt.alloc(), [0; 300].as_slice())?);
-    Ok(())
+fn a_strict_queue_gives_a_long_chain(rt: HostRuntime) {
+    const TURNS: &[Turn] = &[Turn::SortsChain, Turn::Gives(Next::Nothing)];
+    all_go(&rt, Ordering::Strict, TURNS);
 }

@@ -70,19 +70,14 @@ fn played(
 }
 
 // Plays so many rounds, and says how many were read, taken and handed out, and how many are left.
-fn totals(
-    alloc: Global,
-    workers: usize,
-    round: &[Move],
-    count: usize,
-) -> Result<[usize; 4], Refused> {
+fn totals(alloc: Global, workers: usize, round: &[Move], count: usize) -> Option<[usize; 4]> {
     let plan = Levels {
         reads: Cell::new(0),
     };
-    let moves = rounds(alloc, round, count)?;
-    let made = played(alloc, &plan, workers, moves.as_slice())?;
+    let moves = rounds(alloc, round, count).ok()?;
+    let made = played(alloc, &plan, workers, moves.as_slice()).ok()?;
     let left = made.board.pending();
-    Ok([
+    Some([
         plan.reads.get(),
         made.taken.len(),
         made.handed_out.len(),
@@ -91,12 +86,12 @@ fn totals(
 }
 
 // Whether each is read, taken and handed out once, and none is left.
-fn does_all(alloc: Global, workers: usize, round: &[Move]) -> Result<bool, Refused> {
-    Ok(totals(alloc, workers, round, ALL)? == [ALL, ALL, ALL, 0])
+fn does_all(alloc: Global, workers: usize, round: &[Move]) -> bool {
+    totals(alloc, workers, round, ALL) == Some([ALL, ALL, ALL, 0])
 }
 
 #[test]
-fn a_long_rehearsal_reads_each_specification_once(rt: HostRuntime) -> Result<(), Refused> {
+fn a_long_rehearsal_reads_each_specification_once(rt: HostRuntime) {
     const ALONE: &[Move] = &[Move::Take(0), Move::Finish(0), Move::HandOut];
     const IN_PAIRS: &[Move] = &[
         Move::Take(0),
@@ -106,7 +101,5 @@ fn a_long_rehearsal_reads_each_specification_once(rt: HostRuntime) -> Result<(),
         Move::HandOut,
         Move::HandOut,
     ];
-    assert!(rt; does_all(rt.alloc(), 1, ALONE)?);
-    assert!(rt; does_all(rt.alloc(), 2, IN_PAIRS)?);
-    Ok(())
+    assert!(rt; does_all(rt.alloc(), 1, ALONE) && does_all(rt.alloc(), 2, IN_PAIRS));
 }

@@ -83,30 +83,32 @@ fn is_number(alloc: Global, number: &str, value: usize) -> bool {
         && numbers_of(alloc, "--crew", number) == Some(crew)
 }
 
+fn is_read_as(alloc: Global, number: &str, value: Option<usize>) -> bool {
+    match value {
+        Some(value) => is_number(alloc, number, value),
+        None => is_no_number(alloc, number),
+    }
+}
+
 #[test]
 fn numbers_have_up_to_20_digits_and_fit(rt: HostRuntime) {
-    const BAD: &[&str] = &[
-        "",
-        "+1",
-        "-1",
-        " 1",
-        "1.0",
-        "1x",
-        "000000000000000000001",
-        "18446744073709551616",
-        "99999999999999999999",
+    const ROWS: &[(&str, Option<usize>)] = &[
+        ("", None),
+        ("+1", None),
+        ("-1", None),
+        (" 1", None),
+        ("1.0", None),
+        ("1x", None),
+        ("000000000000000000001", None),
+        ("18446744073709551616", None),
+        ("99999999999999999999", None),
+        ("0", Some(0)),
+        ("00000000000000000000", Some(0)),
+        ("00000000000000000002", Some(2)),
+        ("18446744073709551615", Some(usize::MAX)),
     ];
-    for number in BAD {
-        assert!(rt; is_no_number(rt.alloc(), number));
-    }
-    const GOOD: &[(&str, usize)] = &[
-        ("0", 0),
-        ("00000000000000000000", 0),
-        ("00000000000000000002", 2),
-        ("18446744073709551615", usize::MAX),
-    ];
-    for (number, value) in GOOD {
-        assert!(rt; is_number(rt.alloc(), number, *value));
+    for (number, value) in ROWS {
+        assert!(rt; is_read_as(rt.alloc(), number, *value));
     }
 }
 
@@ -129,6 +131,16 @@ fn ask_for(alloc: Global, words: &[&str], wanted: &Asked, root: &str) -> bool {
         Some(request) => request.root == root && are_same(&request.asked, wanted),
         None => false,
     }
+}
+
+// Whether each of these asks for this, and for a walk from the root that is its last word.
+fn all_ask_for(alloc: Global, rows: &[&[&str]], wanted: &Asked) -> bool {
+    for words in rows {
+        if !matches!(words.last(), Some(root) if ask_for(alloc, words, wanted, root)) {
+            return false;
+        }
+    }
+    true
 }
 
 static ORDERED: Asked = Asked {
@@ -168,10 +180,8 @@ fn a_crew_is_named_in_any_place(rt: HostRuntime) {
         &["--sort", "--crew", "03", "--max", "2", "/r"],
         &["--max", "2", "--sort", "--crew", "3", "/r"],
     ];
-    for words in ROWS {
-        assert!(rt; ask_for(rt.alloc(), words, &BY_CREW, "/r"));
-    }
-    assert!(rt; ask_for(rt.alloc(), &["--hidden", "--crew"], &HIDDEN, "--crew"));
+    assert!(rt; all_ask_for(rt.alloc(), ROWS, &BY_CREW));
+    assert!(rt; all_ask_for(rt.alloc(), &[&["--hidden", "--crew"]], &HIDDEN));
 }
 
 #[test]
@@ -190,13 +200,15 @@ fn options_come_in_any_order_and_the_root_last(rt: HostRuntime) {
             "--max", "2", "--batch", "3", "--tree", "--min", "1", "--follow", "--sort", "/r",
         ],
     ];
-    for words in ROWS {
-        assert!(rt; ask_for(rt.alloc(), words, &ORDERED, "/r"));
-    }
-    const ROOTS: &[&str] = &["--tree", "--hidden", "--min", "--batch", "3"];
-    for root in ROOTS {
-        assert!(rt; ask_for(rt.alloc(), &["--hidden", root], &HIDDEN, root));
-    }
+    const ROOTS: &[&[&str]] = &[
+        &["--hidden", "--tree"],
+        &["--hidden", "--hidden"],
+        &["--hidden", "--min"],
+        &["--hidden", "--batch"],
+        &["--hidden", "3"],
+    ];
+    assert!(rt; all_ask_for(rt.alloc(), ROWS, &ORDERED));
+    assert!(rt; all_ask_for(rt.alloc(), ROOTS, &HIDDEN));
 }
 
 fn is_bad_at(alloc: Global, lines: &[u8], number: usize) -> bool {
@@ -205,49 +217,44 @@ fn is_bad_at(alloc: Global, lines: &[u8], number: usize) -> bool {
 
 #[test]
 fn the_first_bad_line_is_named(rt: HostRuntime) {
-    const FIRST: &[&[u8]] = &[
-        b"d",
-        b"d ",
-        b"f",
-        b"f 1",
-        b"f 1 ",
-        b"f  /r",
-        b"f x /r",
-        b"f +1 /r",
-        b"f -1 /r",
-        b"f 1.0 /r",
-        b"f 18446744073709551616 /r",
-        b"f 000000000000000000001 /r",
-        b"l x",
-        b"l x\t",
-        b"lx\t/p",
-        b"l x\t/",
-        b"x /r",
-        b"x",
-        b"x ",
-        b"x/r",
-        b"x /",
-        b"D /r",
-        b" d /r",
-        b"d/r",
-        b"q",
-        b"d /\xff",
-        b"d /n/m\nd /r",
-        b"d /",
-    ];
-    for lines in FIRST {
-        assert!(rt; is_bad_at(rt.alloc(), lines, 1));
-    }
-    const ROWS: &[(&str, usize)] = &[
-        ("d /r\nd /r\n", 2),
-        ("d /r\n\nf 1\n", 3),
-        ("d /r\nf 1 /r/a\nf 1 /r/a/b", 3),
-        ("d /r\nf 1 /r/a\nx /r/a", 3),
-        ("d /r\n\nx /n\nx /r\n", 3),
-        ("d /r\nx /r\nd /r\nx /n", 3),
+    const ROWS: &[(&[u8], usize)] = &[
+        (b"d", 1),
+        (b"d ", 1),
+        (b"f", 1),
+        (b"f 1", 1),
+        (b"f 1 ", 1),
+        (b"f  /r", 1),
+        (b"f x /r", 1),
+        (b"f +1 /r", 1),
+        (b"f -1 /r", 1),
+        (b"f 1.0 /r", 1),
+        (b"f 18446744073709551616 /r", 1),
+        (b"f 000000000000000000001 /r", 1),
+        (b"l x", 1),
+        (b"l x\t", 1),
+        (b"lx\t/p", 1),
+        (b"l x\t/", 1),
+        (b"x /r", 1),
+        (b"x", 1),
+        (b"x ", 1),
+        (b"x/r", 1),
+        (b"x /", 1),
+        (b"D /r", 1),
+        (b" d /r", 1),
+        (b"d/r", 1),
+        (b"q", 1),
+        (b"d /\xff", 1),
+        (b"d /n/m\nd /r", 1),
+        (b"d /", 1),
+        (b"d /r\nd /r\n", 2),
+        (b"d /r\n\nf 1\n", 3),
+        (b"d /r\nf 1 /r/a\nf 1 /r/a/b", 3),
+        (b"d /r\nf 1 /r/a\nx /r/a", 3),
+        (b"d /r\n\nx /n\nx /r\n", 3),
+        (b"d /r\nx /r\nd /r\nx /n", 3),
     ];
     for (lines, number) in ROWS {
-        assert!(rt; is_bad_at(rt.alloc(), lines.as_bytes(), *number));
+        assert!(rt; is_bad_at(rt.alloc(), lines, *number));
     }
 }
 
@@ -268,11 +275,12 @@ fn failure_of<R: Read>(alloc: Global, input: &mut R) -> Option<Failure> {
 #[test]
 fn an_input_is_read_whole_or_told(rt: HostRuntime) {
     let mut good = "d /r\n\nl \t/r/l\nf 18446744073709551615 /r/a b".as_bytes();
-    assert!(rt; failure_of(rt.alloc(), &mut good).is_none());
-    let unread = failure_of(rt.alloc(), &mut Broken(ErrorKind::Other));
-    assert!(rt; unread == Some(Failure::BadTree(0)));
-    let refused = failure_of(rt.alloc(), &mut Broken(ErrorKind::OutOfMemory));
-    assert!(rt; refused == Some(Failure::Memory));
+    let failures = [
+        failure_of(rt.alloc(), &mut good),
+        failure_of(rt.alloc(), &mut Broken(ErrorKind::Other)),
+        failure_of(rt.alloc(), &mut Broken(ErrorKind::OutOfMemory)),
+    ];
+    assert!(rt; failures == [None, Some(Failure::BadTree(0)), Some(Failure::Memory)]);
 }
 
 fn reports(alloc: Global, failure: Failure, text: &str, status: u8) -> bool {

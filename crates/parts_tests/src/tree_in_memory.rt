@@ -2,7 +2,7 @@
 use linked_list_allocator::LocalHeap;
 use memory_fs::build_error::BuildError;
 use memory_fs::memory_fs::MemoryFs;
-use std::alloc::{AllocError, Allocator, Global};
+use std::alloc::{Allocator, Global};
 use std::io;
 use std::io::ErrorKind;
 use std::process::Abort;
@@ -39,6 +39,12 @@ enum Step {
     // The text of a link.
     Reads(&'static str, &'static str),
     ReadsNone(&'static str, ErrorKind),
+    // A directory gets so many files, and lists them.
+    ListsMany(u64),
+    // So many directories are made, each in the one before, and listed from the last up.
+    IsDeep(u64),
+    // A link is made to each number before this, at the number after it.
+    DoesLinks(u64),
 }
 
 // What the steps do. None of it promises anything: a test that calls the tree itself carries each call's contract to
@@ -78,16 +84,11 @@ fn push_name(text: &mut String, item: &io::Result<Listed>) -> Option<()> {
     text.push_str(if is_dir { "/" } else { "" }).ok()
 }
 
-fn push_names(text: &mut String, items: &[io::Result<Listed>]) -> Option<()> {
-    for item in items {
-        push_name(text, item)?;
-    }
-    Some(())
-}
-
 fn names(alloc: Global, items: &[io::Result<Listed>]) -> Option<String> {
     let mut text = String::new(alloc);
-    push_names(&mut text, items)?;
+    for item in items {
+        push_name(&mut text, item)?;
+    }
     Some(text)
 }
 
@@ -122,6 +123,9 @@ fn goes(fs: &mut MemoryFs, alloc: Global, step: &Step) -> bool {
         Step::ListsNone(path, kind) => fails(fs.read_dir(alloc, path), *kind),
         Step::Reads(path, target) => reads(fs, alloc, path, target),
         Step::ReadsNone(path, kind) => fails(fs.read_link(alloc, path), *kind),
+        Step::ListsMany(count) => lists_all_children(fs, alloc, *count),
+        Step::IsDeep(levels) => is_deep(fs, alloc, *levels),
+        Step::DoesLinks(count) => adds_links(fs, alloc, *count),
     }
 }
 
@@ -135,16 +139,17 @@ fn wrong(fs: &mut MemoryFs, alloc: Global, steps: &[Step]) -> Option<usize> {
     None
 }
 
-// Each step goes as is said.
-fn all_go(rt: &(impl Abort + AllocGlobal), fs: &mut MemoryFs, steps: &[Step]) {
-    assert_eq!(rt; wrong(fs, rt.alloc(), steps), None);
+// The same of steps that build a tree, and of steps over it.
+fn both_wrong(alloc: Global, tree: &[Step], steps: &[Step]) -> [Option<usize>; 2] {
+    let mut fs = MemoryFs::new(alloc);
+    let in_tree = wrong(&mut fs, alloc, tree);
+    let over_it = wrong(&mut fs, alloc, steps);
+    [in_tree, over_it]
 }
 
-// The same, over a tree that other steps build.
+// Each step goes as is said, over a tree that other steps build.
 fn go_over(rt: &(impl Abort + AllocGlobal), tree: &[Step], steps: &[Step]) {
-    let mut fs = MemoryFs::new(rt.alloc());
-    all_go(rt, &mut fs, tree);
-    all_go(rt, &mut fs, steps);
+    assert_eq!(rt; both_wrong(rt.alloc(), tree, steps), [None, None]);
 }
 
 const DIR: Found = Ok((FileType::Dir, 0));
@@ -279,14 +284,12 @@ fn lists_all_children(fs: &mut MemoryFs, alloc: Global, count: u64) -> bool {
 
 #[test]
 fn five_thousand_children(rt: HostRuntime) {
-    let mut fs = MemoryFs::new(rt.alloc());
+    const TREE: &[Step] = &[Step::Does(Change::Dir("/wide")), Step::ListsMany(5_000)];
     const STEPS: &[Step] = &[
         Step::Leads("/wide/5000", Err(ErrorKind::NotFound)),
         Step::Refuses(BuildError::AlreadyExists, Change::Dir("/wide/2500")),
     ];
-    assert!(rt; changes(&mut fs, &Change::Dir("/wide")).is_ok());
-    assert!(rt; lists_all_children(&mut fs, rt.alloc(), 5_000));
-    all_go(&rt, &mut fs, STEPS);
+    go_over(&rt, TREE, STEPS);
 }
 
 // Makes a directory in the one at a path, to which it adds the new one's name.
@@ -322,12 +325,14 @@ fn goes_up_from(fs: &MemoryFs, alloc: Global, path: &mut String, levels: u64) ->
     path.push_str("/../0").is_ok() && lists(fs, alloc, path.as_str(), " 1/")
 }
 
+fn is_deep(fs: &mut MemoryFs, alloc: Global, levels: u64) -> bool {
+    let mut path = String::new(alloc);
+    goes_down_to(fs, &mut path, levels) && goes_up_from(fs, alloc, &mut path, levels)
+}
+
 #[test]
 fn thirty_deep(rt: HostRuntime) {
-    let mut fs = MemoryFs::new(rt.alloc());
-    let mut path = String::new(rt.alloc());
-    assert!(rt; goes_down_to(&mut fs, &mut path, 30));
-    assert!(rt; goes_up_from(&fs, rt.alloc(), &mut path, 30));
+    go_over(&rt, &[], &[Step::IsDeep(30)]);
 }
 
 // A directory that holds a file and a link to it, and links that lead there and elsewhere.
@@ -410,28 +415,32 @@ fn up_after_a_link(rt: HostRuntime) {
 const FILE_OF_3: Found = Ok((FileType::File, 3));
 
 // Makes a link at one number to another.
-fn adds_link(fs: &mut MemoryFs, alloc: Global, from: u64, to: u64) -> Result<bool, AllocError> {
-    let path = format!(in alloc; "/{from}")?;
-    let target = format!(in alloc; "{to}")?;
-    Ok(fs.add_link(path.as_str(), target.as_str()).is_ok())
+fn adds_link(fs: &mut MemoryFs, alloc: Global, from: u64, to: u64) -> bool {
+    let Ok(path) = format!(in alloc; "/{from}") else {
+        return false;
+    };
+    match format!(in alloc; "{to}") {
+        Ok(target) => fs.add_link(path.as_str(), target.as_str()).is_ok(),
+        Err(_) => false,
+    }
 }
 
 // Makes a link to each number before the count, at the number after it.
-fn adds_links(fs: &mut MemoryFs, alloc: Global, count: u64) -> Result<bool, AllocError> {
+fn adds_links(fs: &mut MemoryFs, alloc: Global, count: u64) -> bool {
     for number in 0..count {
-        if !adds_link(fs, alloc, number.wrapping_add(1), number)? {
-            return Ok(false);
+        if !adds_link(fs, alloc, number.wrapping_add(1), number) {
+            return false;
         }
     }
-    Ok(true)
+    true
 }
 
 #[test]
 fn forty_links_are_followed(rt: HostRuntime) {
-    let mut fs = MemoryFs::new(rt.alloc());
     const TREE: &[Step] = &[
         Step::Does(Change::File(3, "/0")),
         Step::Does(Change::Link("/", "/root")),
+        Step::DoesLinks(41),
     ];
     const STEPS: &[Step] = &[
         Step::Leads("/40", FILE_OF_3),
@@ -441,9 +450,7 @@ fn forty_links_are_followed(rt: HostRuntime) {
         Step::Leads("/root/root/38", FILE_OF_3),
         Step::Leads("/root/root/39", Err(ErrorKind::Other)),
     ];
-    all_go(&rt, &mut fs, TREE);
-    assert!(rt; adds_links(&mut fs, rt.alloc(), 41) == Ok(true));
-    all_go(&rt, &mut fs, STEPS);
+    go_over(&rt, TREE, STEPS);
 }
 
 #[test]
@@ -546,8 +553,7 @@ fn frees_all(heap: &LocalHeap, rounds: u64) -> bool {
 }
 
 #[test]
-fn what_is_removed_is_freed(rt: HostRuntime) -> Result<(), AllocError> {
-    let heap = LocalHeap::new(rt.alloc(), 1 << 16)?;
-    assert!(rt; frees_all(&heap, 1000));
-    Ok(())
+fn what_is_removed_is_freed(rt: HostRuntime) {
+    let made = LocalHeap::new(rt.alloc(), 1 << 16);
+    assert!(rt; matches!(&made, Ok(heap) if frees_all(heap, 1000)));
 }

@@ -1,7 +1,7 @@
 //! A walk over a crew.
 ghost use Rattle.std.specs.Prelude.{◌≡◌, true, IfOk};
 ghost use Rattle.jwalk.specs.walk_model.Walk.{whole_walk};
-ghost use Rattle.jwalk.specs.jwalk_read.Given.{counted_list};
+ghost use Rattle.jwalk.specs.read_parts.Given.{counted_list};
 ghost use Rattle.jwalk.specs.jwalk_read.Job.{IsSteady};
 ghost use Rattle.jwalk.specs.WalkDir.{file_system_of, callback_of, root_of, state_of, job_for};
 ghost use Rattle.jwalk.specs.DirEntryIter.{NoneRefused};

@@ -10,7 +10,7 @@ use jwalk::file_system::FileSystem;
 use jwalk::read_dir::{ByFn, Job, NoProcess, ProcessReadDir};
 use jwalk::threads::{InTurn, OnThreads};
 use jwalk::{ClientState, WalkDirGeneric};
-use jwalk_read::options::Options;
+use read_parts::options::Options;
 use std::alloc::{AllocError, Global};
 use std::thread::Threads;
 

@@ -1,6 +1,6 @@
 //! How many directories a walk reads together.
 use jwalk::Parallelism;
-use jwalk_read::mode::Mode;
+use read_parts::mode::Mode;
 
 /// How a walk that has no crew reads its directories.
 #[derive(Clone, Copy, Debug)]

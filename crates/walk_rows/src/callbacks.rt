@@ -3,3 +3,4 @@ mod closures;
 mod ready;
 mod refusals;
 mod root_links;
+mod rows;

@@ -1,10 +1,10 @@
 //! Walks over file systems that fail, or whose names are odd.
-use crate::table::holds;
+use crate::coming::{Coming, is_over, next};
+use crate::table::all_hold;
 use jwalk::file_system::FileType;
 use jwalk::read_dir::NoProcess;
 use std::io::ErrorKind;
 use std::thread::Threads;
-use walk_fixtures::answers::Answer;
 use walk_fixtures::begun::Begun;
 use walk_fixtures::listed_directory::{Item, ListedDirectory};
 use walk_fixtures::row::{Over, Row};
@@ -28,13 +28,13 @@ const ODD: ListedDirectory<'static> = ListedDirectory {
 
 #[test]
 fn odd_names_are_joined_as_texts(rt: HostRuntime) {
-    const ROW: Row = Row {
+    const ROWS: &[Row] = &[Row {
         over: Over::Listed(ODD),
         root: "/d",
         settings: &[],
         answers: "0 d /d; 1 f /x; 1 f /d/; 1 f /d/a/b",
-    };
-    assert!(rt; holds(&rt, &ROW));
+    }];
+    all_hold(&rt, ROWS);
 }
 
 /// A walk over a tree that fails somewhere, and its answers.
@@ -95,25 +95,17 @@ fn failures_told_where_they_are_met(rt: HostRuntime) {
     }
 }
 
-/// Whether an answer is the want of memory.
-fn is_memory(answer: &Option<Answer>) -> bool {
-    match answer {
-        Some(Err(error)) => error.is_memory(),
-        _ => false,
-    }
-}
-
 /// Whether a walk ends with the want of memory after so many entries, and nothing is left of it then.
 fn ends_with_memory<R: Threads + Drop + Sync>(
     walk: &mut Begun<R, &Watched>,
     before: usize,
 ) -> bool {
     for _ in 0..before {
-        if !matches!(walk.next(), Some(Ok(_))) {
+        if !matches!(next(walk), Coming::Entry) {
             return false;
         }
     }
-    is_memory(&walk.next()) && walk.ahead() == 0 && walk.next().is_none() && walk.next().is_none()
+    matches!(next(walk), Coming::Memory) && walk.ahead() == 0 && is_over(walk)
 }
 
 /// How directories are read, on threads or not, and how many entries come before the want of memory.

@@ -6,6 +6,8 @@ mod callbacks;
 #[cfg(test)]
 mod calls;
 #[cfg(test)]
+mod coming;
+#[cfg(test)]
 mod faults;
 #[cfg(test)]
 mod links;
@@ -19,6 +21,8 @@ mod program;
 mod roots;
 #[cfg(test)]
 mod table;
+#[cfg(test)]
+mod texts;
 #[cfg(test)]
 mod walks;
 #[cfg(test)]

@@ -1,5 +1,5 @@
 //! Walks over links.
-use crate::table::holds;
+use crate::table::all_hold;
 use jwalk::read_dir::NoProcess;
 use std::thread::Threads;
 use walk_fixtures::answers::Answer;
@@ -23,9 +23,7 @@ fn a_link_to_an_ancestor_is_a_loop(rt: HostRuntime) {
             answers: "0 d /r; 1 d /r/a; 2 d /r/a/b; 3 d /r/a/b/c; 4 L /r/a/b/c/a-link",
         },
     ];
-    for row in ROWS {
-        assert!(rt; holds(&rt, row), "with {:?}", row.settings);
-    }
+    all_hold(&rt, ROWS);
 }
 
 /// Directories in one another, the innermost with a link to the second by a relative text.
@@ -57,9 +55,7 @@ fn a_link_back_by_a_relative_text_is_followed(rt: HostRuntime) {
             answers: "0 d /r; 1 D /r/l; 2 D /r/l/l; 3 D /r/l/l/l",
         },
     ];
-    for row in ROWS {
-        assert!(rt; holds(&rt, row), "with {:?}", row.settings);
-    }
+    all_hold(&rt, ROWS);
 }
 
 /// Links to a file, to a directory, to nothing and to itself.
@@ -102,9 +98,7 @@ fn links_to_files_directories_and_nothing(rt: HostRuntime) {
             answers: "0 d /r; 1 L /r/a",
         },
     ];
-    for row in ROWS {
-        assert!(rt; holds(&rt, row), "with {:?}", row.settings);
-    }
+    all_hold(&rt, ROWS);
 }
 
 /// A directory, and a link to it beside it.
@@ -143,14 +137,7 @@ fn roots_that_are_links_followed_or_not(rt: HostRuntime) {
             answers: "! 0 /x NotFound",
         },
     ];
-    for row in ROWS {
-        assert!(rt;
-            holds(&rt, row),
-            "from {} with {:?}",
-            row.root,
-            row.settings
-        );
-    }
+    all_hold(&rt, ROWS);
 }
 
 /// Whether the last of so many answers is an error of this depth, whose path has this length.

@@ -1,5 +1,5 @@
 //! Walks with options.
-use crate::table::holds;
+use crate::table::all_hold;
 use jwalk::file_system::FileType;
 use std::io::ErrorKind;
 use walk_fixtures::listed_directory::{Item, ListedDirectory};
@@ -26,9 +26,7 @@ fn names_in_order(rt: HostRuntime) {
                       2 f /t/group 2/e.txt",
         },
     ];
-    for row in ROWS {
-        assert!(rt; holds(&rt, row), "with {:?}", row.settings);
-    }
+    all_hold(&rt, ROWS);
 }
 
 #[test]
@@ -61,9 +59,7 @@ fn depths(rt: HostRuntime) {
             answers: "2 f /t/group 1/d.txt; 2 f /t/group 2/e.txt",
         },
     ];
-    for row in ROWS {
-        assert!(rt; holds(&rt, row), "with {:?}", row.settings);
-    }
+    all_hold(&rt, ROWS);
 }
 
 #[test]
@@ -92,9 +88,7 @@ fn a_denied_directory(rt: HostRuntime) {
             answers: "2 f /t/group 1/d.txt",
         },
     ];
-    for row in ROWS {
-        assert!(rt; holds(&rt, row), "with {:?}", row.settings);
-    }
+    all_hold(&rt, ROWS);
 }
 
 /// A directory of two files and two errors.
@@ -126,9 +120,7 @@ fn errors_after_entries_and_whatever_their_depth(rt: HostRuntime) {
             answers: "! 1 /d/.x PermissionDenied; ! 1 - InvalidData",
         },
     ];
-    for row in ROWS {
-        assert!(rt; holds(&rt, row), "with {:?}", row.settings);
-    }
+    all_hold(&rt, ROWS);
 }
 
 /// A long listing of names that begin alike, with two of one name and two errors.
@@ -164,7 +156,7 @@ const CHAPTERS: ListedDirectory<'static> = ListedDirectory {
 
 #[test]
 fn a_long_listing_of_names_that_begin_alike(rt: HostRuntime) {
-    const ROW: Row = Row {
+    const ROWS: &[Row] = &[Row {
         over: Over::Listed(CHAPTERS),
         root: "/d",
         settings: &[Setting::Sort],
@@ -178,6 +170,6 @@ fn a_long_listing_of_names_that_begin_alike(rt: HostRuntime) {
                   1 f /d/log-2026-11-chapter-6; 1 f /d/log-2026-11-chapter-7; \
                   1 f /d/log-2026-11-chapter-8; 1 f /d/log-2026-11-chapter-9; \
                   1 f /d/log-2026-11-z; ! 1 - InvalidData; ! 1 /d/log-2026-11-0 PermissionDenied",
-    };
-    assert!(rt; holds(&rt, &ROW));
+    }];
+    all_hold(&rt, ROWS);
 }

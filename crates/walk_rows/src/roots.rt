@@ -5,7 +5,6 @@ use jwalk::read_dir_iter::ReadDirIter;
 use jwalk::threads::{InTurn, OnThreads};
 use jwalk::{DirEntry, Error};
 use std::alloc::Global;
-use std::test::Fail;
 use std::thread::Threads;
 use walk_fixtures::trees::{FORKED, tree};
 use walk_fixtures::ways::Asked;
@@ -48,30 +47,54 @@ fn reads<'a, T: Drop>(
     ReadDirIter::try_new(threads, job(alloc, fs), roots, width.parallelism()).ok()
 }
 
-/// Whether so many readings come, and then none.
-fn gives(reads: &mut Reads<'_, InTurn>, count: usize) -> bool {
-    for _ in 0..count {
-        if !matches!(reads.next(), Some(Ok(_))) {
-            return false;
-        }
+/// What a reading comes to.
+type Reading = Option<Result<ReadDir<((), ())>, Error>>;
+
+/// Whether what comes is a reading or an error, if anything comes.
+fn is_read(read: &Reading) -> Option<bool> {
+    match read {
+        Some(read) => Some(read.is_ok()),
+        None => None,
     }
-    reads.next().is_none() && reads.next().is_none()
 }
 
-/// Whether so many readings come by threads, and then none.
-fn gives_on<R: Threads + Drop + Sync>(reads: &mut Reads<'_, OnThreads<R>>, count: usize) -> bool {
-    for _ in 0..count {
-        if !matches!(reads.next(), Some(Ok(_))) {
+/// Seven readings, and then none.
+const SEVEN: &[Option<bool>] = &[
+    Some(true),
+    Some(true),
+    Some(true),
+    Some(true),
+    Some(true),
+    Some(true),
+    Some(true),
+    None,
+    None,
+];
+
+/// Whether seven readings come, and then none.
+fn gives(reads: &mut Reads<'_, InTurn>) -> bool {
+    for wanted in SEVEN {
+        if is_read(&reads.next()) != *wanted {
             return false;
         }
     }
-    reads.next().is_none() && reads.next().is_none()
+    true
+}
+
+/// Whether they come where threads make them.
+fn gives_on<R: Threads + Drop + Sync>(reads: &mut Reads<'_, OnThreads<R>>) -> bool {
+    for wanted in SEVEN {
+        if is_read(&reads.next()) != *wanted {
+            return false;
+        }
+    }
+    true
 }
 
 /// Whether the readings are seven.
 fn gives_seven(alloc: Global, fs: &MemoryFs, width: Width) -> bool {
     match reads(alloc, fs, InTurn, width) {
-        Some(mut reads) => gives(&mut reads, 7),
+        Some(mut reads) => gives(&mut reads),
         None => false,
     }
 }
@@ -79,19 +102,27 @@ fn gives_seven(alloc: Global, fs: &MemoryFs, width: Width) -> bool {
 /// Whether they are seven where threads make them.
 fn gives_seven_on<R: Threads + AllocGlobal + Sync>(rt: &R, fs: &MemoryFs, width: Width) -> bool {
     match reads(rt.alloc(), fs, OnThreads::new(rt), width) {
-        Some(mut reads) => gives_on(&mut reads, 7),
+        Some(mut reads) => gives_on(&mut reads),
         None => false,
     }
 }
 
-#[test]
-fn readings_from_the_directories_of_a_list(rt: HostRuntime) -> Result<(), Fail> {
-    let fs = tree(rt.alloc(), FORKED)?;
+/// Whether they are in each width, by threads or not.
+fn always_gives_seven<R: Threads + AllocGlobal + Sync>(rt: &R) -> bool {
+    let Ok(fs) = tree(rt.alloc(), FORKED) else {
+        return false;
+    };
     for width in WIDTHS {
-        assert!(rt; gives_seven(rt.alloc(), &fs, *width), "{:?}", width);
-        assert!(rt; gives_seven_on(&rt, &fs, *width), "{:?} on threads", width);
+        if !gives_seven(rt.alloc(), &fs, *width) || !gives_seven_on(rt, &fs, *width) {
+            return false;
+        }
     }
-    Ok(())
+    true
+}
+
+#[test]
+fn readings_from_the_directories_of_a_list(rt: HostRuntime) {
+    assert!(rt; always_gives_seven(&rt));
 }
 
 /// The root's entry.
@@ -100,7 +131,7 @@ fn root(alloc: Global, fs: &MemoryFs) -> Option<DirEntry<((), ())>> {
 }
 
 /// Whether this is a reading of three items.
-fn has_three(read: &Option<Result<ReadDir<((), ())>, Error>>) -> bool {
+fn has_three(read: &Reading) -> bool {
     match read {
         Some(Ok(read)) => read.results_list().len() == 3,
         _ => false,
@@ -141,21 +172,32 @@ fn is_asked_for_on<R: Threads + AllocGlobal + Sync>(
     }
 }
 
-#[test]
-fn the_reading_of_an_entrys_directory(rt: HostRuntime) -> Result<(), Fail> {
-    let fs = tree(rt.alloc(), FORKED)?;
-    let entry = root(rt.alloc(), &fs).ok_or("no root")?;
+/// Whether it is in each width, by threads or not.
+fn is_always_asked_for<R: Threads + AllocGlobal + Sync>(
+    rt: &R,
+    fs: &MemoryFs,
+    entry: &DirEntry<((), ())>,
+) -> bool {
     for width in WIDTHS {
-        assert!(rt;
-            is_asked_for(rt.alloc(), &fs, &entry, *width),
-            "{:?}",
-            width
-        );
-        assert!(rt;
-            is_asked_for_on(&rt, &fs, &entry, *width),
-            "{:?} on threads",
-            width
-        );
+        if !is_asked_for(rt.alloc(), fs, entry, *width) || !is_asked_for_on(rt, fs, entry, *width) {
+            return false;
+        }
     }
-    Ok(())
+    true
+}
+
+/// Whether the root's entry asks for the reading of the root.
+fn root_asks_for_its_own<R: Threads + AllocGlobal + Sync>(rt: &R) -> bool {
+    let Ok(fs) = tree(rt.alloc(), FORKED) else {
+        return false;
+    };
+    match root(rt.alloc(), &fs) {
+        Some(entry) => is_always_asked_for(rt, &fs, &entry),
+        None => false,
+    }
+}
+
+#[test]
+fn the_reading_of_an_entrys_directory(rt: HostRuntime) {
+    assert!(rt; root_asks_for_its_own(&rt));
 }

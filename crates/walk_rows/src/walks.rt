@@ -1,5 +1,5 @@
 //! Walks with the options as they are, from roots of every kind.
-use crate::table::holds;
+use crate::table::all_hold;
 use jwalk::file_system::FileType;
 use std::io::ErrorKind;
 use walk_fixtures::listed_directory::{Item, ListedDirectory};
@@ -47,9 +47,7 @@ fn a_directory_before_all_that_it_holds(rt: HostRuntime) {
             answers: "! 0 /none NotFound",
         },
     ];
-    for row in ROWS {
-        assert!(rt; holds(&rt, row), "from {}", row.root);
-    }
+    all_hold(&rt, ROWS);
 }
 
 /// A directory of 33 directories: a batch of 32 of them is read by two threads.
@@ -125,7 +123,7 @@ const SIBLINGS: &[Step] = &[
 
 #[test]
 fn many_directories_beside_one_another(rt: HostRuntime) {
-    const ROW: Row = Row {
+    const ROWS: &[Row] = &[Row {
         over: Over::Tree(SIBLINGS),
         root: "/w",
         settings: &[],
@@ -138,8 +136,8 @@ fn many_directories_beside_one_another(rt: HostRuntime) {
                       2 f /w/x/x; 1 d /w/y; 2 f /w/y/x; 1 d /w/z; 2 f /w/z/x; 1 d /w/0; 2 f /w/0/x; 1 d /w/1; \
                       2 f /w/1/x; 1 d /w/2; 2 f /w/2/x; 1 d /w/3; 2 f /w/3/x; 1 d /w/4; 2 f /w/4/x; 1 d /w/5; \
                       2 f /w/5/x; 1 d /w/6; 2 f /w/6/x",
-    };
-    assert!(rt; holds(&rt, &ROW));
+    }];
+    all_hold(&rt, ROWS);
 }
 
 #[test]
@@ -176,9 +174,7 @@ fn roots_that_have_no_file_name(rt: HostRuntime) {
             answers: "0 d a; 1 f a/x",
         },
     ];
-    for row in ROWS {
-        assert!(rt; holds(&rt, row), "from {}", row.root);
-    }
+    all_hold(&rt, ROWS);
 }
 
 /// What a link to a directory leads to.
@@ -219,9 +215,7 @@ fn roots_that_are_links(rt: HostRuntime) {
             answers: "! 0 /x NotFound",
         },
     ];
-    for row in ROWS {
-        assert!(rt; holds(&rt, row), "from {}", row.root);
-    }
+    all_hold(&rt, ROWS);
 }
 
 /// A directory with errors among its files.
@@ -239,11 +233,11 @@ const FAULTY: ListedDirectory<'static> = ListedDirectory {
 
 #[test]
 fn errors_stand_where_their_items_were_listed(rt: HostRuntime) {
-    const ROW: Row = Row {
+    const ROWS: &[Row] = &[Row {
         over: Over::Listed(FAULTY),
         root: "/d",
         settings: &[],
         answers: "0 d /d; ! 1 /d/.x PermissionDenied; ! 1 - InvalidData; 1 f /d/b; 1 f /d/a",
-    };
-    assert!(rt; holds(&rt, &ROW));
+    }];
+    all_hold(&rt, ROWS);
 }

@@ -1,22 +1,22 @@
 //! Walks over a crew.
 ghost use Rattle.std.specs.Prelude.{◌≡◌, ◌⊎◌, string_bytes, IfOk, IfErr, IfSome, IfNone, Some, None};
 ghost use Rattle.walk_model.specs.Options as parallelism;
-ghost use Rattle.jwalk_read.specs.Options.{mode_value};
+ghost use Rattle.read_parts.specs.Options.{mode_value};
 ghost use Rattle.walk_model.specs.Error.{memory, busy};
-ghost use Rattle.jwalk_read.specs.Error.{failure};
+ghost use Rattle.read_parts.specs.Error.{failure};
 
-use crate::crew_reads::started::error_of;
-use crate::dir_entry_iter::DirEntryIter;
-use crate::threads::InTurn;
 use crate::walk_dir::WalkDirGeneric;
 use jwalk_crew::crew::{Crew, NotStarted};
 use jwalk_crew::pool::Pool;
 use jwalk_crew::session::Session;
-use jwalk_read::client_state::ClientState;
-use jwalk_read::error::Error;
+use jwalk_entries::dir_entry_iter::DirEntryIter;
 use jwalk_read::job::Job;
-use jwalk_read::mode::Mode;
-use jwalk_read::process_read_dir::{NoProcess, ProcessReadDir};
+use jwalk_readings::crew_reads::started::error_of;
+use jwalk_readings::threads::InTurn;
+use read_parts::client_state::ClientState;
+use read_parts::error::Error;
+use read_parts::mode::Mode;
+use read_parts::process_read_dir::{NoProcess, ProcessReadDir};
 use std::alloc::Allocator;
 use std::sync::Wait;
 use std::thread::Threads;
@@ -70,7 +70,7 @@ where
     C::DirEntryState: Send + 'static,
 {
     ghost use Rattle.jwalk.specs.WalkDir.{callback_of, options_of, Starts, Begins};
-    ghost use Rattle.jwalk.specs.DirEntryIter.{StartsSteady};
+    ghost use Rattle.jwalk_entries.specs.DirEntryIter.{StartsSteady};
 
     /// The walk begun, and why it doesn't begin, if so.
     fn begin_by(

@@ -4,23 +4,23 @@ ghost use Rattle.walk_model.specs.Counted.{Worth};
 ghost use Rattle.walk_model.specs.Entry.{AtDepth, Entry, path_of};
 ghost use Rattle.walk_model.specs.FileType.{is_symlink};
 ghost use Rattle.walk_model.specs.Job as value;
-ghost use Rattle.jwalk_read.specs.Text.{text};
-ghost use Rattle.jwalk_read.specs.Ancestors.{texts};
-ghost use Rattle.jwalk_read.specs.Error.{failure};
-ghost use Rattle.jwalk_read.specs.Entry.{entry, item};
-ghost use Rattle.jwalk_read.specs.ReadDir.{spec};
-ghost use Rattle.jwalk_read.specs.Given.{Given, counted_spec, counted_item, counted_entry};
-ghost use Rattle.jwalk_read.specs.Job.{file_system, options_of, DefaultsCount, job_by};
+ghost use Rattle.read_parts.specs.Text.{text};
+ghost use Rattle.read_parts.specs.Ancestors.{texts};
+ghost use Rattle.read_parts.specs.Error.{failure};
+ghost use Rattle.read_parts.specs.Entry.{entry, item};
+ghost use Rattle.read_parts.specs.ReadDirSpec.{spec};
+ghost use Rattle.read_parts.specs.Given.{Given, counted_spec, counted_item, counted_entry, DefaultsCount};
+ghost use Rattle.jwalk_read.specs.Job.{file_system, options_of, job_by};
 
 use super::Job;
-use crate::ancestors::Ancestors;
-use crate::client_state::ClientState;
-use crate::dir_entry::DirEntry;
-use crate::error::Error;
-use crate::metadata::metadata_at;
-use crate::process_read_dir::ProcessReadDir;
-use crate::read_children::ReadChildren;
-use crate::read_dir_spec::ReadDirSpec;
+use read_parts::ancestors::Ancestors;
+use read_parts::client_state::ClientState;
+use read_parts::dir_entry::DirEntry;
+use read_parts::error::Error;
+use read_parts::metadata::metadata_at;
+use read_parts::process_read_dir::ProcessReadDir;
+use read_parts::read_children::ReadChildren;
+use read_parts::read_dir_spec::ReadDirSpec;
 use std::alloc::{AllocError, Allocator};
 use std::sync::Arc;
 use walk_fs::fault::Fault;
@@ -58,10 +58,10 @@ impl<C: ClientState, S: FileSystem, P: ProcessReadDir<C, A>, A: Allocator + Copy
         ensures { (g : _) → IfOk result (λ inside. texts inside
             ≡ value.ancestors_in (job_by S.FileSystem g self.now) (counted_spec g (spec of.now))) }
     {
-        if !self.options.follow_links {
+        if !self.options.follow_links() {
             return Ok(Ancestors::none());
         }
-        of.ancestors.with(self.alloc, of.path.clone()?)
+        of.ancestors().with(self.alloc, of.path.clone()?)
     }
 
     /// The parent of an entry made from a path: a handle of a text near by, where that is the same text.
@@ -103,16 +103,15 @@ impl<C: ClientState, S: FileSystem, P: ProcessReadDir<C, A>, A: Allocator + Copy
         } else {
             None
         };
-        Ok(DirEntry {
+        Ok(DirEntry::new(
             depth,
             file_name,
             file_type,
-            client_state: C::DirEntryState::default(),
             parent_path,
             read_children,
             through_link,
             ancestors,
-        })
+        ))
     }
 
     /// The entry of a path, or the error with its depth and path. A text near by may be that of its parent.
@@ -158,7 +157,7 @@ impl<C: ClientState, S: FileSystem, P: ProcessReadDir<C, A>, A: Allocator + Copy
             return Ok(Ok(()));
         }
         match self.fs.read_link(self.alloc, path.as_str()) {
-            Ok(target) => match link.ancestors.nearest(target.as_str())? {
+            Ok(target) => match link.ancestors().nearest(target.as_str())? {
                 Some(ancestor) => Ok(Err(Error::from_loop(link.depth, ancestor, path))),
                 None => Ok(Ok(())),
             },
@@ -175,8 +174,8 @@ impl<C: ClientState, S: FileSystem, P: ProcessReadDir<C, A>, A: Allocator + Copy
         found: DirEntry<C, A>,
     ) -> Result<Result<DirEntry<C, A>, Error<A>>, AllocError>
         requires { text path ≡ path_of (entry link.now) }
-        ensures depth { AtDepth link.now.depth (item (Ok found) ∷ [])
-            → IfOk result (λ r. AtDepth link.now.depth (item r ∷ [])) }
+        ensures depth { AtDepth (entry link.now).depth (item (Ok found) ∷ [])
+            → IfOk result (λ r. AtDepth (entry link.now).depth (item r ∷ [])) }
         ensures value { (g : Given C.ReadDirState C.DirEntryState) → S.IsFixed (file_system self.now)
             → IfOk result (λ r. counted_item g (item r)
             ≡ value.reached (job_by S.FileSystem g self.now)
@@ -188,15 +187,15 @@ impl<C: ClientState, S: FileSystem, P: ProcessReadDir<C, A>, A: Allocator + Copy
 
     /// What a link gives way to.
     fn behind(&self, link: &DirEntry<C, A>) -> Result<Result<DirEntry<C, A>, Error<A>>, AllocError>
-        ensures depth { IfOk result (λ r. AtDepth link.now.depth (item r ∷ [])) }
+        ensures depth { IfOk result (λ r. AtDepth (entry link.now).depth (item r ∷ [])) }
         ensures value { (g : _) → S.IsFixed (file_system self.now) → DefaultsCount C.DirEntryState.Default g
             → IfOk result (λ r. counted_item g (item r)
             ≡ value.either (value.reached (job_by S.FileSystem g self.now) (counted_entry g (entry link.now))) Err
-            (value.made (job_by S.FileSystem g self.now) link.now.depth
-            (path_of (entry link.now)) true (texts link.now.ancestors))) }
+            (value.made (job_by S.FileSystem g self.now) (entry link.now).depth
+            (path_of (entry link.now)) true (entry link.now).ancestors)) }
     {
         let path = Arc::new(self.alloc, link.path()?)?;
-        let ancestors = link.ancestors.share()?;
+        let ancestors = link.ancestors().share()?;
         match self.made(
             link.depth,
             path.clone()?,
@@ -213,7 +212,7 @@ impl<C: ClientState, S: FileSystem, P: ProcessReadDir<C, A>, A: Allocator + Copy
     fn gives_way(&self, file_type: FileType) -> bool
         ensures { result ≡ ((options_of self.now).follow_links && is_symlink file_type) }
     {
-        self.options.follow_links && file_type.is_symlink()
+        self.options.follow_links() && file_type.is_symlink()
     }
 
     /// An entry after the link rule: where links are followed, a link gives way to what it leads to.

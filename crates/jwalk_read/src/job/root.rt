@@ -3,21 +3,21 @@ ghost use Rattle.std.specs.Prelude.{◌≡◌, ◌∷◌, [], Some, Ok, Err, IfO
 ghost use Rattle.walk_model.specs.Error.{io};
 ghost use Rattle.walk_model.specs.Entry.{AtDepth, path_of};
 ghost use Rattle.walk_model.specs.Job as value;
-ghost use Rattle.jwalk_read.specs.Text.{text};
-ghost use Rattle.jwalk_read.specs.Ancestors.{texts};
-ghost use Rattle.jwalk_read.specs.Error.{failure};
-ghost use Rattle.jwalk_read.specs.Entry.{entry, item};
+ghost use Rattle.read_parts.specs.Text.{text};
+ghost use Rattle.read_parts.specs.Ancestors.{texts};
+ghost use Rattle.read_parts.specs.Error.{failure};
+ghost use Rattle.read_parts.specs.Entry.{entry, item};
 ghost use Rattle.jwalk_read.specs.ReadDir.{reading};
-ghost use Rattle.jwalk_read.specs.Given.{Given, counted_item, counted_reading, counted_entry};
-ghost use Rattle.jwalk_read.specs.Job.{file_system, callback, options_of, DefaultsCount, job_by, IsSteadyJob};
+ghost use Rattle.read_parts.specs.Given.{Given, counted_item, counted_reading, counted_entry, DefaultsCount};
+ghost use Rattle.jwalk_read.specs.Job.{file_system, callback, options_of, job_by, IsSteadyJob};
 
 use super::Job;
-use crate::ancestors::Ancestors;
-use crate::client_state::ClientState;
-use crate::dir_entry::DirEntry;
-use crate::error::Error;
-use crate::process_read_dir::ProcessReadDir;
 use crate::read_dir::ReadDir;
+use read_parts::ancestors::Ancestors;
+use read_parts::client_state::ClientState;
+use read_parts::dir_entry::DirEntry;
+use read_parts::error::Error;
+use read_parts::process_read_dir::ProcessReadDir;
 use std::alloc::{AllocError, Allocator};
 use std::sync::Arc;
 use walk_fs::fault::Fault;
@@ -44,7 +44,7 @@ impl<C: ClientState, S: FileSystem, P: ProcessReadDir<C, A>, A: Allocator + Copy
         ensures { IfOk result (λ above. texts above
             ≡ (if (options_of self.now).follow_links then text path.now ∷ [] else [])) }
     {
-        if !self.options.follow_links {
+        if !self.options.follow_links() {
             return Ok(Ancestors::none());
         }
         Ancestors::none().with(self.alloc, path.clone()?)

@@ -1,7 +1,7 @@
 //! Whole walks, and walks in batches.
-use jwalk::WalkDirGeneric;
-use jwalk::file_system::{FileSystem, MemoryFs};
-use jwalk::read_dir::NoProcess;
+use crate::lines::{Entry, builder, walk};
+use jwalk::Error;
+use jwalk::file_system::{BuildError, FileSystem};
 use proved_walk::batches::count_in_batches;
 use proved_walk::by_crew::walk_by_crew;
 use proved_walk::counted::Counted;
@@ -9,34 +9,32 @@ use proved_walk::whole::walk_whole;
 use std::alloc::{AllocError, Global};
 use std::sync::Arc;
 use std::test::Fail;
-use walk_fixtures::answers::lines_of;
+use walk_fixtures::answers::are_lines;
 use walk_fixtures::crewed::{Crewed, crew_of};
 use walk_fixtures::trees::{GROUPED, SMALL, tree};
 use walk_fixtures::wide::wide_directory;
 
-/// A walk yet to begin.
-type Builder<'a, S> = WalkDirGeneric<((), ()), &'a S, NoProcess>;
-
-/// A walk that is yet to begin, with the options as they are.
-fn builder<'a, S: FileSystem>(
+/// All answers of a walk in one list.
+fn whole<S: FileSystem>(
     alloc: Global,
-    fs: &'a S,
+    fs: S,
     root: &str,
-) -> Result<Builder<'a, S>, AllocError> {
-    Ok(WalkDirGeneric::new(fs, String::from_str(alloc, root)?))
+) -> Result<Vec<Result<Entry, Error>>, AllocError> {
+    walk_whole(alloc, builder(alloc, fs, root)?)
 }
 
-fn whole_lines(alloc: Global, fs: &MemoryFs) -> Result<String, AllocError> {
-    let found = walk_whole(alloc, builder(alloc, fs, "/r")?)?;
-    lines_of(alloc, found.as_slice())
+/// What a walk over the small tree answers.
+const SMALL_LINES: &str = "0 d /r; 1 f /r/b; 1 d /r/s; 2 f /r/s/x; 1 f /r/a";
+
+/// Whether these are the lines of a whole walk over the small tree.
+fn shows_small(alloc: Global, wanted: &str) -> Result<bool, BuildError> {
+    let found = whole(alloc, tree(alloc, SMALL)?, "/r")?;
+    Ok(are_lines(alloc, found.as_slice(), wanted))
 }
 
 #[test]
-fn a_whole_walk_in_one_list(rt: HostRuntime) -> Result<(), Fail> {
-    let fs = tree(rt.alloc(), SMALL)?;
-    let wanted = "0 d /r; 1 f /r/b; 1 d /r/s; 2 f /r/s/x; 1 f /r/a";
-    assert_eq!(rt; whole_lines(rt.alloc(), &fs)?.as_str(), wanted);
-    Ok(())
+fn a_whole_walk_in_one_list(rt: HostRuntime) {
+    assert!(rt; matches!(shows_small(rt.alloc(), SMALL_LINES), Ok(true)));
 }
 
 #[test]
@@ -50,34 +48,33 @@ fn a_whole_walk_by_a_crew_in_one_list(rt: HostRuntime) -> Result<(), Fail> {
         root: "/r",
         settings: &[],
     };
-    let lines = match walk_by_crew(rt.alloc(), asked.builder::<((), ())>(rt.alloc())?) {
-        Ok(found) => lines_of(rt.alloc(), found.as_slice())?,
-        Err(_) => String::new(rt.alloc()),
+    let is_shown = match walk_by_crew(rt.alloc(), asked.builder::<((), ())>(rt.alloc())?) {
+        Ok(found) => are_lines(rt.alloc(), found.as_slice(), SMALL_LINES),
+        Err(_) => false,
     };
-    let wanted = "0 d /r; 1 f /r/b; 1 d /r/s; 2 f /r/s/x; 1 f /r/a";
-    assert_eq!(rt; lines.as_str(), wanted);
+    assert!(rt; is_shown);
     Ok(())
 }
 
-fn count_answers(alloc: Global, fs: &Counted<MemoryFs>) -> Result<usize, AllocError> {
-    Ok(walk_whole(alloc, builder(alloc, fs, "/t")?)?.len())
+/// How many answers a walk over the grouped tree has, and how many listings were asked for.
+fn answers_and_listings(alloc: Global) -> Result<(usize, usize), BuildError> {
+    let fs = Counted::new(tree(alloc, GROUPED)?);
+    let answers = whole(alloc, &fs, "/t")?.len();
+    Ok((answers, fs.listings()))
 }
 
 #[test]
-fn a_file_system_of_ones_own_that_counts(rt: HostRuntime) -> Result<(), Fail> {
-    let fs = Counted::new(tree(rt.alloc(), GROUPED)?);
-    assert!(rt; count_answers(rt.alloc(), &fs)? == 8);
-    assert!(rt; fs.listings() == 3);
-    Ok(())
+fn a_file_system_of_ones_own_that_counts(rt: HostRuntime) {
+    assert!(rt; matches!(answers_and_listings(rt.alloc()), Ok((8, 3))));
 }
 
-fn count(alloc: Global, fs: &MemoryFs) -> Result<usize, AllocError> {
-    count_in_batches(alloc, builder(alloc, fs, "/d")?.into_iter())
+/// How many answers a walk over the wide directory gives in batches.
+fn count(alloc: Global) -> Result<usize, BuildError> {
+    let fs = wide_directory(alloc)?;
+    Ok(count_in_batches(alloc, walk(alloc, fs, "/d")?)?)
 }
 
 #[test]
-fn answers_counted_a_hundred_at_a_time(rt: HostRuntime) -> Result<(), Fail> {
-    let fs = wide_directory(rt.alloc())?;
-    assert!(rt; count(rt.alloc(), &fs)? == 5_001);
-    Ok(())
+fn answers_counted_a_hundred_at_a_time(rt: HostRuntime) {
+    assert!(rt; matches!(count(rt.alloc()), Ok(5_001)));
 }

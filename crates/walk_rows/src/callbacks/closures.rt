@@ -1,25 +1,16 @@
 //! Walks whose callbacks are closures.
 ghost use Rattle.jwalk.specs.WalkDir.{callback_of};
 
+use crate::callbacks::rows::{Callback, Row, all_hold, by_name};
 use jwalk::file_system::MemoryFs;
 use jwalk::read_dir::ProcessReadDir;
 use jwalk::{DirEntry, WalkDirGeneric};
 use std::alloc::{AllocError, Global};
-use std::test::Fail;
 use std::thread::Threads;
 use walk_fixtures::answers::{Answer, push_line};
 use walk_fixtures::moving::move_directory;
 use walk_fixtures::trees::{GROUPED, tree};
-use walk_fixtures::ways::{Asked, Setting, WAYS, Way};
-
-/// A walk by name over the groups of files.
-fn by_name<'a>(fs: &'a MemoryFs) -> Asked<'a, MemoryFs> {
-    Asked {
-        fs,
-        root: "/t",
-        settings: &[Setting::Sort],
-    }
-}
+use walk_fixtures::ways::{Asked, Way};
 
 fn is_group(entry: &DirEntry<((), ())>) -> bool {
     entry.file_name.as_str().starts_with("group")
@@ -36,31 +27,42 @@ fn clear_groups(list: &mut Vec<Answer>) {
     }
 }
 
-/// Whether groups whose directories are taken away are answered and not entered.
-fn clears<R: Threads + AllocGlobal + Sync>(rt: &R, fs: &MemoryFs, way: Way) -> bool {
-    by_name(fs).shows_by(
+/// Whether these are the answers where the directories of groups are taken away.
+pub fn clears<R: Threads + AllocGlobal + Sync>(
+    rt: &R,
+    asked: &Asked<'_, MemoryFs>,
+    way: Way,
+    answers: &str,
+) -> bool {
+    asked.shows_by(
         rt,
         |_depth, _path, _state, list| {
             clear_groups(list);
             Ok(())
         },
         way,
-        "0 d /t; 1 f /t/a.txt; 1 f /t/b.txt; 1 f /t/c.txt; 1 d /t/group 1; 1 d /t/group 2",
+        answers,
     )
 }
 
 #[test]
-fn directories_that_are_not_entered(rt: HostRuntime) -> Result<(), Fail> {
-    let fs = tree(rt.alloc(), GROUPED)?;
-    for way in WAYS {
-        assert!(rt; clears(&rt, &fs, *way), "{:?}", way);
-    }
-    Ok(())
+fn directories_that_are_not_entered(rt: HostRuntime) {
+    const ROWS: &[Row] = &[Row {
+        callback: Callback::ClearGroups,
+        root: "/t",
+        answers: "0 d /t; 1 f /t/a.txt; 1 f /t/b.txt; 1 f /t/c.txt; 1 d /t/group 1; 1 d /t/group 2",
+    }];
+    all_hold(&rt, ROWS);
 }
 
-/// Whether groups that are dropped from their list are not answered.
-fn drops<R: Threads + AllocGlobal + Sync>(rt: &R, fs: &MemoryFs, way: Way) -> bool {
-    by_name(fs).shows_by(
+/// Whether these are the answers where groups are dropped from their list.
+pub fn drops<R: Threads + AllocGlobal + Sync>(
+    rt: &R,
+    asked: &Asked<'_, MemoryFs>,
+    way: Way,
+    answers: &str,
+) -> bool {
+    asked.shows_by(
         rt,
         |_depth, _path, _state, list| {
             list.retain(|found| match found {
@@ -70,22 +72,28 @@ fn drops<R: Threads + AllocGlobal + Sync>(rt: &R, fs: &MemoryFs, way: Way) -> bo
             Ok(())
         },
         way,
-        "0 d /t; 1 f /t/a.txt; 1 f /t/b.txt; 1 f /t/c.txt",
+        answers,
     )
 }
 
 #[test]
-fn entries_that_are_dropped(rt: HostRuntime) -> Result<(), Fail> {
-    let fs = tree(rt.alloc(), GROUPED)?;
-    for way in WAYS {
-        assert!(rt; drops(&rt, &fs, *way), "{:?}", way);
-    }
-    Ok(())
+fn entries_that_are_dropped(rt: HostRuntime) {
+    const ROWS: &[Row] = &[Row {
+        callback: Callback::DropGroups,
+        root: "/t",
+        answers: "0 d /t; 1 f /t/a.txt; 1 f /t/b.txt; 1 f /t/c.txt",
+    }];
+    all_hold(&rt, ROWS);
 }
 
-/// Whether what a moved directory holds comes after the file that it was moved to.
-fn moves<R: Threads + AllocGlobal + Sync>(rt: &R, fs: &MemoryFs, way: Way) -> bool {
-    by_name(fs).shows_by(
+/// Whether these are the answers where the directory of a group is moved to a file.
+pub fn moves<R: Threads + AllocGlobal + Sync>(
+    rt: &R,
+    asked: &Asked<'_, MemoryFs>,
+    way: Way,
+    answers: &str,
+) -> bool {
+    asked.shows_by(
         rt,
         |_depth, path, _state, list| {
             if path == "/t" {
@@ -94,48 +102,55 @@ fn moves<R: Threads + AllocGlobal + Sync>(rt: &R, fs: &MemoryFs, way: Way) -> bo
             Ok(())
         },
         way,
-        "0 d /t; 1 f /t/a.txt; 1 f /t/b.txt; 1 f /t/c.txt; 2 f /t/group 1/d.txt; 1 d /t/group 1; \
-         1 d /t/group 2; 2 f /t/group 2/e.txt",
+        answers,
     )
 }
 
 #[test]
-fn a_directory_that_was_moved_to_a_file(rt: HostRuntime) -> Result<(), Fail> {
-    let fs = tree(rt.alloc(), GROUPED)?;
-    for way in WAYS {
-        assert!(rt; moves(&rt, &fs, *way), "{:?}", way);
-    }
-    Ok(())
+fn a_directory_that_was_moved_to_a_file(rt: HostRuntime) {
+    const ROWS: &[Row] = &[Row {
+        callback: Callback::MoveGroup,
+        root: "/t",
+        answers: "0 d /t; 1 f /t/a.txt; 1 f /t/b.txt; 1 f /t/c.txt; 2 f /t/group 1/d.txt; 1 d /t/group 1; \
+                  1 d /t/group 2; 2 f /t/group 2/e.txt",
+    }];
+    all_hold(&rt, ROWS);
 }
 
-/// The answers that a `for` loop over a walk comes by, as one text.
-fn in_a_for_loop<P: ProcessReadDir<((), ()), Global>>(
-    alloc: Global,
+/// Adds the answers that a `for` loop over a walk comes by to a text. Whether all could be added.
+fn pushes_in_a_for_loop<P: ProcessReadDir<((), ()), Global>>(
     walk: WalkDirGeneric<((), ()), &MemoryFs, P>,
-) -> Result<String, AllocError>
+    text: &mut String,
+) -> bool
     requires { P.IsLawful (callback_of walk) }
 {
-    let mut text = String::new(alloc);
+    let mut is_whole = true;
     for answer in walk.into_iter() {
-        push_line(&mut text, &answer)?;
+        is_whole &= push_line(text, &answer).is_ok();
     }
-    Ok(text)
+    is_whole
 }
 
-/// What that is where each list is cut after two items.
-fn cut_in_a_for_loop(alloc: Global, fs: &MemoryFs) -> Result<String, AllocError> {
-    let walk = by_name(fs).builder(alloc)?;
+/// Whether a `for` loop comes by these answers where each list is cut after two items.
+fn cuts_in_a_for_loop(alloc: Global, fs: &MemoryFs, wanted: &str) -> Result<bool, AllocError> {
+    let walk = by_name(fs, "/t").builder(alloc)?;
     let walk = walk.process_read_dir_by(|_depth, _path, _state, list| {
         list.truncate(2);
         Ok(())
     });
-    in_a_for_loop(alloc, walk)
+    let mut text = String::new(alloc);
+    Ok(pushes_in_a_for_loop(walk, &mut text) && text.as_str() == wanted)
+}
+
+/// Whether it does over the groups of files.
+fn cuts_groups(alloc: Global, wanted: &str) -> bool {
+    match tree(alloc, GROUPED) {
+        Ok(fs) => cuts_in_a_for_loop(alloc, &fs, wanted) == Ok(true),
+        Err(_) => false,
+    }
 }
 
 #[test]
-fn a_walk_with_a_callback_in_a_for_loop(rt: HostRuntime) -> Result<(), Fail> {
-    let fs = tree(rt.alloc(), GROUPED)?;
-    let found = cut_in_a_for_loop(rt.alloc(), &fs)?;
-    assert_eq!(rt; found.as_str(), "0 d /t; 1 f /t/a.txt; 1 f /t/b.txt");
-    Ok(())
+fn a_walk_with_a_callback_in_a_for_loop(rt: HostRuntime) {
+    assert!(rt; cuts_groups(rt.alloc(), "0 d /t; 1 f /t/a.txt; 1 f /t/b.txt"));
 }

@@ -1,17 +1,15 @@
 //! Walks whose callback is refused memory.
+use crate::callbacks::rows::{Callback, Row, all_hold, by_name};
 use jwalk::file_system::MemoryFs;
 use jwalk::read_dir::ProcessReadDir;
 use std::alloc::{AllocError, Global};
-use std::test::Fail;
-use std::thread::Threads;
 use walk_fixtures::answers::Answer;
 use walk_fixtures::trees::{GROUPED, tree};
-use walk_fixtures::ways::{Asked, Setting, WAYS, Way};
 
 /// A callback that is refused memory for the list of the root, or for those of directories at a depth.
 #[derive(Drop)]
-struct RefusedAt {
-    at: Option<usize>,
+pub struct RefusedAt {
+    pub at: Option<usize>,
 }
 
 impl ProcessReadDir<((), ()), Global> for RefusedAt {
@@ -34,44 +32,31 @@ impl ProcessReadDir<((), ()), Global> for RefusedAt {
     }
 }
 
-/// A walk by name over the groups of files.
-fn by_name<'a>(fs: &'a MemoryFs) -> Asked<'a, MemoryFs> {
-    Asked {
-        fs,
-        root: "/t",
-        settings: &[Setting::Sort],
-    }
-}
-
-/// Where the callback is refused memory, and what the walk answers.
-type Row = (Option<usize>, &'static str);
-
-fn holds<R: Threads + AllocGlobal + Sync>(rt: &R, fs: &MemoryFs, row: &Row, way: Way) -> bool {
-    by_name(fs).shows::<_, ((), ()), _>(rt, RefusedAt { at: row.0 }, way, row.1)
-}
-
 #[test]
-fn a_callback_that_is_refused_memory(rt: HostRuntime) -> Result<(), Fail> {
+fn a_callback_that_is_refused_memory(rt: HostRuntime) {
     const ROWS: &[Row] = &[
-        (None, "! 0 - memory"),
-        (Some(0), "! 0 - memory"),
-        (
-            Some(1),
-            "0 d /t; 1 f /t/a.txt; 1 f /t/b.txt; 1 f /t/c.txt; ! 0 - memory",
-        ),
+        Row {
+            callback: Callback::RefusedAt(None),
+            root: "/t",
+            answers: "! 0 - memory",
+        },
+        Row {
+            callback: Callback::RefusedAt(Some(0)),
+            root: "/t",
+            answers: "! 0 - memory",
+        },
+        Row {
+            callback: Callback::RefusedAt(Some(1)),
+            root: "/t",
+            answers: "0 d /t; 1 f /t/a.txt; 1 f /t/b.txt; 1 f /t/c.txt; ! 0 - memory",
+        },
     ];
-    let fs = tree(rt.alloc(), GROUPED)?;
-    for row in ROWS {
-        for way in WAYS {
-            assert!(rt; holds(&rt, &fs, row, *way), "{:?}: {:?}", way, row.0);
-        }
-    }
-    Ok(())
+    all_hold(&rt, ROWS);
 }
 
 /// Whether a walk whose callback is refused memory for the root's list is not begun.
 fn is_not_begun(alloc: Global, fs: &MemoryFs) -> Result<bool, AllocError> {
-    let walk = by_name(fs).builder::<((), ())>(alloc)?;
+    let walk = by_name(fs, "/t").builder::<((), ())>(alloc)?;
     let walk = walk.process_read_dir(RefusedAt { at: None });
     Ok(match walk.try_into_iter() {
         Ok(_) => false,
@@ -79,9 +64,15 @@ fn is_not_begun(alloc: Global, fs: &MemoryFs) -> Result<bool, AllocError> {
     })
 }
 
+/// Whether it is not over the groups of files.
+fn no_groups_begun(alloc: Global) -> bool {
+    match tree(alloc, GROUPED) {
+        Ok(fs) => is_not_begun(alloc, &fs) == Ok(true),
+        Err(_) => false,
+    }
+}
+
 #[test]
-fn a_walk_that_is_not_begun_without_memory(rt: HostRuntime) -> Result<(), Fail> {
-    let fs = tree(rt.alloc(), GROUPED)?;
-    assert!(rt; is_not_begun(rt.alloc(), &fs)?);
-    Ok(())
+fn a_walk_that_is_not_begun_without_memory(rt: HostRuntime) {
+    assert!(rt; no_groups_begun(rt.alloc()));
 }

@@ -1,67 +1,26 @@
 //! An output that is closed while a walk is under way.
-use crate::program::runs::{Unread, texts};
-use jwalk::file_system::{Fault, FileSystem, Listed, MemoryFs, Metadata};
-use std::alloc::{AllocError, Allocator, Global};
+use crate::program::runs::ends;
+use std::alloc::{AllocError, Global};
 use std::io;
 use std::io::{ErrorKind, Write};
-use std::sync::atomic::{AtomicUsize, Ordering};
 use std::sync::{Arc, Wait};
 use std::thread::Threads;
 use std::time::Clock;
-use walk_run::run::run;
+use walk_fixtures::watched::{Failing, Watched};
 use walk_text::failure::Failure;
 use walk_text::tree::build_tree;
 
-/// A tree in memory that counts how often it is asked.
-#[derive(Drop)]
-struct Watched {
-    fs: MemoryFs,
-    calls: AtomicUsize,
+/// How often a disk was asked, for whatever.
+fn asked(disk: &Watched) -> usize {
+    let calls = disk.calls();
+    calls
+        .lists
+        .wrapping_add(calls.looks)
+        .wrapping_add(calls.follows)
 }
 
-impl Watched {
-    fn count(&self) {
-        self.calls.fetch_add(1, Ordering::SeqCst);
-    }
-
-    fn calls(&self) -> usize {
-        self.calls.load(Ordering::SeqCst)
-    }
-}
-
-impl FileSystem for Watched {
-    ghost use Rattle.walk_model.specs.Tree.{functions_of, only_root};
-
-    ghost IsFixed = { λ _. ⊥ };
-
-    ghost functions = { λ _. functions_of only_root };
-
-    fn read_dir<A: Allocator + Copy>(
-        &self,
-        alloc: A,
-        path: &str,
-    ) -> Result<Vec<io::Result<Listed<A>>, A>, Fault> {
-        self.count();
-        self.fs.read_dir(alloc, path)
-    }
-
-    fn metadata(&self, path: &str) -> Result<Metadata, Fault> {
-        self.count();
-        self.fs.metadata(path)
-    }
-
-    fn symlink_metadata(&self, path: &str) -> Result<Metadata, Fault> {
-        self.count();
-        self.fs.symlink_metadata(path)
-    }
-
-    fn read_link<A: Allocator + Copy>(&self, alloc: A, path: &str) -> Result<String<A>, Fault> {
-        self.count();
-        self.fs.read_link(alloc, path)
-    }
-}
-
-/// Takes some writes, and fails from then on. It notes how often a disk had been asked by then, and counts its failures.
+/// Takes some writes, and fails from then on. It notes how often a disk had been asked by then, and counts its
+/// failures.
 #[derive(Drop)]
 struct Closed<'d> {
     takes: usize,
@@ -76,7 +35,7 @@ impl<'d> Write for Closed<'d> {
             self.takes -= 1;
             return Ok(buf.len());
         }
-        self.calls = self.disk.calls();
+        self.calls = asked(self.disk);
         self.failures = self.failures.wrapping_add(1);
         Err(io::Error::from(ErrorKind::BrokenPipe))
     }
@@ -100,11 +59,16 @@ fn shared(alloc: Global, disk: Watched) -> Result<Arc<Watched>, AllocError> {
 }
 
 fn watched_over(alloc: Global, lines: &str) -> Result<Arc<Watched>, Failure> {
-    let disk = Watched {
-        fs: build_tree(alloc, lines.as_bytes())?,
-        calls: AtomicUsize::new(0),
-    };
-    Ok(shared(alloc, disk)?)
+    let tree = build_tree(alloc, lines.as_bytes())?;
+    Ok(shared(alloc, Watched::new(tree, Failing::Never))?)
+}
+
+/// Whether one write failed and the disk was asked for nothing since then, long before it was walked to its end.
+fn is_closed(out: &Closed<'_>, before: usize) -> bool {
+    out.takes == 0
+        && out.failures == 1
+        && out.calls == asked(out.disk)
+        && out.calls.wrapping_sub(before) < 3000
 }
 
 /// Whether the disk is asked for nothing once a write has failed, and isn't walked to its end.
@@ -112,40 +76,24 @@ fn stops(
     rt: &(impl Wait + Threads + Clock + Clone + Drop + Send + Sync + AllocGlobal + 'static),
     words: &[&str],
     disk: &Arc<Watched>,
-) -> Result<bool, AllocError> {
-    let words = texts(rt.alloc(), &[], words)?;
+) -> bool {
+    let before = asked(disk);
     let mut out = Closed {
         takes: 2,
         disk: &**disk,
         calls: 0,
         failures: 0,
     };
-    let (mut input, mut err) = (Unread { reads: 0 }, Vec::new(rt.alloc()));
-    let before = disk.calls();
-    let status = run(
-        rt,
-        rt.alloc(),
-        disk.clone()?,
-        words.as_slice(),
-        &mut input,
-        &mut out,
-        &mut err,
-    );
-    Ok(
-        status == 1
-            && err.is_empty()
-            && out.takes == 0
-            && out.failures == 1
-            && out.calls == disk.calls()
-            && out.calls.wrapping_sub(before) < 3000,
-    )
+    match disk.clone() {
+        Ok(shared) => ends(rt, shared, words, "", &mut out, 1) && is_closed(&out, before),
+        Err(_) => false,
+    }
 }
 
 #[test]
 fn nothing_is_asked_once_a_write_has_failed(rt: HostRuntime) -> Result<(), Failure> {
-    let alloc = rt.alloc();
-    let disk = watched_over(alloc, dir_lines(alloc, 6000)?.as_str())?;
-    assert!(rt; stops(&rt, &["/r"], &disk)?);
-    assert!(rt; stops(&rt, &["--batch", "8", "/r"], &disk)?);
+    let lines = dir_lines(rt.alloc(), 6000)?;
+    let disk = watched_over(rt.alloc(), lines.as_str())?;
+    assert!(rt; stops(&rt, &["/r"], &disk) && stops(&rt, &["--batch", "8", "/r"], &disk));
     Ok(())
 }

@@ -1,5 +1,5 @@
 //! The line of each sort of answer.
-use crate::program::runs::{Unread, is, outcome, texts};
+use crate::program::runs::{Want, comes_unread};
 use jwalk::file_system::{Fault, FileSystem, FileType, Listed, Metadata};
 use std::alloc::Allocator;
 use std::io;
@@ -7,49 +7,37 @@ use std::io::ErrorKind;
 use std::sync::Wait;
 use std::thread::Threads;
 use std::time::Clock;
+use walk_fixtures::listed_directory::{Item, ListedDirectory};
 
-/// A file system of directories. `/odd` lists a link, a socket, a directory that can't be read and an item that has no
-/// name; `/d` lists a hidden name without a type, an item that has no name, and two files; at `/wide` memory is refused.
+/// A link, a socket, a directory that can't be read and an item that has no name.
+const ODD: ListedDirectory<'static> = ListedDirectory {
+    path: "/odd",
+    file_type: FileType::Dir,
+    target: Some(FileType::Dir),
+    items: &[
+        Item::Typed("link", FileType::Symlink),
+        Item::Typed("socket", FileType::Other),
+        Item::Typed("denied", FileType::Dir),
+        Item::Unread(ErrorKind::TimedOut),
+    ],
+};
+
+/// A hidden name without a type, an item that has no name, and two files.
+const FAULTY: ListedDirectory<'static> = ListedDirectory {
+    path: "/d",
+    file_type: FileType::Dir,
+    target: Some(FileType::Dir),
+    items: &[
+        Item::Untyped(".x", ErrorKind::PermissionDenied),
+        Item::Unread(ErrorKind::InvalidData),
+        Item::Typed("b", FileType::File),
+        Item::Typed("a", FileType::File),
+    ],
+};
+
+/// A file system of directories: these two, `/wide`, where memory is refused, and others that can't be read.
 #[derive(Drop)]
 struct Odd;
-
-fn listed<A: Allocator + Copy>(
-    alloc: A,
-    name: &str,
-    file_type: FileType,
-) -> Result<Listed<A>, Fault> {
-    match String::from_str(alloc, name) {
-        Ok(name) => Ok(Listed {
-            name,
-            file_type: Ok(file_type),
-        }),
-        Err(_) => Err(Fault::Memory),
-    }
-}
-
-fn pushed<T: Drop, A: Allocator>(items: &mut Vec<T, A>, item: T) -> Result<(), Fault> {
-    items.push(item).map_err(|_| Fault::Memory)
-}
-
-fn odd_items<A: Allocator + Copy>(alloc: A) -> Result<Vec<io::Result<Listed<A>>, A>, Fault> {
-    let mut items = Vec::new(alloc);
-    pushed(&mut items, Ok(listed(alloc, "link", FileType::Symlink)?))?;
-    pushed(&mut items, Ok(listed(alloc, "socket", FileType::Other)?))?;
-    pushed(&mut items, Ok(listed(alloc, "denied", FileType::Dir)?))?;
-    pushed(&mut items, Err(io::Error::from(ErrorKind::TimedOut)))?;
-    Ok(items)
-}
-
-fn faulty_items<A: Allocator + Copy>(alloc: A) -> Result<Vec<io::Result<Listed<A>>, A>, Fault> {
-    let mut hidden = listed(alloc, ".x", FileType::File)?;
-    hidden.file_type = Err(io::Error::from(ErrorKind::PermissionDenied));
-    let mut items = Vec::new(alloc);
-    pushed(&mut items, Ok(hidden))?;
-    pushed(&mut items, Err(io::Error::from(ErrorKind::InvalidData)))?;
-    pushed(&mut items, Ok(listed(alloc, "b", FileType::File)?))?;
-    pushed(&mut items, Ok(listed(alloc, "a", FileType::File)?))?;
-    Ok(items)
-}
 
 impl FileSystem for Odd {
     ghost use Rattle.std.specs.Prelude.{Err};
@@ -65,8 +53,8 @@ impl FileSystem for Odd {
         path: &str,
     ) -> Result<Vec<io::Result<Listed<A>>, A>, Fault> {
         match path {
-            "/odd" => odd_items(alloc),
-            "/d" => faulty_items(alloc),
+            "/odd" => ODD.read_dir(alloc, path),
+            "/d" => FAULTY.read_dir(alloc, path),
             "/wide" => Err(Fault::Memory),
             _ => Err(Fault::Io(io::Error::from(ErrorKind::PermissionDenied))),
         }
@@ -85,41 +73,54 @@ impl FileSystem for Odd {
     }
 }
 
-/// Whether this comes of a call over that file system, and the input isn't read.
-fn comes(
+/// The words of a call over that file system, and what comes of it.
+type Row = (&'static [&'static str], Want<'static>);
+
+/// The number of the first row that comes otherwise, or whose call reads the input.
+fn first_wrong(
     rt: &(impl Wait + Threads + Clock + Clone + Drop + Send + Sync + AllocGlobal + 'static),
-    words: &[&str],
-    out: &str,
-    status: u8,
-) -> bool {
-    let Ok(words) = texts(rt.alloc(), &[], words) else {
-        return false;
-    };
-    let mut input = Unread { reads: 0 };
-    let ran = outcome(rt, Odd, words.as_slice(), &mut input);
-    is(&ran, &(out, "", status)) && input.reads == 0
+    rows: &[Row],
+) -> Option<usize> {
+    for (number, (words, want)) in rows.iter().enumerate() {
+        if !comes_unread(rt, Odd, &[], words, want) {
+            return Some(number);
+        }
+    }
+    None
 }
 
 #[test]
 fn each_sort_of_answer_has_its_line(rt: HostRuntime) {
-    let odd =
-        "0 d /odd\n1 L /odd/link\n1 o /odd/socket\n1 d /odd/denied ! PermissionDenied\n! 1 - Other\n";
-    assert!(rt; comes(&rt, &["/odd"], odd, 1));
-    assert!(rt; comes(&rt, &["/denied"], "0 d /denied ! PermissionDenied\n", 0));
-    assert!(rt; comes(&rt, &["/wide"], "! 0 - memory\n", 1));
+    const ROWS: &[Row] = &[
+        (
+            &["/odd"],
+            (
+                "0 d /odd\n1 L /odd/link\n1 o /odd/socket\n1 d /odd/denied ! PermissionDenied\n! 1 - Other\n",
+                "",
+                1,
+            ),
+        ),
+        (&["/denied"], ("0 d /denied ! PermissionDenied\n", "", 0)),
+        (&["/wide"], ("! 0 - memory\n", "", 1)),
+    ];
+    assert_eq!(rt; first_wrong(&rt, ROWS), None);
 }
 
 #[test]
 fn errors_come_last_and_whatever_their_depth(rt: HostRuntime) {
-    let all = "0 d /d\n1 f /d/a\n1 f /d/b\n! 1 /d/.x PermissionDenied\n! 1 - InvalidData\n";
-    assert!(rt; comes(&rt, &["--sort", "/d"], all, 1));
-    let errors = "! 1 /d/.x PermissionDenied\n! 1 - InvalidData\n";
-    assert!(rt;
-        comes(
-            &rt,
+    const ROWS: &[Row] = &[
+        (
+            &["--sort", "/d"],
+            (
+                "0 d /d\n1 f /d/a\n1 f /d/b\n! 1 /d/.x PermissionDenied\n! 1 - InvalidData\n",
+                "",
+                1,
+            ),
+        ),
+        (
             &["--sort", "--min", "5", "--max", "5", "/d"],
-            errors,
-            1
-        )
-    );
+            ("! 1 /d/.x PermissionDenied\n! 1 - InvalidData\n", "", 1),
+        ),
+    ];
+    assert_eq!(rt; first_wrong(&rt, ROWS), None);
 }

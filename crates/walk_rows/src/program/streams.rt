@@ -1,5 +1,5 @@
 //! Inputs and outputs that fail, and long ones.
-use crate::program::runs::{BAD_WORDS, TREE_A, Want, comes, texts};
+use crate::program::runs::{BAD_WORDS, TREE_A, Want, comes_alone, ends};
 use jwalk::file_system::MemoryFs;
 use std::alloc::AllocError;
 use std::io;
@@ -7,7 +7,6 @@ use std::io::{ErrorKind, Read, Write};
 use std::sync::Wait;
 use std::thread::Threads;
 use std::time::Clock;
-use walk_run::run::run;
 
 /// Neither reads nor writes: each call fails with an error of this kind.
 #[derive(Drop)]
@@ -29,57 +28,54 @@ impl Write for Broken {
     }
 }
 
-fn comes_unread(
+/// The words of a call, the error of its input, and what comes of it.
+type Row = (&'static [&'static str], ErrorKind, Want<'static>);
+
+/// Whether a row comes as is said, where the disk is empty.
+fn comes_broken(
     rt: &(impl Wait + Threads + Clock + Clone + Drop + Send + Sync + AllocGlobal + 'static),
-    words: &[&str],
-    kind: ErrorKind,
-    want: &Want<'_>,
+    (words, kind, want): &Row,
 ) -> bool {
-    comes(rt, words, &mut Broken(kind), want)
+    comes_alone(rt, &[], words, &mut Broken(*kind), want)
 }
 
 #[test]
 fn an_input_that_cannot_be_read_is_told(rt: HostRuntime) {
-    let broken = ("", "walk: bad tree, line 0\n", 2);
-    let refused = ("", "walk: memory refused\n", 1);
-    let words = &["--tree", "/r"];
-    assert!(rt; comes_unread(&rt, words, ErrorKind::Other, &broken));
-    assert!(rt; comes_unread(&rt, words, ErrorKind::OutOfMemory, &refused));
-    let bad_words = &["--tree", "--min", "/r"];
-    assert!(rt; comes_unread(&rt, bad_words, ErrorKind::Other, &BAD_WORDS));
-    assert!(rt; comes_unread(&rt, &["/"], ErrorKind::Other, &("0 d /\n", "", 0)));
+    const ROWS: &[Row] = &[
+        (
+            &["--tree", "/r"],
+            ErrorKind::Other,
+            ("", "walk: bad tree, line 0\n", 2),
+        ),
+        (
+            &["--tree", "/r"],
+            ErrorKind::OutOfMemory,
+            ("", "walk: memory refused\n", 1),
+        ),
+        (&["--tree", "--min", "/r"], ErrorKind::Other, BAD_WORDS),
+        (&["/"], ErrorKind::Other, ("0 d /\n", "", 0)),
+    ];
+    for row in ROWS {
+        assert!(rt; comes_broken(&rt, row), "{:?}", row.0);
+    }
 }
 
-/// Whether a call that writes there ends with this status and tells of nothing.
-fn ends<W: Write>(
+/// Whether a call over an empty disk that writes there ends with this status and tells of nothing.
+fn ends_alone<W: Write>(
     rt: &(impl Wait + Threads + Clock + Clone + Drop + Send + Sync + AllocGlobal + 'static),
     words: &[&str],
     input: &str,
     out: &mut W,
     status: u8,
 ) -> bool {
-    let alloc = rt.alloc();
-    let Ok(words) = texts(alloc, &[], words) else {
-        return false;
-    };
-    let mut err = Vec::new(alloc);
-    let found = run(
-        rt,
-        alloc,
-        MemoryFs::new(alloc),
-        words.as_slice(),
-        &mut input.as_bytes(),
-        out,
-        &mut err,
-    );
-    found == status && err.is_empty()
+    ends(rt, MemoryFs::new(rt.alloc()), words, input, out, status)
 }
 
 #[test]
 fn an_output_that_cannot_be_written_ends_the_walk(rt: HostRuntime) {
     let mut out = Broken(ErrorKind::BrokenPipe);
-    assert!(rt; ends(&rt, &["--tree", "/t"], TREE_A, &mut out, 1));
-    assert!(rt; ends(&rt, &["--tree", "--crew", "3", "/t"], TREE_A, &mut out, 1));
+    assert!(rt; ends_alone(&rt, &["--tree", "/t"], TREE_A, &mut out, 1));
+    assert!(rt; ends_alone(&rt, &["--tree", "--crew", "3", "/t"], TREE_A, &mut out, 1));
 }
 
 /// Keeps what is written until it is flushed.
@@ -112,7 +108,7 @@ fn the_output_is_flushed_at_the_end(rt: HostRuntime) {
         written: Vec::new(rt.alloc()),
         flushed: Vec::new(rt.alloc()),
     };
-    assert!(rt; ends(&rt, &["--tree", "/r"], "d /r\nf 1 /r/a\n", &mut out, 0));
+    assert!(rt; ends_alone(&rt, &["--tree", "/r"], "d /r\nf 1 /r/a\n", &mut out, 0));
     assert!(rt; is_kept(&out, "0 d /r\n1 f /r/a\n"));
 }
 
@@ -151,8 +147,9 @@ fn comes_of_pieces(
     input: &str,
     out: &str,
 ) -> bool {
-    comes(
+    comes_alone(
         rt,
+        &[],
         &["--tree", "/r"],
         &mut Pieces(input.as_bytes()),
         &(out, "", 0),

@@ -1,5 +1,5 @@
 use Rattle.std.proofs.Common.{rules}
-use Rattle.jwalk_read.specs.Entry.{item}
+use Rattle.read_parts.specs.Entry.{item}
 use Rattle.jwalk_process.specs.FilterEntry.{IsAnswered}
 use Rattle.jwalk_process.proofs.FilterFacts.{viewed-IsFiltered}
 use Rattle.jwalk_process.proofs.filter_entry.keep.Goals as goal

@@ -1,6 +1,6 @@
 use Rattle.std.proofs.Common.{length, map, string_bytes, ap, sym, ◌∙◌}
 use Rattle.std.proofs.lemmas.List.{with_items_is}
-use Rattle.jwalk_read.specs.Entry.{item}
+use Rattle.read_parts.specs.Entry.{item}
 use Rattle.jwalk_process.specs.SkipNames.{skipped_item}
 use Rattle.jwalk_process.proofs.SkipFacts.{changed_more, changed_all}
 use Rattle.jwalk_process.proofs.skip_names.skip_all.Goals as goal

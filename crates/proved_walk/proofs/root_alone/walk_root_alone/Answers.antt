@@ -1,6 +1,6 @@
 use Rattle.std.proofs.Common.{◌-◌, ◌^◌, ◌≡◌, ◌∙◌, refl, sym, ap, map, subst, arith}
 use Rattle.jwalk.specs.walk_model.Options.{defaults}
-use Rattle.jwalk.specs.jwalk_read.Entry.{item}
+use Rattle.jwalk.specs.read_parts.Entry.{item}
 use Rattle.jwalk.specs.WalkDir.{file_system_of, options_of}
 use Rattle.jwalk.proofs.WholeFacts.{whole_filled}
 use Rattle.proved_walk.specs.RootAlone.{emptied, root_alone}

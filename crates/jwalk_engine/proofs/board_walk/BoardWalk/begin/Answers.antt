@@ -1,6 +1,6 @@
 use Rattle.std.proofs.Common.{ap, refl}
 use Rattle.std.proofs.lemmas.List.Elements.{All-nil}
-use Rattle.jwalk_read.specs.ReadDir.{spec}
+use Rattle.read_parts.specs.ReadDirSpec.{spec}
 use Rattle.jwalk_engine.specs.Reads.{spec_of}
 use Rattle.jwalk_engine.proofs.Steps.{gives-new}
 use Rattle.jwalk_engine.proofs.AheadFacts.{begins}

@@ -1,6 +1,6 @@
 use Rattle.std.proofs.Common.{map}
 use Rattle.walk_model.specs.ReadDir.{list_depth}
-use Rattle.jwalk_read.specs.Entry.{item}
+use Rattle.read_parts.specs.Entry.{item}
 use Rattle.jwalk_process.proofs.DepthFilters.{all_left, keeps, made_at_depth}
 use Rattle.jwalk_process.proofs.by_fn.ByFnProcessReadDir.process.Goals as goal
 

@@ -1,5 +1,5 @@
 use Rattle.std.proofs.Common.{map, ◌∙◌}
-use Rattle.jwalk_read.specs.Entry.{item}
+use Rattle.read_parts.specs.Entry.{item}
 use Rattle.jwalk_process.proofs.SkipFacts.{on_ok}
 use Rattle.jwalk_process.proofs.FilterFacts.{left-AtDepth, left-filtered_list, counted-filters}
 use Rattle.jwalk_process.proofs.filter_entry.FilterEntryProcessReadDir.TheImpl.Goals as goal

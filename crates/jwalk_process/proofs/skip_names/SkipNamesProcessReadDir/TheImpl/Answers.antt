@@ -1,5 +1,5 @@
 use Rattle.std.proofs.Common.{map, ◌∙◌}
-use Rattle.jwalk_read.specs.Entry.{item}
+use Rattle.read_parts.specs.Entry.{item}
 use Rattle.jwalk_process.specs.SkipNames.{names_of, skips-KeepsDepthsOf}
 use Rattle.jwalk_process.proofs.SkipFacts.{counted-skips, on_ok}
 use Rattle.jwalk_process.proofs.skip_names.SkipNamesProcessReadDir.TheImpl.Goals as goal

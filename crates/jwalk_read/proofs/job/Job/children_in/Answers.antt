@@ -2,7 +2,7 @@ use Rattle.std.proofs.Common.{◌∙◌, ap, sym, true}
 use Rattle.std.specs.Prelude.{string_bytes}
 use Rattle.walk_model.specs.Entry.{children_at}
 use Rattle.walk_model.specs.Paths.{join}
-use Rattle.jwalk_read.specs.Text.{text}
+use Rattle.read_parts.specs.Text.{text}
 use Rattle.jwalk_read.proofs.job.Job.children_in.Goals as goal
 
 pub returns : goal.returns

@@ -1,8 +1,8 @@
 use Rattle.std.proofs.Common.{◌+◌, ◌++◌, ◌∷◌, [], map, ap, sym, ◌∙◌, append-nil}
 use Rattle.std.proofs.lemmas.List.{map-append}
 use Rattle.walk_model.proofs.HeldFacts.{AtDepth-append}
-use Rattle.jwalk_read.specs.Entry.{item}
-use Rattle.jwalk_read.specs.Given.{counted_list}
+use Rattle.read_parts.specs.Entry.{item}
+use Rattle.read_parts.specs.Given.{counted_list}
 use Rattle.jwalk_read.proofs.ListFacts.{counted-append}
 use Rattle.jwalk_read.proofs.job.Job.push_item.Goals as goal
 

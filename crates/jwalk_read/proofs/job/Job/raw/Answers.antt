@@ -5,8 +5,8 @@ use Rattle.std.proofs.lemmas.Iterator.Adapters.{YieldsList-from_vec}
 use Rattle.std.proofs.lemmas.Iterator.Consumers.{YieldsList-end}
 use Rattle.walk_fs.specs.Views.{listed}
 use Rattle.walk_model.specs.Job as value
-use Rattle.jwalk_read.specs.ReadDir.{spec}
-use Rattle.jwalk_read.specs.Given.{counted_spec}
+use Rattle.read_parts.specs.ReadDirSpec.{spec}
+use Rattle.read_parts.specs.Given.{counted_spec}
 use Rattle.jwalk_read.specs.Job.{job_by}
 use Rattle.jwalk_read.proofs.job.Job.raw.Goals as goal
 

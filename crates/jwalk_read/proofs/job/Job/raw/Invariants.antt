@@ -2,10 +2,10 @@ use Rattle.std.proofs.Common.{◌≡◌, ◌+◌, map}
 use Rattle.walk_model.specs.Entry.{AtDepth}
 use Rattle.walk_model.specs.Job as value
 use Rattle.walk_fs.specs.Views.{listed}
-use Rattle.jwalk_read.specs.Entry.{item}
-use Rattle.jwalk_read.specs.ReadDir.{spec}
-use Rattle.jwalk_read.specs.Given.{Given, counted_spec, counted_list}
-use Rattle.jwalk_read.specs.Job.{file_system, DefaultsCount, job_by}
+use Rattle.read_parts.specs.Entry.{item}
+use Rattle.read_parts.specs.ReadDirSpec.{spec}
+use Rattle.read_parts.specs.Given.{Given, counted_spec, counted_list, DefaultsCount}
+use Rattle.jwalk_read.specs.Job.{file_system, job_by}
 use Rattle.jwalk_read.proofs.job.Job.raw.Given as goal
 
 -- the items so far are those of what was gone over

@@ -8,7 +8,8 @@ use Rattle.walk_model.specs.ReadDir.{children, AreClones}
 use Rattle.jwalk_order.specs.Frontier.{children_from}
 use Rattle.jwalk_order.specs.IndexPath.{address}
 use Rattle.jwalk_order.specs.Ordered.{address_of, child_count_of}
-use Rattle.jwalk_read.specs.ReadDir.{spec, reading}
+use Rattle.read_parts.specs.ReadDirSpec.{spec}
+use Rattle.jwalk_read.specs.ReadDir.{reading}
 use Rattle.jwalk_read.proofs.OrderedFacts.{values_more, addresses_more, unread_more}
 use Rattle.jwalk_read.proofs.read_dir.ReadDir.ordered_read_children_specs.Goals as goal
 

@@ -1,8 +1,9 @@
 use Rattle.std.proofs.Common.{map}
 use Rattle.walk_model.specs.ReadDir.{AreClones, children_of}
 use Rattle.walk_model.specs.Job.{reading}
-use Rattle.jwalk_read.specs.ReadDir.{spec, outcome}
-use Rattle.jwalk_read.specs.Given.{counted_spec}
+use Rattle.read_parts.specs.ReadDirSpec.{spec}
+use Rattle.jwalk_read.specs.ReadDir.{outcome}
+use Rattle.read_parts.specs.Given.{counted_spec}
 use Rattle.jwalk_read.specs.Job.{job_by}
 use Rattle.jwalk_read.proofs.PlanTies.{counted_directories}
 use Rattle.jwalk_read.proofs.job.plan.JobPlan.read.Goals.{in-Ok+in_ok-children-in-Ok, in-Err}

@@ -1,0 +1,4 @@
+pub mod Message
+pub mod Wanted
+pub mod Arrival
+pub mod Places

@@ -1,0 +1,8 @@
+//! What a crew and the walk that it reads for tell each other: a reading by a worker, the reading that is waited for,
+//! what becomes of it, and a crew's places.
+#![tactic(auto)]
+
+pub mod arrival;
+pub mod message;
+pub mod places;
+pub mod wanted;

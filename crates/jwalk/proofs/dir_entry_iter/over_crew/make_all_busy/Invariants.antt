@@ -1,8 +1,0 @@
-use Rattle.jwalk_read.specs.Entry.{item}
-use Rattle.jwalk_process.proofs.SkipFacts.{IsChangedTo}
-use Rattle.jwalk.specs.CrewStart.{busied}
-use Rattle.jwalk.proofs.dir_entry_iter.over_crew.make_all_busy.Given as goal
-
--- those so far tell that the crew is busy, where they have a directory
-abbrev pub invariant-loop-found : goal.invariant-loop-found
-invariant-loop-found g l = IsChangedTo item busied l.fn.list.items l.found-index l.found-items

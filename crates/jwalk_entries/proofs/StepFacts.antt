@@ -1,0 +1,255 @@
+-- One item is passed, and items are passed one after another.
+use Rattle.std.proofs.Common.{◌≡◌, ℕ, ◌+◌, ◌<◌, ◌≤◌, Bool, true, false, List, [], ◌∷◌, ◌++◌, map, length, Option, Some, None, Result, Ok, Err, refl, sym, ap, ◌∙◌, subst, arith}
+use Rattle.std.specs.Prelude.{if◌then◌else◌}
+use Rattle.std.proofs.lemmas.List.{map-append}
+use lib.ListN.{length-append}
+use Rattle.std.specs.declared.clone.Clone as Clone
+use Rattle.std.specs.declared.default.Default as Default
+use Rattle.walk_model.specs.Entry.{Entry, Item, has_directory, NoDeeper}
+use Rattle.walk_model.specs.ReadDir.{Spec, Outcome, children_of, list_of}
+use Rattle.walk_model.specs.Counted.{Worth}
+use Rattle.walk_model.specs.Job as value
+use Rattle.walk_model.specs.Listing.{Pair, after_reading, is_answered, answers, listing}
+use Rattle.walk_model.specs.Held.{first_source, after_first, is_plain, pair_up, weight, AnswersPlainly}
+use Rattle.walk_model.proofs.CloneFacts.{same_length, counted_clones}
+use Rattle.walk_model.proofs.CountedFacts.{counted-has_directory, counted-after_reading, counted-is_answered, counted-list_of, counted-children_of, counted-IsLawful}
+use Rattle.walk_model.proofs.HeldFacts.{directories, directories-append, as_many_of, lighter, lighter_alone, listed, alone, unread_none}
+use Rattle.walk_model.proofs.WithinFacts.{NoDeeper-append, of_reading, after, first_of}
+use Rattle.walk_fs.specs.declared.file_system.FileSystem as FileSystem
+use Rattle.read_parts.specs.declared.process_read_dir.ProcessReadDir as ProcessReadDir
+use Rattle.jwalk_read.specs.declared.job.Job.{Job}
+use Rattle.read_parts.specs.declared.error.Error.{Error}
+use Rattle.read_parts.specs.declared.dir_entry.DirEntry.{DirEntry}
+use Rattle.read_parts.specs.Entry.{item}
+use Rattle.read_parts.specs.Given.{Given, counted_entry, counted_item, counted_spec, counted_outcome, ClonesCount}
+use Rattle.jwalk_read.specs.Job.{options_of, greatest_depth, job_by, IsAsGiven}
+use Rattle.jwalk_engine.specs.Reads.{ReadsFirstBy, ReadsNextBy}
+use Rattle.jwalk_crew.specs.declared.pool.Pool as Pool
+use Rattle.jwalk_entries.specs.declared.dir_entry_iter.DirEntryIter.{DirEntryIter}
+use Rattle.jwalk_entries.specs.Step.{Receives, PassesNext, passed_plainly, passed_entering, LeavesOut, none_left_out, one_left_out, ReadsUpTo}
+use Rattle.jwalk_entries.specs.DirEntryIter.{by_crew, job_of, min_depth_of, items_of, unread_of, width_of, next_address, Known, KnownAt, IsSteadyWalk, ReadsStaySteady, EntersIfAny, PassesMany, none_passed, GrowsAhead}
+use Rattle.jwalk_entries.proofs.ItemFacts.{known_before}
+use Rattle.jwalk_entries.proofs.PlacedFacts.{left_placed}
+use Rattle.jwalk_entries.proofs.AheadFacts.{grows, grows_no_more, one_more, nothing_more}
+
+-- a source that gives nothing takes no specification
+plain_keeps : {R : Type 0} (E : Type 0) (b : Bool) (ss : List (Spec R)) → is_plain (first_source {R = R} {E = E} b ss) ≡ true → after_first b ss ≡ ss
+plain_keeps E false ss h = refl
+plain_keeps E true [] h = refl
+plain_keeps E true (s ∷ ss) h = let no : false ≡ true = h in cc
+
+-- an item that gives nothing has no directory, where each directory has a specification
+plain_count : {R : Type 0} (E : Type 0) (b : Bool) (ss : List (Spec R)) (n : ℕ) → is_plain (first_source {R = R} {E = E} b ss) ≡ true → length ss ≡ (if b then 1 else 0) + n → length ss ≡ n
+plain_count E false ss n h same = omega (arith, same)
+plain_count E true [] n h same = absurd (omega (arith, same))
+plain_count E true (s ∷ ss) n h same = let no : false ≡ true = h in cc
+
+entry_alone : {R E : Type 0} (x : Item R E) → has_directory x ≡ true → (P : Item R E → Type 0) → ((e : Entry R E) → has_directory {R = R} (Ok e) ≡ true → P (Ok e)) → P x
+entry_alone (Ok e) h P k = k e h
+entry_alone (Err f) h P k = let no : false ≡ true = h in cc
+
+module _ {C S P A R E : Type 0} (clone : Clone.Ghosts R) (known : Item R E → Spec R → Outcome R E → Type 0) (job : Job C S P A R E) where
+  abbrev Next : List (Item R E) → List (Spec R) → Item R E → List (Item R E) → List (Spec R) → Type 0
+  Next = PassesNext clone known job
+
+  -- It is passed so, too, where less is known.
+  pub next_over : (less : Item R E → Spec R → Outcome R E → Type 0) → ((x : Item R E) (s : Spec R) (o : Outcome R E) → known x s o → less x s o) → {items : List (Item R E)} {specs : List (Spec R)} {answer : Item R E} {items' : List (Item R E)} {specs' : List (Spec R)} → Next items specs answer items' specs' → PassesNext clone less job items specs answer items' specs'
+  next_over less within (passed_plainly plain) = passed_plainly plain
+  next_over less within (passed_entering {x} {outcome = outcome} dir reads) =
+      let reading = reads.reading in
+      passed_entering dir (record { first = reads.first; rest = reads.rest; took = reads.took; reading = record { lawful = reading.lawful; few = reading.few; value = within x reads.first outcome reading.value }; stacks = reads.stacks })
+
+  -- an entry where nothing is left to be read
+  next_left : (x : Item R E) (items : List (Item R E)) (old new : List (Spec R)) → has_directory x ≡ true → old ≡ [] → new ≡ [] → Next (x ∷ items) old x items new
+  next_left x items old new dir none left = rw (none, left) (passed_plainly {x = x} {specs = []} (rw dir refl))
+
+  -- A directory is passed, where what came of its reading is received.
+  pub next_received : (read : Option (Outcome R E)) (x : Item R E) (items : List (Item R E)) (old : List (Spec R)) (answer : Item R E) (items' : List (Item R E)) (new : List (Spec R)) → has_directory x ≡ true → ReadsNextBy clone (known x) (greatest_depth job) old read new → Receives read x items answer items' → Next (x ∷ items) old answer items' new
+  next_received None x items old answer items' new dir reads received = rw (received.0, received.1) (next_left x items old new dir reads.0 reads.1)
+  next_received (Some outcome) x items old answer items' new dir reads received = rw (received.0, received.1) (passed_entering {outcome = outcome} dir reads)
+
+  -- an item without a directory
+  pub next_alone : (x : Item R E) (items : List (Item R E)) (specs : List (Spec R)) → has_directory x ≡ false → Next (x ∷ items) specs x items specs
+  next_alone x items specs none = passed_plainly {x = x} {specs = specs} (rw none refl)
+
+  -- ---- depths
+
+  pub next_within : {items : List (Item R E)} {specs : List (Spec R)} {answer : Item R E} {items' : List (Item R E)} {specs' : List (Spec R)} → Next items specs answer items' specs' → NoDeeper (greatest_depth job) items → NoDeeper (greatest_depth job) (answer ∷ []) × NoDeeper (greatest_depth job) items'
+  next_within (passed_plainly {x} {items} plain) h = first_of (greatest_depth job) x items h
+  next_within (passed_entering {x} {items} {outcome = outcome} dir reads) h =
+      let parts = first_of (greatest_depth job) x items h in
+      (after (greatest_depth job) outcome x parts.0, NoDeeper-append (greatest_depth job) (list_of outcome) items (of_reading (greatest_depth job) reads.first outcome reads.reading.lawful) parts.1)
+
+  -- ---- what is held gets lighter
+
+  pub next_lighter : {items : List (Item R E)} {specs : List (Spec R)} {answer : Item R E} {items' : List (Item R E)} {specs' : List (Spec R)} → Next items specs answer items' specs' → weight (greatest_depth job) (pair_up items' specs') < weight (greatest_depth job) (pair_up items specs)
+  next_lighter (passed_plainly {x} {items} {specs} plain) =
+      subst (λ l. weight (greatest_depth job) (pair_up items l) < weight (greatest_depth job) (pair_up (x ∷ items) specs)) (plain_keeps E (has_directory x) specs plain) (lighter_alone (greatest_depth job) x items specs)
+  next_lighter (passed_entering {x} {items} {specs} {left} {outcome} dir reads) =
+      entry_alone x dir (λ y. weight (greatest_depth job) (pair_up (list_of outcome ++ items) left) < weight (greatest_depth job) (pair_up (y ∷ items) specs))
+      (λ e has. rw (reads.took, reads.stacks.left) (lighter (greatest_depth job) clone.is_clone e items reads.first reads.rest reads.stacks.front outcome has reads.reading.lawful reads.reading.few reads.stacks.clones))
+
+  -- ---- each directory has its source
+
+  pub next_count : {items : List (Item R E)} {specs : List (Spec R)} {answer : Item R E} {items' : List (Item R E)} {specs' : List (Spec R)} → Next items specs answer items' specs' → length specs ≡ directories items → length specs' ≡ directories items'
+  next_count (passed_plainly {x} {items} {specs} plain) h = plain_count E (has_directory x) specs (directories items) plain h
+  next_count (passed_entering {x} {items} {specs} {left} {outcome} dir reads) h =
+      let one : length specs ≡ 1 + directories items = rw dir at h in
+      let rest : length specs ≡ 1 + length reads.rest = ap length reads.took ∙ omega arith in
+      let front : length reads.stacks.front ≡ directories (list_of outcome) = same_length clone.is_clone (children_of outcome) reads.stacks.front reads.stacks.clones ∙ as_many_of outcome in
+      let all : length left ≡ length reads.stacks.front + length reads.rest = ap length reads.stacks.left ∙ length-append reads.stacks.front reads.rest in
+      omega (arith, one, rest, front, all, directories-append (list_of outcome) items)
+
+  -- ---- what is answered plainly
+
+  pub next_plain_out : {items : List (Item R E)} {specs : List (Spec R)} {passed : Item R E} {items' : List (Item R E)} {specs' : List (Spec R)} (min_depth : ℕ) → Next items specs passed items' specs' → is_answered min_depth passed ≡ false → (answer : Option (Item R E)) (new : List (Pair R E)) → AnswersPlainly min_depth (pair_up items' specs') answer new → AnswersPlainly min_depth (pair_up items specs) answer new
+  next_plain_out min_depth (passed_plainly {x} {items} {specs} plain) out answer new h =
+      rw (plain, out) (subst (λ l. AnswersPlainly min_depth (pair_up items l) answer new) (sym (plain_keeps E (has_directory x) specs plain)) h)
+  next_plain_out min_depth (passed_entering {x} {items} {specs} dir reads) out answer new h = rw (reads.took, dir) tt
+
+  pub next_plain : {items : List (Item R E)} {specs : List (Spec R)} {answer : Item R E} {items' : List (Item R E)} {specs' : List (Spec R)} (min_depth : ℕ) → Next items specs answer items' specs' → is_answered min_depth answer ≡ true → AnswersPlainly min_depth (pair_up items specs) (Some answer) (pair_up items' specs')
+  next_plain min_depth (passed_plainly {x} {items} {specs} plain) kept = rw (plain, kept) (refl, ap (pair_up items) (sym (plain_keeps E (has_directory x) specs plain)))
+  next_plain min_depth (passed_entering {x} {items} {specs} dir reads) kept = rw (reads.took, dir) tt
+
+  -- ---- what is listed
+
+  module _ (files : FileSystem.Ghosts S) (given : Given R E) where
+    abbrev Listed : List (Item R E) → List (Spec R) → List (Item Worth Worth)
+    Listed items specs = listing (value.reading (job_by files given job)) (greatest_depth job) (pair_up (map (counted_item given) items) (map (counted_spec given) specs))
+
+    listed_plainly : (x : Item R E) (items : List (Item R E)) (specs : List (Spec R)) (b : Bool) → has_directory x ≡ b → is_plain (first_source {R = R} {E = E} (has_directory x) specs) ≡ true → Listed (x ∷ items) specs ≡ counted_item given x ∷ Listed items specs
+    listed_plainly x items specs false h plain =
+        alone (value.reading (job_by files given job)) (greatest_depth job) (counted_item given x) (map (counted_item given) items) (map (counted_spec given) specs) (counted-has_directory given.read_dir_state given.dir_entry_state x ∙ h)
+    listed_plainly x items [] true h plain =
+        unread_none (value.reading (job_by files given job)) (greatest_depth job) (counted_item given x) (map (counted_item given) items) [] refl (counted-has_directory given.read_dir_state given.dir_entry_state x ∙ h)
+    listed_plainly x items (s ∷ specs) true h plain = let no : false ≡ true = rw h at plain in cc
+
+    module _ (cloned : ClonesCount clone given) (as_given : (x : Item R E) (s : Spec R) (o : Outcome R E) → known x s o → IsAsGiven files given job s o) where
+      listed_entering : (e : Entry R E) (items : List (Item R E)) (specs left : List (Spec R)) (outcome : Outcome R E) → has_directory {R = R} (Ok e) ≡ true → ReadsFirstBy clone (known (Ok e)) (greatest_depth job) specs outcome left → Listed (Ok e ∷ items) specs ≡ counted_item given (after_reading outcome (Ok e)) ∷ Listed (list_of outcome ++ items) left
+      listed_entering e items specs left outcome dir reads =
+          let view = given.read_dir_state in
+          let mark = given.dir_entry_state in
+          let reading = value.reading (job_by files given job) in
+          let front : map (counted_spec given) left ≡ children_of (counted_outcome given outcome) ++ map (counted_spec given) reads.rest
+          = ap (map (counted_spec given)) reads.stacks.left
+          ∙ map-append (counted_spec given) reads.stacks.front reads.rest
+          ∙ ap (λ l. l ++ map (counted_spec given) reads.rest) (counted_clones clone.is_clone view cloned (children_of outcome) reads.stacks.front reads.stacks.clones ∙ sym (counted-children_of view mark outcome)) in
+          let items_too : map (counted_item given) (list_of outcome ++ items) ≡ list_of (counted_outcome given outcome) ++ map (counted_item given) items
+          = map-append (counted_item given) (list_of outcome) items ∙ ap (λ l. l ++ map (counted_item given) items) (sym (counted-list_of view mark outcome)) in
+          ap (Listed (Ok e ∷ items)) reads.took
+          ∙ listed reading (greatest_depth job) (counted_entry given e) (map (counted_item given) items) (counted_spec given reads.first) (map (counted_spec given) reads.rest) (counted_outcome given outcome) (counted-has_directory view mark (Ok e) ∙ dir) (counted-IsLawful view mark (greatest_depth job) reads.first outcome reads.reading.lawful) (as_given (Ok e) reads.first outcome reads.reading.value)
+          ∙ ap (λ a. a ∷ listing reading (greatest_depth job) (pair_up (list_of (counted_outcome given outcome) ++ map (counted_item given) items) (children_of (counted_outcome given outcome) ++ map (counted_spec given) reads.rest))) (counted-after_reading view mark outcome (Ok e))
+          ∙ ap (λ l. counted_item given (after_reading outcome (Ok e)) ∷ listing reading (greatest_depth job) (pair_up l (children_of (counted_outcome given outcome) ++ map (counted_spec given) reads.rest))) (sym items_too)
+          ∙ ap (λ l. counted_item given (after_reading outcome (Ok e)) ∷ listing reading (greatest_depth job) (pair_up (map (counted_item given) (list_of outcome ++ items)) l)) (sym front)
+
+      pub next_listed : {items : List (Item R E)} {specs : List (Spec R)} {answer : Item R E} {items' : List (Item R E)} {specs' : List (Spec R)} → Next items specs answer items' specs' → Listed items specs ≡ counted_item given answer ∷ Listed items' specs'
+      next_listed (passed_plainly {x} {items} {specs} plain) = listed_plainly x items specs (has_directory x) refl plain
+      next_listed (passed_entering {x} {items} {specs} {left} {outcome} dir reads) =
+          entry_alone x dir (λ y. ReadsFirstBy clone (known y) (greatest_depth job) specs outcome left → Listed (y ∷ items) specs ≡ counted_item given (after_reading outcome y) ∷ Listed (list_of outcome ++ items) left)
+          (λ e has reads. listed_entering e items specs left outcome has reads) reads
+
+  -- ---- items that are left out
+
+  module _ (items : List (Item R E)) (specs : List (Spec R)) where
+    abbrev Left : List (Item R E) → List (Spec R) → Type 0
+    Left = LeavesOut clone known job items specs
+
+    pub left_within : {items' : List (Item R E)} {specs' : List (Spec R)} → Left items' specs' → NoDeeper (greatest_depth job) items → NoDeeper (greatest_depth job) items'
+    left_within none_left_out h = h
+    left_within (one_left_out before next out) h = (next_within next (left_within before h)).1
+
+    pub left_lighter : {items' : List (Item R E)} {specs' : List (Spec R)} → Left items' specs' → weight (greatest_depth job) (pair_up items' specs') ≤ weight (greatest_depth job) (pair_up items specs)
+    left_lighter none_left_out = omega arith
+    left_lighter (one_left_out before next out) = omega (arith, left_lighter before, next_lighter next)
+
+    pub left_count : {items' : List (Item R E)} {specs' : List (Spec R)} → Left items' specs' → length specs ≡ directories items → length specs' ≡ directories items'
+    left_count none_left_out h = h
+    left_count (one_left_out before next out) h = next_count next (left_count before h)
+
+    pub left_plain : {items' : List (Item R E)} {specs' : List (Spec R)} → Left items' specs' → (answer : Option (Item R E)) (new : List (Pair R E)) → AnswersPlainly (options_of job).min_depth (pair_up items' specs') answer new → AnswersPlainly (options_of job).min_depth (pair_up items specs) answer new
+    left_plain none_left_out answer new h = h
+    left_plain (one_left_out before next out) answer new h = left_plain before answer new (next_plain_out (options_of job).min_depth next out answer new h)
+
+    pub left_to_come : (files : FileSystem.Ghosts S) (given : Given R E) → ClonesCount clone given → ((x : Item R E) (s : Spec R) (o : Outcome R E) → known x s o → IsAsGiven files given job s o) → {items' : List (Item R E)} {specs' : List (Spec R)} → Left items' specs' → answers (options_of job).min_depth (Listed files given items specs) ≡ answers (options_of job).min_depth (Listed files given items' specs')
+    left_to_come files given cloned as_given none_left_out = refl
+    left_to_come files given cloned as_given (one_left_out {passed = passed} before next out) =
+        left_to_come files given cloned as_given before
+        ∙ ap (answers (options_of job).min_depth) (next_listed files given cloned as_given next)
+        ∙ rw (counted-is_answered given.read_dir_state given.dir_entry_state (options_of job).min_depth passed, out) refl
+
+module _ {C S P A T L R E : Type 0} (files : FileSystem.Ghosts S) (process : ProcessReadDir.Ghosts P C A R E) (clone : Clone.Ghosts R) (defaults : Default.Ghosts E) (pool : Pool.Ghosts L C S P A R E) where
+  -- What was passed over so far is left out.
+  pub record PassedOver (old new : DirEntryIter C S P A T L R E) : Type 0 where
+    pub crew : by_crew new ≡ by_crew old
+    pub job : job_of new ≡ job_of old
+    pub refused : new.refused ≡ old.refused
+    pub width : width_of new ≡ width_of old
+    pub steady : ReadsStaySteady files process clone defaults pool old new
+    pub leaves : LeavesOut clone (Known files process clone defaults pool old) (job_of old) (items_of old) (unread_of old) (items_of new) (unread_of new)
+    pub entered : ℕ
+    pub passes : PassesMany files process clone defaults pool old entered new
+
+  -- One call of a walk's `pass`.
+  pub record Passes (old : DirEntryIter C S P A T L R E) (passed : Result (DirEntry C A R E) (Error A)) (new : DirEntryIter C S P A T L R E) : Type 0 where
+    pub crew : by_crew new ≡ by_crew old
+    pub job : job_of new ≡ job_of old
+    pub refused : new.refused ≡ old.refused
+    pub steady : ReadsStaySteady files process clone defaults pool old new
+    pub next : PassesNext clone (KnownAt files process clone defaults pool old (next_address old)) (job_of old) (items_of old) (unread_of old) (item passed) (items_of new) (unread_of new)
+    pub width : width_of new ≡ width_of old
+    pub ahead : EntersIfAny files process clone defaults old new
+
+  pub none_passed_over : (it : DirEntryIter C S P A T L R E) → PassedOver it it
+  none_passed_over it = record { crew = refl; job = refl; refused = refl; width = refl; steady = λ given steady. steady; leaves = none_left_out; entered = 0; passes = none_passed }
+
+  passes_by : (old mid new : DirEntryIter C S P A T L R E) (passed : Result (DirEntry C A R E) (Error A)) → PassedOver old mid → Passes mid passed new → PassesNext clone (KnownAt files process clone defaults pool old (next_address mid)) (job_of old) (items_of mid) (unread_of mid) (item passed) (items_of new) (unread_of new)
+  passes_by old mid new passed over passes =
+      subst (λ j. PassesNext clone (KnownAt files process clone defaults pool old (next_address mid)) j (items_of mid) (unread_of mid) (item passed) (items_of new) (unread_of new)) over.job
+      (next_over clone (KnownAt files process clone defaults pool mid (next_address mid)) (job_of mid) (KnownAt files process clone defaults pool old (next_address mid)) (known_before files process clone defaults pool old mid over.crew over.job over.steady (next_address mid)) passes.next)
+
+  passes_on : (old mid new : DirEntryIter C S P A T L R E) (passed : Result (DirEntry C A R E) (Error A)) → PassedOver old mid → Passes mid passed new → PassesNext clone (Known files process clone defaults pool old) (job_of old) (items_of mid) (unread_of mid) (item passed) (items_of new) (unread_of new)
+  passes_on old mid new passed over passes =
+      next_over clone (KnownAt files process clone defaults pool old (next_address mid)) (job_of old) (Known files process clone defaults pool old) (λ x s o known. (next_address mid, known)) (passes_by old mid new passed over passes)
+
+  many_on : (old mid new : DirEntryIter C S P A T L R E) (passed : Result (DirEntry C A R E) (Error A)) → PassedOver old mid → Passes mid passed new → (n : ℕ) × PassesMany files process clone defaults pool old n new
+  many_on old mid new passed over passes =
+      one_more files process clone defaults pool old mid new over.entered (item passed) over.passes over.crew over.job over.width (passes_by old mid new passed over passes) passes.ahead
+
+  -- where the walk was steady, it is so once items were passed over
+  pub over_steady : (old mid : DirEntryIter C S P A T L R E) → PassedOver old mid → (given : Given R E) → IsSteadyWalk files process clone defaults pool old given → IsSteadyWalk files process clone defaults pool mid given
+  over_steady old mid over given steady = record {
+    reads = over.steady given steady.reads;
+    placed = rw over.crew (left_placed clone (Known files process clone defaults pool old) (job_of old) (items_of old) (unread_of old) (by_crew old) (items_of mid) (unread_of mid) over.leaves steady.placed);
+  }
+
+  -- the directories that are entered up to the first that is answered
+  pub grows_to_answer : (old mid new : DirEntryIter C S P A T L R E) (passed : Result (DirEntry C A R E) (Error A)) → PassedOver old mid → Passes mid passed new → GrowsAhead files process clone defaults pool old new
+  grows_to_answer old mid new passed over passes =
+      let more = many_on old mid new passed over passes in
+      record { entered = more.0; last = new; passes = more.1; same = refl; ahead = grows files process clone defaults pool old more.1 }
+
+  -- and up to the end
+  pub grows_to_end : (old mid new : DirEntryIter C S P A T L R E) → PassedOver old mid → items_of mid ≡ [] → EntersIfAny files process clone defaults mid new → GrowsAhead files process clone defaults pool old new
+  grows_to_end old mid new over none any =
+      let same = nothing_more files process clone defaults pool mid new none any in
+      record { entered = over.entered; last = mid; passes = over.passes; same = same; ahead = grows_no_more files process clone defaults pool old over.entered mid new same (grows files process clone defaults pool old over.passes) }
+
+  pub one_passed_over : (old mid new : DirEntryIter C S P A T L R E) (passed : Result (DirEntry C A R E) (Error A)) → PassedOver old mid → Passes mid passed new → is_answered (min_depth_of new) (item passed) ≡ false → PassedOver old new
+  one_passed_over old mid new passed over passes out = let more = many_on old mid new passed over passes in record {
+    crew = passes.crew ∙ over.crew;
+    job = passes.job ∙ over.job;
+    refused = passes.refused ∙ over.refused;
+    width = passes.width ∙ over.width;
+    steady = λ given steady. passes.steady given (over.steady given steady);
+    entered = more.0;
+    passes = more.1;
+    leaves = one_left_out over.leaves (passes_on old mid new passed over passes) (subst (λ j. is_answered (options_of j).min_depth (item passed) ≡ false) (passes.job ∙ over.job) out);
+  }
+
+  -- the first that is answered after what was passed over
+  pub one_answered : (old mid new : DirEntryIter C S P A T L R E) (passed : Result (DirEntry C A R E) (Error A)) → PassedOver old mid → Passes mid passed new → is_answered (min_depth_of new) (item passed) ≡ true → ReadsUpTo clone (Known files process clone defaults pool old) (job_of old) (items_of old) (unread_of old) (Some (item passed)) (items_of new) (unread_of new)
+  one_answered old mid new passed over passes kept =
+      (items_of mid, unread_of mid, over.leaves, (passes_on old mid new passed over passes, subst (λ j. is_answered (options_of j).min_depth (item passed) ≡ true) (passes.job ∙ over.job) kept))
+
+  pub passes_lighter : (old new : DirEntryIter C S P A T L R E) (passed : Result (DirEntry C A R E) (Error A)) → Passes old passed new → weight (greatest_depth (job_of new)) (pair_up (items_of new) (unread_of new)) < weight (greatest_depth (job_of old)) (pair_up (items_of old) (unread_of old))
+  passes_lighter old new passed passes = rw passes.job (next_lighter clone (KnownAt files process clone defaults pool old (next_address old)) (job_of old) passes.next)

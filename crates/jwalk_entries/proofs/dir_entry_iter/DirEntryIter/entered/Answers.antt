@@ -1,0 +1,26 @@
+use Rattle.std.proofs.Common.{refl, ap}
+use Rattle.jwalk_readings.specs.ReadDirIter.{job_of}
+use Rattle.jwalk_entries.proofs.dir_entry_iter.DirEntryIter.entered.Goals as goal
+
+pub returns-in-None : goal.returns-in-None
+returns-in-None g c = record { job = refl; refused = refl; received = rw c.in-None.is (refl, refl); reads = refl; stopped = tt }
+
+pub returns-in-Some-Err : goal.returns-in-Some-Err
+returns-in-Some-Err g c = record {
+  job = refl;
+  refused = refl;
+  received = rw (c.in-Some-Err.is, c.in-Some-Err.field-0-is, c.with_error.ensures) (refl, refl);
+  reads = refl;
+  stopped = tt;
+}
+
+pub returns-in_ok-receive-in-Some-Ok : goal.returns-in_ok-receive-in-Some-Ok
+returns-in_ok-receive-in-Some-Ok g c =
+    let received = c.in_ok-receive-in-Some-Ok.ensures in
+    record {
+      job = ap job_of received.reads;
+      refused = received.refused;
+      received = rw (c.in-Some-Ok.is, c.in-Some-Ok.field-0-is, received.items) (refl, refl);
+      reads = received.reads;
+      stopped = tt;
+    }

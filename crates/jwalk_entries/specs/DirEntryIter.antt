@@ -1,0 +1,262 @@
+-- What a walk holds, and what one of its answers does.
+use Rattle.std.specs.Prelude.{◌≡◌, ◌≤◌, ◌<◌, ◌+◌, ◌-◌, ◌*◌, ◌^◌, ◌⊎◌, ℕ, suc, min, Bool, true, false, List, [], ◌∷◌, ◌++◌, length, map, reverse, Option, Some, None, IfSome, IfNone, IfOk, IfErr, IsSomeAnd, MatchBool, option_map, Result, Ok, Err}
+use Rattle.std.specs.declared.clone.Clone as Clone
+use Rattle.std.specs.declared.default.Default as Default
+use Rattle.std.specs.declared.alloc.AllocError.{AllocError}
+use Rattle.std.specs.Iterator.{Drains, Yields, YieldsThen}
+use Rattle.walk_model.specs.Error.{Failure, memory}
+use Rattle.walk_model.specs.Entry.{Item, NoDeeper, IsBetween, AllBetween}
+use Rattle.walk_model.specs.ReadDir.{Spec, Outcome}
+use Rattle.walk_model.specs.Counted.{Worth}
+use Rattle.walk_model.specs.Job.{reading}
+use Rattle.walk_model.specs.Listing.{Pair, Source, nothing, unread, was_read}
+use Rattle.walk_model.specs.Held as value
+use Rattle.walk_model.specs.Held.{pair_up, weight, sources, AnswersPlainly, AreSourced}
+use Rattle.walk_fs.specs.declared.file_system.FileSystem as FileSystem
+use Rattle.read_parts.specs.declared.process_read_dir.ProcessReadDir as ProcessReadDir
+use Rattle.read_parts.specs.declared.error.Error.{Error}
+use Rattle.read_parts.specs.declared.dir_entry.DirEntry.{DirEntry}
+use Rattle.jwalk_read.specs.declared.job.Job.{Job}
+use Rattle.read_parts.specs.Entry.{item}
+use Rattle.read_parts.specs.Given.{Given, counted_item, counted_spec}
+use Rattle.jwalk_read.specs.Job.{options_of, greatest_depth, job_by, IsSteadyJob}
+use Rattle.jwalk_engine.specs.ReadAhead.{ReadAhead, nothing_ahead}
+use Rattle.jwalk_crew.specs.declared.pool.Pool as Pool
+use Rattle.jwalk_readings.specs.ReadDirIter as readings
+use Rattle.jwalk_readings.specs.CrewReads.{IsBelow, IsNextBelow}
+use Rattle.jwalk_readings.specs.ReadDirIter.{to_read, Tells, IsSteadyReads, KnownBy, EntersBy}
+use Rattle.jwalk_entries.specs.Step.{IsAtDirectory, PassesNext, ReadsUpTo}
+use Rattle.jwalk_entries.specs.declared.dir_entry_iter.DirEntryIter.{DirEntryIter}
+
+-- the item is the error that tells of want of memory
+abbrev pub TellsMemory : {R E : Type 0} → Item R E → Type 0
+TellsMemory (Ok e) = ⊥
+TellsMemory (Err f) = f ≡ memory
+
+-- the directory that is to be read for an item, if there is one, is the one below it
+abbrev pub IsSourceBelow : {R E : Type 0} → Item R E → Source R E → Type 0
+IsSourceBelow x nothing = Unit {0}
+IsSourceBelow x (unread spec) = IsBelow x spec
+IsSourceBelow x (was_read spec outcome) = IsBelow x spec
+
+-- it is so of every pair
+abbrev pub AreBelow : {R E : Type 0} → List (Pair R E) → Type 0
+AreBelow [] = Unit {0}
+AreBelow (p ∷ held) = IsSourceBelow p.item p.source × AreBelow held
+
+-- Each directory that is to be read stands with the item that it is below. Where no crew reads, nothing is said.
+abbrev pub ArePlaced : {R E : Type 0} → Bool → List (Item R E) → List (Spec R) → Type 0
+ArePlaced false items specs = Unit {0}
+ArePlaced true items specs = AreBelow (pair_up items specs)
+
+-- what stands in front of a walk that was refused at its start: the error that tells of it
+abbrev pub refusal : {R E : Type 0} → Bool → List (Pair R E)
+refusal true = record { item = Err memory; source = nothing } ∷ []
+refusal false = []
+
+module _ {C A R E : Type 0} where
+  -- none of the answers tells of want of memory, which alone ends a walk early that is steady
+  abbrev pub NoneRefused : List (Result (DirEntry C A R E) (Error A)) → Type 0
+  NoneRefused [] = Unit {0}
+  NoneRefused (x ∷ answered) = (¬ TellsMemory (item x)) × NoneRefused answered
+
+module _ {C S P A T L R E : Type 0} where
+  -- whether a crew reads its directories
+  abbrev pub by_crew : DirEntryIter C S P A T L R E → Bool
+  by_crew it = readings.by_crew it.reads
+
+  -- whether memory was refused at the start, and this wasn't answered yet
+  abbrev pub is_refused : DirEntryIter C S P A T L R E → Bool
+  is_refused it = it.refused
+
+  abbrev pub job_of : DirEntryIter C S P A T L R E → Job C S P A R E
+  job_of it = readings.job_of it.reads
+
+  -- the directories that aren't read yet
+  abbrev pub unread_of : DirEntryIter C S P A T L R E → List (Spec R)
+  unread_of it = to_read it.reads
+
+  -- how many directories are read together
+  abbrev pub width_of : DirEntryIter C S P A T L R E → ℕ
+  width_of it = readings.width_of it.reads
+
+  -- what isn't read yet, and what was read and not handed on, by address
+  abbrev pub read_ahead : DirEntryIter C S P A T L R E → ReadAhead R
+  read_ahead it = readings.read_ahead it.reads
+
+  -- the address of the directory that is entered next
+  abbrev pub next_address : DirEntryIter C S P A T L R E → List ℕ
+  next_address it = readings.next_address it.reads
+
+  -- the addresses of the readings that were made and not handed on
+  abbrev pub early_of : DirEntryIter C S P A T L R E → List (List ℕ)
+  early_of it = readings.early_of it.reads
+
+  -- the items that were received and not passed on, the next one first
+  abbrev pub items_of : DirEntryIter C S P A T L R E → List (Item R E)
+  items_of it = map item (reverse it.items.items)
+
+  -- the items that were received and not passed on, each with the directory below it
+  abbrev pub held : DirEntryIter C S P A T L R E → List (Pair R E)
+  held it = refusal it.refused ++ pair_up (items_of it) (unread_of it)
+
+  -- the same with its states as they count
+  abbrev pub held_by : Given R E → DirEntryIter C S P A T L R E → List (Pair Worth Worth)
+  held_by given it = refusal it.refused ++ pair_up (map (counted_item given) (items_of it)) (map (counted_spec given) (unread_of it))
+
+  -- the least depth
+  abbrev pub min_depth_of : DirEntryIter C S P A T L R E → ℕ
+  min_depth_of it = (options_of (job_of it)).min_depth
+
+  -- at most how many answers are to come
+  abbrev pub weight_of : DirEntryIter C S P A T L R E → ℕ
+  weight_of it = weight (greatest_depth (job_of it)) (held it)
+
+  -- what is still to come over a fixed file system and what is given
+  abbrev pub to_come : FileSystem.Ghosts S → Given R E → DirEntryIter C S P A T L R E → List (Item Worth Worth)
+  to_come files given it = value.to_come (reading (job_by files given (job_of it))) (min_depth_of it) (greatest_depth (job_of it)) (held_by given it)
+
+  -- no entry that is held is below the greatest depth
+  abbrev pub IsWithin : DirEntryIter C S P A T L R E → Type 0
+  IsWithin it = NoDeeper (greatest_depth (job_of it)) (items_of it)
+
+  -- the items that have a directory, and they alone, have a source, and nothing else is unread
+  pub record IsSourced (it : DirEntryIter C S P A T L R E) : Type 0 where
+    pub each : AreSourced (held it)
+    pub unread : unread_of it ≡ sources (held it)
+
+  -- the answer tells why the walk ends early, and nothing is held or unread any more
+  pub record Stops (crew : Bool) (answer : Item R E) (new : DirEntryIter C S P A T L R E) : Type 0 where
+    pub error : Failure
+    pub told : answer ≡ Err error
+    pub tells : Tells crew error
+    pub nothing_held : held new ≡ []
+    pub nothing_unread : unread_of new ≡ []
+
+  -- a walk whose start was refused: it holds what tells of it, and nothing is unread
+  pub record IsRefused (it : DirEntryIter C S P A T L R E) : Type 0 where
+    pub tells : held it ≡ record { item = Err memory; source = nothing } ∷ []
+    pub nothing_unread : unread_of it ≡ []
+
+  -- These answers are the first of what was to come, and the rest is to come then.
+  abbrev pub ComesFirst : FileSystem.Ghosts S → Given R E → DirEntryIter C S P A T L R E → List (Item R E) → DirEntryIter C S P A T L R E → Type 0
+  ComesFirst files given old answered new = to_come files given old ≡ map (counted_item given) answered ++ to_come files given new
+
+  -- The first of what is to come is answered and the rest is left, or memory was refused and the walk ends; there is no answer where nothing is to come.
+  abbrev pub AnswersFirst : FileSystem.Ghosts S → Given R E → DirEntryIter C S P A T L R E → Option (Item R E) → DirEntryIter C S P A T L R E → Type 0
+  AnswersFirst files given old None new = to_come files given old ≡ []
+  AnswersFirst files given old (Some answer) new = Stops false answer new ⊎ ComesFirst files given old (answer ∷ []) new
+
+  -- These answers are a beginning of what was to come, and then the one error that tells of want of memory. Nothing is held then.
+  pub record EndsEarly (files : FileSystem.Ghosts S) (given : Given R E) (old : DirEntryIter C S P A T L R E) (answered : List (Item R E)) (new : DirEntryIter C S P A T L R E) : Type 0 where
+    pub before : List (Item R E)
+    pub missed : List (Item Worth Worth)
+    pub beginning : to_come files given old ≡ map (counted_item given) before ++ missed
+    pub told : answered ≡ before ++ Err memory ∷ []
+    pub nothing_held : held new ≡ []
+
+module _ {C S P A T L R E : Type 0} (files : FileSystem.Ghosts S) (process : ProcessReadDir.Ghosts P C A R E) (clone : Clone.Ghosts R) (defaults : Default.Ghosts E) where
+  -- The next directory is entered, if one is to be read below the first item; else what was read ahead stays as it is.
+  abbrev pub EntersIfAny : DirEntryIter C S P A T L R E → DirEntryIter C S P A T L R E → Type 0
+  EntersIfAny old new =
+      (IsAtDirectory (items_of old) (unread_of old) × EntersBy files process clone defaults (by_crew old) (job_of old) (width_of old) (next_address old) (read_ahead old) (read_ahead new))
+      ⊎ ((¬ IsAtDirectory (items_of old) (unread_of old)) × (read_ahead new ≡ read_ahead old))
+
+module _ {C S P A T L R E : Type 0} (files : FileSystem.Ghosts S) (process : ProcessReadDir.Ghosts P C A R E) (clone : Clone.Ghosts R) (defaults : Default.Ghosts E) (pool : Pool.Ghosts L C S P A R E) where
+  -- Over what is given a walk is steady: its job is, and what it read ahead, or its crew gives, is as the definition has it; and a crew's readings are those of the directories below its items.
+  pub record IsSteadyWalk (it : DirEntryIter C S P A T L R E) (given : Given R E) : Type 0 where
+    pub reads : IsSteadyReads files process clone defaults pool it.reads given
+    pub placed : ArePlaced (by_crew it) (items_of it) (unread_of it)
+
+  -- What is known of the reading at an address, by which an item's directory is entered: a crew's is that of the directory below this item.
+  abbrev pub KnownAt : DirEntryIter C S P A T L R E → List ℕ → Item R E → Spec R → Outcome R E → Type 0
+  KnownAt it at x spec outcome = KnownBy files process clone defaults (by_crew it) (IsSteadyReads files process clone defaults pool it.reads) (job_of it) at spec outcome × IsNextBelow (by_crew it) x (spec ∷ [])
+
+  -- the same at some address
+  abbrev pub Known : DirEntryIter C S P A T L R E → Item R E → Spec R → Outcome R E → Type 0
+  Known it x spec outcome = (at : List ℕ) × KnownAt it at x spec outcome
+
+  -- Over all that its job is steady over, it is.
+  abbrev pub StartsSteady : DirEntryIter C S P A T L R E → Type 0
+  StartsSteady it = (given : Given R E) → IsSteadyJob files process clone defaults (job_of it) given → IsSteadyWalk it given
+
+  -- Its readings stay steady over all that they were steady over.
+  abbrev pub ReadsStaySteady : DirEntryIter C S P A T L R E → DirEntryIter C S P A T L R E → Type 0
+  ReadsStaySteady old new = readings.StaysSteady files process clone defaults pool old.reads new.reads
+
+  -- It stays steady over all that it was steady over.
+  abbrev pub StaysSteady : DirEntryIter C S P A T L R E → DirEntryIter C S P A T L R E → Type 0
+  StaysSteady old new = (given : Given R E) → IsSteadyWalk old given → IsSteadyWalk new given
+
+  -- Whatever the file system answers: each directory that is passed takes the first of the unread specifications, which alone is read, and puts its children in front; or the walk ends early. A walk that tells that its start was refused reads nothing.
+  abbrev pub ReadsItems : DirEntryIter C S P A T L R E → Option (Item R E) → DirEntryIter C S P A T L R E → Type 0
+  ReadsItems old answer new =
+      MatchBool old.refused
+      (unread_of new ≡ unread_of old)
+      (IsSomeAnd answer (λ a. Stops (by_crew old) a new) ⊎ ReadsUpTo clone (Known old) (job_of old) (items_of old) (unread_of old) answer (items_of new) (unread_of new))
+
+  -- Items are passed one after another, and so many directories are entered with them, each by the reading at its address.
+  pub data PassesMany (old : DirEntryIter C S P A T L R E) : ℕ → DirEntryIter C S P A T L R E → Type 0 where
+    none_passed : PassesMany old 0 old
+    one_passed : {entered : ℕ} {mid new : DirEntryIter C S P A T L R E} {passed : Item R E} → PassesMany old entered mid → PassesNext clone (KnownAt old (next_address mid)) (job_of old) (items_of mid) (unread_of mid) passed (items_of new) (unread_of new)
+        → ¬ IsAtDirectory (items_of mid) (unread_of mid) → read_ahead new ≡ read_ahead mid → PassesMany old entered new
+    one_entered : {entered : ℕ} {mid new : DirEntryIter C S P A T L R E} {passed : Item R E} → PassesMany old entered mid → PassesNext clone (KnownAt old (next_address mid)) (job_of old) (items_of mid) (unread_of mid) passed (items_of new) (unread_of new)
+        → IsAtDirectory (items_of mid) (unread_of mid) → EntersBy files process clone defaults (by_crew old) (job_of old) (width_of old) (next_address mid) (read_ahead mid) (read_ahead new) → PassesMany old (suc entered) new
+
+  -- Directories are entered, and with each of them what was read ahead grows by less than the width.
+  pub record GrowsAhead (old new : DirEntryIter C S P A T L R E) : Type 0 where
+    pub entered : ℕ
+    pub last : DirEntryIter C S P A T L R E
+    pub passes : PassesMany old entered last
+    pub same : read_ahead new ≡ read_ahead last
+    pub ahead : length (early_of new) + entered ≤ length (early_of old) + entered * width_of old
+
+  -- What a call does to what was read ahead, whatever the file system answers: directories are entered, or the walk ends early and nothing is left. A walk that tells that its start was refused enters none.
+  abbrev pub GoesAhead : DirEntryIter C S P A T L R E → Option (Item R E) → DirEntryIter C S P A T L R E → Type 0
+  GoesAhead old answer new =
+      MatchBool old.refused
+      (read_ahead new ≡ read_ahead old)
+      ((IsSomeAnd answer (λ a. Stops (by_crew old) a new) × (read_ahead new ≡ nothing_ahead)) ⊎ GrowsAhead old new)
+
+  -- One call of a walk's `next`.
+  pub record Answers (old : DirEntryIter C S P A T L R E) (answer : Option (Result (DirEntry C A R E) (Error A))) (new : DirEntryIter C S P A T L R E) : Type 0 where
+    pub crew : by_crew new ≡ by_crew old
+    pub job : job_of new ≡ job_of old
+    pub depths : IsWithin old → IfSome (option_map item answer) (IsBetween (min_depth_of old) (greatest_depth (job_of old))) × IsWithin new
+    pub sourced : IsSourced old → IsSourced new
+    pub plain : AnswersPlainly (min_depth_of old) (held old) (option_map item answer) (held new)
+    pub ended : IfNone answer (held new ≡ [])
+    pub lighter : IfSome answer (λ _. weight_of new < weight_of old)
+    pub reads : ReadsItems old (option_map item answer) new
+    pub width : width_of new ≡ width_of old
+    pub ahead : GoesAhead old (option_map item answer) new
+    pub steady : StaysSteady old new
+    pub coming : (given : Given R E) → IsSteadyWalk old given → AnswersFirst files given old (option_map item answer) new
+
+  -- calls of `next` answered these, all n that were asked for, or fewer and the next call answered `None`; or room was refused for one more
+  abbrev pub FillCalls : ℕ → DirEntryIter C S P A T L R E → List (Result (DirEntry C A R E) (Error A)) → Result ℕ AllocError → DirEntryIter C S P A T L R E → Type 0
+  FillCalls n old answered (Ok told) new = ((told ≡ n) × Yields Answers old answered new) ⊎ ((told < n) × YieldsThen Answers old answered None new)
+  FillCalls n old answered (Err error) new = Yields Answers old answered new
+
+  -- A call of `fill` for n answers: it appends what calls of `next` answered. Their number is told, and it is n, or nothing is held any more; or room for one more was refused. Each of them makes the walk lighter.
+  pub record Fills (n : ℕ) (old : DirEntryIter C S P A T L R E) (before : List (Result (DirEntry C A R E) (Error A))) (told : Result ℕ AllocError) (after : List (Result (DirEntry C A R E) (Error A))) (new : DirEntryIter C S P A T L R E) : Type 0 where
+    pub answered : List (Result (DirEntry C A R E) (Error A))
+    pub appended : after ≡ before ++ answered
+    pub number : IfOk told (λ k. (k ≡ length answered) × (k ≤ n))
+    pub all : IfOk told (λ k. (k ≡ n) ⊎ (held new ≡ []))
+    pub fewer : IfErr told (λ _. length answered < n)
+    pub calls : FillCalls n old answered told new
+    pub crew : by_crew new ≡ by_crew old
+    pub job : job_of new ≡ job_of old
+    pub width : width_of new ≡ width_of old
+    pub depths : IsWithin old → AllBetween (min_depth_of old) (greatest_depth (job_of old)) (map item answered) × IsWithin new
+    pub sourced : IsSourced old → IsSourced new
+    pub lighter : weight_of new + length answered ≤ weight_of old
+    pub steady : StaysSteady old new
+    pub coming : (given : Given R E) → IsSteadyWalk old given
+        → ComesFirst files given old (map item answered) new ⊎ EndsEarly files given old (map item answered) new
+
+  -- Calls from here on answer items until `None`, and n is their number, or the greatest `usize` where there are more.
+  abbrev pub Counts : DirEntryIter C S P A T L R E → ℕ → Type 0
+  Counts start n =
+      (answered : List (Result (DirEntry C A R E) (Error A))) × Drains Answers start answered × (n ≡ min (length answered) (2 ^ 64 - 1))

@@ -1,0 +1,404 @@
+//! A walk's answers.
+ghost use Rattle.std.specs.Prelude.{◌≡◌, true, Ok, IfOk, IfErr, OnErr};
+ghost use Rattle.read_parts.specs.Entry.{entry, item};
+ghost use Rattle.jwalk_read.specs.Job.{callback};
+
+mod on_threads;
+mod over_crew;
+
+use jwalk_crew::pool::{Missed, NoPool, Pool};
+use jwalk_engine::read::Outcome;
+use jwalk_read::job::Job;
+use jwalk_read::read_dir::ReadDir;
+use jwalk_readings::crew_reads::error_of;
+use jwalk_readings::read_dir_iter::ReadDirIter;
+use jwalk_readings::threads::InTurn;
+use read_parts::client_state::ClientState;
+use read_parts::dir_entry::DirEntry;
+use read_parts::error::Error;
+use read_parts::process_read_dir::ProcessReadDir;
+use std::alloc::{AllocError, Allocator, Global};
+use walk_fs::file_system::FileSystem;
+
+/// A walk under way: an iterator over its entries and errors, in strict depth-first order.
+///
+/// A directory's entry is answered when its directory was read. A directory that could not be read is answered with the
+/// error in its `read_children`. Want of memory is answered by one error whose `is_memory` is true, and then by `None`
+/// for good; so is the end of the walk. A walk over a crew ends in the same way, by an error whose `is_lost` is true,
+/// where a reading is lost. Over a file system whose answers stay the same none is.
+pub struct DirEntryIter<
+    C: ClientState,
+    S: FileSystem,
+    P: ProcessReadDir<C, A>,
+    A: Allocator + Copy = Global,
+    T = InTurn,
+    L = NoPool,
+> {
+    pub(crate) reads: ReadDirIter<C, S, P, A, T, L>,
+    // What was received and not passed on, the next one last.
+    pub(crate) items: Vec<Result<DirEntry<C, A>, Error<A>>, A>,
+    // Memory was refused at the start, and this was not answered yet.
+    pub(crate) refused: bool,
+}
+
+impl<
+    C: ClientState,
+    S: FileSystem,
+    P: ProcessReadDir<C, A>,
+    A: Allocator + Copy,
+    T: Drop,
+    L: Drop,
+> Drop for DirEntryIter<C, S, P, A, T, L> {
+    fn drop(self) {
+        let DirEntryIter {
+            reads: _,
+            items: _,
+            refused: _,
+        } = self;
+    }
+}
+
+impl<
+    C: ClientState,
+    S: FileSystem,
+    P: ProcessReadDir<C, A>,
+    A: Allocator + Copy,
+    T: Drop,
+    L: Pool<C, S, P, A>,
+> DirEntryIter<C, S, P, A, T, L> {
+    ghost use Rattle.std.specs.Prelude.{◌++◌, [], false, length, OnOk, IsSome, IfSome, IfNone, IsSomeAnd, option_map};
+    ghost use Rattle.walk_model.specs.Entry.{AtDepth};
+    ghost use Rattle.walk_model.specs.ReadDir.{children, AreClones};
+    ghost use Rattle.walk_model.specs.Listing.{paired, is_answered};
+    ghost use Rattle.jwalk_read.specs.ReadDir.{reading, outcome};
+    ghost use Rattle.read_parts.specs.Given.{counted_reading, ClonesCount};
+    ghost use Rattle.read_parts.specs.Options as options;
+    ghost use Rattle.jwalk_read.specs.Job.{options_of};
+    ghost use Rattle.jwalk_engine.specs.ReadAhead.{nothing_ahead};
+    ghost use Rattle.jwalk_readings.specs.CrewReads.{failure_of, NotLost};
+    ghost use Rattle.jwalk_readings.specs.ReadDirIter.{Tells};
+    ghost use Rattle.jwalk_entries.specs.DirEntryIter.{by_crew, is_refused, job_of, min_depth_of, items_of, unread_of, width_of, read_ahead, early_of, held_by, next_address, IsWithin, IsSourced, IsRefused, Known, KnownAt, IsSteadyWalk, ReadsStaySteady, EntersIfAny, GrowsAhead, Answers, Counts};
+    ghost use Rattle.jwalk_entries.specs.Step.{IsAtDirectory, Receives, PassesNext, ReadsUpTo, StopsAtDirectory};
+
+    /// A walk whose start was refused, which needs no memory.
+    fn refused(alloc: A, threads: T, job: Job<C, S, P, A>) -> Self
+        ensures own { by_crew result ≡ false }
+        ensures job { job_of result ≡ job }
+        ensures refused { result.refused ≡ true }
+        ensures items { items_of result ≡ [] }
+        ensures unread { unread_of result ≡ [] }
+        ensures width { width_of result ≡ options.width_of (options_of job).parallelism }
+        ensures early { early_of result ≡ [] }
+    {
+        let mode = job.options().mode();
+        DirEntryIter {
+            reads: ReadDirIter::new(alloc, threads, job, mode),
+            items: Vec::new(alloc),
+            refused: true,
+        }
+    }
+
+    /// Takes over the root's list.
+    fn begin(&mut self, read: ReadDir<C, A>) -> Result<(), AllocError>
+        requires { by_crew self.old ≡ false }
+        ensures own { by_crew self.new ≡ false }
+        ensures job { job_of self.new ≡ job_of self.old }
+        ensures refused { self.new.refused ≡ self.old.refused }
+        ensures items { OnOk result (items_of self.new ≡ (reading read).list ++ items_of self.old) }
+        ensures children { OnOk result (AreClones C.ReadDirState.is_clone
+            (children (reading read)) (unread_of self.new)) }
+        ensures width { width_of self.new ≡ width_of self.old }
+        ensures early { OnOk result (early_of self.new ≡ []) }
+    {
+        self.reads.begin(read.read_children_specs()?)?;
+        self.receive(read)?;
+        Ok(())
+    }
+
+    /// The walk that begins with the root's list. Where memory is refused, what it answers is the error that tells of
+    /// it, and nothing else.
+    pub fn from_root(
+        alloc: A,
+        threads: T,
+        job: Job<C, S, P, A>,
+        read: Option<ReadDir<C, A>>,
+    ) -> Self
+        requires { IfSome read (λ r. AtDepth 0 (reading r).list) }
+        ensures own { by_crew result ≡ false }
+        ensures job { job_of result ≡ job }
+        ensures refused { is_refused result ≡ true → IsRefused result }
+        ensures within { IsWithin result }
+        ensures sourced { IsSourced result }
+        ensures depth { is_refused result ≡ false → AtDepth 0 (items_of result) }
+        ensures width { width_of result ≡ options.width_of (options_of job).parallelism }
+        ensures early { early_of result ≡ [] }
+        ensures held { (g : _) → ClonesCount C.ReadDirState.Clone g → is_refused result ≡ false
+            → IsSomeAnd read (λ r. held_by g result ≡ paired (counted_reading g (reading r))) }
+    {
+        let mut walk = DirEntryIter::refused(alloc, threads, job);
+        let Some(read) = read else {
+            return walk;
+        };
+        match walk.begin(read) {
+            Ok(()) => walk.refused = false,
+            Err(_) => walk.stop(),
+        }
+        walk
+    }
+
+    /// Puts the items of a reading in front of those that were received before.
+    fn receive(&mut self, read: ReadDir<C, A>) -> Result<(), AllocError>
+        ensures reads { self.new.reads ≡ self.old.reads }
+        ensures refused { self.new.refused ≡ self.old.refused }
+        ensures items { OnOk result (items_of self.new ≡ (reading read).list ++ items_of self.old) }
+    {
+        let mut items = read.into_results_list();
+        items.reverse();
+        if self.items.is_empty() {
+            self.items = items;
+            return Ok(());
+        }
+        self.items.append(&mut items)?;
+        Ok(())
+    }
+
+    /// Forgets all that is still to come.
+    fn stop(&mut self)
+        ensures crew { by_crew self.new ≡ by_crew self.old }
+        ensures job { job_of self.new ≡ job_of self.old }
+        ensures refused { self.new.refused ≡ self.old.refused }
+        ensures width { width_of self.new ≡ width_of self.old }
+        ensures items { items_of self.new ≡ [] }
+        ensures unread { unread_of self.new ≡ [] }
+        ensures read_ahead { read_ahead self.new ≡ nothing_ahead }
+        ensures steady { ReadsStaySteady S.FileSystem P.ProcessReadDir C.ReadDirState.Clone C.DirEntryState.Default
+            L.Pool self.old self.new }
+    {
+        self.items.clear();
+        self.reads.stop();
+    }
+
+    /// The entry of a directory once this came of its reading, with the items of the reading received.
+    fn entered(
+        &mut self,
+        found: DirEntry<C, A>,
+        read: Option<Outcome<C, A>>,
+    ) -> Result<DirEntry<C, A>, AllocError>
+        ensures job { job_of self.new ≡ job_of self.old }
+        ensures refused { self.new.refused ≡ self.old.refused }
+        ensures received { IfOk result (λ e. Receives (option_map outcome read) (Ok (entry found))
+            (items_of self.old) (Ok (entry e)) (items_of self.new)) }
+        ensures reads { self.new.reads ≡ self.old.reads }
+        ensures stopped { OnErr result (IsSome read) }
+    {
+        match read {
+            None => Ok(found),
+            Some(Err(error)) => Ok(found.with_error(error)),
+            Some(Ok(read)) => {
+                self.receive(read)?;
+                Ok(found)
+            }
+        }
+    }
+
+    /// The next item, passed on.
+    fn pass(&mut self) -> Result<Option<Result<DirEntry<C, A>, Error<A>>>, Missed>
+        requires { P.IsLawful (callback (job_of self.old)) }
+        ensures crew { by_crew self.new ≡ by_crew self.old }
+        ensures job { job_of self.new ≡ job_of self.old }
+        ensures refused { self.new.refused ≡ self.old.refused }
+        ensures end { IfOk result (λ o. IfNone o
+            ((items_of self.old ≡ []) × (items_of self.new ≡ []) × (unread_of self.new ≡ unread_of self.old))) }
+        ensures steady { ReadsStaySteady S.FileSystem P.ProcessReadDir C.ReadDirState.Clone C.DirEntryState.Default
+            L.Pool self.old self.new }
+        ensures passed { IfOk result (λ o. IfSome o (λ passed. PassesNext C.ReadDirState.Clone
+            (KnownAt S.FileSystem P.ProcessReadDir C.ReadDirState.Clone C.DirEntryState.Default L.Pool self.old
+            (next_address self.old))
+            (job_of self.old) (items_of self.old) (unread_of self.old)
+            (item passed) (items_of self.new) (unread_of self.new))) }
+        ensures width { width_of self.new ≡ width_of self.old }
+        ensures ahead { OnOk result (EntersIfAny S.FileSystem P.ProcessReadDir C.ReadDirState.Clone
+            C.DirEntryState.Default self.old self.new) }
+        ensures tells { IfErr result (λ missed. Tells (by_crew self.old) (failure_of missed)) }
+        ensures comes { IfErr result (NotLost (IsSteadyWalk S.FileSystem P.ProcessReadDir C.ReadDirState.Clone
+            C.DirEntryState.Default L.Pool self.old)) }
+        ensures stopped { OnErr result (IsAtDirectory (items_of self.old) (unread_of self.old)) }
+    {
+        match self.items.pop() {
+            None => Ok(None),
+            Some(Err(error)) => Ok(Some(Err(error))),
+            Some(Ok(found)) => {
+                if found.read_children.is_none() {
+                    return Ok(Some(Ok(found)));
+                }
+                if !self.reads.is_next(&found) {
+                    return Err(Missed::Lost);
+                }
+                let read = self.reads.read_next()?;
+                Ok(Some(Ok(self.entered(found, read)?)))
+            }
+        }
+    }
+
+    /// Whether an item is answered: an entry from the least depth on, and every error.
+    fn keeps(&self, passed: &Result<DirEntry<C, A>, Error<A>>) -> bool
+        ensures { result ≡ is_answered (min_depth_of self.now) (item passed.now) }
+    {
+        match passed {
+            Ok(entry) => entry.depth >= self.reads.job().options().min_depth(),
+            Err(_) => true,
+        }
+    }
+
+    /// What was passed, unless the least depth leaves it out.
+    fn kept(
+        &self,
+        passed: Result<DirEntry<C, A>, Error<A>>,
+    ) -> Option<Result<DirEntry<C, A>, Error<A>>>
+        ensures some { IfSome result (λ answer. (answer
+            ≡ passed) × (is_answered (min_depth_of self.now) (item passed) ≡ true)) }
+        ensures none { IfNone result (is_answered (min_depth_of self.now) (item passed) ≡ false) }
+    {
+        if self.keeps(&passed) {
+            Some(passed)
+        } else {
+            None
+        }
+    }
+
+    /// The next item that is answered.
+    fn next_kept(&mut self) -> Result<Option<Result<DirEntry<C, A>, Error<A>>>, Missed>
+        requires { P.IsLawful (callback (job_of self.old)) }
+        ensures crew { by_crew self.new ≡ by_crew self.old }
+        ensures job { job_of self.new ≡ job_of self.old }
+        ensures refused { self.new.refused ≡ self.old.refused }
+        ensures steady { ReadsStaySteady S.FileSystem P.ProcessReadDir C.ReadDirState.Clone C.DirEntryState.Default
+            L.Pool self.old self.new }
+        ensures reads { IfOk result (λ answer. ReadsUpTo C.ReadDirState.Clone
+            (Known S.FileSystem P.ProcessReadDir C.ReadDirState.Clone C.DirEntryState.Default L.Pool self.old)
+            (job_of self.old) (items_of self.old) (unread_of self.old)
+            (option_map item answer) (items_of self.new) (unread_of self.new)) }
+        ensures width { width_of self.new ≡ width_of self.old }
+        ensures ahead { OnOk result (GrowsAhead S.FileSystem P.ProcessReadDir C.ReadDirState.Clone
+            C.DirEntryState.Default L.Pool self.old self.new) }
+        ensures tells { IfErr result (λ missed. Tells (by_crew self.old) (failure_of missed)) }
+        ensures comes { IfErr result (NotLost (IsSteadyWalk S.FileSystem P.ProcessReadDir C.ReadDirState.Clone
+            C.DirEntryState.Default L.Pool self.old)) }
+        ensures stopped { OnErr result (StopsAtDirectory C.ReadDirState.Clone
+            (Known S.FileSystem P.ProcessReadDir C.ReadDirState.Clone C.DirEntryState.Default L.Pool self.old)
+            (job_of self.old) (items_of self.old) (unread_of self.old)) }
+    {
+        while let Some(passed) = self.pass()? {
+            if let Some(answer) = self.kept(passed) {
+                return Ok(Some(answer));
+            }
+        }
+        Ok(None)
+    }
+
+    /// The next answer; or the error that tells why it won't come, and nothing is left.
+    fn next_answer(&mut self) -> Option<Result<DirEntry<C, A>, Error<A>>>
+        requires { P.IsLawful (callback (job_of self.old)) }
+        ensures { Answers S.FileSystem P.ProcessReadDir C.ReadDirState.Clone C.DirEntryState.Default L.Pool
+            self.old result self.new }
+    {
+        if self.refused {
+            self.refused = false;
+            return Some(Err(Error::memory()));
+        }
+        match self.next_kept() {
+            Ok(answer) => answer,
+            Err(missed) => {
+                self.stop();
+                Some(Err(error_of(missed)))
+            }
+        }
+    }
+
+    /// Whether memory was refused at the start, and the error that tells of it was not answered yet.
+    pub fn is_refused(&self) -> bool
+        ensures { result ≡ is_refused self.now }
+    {
+        self.refused
+    }
+
+    /// How many directories were read whose readings are not handed on yet. A serial walk reads none ahead; over a crew
+    /// the number changes while the workers read.
+    pub fn ahead(&self) -> usize
+        ensures { by_crew self.now ≡ false → result ≡ length (early_of self.now) }
+    {
+        self.reads.ahead()
+    }
+
+    /// The number of answers that are still to come, or the greatest `usize` where there are more. Unlike
+    /// `Iterator::count`, it asks for no bound of them.
+    pub fn count(self) -> usize
+        requires { P.IsLawful (callback (job_of self)) }
+        ensures { Counts S.FileSystem P.ProcessReadDir C.ReadDirState.Clone C.DirEntryState.Default L.Pool self result }
+    {
+        let mut count: usize = 0;
+        for _ in self {
+            count = count.saturating_add(1);
+        }
+        count
+    }
+}
+
+impl<
+    C: ClientState,
+    S: FileSystem,
+    P: ProcessReadDir<C, A>,
+    A: Allocator + Copy,
+    L: Pool<C, S, P, A>,
+> DirEntryIter<C, S, P, A, InTurn, L> {
+    ghost use Rattle.jwalk_entries.specs.DirEntryIter.{job_of, Fills};
+
+    /// Appends answers to `out` until they are `n` or the walk ends, and answers how many.
+    ///
+    /// Room is made before each answer is asked for: where that is refused, `out` holds all that was answered, and
+    /// the walk goes on from there. Want of memory within the walk is an answer like any other.
+    pub fn fill(
+        &mut self,
+        n: usize,
+        out: &mut Vec<Result<DirEntry<C, A>, Error<A>>, A>,
+    ) -> Result<usize, AllocError>
+        requires { P.IsLawful (callback (job_of self.old)) }
+        ensures { Fills S.FileSystem P.ProcessReadDir C.ReadDirState.Clone C.DirEntryState.Default L.Pool
+            n self.old out.old.items result out.new.items self.new }
+    {
+        let mut filled = 0;
+        while filled < n {
+            out.reserve(1)?;
+            let Some(answer) = self.next() else {
+                return Ok(filled);
+            };
+            out.push_reserved(answer);
+            filled += 1;
+        }
+        Ok(filled)
+    }
+}
+
+impl<
+    C: ClientState,
+    S: FileSystem,
+    P: ProcessReadDir<C, A>,
+    A: Allocator + Copy,
+    T: Drop,
+    L: Pool<C, S, P, A>,
+> Iterator for DirEntryIter<C, S, P, A, T, L> {
+    type Item = Result<DirEntry<C, A>, Error<A>>;
+
+    ghost use Rattle.std.specs.Iterator.{at_most};
+    ghost use Rattle.jwalk_entries.specs.DirEntryIter.{job_of, weight_of, Answers};
+
+    ghost can_next = { λ s. P.IsLawful (callback (job_of s)) };
+
+    ghost next_gives = { Answers S.FileSystem P.ProcessReadDir C.ReadDirState.Clone C.DirEntryState.Default L.Pool };
+
+    ghost remaining = { λ s. at_most (weight_of s) };
+
+    fn next(&mut self) -> Option<Result<DirEntry<C, A>, Error<A>>> {
+        self.next_answer()
+    }
+}

@@ -1,0 +1,7 @@
+pub mod ListFacts
+pub mod ResultFacts
+pub mod AlikeFacts
+pub mod KnownFacts
+mod CrewFacts
+pub mod CrewSteadyFacts
+pub mod GivesFacts

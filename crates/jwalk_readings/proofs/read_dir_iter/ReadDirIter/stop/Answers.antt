@@ -1,0 +1,18 @@
+use Rattle.std.proofs.Common.{refl, sym, subst}
+use Rattle.jwalk_read.specs.Job.{IsSteadyJob}
+use Rattle.jwalk_readings.proofs.read_dir_iter.ReadDirIter.stop.Goals as goal
+
+pub returns-in-Walk : goal.returns-in-Walk
+returns-in-Walk g c =
+    let stopped = c.stop.ensures in
+    rw c.in-Walk.is (record { crew = refl; job = stopped.job; width = stopped.width; to_read = stopped.to_read; read_ahead = stopped.read_ahead; steady = stopped.steady })
+
+pub returns-in-ParWalk : goal.returns-in-ParWalk
+returns-in-ParWalk g c =
+    let stopped = c.stop-in-ParWalk.ensures in
+    rw c.in-ParWalk.is (record { crew = refl; job = stopped.job; width = stopped.width; to_read = stopped.to_read; read_ahead = stopped.read_ahead; steady = stopped.steady })
+
+pub returns-in-CrewWalk : goal.returns-in-CrewWalk
+returns-in-CrewWalk g c =
+    let stopped = c.stop-in-CrewWalk.ensures in
+    rw c.in-CrewWalk.is (record { crew = refl; job = stopped.job; width = refl; to_read = stopped.to_read; read_ahead = refl; steady = λ value steady. stopped.steady value (subst (λ j. IsSteadyJob g.S.FileSystem g.P.ProcessReadDir g.C.ReadDirState.Clone g.C.DirEntryState.Default j value) (sym stopped.job) steady.steady) })

@@ -1,0 +1,13 @@
+use Rattle.std.proofs.Common.{false, sym, subst}
+use Rattle.jwalk_readings.specs.ReadDirIter.{by_crew, Tells}
+use Rattle.jwalk_readings.proofs.KnownFacts.{told_refused}
+use Rattle.jwalk_readings.proofs.GivesFacts.{gives_read, gives_stopped}
+use Rattle.jwalk_readings.proofs.read_dir_iter.on_threads.ReadDirIter+C+S+P+A+OnThreads+R+L.next.Goals as goal
+
+pub returns-in-Ok : goal.returns-in-Ok
+returns-in-Ok g c =
+    gives_read g.S.FileSystem g.P.ProcessReadDir g.C.ReadDirState.Clone g.C.DirEntryState.Default g.L.Pool c.args.self.now c.read_next_on.new.self false c.in-Ok.read c.read_next_on.ensures.crew c.read_next_on.ensures.job c.read_next_on.ensures.width c.read_next_on.ensures.ahead c.read_next_on.ensures.steady c.in-Ok.ensures.next c.in-Ok.ensures.enters
+
+pub returns-in-Err : goal.returns-in-Err
+returns-in-Err g c =
+    gives_stopped g.S.FileSystem g.P.ProcessReadDir g.C.ReadDirState.Clone g.C.DirEntryState.Default g.L.Pool c.args.self.now c.read_next_on.new.self false c.error_of.result (subst (Tells (by_crew c.args.self.now)) (sym c.error_of.ensures) c.in-Err.ensures.tells) (told_refused _ c.in-Err.missed _ c.error_of.ensures c.in-Err.ensures.comes) c.read_next_on.ensures.crew c.read_next_on.ensures.job c.read_next_on.ensures.width c.read_next_on.ensures.ahead c.read_next_on.ensures.steady c.in-Err.ensures.some c.in-Err.ensures.stopped c.in-Err.ensures.nothing_ahead

@@ -1,0 +1,3 @@
+pub mod Parallelism
+pub mod CrewReads
+pub mod ReadDirIter

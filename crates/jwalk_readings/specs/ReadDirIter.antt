@@ -1,0 +1,145 @@
+-- What an iterator over readings has still to read, and what it gives.
+use Rattle.std.specs.Prelude.{◌≡◌, ◌≢◌, ◌≤◌, ◌+◌, ◌⊎◌, ℕ, Bool, true, false, length, List, [], ◌∷◌, map, Option, Some, None, option_map, Result, Err}
+use Rattle.std.specs.declared.clone.Clone as Clone
+use Rattle.std.specs.declared.default.Default as Default
+use Rattle.walk_model.specs.Error.{Failure, memory, lost}
+use Rattle.walk_model.specs.Entry.{Item}
+use Rattle.walk_model.specs.ReadDir.{Spec, Outcome}
+use Rattle.walk_model.specs.Preorder.{preorder}
+use Rattle.walk_model.specs.Job.{reading}
+use Rattle.walk_fs.specs.declared.file_system.FileSystem as FileSystem
+use Rattle.read_parts.specs.declared.process_read_dir.ProcessReadDir as ProcessReadDir
+use Rattle.read_parts.specs.declared.error.Error.{Error}
+use Rattle.jwalk_read.specs.declared.read_dir.ReadDir.{ReadDir}
+use Rattle.jwalk_read.specs.declared.job.Job.{Job}
+use Rattle.jwalk_read.specs.ReadDir.{outcome}
+use Rattle.read_parts.specs.Given.{Given, counted_spec, counted_outcome}
+use Rattle.jwalk_read.specs.Job.{greatest_depth, job_by, IsSteadyJob, IsGivenOver}
+use Rattle.jwalk_engine.specs.ReadAhead.{ReadAhead, nothing_ahead, Enters}
+use Rattle.jwalk_engine.specs.BoardWalk as board
+use Rattle.jwalk_engine.specs.BoardWalk.{IsSteadyWalk}
+use Rattle.jwalk_engine.specs.Reads.{ReadsNextBy}
+use Rattle.jwalk_readings.specs.declared.read_dir_iter.ReadDirIter.{ReadDirIter}
+use Rattle.jwalk_readings.specs.declared.read_dir_iter.ReadDirIter.TheVariants.{Walk, ParWalk, CrewWalk}
+use Rattle.jwalk_readings.specs.CrewReads as crew
+use Rattle.jwalk_readings.specs.CrewReads.{IsTold, IsNextBelow, IsSteadyCrew}
+use Rattle.jwalk_crew.specs.declared.pool.Pool as Pool
+
+module _ {C S P A T L R E : Type 0} where
+  -- whether a crew makes the readings
+  abbrev pub by_crew : ReadDirIter C S P A T L R E → Bool
+  by_crew (Walk walk) = false
+  by_crew (ParWalk walk threads) = false
+  by_crew (CrewWalk reads) = true
+
+  -- what it reads with
+  abbrev pub job_of : ReadDirIter C S P A T L R E → Job C S P A R E
+  job_of (Walk walk) = walk.job
+  job_of (ParWalk walk threads) = walk.job
+  job_of (CrewWalk reads) = crew.job_of reads
+
+  -- the specifications whose readings are still to be given, the next one first; those below them aren't among them
+  abbrev pub to_read : ReadDirIter C S P A T L R E → List (Spec R)
+  to_read (Walk walk) = board.to_read walk
+  to_read (ParWalk walk threads) = board.to_read walk
+  to_read (CrewWalk reads) = crew.to_read reads
+
+  -- how many directories are read together, by the walk or by each worker
+  abbrev pub width_of : ReadDirIter C S P A T L R E → ℕ
+  width_of (Walk walk) = walk.width
+  width_of (ParWalk walk threads) = walk.width
+  width_of (CrewWalk reads) = 1
+
+  -- What isn't read yet, and what was read and not handed on, by address. Of a crew nothing is said.
+  abbrev pub read_ahead : ReadDirIter C S P A T L R E → ReadAhead R
+  read_ahead (Walk walk) = board.read_ahead walk
+  read_ahead (ParWalk walk threads) = board.read_ahead walk
+  read_ahead (CrewWalk reads) = nothing_ahead
+
+  -- the addresses of the readings that were made and not handed on
+  abbrev pub early_of : ReadDirIter C S P A T L R E → List (List ℕ)
+  early_of it = (read_ahead it).done
+
+  -- the address of the directory that is entered next
+  abbrev pub next_address : ReadDirIter C S P A T L R E → List ℕ
+  next_address (Walk walk) = board.next_of walk
+  next_address (ParWalk walk threads) = board.next_of walk
+  next_address (CrewWalk reads) = crew.next_address reads
+
+-- The error tells why the readings end early: memory was refused, or a crew's reading won't come.
+abbrev pub Tells : Bool → Failure → Type 0
+Tells false f = f ≡ memory
+Tells true f = (f ≡ memory) ⊎ (f ≡ lost)
+
+-- Such an error is given, and no reading.
+pub record GivesError {R E : Type 0} (by_crew : Bool) (given : Option (Outcome R E)) : Type 0 where
+  pub error : Failure
+  pub told : given ≡ Some (Err error)
+  pub tells : Tells by_crew error
+
+-- Readings come in preorder: the first of those still to come is given and the rest is left, or an error tells why they end early and nothing is.
+abbrev pub GivesPreorder : {R E : Type 0} → Bool → (Spec R → Outcome R E) → ℕ → List (Spec R) → Option (Outcome R E) → List (Spec R) → Type 0
+GivesPreorder may_lose reading max_depth old None new = preorder reading max_depth old ≡ []
+GivesPreorder may_lose reading max_depth old (Some given) new =
+    (GivesError may_lose (Some given) × (new ≡ [])) ⊎ (preorder reading max_depth old ≡ given ∷ preorder reading max_depth new)
+
+-- The first is read; or an error is given that tells why not, and nothing is left to be read.
+abbrev pub GivesFirst : {R E : Type 0} → Bool → Clone.Ghosts R → (Spec R → Outcome R E → Type 0) → ℕ → List (Spec R) → Option (Outcome R E) → List (Spec R) → Type 0
+GivesFirst by_crew clone known max_depth old given new = (GivesError by_crew given × (old ≢ []) × (new ≡ [])) ⊎ ReadsNextBy clone known max_depth old given new
+
+module _ {C S P A R E : Type 0} (files : FileSystem.Ghosts S) (process : ProcessReadDir.Ghosts P C A R E) (clone : Clone.Ghosts R) (defaults : Default.Ghosts E) where
+  -- What is known of the reading at an address: over all that counts as given it is the definition's; and a crew's worker told it there.
+  abbrev pub KnownBy : Bool → (Given R E → Type 0) → Job C S P A R E → List ℕ → Spec R → Outcome R E → Type 0
+  KnownBy false counts job at = IsGivenOver files counts job
+  KnownBy true counts job at = λ spec outcome. IsTold files process clone defaults job at spec outcome × IsGivenOver files counts job spec outcome
+
+  -- A directory is entered. A crew's readings are made by others.
+  abbrev pub EntersBy : Bool → Job C S P A R E → ℕ → List ℕ → ReadAhead R → ReadAhead R → Type 0
+  EntersBy false job width at old new = Enters files process clone defaults job width at old new
+  EntersBy true job width at old new = (new ≡ old) × (1 ≤ width)
+
+  -- a directory is entered, or nothing was left to be read and all stays as it is
+  abbrev pub EntersNextBy : {X : Type 0} → Bool → Job C S P A R E → ℕ → List ℕ → ReadAhead R → Option X → ReadAhead R → Type 0
+  EntersNextBy by_crew job width at old (Some read) new = EntersBy by_crew job width at old new
+  EntersNextBy by_crew job width at old None new = new ≡ old
+
+  -- A directory is entered, or nothing is left to be read; or the readings end early, and nothing is left.
+  abbrev pub EntersFirst : {T L : Type 0} → ReadDirIter C S P A T L R E → Option (Outcome R E) → ReadDirIter C S P A T L R E → Type 0
+  EntersFirst old given new =
+      (GivesError (by_crew old) given × (read_ahead new ≡ nothing_ahead))
+      ⊎ EntersNextBy (by_crew old) (job_of old) (width_of old) (next_address old) (read_ahead old) given (read_ahead new)
+
+module _ {C S P A L R E : Type 0} (files : FileSystem.Ghosts S) (process : ProcessReadDir.Ghosts P C A R E) (clone : Clone.Ghosts R) (defaults : Default.Ghosts E) (pool : Pool.Ghosts L C S P A R E) where
+  -- Over what is given it is steady: its job is, and what it read early, or its crew gives, is as the definition has it.
+  abbrev pub IsSteadyReads : {T : Type 0} → ReadDirIter C S P A T L R E → Given R E → Type 0
+  IsSteadyReads (Walk walk) given = IsSteadyWalk files process clone defaults walk given
+  IsSteadyReads (ParWalk walk threads) given = IsSteadyWalk files process clone defaults walk given
+  IsSteadyReads (CrewWalk reads) given = IsSteadyCrew files process clone defaults pool reads given
+
+  -- Over all that its job is steady over, it is.
+  abbrev pub StartsSteady : {T : Type 0} → ReadDirIter C S P A T L R E → Type 0
+  StartsSteady it = (value : Given R E) → IsSteadyJob files process clone defaults (job_of it) value → IsSteadyReads it value
+
+  -- It stays steady over all that it was steady over.
+  abbrev pub StaysSteady : {T : Type 0} → ReadDirIter C S P A T L R E → ReadDirIter C S P A T L R E → Type 0
+  StaysSteady old new = (value : Given R E) → IsSteadyReads old value → IsSteadyReads new value
+
+  -- What is known of the reading that comes next.
+  abbrev pub Known : {T : Type 0} → ReadDirIter C S P A T L R E → Spec R → Outcome R E → Type 0
+  Known it = KnownBy files process clone defaults (by_crew it) (IsSteadyReads it) (job_of it) (next_address it)
+
+  -- What is known of the reading by which an item's directory is entered: a crew's, too, is that of the directory below this item.
+  abbrev pub KnownOf : {T : Type 0} → ReadDirIter C S P A T L R E → Item R E → Spec R → Outcome R E → Type 0
+  KnownOf it x spec outcome = Known it spec outcome × IsNextBelow (by_crew it) x (spec ∷ [])
+
+  -- One call of an iterator over readings. By value, what it gives comes in preorder; only where it is asked for another directory than the next one may a crew's readings end by one that won't come.
+  pub record Gives {T : Type 0} (may_lose : Bool) (old : ReadDirIter C S P A T L R E) (given : Option (Result (ReadDir C A R E) (Error A))) (new : ReadDirIter C S P A T L R E) : Type 0 where
+    pub crew : by_crew new ≡ by_crew old
+    pub job : job_of new ≡ job_of old
+    pub width : width_of new ≡ width_of old
+    pub enters : EntersFirst files process clone defaults old (option_map outcome given) new
+    pub ahead : length (early_of new) + 1 ≤ length (early_of old) + width_of old
+    pub steady : StaysSteady old new
+    pub first : GivesFirst (by_crew old) clone (Known old) (greatest_depth (job_of old)) (to_read old) (option_map outcome given) (to_read new)
+    pub preorder : (value : Given R E) → IsSteadyReads old value
+        → GivesPreorder may_lose (reading (job_by files value (job_of old))) (greatest_depth (job_of old)) (map (counted_spec value) (to_read old)) (option_map (counted_outcome value) (option_map outcome given)) (map (counted_spec value) (to_read new))

@@ -1,0 +1,261 @@
+//! Readings that a crew makes ahead.
+ghost use Rattle.std.specs.Prelude.{◌≡◌, ◌≢◌, ◌↔◌, ◌∷◌, ◌++◌, true, false, IsTrue, Ok, [], map, IfOk, IfErr, MatchResult, OnErr, OnOk, option_map};
+ghost use Rattle.read_parts.specs.Error.{failure};
+ghost use Rattle.read_parts.specs.Entry.{entry};
+ghost use Rattle.read_parts.specs.ReadDirSpec.{spec};
+ghost use Rattle.jwalk_read.specs.ReadDir.{outcome};
+ghost use Rattle.jwalk_read.specs.Job.{greatest_depth, IsReadingBy, IsGivenOver};
+ghost use Rattle.jwalk_engine.specs.Reads.{StacksChildren, ReadsNextBy};
+ghost use Rattle.jwalk_readings.specs.CrewReads.{job_of, to_read, next_address, IsBelow, IsNextBelow, IsTold, BeginsBy, NotLost, IsSteadyOver, IsSteadyBefore, IsSteadyCrew, StartsSteady, StaysSteady, ReadsSteadily, failure_of};
+ghost use Rattle.jwalk_readings.specs.ReadDirIter.{KnownBy};
+
+pub mod started;
+
+use crew_parts::wanted::Wanted;
+use jwalk_crew::pool::{Missed, Pool};
+use jwalk_order::ordered::Ordered;
+use jwalk_order::ordered_queue::OrderedMatcher;
+use jwalk_read::job::Job;
+use jwalk_read::read_dir::{Outcome, directories_of};
+use read_parts::client_state::ClientState;
+use read_parts::dir_entry::DirEntry;
+use read_parts::error::Error;
+use read_parts::process_read_dir::ProcessReadDir;
+use read_parts::read_dir_spec::ReadDirSpec;
+use std::alloc::{AllocError, AllocFailed, Allocator, Global};
+use std::sync::Arc;
+use walk_fs::file_system::FileSystem;
+
+/// Readings in preorder, which a crew makes ahead. It keeps which address comes next, and which directory stands there:
+/// only a reading of this directory, made by the same options, is handed on.
+pub struct CrewReads<
+    C: ClientState,
+    S: FileSystem,
+    P: ProcessReadDir<C, A>,
+    A: Allocator + Copy = Global,
+    L = jwalk_crew::pool::NoPool,
+> {
+    job: Arc<Job<C, S, P, A>, A>,
+    matcher: OrderedMatcher<A>,
+    // The directories whose readings are still to be handed on, the next one last.
+    unread: Vec<ReadDirSpec<C, A>, A>,
+    // None once the walk was stopped.
+    pool: Option<L>,
+}
+
+impl<C: ClientState, S: FileSystem, P: ProcessReadDir<C, A>, A: Allocator + Copy, L: Drop> Drop
+    for CrewReads<C, S, P, A, L> {
+    fn drop(self) {
+        let CrewReads {
+            job: _,
+            matcher: _,
+            unread: _,
+            pool: _,
+        } = self;
+    }
+}
+
+/// The error that tells why a reading didn't come.
+pub fn error_of<A: Allocator + Copy>(missed: Missed) -> Error<A>
+    ensures { failure result ≡ failure_of missed }
+{
+    match missed {
+        Missed::Memory => Error::memory(),
+        Missed::Lost => Error::lost(),
+    }
+}
+
+/// Whether a directory is the one below an entry: by its path, its depth, and the directories above it.
+fn is_below<C: ClientState, A: Allocator + Copy>(
+    of: &ReadDirSpec<C, A>,
+    found: &DirEntry<C, A>,
+) -> bool
+    ensures { IsTrue result ↔ IsBelow (Ok (entry found.now)) (spec of.now) }
+{
+    let Some(children) = &found.read_children else {
+        return false;
+    };
+    of.path.as_str() == children.path()
+        && of.depth() == found.depth
+        && of.ancestors().is_same(found.ancestors())
+}
+
+impl<
+    C: ClientState,
+    S: FileSystem,
+    P: ProcessReadDir<C, A>,
+    A: Allocator + Copy,
+    L: Pool<C, S, P, A>,
+> CrewReads<C, S, P, A, L> {
+    /// Readings of a crew with nothing to read yet. Where memory is refused, the job is given back.
+    pub fn new(alloc: A, job: Job<C, S, P, A>) -> Result<Self, Job<C, S, P, A>>
+        ensures made { MatchResult result
+            (λ reads. (job_of reads ≡ job) × (to_read reads ≡ []))
+            (λ back. back ≡ job) }
+        ensures steady { IfOk result (StartsSteady S.FileSystem P.ProcessReadDir C.ReadDirState.Clone
+            C.DirEntryState.Default L.Pool) }
+    {
+        let Ok(matcher) = OrderedMatcher::with_roots(alloc, 0) else {
+            return Err(job);
+        };
+        match Arc::new(alloc, job) {
+            Ok(job) => Ok(CrewReads {
+                job,
+                matcher,
+                unread: Vec::new(alloc),
+                pool: None,
+            }),
+            Err(AllocFailed { value }) => Err(value),
+        }
+    }
+
+    /// Readings of these directories, and of those below them, as a pool gives them.
+    pub(crate) fn over(
+        job: Job<C, S, P, A>,
+        mut roots: Vec<ReadDirSpec<C, A>, A>,
+        pool: L,
+    ) -> Result<Self, AllocError>
+        ensures job { IfOk result (λ reads. job_of reads ≡ job) }
+        ensures to_read { IfOk result (λ reads. to_read reads ≡ map spec roots.items) }
+        ensures begins { IfOk result (BeginsBy (λ given origin addresses. given ≡ pool)) }
+    {
+        let alloc = *roots.allocator();
+        let matcher = OrderedMatcher::with_roots(alloc, roots.len())?;
+        let job = Arc::new(alloc, job)?;
+        roots.reverse();
+        Ok(CrewReads {
+            job,
+            matcher,
+            unread: roots,
+            pool: Some(pool),
+        })
+    }
+
+    /// What the workers read with.
+    pub(crate) fn job(&self) -> &Job<C, S, P, A>
+        ensures { result.now ≡ job_of self.now }
+    {
+        &*self.job
+    }
+
+    /// Whether the directory that comes next is the one below an entry, or none is left.
+    pub(crate) fn is_next(&self, found: &DirEntry<C, A>) -> bool
+        ensures some { result ≡ false → to_read self.now ≢ [] }
+        ensures below { result ≡ true → IsNextBelow true (Ok (entry found.now)) (to_read self.now) }
+        ensures other { result ≡ false → ¬ IsNextBelow true (Ok (entry found.now)) (to_read self.now) }
+    {
+        match self.unread.last() {
+            Some(of) => is_below(of, found),
+            None => true,
+        }
+    }
+
+    /// The reading of the directory that comes next.
+    fn read(&mut self, of: &ReadDirSpec<C, A>) -> Result<Outcome<C, A>, Missed>
+        ensures job { job_of self.new ≡ job_of self.old }
+        ensures to_read { to_read self.new ≡ to_read self.old }
+        ensures told { IfOk result (λ read. IsTold S.FileSystem P.ProcessReadDir C.ReadDirState.Clone
+            C.DirEntryState.Default (job_of self.old) (next_address self.old) (spec of.now) (outcome read)) }
+        ensures steadily { IfOk result (λ read. ReadsSteadily S.FileSystem P.ProcessReadDir C.ReadDirState.Clone
+            C.DirEntryState.Default L.Pool self.old (spec of.now) (outcome read) self.new) }
+        ensures comes { (rest : _) → IfErr result (NotLost (IsSteadyOver S.FileSystem P.ProcessReadDir C.ReadDirState.Clone
+            C.DirEntryState.Default L.Pool (job_of self.old) self.old.pool self.old.matcher (spec of.now ∷ rest))) }
+    {
+        let Some(pool) = &mut self.pool else {
+            return Err(Missed::Lost);
+        };
+        if self.matcher.is_none() {
+            return Err(Missed::Lost);
+        }
+        let address = self.matcher.looking_for().try_clone()?;
+        let wanted = Wanted::of(address, of, self.job.options())?;
+        let item = pool.next(&wanted)?;
+        self.matcher.advance_past(&item)?;
+        let Ordered { value: message, .. } = item;
+        Ok(message.into_outcome()?)
+    }
+
+    /// Puts directories in front of those that are still to be read.
+    fn put_in_front(&mut self, mut specs: Vec<ReadDirSpec<C, A>, A>) -> Result<(), AllocError>
+        ensures others { self.new ≡ record self.old { unread = self.new.unread } }
+        ensures to_read { OnOk result (to_read self.new ≡ map spec specs.items ++ to_read self.old) }
+    {
+        specs.reverse();
+        self.unread.append(&mut specs)?;
+        Ok(())
+    }
+
+    /// The reading of the directory that comes next, with those below it in its place.
+    fn enter(&mut self, of: ReadDirSpec<C, A>) -> Result<Outcome<C, A>, Missed>
+        ensures job { job_of self.new ≡ job_of self.old }
+        ensures reading { IfOk result (λ read. IsReadingBy (IsTold S.FileSystem P.ProcessReadDir
+            C.ReadDirState.Clone C.DirEntryState.Default (job_of self.old) (next_address self.old))
+            (greatest_depth (job_of self.old)) (spec of) (outcome read)) }
+        ensures stacks { IfOk result (λ read. StacksChildren C.ReadDirState.Clone (to_read self.old)
+            (outcome read) (to_read self.new)) }
+        ensures value { IfOk result (λ read. IsGivenOver S.FileSystem (IsSteadyBefore S.FileSystem
+            P.ProcessReadDir C.ReadDirState.Clone C.DirEntryState.Default L.Pool self.old (spec of))
+            (job_of self.old) (spec of) (outcome read)) }
+        ensures steady { OnOk result ((given : _) → IsSteadyBefore S.FileSystem P.ProcessReadDir
+            C.ReadDirState.Clone C.DirEntryState.Default L.Pool self.old (spec of) given
+            → IsSteadyCrew S.FileSystem P.ProcessReadDir C.ReadDirState.Clone C.DirEntryState.Default L.Pool
+            self.new given) }
+        ensures comes { IfErr result (NotLost (IsSteadyBefore S.FileSystem P.ProcessReadDir C.ReadDirState.Clone
+            C.DirEntryState.Default L.Pool self.old (spec of))) }
+    {
+        let outcome = self.read(&of)?;
+        let below = directories_of(*of.path.allocator(), &outcome)?;
+        self.put_in_front(below)?;
+        Ok(outcome)
+    }
+
+    /// The next reading, or none where all was handed on.
+    ///
+    /// # Errors
+    ///
+    /// If memory runs out, or the reading is lost, which it isn't where the job is steady. Nothing is left to be read
+    /// then.
+    pub(crate) fn read_next(&mut self) -> Result<Option<Outcome<C, A>>, Missed>
+        ensures job { job_of self.new ≡ job_of self.old }
+        ensures comes { IfErr result (NotLost (IsSteadyCrew S.FileSystem P.ProcessReadDir C.ReadDirState.Clone
+            C.DirEntryState.Default L.Pool self.old)) }
+        ensures some { OnErr result (to_read self.old ≢ []) }
+        ensures stopped { OnErr result (to_read self.new ≡ []) }
+        ensures steady { StaysSteady S.FileSystem P.ProcessReadDir C.ReadDirState.Clone C.DirEntryState.Default
+            L.Pool self.old self.new }
+        ensures next { IfOk result (λ o. ReadsNextBy C.ReadDirState.Clone (KnownBy S.FileSystem P.ProcessReadDir
+            C.ReadDirState.Clone C.DirEntryState.Default true (IsSteadyCrew S.FileSystem P.ProcessReadDir
+            C.ReadDirState.Clone C.DirEntryState.Default L.Pool self.old) (job_of self.old) (next_address self.old))
+            (greatest_depth (job_of self.old)) (to_read self.old) (option_map outcome o) (to_read self.new)) }
+    {
+        let Some(of) = self.unread.pop() else {
+            return Ok(None);
+        };
+        match self.enter(of) {
+            Ok(outcome) => Ok(Some(outcome)),
+            Err(missed) => {
+                self.stop();
+                Err(missed)
+            }
+        }
+    }
+
+    /// How many readings were made and not handed on.
+    pub(crate) fn ahead(&self) -> usize {
+        match &self.pool {
+            Some(pool) => pool.ahead(),
+            None => 0,
+        }
+    }
+
+    /// Ends the readings: none is left, and the workers end.
+    pub(crate) fn stop(&mut self)
+        ensures job { job_of self.new ≡ job_of self.old }
+        ensures to_read { to_read self.new ≡ [] }
+        ensures steady { StartsSteady S.FileSystem P.ProcessReadDir C.ReadDirState.Clone C.DirEntryState.Default
+            L.Pool self.new }
+    {
+        self.unread.clear();
+        self.pool = None;
+    }
+}

@@ -1,0 +1,78 @@
+//! The start of readings that a crew makes ahead.
+ghost use Rattle.std.specs.Prelude.{◌≡◌, map, OnErr, OnOk};
+ghost use Rattle.read_parts.specs.Error.{failure};
+ghost use Rattle.read_parts.specs.ReadDirSpec.{spec};
+ghost use Rattle.jwalk_read.specs.Job.{callback};
+ghost use Rattle.jwalk_crew.specs.Origin.{CountAlike};
+ghost use Rattle.jwalk_crew.specs.Session.{origin_of, awaited_by};
+ghost use Rattle.jwalk_readings.specs.CrewReads.{job_of, to_read, start_failure, BeginsBy};
+
+use crate::crew_reads::CrewReads;
+use jwalk_crew::crew::{Crew, NotStarted, Place};
+use jwalk_crew::origin::Origin;
+use jwalk_crew::session::Session;
+use jwalk_order::ordered_queue::OrderedMatcher;
+use read_parts::client_state::ClientState;
+use read_parts::error::Error;
+use read_parts::process_read_dir::ProcessReadDir;
+use read_parts::read_dir_spec::ReadDirSpec;
+use std::alloc::Allocator;
+use std::sync::{Arc, Wait};
+use std::thread::Threads;
+use std::time::{Clock, Duration};
+use walk_fs::file_system::FileSystem;
+
+/// The error that tells why a crew's readings don't begin.
+pub fn error_of<A: Allocator + Copy>(why_not: NotStarted) -> Error<A>
+    ensures { failure result ≡ start_failure why_not }
+{
+    match why_not {
+        NotStarted::Busy => Error::busy(),
+        NotStarted::Memory => Error::memory(),
+    }
+}
+
+impl<
+    R: Wait + Threads + Clock + Drop + Send + Sync + 'static,
+    C: ClientState + Send + 'static,
+    S: FileSystem + Send + Sync + 'static,
+    P: ProcessReadDir<C, A> + Send + Sync + 'static,
+    A: Allocator + Copy + Send + Sync + 'static,
+> CrewReads<C, S, P, A, Session<R, C, S, P, A>>
+where
+    C::ReadDirState: Send + 'static,
+    C::DirEntryState: Send + 'static,
+{
+    /// Has a crew read these directories, and those below them. They are given twice: once for the walk, and once for the
+    /// workers. It waits for a place of the crew, no longer than the limit.
+    ///
+    /// # Errors
+    ///
+    /// Why the readings don't begin. Nothing is to be read then.
+    pub fn start(
+        &mut self,
+        crew: &Arc<Crew<R>, A>,
+        busy_timeout: Option<Duration>,
+        own: Vec<ReadDirSpec<C, A>, A>,
+        shared: Vec<ReadDirSpec<C, A>, A>,
+    ) -> Result<(), NotStarted>
+        requires lawful { P.IsLawful (callback (job_of self.old)) }
+        requires alike { CountAlike C.ReadDirState.Clone (map spec shared.items) (map spec own.items) }
+        ensures job { job_of self.new ≡ job_of self.old }
+        ensures to_read { OnOk result (to_read self.new ≡ map spec own.items) }
+        ensures begins { OnOk result (BeginsBy (λ session origin addresses.
+            (origin_of session ≡ origin) × (awaited_by session ≡ addresses)) self.new) }
+        ensures unchanged { OnErr result (self.new ≡ self.old) }
+    {
+        let matcher = OrderedMatcher::with_roots(*own.allocator(), own.len())?;
+        let job = self.job.clone()?;
+        let place = Place::take(crew, busy_timeout)?;
+        let origin = Origin::new(job, own);
+        self.pool = Some(Session::start(place, &origin, shared)?);
+        let mut own = origin.into_roots();
+        own.reverse();
+        self.unread = own;
+        self.matcher = matcher;
+        Ok(())
+    }
+}

@@ -1,0 +1,81 @@
+//! How a walk's directories are read.
+ghost use Rattle.std.specs.Prelude.{◌≡◌};
+ghost use Rattle.read_parts.specs.Options.{mode_value};
+ghost use Rattle.jwalk_readings.specs.Parallelism.{parallelism_value, crew_of};
+
+use jwalk_crew::pool::NoPool;
+use read_parts::mode::Mode;
+use std::alloc::{AllocError, Allocator, Global};
+use std::sync::Arc;
+use std::time::Duration;
+
+/// How a walk reads its directories. One directory at a time or several, the answers and their order are the same.
+pub enum Parallelism<W = NoPool, A: Allocator + Copy = Global> {
+    /// One directory at a time, when its entry is answered. The default.
+    Serial,
+    /// Ahead of the walk, by the workers of a crew. A walk that finds none of the crew's places free waits for one, as
+    /// long as `busy_timeout` says, or without limit; then it is busy.
+    RayonExistingPool {
+        /// The crew.
+        pool: Arc<W, A>,
+        /// How long a walk waits for a place. `None` sets no limit.
+        busy_timeout: Option<Duration>,
+    },
+    /// So many directories at a time: the one whose entry is answered, and those that come after it. 0 stands for 8.
+    RayonNewPool(usize),
+}
+
+impl<W: Drop, A: Allocator + Copy> Drop for Parallelism<W, A> {
+    fn drop(self) {
+        match self {
+            Parallelism::Serial => (),
+            Parallelism::RayonExistingPool {
+                pool: _,
+                busy_timeout: _,
+            } => (),
+            Parallelism::RayonNewPool(_) => (),
+        }
+    }
+}
+
+impl<W: Drop, A: Allocator + Copy> Parallelism<W, A> {
+    /// The same without the crew.
+    pub fn mode(&self) -> Mode
+        ensures { mode_value result ≡ parallelism_value self.now }
+    {
+        match self {
+            Parallelism::Serial => Mode::Serial,
+            Parallelism::RayonExistingPool { .. } => Mode::Crew,
+            Parallelism::RayonNewPool(width) => Mode::Batches(*width),
+        }
+    }
+
+    /// The crew, if it reads by one, and how long a walk waits for a place.
+    pub fn into_crew(self) -> Option<(Arc<W, A>, Option<Duration>)>
+        ensures { result ≡ crew_of self }
+    {
+        match self {
+            Parallelism::RayonExistingPool { pool, busy_timeout } => Some((pool, busy_timeout)),
+            Parallelism::Serial | Parallelism::RayonNewPool(_) => None,
+        }
+    }
+}
+
+impl<W: Drop, A: Allocator + Copy> Clone for Parallelism<W, A> {
+    ghost use Rattle.jwalk_readings.specs.Parallelism.{IsCloneOf};
+
+    ghost is_clone = { λ old new. IsCloneOf old new };
+
+    fn clone(&self) -> Result<Self, AllocError> {
+        match self {
+            Parallelism::Serial => Ok(Parallelism::Serial),
+            Parallelism::RayonExistingPool { pool, busy_timeout } => {
+                Ok(Parallelism::RayonExistingPool {
+                    pool: pool.clone()?,
+                    busy_timeout: *busy_timeout,
+                })
+            }
+            Parallelism::RayonNewPool(width) => Ok(Parallelism::RayonNewPool(*width)),
+        }
+    }
+}

@@ -1,0 +1,324 @@
+//! Readings in preorder.
+ghost use Rattle.std.specs.Prelude.{◌≡◌, ◌≢◌, ◌≤◌, ◌+◌, true, false, Ok, [], length, map, IfOk, IfErr, OnOk, OnErr, IsSome, option_map};
+ghost use Rattle.walk_model.specs.Error.{memory};
+ghost use Rattle.read_parts.specs.Error.{failure};
+ghost use Rattle.read_parts.specs.Entry.{entry};
+ghost use Rattle.read_parts.specs.ReadDirSpec.{spec};
+ghost use Rattle.jwalk_read.specs.ReadDir.{outcome};
+ghost use Rattle.jwalk_read.specs.Job.{callback};
+
+mod on_threads;
+mod over_crew;
+mod over_pool;
+
+use crate::crew_reads::{CrewReads, error_of};
+use crate::parallelism::Parallelism;
+use crate::threads::InTurn;
+use jwalk_crew::pool::{Missed, NoPool, Pool};
+use jwalk_engine::board_walk::BoardWalk;
+use jwalk_engine::read::Outcome;
+use jwalk_read::job::Job;
+use jwalk_read::read_dir::ReadDir;
+use read_parts::client_state::ClientState;
+use read_parts::dir_entry::DirEntry;
+use read_parts::error::Error;
+use read_parts::mode::Mode;
+use read_parts::process_read_dir::ProcessReadDir;
+use read_parts::read_dir_spec::ReadDirSpec;
+use std::alloc::{AllocError, Allocator, Global};
+use walk_fs::file_system::FileSystem;
+
+/// An iterator over readings, each before those of its own directories: the one of the first directory not given yet
+/// comes next, and then those below it.
+///
+/// Want of memory is answered by one error whose `is_memory` is true, and then by `None`; so is a crew's reading that is
+/// lost, by one whose `is_lost` is true. Over a file system whose answers stay the same none is, unless the iterator is
+/// asked for another directory than the next one.
+pub enum ReadDirIter<
+    C: ClientState,
+    S: FileSystem,
+    P: ProcessReadDir<C, A>,
+    A: Allocator + Copy = Global,
+    T = InTurn,
+    L = NoPool,
+> {
+    /// One directory is read at a time, when its reading is asked for.
+    Walk(BoardWalk<C, S, P, A>),
+    /// Several directories are read together, when a reading is asked for that isn't there yet.
+    ParWalk(BoardWalk<C, S, P, A>, T),
+    /// The workers of a crew read ahead.
+    CrewWalk(CrewReads<C, S, P, A, L>),
+}
+
+impl<
+    C: ClientState,
+    S: FileSystem,
+    P: ProcessReadDir<C, A>,
+    A: Allocator + Copy,
+    T: Drop,
+    L: Drop,
+> Drop for ReadDirIter<C, S, P, A, T, L> {
+    fn drop(self) {
+        match self {
+            ReadDirIter::Walk(_) => (),
+            ReadDirIter::ParWalk(_, _) => (),
+            ReadDirIter::CrewWalk(_) => (),
+        }
+    }
+}
+
+impl<
+    C: ClientState,
+    S: FileSystem,
+    P: ProcessReadDir<C, A>,
+    A: Allocator + Copy,
+    T: Drop,
+    L: Pool<C, S, P, A>,
+> ReadDirIter<C, S, P, A, T, L> {
+    ghost use Rattle.read_parts.specs.Options as options;
+    ghost use Rattle.read_parts.specs.Options.{mode_value};
+    ghost use Rattle.jwalk_read.specs.Job.{greatest_depth};
+    ghost use Rattle.jwalk_engine.specs.Reads.{ReadsNextBy};
+    ghost use Rattle.jwalk_engine.specs.ReadAhead.{nothing_ahead, BeginsWith};
+    ghost use Rattle.jwalk_readings.specs.CrewReads.{failure_of, IsNextBelow, NotLost};
+    ghost use Rattle.jwalk_readings.specs.ReadDirIter.{by_crew, job_of, to_read, width_of, read_ahead, early_of, next_address, Tells, IsSteadyReads, StaysSteady, Known, EntersNextBy, Gives};
+
+    /// Readings with nothing to read yet, by no crew.
+    pub fn new(alloc: A, threads: T, job: Job<C, S, P, A>, mode: Mode) -> Self
+        ensures own { by_crew result ≡ false }
+        ensures job { job_of result ≡ job }
+        ensures width { width_of result ≡ options.width_of (mode_value mode) }
+        ensures to_read { to_read result ≡ [] }
+        ensures read_ahead { read_ahead result ≡ nothing_ahead }
+    {
+        let walk = BoardWalk::new(alloc, job, mode.width());
+        match mode {
+            Mode::Batches(_) => ReadDirIter::ParWalk(walk, threads),
+            Mode::Serial | Mode::Crew => ReadDirIter::Walk(walk),
+        }
+    }
+
+    /// Puts these directories in the place of what was to be read, where no crew reads.
+    pub fn begin(&mut self, roots: Vec<ReadDirSpec<C, A>, A>) -> Result<(), AllocError>
+        requires { by_crew self.old ≡ false }
+        ensures own { by_crew self.new ≡ false }
+        ensures job { job_of self.new ≡ job_of self.old }
+        ensures width { width_of self.new ≡ width_of self.old }
+        ensures to_read { OnOk result (to_read self.new ≡ map spec roots.items) }
+        ensures read_ahead { OnOk result (BeginsWith (map spec roots.items) (read_ahead self.new)) }
+    {
+        match self {
+            ReadDirIter::Walk(walk) => walk.begin(roots),
+            ReadDirIter::ParWalk(walk, _) => walk.begin(roots),
+            ReadDirIter::CrewWalk(_) => unreachable!(),
+        }
+    }
+
+    /// The readings of these directories and of all that is below them, by no crew.
+    fn alone(
+        threads: T,
+        job: Job<C, S, P, A>,
+        roots: Vec<ReadDirSpec<C, A>, A>,
+        mode: Mode,
+    ) -> Result<Self, Error<A>>
+        ensures own { IfOk result (λ reads. by_crew reads ≡ false) }
+        ensures job { IfOk result (λ reads. job_of reads ≡ job) }
+        ensures width { IfOk result (λ reads. width_of reads ≡ options.width_of (mode_value mode)) }
+        ensures to_read { IfOk result (λ reads. to_read reads ≡ map spec roots.items) }
+        ensures read_ahead { IfOk result (λ reads. BeginsWith (map spec roots.items) (read_ahead reads)) }
+        ensures memory { IfErr result (λ error. failure error ≡ memory) }
+    {
+        let mut reads = ReadDirIter::new(*roots.allocator(), threads, job, mode);
+        match reads.begin(roots) {
+            Ok(()) => Ok(reads),
+            Err(_) => Err(Error::memory()),
+        }
+    }
+
+    /// The next reading.
+    pub fn read_next(&mut self) -> Result<Option<Outcome<C, A>>, Missed>
+        requires { P.IsLawful (callback (job_of self.old)) }
+        ensures crew { by_crew self.new ≡ by_crew self.old }
+        ensures job { job_of self.new ≡ job_of self.old }
+        ensures width { width_of self.new ≡ width_of self.old }
+        ensures ahead { length (early_of self.new) + 1 ≤ length (early_of self.old) + width_of self.old }
+        ensures tells { IfErr result (λ missed. Tells (by_crew self.old) (failure_of missed)) }
+        ensures some { OnErr result (to_read self.old ≢ []) }
+        ensures stopped { OnErr result (to_read self.new ≡ []) }
+        ensures nothing_ahead { OnErr result (read_ahead self.new ≡ nothing_ahead) }
+        ensures steady { StaysSteady S.FileSystem P.ProcessReadDir C.ReadDirState.Clone C.DirEntryState.Default L.Pool
+            self.old self.new }
+        ensures next { IfOk result (λ o. ReadsNextBy C.ReadDirState.Clone
+            (Known S.FileSystem P.ProcessReadDir C.ReadDirState.Clone C.DirEntryState.Default L.Pool self.old)
+            (greatest_depth (job_of self.old)) (to_read self.old) (option_map outcome o) (to_read self.new)) }
+        ensures enters { IfOk result (λ o. EntersNextBy S.FileSystem P.ProcessReadDir C.ReadDirState.Clone
+            C.DirEntryState.Default (by_crew self.old) (job_of self.old) (width_of self.old)
+            (next_address self.old) (read_ahead self.old) (option_map outcome o) (read_ahead self.new)) }
+        ensures comes { IfErr result (NotLost (IsSteadyReads S.FileSystem P.ProcessReadDir C.ReadDirState.Clone
+            C.DirEntryState.Default L.Pool self.old)) }
+    {
+        match self {
+            ReadDirIter::Walk(walk) => Ok(walk.read_next()?),
+            ReadDirIter::ParWalk(walk, _) => Ok(walk.read_next()?),
+            ReadDirIter::CrewWalk(reads) => reads.read_next(),
+        }
+    }
+
+    /// Whether the directory that comes next is the one below an entry, or none is left. It is asked only where a crew
+    /// reads.
+    pub fn is_next(&self, found: &DirEntry<C, A>) -> bool
+        ensures own { result ≡ false → by_crew self.now ≡ true }
+        ensures some { result ≡ false → to_read self.now ≢ [] }
+        ensures below { result ≡ true → IsNextBelow (by_crew self.now) (Ok (entry found.now)) (to_read self.now) }
+        ensures other { result ≡ false → ¬ IsNextBelow (by_crew self.now) (Ok (entry found.now)) (to_read self.now) }
+    {
+        match self {
+            ReadDirIter::Walk(_) => true,
+            ReadDirIter::ParWalk(_, _) => true,
+            ReadDirIter::CrewWalk(reads) => reads.is_next(found),
+        }
+    }
+
+    /// The next reading; or the error that tells why it won't come, and nothing is left to be read.
+    fn next_or_stop(&mut self) -> Option<Outcome<C, A>>
+        requires { P.IsLawful (callback (job_of self.old)) }
+        ensures { Gives S.FileSystem P.ProcessReadDir C.ReadDirState.Clone C.DirEntryState.Default L.Pool false
+            self.old result self.new }
+    {
+        match self.read_next() {
+            Ok(read) => read,
+            Err(missed) => Some(Err(error_of(missed))),
+        }
+    }
+
+    /// What it reads with.
+    pub fn job(&self) -> &Job<C, S, P, A>
+        ensures { result.now ≡ job_of self.now }
+    {
+        match self {
+            ReadDirIter::Walk(walk) => walk.job(),
+            ReadDirIter::ParWalk(walk, _) => walk.job(),
+            ReadDirIter::CrewWalk(reads) => reads.job(),
+        }
+    }
+
+    /// How many readings were made and not handed on. Over a crew it changes while the workers read.
+    pub fn ahead(&self) -> usize
+        ensures { by_crew self.now ≡ false → result ≡ length (early_of self.now) }
+    {
+        match self {
+            ReadDirIter::Walk(walk) => walk.ahead(),
+            ReadDirIter::ParWalk(walk, _) => walk.ahead(),
+            ReadDirIter::CrewWalk(reads) => reads.ahead(),
+        }
+    }
+
+    /// Forgets what is not read yet, and what was read early.
+    pub fn stop(&mut self)
+        ensures crew { by_crew self.new ≡ by_crew self.old }
+        ensures job { job_of self.new ≡ job_of self.old }
+        ensures width { width_of self.new ≡ width_of self.old }
+        ensures to_read { to_read self.new ≡ [] }
+        ensures read_ahead { read_ahead self.new ≡ nothing_ahead }
+        ensures steady { StaysSteady S.FileSystem P.ProcessReadDir C.ReadDirState.Clone C.DirEntryState.Default L.Pool
+            self.old self.new }
+    {
+        match self {
+            ReadDirIter::Walk(walk) => walk.stop(),
+            ReadDirIter::ParWalk(walk, _) => walk.stop(),
+            ReadDirIter::CrewWalk(reads) => reads.stop(),
+        }
+    }
+}
+
+impl<
+    C: ClientState,
+    S: FileSystem,
+    P: ProcessReadDir<C, A>,
+    A: Allocator + Copy,
+    T: Drop,
+> ReadDirIter<C, S, P, A, T, NoPool> {
+    ghost use Rattle.read_parts.specs.Options as options;
+    ghost use Rattle.jwalk_engine.specs.ReadAhead.{BeginsWith};
+    ghost use Rattle.jwalk_readings.specs.Parallelism.{parallelism_value};
+    ghost use Rattle.jwalk_readings.specs.ReadDirIter.{by_crew, job_of, to_read, width_of, read_ahead};
+
+    /// The readings of these directories and of all that is below them.
+    ///
+    /// Fails only for want of memory.
+    pub fn try_new(
+        threads: T,
+        job: Job<C, S, P, A>,
+        roots: Vec<ReadDirSpec<C, A>, A>,
+        parallelism: Parallelism<NoPool, A>,
+    ) -> Result<Self, Error<A>>
+        ensures own { IfOk result (λ reads. by_crew reads ≡ false) }
+        ensures job { IfOk result (λ reads. job_of reads ≡ job) }
+        ensures width { IfOk result (λ reads. width_of reads ≡ options.width_of (parallelism_value parallelism)) }
+        ensures to_read { IfOk result (λ reads. to_read reads ≡ map spec roots.items) }
+        ensures read_ahead { IfOk result (λ reads. BeginsWith (map spec roots.items) (read_ahead reads)) }
+        ensures memory { IfErr result (λ error. failure error ≡ memory) }
+    {
+        ReadDirIter::alone(threads, job, roots, parallelism.mode())
+    }
+}
+
+impl<
+    C: ClientState,
+    S: FileSystem,
+    P: ProcessReadDir<C, A>,
+    A: Allocator + Copy,
+    L: Pool<C, S, P, A>,
+> ReadDirIter<C, S, P, A, InTurn, L> {
+    ghost use Rattle.jwalk_read.specs.Job.{greatest_depth};
+    ghost use Rattle.jwalk_readings.specs.CrewReads.{IsNextBelow};
+    ghost use Rattle.jwalk_readings.specs.ReadDirIter.{by_crew, job_of, to_read, KnownOf, GivesFirst, Gives};
+
+    /// The reading of an entry's directory: the next one, where the entries are those of the readings so far in the
+    /// walk's order. Over a crew it is that of the entry's directory, or the error whose `is_lost` is true.
+    pub fn next_of(&mut self, found: &DirEntry<C, A>) -> Option<Result<ReadDir<C, A>, Error<A>>>
+        requires lawful { P.IsLawful (callback (job_of self.old)) }
+        requires has_directory { IsSome found.now.read_children }
+        ensures gives { Gives S.FileSystem P.ProcessReadDir C.ReadDirState.Clone C.DirEntryState.Default L.Pool
+            (by_crew self.old) self.old result self.new }
+        ensures next { IsNextBelow (by_crew self.old) (Ok (entry found.now)) (to_read self.old)
+            → Gives S.FileSystem P.ProcessReadDir C.ReadDirState.Clone C.DirEntryState.Default L.Pool false
+            self.old result self.new }
+        ensures of { GivesFirst (by_crew self.old) C.ReadDirState.Clone (KnownOf S.FileSystem P.ProcessReadDir
+            C.ReadDirState.Clone C.DirEntryState.Default L.Pool self.old (Ok (entry found.now)))
+            (greatest_depth (job_of self.old)) (to_read self.old) (option_map outcome result) (to_read self.new) }
+    {
+        prove!(found.read_children.is_some());
+        if !self.is_next(found) {
+            self.stop();
+            return Some(Err(Error::lost()));
+        }
+        self.next_or_stop()
+    }
+}
+
+impl<
+    C: ClientState,
+    S: FileSystem,
+    P: ProcessReadDir<C, A>,
+    A: Allocator + Copy,
+    T: Drop,
+    L: Pool<C, S, P, A>,
+> Iterator for ReadDirIter<C, S, P, A, T, L> {
+    type Item = Result<ReadDir<C, A>, Error<A>>;
+
+    ghost use Rattle.std.specs.Iterator.{at_most};
+    ghost use Rattle.walk_model.specs.Held.{spec_weight};
+    ghost use Rattle.jwalk_read.specs.Job.{greatest_depth};
+    ghost use Rattle.jwalk_readings.specs.ReadDirIter.{job_of, to_read, Gives};
+
+    ghost can_next = { λ s. P.IsLawful (callback (job_of s)) };
+
+    ghost next_gives = { Gives S.FileSystem P.ProcessReadDir C.ReadDirState.Clone C.DirEntryState.Default L.Pool false };
+
+    ghost remaining = { λ s. at_most (spec_weight (greatest_depth (job_of s)) (to_read s)) };
+
+    fn next(&mut self) -> Option<Result<ReadDir<C, A>, Error<A>>> {
+        self.next_or_stop()
+    }
+}

@@ -1,0 +1,117 @@
+//! Readings in preorder, as a crew makes them.
+ghost use Rattle.std.specs.Prelude.{◌≡◌, ◌⊎◌, false, map, IfOk, IfErr};
+ghost use Rattle.walk_model.specs.Error.{memory, busy};
+ghost use Rattle.walk_model.specs.Options as value;
+ghost use Rattle.read_parts.specs.Error.{failure};
+ghost use Rattle.jwalk_read.specs.Job.{callback};
+ghost use Rattle.read_parts.specs.ReadDirSpec.{spec};
+
+use crate::crew_reads::CrewReads;
+use crate::crew_reads::started::error_of;
+use crate::parallelism::Parallelism;
+use crate::read_dir_iter::ReadDirIter;
+use jwalk_crew::crew::{Crew, NotStarted};
+use jwalk_crew::pool::Pool;
+use jwalk_crew::session::Session;
+use jwalk_read::job::Job;
+use read_parts::client_state::ClientState;
+use read_parts::error::Error;
+use read_parts::process_read_dir::ProcessReadDir;
+use read_parts::read_dir_spec::ReadDirSpec;
+use std::alloc::Allocator;
+use std::sync::{Arc, Wait};
+use std::thread::Threads;
+use std::time::{Clock, Duration};
+use walk_fs::file_system::FileSystem;
+
+impl<
+    R: Wait + Threads + Clock + Drop + Send + Sync + 'static,
+    C: ClientState + Send + 'static,
+    S: FileSystem + Send + Sync + 'static,
+    P: ProcessReadDir<C, A> + Send + Sync + 'static,
+    A: Allocator + Copy + Send + Sync + 'static,
+> CrewReads<C, S, P, A, Session<R, C, S, P, A>>
+where
+    C::ReadDirState: Send + 'static,
+    C::DirEntryState: Send + 'static,
+{
+    ghost use Rattle.jwalk_crew.specs.Session.{origin_of, awaited_by};
+    ghost use Rattle.jwalk_readings.specs.CrewReads.{job_of, to_read, BeginsBy};
+
+    /// Readings of these directories, and of those below them, that a crew makes.
+    fn by_workers(
+        crew: &Arc<Crew<R>, A>,
+        busy_timeout: Option<Duration>,
+        job: Job<C, S, P, A>,
+        roots: Vec<ReadDirSpec<C, A>, A>,
+    ) -> Result<Self, NotStarted>
+        requires { P.IsLawful (callback job) }
+        ensures job { IfOk result (λ reads. job_of reads ≡ job) }
+        ensures to_read { IfOk result (λ reads. to_read reads ≡ map spec roots.items) }
+        ensures begins { IfOk result (BeginsBy (λ session origin addresses.
+            (origin_of session ≡ origin) × (awaited_by session ≡ addresses))) }
+    {
+        let shared = roots.clone()?;
+        let Ok(mut reads) = CrewReads::new(*roots.allocator(), job) else {
+            return Err(NotStarted::Memory);
+        };
+        reads.start(crew, busy_timeout, roots, shared)?;
+        Ok(reads)
+    }
+}
+
+impl<
+    R: Wait + Threads + Clock + Drop + Send + Sync + 'static,
+    C: ClientState + Send + 'static,
+    S: FileSystem + Send + Sync + 'static,
+    P: ProcessReadDir<C, A> + Send + Sync + 'static,
+    A: Allocator + Copy + Send + Sync + 'static,
+    T: Drop,
+> ReadDirIter<C, S, P, A, T, Session<R, C, S, P, A>>
+where
+    C::ReadDirState: Send + 'static,
+    C::DirEntryState: Send + 'static,
+{
+    ghost use Rattle.read_parts.specs.Options as options;
+    ghost use Rattle.jwalk_engine.specs.ReadAhead.{BeginsWith};
+    ghost use Rattle.jwalk_readings.specs.Parallelism.{parallelism_value, is_by_crew};
+    ghost use Rattle.jwalk_readings.specs.ReadDirIter.{by_crew, job_of, to_read, width_of, read_ahead, StartsSteady};
+
+    /// The readings of these directories and of all that is below them, as `try_new` makes them; a crew may be told to
+    /// read, whose workers begin at once. Then a place of the crew is waited for first, as long as its `busy_timeout`
+    /// says.
+    ///
+    /// # Errors
+    ///
+    /// An error whose `is_busy` is true where a crew is to read, and no place was free in time or no worker could be
+    /// started; one whose `is_memory` is true where memory runs out. Then no place is taken.
+    pub fn try_with_crew(
+        threads: T,
+        job: Job<C, S, P, A>,
+        roots: Vec<ReadDirSpec<C, A>, A>,
+        parallelism: Parallelism<Crew<R>, A>,
+    ) -> Result<Self, Error<A>>
+        requires { P.IsLawful (callback job) }
+        ensures by { IfOk result (λ reads. by_crew reads ≡ is_by_crew (parallelism_value parallelism)) }
+        ensures job { IfOk result (λ reads. job_of reads ≡ job) }
+        ensures width { IfOk result (λ reads. width_of reads ≡ options.width_of (parallelism_value parallelism)) }
+        ensures to_read { IfOk result (λ reads. to_read reads ≡ map spec roots.items) }
+        ensures read_ahead { IfOk result (λ reads. by_crew reads ≡ false
+            → BeginsWith (map spec roots.items) (read_ahead reads)) }
+        ensures steady { IfOk result (StartsSteady S.FileSystem P.ProcessReadDir C.ReadDirState.Clone
+            C.DirEntryState.Default ⟦<Session<R, C, S, P, A> as Pool<C, S, P, A>>⟧) }
+        ensures fails { IfErr result (λ error. (failure error ≡ memory)
+            ⊎ ((failure error ≡ busy) × (parallelism_value parallelism ≡ value.crew))) }
+    {
+        let mode = parallelism.mode();
+        match parallelism.into_crew() {
+            Some((crew, busy_timeout)) => {
+                match CrewReads::by_workers(&crew, busy_timeout, job, roots) {
+                    Ok(reads) => Ok(ReadDirIter::CrewWalk(reads)),
+                    Err(why_not) => Err(error_of(why_not)),
+                }
+            }
+            None => ReadDirIter::alone(threads, job, roots, mode),
+        }
+    }
+}

@@ -1,0 +1,52 @@
+//! Readings in preorder, as a pool gives them.
+ghost use Rattle.std.specs.Prelude.{◌≡◌, true, length, map, IfOk, IfErr};
+ghost use Rattle.walk_model.specs.Error.{memory};
+ghost use Rattle.read_parts.specs.Error.{failure};
+ghost use Rattle.read_parts.specs.ReadDirSpec.{spec};
+
+use crate::crew_reads::CrewReads;
+use crate::read_dir_iter::ReadDirIter;
+use crate::threads::InTurn;
+use jwalk_crew::pool::Pool;
+use jwalk_read::job::Job;
+use read_parts::client_state::ClientState;
+use read_parts::error::Error;
+use read_parts::process_read_dir::ProcessReadDir;
+use read_parts::read_dir_spec::ReadDirSpec;
+use std::alloc::Allocator;
+use walk_fs::file_system::FileSystem;
+
+impl<
+    C: ClientState,
+    S: FileSystem,
+    P: ProcessReadDir<C, A>,
+    A: Allocator + Copy,
+    L: Pool<C, S, P, A>,
+> ReadDirIter<C, S, P, A, InTurn, L> {
+    ghost use Rattle.jwalk_order.specs.Frontier.{roots as root_addresses};
+    ghost use Rattle.jwalk_readings.specs.CrewReads.{IsMadeFor};
+    ghost use Rattle.jwalk_readings.specs.ReadDirIter.{by_crew, job_of, to_read, StartsSteady};
+
+    /// The readings of these directories and of all that is below them, as a pool gives them. Only a reading of the
+    /// directory that comes next, made by this job's options, is handed on.
+    ///
+    /// Fails only for want of memory.
+    pub fn over_pool(
+        job: Job<C, S, P, A>,
+        roots: Vec<ReadDirSpec<C, A>, A>,
+        pool: L,
+    ) -> Result<Self, Error<A>>
+        ensures by { IfOk result (λ reads. by_crew reads ≡ true) }
+        ensures job { IfOk result (λ reads. job_of reads ≡ job) }
+        ensures to_read { IfOk result (λ reads. to_read reads ≡ map spec roots.items) }
+        ensures steady { IsMadeFor L.Pool pool (record { job = job; roots = map spec roots.items })
+            (root_addresses (length roots.items)) → IfOk result (StartsSteady S.FileSystem P.ProcessReadDir
+            C.ReadDirState.Clone C.DirEntryState.Default L.Pool) }
+        ensures memory { IfErr result (λ error. failure error ≡ memory) }
+    {
+        match CrewReads::over(job, roots, pool) {
+            Ok(reads) => Ok(ReadDirIter::CrewWalk(reads)),
+            Err(_) => Err(Error::memory()),
+        }
+    }
+}

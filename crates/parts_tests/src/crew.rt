@@ -1,0 +1,430 @@
+//! Messages of workers, the reading that is waited for, and places.
+use crate::given::{self, Refusing, States, address, roots_of};
+use crew_parts::arrival::{Arrival, arrive};
+use crew_parts::message::Message;
+use crew_parts::places::Places;
+use crew_parts::wanted::Wanted;
+use jwalk_board::board::Board;
+use jwalk_order::ordered::Ordered;
+use jwalk_read::job::Job;
+use read_parts::ancestors::Ancestors;
+use read_parts::dir_entry::DirEntry;
+use read_parts::error::Error;
+use read_parts::mode::Mode;
+use read_parts::options::Options;
+use read_parts::process_read_dir::NoProcess;
+use read_parts::read_dir_spec::ReadDirSpec;
+use std::alloc::Global;
+use std::io::ErrorKind;
+use std::sync::Arc;
+
+type Spec = ReadDirSpec<States>;
+
+type TreeJob<'f> = Job<States, &'f Refusing, NoProcess>;
+
+type Told<'f> = Message<States, &'f Refusing, NoProcess>;
+
+type Reads<'f> = Board<Spec, Told<'f>>;
+
+/// A root with three directories, of which one can't be read, and a file. Memory is refused at one path.
+fn tree(alloc: Global, at: &'static str) -> Option<Refusing> {
+    let mut fs = given::tree(alloc, &["/r", "/r/a", "/r/a/x", "/r/b", "/r/c"])?;
+    fs.add_file("/r/f", 1).ok()?;
+    fs.deny("/r/c", ErrorKind::PermissionDenied).ok()?;
+    Some(Refusing { fs, at })
+}
+
+fn options() -> Options {
+    Options::new().with_sort(true)
+}
+
+fn job_by(alloc: Global, fs: &Refusing, options: Options) -> Option<Arc<TreeJob<'_>>> {
+    Arc::new(alloc, Job::with_options(alloc, fs, NoProcess, options)).ok()
+}
+
+/// The directory at a root.
+fn root_of(job: &TreeJob<'_>, root: &str) -> Option<Spec> {
+    roots_of(job, root)?.pop()
+}
+
+// Messages.
+
+/// What comes of a reading.
+#[derive(Clone, Copy)]
+enum Comes {
+    /// A list of so many items.
+    List(usize),
+    /// The error of a directory that can't be read.
+    Denied,
+    Refusal,
+}
+
+/// Whether these are directories at these paths, one below the root.
+fn are_below(specs: &[Spec], paths: &[&str]) -> bool {
+    for (spec, path) in specs.iter().zip(paths) {
+        if spec.path.as_str() != *path || spec.depth() != 1 {
+            return false;
+        }
+    }
+    specs.len() == paths.len()
+}
+
+/// Whether an error says that the directory at a path can't be read.
+fn is_denied(error: &Error, path: &str) -> bool {
+    error.path() == Some(path)
+        && matches!(error.io_error(), Some(err) if err.kind() == ErrorKind::PermissionDenied)
+}
+
+/// Whether a message has what comes of a reading of the directory at a path.
+fn has(message: Told<'_>, path: &str, comes: Comes) -> bool {
+    match message.into_outcome() {
+        Ok(Ok(list)) => matches!(comes, Comes::List(count) if list.results_list().len() == count),
+        Ok(Err(error)) => matches!(comes, Comes::Denied) && is_denied(&error, path),
+        Err(_) => matches!(comes, Comes::Refusal),
+    }
+}
+
+/// Whether a message is of the directory at a path and by the options of the tests, and is refused or not.
+fn is_of(message: &Told<'_>, path: &str, refused: bool) -> bool {
+    message.of().path.as_str() == path
+        && message.job().options().reads_as(options())
+        && message.is_refused() == refused
+}
+
+/// Whether the message of a directory says what comes of it, and the directories below it stand at these paths.
+fn tells(alloc: Global, fs: &Refusing, path: &str, below: &[&str], comes: Comes) -> Option<bool> {
+    let job = job_by(alloc, fs, options())?;
+    let of = root_of(&job, path)?;
+    let (message, found) = Message::read(job, of);
+    Some(
+        is_of(&message, path, matches!(comes, Comes::Refusal))
+            && are_below(found.as_slice(), below)
+            && has(message, path, comes),
+    )
+}
+
+/// Whether it does in a tree where memory is refused at one path.
+fn tells_in_tree(alloc: Global, path: &str, below: &[&str], comes: Comes) -> bool {
+    match &tree(alloc, "/r/a") {
+        Some(fs) => tells(alloc, fs, path, below, comes) == Some(true),
+        None => false,
+    }
+}
+
+#[test]
+fn a_message_tells_what_came_of_a_reading(rt: HostRuntime) {
+    const ROWS: &[(&str, &[&str], Comes)] = &[
+        ("/r", &["/r/a", "/r/b", "/r/c"], Comes::List(4)),
+        ("/r/c", &[], Comes::Denied),
+        ("/r/a", &[], Comes::Refusal),
+    ];
+    for (path, below, comes) in ROWS {
+        assert!(rt; tells_in_tree(rt.alloc(), path, below, *comes));
+    }
+}
+
+// The reading that is waited for.
+
+/// How the reading that is wanted differs from the one that was made.
+#[derive(Clone, Copy)]
+enum Other {
+    Nothing,
+    Address,
+    Path,
+    Depth,
+    Ancestors,
+    Options(Options),
+}
+
+fn text(alloc: Global, path: &str) -> Option<Arc<String>> {
+    Arc::new(alloc, String::from_str(alloc, path).ok()?).ok()
+}
+
+/// The reading of this directory, by the options of the tests.
+fn wanted_of(alloc: Global, of: &Spec) -> Option<Wanted> {
+    Some(Wanted {
+        address: address(alloc, &[0])?,
+        path: of.path.clone().ok()?,
+        depth: of.depth(),
+        ancestors: of.ancestors().share().ok()?,
+        options: options(),
+    })
+}
+
+/// These ancestors, and below them the one at a path.
+fn below(alloc: Global, above: &Ancestors, path: &str) -> Option<Ancestors> {
+    above.with(alloc, text(alloc, path)?).ok()
+}
+
+/// Changes it in what is to differ.
+fn change(alloc: Global, wanted: &mut Wanted, other: Other) -> Option<()> {
+    match other {
+        Other::Nothing => {}
+        Other::Address => wanted.address = address(alloc, &[1])?,
+        Other::Path => wanted.path = text(alloc, "/s")?,
+        Other::Depth => wanted.depth = 1,
+        Other::Ancestors => wanted.ancestors = below(alloc, &Ancestors::none(), "/r")?,
+        Other::Options(options) => wanted.options = options,
+    }
+    Some(())
+}
+
+/// A board on which the root is queued, and the reading that it waits for.
+fn begin<'f>(alloc: Global, job: &TreeJob<'f>, other: Other) -> Option<(Reads<'f>, Wanted)> {
+    let roots = roots_of(job, "/r")?;
+    let mut wanted = wanted_of(alloc, roots.first()?)?;
+    change(alloc, &mut wanted, other)?;
+    Some((Board::new(roots).ok()?, wanted))
+}
+
+/// A worker takes the least directory.
+fn take(board: &mut Reads<'_>) -> Option<Ordered<Spec>> {
+    board.take().ok()
+}
+
+/// It finishes it.
+fn finish<'f>(board: &mut Reads<'f>, job: Arc<TreeJob<'f>>, taken: Ordered<Spec>) -> Option<()> {
+    let Ordered {
+        value: of,
+        index_path: address,
+        ..
+    } = taken;
+    let (message, below) = Message::read(job, of);
+    board.finish(address, message, below).ok()
+}
+
+/// What becomes of the reading that is wanted.
+fn asks(board: &mut Reads<'_>, wanted: &Wanted) -> &'static str {
+    match arrive(board, wanted) {
+        Arrival::Entered(_) => "entered",
+        Arrival::Memory => "memory",
+        Arrival::Lost => "lost",
+        Arrival::Wait => "wait",
+    }
+}
+
+/// When the reading that is wanted is asked for.
+#[derive(Clone, Copy)]
+enum When {
+    /// Once the root was read.
+    AfterReading,
+    /// Before the root is taken, while it is in hand, once it was read, and after that.
+    AllAlong,
+    /// Once the board was stopped.
+    AfterStop,
+}
+
+/// Adds what becomes of the reading that is wanted.
+fn push_answer(text: &mut String, board: &mut Reads<'_>, wanted: &Wanted) -> Option<()> {
+    text.push_str(asks(board, wanted)).ok()?;
+    text.push_str(" ").ok()
+}
+
+/// Adds what becomes of it all along.
+fn push_all_along<'f>(
+    text: &mut String,
+    board: &mut Reads<'f>,
+    job: Arc<TreeJob<'f>>,
+    wanted: &Wanted,
+) -> Option<()> {
+    push_answer(text, board, wanted)?;
+    let taken = take(board)?;
+    push_answer(text, board, wanted)?;
+    finish(board, job, taken)?;
+    push_answer(text, board, wanted)?;
+    push_answer(text, board, wanted)
+}
+
+/// Adds what becomes of it once the root was read.
+fn push_after_reading<'f>(
+    text: &mut String,
+    board: &mut Reads<'f>,
+    job: Arc<TreeJob<'f>>,
+    wanted: &Wanted,
+) -> Option<()> {
+    let taken = take(board)?;
+    finish(board, job, taken)?;
+    push_answer(text, board, wanted)
+}
+
+/// Adds what becomes of it then.
+fn push_answers<'f>(
+    text: &mut String,
+    board: &mut Reads<'f>,
+    job: Arc<TreeJob<'f>>,
+    wanted: &Wanted,
+    when: When,
+) -> Option<()> {
+    match when {
+        When::AfterReading => push_after_reading(text, board, job, wanted),
+        When::AllAlong => push_all_along(text, board, job, wanted),
+        When::AfterStop => {
+            board.stop();
+            push_answer(text, board, wanted)
+        }
+    }
+}
+
+/// What becomes of it then, in a walk by these options.
+fn answers_by(
+    alloc: Global,
+    fs: &Refusing,
+    own: Options,
+    other: Other,
+    when: When,
+) -> Option<String> {
+    let job = job_by(alloc, fs, own)?;
+    let (mut board, wanted) = begin(alloc, &job, other)?;
+    let mut text = String::new(alloc);
+    push_answers(&mut text, &mut board, job, &wanted, when)?;
+    Some(text)
+}
+
+/// Whether it is waited for until it comes, where nothing is below the root, and no longer than to a stop.
+fn is_waited_for(alloc: Global) -> bool {
+    let own = options().with_max_depth(0);
+    match &tree(alloc, "") {
+        Some(fs) => {
+            answers_by(alloc, fs, own, Other::Options(own), When::AllAlong).as_deref()
+                == Some("wait wait entered lost ")
+                && answers_by(alloc, fs, options(), Other::Nothing, When::AfterStop).as_deref()
+                    == Some("memory ")
+        }
+        None => false,
+    }
+}
+
+#[test]
+fn a_reading_is_waited_for_until_it_comes(rt: HostRuntime) {
+    assert!(rt; is_waited_for(rt.alloc()));
+}
+
+/// Whether this becomes of it once the root was read, where memory is refused at one path.
+fn answers(alloc: Global, at: &'static str, other: Other, answer: &str) -> bool {
+    match &tree(alloc, at) {
+        Some(fs) => {
+            answers_by(alloc, fs, options(), other, When::AfterReading).as_deref() == Some(answer)
+        }
+        None => false,
+    }
+}
+
+#[test]
+fn a_message_of_another_reading_is_lost(rt: HostRuntime) {
+    let rows = [
+        (Other::Nothing, "entered "),
+        (Other::Address, "lost "),
+        (Other::Path, "lost "),
+        (Other::Depth, "lost "),
+        (Other::Ancestors, "lost "),
+    ];
+    for (other, answer) in &rows {
+        assert!(rt; answers(rt.alloc(), "", *other, answer));
+    }
+}
+
+#[test]
+fn a_message_by_other_options_is_lost(rt: HostRuntime) {
+    let own = options();
+    let rows = [
+        (own.with_sort(false), "lost "),
+        (own.with_skip_hidden(false), "lost "),
+        (own.with_follow_links(true), "lost "),
+        (own.with_max_depth(3), "lost "),
+        (
+            own.with_min_depth(1).with_mode(Mode::Batches(2)),
+            "entered ",
+        ),
+    ];
+    for (other, answer) in &rows {
+        assert!(rt; answers(rt.alloc(), "", Other::Options(*other), answer));
+    }
+}
+
+#[test]
+fn a_message_that_was_refused_memory_says_so_where_it_is_waited_for(rt: HostRuntime) {
+    let rows = [(Other::Nothing, "memory "), (Other::Path, "lost ")];
+    for (other, answer) in &rows {
+        assert!(rt; answers(rt.alloc(), "/r", *other, answer));
+    }
+}
+
+// Lists of ancestors.
+
+/// Whether an entry has the same list of ancestors as the directory below it.
+fn has_list_of(found: &Result<DirEntry<States>, Error>, of: &Spec) -> bool {
+    match found {
+        Ok(entry) => entry.ancestors().is_same(of.ancestors()),
+        Err(_) => false,
+    }
+}
+
+/// Whether the root's entry and its directory have the same list of ancestors.
+fn root_has_list_of_directory(job: &TreeJob<'_>, ancestors: &Ancestors) -> Option<bool> {
+    let list = job.root_list("/r", ()).ok()?;
+    let below = list.read_children_specs().ok()?;
+    let of = below.last()?;
+    let found = list.results_list().first()?;
+    Some(has_list_of(found, of) && of.ancestors().is_same(ancestors))
+}
+
+/// Whether both have the list of the root's path alone.
+fn root_is_its_own_ancestor(alloc: Global, root: &Ancestors) -> Option<bool> {
+    let fs = tree(alloc, "")?;
+    let job = Job::with_options(alloc, &fs, NoProcess, options().with_follow_links(true));
+    root_has_list_of_directory(&job, root)
+}
+
+/// Whether these are the same lists where they are to be, and others where not.
+fn are_compared(
+    root: &Ancestors,
+    deeper: &Ancestors,
+    again: &Ancestors,
+    other: &Ancestors,
+) -> bool {
+    let none = Ancestors::none();
+    none.is_same(&Ancestors::none())
+        && deeper.is_same(again)
+        && !none.is_same(root)
+        && !root.is_same(deeper)
+        && !deeper.is_same(other)
+}
+
+/// Whether lists below the root are compared by their paths.
+fn are_compared_below(alloc: Global, root: &Ancestors) -> Option<bool> {
+    let deeper = below(alloc, root, "/r/a")?;
+    let again = below(alloc, root, "/r/a")?;
+    let other = below(alloc, root, "/r/b")?;
+    Some(are_compared(root, &deeper, &again, &other))
+}
+
+#[test]
+fn lists_of_ancestors_are_compared_by_their_paths(rt: HostRuntime) {
+    let Some(root) = below(rt.alloc(), &Ancestors::none(), "/r") else {
+        panic!(rt; "memory is there")
+    };
+    assert!(rt; are_compared_below(rt.alloc(), &root) == Some(true));
+    assert!(rt; root_is_its_own_ancestor(rt.alloc(), &root) == Some(true));
+}
+
+// Places.
+
+/// Whether the only place is taken once until it is given back.
+fn is_taken_once(places: &mut Places) -> bool {
+    if places.in_use() != 0 || !places.take() || places.take() || places.in_use() != 1 {
+        return false;
+    }
+    places.give_back();
+    places.take() && places.places() == 1
+}
+
+#[test]
+fn a_place_is_taken_once_until_it_is_given_back(rt: HostRuntime) {
+    assert!(rt; is_taken_once(&mut Places::new(1)));
+}
+
+#[test]
+fn no_places_count_as_one(rt: HostRuntime) {
+    let mut places = Places::new(0);
+    assert!(rt; places.places() == 1 && places.take() && !places.take());
+}

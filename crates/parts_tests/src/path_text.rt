@@ -1,0 +1,76 @@
+//! Path texts: their names and parents, which of them are the same path, and their joins.
+use std::alloc::Global;
+use walk_paths::path_text::{file_name, join, join_parts, parent, same_path};
+
+// A path, its name and its parent.
+const NAMES: &[(&str, Option<&str>, Option<&str>)] = &[
+    ("", None, None),
+    ("/", None, None),
+    ("/.", None, None),
+    (".", None, Some("")),
+    ("..", None, Some("")),
+    ("../..", None, Some("..")),
+    ("a", Some("a"), Some("")),
+    ("a/.", Some("a"), Some("")),
+    ("/a", Some("a"), Some("/")),
+    ("//a", Some("a"), Some("/")),
+    ("//x/y", Some("y"), Some("//x")),
+    ("a/b/", Some("b"), Some("a")),
+    ("a//b", Some("b"), Some("a")),
+    ("a/./b", Some("b"), Some("a")),
+    ("./a", Some("a"), Some(".")),
+    ("a/..", None, Some("a")),
+];
+
+#[test]
+fn names_and_parents_of_texts(rt: HostRuntime) {
+    for (text, name, above) in NAMES {
+        assert!(rt; file_name(text) == *name && parent(text) == *above);
+    }
+}
+
+const PAIRS: &[(&str, &str, bool)] = &[
+    ("a//b/", "a/b", true),
+    ("/a/./b", "/a/b", true),
+    ("./a", "a", false),
+    ("a/../b", "b", false),
+    ("", ".", false),
+];
+
+#[test]
+fn texts_of_the_same_path(rt: HostRuntime) {
+    for (a, b, same) in PAIRS {
+        assert!(rt; same_path(a, b) == *same && same_path(b, a) == *same);
+    }
+}
+
+// Two paths, the parts of their join, and the join.
+const JOINS: &[(&str, &str, (&str, &str, &str), &str)] = &[
+    ("a", "b", ("a", "/", "b"), "a/b"),
+    ("a/", "b", ("a/", "", "b"), "a/b"),
+    ("", "b", ("", "", "b"), "b"),
+    ("/", "b", ("/", "", "b"), "/b"),
+    ("a", "/b", ("", "", "/b"), "/b"),
+    ("a", "", ("a", "/", ""), "a/"),
+];
+
+#[test]
+fn parts_of_joined_texts(rt: HostRuntime) {
+    for (a, b, parts, _) in JOINS {
+        assert!(rt; join_parts(a, b) == *parts);
+    }
+}
+
+fn are_joined(alloc: Global, a: &str, b: &str, whole: &str) -> bool {
+    match join(alloc, a, b) {
+        Ok(path) => path.as_str() == whole,
+        Err(_) => false,
+    }
+}
+
+#[test]
+fn joins_with_one_slash(rt: HostRuntime) {
+    for (a, b, _, whole) in JOINS {
+        assert!(rt; are_joined(rt.alloc(), a, b, whole));
+    }
+}

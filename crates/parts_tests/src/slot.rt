@@ -1,0 +1,55 @@
+//! What lies in a slot, taken and put back, without the key and with it.
+ghost use Rattle.std.specs.Prelude.{◌≤◌};
+
+use keyed_slot::marked::Marked;
+use keyed_slot::slot::KeyedSlot;
+use std::alloc::Global;
+
+/// A number that is at most some other. It is its own mark.
+#[derive(Clone, Copy, Drop, PartialEq, Eq)]
+struct Small(u64);
+
+impl Marked for Small {
+    type Tag = u64;
+
+    type Mark = u64;
+
+    ghost fits = { λ most x. x.0 ≤ most };
+
+    ghost mark = { λ x. x.0 };
+}
+
+/// Whether the value in a slot is taken once, and once more after it was put back.
+fn is_taken_and_put_back(slot: &KeyedSlot<Small>) -> bool {
+    let Some((value, loan)) = slot.take() else {
+        return false;
+    };
+    let was_there = value == Small(3) && slot.take().is_none();
+    slot.put_back(value, loan);
+    was_there && slot.take().is_some()
+}
+
+#[test]
+fn a_value_is_taken_and_put_back(rt: HostRuntime) {
+    let made = KeyedSlot::new(rt.alloc(), Small(3), &9);
+    assert!(rt; matches!(&made, Ok((slot, _)) if is_taken_and_put_back(slot)));
+}
+
+/// Whether the mark in a slot is what was put back with the key.
+fn changes_its_mark(alloc: Global) -> bool {
+    let Ok((slot, mut key)) = KeyedSlot::new(alloc, Small(3), &9) else {
+        return false;
+    };
+    let Some(value) = slot.take_with(&mut key) else {
+        return false;
+    };
+    prove!(value == Small(3));
+    let was_there = slot.take().is_none();
+    slot.put_back_with(Small(5), &mut key);
+    was_there && slot.take_with(&mut key) == Some(Small(5))
+}
+
+#[test]
+fn with_the_key_its_mark_changes(rt: HostRuntime) {
+    assert!(rt; changes_its_mark(rt.alloc()));
+}

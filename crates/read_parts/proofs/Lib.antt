@@ -1,0 +1,3 @@
+pub mod GivenFacts
+mod TieFacts
+mod PathListFacts

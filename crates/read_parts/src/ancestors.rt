@@ -1,0 +1,103 @@
+//! The directories above an entry.
+ghost use Rattle.std.specs.Prelude.{◌≡◌, ◌↔◌, ◌++◌, ◌∷◌, [], IfOk, IsTrue, OnOk, map, option_map};
+ghost use Rattle.walk_model.specs.Job.{looped_to};
+ghost use Rattle.read_parts.specs.Text.{text};
+ghost use Rattle.read_parts.specs.Ancestors.{texts};
+
+use std::alloc::{AllocError, Allocator, Global};
+use std::sync::Arc;
+use walk_paths::path_text;
+
+/// The paths of the directories above an entry, that of the root first: a shared list of shared paths. There is no list
+/// where links aren't followed.
+pub struct Ancestors<A: Allocator + Copy = Global> {
+    paths: Option<Arc<Vec<Arc<String<A>, A>, A>, A>>,
+}
+
+impl<A: Allocator + Copy> Drop for Ancestors<A> {
+    fn drop(self) {
+        let Ancestors { paths: _ } = self;
+    }
+}
+
+/// Adds handles of these paths.
+fn push_all<A: Allocator + Copy>(
+    all: &mut Vec<Arc<String<A>, A>, A>,
+    paths: &[Arc<String<A>, A>],
+) -> Result<(), AllocError>
+    ensures { OnOk result (map text all.new.items ≡ map text all.old.items ++ map text paths.now) }
+{
+    for path in paths {
+        all.push(path.clone()?)?;
+    }
+    Ok(())
+}
+
+impl<A: Allocator + Copy> Ancestors<A> {
+    /// No directories.
+    pub fn none() -> Self
+        ensures { texts result ≡ [] }
+    {
+        Ancestors { paths: None }
+    }
+
+    /// Their paths, that of the root first.
+    fn paths(&self) -> &[Arc<String<A>, A>]
+        ensures { map text result.now ≡ texts self.now }
+    {
+        match &self.paths {
+            Some(paths) => paths.as_slice(),
+            None => &[],
+        }
+    }
+
+    /// A handle of the same list.
+    ///
+    /// Fails only for want of memory.
+    pub fn share(&self) -> Result<Self, AllocError>
+        ensures { IfOk result (λ same. texts same ≡ texts self.now) }
+    {
+        match &self.paths {
+            Some(paths) => Ok(Ancestors {
+                paths: Some(paths.clone()?),
+            }),
+            None => Ok(Ancestors::none()),
+        }
+    }
+
+    /// Whether they are the same paths, in the same order.
+    pub fn is_same(&self, other: &Self) -> bool
+        ensures { IsTrue result ↔ (texts self.now ≡ texts other.now) }
+    {
+        self.paths() == other.paths()
+    }
+
+    /// These directories, and below them the one at a path.
+    ///
+    /// Fails only for want of memory.
+    pub fn with(&self, alloc: A, path: Arc<String<A>, A>) -> Result<Self, AllocError>
+        ensures { IfOk result (λ more. texts more ≡ texts self.now ++ text path ∷ []) }
+    {
+        let above = self.paths();
+        let mut all = Vec::with_capacity(alloc, above.len().saturating_add(1))?;
+        push_all(&mut all, above)?;
+        all.push(path)?;
+        Ok(Ancestors {
+            paths: Some(Arc::new(alloc, all)?),
+        })
+    }
+
+    /// A handle of the nearest of these paths that a target is the same path as.
+    pub fn nearest(&self, target: &str) -> Result<Option<Arc<String<A>, A>>, AllocError>
+        ensures { IfOk result (λ o. option_map text o ≡ looped_to target.now (texts self.now)) }
+    {
+        let mut left = self.paths();
+        while let Some((last, above)) = left.split_last() {
+            if path_text::same_path(target, last.as_str()) {
+                return Ok(Some(last.clone()?));
+            }
+            left = above;
+        }
+        Ok(None)
+    }
+}

@@ -1,0 +1,191 @@
+//! An entry of a walk.
+use crate::ancestors::Ancestors;
+use crate::client_state::ClientState;
+use crate::error::Error;
+use crate::metadata::metadata_at;
+pub use crate::read_children::ReadChildren;
+use std::alloc::{AllocError, Allocator, Global};
+use std::sync::Arc;
+use walk_fs::fault::Fault;
+use walk_fs::file_system::FileSystem;
+use walk_model::file_type::FileType;
+use walk_model::metadata::Metadata;
+use walk_paths::path_text;
+
+/// A file, a directory, a link or anything else that a walk came to.
+#[derive(Drop)]
+#[derive_where(Debug)]
+pub struct DirEntry<C: ClientState, A: Allocator + Copy = Global> {
+    /// The depth below the root, which has depth 0.
+    pub depth: usize,
+    /// The last part of the path. A root that has no file name, as `..`, has its whole path here.
+    pub file_name: String<A>,
+    /// The type of what stands at the path.
+    pub file_type: FileType,
+    /// What a callback keeps with the entry.
+    pub client_state: C::DirEntryState,
+    /// The path of the directory that the entry was listed in.
+    pub parent_path: Arc<String<A>, A>,
+    /// The directory to be read below the entry: set where it is one, unless a callback took it away.
+    pub read_children: Option<ReadChildren<C, A>>,
+    pub(crate) through_link: bool,
+    #[derive_where(skip)]
+    pub(crate) ancestors: Ancestors<A>,
+}
+
+impl<C: ClientState, A: Allocator + Copy> DirEntry<C, A> {
+    ghost use Rattle.std.specs.Prelude.{◌≡◌, ◌||◌, true, Ok, Err, IfOk, IfErr, IfSome, MatchResult, option_map, string_bytes, if◌then◌else◌};
+    ghost use Rattle.walk_model.specs.Entry.{path_of, metadata_of, IsErrorOf, with_error, children_at};
+    ghost use Rattle.walk_model.specs.FileType.{is_dir, is_symlink};
+    ghost use Rattle.walk_model.specs.Metadata.{type_of};
+    ghost use Rattle.read_parts.specs.Text.{text};
+    ghost use Rattle.read_parts.specs.Ancestors.{texts};
+    ghost use Rattle.read_parts.specs.Error.{failure, kind_of};
+    ghost use Rattle.read_parts.specs.Entry.{entry, children};
+
+    /// An entry whose state is the default. `through_link` says that its path is that of a link which was followed.
+    pub fn new(
+        depth: usize,
+        file_name: String<A>,
+        file_type: FileType,
+        parent_path: Arc<String<A>, A>,
+        read_children: Option<ReadChildren<C, A>>,
+        through_link: bool,
+        ancestors: Ancestors<A>,
+    ) -> Self
+        ensures state { C.DirEntryState.Default.is_default (entry result).client_state }
+        ensures entry { entry result ≡ record {
+          depth = depth;
+          file_name = string_bytes file_name;
+          file_type = file_type;
+          client_state = (entry result).client_state;
+          parent_path = text parent_path;
+          through_link = through_link;
+          ancestors = texts ancestors;
+          read_children = option_map children read_children;
+        } }
+    {
+        DirEntry {
+            depth,
+            file_name,
+            file_type,
+            client_state: C::DirEntryState::default(),
+            parent_path,
+            read_children,
+            through_link,
+            ancestors,
+        }
+    }
+
+    /// The depth below the root, which has depth 0.
+    pub fn depth(&self) -> usize
+        ensures { result ≡ (entry self.now).depth }
+    {
+        self.depth
+    }
+
+    /// The last part of the path.
+    pub fn file_name(&self) -> &str
+        ensures { result.now ≡ (entry self.now).file_name }
+    {
+        self.file_name.as_str()
+    }
+
+    /// The type of what stands at the path.
+    pub fn file_type(&self) -> FileType
+        ensures { result ≡ (entry self.now).file_type }
+    {
+        self.file_type
+    }
+
+    /// Whether its path is that of a link: one that stands in the walk as a link, or one that was followed.
+    pub fn path_is_symlink(&self) -> bool
+        ensures { result ≡ (is_symlink (entry self.now).file_type || (entry self.now).through_link) }
+    {
+        self.file_type.is_symlink() || self.through_link
+    }
+
+    /// The path of the directory that the entry was listed in.
+    pub fn parent_path(&self) -> &str
+        ensures { result.now ≡ (entry self.now).parent_path }
+    {
+        self.parent_path.as_str()
+    }
+
+    /// The directories above the entry: none where links aren't followed. The root has its own path there.
+    pub fn ancestors(&self) -> &Ancestors<A>
+        ensures { texts result.now ≡ (entry self.now).ancestors }
+    {
+        &self.ancestors
+    }
+
+    /// The path of the entry: its `file_name` below its `parent_path`.
+    ///
+    /// Fails only for want of memory.
+    pub fn path(&self) -> Result<String<A>, AllocError>
+        ensures { IfOk result (λ path. string_bytes path ≡ path_of (entry self.now)) }
+    {
+        let alloc = *self.file_name.allocator();
+        path_text::join(alloc, self.parent_path.as_str(), self.file_name.as_str())
+    }
+
+    /// What the file system answers of the entry's path, or its error.
+    fn asked<S: FileSystem>(&self, fs: &S) -> Result<Result<Metadata, Error<A>>, AllocError>
+        ensures value { S.IsFixed fs.now → IfOk result (λ r. MatchResult r
+            (λ m. metadata_of (S.functions fs.now) (entry self.now) ≡ Ok m)
+            (λ e. IfSome (kind_of (failure e))
+            (λ kind. metadata_of (S.functions fs.now) (entry self.now) ≡ Err kind))) }
+        ensures error { IfOk result (λ r. IfErr r (λ e. IsErrorOf (entry self.now) (failure e))) }
+    {
+        let path = self.path()?;
+        match metadata_at(fs, path.as_str(), self.through_link) {
+            Ok(metadata) => Ok(Ok(metadata)),
+            Err(Fault::Io(err)) => {
+                let path = Arc::new(*path.allocator(), path)?;
+                Ok(Err(Error::from_path(self.depth, path, err)))
+            }
+            Err(Fault::Memory) => Err(AllocError),
+        }
+    }
+
+    /// The type and the length of what stands at the entry's path. Where the entry is that of a link which was
+    /// followed, they are those of what the link leads to (`metadata` of the file system, else `symlink_metadata`). The
+    /// file system is asked once, at each call: so the type may be another than the entry's.
+    ///
+    /// An error of the file system has the entry's depth and path. Want of memory, the file system's or for the path,
+    /// is the error with `is_memory`.
+    pub fn metadata<S: FileSystem>(&self, fs: &S) -> Result<Metadata, Error<A>>
+        ensures value { S.IsFixed fs.now → MatchResult result
+            (λ m. metadata_of (S.functions fs.now) (entry self.now) ≡ Ok m)
+            (λ e. IfSome (kind_of (failure e))
+            (λ kind. metadata_of (S.functions fs.now) (entry self.now) ≡ Err kind)) }
+        ensures error { IfErr result (λ e. IsErrorOf (entry self.now) (failure e)) }
+    {
+        match self.asked(fs) {
+            Ok(answer) => answer,
+            Err(AllocError) => Err(Error::memory()),
+        }
+    }
+
+    /// The entry of a link, where the directory at its path is to be read, if it leads to one.
+    pub fn with_directory(mut self, path: Arc<String<A>, A>, target: Metadata) -> Self
+        ensures { entry result
+            ≡ (if is_dir (type_of target) then record (entry self) { read_children = children_at true (text path) }
+            else entry self) }
+    {
+        if target.is_dir() {
+            self.read_children = Some(ReadChildren::new(path));
+        }
+        self
+    }
+
+    /// The entry with the error that reading its directory ended in. One without a directory stays as it is.
+    pub fn with_error(mut self, error: Error<A>) -> Self
+        ensures { Ok (entry result) ≡ with_error (failure error) (Ok (entry self)) }
+    {
+        if let Some(children) = &mut self.read_children {
+            children.error = Some(error);
+        }
+        self
+    }
+}
