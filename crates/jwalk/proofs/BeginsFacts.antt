@@ -24,7 +24,7 @@ use Rattle.jwalk_crew.specs.declared.crew.NotStarted.{NotStarted}
 use Rattle.jwalk_crew.specs.declared.crew.NotStarted.TheVariants.{Busy, Memory}
 use Rattle.jwalk_entries.specs.DirEntryIter.{by_crew, held_by}
 use Rattle.jwalk_readings.specs.CrewReads.{start_failure}
-use Rattle.jwalk_entries.specs.CrewStart.{busy_pair, HoldsList, IsFromRoot}
+use Rattle.jwalk.specs.CrewStart.{busy_pair, HoldsList, IsFromRoot}
 use Rattle.jwalk.specs.WalkDir.{file_system_of, callback_of, root_of, state_of, options_of, job_for, Starts, HoldsUnless, Begins}
 use Rattle.jwalk_entries.specs.declared.dir_entry_iter.DirEntryIter.{DirEntryIter}
 use Rattle.jwalk.specs.declared.walk_dir.WalkDirGeneric.{WalkDirGeneric}

@@ -23,7 +23,7 @@ use Rattle.jwalk_crew.specs.declared.crew.NotStarted.TheVariants.{Busy, Memory}
 use Rattle.jwalk_crew.specs.declared.pool.Pool as Pool
 use Rattle.jwalk_entries.specs.declared.dir_entry_iter.DirEntryIter.{DirEntryIter}
 use Rattle.jwalk.specs.declared.walk_dir.WalkDirGeneric.{WalkDirGeneric}
-use Rattle.jwalk_entries.specs.CrewStart.{busied, busy_pair}
+use Rattle.jwalk.specs.CrewStart.{busied, busy_pair}
 use Rattle.jwalk_entries.specs.DirEntryIter.{job_of, min_depth_of, to_come, IsSteadyWalk, Answers}
 use Rattle.jwalk.specs.WalkDir.{file_system_of, callback_of, root_of, state_of, job_for, Starts, HoldsUnless}
 use Rattle.jwalk.proofs.WholeFacts.{all_answered, comes_whole, entries_tell, whole}

@@ -1,7 +1,7 @@
 pub mod WalkDir
+pub mod CrewStart
 -- what callers cite of a walk's answers and of its readings
 pub use Rattle.jwalk_entries.specs.DirEntryIter as DirEntryIter
-pub use Rattle.jwalk_entries.specs.CrewStart as CrewStart
 pub use Rattle.jwalk_entries.specs.Step as Step
 pub use Rattle.jwalk_readings.specs.ReadDirIter as ReadDirIter
 pub use Rattle.jwalk_readings.specs.CrewReads as CrewReads
@@ -14,6 +14,7 @@ pub use Rattle.read_parts.specs as read_parts
 pub use Rattle.jwalk_read.specs as jwalk_read
 pub use Rattle.jwalk_process.specs as jwalk_process
 pub use Rattle.jwalk_order.specs as jwalk_order
+pub use Rattle.board_parts.specs as board_parts
 pub use Rattle.jwalk_board.specs as jwalk_board
 pub use Rattle.jwalk_engine.specs as jwalk_engine
 pub use Rattle.jwalk_crew.specs as jwalk_crew

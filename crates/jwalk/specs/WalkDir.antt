@@ -18,7 +18,7 @@ use Rattle.jwalk_crew.specs.declared.crew.NotStarted.{NotStarted}
 use Rattle.jwalk_crew.specs.declared.crew.NotStarted.TheVariants.{Busy, Memory}
 use Rattle.jwalk_readings.specs.declared.parallelism.Parallelism.{Parallelism}
 use Rattle.jwalk_readings.specs.Parallelism.{parallelism_value, crew_of}
-use Rattle.jwalk_entries.specs.CrewStart.{busy_pair}
+use Rattle.jwalk.specs.CrewStart.{busy_pair}
 use Rattle.jwalk_entries.specs.DirEntryIter.{by_crew, job_of, items_of, held_by, IsWithin, IsSourced, IsRefused}
 use Rattle.jwalk.specs.declared.walk_dir.WalkDirGeneric.{WalkDirGeneric}
 use Rattle.jwalk_entries.specs.declared.dir_entry_iter.DirEntryIter.{DirEntryIter}

@@ -3,6 +3,7 @@ ghost use Rattle.std.specs.Prelude.{◌≡◌, ◌⊎◌, true, false, None, str
 ghost use Rattle.walk_model.specs.Error.{memory};
 ghost use Rattle.read_parts.specs.Error.{failure};
 
+mod crew_start;
 mod over_crew;
 
 use jwalk_crew::pool::NoPool;

@@ -1,13 +1,8 @@
-pub mod Children
 pub mod Follow
 pub mod Hands
-pub mod Keys
 pub mod Left
 pub mod Opens
 pub mod Plays
 pub mod Preorders
-pub mod Sets
-pub mod Siblings
 pub mod Steps
-pub mod Tops
 pub mod UnderWay

@@ -1,7 +1,4 @@
-pub mod Addressed
-pub mod Addresses
 pub mod Board
-pub mod Heap
 pub mod Left
 pub mod Plan
 pub mod Refusal
@@ -9,5 +6,4 @@ pub mod Rehearsal
 pub mod Rows
 pub mod Run
 pub mod Seen
-pub mod Siblings
 pub mod Stage

@@ -1,7 +1,8 @@
 -- What a list of moves does, over the addresses of a preorder alone.
 use Rattle.std.specs.Prelude.{ℕ, ◌+◌, ◌-◌, Bool, cond, not, nat_lt, ◌&&◌, ◌||◌, ◌==◌, List, [], ◌∷◌, ◌++◌, length, take, slice_get, slice_set, replicate, Option, Some, None}
 use Rattle.std.specs.List.{find}
-use Rattle.jwalk_board.specs.Addresses.{times}
+use Rattle.board_parts.specs.Addresses.{times}
+use Rattle.board_parts.specs.Siblings.{parent_address}
 use Rattle.jwalk_board.specs.declared.board.moves.Move.{Move}
 use Rattle.jwalk_board.specs.declared.board.moves.Move.TheVariants.{Take, Finish, HandOut}
 
@@ -16,9 +17,6 @@ pub record Run : Type 0 where
 
 abbrev pub is_among : List ℕ → List (List ℕ) → Bool
 is_among a xs = nat_lt 0 (times a xs)
-
-abbrev pub parent_address : List ℕ → List ℕ
-parent_address a = take (length a - 1) a
 
 -- It is not taken, and is a root or the child of what is finished.
 abbrev pub is_queued : Run → List ℕ → Bool

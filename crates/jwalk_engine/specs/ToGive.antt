@@ -2,9 +2,9 @@
 use Rattle.std.specs.Prelude.{◌≡◌, ℕ, cond, List, [], ◌∷◌, ◌++◌, map, flat_map}
 use Rattle.std.specs.List.Sorted.{IsPermutation}
 use Rattle.jwalk_order.specs.Frontier.{children_from}
-use Rattle.jwalk_board.specs.Addresses.{is_same, times}
+use Rattle.board_parts.specs.Addresses.{is_same, times}
 use Rattle.jwalk_board.specs.Board.{Board}
-use Rattle.jwalk_board.specs.Addressed.{Addressed, addresses_of}
+use Rattle.board_parts.specs.Addressed.{Addressed, addresses_of}
 
 -- the values at an address, as they are seen
 abbrev pub found_at : {X V : Type 0} → (X → V) → List (Addressed X) → List ℕ → List V

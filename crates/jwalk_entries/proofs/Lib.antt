@@ -1,9 +1,8 @@
 mod ItemFacts
-mod PlacedFacts
+pub mod PlacedFacts
 mod ReceivedFacts
 mod AheadFacts
 mod StepFacts
 pub mod AnswerFacts
 pub mod FillFacts
-mod CrewStartFacts
 pub mod SameFacts

@@ -24,6 +24,7 @@ use Rattle.jwalk_engine.specs.ReadAhead.{ReadAhead, nothing_ahead}
 use Rattle.jwalk_crew.specs.declared.pool.Pool as Pool
 use Rattle.jwalk_readings.specs.ReadDirIter as readings
 use Rattle.jwalk_readings.specs.CrewReads.{IsBelow, IsNextBelow}
+use Rattle.jwalk_readings.specs.declared.read_dir_iter.ReadDirIter.{ReadDirIter}
 use Rattle.jwalk_readings.specs.ReadDirIter.{to_read, Tells, IsSteadyReads, KnownBy, EntersBy}
 use Rattle.jwalk_entries.specs.Step.{IsAtDirectory, PassesNext, ReadsUpTo}
 use Rattle.jwalk_entries.specs.declared.dir_entry_iter.DirEntryIter.{DirEntryIter}
@@ -61,6 +62,10 @@ module _ {C A R E : Type 0} where
   NoneRefused (x ∷ answered) = (¬ TellsMemory (item x)) × NoneRefused answered
 
 module _ {C S P A T L R E : Type 0} where
+  -- what it has read for it
+  abbrev pub reads_of : DirEntryIter C S P A T L R E → ReadDirIter C S P A T L R E
+  reads_of it = it.reads
+
   -- whether a crew reads its directories
   abbrev pub by_crew : DirEntryIter C S P A T L R E → Bool
   by_crew it = readings.by_crew it.reads

@@ -1,3 +1,2 @@
 pub mod Step
 pub mod DirEntryIter
-pub mod CrewStart

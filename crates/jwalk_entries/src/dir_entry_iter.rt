@@ -4,7 +4,6 @@ ghost use Rattle.read_parts.specs.Entry.{entry, item};
 ghost use Rattle.jwalk_read.specs.Job.{callback};
 
 mod on_threads;
-mod over_crew;
 
 use jwalk_crew::pool::{Missed, NoPool, Pool};
 use jwalk_engine::read::Outcome;
@@ -25,7 +24,8 @@ use walk_fs::file_system::FileSystem;
 /// A directory's entry is answered when its directory was read. A directory that could not be read is answered with the
 /// error in its `read_children`. Want of memory is answered by one error whose `is_memory` is true, and then by `None`
 /// for good; so is the end of the walk. A walk over a crew ends in the same way, by an error whose `is_lost` is true,
-/// where a reading is lost. Over a file system whose answers stay the same none is.
+/// where a reading is lost. Over a file system whose answers stay the same, and with a callback that always does the
+/// same, none is.
 pub struct DirEntryIter<
     C: ClientState,
     S: FileSystem,
@@ -34,11 +34,11 @@ pub struct DirEntryIter<
     T = InTurn,
     L = NoPool,
 > {
-    pub(crate) reads: ReadDirIter<C, S, P, A, T, L>,
+    reads: ReadDirIter<C, S, P, A, T, L>,
     // What was received and not passed on, the next one last.
-    pub(crate) items: Vec<Result<DirEntry<C, A>, Error<A>>, A>,
+    items: Vec<Result<DirEntry<C, A>, Error<A>>, A>,
     // Memory was refused at the start, and this was not answered yet.
-    pub(crate) refused: bool,
+    refused: bool,
 }
 
 impl<
@@ -66,7 +66,7 @@ impl<
     T: Drop,
     L: Pool<C, S, P, A>,
 > DirEntryIter<C, S, P, A, T, L> {
-    ghost use Rattle.std.specs.Prelude.{◌++◌, [], false, length, OnOk, IsSome, IfSome, IfNone, IsSomeAnd, option_map};
+    ghost use Rattle.std.specs.Prelude.{◌++◌, [], false, length, OnOk, IsSome, IfSome, IfNone, IsSomeAnd, option_map, map};
     ghost use Rattle.walk_model.specs.Entry.{AtDepth};
     ghost use Rattle.walk_model.specs.ReadDir.{children, AreClones};
     ghost use Rattle.walk_model.specs.Listing.{paired, is_answered};
@@ -77,14 +77,15 @@ impl<
     ghost use Rattle.jwalk_engine.specs.ReadAhead.{nothing_ahead};
     ghost use Rattle.jwalk_readings.specs.CrewReads.{failure_of, NotLost};
     ghost use Rattle.jwalk_readings.specs.ReadDirIter.{Tells};
-    ghost use Rattle.jwalk_entries.specs.DirEntryIter.{by_crew, is_refused, job_of, min_depth_of, items_of, unread_of, width_of, read_ahead, early_of, held_by, next_address, IsWithin, IsSourced, IsRefused, Known, KnownAt, IsSteadyWalk, ReadsStaySteady, EntersIfAny, GrowsAhead, Answers, Counts};
+    ghost use Rattle.jwalk_entries.specs.DirEntryIter.{reads_of, by_crew, is_refused, job_of, min_depth_of, items_of, unread_of, width_of, read_ahead, early_of, held_by, next_address, IsWithin, IsSourced, IsRefused, Known, KnownAt, IsSteadyWalk, ReadsStaySteady, EntersIfAny, GrowsAhead, Answers, Counts};
     ghost use Rattle.jwalk_entries.specs.Step.{IsAtDirectory, Receives, PassesNext, ReadsUpTo, StopsAtDirectory};
 
-    /// A walk whose start was refused, which needs no memory.
-    fn refused(alloc: A, threads: T, job: Job<C, S, P, A>) -> Self
+    /// A walk whose start was refused, which needs no memory: what it answers is the error that tells of it, and nothing
+    /// else.
+    pub fn refused(alloc: A, threads: T, job: Job<C, S, P, A>) -> Self
         ensures own { by_crew result ≡ false }
         ensures job { job_of result ≡ job }
-        ensures refused { result.refused ≡ true }
+        ensures refused { is_refused result ≡ true }
         ensures items { items_of result ≡ [] }
         ensures unread { unread_of result ≡ [] }
         ensures width { width_of result ≡ options.width_of (options_of job).parallelism }
@@ -95,6 +96,25 @@ impl<
             reads: ReadDirIter::new(alloc, threads, job, mode),
             items: Vec::new(alloc),
             refused: true,
+        }
+    }
+
+    /// The walk over these readings that holds a root's list, and whose start may have been refused.
+    pub fn with_list(
+        reads: ReadDirIter<C, S, P, A, T, L>,
+        list: Vec<Result<DirEntry<C, A>, Error<A>>, A>,
+        refused: bool,
+    ) -> Self
+        ensures reads { reads_of result ≡ reads }
+        ensures items { items_of result ≡ map item list.items }
+        ensures refused { is_refused result ≡ refused }
+    {
+        let mut items = list;
+        items.reverse();
+        DirEntryIter {
+            reads,
+            items,
+            refused,
         }
     }
 

@@ -32,8 +32,8 @@ use walk_fs::file_system::FileSystem;
 /// comes next, and then those below it.
 ///
 /// Want of memory is answered by one error whose `is_memory` is true, and then by `None`; so is a crew's reading that is
-/// lost, by one whose `is_lost` is true. Over a file system whose answers stay the same none is, unless the iterator is
-/// asked for another directory than the next one.
+/// lost, by one whose `is_lost` is true. Over a file system whose answers stay the same, and with a callback that always
+/// does the same, none is, unless the iterator is asked for another directory than the next one.
 pub enum ReadDirIter<
     C: ClientState,
     S: FileSystem,

@@ -3,3 +3,4 @@ pub mod SmallTree
 pub mod Skipping
 pub mod RootAlone
 pub mod Filtering
+pub mod Texts

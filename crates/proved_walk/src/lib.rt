@@ -11,4 +11,5 @@ pub mod marked;
 pub mod root_alone;
 pub mod skipping;
 pub mod small_tree;
+pub mod texts;
 pub mod whole;

@@ -19,7 +19,9 @@ use std::alloc::{AllocError, Allocator, Global};
 /// The list of a directory after the callback, and the state that the callback left.
 #[derive(Drop)]
 pub struct ProcessedList<C: ClientState, A: Allocator + Copy = Global> {
+    /// The directory's state as the callback left it.
     pub state: C::ReadDirState,
+    /// The entries and errors that the callback left, in its order.
     pub items: Vec<Result<DirEntry<C, A>, Error<A>>, A>,
 }
 

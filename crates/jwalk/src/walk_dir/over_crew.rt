@@ -6,10 +6,10 @@ ghost use Rattle.walk_model.specs.Error.{memory, busy};
 ghost use Rattle.read_parts.specs.Error.{failure};
 
 use crate::walk_dir::WalkDirGeneric;
+use crate::walk_dir::crew_start::CrewWalk;
 use jwalk_crew::crew::{Crew, NotStarted};
 use jwalk_crew::pool::Pool;
 use jwalk_crew::session::Session;
-use jwalk_entries::dir_entry_iter::DirEntryIter;
 use jwalk_read::job::Job;
 use jwalk_readings::crew_reads::started::error_of;
 use jwalk_readings::threads::InTurn;
@@ -73,12 +73,7 @@ where
     ghost use Rattle.jwalk_entries.specs.DirEntryIter.{StartsSteady};
 
     /// The walk begun, and why it doesn't begin, if so.
-    fn begin_by(
-        self,
-    ) -> (
-        DirEntryIter<C, S, P, A, T, Session<R, C, S, P, A>>,
-        Option<NotStarted>,
-    )
+    fn begin_by(self) -> (CrewWalk<R, C, S, P, A, T>, Option<NotStarted>)
         requires { P.IsLawful (callback_of self) }
         ensures starts { Starts self result.0 }
         ensures begins { Begins S.FileSystem P.ProcessReadDir C.ReadDirState.Clone C.DirEntryState.Default
@@ -100,9 +95,9 @@ where
         let read = job.root_list(root.as_str(), root_read_dir_state).ok();
         match crew_to_ask(options.mode(), crew) {
             Some((crew, busy_timeout)) => {
-                DirEntryIter::from_root_by(alloc, threads, job, read, &crew, busy_timeout)
+                WalkDirGeneric::from_root_by(alloc, threads, job, read, &crew, busy_timeout)
             }
-            None => DirEntryIter::from_root_alone(alloc, threads, job, read),
+            None => WalkDirGeneric::from_root_alone(alloc, threads, job, read),
         }
     }
 
@@ -113,9 +108,7 @@ where
     ///
     /// An error whose `is_busy` is true where no place was free in time, or no worker could be started; one whose
     /// `is_memory` is true where memory runs out. Then no place is taken.
-    pub fn try_into_iter(
-        self,
-    ) -> Result<DirEntryIter<C, S, P, A, T, Session<R, C, S, P, A>>, Error<A>>
+    pub fn try_into_iter(self) -> Result<CrewWalk<R, C, S, P, A, T>, Error<A>>
         requires { P.IsLawful (callback_of self) }
         ensures starts { IfOk result (Starts self) }
         ensures begins { IfOk result (Begins S.FileSystem P.ProcessReadDir C.ReadDirState.Clone
@@ -134,7 +127,7 @@ where
     /// The walk begun, as by `try_into_iter`. Where the crew is busy, the walk's answers are those of the root's list: the
     /// error that tells of it in the place of each entry whose directory would be read. Where memory is refused, its
     /// only answer is the error that tells of it.
-    pub fn into_iter(self) -> DirEntryIter<C, S, P, A, T, Session<R, C, S, P, A>>
+    pub fn into_iter(self) -> CrewWalk<R, C, S, P, A, T>
         requires { P.IsLawful (callback_of self) }
         ensures starts { Starts self result }
         ensures begins { (why_not : _) × Begins S.FileSystem P.ProcessReadDir C.ReadDirState.Clone

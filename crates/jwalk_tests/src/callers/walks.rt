@@ -1,4 +1,8 @@
 //! Whole walks, and walks in batches.
+use crate::fixtures::answers::are_lines;
+use crate::fixtures::crewed::{Crewed, crew_of};
+use crate::fixtures::trees::{GROUPED, SMALL, tree};
+use crate::fixtures::wide::wide_directory;
 use crate::lines::{Entry, builder, walk};
 use jwalk::Error;
 use jwalk::file_system::{BuildError, FileSystem};
@@ -9,10 +13,6 @@ use proved_walk::whole::walk_whole;
 use std::alloc::{AllocError, Global};
 use std::sync::Arc;
 use std::test::Fail;
-use walk_fixtures::answers::are_lines;
-use walk_fixtures::crewed::{Crewed, crew_of};
-use walk_fixtures::trees::{GROUPED, SMALL, tree};
-use walk_fixtures::wide::wide_directory;
 
 /// All answers of a walk in one list.
 fn whole<S: FileSystem>(

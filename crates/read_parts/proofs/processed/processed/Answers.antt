@@ -16,3 +16,6 @@ returns-clause-value g c = λ given makes clones.
     let path = c.as_str.ensures.value ∙ ap string_bytes c.deref.ensures in
     let items = ap (map (counted_item given)) c.in_ok-items.ensures ∙ counted-in_order given.read_dir_state given.dir_entry_state c.args.options.sort (map item c.args.items.items) in
     same_call (given.processed (Some c.args.of.now.depth)) path cloned items (c.in_ok-process.ensures.made given makes)
+
+pub returns-clause-depth : goal.returns-clause-depth
+returns-clause-depth g c = c.in_ok-process.ensures.depths

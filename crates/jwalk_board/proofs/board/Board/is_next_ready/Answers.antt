@@ -2,8 +2,8 @@ use Rattle.std.proofs.Common.{rules, ◌≡◌, ◌≢◌, [], IsTrue, subst, sy
 use Rattle.std.proofs.lemmas.Bool.{false≢true}
 use Rattle.jwalk_order.specs.Frontier.{next_address}
 use Rattle.jwalk_order.specs.Ordered.{address_of}
-use Rattle.jwalk_board.specs.Addresses.{IsAmong}
-use Rattle.jwalk_board.specs.Addressed.{addresses_of}
+use Rattle.board_parts.specs.Addresses.{IsAmong}
+use Rattle.board_parts.specs.Addressed.{addresses_of}
 use Rattle.jwalk_board.proofs.Steps.{next_is_first}
 use Rattle.jwalk_board.proofs.board.Board.is_next_ready.Goals as goal
 

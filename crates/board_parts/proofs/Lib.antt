@@ -1,0 +1,5 @@
+pub mod Children
+pub mod Keys
+pub mod Sets
+pub mod Siblings
+pub mod Tops

@@ -1,0 +1,4 @@
+pub mod Addressed
+pub mod Addresses
+pub mod Heap
+pub mod Siblings

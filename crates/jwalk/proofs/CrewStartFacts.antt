@@ -1,0 +1,198 @@
+-- How a walk over a crew begins.
+use Rattle.std.proofs.Common.{◌≡◌, ◌∙◌, ◌⊎◌, ℕ, true, false, List, [], ◌∷◌, map, length, Option, Some, None, is_some, Ok, Err, IfSome, IsSomeAnd, inl, inr, refl, sym, ap, arith}
+use Rattle.std.specs.Prelude.{option_map, if◌then◌else◌}
+use Rattle.std.specs.declared.clone.Clone as Clone
+use Rattle.walk_model.specs.Error.{memory, busy}
+use Rattle.walk_model.specs.Entry.{Item, AtDepth, has_directory}
+use Rattle.walk_model.specs.Options.{crew}
+use Rattle.walk_model.specs.ReadDir.{Reading}
+use Rattle.jwalk_read.specs.declared.read_dir.ReadDir.{ReadDir}
+use Rattle.jwalk_read.specs.ReadDir.{reading}
+use Rattle.walk_model.specs.Counted.{Worth, entry_by, children_by}
+use Rattle.walk_model.specs.Listing.{Pair, nothing, paired}
+use Rattle.walk_model.specs.Held.{pair_up, sources, first_source, after_first}
+use Rattle.walk_model.proofs.HeldFacts.{directories}
+use Rattle.read_parts.specs.Given.{Given, counted_item, counted_spec, counted_reading, ClonesCount}
+use Rattle.jwalk_read.specs.declared.job.Job.{Job}
+use Rattle.read_parts.specs.Options as options
+use Rattle.jwalk_read.specs.Job.{options_of, greatest_depth}
+use Rattle.jwalk_crew.specs.declared.crew.NotStarted.{NotStarted}
+use Rattle.jwalk_crew.specs.declared.crew.NotStarted.TheVariants.{Busy, Memory}
+use Rattle.jwalk_entries.specs.DirEntryIter.{reads_of, is_refused, by_crew, width_of, early_of, job_of, items_of, unread_of, held, held_by, IsWithin, IsSourced, IsRefused}
+use Rattle.jwalk.specs.CrewStart.{busied, busy_pair, left_of, IsBegun, HoldsList, IsFromRoot}
+use Rattle.jwalk_readings.specs.ReadDirIter as readings
+use Rattle.jwalk_readings.specs.declared.read_dir_iter.ReadDirIter.{ReadDirIter}
+use Rattle.jwalk_readings.specs.declared.read_dir_iter.ReadDirIter.TheVariants.{Walk, ParWalk, CrewWalk}
+use Rattle.jwalk_entries.specs.declared.dir_entry_iter.DirEntryIter.{DirEntryIter}
+use Rattle.jwalk_entries.proofs.AnswerFacts.{held_by_rest, held_refused, rest_sourced, list_sourced, holds_list, within_root}
+
+module _ {R E : Type 0} where
+  -- errors have no depth
+  busied_depth : (depth : ℕ) (l : List (Item R E)) → AtDepth depth l → AtDepth depth (map busied l)
+  busied_depth depth [] h = tt
+  busied_depth depth (Err f ∷ l) h = busied_depth depth l h
+  busied_depth depth (Ok e ∷ l) h =
+      elim e.read_children as (λ o. AtDepth depth ((if is_some o then Err busy else Ok e) ∷ map busied l)) [
+        | None ↦ (h.0, busied_depth depth l h.1)
+        | Some c ↦ busied_depth depth l h.1
+      ]
+
+  left_depth : (why_not : Option NotStarted) (l : List (Item R E)) → AtDepth 0 l → AtDepth 0 (left_of why_not l)
+  left_depth None l h = h
+  left_depth (Some Busy) l h = busied_depth 0 l h
+  left_depth (Some Memory) l h = tt
+
+  -- and no directories
+  none_below : (l : List (Item R E)) → directories (map busied l) ≡ 0
+  none_below [] = refl
+  none_below (Err f ∷ l) = omega (arith, none_below l)
+  none_below (Ok e ∷ l) =
+      elim (is_some e.read_children) as (λ b. is_some e.read_children ≡ b → directories ((if b then Err busy else Ok e) ∷ map busied l) ≡ 0) [
+        | true ↦ λ some. omega (arith, none_below l)
+        | false ↦ λ none. rw none (omega (arith, none_below l))
+      ] refl
+
+  -- where nothing is to be read, nothing is below an item
+  unread_pairs : (l : List (Item R E)) → ◌≡◌ {A = List (Pair R E)} (pair_up l []) (map (λ x. record { item = x; source = nothing }) l)
+  unread_pairs [] = refl
+  unread_pairs (x ∷ l) =
+      elim (has_directory x) as (λ b. ◌≡◌ {A = List (Pair R E)} (record { item = x; source = first_source b [] } ∷ pair_up l (after_first b [])) (record { item = x; source = nothing } ∷ map (λ x. record { item = x; source = nothing }) l)) [
+        | true ↦ ap (λ t. record { item = x; source = nothing } ∷ t) (unread_pairs l)
+        | false ↦ ap (λ t. record { item = x; source = nothing } ∷ t) (unread_pairs l)
+      ]
+
+  counted_busied : (given : Given R E) (x : Item R E) → counted_item given (busied x) ≡ busied (counted_item given x)
+  counted_busied given (Err f) = refl
+  counted_busied given (Ok e) =
+      elim e.read_children as (λ o. counted_item given (if is_some o then Err busy else Ok e) ≡ (if is_some (option_map (children_by given.read_dir_state) o) then Err busy else Ok (entry_by given.read_dir_state given.dir_entry_state e))) [
+        | None ↦ refl
+        | Some c ↦ refl
+      ]
+
+  busy_pairs : (given : Given R E) (l : List (Item R E)) → ◌≡◌ {A = List (Pair Worth Worth)} (map (λ x. record { item = x; source = nothing }) (map (counted_item given) (map busied l))) (map busy_pair (map (counted_item given) l))
+  busy_pairs given [] = refl
+  busy_pairs given (x ∷ l) =
+      ap (λ y. record { item = y; source = nothing } ∷ map (λ x. record { item = x; source = nothing }) (map (counted_item given) (map busied l))) (counted_busied given x)
+      ∙ ap (λ t. busy_pair (counted_item given x) ∷ t) (busy_pairs given l)
+
+width_by : {C S P A T L R E : Type 0} (reads : ReadDirIter C S P A T L R E) → readings.by_crew reads ≡ true → readings.width_of reads ≡ 1
+width_by (Walk walk) by = absurd cc
+width_by (ParWalk walk threads) by = absurd cc
+width_by (CrewWalk reads) by = refl
+
+early_by : {C S P A T L R E : Type 0} (reads : ReadDirIter C S P A T L R E) → readings.by_crew reads ≡ true → readings.early_of reads ≡ []
+early_by (Walk walk) by = absurd cc
+early_by (ParWalk walk threads) by = absurd cc
+early_by (CrewWalk reads) by = refl
+
+module _ {C S P A T L R E : Type 0} where
+  holds_refusal : (it : DirEntryIter C S P A T L R E) → is_refused it ≡ true → items_of it ≡ [] → held it ≡ record { item = Err memory; source = nothing } ∷ []
+  holds_refusal it refused none = held_refused it refused ∙ ap (λ l. record { item = Err memory; source = nothing } ∷ pair_up l (unread_of it)) none
+
+  refusal_sourced : (it : DirEntryIter C S P A T L R E) → is_refused it ≡ true → items_of it ≡ [] → unread_of it ≡ [] → IsSourced it
+  refusal_sourced it refused none nothing_unread =
+      let alone = holds_refusal it refused none in
+      record { each = rw alone (refl, tt); unread = nothing_unread ∙ sym (ap sources alone) }
+
+  module _ (clone : Clone.Ghosts R) where
+    -- what it holds is at the root's depth
+    pub begun_depth : (read : Option (Reading R E)) (why_not : Option NotStarted) (it : DirEntryIter C S P A T L R E) → IfSome read (λ r. AtDepth 0 r.list) → IsBegun clone read why_not it → AtDepth 0 (items_of it)
+    begun_depth None why_not it depth begun = rw begun.2 tt
+    begun_depth (Some r) why_not it depth begun = rw begun.1 (left_depth why_not r.list depth)
+
+    -- and what is to be read are its directories
+    pub begun_sourced : (read : Option (Reading R E)) (why_not : Option NotStarted) (it : DirEntryIter C S P A T L R E) → IsBegun clone read why_not it → IsSourced it
+    begun_sourced None why_not it begun = refusal_sourced it begun.1 begun.2 begun.3
+    begun_sourced (Some r) None it begun = list_sourced clone r it begun.0 begun.1 begun.2
+    begun_sourced (Some r) (Some Busy) it begun = rest_sourced it begun.0 (ap length begun.2 ∙ sym (none_below r.list) ∙ ap directories (sym begun.1))
+    begun_sourced (Some r) (Some Memory) it begun = refusal_sourced it begun.0 begun.1 begun.2
+
+    -- where memory was refused, that is all it tells
+    pub begun_refused : (read : Option (Reading R E)) (it : DirEntryIter C S P A T L R E) → IsBegun clone read (Some Memory) it → IsRefused it
+    begun_refused None it begun = record { tells = holds_refusal it begun.1 begun.2; nothing_unread = begun.3 }
+    begun_refused (Some r) it begun = record { tells = holds_refusal it begun.0 begun.1; nothing_unread = begun.2 }
+
+    -- where the readings began, it holds the root's list
+    pub begun_holds : (given : Given R E) (read : Option (Reading R E)) (it : DirEntryIter C S P A T L R E) → ClonesCount clone given → IsBegun clone read None it → IsSomeAnd read (λ r. held_by given it ≡ paired (counted_reading given r))
+    begun_holds given None it counts begun = absurd (let no : ◌≡◌ {A = Option NotStarted} None (Some Memory) = begun.0 in cc)
+    begun_holds given (Some r) it counts begun = holds_list clone r it given counts begun.0 begun.1 begun.2
+
+    -- and where the crew was busy, the errors that tell of it in the place of entries with directories
+    pub begun_busy : (given : Given R E) (read : Option (Reading R E)) (it : DirEntryIter C S P A T L R E) → IsBegun clone read (Some Busy) it → IsSomeAnd read (λ r. held_by given it ≡ map busy_pair (counted_reading given r).list)
+    begun_busy given None it begun = absurd (let no : ◌≡◌ {A = Option NotStarted} (Some Busy) (Some Memory) = begun.0 in cc)
+    begun_busy given (Some r) it begun =
+        held_by_rest given it begun.0
+        ∙ ap (λ l. pair_up (map (counted_item given) l) (map (counted_spec given) (unread_of it))) begun.1
+        ∙ ap (λ l. pair_up (map (counted_item given) (map busied r.list)) (map (counted_spec given) l)) begun.2
+        ∙ unread_pairs (map (counted_item given) (map busied r.list))
+        ∙ busy_pairs given r.list
+
+    -- so it holds what it is to, by why its readings didn't begin
+    pub begun_list : (read : Option (Reading R E)) (why_not : Option NotStarted) (it : DirEntryIter C S P A T L R E) → IsBegun clone read why_not it → HoldsList clone read why_not it
+    begun_list read None it begun = λ given counts. begun_holds given read it counts begun
+    begun_list read (Some Busy) it begun = λ given. begun_busy given read it begun
+    begun_list read (Some Memory) it begun = begun_refused read it begun
+
+  -- a crew's width is one, and what it reads ahead isn't spoken of
+  crew_width : (it : DirEntryIter C S P A T L R E) → by_crew it ≡ true → width_of it ≡ 1
+  crew_width it by = width_by (reads_of it) by
+
+  crew_early : (it : DirEntryIter C S P A T L R E) → by_crew it ≡ true → early_of it ≡ []
+  crew_early it by = early_by (reads_of it) by
+
+  module _ (clone : Clone.Ghosts R) (read : Option (Reading R E)) (begun : Job C S P A R E) (it : DirEntryIter C S P A T L R E) where
+    -- a start that was refused
+    pub refused_from_root : by_crew it ≡ false → job_of it ≡ begun → is_refused it ≡ true → items_of it ≡ [] → unread_of it ≡ [] → width_of it ≡ options.width_of (options_of begun).parallelism → early_of it ≡ [] → IsFromRoot clone read begun (Some Memory) it
+    refused_from_root own job refused none nothing_unread width early =
+        let refusal : IsRefused it = record { tells = holds_refusal it refused none; nothing_unread = nothing_unread } in
+        record {
+          job = job;
+          within = rw none tt;
+          sourced = refusal_sourced it refused none nothing_unread;
+          start = inl refusal;
+          width = width;
+          early = early;
+          holds = refusal;
+          busy = λ is. absurd cc;
+          by = λ is. absurd (let no : false ≡ true = sym own ∙ is in cc);
+        }
+
+    -- one that a crew is to read for
+    pub by_from_root : (why_not : Option NotStarted) → (options_of begun).parallelism ≡ crew → IfSome read (λ r. AtDepth 0 r.list) → by_crew it ≡ true → job_of it ≡ begun → IsBegun clone read why_not it → IsFromRoot clone read begun why_not it
+    by_from_root why_not mode depth by job is = record {
+      job = job;
+      within = within_root (greatest_depth (job_of it)) (items_of it) (begun_depth clone read why_not it depth is);
+      sourced = begun_sourced clone read why_not it is;
+      start = inr (begun_depth clone read why_not it depth is);
+      width = crew_width it by ∙ sym (ap options.width_of mode);
+      early = crew_early it by;
+      holds = begun_list clone read why_not it is;
+      busy = λ busy. mode;
+      by = λ by. mode;
+    }
+
+    -- one that reads by itself
+    pub alone_from_root : (why_not : Option NotStarted) → by_crew it ≡ false → ¬ (why_not ≡ Some Busy) → job_of it ≡ begun → IsWithin it → IsSourced it → IsRefused it ⊎ AtDepth 0 (items_of it) → width_of it ≡ options.width_of (options_of begun).parallelism → early_of it ≡ [] → HoldsList clone read why_not it → IsFromRoot clone read begun why_not it
+    alone_from_root why_not own not_busy job within sourced start width early holds = record {
+      job = job;
+      within = within;
+      sourced = sourced;
+      start = start;
+      width = width;
+      early = early;
+      holds = holds;
+      busy = λ is. absurd (not_busy is);
+      by = λ is. absurd (let no : false ≡ true = sym own ∙ is in cc);
+    }
+
+-- what is said of a view is said of what it is a view of
+pub if_some_map : {X Y : Type 0} (view : X → Y) (P : Y → Type 0) (o : Option X) → IfSome o (λ x. P (view x)) → IfSome (option_map view o) P
+if_some_map view P None h = h
+if_some_map view P (Some x) h = h
+
+some_and_map : {X Y : Type 0} (view : X → Y) (P : Y → Type 0) (o : Option X) → IsSomeAnd o (λ x. P (view x)) → IsSomeAnd (option_map view o) P
+some_and_map view P None h = h
+some_and_map view P (Some x) h = h
+
+pub held_of : {C S P A T L R E : Type 0} (given : Given R E) (read : Option (ReadDir C A R E)) (it : DirEntryIter C S P A T L R E) → IsSomeAnd read (λ r. held_by given it ≡ paired (counted_reading given (reading r))) → IsSomeAnd (option_map reading read) (λ r. held_by given it ≡ paired (counted_reading given r))
+held_of given read it h = some_and_map reading (λ r. held_by given it ≡ paired (counted_reading given r)) read h

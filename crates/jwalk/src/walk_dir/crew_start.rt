@@ -1,0 +1,224 @@
+//! The start of a walk over a crew.
+ghost use Rattle.std.specs.Prelude.{◌≡◌, ◌⊎◌, true, [], map, IfSome, OnErr, OnOk, Some, option_map};
+ghost use Rattle.walk_model.specs.Entry.{AtDepth};
+ghost use Rattle.walk_model.specs.Options as parallelism;
+ghost use Rattle.walk_model.specs.ReadDir.{children, AreClones};
+ghost use Rattle.read_parts.specs.Entry.{item};
+ghost use Rattle.jwalk_read.specs.ReadDir.{reading};
+ghost use Rattle.jwalk_read.specs.Job.{callback};
+ghost use Rattle.jwalk_crew.specs.Session.{origin_of, awaited_by};
+ghost use Rattle.jwalk_readings.specs.CrewReads as reads_by;
+ghost use Rattle.jwalk.specs.CrewStart.{busied, left_of, is_refusal};
+ghost use Rattle.jwalk_entries.specs.DirEntryIter.{reads_of, is_refused, by_crew, job_of, items_of, StartsSteady};
+
+use crate::walk_dir::WalkDirGeneric;
+use jwalk_crew::crew::{Crew, NotStarted};
+use jwalk_crew::pool::Pool;
+use jwalk_crew::session::Session;
+use jwalk_entries::dir_entry_iter::DirEntryIter;
+use jwalk_read::job::Job;
+use jwalk_read::read_dir::ReadDir;
+use jwalk_readings::crew_reads::CrewReads;
+use jwalk_readings::read_dir_iter::ReadDirIter;
+use read_parts::client_state::ClientState;
+use read_parts::dir_entry::DirEntry;
+use read_parts::error::Error;
+use read_parts::process_read_dir::ProcessReadDir;
+use std::alloc::Allocator;
+use std::sync::{Arc, Wait};
+use std::thread::Threads;
+use std::time::{Clock, Duration};
+use walk_fs::file_system::FileSystem;
+
+/// A walk that a crew may read for.
+pub(super) type CrewWalk<R, C, S, P, A, T> = DirEntryIter<C, S, P, A, T, Session<R, C, S, P, A>>;
+
+/// Puts the error that tells of a busy crew in the place of an entry that has a directory to be read.
+fn make_busy<C: ClientState, A: Allocator + Copy>(found: &mut Result<DirEntry<C, A>, Error<A>>)
+    ensures { item found.new ≡ busied (item found.old) }
+{
+    if let Ok(entry) = found
+        && entry.read_children.is_some()
+    {
+        *found = Err(Error::busy());
+    }
+}
+
+/// Puts it in the place of all such entries.
+fn make_all_busy<C: ClientState, A: Allocator + Copy>(
+    list: &mut Vec<Result<DirEntry<C, A>, Error<A>>, A>,
+)
+    ensures { map item list.new.items ≡ map busied (map item list.old.items) }
+{
+    for found in list.iter_mut() {
+        make_busy(found);
+    }
+}
+
+/// What is left of a root's list once its readings began, or didn't.
+fn left<C: ClientState, A: Allocator + Copy>(
+    mut list: Vec<Result<DirEntry<C, A>, Error<A>>, A>,
+    why_not: Option<NotStarted>,
+) -> Vec<Result<DirEntry<C, A>, Error<A>>, A>
+    ensures { map item result.items ≡ left_of why_not (map item list.items) }
+{
+    match why_not {
+        None => list,
+        Some(NotStarted::Busy) => {
+            make_all_busy(&mut list);
+            list
+        }
+        Some(NotStarted::Memory) => {
+            list.clear();
+            list
+        }
+    }
+}
+
+/// Whether the readings didn't begin since memory was refused.
+fn is_refused(why_not: Option<NotStarted>) -> bool
+    ensures { result ≡ is_refusal why_not }
+{
+    match why_not {
+        None | Some(NotStarted::Busy) => false,
+        Some(NotStarted::Memory) => true,
+    }
+}
+
+/// Has a crew read the directories of a root's list.
+fn start_reads<
+    R: Wait + Threads + Clock + Drop + Send + Sync + 'static,
+    C: ClientState + Send + 'static,
+    S: FileSystem + Send + Sync + 'static,
+    P: ProcessReadDir<C, A> + Send + Sync + 'static,
+    A: Allocator + Copy + Send + Sync + 'static,
+>(
+    reads: &mut CrewReads<C, S, P, A, Session<R, C, S, P, A>>,
+    crew: &Arc<Crew<R>, A>,
+    busy_timeout: Option<Duration>,
+    read: &ReadDir<C, A>,
+) -> Result<(), NotStarted>
+where
+    C::ReadDirState: Send + 'static,
+    C::DirEntryState: Send + 'static,
+    requires { P.IsLawful (callback (reads_by.job_of reads.old)) }
+    ensures job { reads_by.job_of reads.new ≡ reads_by.job_of reads.old }
+    ensures to_read { OnOk result (AreClones C.ReadDirState.is_clone
+        (children (reading read.now)) (reads_by.to_read reads.new)) }
+    ensures begins { OnOk result (reads_by.BeginsBy (λ session origin addresses.
+        (origin_of session ≡ origin) × (awaited_by session ≡ addresses)) reads.new) }
+    ensures unchanged { OnErr result (reads.new ≡ reads.old) }
+{
+    let own = read.read_children_specs()?;
+    let shared = read.read_children_specs()?;
+    reads.start(crew, busy_timeout, own, shared)
+}
+
+impl<
+    R: Wait + Threads + Clock + Drop + Send + Sync + 'static,
+    C: ClientState + Send + 'static,
+    S: FileSystem + Send + Sync + 'static,
+    P: ProcessReadDir<C, A> + Send + Sync + 'static,
+    A: Allocator + Copy + Send + Sync + 'static,
+    T: Drop,
+> WalkDirGeneric<C, S, P, A, T, Crew<R>>
+where
+    C::ReadDirState: Send + 'static,
+    C::DirEntryState: Send + 'static,
+{
+    ghost use Rattle.jwalk_read.specs.Job.{options_of};
+    ghost use Rattle.jwalk.specs.CrewStart.{IsBegun, IsFromRoot};
+
+    /// The walk that holds what is left of the root's list once its readings began, or didn't.
+    fn begun(
+        reads: CrewReads<C, S, P, A, Session<R, C, S, P, A>>,
+        read: ReadDir<C, A>,
+        why_not: Option<NotStarted>,
+    ) -> CrewWalk<R, C, S, P, A, T>
+        ensures reads { reads_of result ≡ ReadDirIter.CrewWalk reads }
+        ensures items { items_of result ≡ left_of why_not (reading read).list }
+        ensures refused { is_refused result ≡ is_refusal why_not }
+    {
+        let list = left(read.into_results_list(), why_not);
+        DirEntryIter::with_list(ReadDirIter::CrewWalk(reads), list, is_refused(why_not))
+    }
+
+    /// The walk whose directories a crew reads, once its readings began, or didn't; and why they didn't.
+    fn with_reads(
+        mut reads: CrewReads<C, S, P, A, Session<R, C, S, P, A>>,
+        read: ReadDir<C, A>,
+        crew: &Arc<Crew<R>, A>,
+        busy_timeout: Option<Duration>,
+    ) -> (CrewWalk<R, C, S, P, A, T>, Option<NotStarted>)
+        requires lawful { P.IsLawful (callback (reads_by.job_of reads)) }
+        requires nothing { reads_by.to_read reads ≡ [] }
+        requires steady { reads_by.StartsSteady S.FileSystem P.ProcessReadDir C.ReadDirState.Clone
+            C.DirEntryState.Default ⟦<Session<R, C, S, P, A> as Pool<C, S, P, A>>⟧ reads }
+        ensures by { by_crew result.0 ≡ true }
+        ensures job { job_of result.0 ≡ reads_by.job_of reads }
+        ensures begun { IsBegun C.ReadDirState.Clone (Some (reading read)) result.1 result.0 }
+        ensures steady { StartsSteady S.FileSystem P.ProcessReadDir C.ReadDirState.Clone C.DirEntryState.Default
+            ⟦<Session<R, C, S, P, A> as Pool<C, S, P, A>>⟧ result.0 }
+    {
+        match start_reads(&mut reads, crew, busy_timeout, &read) {
+            Ok(()) => (WalkDirGeneric::begun(reads, read, None), None),
+            Err(why_not) => (
+                WalkDirGeneric::begun(reads, read, Some(why_not)),
+                Some(why_not),
+            ),
+        }
+    }
+
+    /// The walk that begins with the root's list, whose directories a crew reads; and why it doesn't begin, if so. Where
+    /// no place of the crew is free in time, the error that tells of it stands in the place of each entry with a
+    /// directory. Where memory is refused, what the walk answers is the error that tells of it, and nothing else.
+    pub(super) fn from_root_by(
+        alloc: A,
+        threads: T,
+        job: Job<C, S, P, A>,
+        read: Option<ReadDir<C, A>>,
+        crew: &Arc<Crew<R>, A>,
+        busy_timeout: Option<Duration>,
+    ) -> (CrewWalk<R, C, S, P, A, T>, Option<NotStarted>)
+        requires lawful { P.IsLawful (callback job) }
+        requires mode { (options_of job).parallelism ≡ parallelism.crew }
+        requires depth { IfSome read (λ r. AtDepth 0 (reading r).list) }
+        ensures from_root { IsFromRoot C.ReadDirState.Clone (option_map reading read) job result.1 result.0 }
+        ensures by { (result.1 ≡ Some NotStarted.Memory) ⊎ (by_crew result.0 ≡ true) }
+        ensures steady { StartsSteady S.FileSystem P.ProcessReadDir C.ReadDirState.Clone C.DirEntryState.Default
+            ⟦<Session<R, C, S, P, A> as Pool<C, S, P, A>>⟧ result.0 }
+    {
+        let Some(read) = read else {
+            return (
+                DirEntryIter::refused(alloc, threads, job),
+                Some(NotStarted::Memory),
+            );
+        };
+        match CrewReads::new(alloc, job) {
+            Ok(reads) => WalkDirGeneric::with_reads(reads, read, crew, busy_timeout),
+            Err(job) => (
+                DirEntryIter::refused(alloc, threads, job),
+                Some(NotStarted::Memory),
+            ),
+        }
+    }
+
+    /// The walk that begins with the root's list and reads by itself; and why it doesn't begin, if so.
+    pub(super) fn from_root_alone(
+        alloc: A,
+        threads: T,
+        job: Job<C, S, P, A>,
+        read: Option<ReadDir<C, A>>,
+    ) -> (CrewWalk<R, C, S, P, A, T>, Option<NotStarted>)
+        requires { IfSome read (λ r. AtDepth 0 (reading r).list) }
+        ensures from_root { IsFromRoot C.ReadDirState.Clone (option_map reading read) job result.1 result.0 }
+        ensures steady { StartsSteady S.FileSystem P.ProcessReadDir C.ReadDirState.Clone C.DirEntryState.Default
+            ⟦<Session<R, C, S, P, A> as Pool<C, S, P, A>>⟧ result.0 }
+    {
+        let walk = DirEntryIter::from_root(alloc, threads, job, read);
+        if walk.is_refused() {
+            return (walk, Some(NotStarted::Memory));
+        }
+        (walk, None)
+    }
+}

@@ -1,0 +1,140 @@
+//! Readings that are of another directory than the one that comes next.
+use crate::fixtures::trees::{Step, tree};
+use crew_parts::arrival::{Arrival, arrive};
+use crew_parts::message::Message;
+use crew_parts::wanted::Wanted;
+use jwalk::board::Board;
+use jwalk::file_system::{FileSystem, MemoryFs};
+use jwalk::ordered::Ordered;
+use jwalk::read_dir::{Job, NoProcess, ReadDirSpec};
+use jwalk::read_dir_iter::ReadDirIter;
+use jwalk::threads::InTurn;
+use jwalk_crew::pool::{Missed, Pool};
+use std::alloc::Global;
+use std::sync::Arc;
+use std::test::Fail;
+
+type States = ((), ());
+
+type TreeJob<'f> = Job<States, &'f MemoryFs, NoProcess>;
+
+type Told<'f> = Message<States, &'f MemoryFs, NoProcess>;
+
+/// A pool whose readings are all made before they are asked for.
+struct Prepared<'f> {
+    board: Board<ReadDirSpec<States>, Told<'f>>,
+}
+
+impl<'f> Drop for Prepared<'f> {
+    fn drop(self) {
+        let Prepared { board: _ } = self;
+    }
+}
+
+impl<'f> Pool<States, &'f MemoryFs, NoProcess, Global> for Prepared<'f> {
+    ghost use Rattle.std.specs.Prelude.{[]};
+
+    ghost comes_from = { λ _ _. ⊥ };
+
+    ghost awaits = { λ _. [] };
+
+    fn next(&mut self, wanted: &Wanted) -> Result<Ordered<Told<'f>>, Missed> {
+        match arrive(&mut self.board, wanted) {
+            Arrival::Entered(item) => Ok(item),
+            Arrival::Memory => Err(Missed::Memory),
+            Arrival::Lost | Arrival::Wait => Err(Missed::Lost),
+        }
+    }
+
+    fn ahead(&self) -> usize {
+        self.board.ready()
+    }
+}
+
+/// Two roots, of which the first has a directory.
+const TWO_ROOTS: &[Step] = &[Step::Dir("/r"), Step::Dir("/r/a"), Step::Dir("/s")];
+
+fn job_over(alloc: Global, fs: &MemoryFs) -> TreeJob<'_> {
+    Job::new(alloc, fs, NoProcess, true, true, false, usize::MAX)
+}
+
+/// The directory at a root.
+fn roots(job: &TreeJob<'_>, root: &str) -> Option<Vec<ReadDirSpec<States>>> {
+    job.root_list(root, ()).ok()?.read_children_specs().ok()
+}
+
+/// Reads the directory that is queued, and puts these below it.
+fn read<'f>(
+    board: &mut Board<ReadDirSpec<States>, Told<'f>>,
+    job: Arc<TreeJob<'f>>,
+    below: Vec<ReadDirSpec<States>>,
+) -> Option<()> {
+    let Ordered {
+        value: of,
+        index_path: address,
+        ..
+    } = board.take().ok()?;
+    let (message, _) = Message::read(job, of);
+    board.finish(address, message, below).ok()
+}
+
+/// The readings of these two directories, the second below the first.
+fn pool_of<'f>(alloc: Global, fs: &'f MemoryFs, first: &str, second: &str) -> Option<Prepared<'f>> {
+    let job = Arc::new(alloc, job_over(alloc, fs)).ok()?;
+    let mut board = Board::new(roots(&job, first)?).ok()?;
+    read(&mut board, job.clone().ok()?, roots(&job, second)?)?;
+    read(&mut board, job, Vec::new(alloc))?;
+    Some(Prepared { board })
+}
+
+/// What comes of a reading, in a word.
+fn word_of<S: FileSystem, L: Pool<States, S, NoProcess, Global>>(
+    reads: &mut ReadDirIter<States, S, NoProcess, Global, InTurn, L>,
+) -> &'static str {
+    let Some(read) = reads.next() else {
+        return " none";
+    };
+    let Err(error) = read else {
+        return " read";
+    };
+    if error.is_lost() { " lost" } else { " error" }
+}
+
+/// What comes of four readings, in a word each.
+fn words_of<S: FileSystem, L: Pool<States, S, NoProcess, Global>>(
+    alloc: Global,
+    mut reads: ReadDirIter<States, S, NoProcess, Global, InTurn, L>,
+) -> Option<String> {
+    let mut words = String::new(alloc);
+    for _ in 0..4 {
+        words.push_str(word_of(&mut reads)).ok()?;
+    }
+    Some(words)
+}
+
+/// What comes of four readings from `/r` on, of which these two are there.
+fn comes(alloc: Global, fs: &MemoryFs, first: &str, second: &str) -> Option<String> {
+    let pool = pool_of(alloc, fs, first, second)?;
+    let own = job_over(alloc, fs);
+    let from = roots(&own, "/r")?;
+    words_of(alloc, ReadDirIter::over_pool(own, from, pool).ok()?)
+}
+
+/// Whether this is what comes.
+fn is_what_comes(alloc: Global, fs: &MemoryFs, first: &str, second: &str, words: &str) -> bool {
+    match comes(alloc, fs, first, second) {
+        Some(found) => found.as_str() == words,
+        None => false,
+    }
+}
+
+#[test]
+fn a_reading_of_another_directory_is_lost_and_ends_the_readings(
+    rt: HostRuntime,
+) -> Result<(), Fail> {
+    let alloc = rt.alloc();
+    let fs = tree(alloc, TWO_ROOTS)?;
+    assert!(rt; is_what_comes(alloc, &fs, "/s", "/r/a", " lost none none none"));
+    assert!(rt; is_what_comes(alloc, &fs, "/r", "/s", " read lost none none"));
+    Ok(())
+}

@@ -1,0 +1,10 @@
+//! What walks over the real disk answer, and over disks whose answers are written down.
+mod folder;
+mod lines;
+mod links;
+mod listings;
+mod real;
+mod refusals;
+mod sizes;
+mod told;
+mod walks;

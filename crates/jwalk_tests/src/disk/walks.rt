@@ -1,0 +1,129 @@
+//! Walks from folders, files and other things on the disk.
+use crate::disk::folder::{Step, make, path_in, remove};
+use crate::disk::lines::{builder, lines, rest};
+use crate::disk::real::{found_from, shown};
+use jwalk::file_system::{Fault, FileSystem, RealFs};
+use jwalk::read_dir::NoProcess;
+use jwalk::threads::OnThreads;
+use jwalk::{Parallelism, WalkDir, WalkDirGeneric};
+use std::alloc::{AllocError, Global};
+use std::test::Fail;
+use std::thread::Threads;
+use std::{env, io};
+
+/// Files and two groups of files, one of which has a hidden name.
+const GROUPED: &[Step] = &[
+    Step::File(1, "/c.txt"),
+    Step::File(2, "/a.txt"),
+    Step::Dir("/group 2"),
+    Step::File(3, "/group 2/.hidden_file.txt"),
+    Step::File(4, "/group 2/e.txt"),
+    Step::Dir("/group 1"),
+    Step::File(5, "/group 1/d.txt"),
+    Step::File(6, "/b.txt"),
+];
+
+#[test]
+fn a_folder_of_groups_by_name(rt: HostRuntime) -> Result<(), Fail> {
+    let wanted = "0 d /t\n1 f /t/a.txt\n1 f /t/b.txt\n1 f /t/c.txt\n\
+                  1 d /t/group 1\n2 f /t/group 1/d.txt\n1 d /t/group 2\n2 f /t/group 2/e.txt\n";
+    assert_eq!(rt; shown(&rt, "groups", GROUPED, false)?.as_str(), wanted);
+    Ok(())
+}
+
+/// What a walk answers by name whose directories are read several at a time, with `/t` for the folder.
+fn found_in_batches<R: Threads + Drop + Sync, S: FileSystem + Send + Sync>(
+    alloc: Global,
+    walk: WalkDirGeneric<((), ()), S, NoProcess, Global, OnThreads<R>>,
+    folder: &str,
+) -> Result<String, AllocError> {
+    let mut walk = walk
+        .sort(true)
+        .parallelism(Parallelism::RayonNewPool(2))
+        .into_iter();
+    let mut found = Vec::new(alloc);
+    walk.fill(usize::MAX, &mut found)?;
+    lines(alloc, found.as_slice(), folder)
+}
+
+#[test]
+fn a_folder_of_groups_in_batches(rt: HostRuntime) -> Result<(), Fail> {
+    let folder = make(&rt, "batches", GROUPED)?;
+    let walk = WalkDir::at(&rt, folder.as_str())?;
+    let found = found_in_batches(rt.alloc(), walk, folder.as_str());
+    remove(&rt, folder.as_str())?;
+    let wanted = "0 d /t\n1 f /t/a.txt\n1 f /t/b.txt\n1 f /t/c.txt\n\
+                  1 d /t/group 1\n2 f /t/group 1/d.txt\n1 d /t/group 2\n2 f /t/group 2/e.txt\n";
+    assert_eq!(rt; found?.as_str(), wanted);
+    Ok(())
+}
+
+/// Whether a file in a folder has this length, as what the path leads to and as what stands there.
+fn has_length(rt: &HostRuntime, folder: &str, below: &str, len: u64) -> Result<bool, Fault> {
+    let fs = RealFs::new(*rt);
+    let path = path_in(rt, folder, below)?;
+    let found = fs.metadata(path.as_str())?;
+    let itself = fs.symlink_metadata(path.as_str())?;
+    Ok(found.is_file() && found.len() == len && itself.is_file() && itself.len() == len)
+}
+
+fn has_lengths(rt: &HostRuntime, folder: &str) -> bool {
+    const LENGTHS: &[(&str, u64)] = &[
+        ("/a.txt", 2),
+        ("/b.txt", 6),
+        ("/group 1/d.txt", 5),
+        ("/group 2/.hidden_file.txt", 3),
+    ];
+    for (below, len) in LENGTHS {
+        if !matches!(has_length(rt, folder, *below, *len), Ok(true)) {
+            return false;
+        }
+    }
+    true
+}
+
+#[test]
+fn lengths_of_files(rt: HostRuntime) -> Result<(), Fail> {
+    let folder = make(&rt, "lengths", GROUPED)?;
+    let are_so = has_lengths(&rt, folder.as_str());
+    remove(&rt, folder.as_str())?;
+    assert!(rt; are_so);
+    Ok(())
+}
+
+/// Directories in one another, where the process begins in the one around them.
+const NESTED: &[Step] = &[Step::Dir("/r"), Step::Dir("/r/s")];
+
+/// What a walk to the depth 1 answers from a path that begins where the process stands.
+fn found_here(rt: &HostRuntime, root: &str) -> io::Result<String> {
+    let walk = builder(rt.alloc(), RealFs::new(*rt), root)?;
+    let found = rest(rt.alloc(), &mut walk.max_depth(1).into_iter())?;
+    Ok(lines(rt.alloc(), found.as_slice(), "/t")?)
+}
+
+/// What walks answer from the folder around, each from one directory further down.
+fn found_further_down(rt: &HostRuntime, folder: &str) -> io::Result<String> {
+    let mut all = String::new(rt.alloc());
+    for (below, root) in [("", "."), ("/r", ".."), ("/r/s", "../..")] {
+        env::set_current_dir(rt, path_in(rt, folder, below)?.as_str())?;
+        all.push_str(found_here(rt, root)?.as_str())?;
+    }
+    Ok(all)
+}
+
+#[test]
+fn roots_from_where_the_process_stands(rt: HostRuntime) -> Result<(), Fail> {
+    let folder = make(&rt, "relative", NESTED)?;
+    let found = found_further_down(&rt, folder.as_str());
+    remove(&rt, folder.as_str())?;
+    let wanted = "0 d .\n1 d ./r\n0 d ..\n1 d ../r\n0 d ../..\n1 d ../../r\n";
+    assert_eq!(rt; found?.as_str(), wanted);
+    Ok(())
+}
+
+#[test]
+fn a_device_is_something_else(rt: HostRuntime) -> Result<(), Fail> {
+    let found = found_from(&rt, "/dev", "/null", false)?;
+    assert_eq!(rt; found.as_str(), "0 o /t/null\n");
+    Ok(())
+}

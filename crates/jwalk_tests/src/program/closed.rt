@@ -1,0 +1,99 @@
+//! An output that is closed while a walk is under way.
+use crate::fixtures::watched::{Failing, Watched};
+use crate::program::runs::ends;
+use std::alloc::{AllocError, Global};
+use std::io;
+use std::io::{ErrorKind, Write};
+use std::sync::{Arc, Wait};
+use std::thread::Threads;
+use std::time::Clock;
+use walk_text::failure::Failure;
+use walk_text::tree::build_tree;
+
+/// How often a disk was asked, for whatever.
+fn asked(disk: &Watched) -> usize {
+    let calls = disk.calls();
+    calls
+        .lists
+        .wrapping_add(calls.looks)
+        .wrapping_add(calls.follows)
+}
+
+/// Takes some writes, and fails from then on. It notes how often a disk had been asked by then, and counts its
+/// failures.
+#[derive(Drop)]
+struct Closed<'d> {
+    takes: usize,
+    disk: &'d Watched,
+    calls: usize,
+    failures: usize,
+}
+
+impl<'d> Write for Closed<'d> {
+    fn write(&mut self, buf: &[u8]) -> io::Result<usize> {
+        if self.takes > 0 {
+            self.takes -= 1;
+            return Ok(buf.len());
+        }
+        self.calls = asked(self.disk);
+        self.failures = self.failures.wrapping_add(1);
+        Err(io::Error::from(ErrorKind::BrokenPipe))
+    }
+
+    fn flush(&mut self) -> io::Result<()> {
+        Ok(())
+    }
+}
+
+/// Lines of so many directories beside one another.
+fn dir_lines(alloc: Global, count: u64) -> Result<String, AllocError> {
+    let mut lines = String::from_str(alloc, "d /r\n")?;
+    for number in 0..count {
+        lines.push_str(format!(in alloc; "d /r/directory number {number}\n")?.as_str())?;
+    }
+    Ok(lines)
+}
+
+fn shared(alloc: Global, disk: Watched) -> Result<Arc<Watched>, AllocError> {
+    Ok(Arc::new(alloc, disk)?)
+}
+
+fn watched_over(alloc: Global, lines: &str) -> Result<Arc<Watched>, Failure> {
+    let tree = build_tree(alloc, lines.as_bytes())?;
+    Ok(shared(alloc, Watched::new(tree, Failing::Never))?)
+}
+
+/// Whether one write failed and the disk was asked for nothing since then, long before it was walked to its end.
+fn is_closed(out: &Closed<'_>, before: usize) -> bool {
+    out.takes == 0
+        && out.failures == 1
+        && out.calls == asked(out.disk)
+        && out.calls.wrapping_sub(before) < 3000
+}
+
+/// Whether the disk is asked for nothing once a write has failed, and isn't walked to its end.
+fn stops(
+    rt: &(impl Wait + Threads + Clock + Clone + Drop + Send + Sync + AllocGlobal + 'static),
+    words: &[&str],
+    disk: &Arc<Watched>,
+) -> bool {
+    let before = asked(disk);
+    let mut out = Closed {
+        takes: 2,
+        disk: &**disk,
+        calls: 0,
+        failures: 0,
+    };
+    match disk.clone() {
+        Ok(shared) => ends(rt, shared, words, "", &mut out, 1) && is_closed(&out, before),
+        Err(_) => false,
+    }
+}
+
+#[test]
+fn nothing_is_asked_once_a_write_has_failed(rt: HostRuntime) -> Result<(), Failure> {
+    let lines = dir_lines(rt.alloc(), 6000)?;
+    let disk = watched_over(rt.alloc(), lines.as_str())?;
+    assert!(rt; stops(&rt, &["/r"], &disk) && stops(&rt, &["--batch", "8", "/r"], &disk));
+    Ok(())
+}

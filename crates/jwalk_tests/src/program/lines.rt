@@ -1,0 +1,126 @@
+//! The line of each sort of answer.
+use crate::fixtures::listed_directory::{Item, ListedDirectory};
+use crate::program::runs::{Want, comes_unread};
+use jwalk::file_system::{Fault, FileSystem, FileType, Listed, Metadata};
+use std::alloc::Allocator;
+use std::io;
+use std::io::ErrorKind;
+use std::sync::Wait;
+use std::thread::Threads;
+use std::time::Clock;
+
+/// A link, a socket, a directory that can't be read and an item that has no name.
+const ODD: ListedDirectory<'static> = ListedDirectory {
+    path: "/odd",
+    file_type: FileType::Dir,
+    target: Some(FileType::Dir),
+    items: &[
+        Item::Typed("link", FileType::Symlink),
+        Item::Typed("socket", FileType::Other),
+        Item::Typed("denied", FileType::Dir),
+        Item::Unread(ErrorKind::TimedOut),
+    ],
+};
+
+/// A hidden name without a type, an item that has no name, and two files.
+const FAULTY: ListedDirectory<'static> = ListedDirectory {
+    path: "/d",
+    file_type: FileType::Dir,
+    target: Some(FileType::Dir),
+    items: &[
+        Item::Untyped(".x", ErrorKind::PermissionDenied),
+        Item::Unread(ErrorKind::InvalidData),
+        Item::Typed("b", FileType::File),
+        Item::Typed("a", FileType::File),
+    ],
+};
+
+/// A file system of directories: these two, `/wide`, where memory is refused, and others that can't be read.
+#[derive(Drop)]
+struct Odd;
+
+impl FileSystem for Odd {
+    ghost use Rattle.std.specs.Prelude.{Err};
+    ghost use Rattle.std.specs.declared.io.ErrorKind.TheVariants.{Other};
+
+    ghost IsFixed = { λ _. ⊥ };
+
+    ghost functions = { λ _. record { list_of = λ _. Err Other; meta_of = λ _. Err Other; link_meta_of = λ _. Err Other; target_of = λ _. Err Other } };
+
+    fn read_dir<A: Allocator + Copy>(
+        &self,
+        alloc: A,
+        path: &str,
+    ) -> Result<Vec<io::Result<Listed<A>>, A>, Fault> {
+        match path {
+            "/odd" => ODD.read_dir(alloc, path),
+            "/d" => FAULTY.read_dir(alloc, path),
+            "/wide" => Err(Fault::Memory),
+            _ => Err(Fault::Io(io::Error::from(ErrorKind::PermissionDenied))),
+        }
+    }
+
+    fn metadata(&self, _path: &str) -> Result<Metadata, Fault> {
+        Ok(Metadata::new(FileType::Dir, 0))
+    }
+
+    fn symlink_metadata(&self, _path: &str) -> Result<Metadata, Fault> {
+        Ok(Metadata::new(FileType::Dir, 0))
+    }
+
+    fn read_link<A: Allocator + Copy>(&self, _alloc: A, _path: &str) -> Result<String<A>, Fault> {
+        Err(Fault::Io(io::Error::from(ErrorKind::InvalidInput)))
+    }
+}
+
+/// The words of a call over that file system, and what comes of it.
+type Row = (&'static [&'static str], Want<'static>);
+
+/// The number of the first row that comes otherwise, or whose call reads the input.
+fn first_wrong(
+    rt: &(impl Wait + Threads + Clock + Clone + Drop + Send + Sync + AllocGlobal + 'static),
+    rows: &[Row],
+) -> Option<usize> {
+    for (number, (words, want)) in rows.iter().enumerate() {
+        if !comes_unread(rt, Odd, &[], words, want) {
+            return Some(number);
+        }
+    }
+    None
+}
+
+#[test]
+fn each_sort_of_answer_has_its_line(rt: HostRuntime) {
+    const ROWS: &[Row] = &[
+        (
+            &["/odd"],
+            (
+                "0 d /odd\n1 L /odd/link\n1 o /odd/socket\n1 d /odd/denied ! PermissionDenied\n! 1 - Other\n",
+                "",
+                1,
+            ),
+        ),
+        (&["/denied"], ("0 d /denied ! PermissionDenied\n", "", 0)),
+        (&["/wide"], ("! 0 - memory\n", "", 1)),
+    ];
+    assert_eq!(rt; first_wrong(&rt, ROWS), None);
+}
+
+#[test]
+fn errors_come_last_and_whatever_their_depth(rt: HostRuntime) {
+    const ROWS: &[Row] = &[
+        (
+            &["--sort", "/d"],
+            (
+                "0 d /d\n1 f /d/a\n1 f /d/b\n! 1 /d/.x PermissionDenied\n! 1 - InvalidData\n",
+                "",
+                1,
+            ),
+        ),
+        (
+            &["--sort", "--min", "5", "--max", "5", "/d"],
+            ("! 1 /d/.x PermissionDenied\n! 1 - InvalidData\n", "", 1),
+        ),
+    ];
+    assert_eq!(rt; first_wrong(&rt, ROWS), None);
+}

@@ -1,0 +1,12 @@
+//! Walks and their answers in one table, each read in every way.
+mod callbacks;
+mod calls;
+mod coming;
+mod faults;
+mod links;
+mod options;
+mod parts;
+mod roots;
+mod table;
+mod walks;
+mod widths;

@@ -1,0 +1,78 @@
+//! Walks whose callback is refused memory.
+use crate::fixtures::answers::Answer;
+use crate::fixtures::trees::{GROUPED, tree};
+use crate::rows::callbacks::rows::{Callback, Row, all_hold, by_name};
+use jwalk::file_system::MemoryFs;
+use jwalk::read_dir::ProcessReadDir;
+use std::alloc::{AllocError, Global};
+
+/// A callback that is refused memory for the list of the root, or for those of directories at a depth.
+#[derive(Drop)]
+pub struct RefusedAt {
+    pub at: Option<usize>,
+}
+
+impl ProcessReadDir<((), ()), Global> for RefusedAt {
+    ghost IsLawful = { λ _. Unit {0} };
+
+    ghost Makes = { λ _ _. ⊥ };
+
+    fn process(
+        &self,
+        depth: Option<usize>,
+        _path: &str,
+        _state: &mut (),
+        _list: &mut Vec<Answer>,
+    ) -> Result<(), AllocError> {
+        if depth == self.at {
+            Err(AllocError)
+        } else {
+            Ok(())
+        }
+    }
+}
+
+#[test]
+fn a_callback_that_is_refused_memory(rt: HostRuntime) {
+    const ROWS: &[Row] = &[
+        Row {
+            callback: Callback::RefusedAt(None),
+            root: "/t",
+            answers: "! 0 - memory",
+        },
+        Row {
+            callback: Callback::RefusedAt(Some(0)),
+            root: "/t",
+            answers: "! 0 - memory",
+        },
+        Row {
+            callback: Callback::RefusedAt(Some(1)),
+            root: "/t",
+            answers: "0 d /t; 1 f /t/a.txt; 1 f /t/b.txt; 1 f /t/c.txt; ! 0 - memory",
+        },
+    ];
+    all_hold(&rt, ROWS);
+}
+
+/// Whether a walk whose callback is refused memory for the root's list is not begun.
+fn is_not_begun(alloc: Global, fs: &MemoryFs) -> Result<bool, AllocError> {
+    let walk = by_name(fs, "/t").builder::<((), ())>(alloc)?;
+    let walk = walk.process_read_dir(RefusedAt { at: None });
+    Ok(match walk.try_into_iter() {
+        Ok(_) => false,
+        Err(error) => error.is_memory(),
+    })
+}
+
+/// Whether it is not over the groups of files.
+fn no_groups_begun(alloc: Global) -> bool {
+    match tree(alloc, GROUPED) {
+        Ok(fs) => is_not_begun(alloc, &fs) == Ok(true),
+        Err(_) => false,
+    }
+}
+
+#[test]
+fn a_walk_that_is_not_begun_without_memory(rt: HostRuntime) {
+    assert!(rt; no_groups_begun(rt.alloc()));
+}
