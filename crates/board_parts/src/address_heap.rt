@@ -13,8 +13,10 @@ use std::alloc::{AllocError, Allocator};
 use std::collections::BinaryHeap;
 use std::marker::Model;
 
-// The one in front, where there is one, comes before all others and stands outside the heap. What is pushed and is then
-// the first stands there, so that no sift is made where it comes out at once.
+/// Values by address, of which the least comes out first.
+///
+/// The one in front, where there is one, comes before all others and stands outside the heap. What is pushed and is then
+/// the first stands there, so that no sift is made where it comes out at once.
 #[derive(Drop)]
 pub struct AddressHeap<T, A: Allocator + Copy> {
     front: Option<Ordered<T, A>>,
@@ -41,6 +43,7 @@ impl<T, A: Allocator + Copy> Model for AddressHeap<T, A> {
 }
 
 impl<T, A: Allocator + Copy> AddressHeap<T, A> {
+    /// An empty heap, which takes no memory.
     pub fn new(alloc: A) -> Self
         ensures { result.items ≡ [] }
     {
@@ -50,6 +53,7 @@ impl<T, A: Allocator + Copy> AddressHeap<T, A> {
         }
     }
 
+    /// How many values it holds.
     pub fn len(&self) -> usize
         ensures { result ≡ length self.now.items }
     {
@@ -59,7 +63,7 @@ impl<T, A: Allocator + Copy> AddressHeap<T, A> {
         }
     }
 
-    // Makes room for one more.
+    /// Makes room for one more. Where memory is refused, nothing is changed.
     pub fn reserve_one(&mut self) -> Result<(), AllocError>
         ensures items { self.new.items ≡ self.old.items }
         ensures room { OnOk result (0 < self.new.room) }
@@ -67,6 +71,7 @@ impl<T, A: Allocator + Copy> AddressHeap<T, A> {
         self.others.reserve(2)
     }
 
+    /// Adds a value where there is room for it, which `reserve_one` makes.
     pub fn push_reserved(&mut self, item: Ordered<T, A>)
         requires { 0 < self.old.room }
         ensures { IsPermutation (addressed item ∷ self.old.items) self.new.items }
@@ -92,7 +97,7 @@ impl<T, A: Allocator + Copy> AddressHeap<T, A> {
         }
     }
 
-    // An item at the least address.
+    /// An item at the least address, if there is one.
     pub fn peek(&self) -> Option<&Ordered<T, A>>
         ensures some { IfSome result (λ item. IsAmong (address_of item.now) (addresses_of self.now.items)) }
         ensures top { IfSome result (λ item. addressed item.now
@@ -106,7 +111,7 @@ impl<T, A: Allocator + Copy> AddressHeap<T, A> {
         }
     }
 
-    // Takes the item that `peek` shows.
+    /// Takes the item that `peek` shows, and leaves room for one more.
     pub fn pop(&mut self) -> Option<Ordered<T, A>>
         ensures items { IfSome result (λ item. IsPermutation self.old.items (addressed item ∷ self.new.items)) }
         ensures top { IfSome result (λ item. addressed item ≡ slice_index_or self.old.items 0 (addressed item)) }

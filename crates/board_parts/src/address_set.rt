@@ -9,7 +9,7 @@ use std::alloc::{AllocError, Allocator};
 use std::collections::BTreeSet;
 use std::marker::Model;
 
-// One is kept apart, in memory that is used again, so that a set of one seldom takes any.
+/// A set of addresses. One is kept apart, in memory that is used again, so that a set of one seldom takes any.
 #[derive(Drop)]
 pub struct AddressSet<A: Allocator + Copy> {
     apart: IndexPath<A>,
@@ -28,6 +28,7 @@ impl<A: Allocator + Copy> Model for AddressSet<A> {
 }
 
 impl<A: Allocator + Copy> AddressSet<A> {
+    /// An empty set, which takes no memory.
     pub fn new(alloc: A) -> Self
         ensures { result ≡ [] }
     {
@@ -38,6 +39,7 @@ impl<A: Allocator + Copy> AddressSet<A> {
         }
     }
 
+    /// How many addresses are in it.
     pub fn len(&self) -> usize
         ensures len { result ≡ length self.now }
         ensures small { result ≤ 2 ^ 63 }
@@ -49,6 +51,7 @@ impl<A: Allocator + Copy> AddressSet<A> {
         }
     }
 
+    /// Whether an address is in it.
     pub fn contains(&self, path: &IndexPath<A>) -> bool
         ensures { IsTrue result ↔ IsAmong (address path.now) self.now }
     {
@@ -58,6 +61,7 @@ impl<A: Allocator + Copy> AddressSet<A> {
         self.others.contains(path)
     }
 
+    /// Adds an address that isn't in it yet. Where memory is refused, nothing is changed.
     pub fn insert(&mut self, path: &IndexPath<A>) -> Result<(), AllocError>
         requires { times (address path.now) self.old ≡ 0 }
         ensures added { OnOk result (IsPermutation (address path.now ∷ self.old) self.new) }
@@ -75,6 +79,7 @@ impl<A: Allocator + Copy> AddressSet<A> {
         Ok(())
     }
 
+    /// Takes away an address that is in it.
     pub fn remove(&mut self, path: &IndexPath<A>)
         requires { IsAmong (address path.now) self.old }
         ensures { IsPermutation self.old (address path.now ∷ self.new) }

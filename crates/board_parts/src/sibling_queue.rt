@@ -13,7 +13,8 @@ use std::alloc::Allocator;
 use std::marker::Model;
 use std::vec::IntoIter;
 
-// The siblings of an entry stand in order at its address and the ones after it.
+/// Values by address, of which the least comes out first. Siblings that came together have one entry, and stand in order
+/// at its address and the ones after it.
 #[derive(Drop)]
 pub struct SiblingQueue<T, A: Allocator + Copy> {
     entries: AddressHeap<IntoIter<T, A>, A>,
@@ -36,6 +37,7 @@ impl<T, A: Allocator + Copy> Model for SiblingQueue<T, A> {
 }
 
 impl<T: Drop, A: Allocator + Copy> SiblingQueue<T, A> {
+    /// An empty queue, which takes no memory.
     pub fn new(alloc: A) -> Self
         ensures { result ≡ [] }
     {
@@ -45,6 +47,7 @@ impl<T: Drop, A: Allocator + Copy> SiblingQueue<T, A> {
         }
     }
 
+    /// How many values it holds.
     pub fn len(&self) -> usize
         ensures len { result ≡ length self.now }
         ensures small { result < 2 ^ 63 }
@@ -52,14 +55,15 @@ impl<T: Drop, A: Allocator + Copy> SiblingQueue<T, A> {
         self.len
     }
 
-    // Puts values at the children of an address. It refuses for want of memory, or where the count of all would pass
-    // that of any list.
+    /// Puts values at the children of an address. It refuses for want of memory, or where the count of all would pass that
+    /// of any list: then it hands the values back, and nothing is changed.
     pub fn push_children(
         &mut self,
         parent: &IndexPath<A>,
         values: Vec<T, A>,
     ) -> Result<(), Vec<T, A>>
-        ensures pushed { OnOk result (IsPermutation (numbered (address parent.now) 0 values.items ++ self.old) self.new) }
+        ensures pushed { OnOk result (IsPermutation
+            (numbered (address parent.now) 0 values.items ++ self.old) self.new) }
         ensures handed_back { IfErr result (λ refused. refused ≡ values) }
         ensures unchanged { OnErr result (self.new ≡ self.old) }
     {
@@ -79,7 +83,7 @@ impl<T: Drop, A: Allocator + Copy> SiblingQueue<T, A> {
         Ok(())
     }
 
-    // The least address.
+    /// The least address, if there is one.
     pub fn least(&self) -> Option<&IndexPath<A>>
         ensures some { IfSome result (λ path. IsAmong (address path.now) (addresses_of self.now)) }
         ensures next { IfSome result (λ path. address path.now ≡ next_address (addresses_of self.now)) }
@@ -90,7 +94,7 @@ impl<T: Drop, A: Allocator + Copy> SiblingQueue<T, A> {
         Some(&entry.index_path)
     }
 
-    // Takes the value at the address that `least` shows.
+    /// Takes the value at the address that `least` shows, if there is one.
     pub fn pop(&mut self) -> Option<T>
         ensures some { IfSome result (λ value. IsPermutation self.old
             (record { at = next_address (addresses_of self.old); value = value; child_count = 0 } ∷ self.new)) }

@@ -260,16 +260,6 @@ impl<
         }
     }
 
-    /// Whether an item is answered: an entry from the least depth on, and every error.
-    fn keeps(&self, passed: &Result<DirEntry<C, A>, Error<A>>) -> bool
-        ensures { result ≡ is_answered (min_depth_of self.now) (item passed.now) }
-    {
-        match passed {
-            Ok(entry) => entry.depth >= self.reads.job().options().min_depth(),
-            Err(_) => true,
-        }
-    }
-
     /// What was passed, unless the least depth leaves it out.
     fn kept(
         &self,
@@ -279,7 +269,7 @@ impl<
             ≡ passed) × (is_answered (min_depth_of self.now) (item passed) ≡ true)) }
         ensures none { IfNone result (is_answered (min_depth_of self.now) (item passed) ≡ false) }
     {
-        if self.keeps(&passed) {
+        if self.reads.job().options().keeps(&passed) {
             Some(passed)
         } else {
             None

@@ -1,3 +1,4 @@
+pub mod Threads
 pub mod Parallelism
 pub mod CrewReads
 pub mod ReadDirIter

@@ -158,8 +158,9 @@ impl<
             C.DirEntryState.Default (job_of self.old) (next_address self.old) (spec of.now) (outcome read)) }
         ensures steadily { IfOk result (λ read. ReadsSteadily S.FileSystem P.ProcessReadDir C.ReadDirState.Clone
             C.DirEntryState.Default L.Pool self.old (spec of.now) (outcome read) self.new) }
-        ensures comes { (rest : _) → IfErr result (NotLost (IsSteadyOver S.FileSystem P.ProcessReadDir C.ReadDirState.Clone
-            C.DirEntryState.Default L.Pool (job_of self.old) self.old.pool self.old.matcher (spec of.now ∷ rest))) }
+        ensures comes { (rest : _) → IfErr result (NotLost (IsSteadyOver S.FileSystem P.ProcessReadDir
+            C.ReadDirState.Clone C.DirEntryState.Default L.Pool (job_of self.old) self.old.pool self.old.matcher
+            (spec of.now ∷ rest))) }
     {
         let Some(pool) = &mut self.pool else {
             return Err(Missed::Lost);

@@ -314,7 +314,8 @@ impl<
 
     ghost can_next = { λ s. P.IsLawful (callback (job_of s)) };
 
-    ghost next_gives = { Gives S.FileSystem P.ProcessReadDir C.ReadDirState.Clone C.DirEntryState.Default L.Pool false };
+    ghost next_gives = { Gives S.FileSystem P.ProcessReadDir C.ReadDirState.Clone C.DirEntryState.Default L.Pool
+        false };
 
     ghost remaining = { λ s. at_most (spec_weight (greatest_depth (job_of s)) (to_read s)) };
 

@@ -1,4 +1,6 @@
 //! What reads a walk's batches.
+ghost use Rattle.std.specs.Prelude.{◌≡◌};
+ghost use Rattle.jwalk_readings.specs.Threads.{runtime_of};
 
 /// One directory of a batch after another.
 #[derive(Drop)]
@@ -12,12 +14,16 @@ pub struct OnThreads<R> {
 
 impl<R> OnThreads<R> {
     /// Threads of this runtime.
-    pub fn new(rt: R) -> Self {
+    pub fn new(rt: R) -> Self
+        ensures { runtime_of result ≡ rt }
+    {
         OnThreads { rt }
     }
 
     /// The runtime.
-    pub fn rt(&self) -> &R {
+    pub fn rt(&self) -> &R
+        ensures { result.now ≡ runtime_of self.now }
+    {
         &self.rt
     }
 }

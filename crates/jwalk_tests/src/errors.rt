@@ -1,12 +1,12 @@
 //! What errors tell, and the metadata of entries.
-use crate::fixtures::listed_directory::{Item, ListedDirectory};
-use crate::fixtures::trees::{DENIED, LOOPED, Step, tree};
-use crate::fixtures::watched::{Failing, Watched};
 use crate::lines::{Builder, Entry, builder, over_tree};
 use jwalk::Error;
 use jwalk::file_system::{BuildError, FileSystem, FileType, MemoryFs, Metadata};
 use std::alloc::Global;
 use std::io::ErrorKind;
+use walk_fixtures::listed_directory::{Item, ListedDirectory};
+use walk_fixtures::trees::{DENIED, LOOPED, Step, tree};
+use walk_fixtures::watched::{Failing, Watched};
 
 /// The last answer of a walk, if there is one.
 fn last<S: FileSystem>(walk: Builder<S>) -> Option<Result<Entry, Error>> {

@@ -1,10 +1,10 @@
 //! What each getter of each entry answers.
-use crate::fixtures::answers::{letter, push};
-use crate::fixtures::trees::{SMALL, Step};
 use crate::lines::{Entry, in_a_for_loop, over_tree};
 use jwalk::Error;
 use jwalk::file_system::BuildError;
 use std::alloc::{AllocError, Global};
+use walk_fixtures::answers::{letter, push};
+use walk_fixtures::trees::{SMALL, Step};
 
 /// What the getters of an entry answer: depth, name, parent, the letter of its type, and `+` where it has a directory
 /// to be read.

@@ -4,21 +4,13 @@
 #[cfg(test)]
 mod callers;
 #[cfg(test)]
-mod crews;
-#[cfg(test)]
-mod disk;
-#[cfg(test)]
 mod error_texts;
 #[cfg(test)]
 mod errors;
 #[cfg(test)]
-mod fixtures;
-#[cfg(test)]
 mod getters;
 #[cfg(test)]
 mod lines;
-#[cfg(test)]
-mod program;
 #[cfg(test)]
 mod readings;
 #[cfg(test)]
@@ -27,3 +19,5 @@ mod rows;
 mod sizes;
 #[cfg(test)]
 mod walks;
+#[cfg(test)]
+mod wide;

@@ -1,9 +1,9 @@
 //! Walks to try, and what comes of them.
-use crate::fixtures::trees::{Step, tree};
 use jwalk::file_system::{BuildError, FileSystem, MemoryFs};
 use jwalk::read_dir::NoProcess;
 use jwalk::{DirEntry, DirEntryIter, Error, WalkDirGeneric};
 use std::alloc::{AllocError, Global};
+use walk_fixtures::trees::{Step, tree};
 
 pub type Entry = DirEntry<((), ())>;
 

@@ -1,12 +1,12 @@
 //! Readings of one directory, without a walk.
 ghost use Rattle.jwalk_read.specs.Job.{callback};
 
-use crate::fixtures::trees::{GROUPED, tree};
-use crate::fixtures::watched::{Failing, Watched};
 use jwalk::file_system::{FileSystem, MemoryFs};
 use jwalk::read_dir::{Job, NoProcess, ProcessReadDir, ReadDirSpec};
 use jwalk::{ClientState, DirEntry, Error};
 use std::alloc::{AllocError, Global};
+use walk_fixtures::trees::{GROUPED, tree};
+use walk_fixtures::watched::{Failing, Watched};
 
 /// A state that is a text.
 type Noted = (Option<String>, ());

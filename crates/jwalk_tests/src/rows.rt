@@ -1,4 +1,5 @@
 //! Walks and their answers in one table, each read in every way.
+mod begun;
 mod callbacks;
 mod calls;
 mod coming;
@@ -7,6 +8,7 @@ mod links;
 mod options;
 mod parts;
 mod roots;
+mod row;
 mod table;
 mod walks;
 mod widths;

@@ -1,10 +1,10 @@
 //! Walks over trees of size.
-use crate::fixtures::watched::{Failing, Watched};
-use crate::fixtures::wide::{FILES, file_path, scrambled, wide_directory};
 use crate::lines::{Entry, Walk, builder, is_over, next_entry, next_path, walk};
+use crate::wide::{FILES, file_path, scrambled, wide_directory};
 use jwalk::Error;
 use jwalk::file_system::{BuildError, FileSystem, MemoryFs};
 use std::alloc::Global;
+use walk_fixtures::watched::{Failing, Watched};
 
 /// The next answer is the file of this number.
 fn file_is_next<S: FileSystem>(alloc: Global, walk: &mut Walk<S>, number: usize) -> bool {

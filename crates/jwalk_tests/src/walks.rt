@@ -1,11 +1,11 @@
 //! Walks over trees in memory, and what is asked of them.
-use crate::fixtures::answers::are_lines;
-use crate::fixtures::trees::{SMALL, tree};
 use crate::lines::{Walk, all_answers, in_a_for_loop, over_tree, walk};
 use jwalk::file_system::{BuildError, FileSystem};
 use jwalk::path_text;
 use std::alloc::Global;
 use std::sync::Arc;
+use walk_fixtures::answers::are_lines;
+use walk_fixtures::trees::{SMALL, tree};
 
 /// What the walk answers from the root of the small tree.
 const ALL: &str = "0 d /r; 1 f /r/b; 1 d /r/s; 2 f /r/s/x; 1 f /r/a";

@@ -119,7 +119,11 @@ fn a_message_tells_what_came_of_a_reading(rt: HostRuntime) {
         ("/r/a", &[], Comes::Refusal),
     ];
     for (path, below, comes) in ROWS {
-        assert!(rt; tells_in_tree(rt.alloc(), path, below, *comes));
+        assert!(rt;
+            tells_in_tree(rt.alloc(), path, below, *comes),
+            "{:?}",
+            path
+        );
     }
 }
 

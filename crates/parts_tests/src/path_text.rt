@@ -25,7 +25,11 @@ const NAMES: &[(&str, Option<&str>, Option<&str>)] = &[
 #[test]
 fn names_and_parents_of_texts(rt: HostRuntime) {
     for (text, name, above) in NAMES {
-        assert!(rt; file_name(text) == *name && parent(text) == *above);
+        assert!(rt;
+            file_name(text) == *name && parent(text) == *above,
+            "{:?}",
+            text
+        );
     }
 }
 
@@ -40,7 +44,12 @@ const PAIRS: &[(&str, &str, bool)] = &[
 #[test]
 fn texts_of_the_same_path(rt: HostRuntime) {
     for (a, b, same) in PAIRS {
-        assert!(rt; same_path(a, b) == *same && same_path(b, a) == *same);
+        assert!(rt;
+            same_path(a, b) == *same && same_path(b, a) == *same,
+            "{:?}, {:?}",
+            a,
+            b
+        );
     }
 }
 
@@ -57,7 +66,7 @@ const JOINS: &[(&str, &str, (&str, &str, &str), &str)] = &[
 #[test]
 fn parts_of_joined_texts(rt: HostRuntime) {
     for (a, b, parts, _) in JOINS {
-        assert!(rt; join_parts(a, b) == *parts);
+        assert!(rt; join_parts(a, b) == *parts, "{:?}, {:?}", a, b);
     }
 }
 
@@ -71,6 +80,6 @@ fn are_joined(alloc: Global, a: &str, b: &str, whole: &str) -> bool {
 #[test]
 fn joins_with_one_slash(rt: HostRuntime) {
     for (a, b, _, whole) in JOINS {
-        assert!(rt; are_joined(rt.alloc(), a, b, whole));
+        assert!(rt; are_joined(rt.alloc(), a, b, whole), "{:?}, {:?}", a, b);
     }
 }

@@ -58,7 +58,7 @@ fn other_words_are_bad(rt: HostRuntime) {
         &["--tree", "--usage", "/r"],
     ];
     for words in ROWS {
-        assert!(rt; are_bad(rt.alloc(), words));
+        assert!(rt; are_bad(rt.alloc(), words), "{:?}", words);
     }
 }
 
@@ -108,7 +108,7 @@ fn numbers_have_up_to_20_digits_and_fit(rt: HostRuntime) {
         ("18446744073709551615", Some(usize::MAX)),
     ];
     for (number, value) in ROWS {
-        assert!(rt; is_read_as(rt.alloc(), number, *value));
+        assert!(rt; is_read_as(rt.alloc(), number, *value), "{:?}", number);
     }
 }
 
@@ -254,7 +254,7 @@ fn the_first_bad_line_is_named(rt: HostRuntime) {
         (b"d /r\nx /r\nd /r\nx /n", 3),
     ];
     for (lines, number) in ROWS {
-        assert!(rt; is_bad_at(rt.alloc(), lines, *number));
+        assert!(rt; is_bad_at(rt.alloc(), lines, *number), "{:?}", lines);
     }
 }
 
@@ -297,6 +297,6 @@ fn each_failure_has_its_text_and_status(rt: HostRuntime) {
         (Failure::Output, "", 1),
     ];
     for (failure, text, status) in ROWS {
-        assert!(rt; reports(rt.alloc(), *failure, text, *status));
+        assert!(rt; reports(rt.alloc(), *failure, text, *status), "{:?}", text);
     }
 }

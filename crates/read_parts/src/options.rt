@@ -2,7 +2,11 @@
 ghost use Rattle.std.specs.Prelude.{◌≡◌, ◌+◌, ◌^◌, ◌<◌, ◌≤◌, ◌&&◌, ◌↔◌, IsTrue};
 ghost use Rattle.walk_model.specs.Entry.{is_hidden};
 
+use crate::client_state::ClientState;
+use crate::dir_entry::DirEntry;
+use crate::error::Error;
 use crate::mode::Mode;
+use std::alloc::Allocator;
 
 /// What a walk goes by. A new one has the defaults: no order but the file system's, hidden names left out, no
 /// link followed, every depth, one directory read at a time.
@@ -26,6 +30,8 @@ fn is_hidden(name: &str) -> bool
 
 impl Options {
     ghost use Rattle.walk_model.specs.Options.{defaults, with_sort, with_skip_hidden, with_follow_links, with_min_depth, with_max_depth, with_parallelism, ReadsAs};
+    ghost use Rattle.walk_model.specs.Listing.{is_answered};
+    ghost use Rattle.read_parts.specs.Entry.{item};
     ghost use Rattle.read_parts.specs.Options.{mode_value, options_value, reads_by};
 
     /// The defaults.
@@ -130,6 +136,19 @@ impl Options {
         ensures { result ≡ ((options_value self).skip_hidden && is_hidden name.now) }
     {
         self.skip_hidden && is_hidden(name)
+    }
+
+    /// Whether an item that a walk comes to is answered: an entry from the least depth on, and every error.
+    pub fn keeps<C: ClientState, A: Allocator + Copy>(
+        self,
+        passed: &Result<DirEntry<C, A>, Error<A>>,
+    ) -> bool
+        ensures { result ≡ is_answered (options_value self).min_depth (item passed.now) }
+    {
+        match passed {
+            Ok(entry) => entry.depth >= self.min_depth,
+            Err(_) => true,
+        }
     }
 
     /// Whether a link gives way to what it leads to.

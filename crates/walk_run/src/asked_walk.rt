@@ -87,7 +87,8 @@ pub fn print_walk<
     ensures untouched { OnErr result (W.contents out.new ≡ W.contents out.old) }
     ensures entries { IfOk result (λ status. status ≡ 0 → PrintsEntries (W.contents out.old) (W.contents out.new)) }
     ensures printed { IfOk result (λ status. status ≡ 0 → S.IsFixed fs
-        → PrintsOver (S.functions fs) request.now.asked request.now.root.now (W.contents out.old) (W.contents out.new)) }
+        → PrintsOver (S.functions fs) request.now.asked request.now.root.now
+        (W.contents out.old) (W.contents out.new)) }
 {
     let root = String::from_str(alloc, request.root)?;
     let walk = walk_of(rt, fs, root, request.asked)?;

@@ -10,6 +10,7 @@ use crate::walk_dir::crew_start::CrewWalk;
 use jwalk_crew::crew::{Crew, NotStarted};
 use jwalk_crew::pool::Pool;
 use jwalk_crew::session::Session;
+use jwalk_entries::dir_entry_iter::DirEntryIter;
 use jwalk_read::job::Job;
 use jwalk_readings::crew_reads::started::error_of;
 use jwalk_readings::threads::InTurn;
@@ -108,7 +109,9 @@ where
     ///
     /// An error whose `is_busy` is true where no place was free in time, or no worker could be started; one whose
     /// `is_memory` is true where memory runs out. Then no place is taken.
-    pub fn try_into_iter(self) -> Result<CrewWalk<R, C, S, P, A, T>, Error<A>>
+    pub fn try_into_iter(
+        self,
+    ) -> Result<DirEntryIter<C, S, P, A, T, Session<R, C, S, P, A>>, Error<A>>
         requires { P.IsLawful (callback_of self) }
         ensures starts { IfOk result (Starts self) }
         ensures begins { IfOk result (Begins S.FileSystem P.ProcessReadDir C.ReadDirState.Clone
@@ -127,7 +130,7 @@ where
     /// The walk begun, as by `try_into_iter`. Where the crew is busy, the walk's answers are those of the root's list: the
     /// error that tells of it in the place of each entry whose directory would be read. Where memory is refused, its
     /// only answer is the error that tells of it.
-    pub fn into_iter(self) -> CrewWalk<R, C, S, P, A, T>
+    pub fn into_iter(self) -> DirEntryIter<C, S, P, A, T, Session<R, C, S, P, A>>
         requires { P.IsLawful (callback_of self) }
         ensures starts { Starts self result }
         ensures begins { (why_not : _) × Begins S.FileSystem P.ProcessReadDir C.ReadDirState.Clone

@@ -1,6 +1,4 @@
 //! Walks with callbacks.
-use crate::fixtures::answers::are_lines;
-use crate::fixtures::trees::{GROUPED, tree};
 use jwalk::file_system::BuildError;
 use jwalk::{ClientState, DirEntry, Error};
 use proved_walk::hands_on_names::Found;
@@ -9,6 +7,8 @@ use proved_walk::root_alone::walk_root_alone;
 use proved_walk::skipping::small_tree_without_group_1;
 use proved_walk::small_tree::names_in_small_tree;
 use std::alloc::{AllocError, Global};
+use walk_fixtures::answers::are_lines;
+use walk_fixtures::trees::{GROUPED, tree};
 
 /// Adds the path of an entry with the text of its state to a text.
 fn push_entry<C: ClientState>(

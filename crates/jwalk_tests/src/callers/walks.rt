@@ -1,18 +1,14 @@
 //! Whole walks, and walks in batches.
-use crate::fixtures::answers::are_lines;
-use crate::fixtures::crewed::{Crewed, crew_of};
-use crate::fixtures::trees::{GROUPED, SMALL, tree};
-use crate::fixtures::wide::wide_directory;
 use crate::lines::{Entry, builder, walk};
+use crate::wide::wide_directory;
 use jwalk::Error;
 use jwalk::file_system::{BuildError, FileSystem};
 use proved_walk::batches::count_in_batches;
-use proved_walk::by_crew::walk_by_crew;
 use proved_walk::counted::Counted;
 use proved_walk::whole::walk_whole;
 use std::alloc::{AllocError, Global};
-use std::sync::Arc;
-use std::test::Fail;
+use walk_fixtures::answers::are_lines;
+use walk_fixtures::trees::{GROUPED, SMALL, tree};
 
 /// All answers of a walk in one list.
 fn whole<S: FileSystem>(
@@ -35,25 +31,6 @@ fn shows_small(alloc: Global, wanted: &str) -> Result<bool, BuildError> {
 #[test]
 fn a_whole_walk_in_one_list(rt: HostRuntime) {
     assert!(rt; matches!(shows_small(rt.alloc(), SMALL_LINES), Ok(true)));
-}
-
-#[test]
-fn a_whole_walk_by_a_crew_in_one_list(rt: HostRuntime) -> Result<(), Fail> {
-    let fs = Arc::new(rt.alloc(), tree(rt.alloc(), SMALL)?)?;
-    let crew = crew_of(&rt, 1, 2)?;
-    let asked = Crewed {
-        crew: &crew,
-        busy_timeout: None,
-        fs: &fs,
-        root: "/r",
-        settings: &[],
-    };
-    let is_shown = match walk_by_crew(rt.alloc(), asked.builder::<((), ())>(rt.alloc())?) {
-        Ok(found) => are_lines(rt.alloc(), found.as_slice(), SMALL_LINES),
-        Err(_) => false,
-    };
-    assert!(rt; is_shown);
-    Ok(())
 }
 
 /// How many answers a walk over the grouped tree has, and how many listings were asked for.

@@ -1,9 +1,9 @@
 //! How often a file system is asked.
-use crate::fixtures::trees::{GROUPED, Step, tree};
-use crate::fixtures::watched::{Calls, Failing, Watched};
-use crate::fixtures::ways::{Asked, Setting, WAYS, Way};
 use jwalk::read_dir::NoProcess;
 use std::thread::Threads;
+use walk_fixtures::trees::{GROUPED, Step, tree};
+use walk_fixtures::watched::{Calls, Failing, Watched};
+use walk_fixtures::ways::{Asked, Setting, WAYS, Way};
 
 /// A walk, its answers, and how often it asks its file system.
 struct Asking {

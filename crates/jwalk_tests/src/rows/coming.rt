@@ -1,8 +1,8 @@
 //! What comes next of a walk, without what is in it.
-use crate::fixtures::answers::Answer;
-use crate::fixtures::begun::Begun;
-use crate::fixtures::watched::Watched;
+use crate::rows::begun::Begun;
 use std::thread::Threads;
+use walk_fixtures::answers::Answer;
+use walk_fixtures::watched::Watched;
 
 /// What comes next.
 #[derive(Clone, Copy)]

@@ -1,17 +1,17 @@
 //! Walks over file systems that fail, or whose names are odd.
-use crate::fixtures::begun::Begun;
-use crate::fixtures::listed_directory::{Item, ListedDirectory};
-use crate::fixtures::row::{Over, Row};
-use crate::fixtures::trees::{GROUPED, SMALL, Step, tree};
-use crate::fixtures::watched::{Failing, Watched};
-use crate::fixtures::ways::{Asked, Setting, WAYS, Way};
-use crate::fixtures::width::Width;
+use crate::rows::begun::Begun;
 use crate::rows::coming::{Coming, is_over, next};
+use crate::rows::row::{Over, Row};
 use crate::rows::table::all_hold;
 use jwalk::file_system::FileType;
 use jwalk::read_dir::NoProcess;
 use std::io::ErrorKind;
 use std::thread::Threads;
+use walk_fixtures::listed_directory::{Item, ListedDirectory};
+use walk_fixtures::trees::{GROUPED, SMALL, Step, tree};
+use walk_fixtures::watched::{Failing, Watched};
+use walk_fixtures::ways::{Asked, Setting, WAYS, Way};
+use walk_fixtures::width::Width;
 
 /// A directory whose files have odd names.
 const ODD: ListedDirectory<'static> = ListedDirectory {

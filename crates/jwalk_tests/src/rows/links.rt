@@ -1,11 +1,11 @@
 //! Walks over links.
-use crate::fixtures::answers::Answer;
-use crate::fixtures::row::{Over, Row};
-use crate::fixtures::trees::{LOOPED, Step, tree};
-use crate::fixtures::ways::{Asked, Setting, WAYS, Way};
+use crate::rows::row::{Over, Row};
 use crate::rows::table::all_hold;
 use jwalk::read_dir::NoProcess;
 use std::thread::Threads;
+use walk_fixtures::answers::Answer;
+use walk_fixtures::trees::{LOOPED, Step, tree};
+use walk_fixtures::ways::{Asked, Setting, WAYS, Way};
 
 #[test]
 fn a_link_to_an_ancestor_is_a_loop(rt: HostRuntime) {

@@ -1,11 +1,11 @@
 //! Walks with options.
-use crate::fixtures::listed_directory::{Item, ListedDirectory};
-use crate::fixtures::row::{Over, Row};
-use crate::fixtures::trees::{DENIED, GROUPED};
-use crate::fixtures::ways::Setting;
+use crate::rows::row::{Over, Row};
 use crate::rows::table::all_hold;
 use jwalk::file_system::FileType;
 use std::io::ErrorKind;
+use walk_fixtures::listed_directory::{Item, ListedDirectory};
+use walk_fixtures::trees::{DENIED, GROUPED};
+use walk_fixtures::ways::Setting;
 
 #[test]
 fn names_in_order(rt: HostRuntime) {

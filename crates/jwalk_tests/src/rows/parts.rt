@@ -1,12 +1,12 @@
 //! Answers taken several at a time.
-use crate::fixtures::answers::{Answer, are_lines};
-use crate::fixtures::begun::Begun;
-use crate::fixtures::trees::{GROUPED, tree};
-use crate::fixtures::ways::{Asked, Setting};
-use crate::fixtures::width::Width;
+use crate::rows::begun::Begun;
 use jwalk::file_system::MemoryFs;
 use std::alloc::Global;
 use std::thread::Threads;
+use walk_fixtures::answers::{Answer, are_lines};
+use walk_fixtures::trees::{GROUPED, tree};
+use walk_fixtures::ways::{Asked, Setting};
+use walk_fixtures::width::Width;
 
 /// The first answers of a walk by name over the groups of files.
 const SOME: &str = "0 d /t; 1 f /t/a.txt; 1 f /t/b.txt";

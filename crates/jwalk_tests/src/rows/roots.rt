@@ -1,7 +1,4 @@
 //! Readings of directories and of all below them, without the answers of a walk.
-use crate::fixtures::trees::{FORKED, tree};
-use crate::fixtures::ways::Asked;
-use crate::fixtures::width::Width;
 use jwalk::file_system::MemoryFs;
 use jwalk::read_dir::{Job, NoProcess, ReadDir};
 use jwalk::read_dir_iter::ReadDirIter;
@@ -9,6 +6,9 @@ use jwalk::threads::{InTurn, OnThreads};
 use jwalk::{DirEntry, Error};
 use std::alloc::Global;
 use std::thread::Threads;
+use walk_fixtures::trees::{FORKED, tree};
+use walk_fixtures::ways::Asked;
+use walk_fixtures::width::Width;
 
 /// Readings that are made in some way.
 type Reads<'a, T> = ReadDirIter<((), ()), &'a MemoryFs, NoProcess, Global, T>;

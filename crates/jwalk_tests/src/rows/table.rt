@@ -1,8 +1,8 @@
 //! Rows that are tried in every way.
-use crate::fixtures::row::Row;
-use crate::fixtures::ways::WAYS;
+use crate::rows::row::Row;
 use std::process::Abort;
 use std::thread::Threads;
+use walk_fixtures::ways::WAYS;
 
 /// Whether a walk answers what its row says, in whatever way it is read.
 fn holds<R: Threads + AllocGlobal + Sync>(rt: &R, row: &Row) -> bool {

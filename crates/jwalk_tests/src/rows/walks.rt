@@ -1,10 +1,10 @@
 //! Walks with the options as they are, from roots of every kind.
-use crate::fixtures::listed_directory::{Item, ListedDirectory};
-use crate::fixtures::row::{Over, Row};
-use crate::fixtures::trees::{GROUPED, SMALL, Step};
+use crate::rows::row::{Over, Row};
 use crate::rows::table::all_hold;
 use jwalk::file_system::FileType;
 use std::io::ErrorKind;
+use walk_fixtures::listed_directory::{Item, ListedDirectory};
+use walk_fixtures::trees::{GROUPED, SMALL, Step};
 
 #[test]
 fn a_directory_before_all_that_it_holds(rt: HostRuntime) {

@@ -1,11 +1,11 @@
 //! How many directories are read together, and when.
-use crate::fixtures::begun::Begun;
-use crate::fixtures::trees::{FORKED, GROUPED, Step, tree};
-use crate::fixtures::watched::{Failing, Watched};
-use crate::fixtures::ways::{Asked, Setting};
-use crate::fixtures::width::Width;
+use crate::rows::begun::Begun;
 use crate::rows::coming::{Coming, is_over, next};
 use std::thread::Threads;
+use walk_fixtures::trees::{FORKED, GROUPED, Step, tree};
+use walk_fixtures::watched::{Failing, Watched};
+use walk_fixtures::ways::{Asked, Setting};
+use walk_fixtures::width::Width;
 
 /// How a walk goes on.
 struct Course {

@@ -1,16 +1,16 @@
 //! Walks whose callbacks are closures.
 ghost use Rattle.jwalk.specs.WalkDir.{callback_of};
 
-use crate::fixtures::answers::{Answer, push_line};
-use crate::fixtures::moving::move_directory;
-use crate::fixtures::trees::{GROUPED, tree};
-use crate::fixtures::ways::{Asked, Way};
 use crate::rows::callbacks::rows::{Callback, Row, all_hold, by_name};
 use jwalk::file_system::MemoryFs;
 use jwalk::read_dir::ProcessReadDir;
 use jwalk::{DirEntry, WalkDirGeneric};
 use std::alloc::{AllocError, Global};
 use std::thread::Threads;
+use walk_fixtures::answers::{Answer, push_line};
+use walk_fixtures::moving::move_directory;
+use walk_fixtures::trees::{GROUPED, tree};
+use walk_fixtures::ways::{Asked, Way};
 
 fn is_group(entry: &DirEntry<((), ())>) -> bool {
     entry.file_name.as_str().starts_with("group")

@@ -1,12 +1,12 @@
 //! Walks with the library's own callbacks.
-use crate::fixtures::answers::Answer;
-use crate::fixtures::texts::texts;
-use crate::fixtures::ways::{Asked, Way};
 use crate::rows::callbacks::rows::{Callback, Row, all_hold};
 use jwalk::file_system::MemoryFs;
 use jwalk::read_dir::{ByFn, FilterEntry, SkipNames};
 use std::alloc::{AllocError, Global};
 use std::thread::Threads;
+use walk_fixtures::answers::Answer;
+use walk_fixtures::texts::texts;
+use walk_fixtures::ways::{Asked, Way};
 
 /// The callback that doesn't enter directories of three names.
 fn skip_three(alloc: Global) -> Result<SkipNames, AllocError> {

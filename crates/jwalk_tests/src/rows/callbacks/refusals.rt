@@ -1,10 +1,10 @@
 //! Walks whose callback is refused memory.
-use crate::fixtures::answers::Answer;
-use crate::fixtures::trees::{GROUPED, tree};
 use crate::rows::callbacks::rows::{Callback, Row, all_hold, by_name};
 use jwalk::file_system::MemoryFs;
 use jwalk::read_dir::ProcessReadDir;
 use std::alloc::{AllocError, Global};
+use walk_fixtures::answers::Answer;
+use walk_fixtures::trees::{GROUPED, tree};
 
 /// A callback that is refused memory for the list of the root, or for those of directories at a depth.
 #[derive(Drop)]

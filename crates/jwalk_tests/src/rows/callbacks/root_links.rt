@@ -1,11 +1,11 @@
 //! What a callback is given of a root that is a broken link.
-use crate::fixtures::answers::Answer;
-use crate::fixtures::trees::{Step, tree};
-use crate::fixtures::ways::{Asked, WAYS, Way};
 use jwalk::read_dir::ProcessReadDir;
 use std::alloc::{AllocError, Global};
 use std::sync::atomic::{AtomicUsize, Ordering};
 use std::thread::Threads;
+use walk_fixtures::answers::Answer;
+use walk_fixtures::trees::{Step, tree};
+use walk_fixtures::ways::{Asked, WAYS, Way};
 
 /// How often a callback was called, and how often of those without a depth and at the path `/`.
 #[derive(Drop)]

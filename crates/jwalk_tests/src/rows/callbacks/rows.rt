@@ -1,12 +1,12 @@
 //! Walks by name over the groups of files, each with a callback.
-use crate::fixtures::trees::{GROUPED, tree};
-use crate::fixtures::ways::{Asked, Setting, WAYS, Way};
 use crate::rows::callbacks::closures::{clears, drops, moves};
 use crate::rows::callbacks::ready::{has_root_alone, keeps_files, skips};
 use crate::rows::callbacks::refusals::RefusedAt;
 use jwalk::file_system::MemoryFs;
 use std::process::Abort;
 use std::thread::Threads;
+use walk_fixtures::trees::{GROUPED, tree};
+use walk_fixtures::ways::{Asked, Setting, WAYS, Way};
 
 /// What a callback does with each list.
 #[derive(Clone, Copy)]

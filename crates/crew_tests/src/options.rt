@@ -1,8 +1,6 @@
 //! Options of walks that may be over a crew.
-use crate::crews::stand::Stand;
-use crate::fixtures::answers::are_lines;
-use crate::fixtures::crewed::CrewWalk;
-use crate::fixtures::trees::{FORKED, tree};
+use crate::crewed::CrewWalk;
+use crate::stand::Stand;
 use jwalk::file_system::MemoryFs;
 use jwalk::read_dir::NoProcess;
 use jwalk::threads::InTurn;
@@ -13,6 +11,8 @@ use std::test::Fail;
 use std::thread;
 use std::thread::Threads;
 use std::time::{Clock, Duration};
+use walk_fixtures::answers::are_lines;
+use walk_fixtures::trees::{FORKED, tree};
 
 /// A walk yet to begin.
 type Builder<R> = WalkDirGeneric<((), ()), Arc<MemoryFs>, NoProcess, Global, InTurn, Crew<R>>;

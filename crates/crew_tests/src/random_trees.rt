@@ -1,5 +1,5 @@
 //! Trees made at random.
-use crate::crews::dice::Dice;
+use crate::dice::Dice;
 use jwalk::file_system::{BuildError, MemoryFs};
 use std::alloc::{AllocError, Global};
 use std::io::ErrorKind;

@@ -1,5 +1,4 @@
 //! An output that is closed while a walk is under way.
-use crate::fixtures::watched::{Failing, Watched};
 use crate::program::runs::ends;
 use std::alloc::{AllocError, Global};
 use std::io;
@@ -7,6 +6,7 @@ use std::io::{ErrorKind, Write};
 use std::sync::{Arc, Wait};
 use std::thread::Threads;
 use std::time::Clock;
+use walk_fixtures::watched::{Failing, Watched};
 use walk_text::failure::Failure;
 use walk_text::tree::build_tree;
 

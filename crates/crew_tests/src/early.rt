@@ -1,8 +1,7 @@
 //! Walks that are dropped before their end.
-use crate::crews::endless::Endless;
-use crate::crews::stand::Stand;
-use crate::fixtures::crewed::Crewed;
-use crate::fixtures::trees::{FORKED, tree};
+use crate::crewed::Crewed;
+use crate::endless::Endless;
+use crate::stand::Stand;
 use jwalk::file_system::{FileSystem, MemoryFs};
 use std::alloc::Global;
 use std::sync::Wait;
@@ -10,6 +9,7 @@ use std::test::Fail;
 use std::thread;
 use std::thread::Threads;
 use std::time::{Clock, Duration};
+use walk_fixtures::trees::{FORKED, tree};
 
 /// Whether so many answers of a walk, which is dropped then, are entries.
 fn begins_with_entries<

@@ -1,6 +1,5 @@
 //! Readings that a crew makes, without the answers of a walk.
-use crate::crews::stand::Stand;
-use crate::fixtures::trees::{FORKED, tree};
+use crate::stand::Stand;
 use jwalk::crew::Session;
 use jwalk::file_system::MemoryFs;
 use jwalk::read_dir::{Job, NoProcess};
@@ -12,6 +11,7 @@ use std::sync::{Arc, Wait};
 use std::test::Fail;
 use std::thread::Threads;
 use std::time::{Clock, Duration};
+use walk_fixtures::trees::{FORKED, tree};
 
 type States = ((), ());
 

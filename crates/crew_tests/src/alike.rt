@@ -1,7 +1,7 @@
 //! Whether walks answer the same, item by item.
-use crate::fixtures::answers::Answer;
 use jwalk::{DirEntry, Error, ReadChildren};
 use std::io::ErrorKind;
+use walk_fixtures::answers::Answer;
 
 /// States that count: one beside each directory's reading, and one beside each entry.
 pub type Counts = (usize, usize);

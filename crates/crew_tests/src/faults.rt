@@ -1,13 +1,13 @@
 //! Walks over a crew whose workers meet faults.
-use crate::crews::stand::Stand;
-use crate::fixtures::trees::{GROUPED, SMALL, Step, tree};
-use crate::fixtures::watched::{Failing, Watched};
+use crate::stand::Stand;
 use jwalk::read_dir::NoProcess;
 use std::io::ErrorKind;
 use std::sync::Wait;
 use std::test::Fail;
 use std::thread::Threads;
 use std::time::Clock;
+use walk_fixtures::trees::{GROUPED, SMALL, Step, tree};
+use walk_fixtures::watched::{Failing, Watched};
 
 /// A walk over a tree that fails somewhere, and its answers.
 struct Failed {

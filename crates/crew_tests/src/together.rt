@@ -1,9 +1,9 @@
 //! Two directories that are read at the same time.
-use crate::crews::meeting::Meeting;
-use crate::crews::stand::Stand;
-use crate::fixtures::trees::{Step, tree};
+use crate::meeting::Meeting;
+use crate::stand::Stand;
 use jwalk::read_dir::NoProcess;
 use std::test::Fail;
+use walk_fixtures::trees::{Step, tree};
 
 /// A directory with two directories.
 const TWO: &[Step] = &[Step::Dir("/r"), Step::Dir("/r/a"), Step::Dir("/r/b")];

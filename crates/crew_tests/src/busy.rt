@@ -1,9 +1,6 @@
 //! Walks whose crew is busy, and how many a crew serves.
-use crate::crews::stand::Stand;
-use crate::fixtures::answers::Answer;
-use crate::fixtures::crewed::{CrewWalk, Crewed};
-use crate::fixtures::trees::{FORKED, GROUPED, tree};
-use crate::fixtures::ways::Setting;
+use crate::crewed::{CrewWalk, Crewed};
+use crate::stand::Stand;
 use jwalk::Crew;
 use jwalk::file_system::MemoryFs;
 use jwalk::read_dir::NoProcess;
@@ -14,6 +11,9 @@ use std::test::Fail;
 use std::thread;
 use std::thread::Threads;
 use std::time::{Clock, Duration};
+use walk_fixtures::answers::Answer;
+use walk_fixtures::trees::{FORKED, GROUPED, tree};
+use walk_fixtures::ways::Setting;
 
 /// A walk by name from a root, that waits ten milliseconds for a place.
 fn impatient<'a, R: Wait + Clock + Drop>(
@@ -129,8 +129,8 @@ fn in_use_by_two<R: Wait + Threads + Clock + Drop + Send + Sync + 'static>(
 ) -> Option<([usize; 4], bool)> {
     let crewed = stand.crewed("/r", &[]);
     let at_first = stand.crew.in_use();
-    let first = crewed.begun(stand.alloc).ok()?;
-    let second = crewed.begun(stand.alloc).ok()?;
+    let first = crewed.tried(stand.alloc).ok()?.ok()?;
+    let second = crewed.tried(stand.alloc).ok()?.ok()?;
     let with_both = stand.crew.in_use();
     let third = stand.crewed("/r", &[]).within(Duration::from_millis(0));
     let refused = is_refused(&third, stand.alloc);

@@ -1,11 +1,8 @@
 //! Walks over trees made at random, with and without a crew.
-use crate::crews::alike::{Counts, first_difference};
-use crate::crews::dice::Dice;
-use crate::crews::random_trees::random_tree;
-use crate::crews::stand::Stand;
-use crate::fixtures::answers::Answer;
-use crate::fixtures::ways::{Setting, Way};
-use crate::fixtures::width::Width;
+use crate::alike::{Counts, first_difference};
+use crate::dice::Dice;
+use crate::random_trees::random_tree;
+use crate::stand::Stand;
 use jwalk::DirEntry;
 use jwalk::file_system::MemoryFs;
 use jwalk::read_dir::{ByFn, NoProcess};
@@ -14,6 +11,9 @@ use std::sync::Wait;
 use std::test::Fail;
 use std::thread::Threads;
 use std::time::Clock;
+use walk_fixtures::answers::Answer;
+use walk_fixtures::ways::{Setting, Way};
+use walk_fixtures::width::Width;
 
 /// How many trees there are.
 const TREES: usize = 50;

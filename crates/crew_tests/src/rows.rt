@@ -1,10 +1,6 @@
 //! Walks over a crew and their answers, which are those of walks without one.
-use crate::crews::alike::{Counts, first_difference};
-use crate::crews::stand::Stand;
-use crate::fixtures::moving::move_directory;
-use crate::fixtures::trees::{DENIED, FORKED, GROUPED, LOOPED, Step, tree};
-use crate::fixtures::ways::{Setting, Way};
-use crate::fixtures::width::Width;
+use crate::alike::{Counts, first_difference};
+use crate::stand::Stand;
 use jwalk::file_system::{BuildError, FileSystem, MemoryFs};
 use jwalk::read_dir::NoProcess;
 use std::alloc::Global;
@@ -12,6 +8,10 @@ use std::sync::Wait;
 use std::test::Fail;
 use std::thread::Threads;
 use std::time::Clock;
+use walk_fixtures::moving::move_directory;
+use walk_fixtures::trees::{DENIED, FORKED, GROUPED, LOOPED, Step, tree};
+use walk_fixtures::ways::{Setting, Way};
+use walk_fixtures::width::Width;
 
 /// A walk over a tree, and its answers.
 struct Row {

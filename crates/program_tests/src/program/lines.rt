@@ -1,5 +1,4 @@
 //! The line of each sort of answer.
-use crate::fixtures::listed_directory::{Item, ListedDirectory};
 use crate::program::runs::{Want, comes_unread};
 use jwalk::file_system::{Fault, FileSystem, FileType, Listed, Metadata};
 use std::alloc::Allocator;
@@ -8,6 +7,7 @@ use std::io::ErrorKind;
 use std::sync::Wait;
 use std::thread::Threads;
 use std::time::Clock;
+use walk_fixtures::listed_directory::{Item, ListedDirectory};
 
 /// A link, a socket, a directory that can't be read and an item that has no name.
 const ODD: ListedDirectory<'static> = ListedDirectory {

@@ -1,11 +1,11 @@
 //! A crew with a file system, over which walks are made.
-use crate::fixtures::crewed::{Crewed, crew_of};
-use crate::fixtures::ways::{Asked, Setting};
+use crate::crewed::{Crewed, crew_of};
 use jwalk::Crew;
 use jwalk::file_system::FileSystem;
 use std::alloc::{AllocError, Global};
 use std::sync::{Arc, Wait};
 use std::time::Clock;
+use walk_fixtures::ways::{Asked, Setting};
 
 /// A crew, and a file system for its walks.
 pub struct Stand<R: Drop, S: FileSystem> {

@@ -1,5 +1,4 @@
 //! What comes of a run.
-use crate::fixtures::texts::texts;
 use jwalk::file_system::{FileSystem, MemoryFs};
 use std::io;
 use std::io::{Read, Write};
@@ -7,6 +6,7 @@ use std::process::Abort;
 use std::sync::Wait;
 use std::thread::Threads;
 use std::time::Clock;
+use walk_fixtures::texts::texts;
 use walk_run::run::run;
 use walk_text::tree::build_tree;
 

@@ -1,5 +1,4 @@
 //! Readings that are of another directory than the one that comes next.
-use crate::fixtures::trees::{Step, tree};
 use crew_parts::arrival::{Arrival, arrive};
 use crew_parts::message::Message;
 use crew_parts::wanted::Wanted;
@@ -13,6 +12,7 @@ use jwalk_crew::pool::{Missed, Pool};
 use std::alloc::Global;
 use std::sync::Arc;
 use std::test::Fail;
+use walk_fixtures::trees::{Step, tree};
 
 type States = ((), ());
 

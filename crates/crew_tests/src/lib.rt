@@ -1,0 +1,37 @@
+//! Walks over a crew, by worked examples and over trees made at random.
+#![tactic(auto)]
+
+#[cfg(test)]
+mod alike;
+#[cfg(test)]
+mod busy;
+#[cfg(test)]
+mod crewed;
+#[cfg(test)]
+mod dice;
+#[cfg(test)]
+mod early;
+#[cfg(test)]
+mod endless;
+#[cfg(test)]
+mod faults;
+#[cfg(test)]
+mod lost;
+#[cfg(test)]
+mod meeting;
+#[cfg(test)]
+mod options;
+#[cfg(test)]
+mod random_trees;
+#[cfg(test)]
+mod random_walks;
+#[cfg(test)]
+mod readings;
+#[cfg(test)]
+mod rows;
+#[cfg(test)]
+mod stand;
+#[cfg(test)]
+mod together;
+#[cfg(test)]
+mod whole;
