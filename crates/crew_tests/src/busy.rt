@@ -1,9 +1,9 @@
 //! Walks whose crew is busy, and how many a crew serves.
-use crate::crewed::{CrewWalk, Crewed};
+use crate::crewed::{CrewWalk, Crewed, PoolWalk};
 use crate::stand::Stand;
-use jwalk::Crew;
-use jwalk::file_system::MemoryFs;
+use jwalk::file_system::{FileSystem, MemoryFs};
 use jwalk::read_dir::NoProcess;
+use jwalk::{Crew, Pool};
 use jwalk_crew::crew::Place;
 use std::alloc::Global;
 use std::sync::{Arc, Wait};
@@ -33,18 +33,25 @@ fn is_busy(answer: &Option<Answer>) -> bool {
     }
 }
 
+/// Whether all that comes of a walk is that its crew is busy.
+fn tells_busy<S: FileSystem, L: Pool<((), ()), S, NoProcess, Global>>(
+    mut walk: PoolWalk<S, L>,
+) -> bool {
+    let busy = is_busy(&walk.next());
+    let ended = walk.next().is_none();
+    let ended_for_good = walk.next().is_none();
+    busy && ended && ended_for_good
+}
+
 /// Whether all that a walk answers is that its crew is busy.
 fn is_busy_alone<R: Wait + Threads + Clock + Drop + Send + Sync + 'static>(
     crewed: &Crewed<'_, R, MemoryFs>,
     alloc: Global,
 ) -> bool {
-    let Ok(mut walk) = crewed.begun(alloc) else {
-        return false;
-    };
-    let busy = is_busy(&walk.next());
-    let ended = walk.next().is_none();
-    let ended_for_good = walk.next().is_none();
-    busy && ended && ended_for_good
+    match crewed.begun(alloc) {
+        Ok(walk) => tells_busy(walk),
+        Err(_) => false,
+    }
 }
 
 /// Whether a walk doesn't begin, since its crew is busy.

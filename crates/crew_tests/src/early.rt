@@ -1,8 +1,10 @@
 //! Walks that are dropped before their end.
-use crate::crewed::Crewed;
+use crate::crewed::{Crewed, PoolWalk};
 use crate::endless::Endless;
 use crate::stand::Stand;
+use jwalk::Pool;
 use jwalk::file_system::{FileSystem, MemoryFs};
+use jwalk::read_dir::NoProcess;
 use std::alloc::Global;
 use std::sync::Wait;
 use std::test::Fail;
@@ -12,19 +14,27 @@ use std::time::{Clock, Duration};
 use walk_fixtures::trees::{FORKED, tree};
 
 /// Whether so many answers of a walk, which is dropped then, are entries.
-fn begins_with_entries<
-    R: Wait + Threads + Clock + Drop + Send + Sync + 'static,
-    S: FileSystem + Send + Sync + 'static,
->(crewed: &Crewed<'_, R, S>, alloc: Global, count: usize) -> bool {
-    let Ok(mut walk) = crewed.begun(alloc) else {
-        return false;
-    };
+fn are_entries<S: FileSystem, L: Pool<((), ()), S, NoProcess, Global>>(
+    mut walk: PoolWalk<S, L>,
+    count: usize,
+) -> bool {
     for _ in 0..count {
         if !matches!(walk.next(), Some(Ok(_))) {
             return false;
         }
     }
     true
+}
+
+/// Whether they are of a walk that the crew reads for.
+fn begins_with_entries<
+    R: Wait + Threads + Clock + Drop + Send + Sync + 'static,
+    S: FileSystem + Send + Sync + 'static,
+>(crewed: &Crewed<'_, R, S>, alloc: Global, count: usize) -> bool {
+    match crewed.begun(alloc) {
+        Ok(walk) => are_entries(walk, count),
+        Err(_) => false,
+    }
 }
 
 /// Whether a walk that is dropped after so many answers gives its place back, and the next one has it.

@@ -1,10 +1,10 @@
 //! Options of walks that may be over a crew.
-use crate::crewed::CrewWalk;
+use crate::crewed::{CrewWalk, PoolWalk};
 use crate::stand::Stand;
-use jwalk::file_system::MemoryFs;
+use jwalk::file_system::{FileSystem, MemoryFs};
 use jwalk::read_dir::NoProcess;
 use jwalk::threads::InTurn;
-use jwalk::{Crew, Parallelism, WalkDirGeneric};
+use jwalk::{Crew, Parallelism, Pool, WalkDirGeneric};
 use std::alloc::Global;
 use std::sync::{Arc, Wait};
 use std::test::Fail;
@@ -13,6 +13,7 @@ use std::thread::Threads;
 use std::time::{Clock, Duration};
 use walk_fixtures::answers::are_lines;
 use walk_fixtures::trees::{FORKED, tree};
+use walk_fixtures::ways::{all_looped, all_of, all_on_threads};
 
 /// A walk yet to begin.
 type Builder<R> = WalkDirGeneric<((), ()), Arc<MemoryFs>, NoProcess, Global, InTurn, Crew<R>>;
@@ -61,6 +62,13 @@ fn shallow_and_told<R: Wait + Clock + Drop>(stand: &Stand<R, MemoryFs>) -> Optio
     Some(builder(stand)?.max_depth(1).parallelism(by))
 }
 
+/// A walk begun.
+fn begun<R: Wait + Threads + Clock + Drop + Send + Sync + 'static>(
+    walk: Option<Builder<R>>,
+) -> Option<CrewWalk<R, MemoryFs>> {
+    Some(walk?.into_iter())
+}
+
 /// Whether a walk takes so many places of the crew, and answers all.
 fn takes<R: Wait + Threads + Clock + Drop + Send + Sync + 'static>(
     stand: &Stand<R, MemoryFs>,
@@ -68,14 +76,14 @@ fn takes<R: Wait + Threads + Clock + Drop + Send + Sync + 'static>(
     places: usize,
     wanted: &str,
 ) -> bool {
-    let Some(walk) = walk else {
+    let Some(walk) = begun(walk) else {
         return false;
     };
-    let mut walk = walk.into_iter();
     let in_use = stand.crew.in_use();
-    let mut found = Vec::new(stand.alloc);
-    let is_whole = walk.fill(100, &mut found).is_ok();
-    is_whole && in_use == places && are_lines(stand.alloc, found.as_slice(), wanted)
+    match all_of(stand.alloc, walk) {
+        Ok(found) => in_use == places && are_lines(stand.alloc, found.as_slice(), wanted),
+        Err(_) => false,
+    }
 }
 
 /// A crew of two workers, with one place, over the forked directories.
@@ -118,9 +126,9 @@ fn a_walk_without_the_crew_is_not_busy(rt: HostRuntime) -> Result<(), Fail> {
 }
 
 /// Whether within some seconds so many readings are ahead.
-fn come_ahead<R: Wait + Clock + Drop>(
-    clock: &R,
-    walk: &CrewWalk<R, MemoryFs>,
+fn come_ahead<S: FileSystem, L: Pool<((), ()), S, NoProcess, Global>>(
+    clock: &impl Clock,
+    walk: &PoolWalk<S, L>,
     count: usize,
 ) -> bool {
     for _ in 0..5_000 {
@@ -133,7 +141,9 @@ fn come_ahead<R: Wait + Clock + Drop>(
 }
 
 /// Whether each answer but the last takes one reading of those ahead, and the last one is followed by none.
-fn come_down<R: Wait + Clock + Drop>(walk: &mut CrewWalk<R, MemoryFs>) -> bool {
+fn come_down<S: FileSystem, L: Pool<((), ()), S, NoProcess, Global>>(
+    walk: &mut PoolWalk<S, L>,
+) -> bool {
     for left in [6, 5, 4, 3, 2, 1, 0] {
         let is_entry = matches!(walk.next(), Some(Ok(_)));
         if !is_entry || walk.ahead() != left {
@@ -151,22 +161,23 @@ fn all_directories_are_read_ahead(rt: HostRuntime) -> Result<(), Fail> {
     Ok(())
 }
 
-/// The answers that a `for` loop over a walk comes by.
-fn looped<R: Wait + Threads + Clock + Drop + Send + Sync + 'static>(
+/// Whether a `for` loop over a walk comes by all.
+fn is_looped<R: Wait + Threads + Clock + Drop + Send + Sync + 'static>(
     stand: &Stand<R, MemoryFs>,
-) -> Option<usize> {
-    let mut count: usize = 0;
-    for answer in crewed(stand)?.into_iter() {
-        count = count.saturating_add(usize::from(answer.is_ok()));
+) -> bool {
+    let Some(walk) = begun(crewed(stand)) else {
+        return false;
+    };
+    match all_looped(stand.alloc, walk) {
+        Ok(found) => are_lines(stand.alloc, found.as_slice(), ALL),
+        Err(_) => false,
     }
-    Some(count)
 }
 
 #[test]
 fn a_for_loop_over_a_walk(rt: HostRuntime) -> Result<(), Fail> {
     let stand = two_workers(&rt)?;
-    let count = looped(&stand);
-    assert!(rt; count == Some(7) && stand.crew.in_use() == 0);
+    assert!(rt; is_looped(&stand) && stand.crew.in_use() == 0);
     Ok(())
 }
 
@@ -178,10 +189,10 @@ fn is_read_beside_threads<R: Wait + Threads + Clock + Drop + Send + Sync + 'stat
     let Some(walk) = crewed(stand) else {
         return false;
     };
-    let mut walk = walk.threads(rt).into_iter();
-    let mut found = Vec::new(stand.alloc);
-    let is_whole = walk.fill(100, &mut found).is_ok();
-    is_whole && are_lines(stand.alloc, found.as_slice(), ALL)
+    match all_on_threads(stand.alloc, walk.threads(rt).into_iter()) {
+        Ok(found) => are_lines(stand.alloc, found.as_slice(), ALL),
+        Err(_) => false,
+    }
 }
 
 #[test]

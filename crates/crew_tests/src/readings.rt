@@ -1,11 +1,11 @@
 //! Readings that a crew makes, without the answers of a walk.
 use crate::stand::Stand;
 use jwalk::crew::Session;
-use jwalk::file_system::MemoryFs;
+use jwalk::file_system::{FileSystem, MemoryFs};
 use jwalk::read_dir::{Job, NoProcess};
 use jwalk::read_dir_iter::ReadDirIter;
 use jwalk::threads::InTurn;
-use jwalk::{Crew, Error, Parallelism};
+use jwalk::{Crew, Error, Parallelism, Pool};
 use std::alloc::Global;
 use std::sync::{Arc, Wait};
 use std::test::Fail;
@@ -15,14 +15,11 @@ use walk_fixtures::trees::{FORKED, tree};
 
 type States = ((), ());
 
-type Reads<R> = ReadDirIter<
-    States,
-    Arc<MemoryFs>,
-    NoProcess,
-    Global,
-    InTurn,
-    Session<R, States, Arc<MemoryFs>, NoProcess>,
->;
+/// Readings that some pool may give.
+type PoolReads<S, L> = ReadDirIter<States, S, NoProcess, Global, InTurn, L>;
+
+/// Readings that a crew may make.
+type Reads<R> = PoolReads<Arc<MemoryFs>, Session<R, States, Arc<MemoryFs>, NoProcess>>;
 
 /// The readings of the root and of all below it, or why they don't begin.
 fn tried<R: Wait + Threads + Clock + Drop + Send + Sync + 'static>(
@@ -68,7 +65,9 @@ fn is_busy<R: Wait + Threads + Clock + Drop + Send + Sync + 'static>(
 }
 
 /// Whether seven readings come, and then none.
-fn gives_seven<R: Wait + Clock + Drop>(reads: &mut Reads<R>) -> bool {
+fn gives_seven<S: FileSystem, L: Pool<States, S, NoProcess, Global>>(
+    reads: &mut PoolReads<S, L>,
+) -> bool {
     for _ in 0..7 {
         if !matches!(reads.next(), Some(Ok(_))) {
             return false;

@@ -1,15 +1,10 @@
 //! Walks whose callbacks are closures.
-ghost use Rattle.jwalk.specs.WalkDir.{callback_of};
-
-use crate::rows::callbacks::rows::{Callback, Row, all_hold, by_name};
+use crate::rows::callbacks::rows::{Callback, Row, all_hold};
+use jwalk::DirEntry;
 use jwalk::file_system::MemoryFs;
-use jwalk::read_dir::ProcessReadDir;
-use jwalk::{DirEntry, WalkDirGeneric};
-use std::alloc::{AllocError, Global};
 use std::thread::Threads;
-use walk_fixtures::answers::{Answer, push_line};
+use walk_fixtures::answers::Answer;
 use walk_fixtures::moving::move_directory;
-use walk_fixtures::trees::{GROUPED, tree};
 use walk_fixtures::ways::{Asked, Way};
 
 fn is_group(entry: &DirEntry<((), ())>) -> bool {
@@ -115,42 +110,4 @@ fn a_directory_that_was_moved_to_a_file(rt: HostRuntime) {
                   1 d /t/group 2; 2 f /t/group 2/e.txt",
     }];
     all_hold(&rt, ROWS);
-}
-
-/// Adds the answers that a `for` loop over a walk comes by to a text. Whether all could be added.
-fn pushes_in_a_for_loop<P: ProcessReadDir<((), ()), Global>>(
-    walk: WalkDirGeneric<((), ()), &MemoryFs, P>,
-    text: &mut String,
-) -> bool
-    requires { P.IsLawful (callback_of walk) }
-{
-    let mut is_whole = true;
-    for answer in walk.into_iter() {
-        is_whole &= push_line(text, &answer).is_ok();
-    }
-    is_whole
-}
-
-/// Whether a `for` loop comes by these answers where each list is cut after two items.
-fn cuts_in_a_for_loop(alloc: Global, fs: &MemoryFs, wanted: &str) -> Result<bool, AllocError> {
-    let walk = by_name(fs, "/t").builder(alloc)?;
-    let walk = walk.process_read_dir_by(|_depth, _path, _state, list| {
-        list.truncate(2);
-        Ok(())
-    });
-    let mut text = String::new(alloc);
-    Ok(pushes_in_a_for_loop(walk, &mut text) && text.as_str() == wanted)
-}
-
-/// Whether it does over the groups of files.
-fn cuts_groups(alloc: Global, wanted: &str) -> bool {
-    match tree(alloc, GROUPED) {
-        Ok(fs) => cuts_in_a_for_loop(alloc, &fs, wanted) == Ok(true),
-        Err(_) => false,
-    }
-}
-
-#[test]
-fn a_walk_with_a_callback_in_a_for_loop(rt: HostRuntime) {
-    assert!(rt; cuts_groups(rt.alloc(), "0 d /t; 1 f /t/a.txt; 1 f /t/b.txt"));
 }
