@@ -1,9 +1,10 @@
 //! Walks whose crew is busy, and how many a crew serves.
-use crate::crewed::{CrewWalk, Crewed, PoolWalk};
+use crate::begun::Begun;
+use crate::crewed::Crewed;
 use crate::stand::Stand;
-use jwalk::file_system::{FileSystem, MemoryFs};
+use jwalk::Crew;
+use jwalk::file_system::MemoryFs;
 use jwalk::read_dir::NoProcess;
-use jwalk::{Crew, Pool};
 use jwalk_crew::crew::Place;
 use std::alloc::Global;
 use std::sync::{Arc, Wait};
@@ -34,9 +35,7 @@ fn is_busy(answer: &Option<Answer>) -> bool {
 }
 
 /// Whether all that comes of a walk is that its crew is busy.
-fn tells_busy<S: FileSystem, L: Pool<((), ()), S, NoProcess, Global>>(
-    mut walk: PoolWalk<S, L>,
-) -> bool {
+fn tells_busy<R: Wait + Clock + Drop>(mut walk: Begun<R, MemoryFs>) -> bool {
     let busy = is_busy(&walk.next());
     let ended = walk.next().is_none();
     let ended_for_good = walk.next().is_none();
@@ -76,7 +75,7 @@ fn one_place<R: Wait + Clock + AllocGlobal + Clone + Drop>(
 fn taken_by<R: Wait + Threads + Clock + AllocGlobal + Clone + Drop + Send + Sync + 'static>(
     rt: &R,
     root: &str,
-) -> Result<(Stand<R, MemoryFs>, CrewWalk<R, MemoryFs>), Fail> {
+) -> Result<(Stand<R, MemoryFs>, Begun<R, MemoryFs>), Fail> {
     let stand = one_place(rt)?;
     let held = stand.crewed(root, &[]).begun(stand.alloc)?;
     Ok((stand, held))

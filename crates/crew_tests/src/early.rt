@@ -1,10 +1,9 @@
 //! Walks that are dropped before their end.
-use crate::crewed::{Crewed, PoolWalk};
+use crate::begun::Begun;
+use crate::crewed::Crewed;
 use crate::endless::Endless;
 use crate::stand::Stand;
-use jwalk::Pool;
 use jwalk::file_system::{FileSystem, MemoryFs};
-use jwalk::read_dir::NoProcess;
 use std::alloc::Global;
 use std::sync::Wait;
 use std::test::Fail;
@@ -14,10 +13,7 @@ use std::time::{Clock, Duration};
 use walk_fixtures::trees::{FORKED, tree};
 
 /// Whether so many answers of a walk, which is dropped then, are entries.
-fn are_entries<S: FileSystem, L: Pool<((), ()), S, NoProcess, Global>>(
-    mut walk: PoolWalk<S, L>,
-    count: usize,
-) -> bool {
+fn are_entries<R: Wait + Clock + Drop, S: FileSystem>(mut walk: Begun<R, S>, count: usize) -> bool {
     for _ in 0..count {
         if !matches!(walk.next(), Some(Ok(_))) {
             return false;

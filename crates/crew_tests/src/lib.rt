@@ -4,6 +4,8 @@
 #[cfg(test)]
 mod alike;
 #[cfg(test)]
+mod begun;
+#[cfg(test)]
 mod busy;
 #[cfg(test)]
 mod crewed;

@@ -66,7 +66,7 @@ fn is_busy<R: Wait + Threads + Clock + Drop + Send + Sync + 'static>(
 
 /// Whether seven readings come, and then none.
 fn gives_seven<S: FileSystem, L: Pool<States, S, NoProcess, Global>>(
-    reads: &mut PoolReads<S, L>,
+    mut reads: PoolReads<S, L>,
 ) -> bool {
     for _ in 0..7 {
         if !matches!(reads.next(), Some(Ok(_))) {
@@ -84,24 +84,29 @@ fn are_seven<R: Wait + Threads + Clock + Drop + Send + Sync + 'static>(
     parallelism: Parallelism<Crew<R>>,
 ) -> bool {
     match tried(stand, parallelism) {
-        Some(Ok(mut reads)) => gives_seven(&mut reads),
+        Some(Ok(reads)) => gives_seven(reads),
         _ => false,
     }
 }
 
-/// Whether the readings that have the crew's place are all there, and meanwhile those alone that ask for no crew.
+/// Whether the crew's place is in use, and readings come meanwhile where they ask for no crew alone.
+fn is_in_use<R: Wait + Threads + Clock + Drop + Send + Sync + 'static>(
+    stand: &Stand<R, MemoryFs>,
+) -> bool {
+    stand.crew.in_use() == 1
+        && is_busy(stand)
+        && are_seven(stand, Parallelism::Serial)
+        && are_seven(stand, Parallelism::RayonNewPool(2))
+}
+
+/// Whether that is so beside readings by the crew, which are all there.
 fn has_the_place<R: Wait + Threads + Clock + Drop + Send + Sync + 'static>(
     stand: &Stand<R, MemoryFs>,
 ) -> bool {
-    let Some(Ok(mut held)) = tried_by_crew(stand) else {
-        return false;
-    };
-    let in_use = stand.crew.in_use();
-    let busy = is_busy(stand);
-    let serial = are_seven(stand, Parallelism::Serial);
-    let in_batches = are_seven(stand, Parallelism::RayonNewPool(2));
-    let by_crew = gives_seven(&mut held);
-    in_use == 1 && busy && serial && in_batches && by_crew
+    match tried_by_crew(stand) {
+        Some(Ok(held)) => is_in_use(stand) && gives_seven(held),
+        _ => false,
+    }
 }
 
 #[test]

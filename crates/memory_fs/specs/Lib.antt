@@ -1,3 +1,4 @@
+pub mod BuildError
 pub mod Child
 pub mod Hit
 pub mod Branch

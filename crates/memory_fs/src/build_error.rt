@@ -18,6 +18,11 @@ pub enum BuildError {
 }
 
 impl fmt::Display for BuildError {
+    ghost use Rattle.std.specs.Prelude.{Some};
+    ghost use Rattle.memory_fs.specs.BuildError.{text_of};
+
+    ghost output = { λ error. Some (text_of error) };
+
     fn fmt<W: fmt::Write>(&self, f: &mut fmt::Formatter<W>) -> fmt::Result {
         f.write_str(match self {
             BuildError::NotFound => "no such directory",

@@ -1,5 +1,5 @@
 -- What stands in the way of a walk.
-use Rattle.std.specs.Prelude.{ℕ}
+use Rattle.std.specs.Prelude.{ℕ, List, ◌++◌, codes, decimal}
 use Rattle.walk_text.specs.declared.failure.Failure.{Failure}
 use Rattle.walk_text.specs.declared.failure.Failure.TheVariants.{BadWords, BadTree, Memory, Output}
 
@@ -9,3 +9,10 @@ status_of BadWords = 2
 status_of (BadTree line) = 2
 status_of Memory = 1
 status_of Output = 1
+
+-- the text that tells of it
+abbrev pub text_of : Failure → List ℕ
+text_of BadWords = codes "bad words"
+text_of (BadTree line) = codes "bad tree, line " ++ decimal line
+text_of Memory = codes "memory refused"
+text_of Output = codes "output can't be written"

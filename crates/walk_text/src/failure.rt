@@ -43,6 +43,11 @@ impl Failure {
 }
 
 impl fmt::Display for Failure {
+    ghost use Rattle.std.specs.Prelude.{Some};
+    ghost use Rattle.walk_text.specs.Failure.{text_of};
+
+    ghost output = { λ failure. Some (text_of failure) };
+
     fn fmt<W: fmt::Write>(&self, f: &mut fmt::Formatter<W>) -> fmt::Result {
         match self {
             Failure::BadWords => f.write_str("bad words"),
