@@ -119,12 +119,14 @@ where
     R::A: Copy,
 {
     ghost use Rattle.walk_model.specs.Options.{defaults};
-    ghost use Rattle.jwalk.specs.WalkDir.{root_of, options_of};
+    ghost use Rattle.real_fs.specs.RealFs.{runtime_of};
+    ghost use Rattle.jwalk.specs.WalkDir.{file_system_of, root_of, options_of};
 
     /// A walk of the file system that a runtime reaches, from a root: `WalkDir::at(&rt, "/usr")?`.
     ///
     /// Fails only for want of memory.
     pub fn at(rt: &'a R, root: &str) -> Result<Self, AllocError>
+        ensures file_system { IfOk result (λ walk. (runtime_of (file_system_of walk)).now ≡ rt.now) }
         ensures root { IfOk result (λ walk. root_of walk ≡ root.now) }
         ensures options { IfOk result (λ walk. options_of walk ≡ defaults) }
     {

@@ -94,6 +94,7 @@ pub fn status_once<E: Write>(printed: Result<bool, Failure>, err: &mut E) -> u8
     requires { IfErr printed (λ failure. status_of failure ≡ 1) }
     ensures status { result ≤ 1 }
     ensures clean { result ≡ 0 → printed ≡ Ok true }
+    ensures none_told { printed ≡ Ok true → result ≡ 0 }
 {
     match printed {
         Ok(true) => 0,
