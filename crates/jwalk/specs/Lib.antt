@@ -9,6 +9,7 @@ pub use Rattle.jwalk_readings.specs.Parallelism as Parallelism
 -- what callers cite of the crates below, each under its crate's name
 pub use Rattle.walk_model.specs as walk_model
 pub use Rattle.walk_fs.specs as walk_fs
+pub use Rattle.real_fs.specs as real_fs
 pub use Rattle.memory_fs.specs as memory_fs
 pub use Rattle.read_parts.specs as read_parts
 pub use Rattle.jwalk_read.specs as jwalk_read

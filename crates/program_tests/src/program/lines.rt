@@ -45,7 +45,12 @@ impl FileSystem for Odd {
 
     ghost IsFixed = { λ _. ⊥ };
 
-    ghost functions = { λ _. record { list_of = λ _. Err Other; meta_of = λ _. Err Other; link_meta_of = λ _. Err Other; target_of = λ _. Err Other } };
+    ghost functions = { λ _. record {
+      list_of = λ _. Err Other;
+      meta_of = λ _. Err Other;
+      link_meta_of = λ _. Err Other;
+      target_of = λ _. Err Other;
+    } };
 
     fn read_dir<A: Allocator + Copy>(
         &self,

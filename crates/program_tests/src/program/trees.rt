@@ -129,7 +129,7 @@ fn push_dirs(input: &mut String, out: &mut String, count: u64) -> Result<(), All
 fn more_directories_than_a_batch_come_in_order(rt: HostRuntime) -> Result<(), AllocError> {
     let mut input = String::new(rt.alloc());
     let mut out = String::new(rt.alloc());
-    push_dirs(&mut input, &mut out, 50)?;
+    push_dirs(&mut input, &mut out, 500)?;
     all_come_over_tree(&rt, &[(&["/r"], input.as_str(), (out.as_str(), "", 0))]);
     Ok(())
 }
