@@ -13,7 +13,6 @@ use std::alloc::Global;
 use std::sync::Arc;
 use std::test::Fail;
 use walk_fixtures::trees::{Step, tree};
-use walk_fixtures::ways::{Asked, Setting};
 
 type States = ((), ());
 
@@ -56,12 +55,7 @@ impl<'f> Pool<States, &'f MemoryFs, NoProcess, Global> for Prepared<'f> {
 const TWO_ROOTS: &[Step] = &[Step::Dir("/r"), Step::Dir("/r/a"), Step::Dir("/s")];
 
 fn job_over(alloc: Global, fs: &MemoryFs) -> TreeJob<'_> {
-    let asked = Asked {
-        fs,
-        root: "/r",
-        settings: &[Setting::Sort],
-    };
-    asked.job(alloc, NoProcess)
+    Job::new(alloc, fs, NoProcess, true, true, false, usize::MAX)
 }
 
 /// The directory at a root.

@@ -7,7 +7,6 @@ use jwalk::{DirEntry, Error};
 use std::alloc::Global;
 use std::thread::Threads;
 use walk_fixtures::trees::{FORKED, tree};
-use walk_fixtures::ways::Asked;
 use walk_fixtures::width::Width;
 
 /// Readings that are made in some way.
@@ -22,13 +21,8 @@ const WIDTHS: &[Width] = &[
 ];
 
 /// What reads the directories of a tree.
-fn job<'a>(alloc: Global, fs: &'a MemoryFs) -> Job<((), ()), &'a MemoryFs, NoProcess> {
-    let asked = Asked {
-        fs,
-        root: "/r",
-        settings: &[],
-    };
-    asked.job(alloc, NoProcess)
+fn job(alloc: Global, fs: &MemoryFs) -> Job<((), ()), &MemoryFs, NoProcess> {
+    Job::new(alloc, fs, NoProcess, false, true, false, usize::MAX)
 }
 
 /// The root's list.
