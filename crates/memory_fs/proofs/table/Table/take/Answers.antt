@@ -1,8 +1,8 @@
-use Rattle.std.proofs.Common.{◌∷◌, map, sym, ap, ◌∙◌}
-use Rattle.memory_fs.specs.Branch.{Branch, child_named, children_at, without_name, without_named}
+use Rattle.std.proofs.Common.{sym, ap, ◌∙◌}
+use Rattle.memory_fs.specs.Branch.{Branch, child_named, children_at, without_name}
 use Rattle.memory_fs.specs.Directory.{branch}
 use Rattle.memory_fs.specs.Table.{branches}
-use Rattle.memory_fs.proofs.EditLemmas.{edited-set, branch_there}
+use Rattle.memory_fs.proofs.EditLemmas.{edited-root, edited-set, branch_there}
 use Rattle.memory_fs.proofs.table.Table.take.Goals as goal
 
 pub returns-then-holder-eq0-clause-value : goal.returns-then-holder-eq0-clause-value
@@ -10,8 +10,7 @@ returns-then-holder-eq0-clause-value g c = c.remove.ensures.value ∙ ap (λ k. 
 
 pub returns-then-holder-eq0-clause-others : goal.returns-then-holder-eq0-clause-others
 returns-then-holder-eq0-clause-others g c =
-    ap (λ (b : Branch). b ∷ map branch c.args.self.now.others.items) c.remove.ensures.others
-    ∙ ap (λ k. without_named (branches c.args.self.now) k c.args.name.now) (sym c.if-holder-eq0.true)
+    edited-root (branch c.args.self.now.root) c.args.self.now.others.items (without_name c.args.name.now) c.args.holder (branch c.remove.new.self) c.if-holder-eq0.true c.remove.ensures.others
 
 pub returns-else-holder-eq0-clause-value : goal.returns-else-holder-eq0-clause-value
 returns-else-holder-eq0-clause-value g c =
