@@ -1,7 +1,7 @@
 -- The words of a call, option by option.
 use Rattle.std.proofs.Common.{◌≡◌, ◌≢◌, ◌<◌, ℕ, arith, length, List, [], ◌∷◌, ◌++◌, Option, Some, None, codes, if◌then◌else◌, bytes_eq, MatchOption, unwrap_or, ap, sym, subst, ◌∙◌}
-use Rattle.std.proofs.lemmas.List.{same_from_push}
-use Rattle.walk_text.specs.Number.{value_of}
+use Rattle.std.proofs.lemmas.List.{length-append, same_from_push}
+use Rattle.walk_text.specs.Number.{IsNumber, value_of}
 use Rattle.walk_text.specs.Asked.{nothing, also}
 use Rattle.walk_text.specs.Words.{BeginWithNumber, BeginWithNamedNumber, Begin, AddAll, Add, Ask, AreGood}
 use Rattle.walk_text.specs.declared.asked.Asked.{Asked}
@@ -86,6 +86,16 @@ fewer_behind words (Min n) others begin = two_words (codes "--min") words n othe
 fewer_behind words (Max n) others begin = two_words (codes "--max") words n others begin
 fewer_behind words (Read (Batch n)) others begin = two_words (codes "--batch") words n others begin
 fewer_behind words (Read (Crew n)) others begin = two_words (codes "--crew") words n others begin
+
+-- no words begin with no number
+pub no_first_word : (words : List (List ℕ)) → length words ≡ 0 → (n : ℕ) (others : List (List ℕ)) → ¬ (BeginWithNumber words n others)
+no_first_word words none n others (digits, is, number, value) = absurd (omega (arith, none, ap length is))
+
+-- nor do words whose first is none
+pub no_number : (words : List (List ℕ)) (first : List ℕ) (behind : List (List ℕ)) → words ≡ first ∷ behind → ¬ (IsNumber first) → (n : ℕ) (others : List (List ℕ)) → ¬ (BeginWithNumber words n others)
+no_number words first behind is none n others (digits, begins, number, value) =
+    let e : digits ≡ first = cc in
+    none (subst IsNumber e number)
 
 -- words that begin with a number are more than those behind it
 fewer_behind_number : (words : List (List ℕ)) (n : ℕ) (others : List (List ℕ)) → BeginWithNumber words n others → length others < length words
@@ -174,6 +184,10 @@ pub record AsksAlike (old : Asked) (words : List (List ℕ)) (mid : Asked) (left
   pub forth : (new : Asked) → Add left mid new → Add words old new
   pub back : (new : Asked) → Add words old new → Add left mid new
 
+-- all words ask for what they ask for
+pub alike_at_first : (old : Asked) (words : List (List ℕ)) (mid : Asked) → mid ≡ old → AsksAlike old words mid words
+alike_at_first old words mid is = subst (λ asked. AsksAlike old words asked words) (sym is) (record { forth = λ new add. add; back = λ new add. add })
+
 -- one option more
 pub alike_behind : (old : Asked) (words : List (List ℕ)) (asked mid : Asked) (left others : List (List ℕ)) (choice : Choice) → AsksAlike old words asked left → left ≢ [] → Begin left choice others → also choice asked ≡ Some mid → AsksAlike old words mid others
 alike_behind old words asked mid left others choice alike some begin more = record {
@@ -213,6 +227,10 @@ asks_by_last : (words options : List (List ℕ)) (last : List ℕ) → words ≡
 asks_by_last words options last is asked root (front, front_is, add) =
     let same : (front ≡ options) × (root ≡ last) = same_from_push front options root last (sym front_is ∙ is) in
     (same.1, subst (λ ws. Add ws nothing asked) same.0 add)
+
+-- no words are no good ones
+pub no_root : (words : List (List ℕ)) → length words ≡ 0 → ¬ (AreGood words)
+no_root words none (asked, root, (options, is, add)) = absurd (omega (arith, none, ap length is, length-append options (root ∷ [])))
 
 -- words whose others ask for nothing are bad ones
 pub bad_options : (words options : List (List ℕ)) (last : List ℕ) → words ≡ options ++ last ∷ [] → ((asked : Asked) → ¬ (Add options nothing asked)) → ¬ (AreGood words)
