@@ -1,15 +1,28 @@
 -- One more line of a tree.
-use Rattle.std.proofs.Common.{◌≡◌, ◌≢◌, ◌⊎◌, inl, inr, ◌+◌, ◌<◌, ℕ, List, [], ◌∷◌, ◌++◌, length, get_or, take, drop, suc, drop-cons, Option, Some, None, IfSome, map, ap, refl, ◌∙◌, sym, subst, arith, Bor}
+use Rattle.std.proofs.Common.{◌≡◌, ◌≢◌, ◌⊎◌, inl, inr, ◌+◌, ◌<◌, ℕ, ◌==◌, true, false, List, [], ◌∷◌, ◌++◌, length, get_or, take, drop, suc, drop-cons, Option, Some, None, IfSome, map, ap, refl, ◌∙◌, sym, subst, arith, Bor}
 use Rattle.std.specs.List.{enumerate_from}
 use Rattle.std.proofs.lemmas.List.{map-append, length-map, take-append-drop}
 use Rattle.std.proofs.lemmas.List.FromFn.{get_or-enumerate_from, length-enumerate_from}
+use Rattle.std.proofs.lemmas.Bool.{eqb-true}
 use Rattle.walk_model.specs.Tree.{Tree, only_root}
-use Rattle.memory_fs.specs.MemoryFs.{IsSameTree}
+use Rattle.memory_fs.specs.MemoryFs.{IsSameTree, IsBuilt}
 use Rattle.walk_text.specs.TextLines.{text_lines, numbered_from}
 use Rattle.walk_text.specs.NumberedLines.{numbered}
-use Rattle.walk_text.specs.Built.{Adds, AddsAll, Builds, CannotAdd, IsFirstBad, TellsOf, TellsOfInput}
+use Rattle.walk_text.specs.Built.{added, Adds, AddsAll, Builds, CannotAdd, IsFirstBad, TellsOf, TellsOfInput}
+use Rattle.walk_text.specs.TreeLine.{Says}
+use Rattle.walk_text.specs.declared.tree_line.TreeLine.{TreeLine}
 use Rattle.walk_text.specs.declared.failure.Failure.{Failure}
 use Rattle.walk_text.specs.declared.failure.Failure.TheVariants.{BadWords, BadTree, Memory, Output}
+
+-- an empty line changes nothing
+pub adds_nothing : (line : List ℕ) (tree : Tree) → (length line == 0) ≡ true → Adds line tree tree
+adds_nothing [] tree empty = refl
+adds_nothing (c ∷ cs) tree empty = absurd (omega (arith, eqb-true (length (c ∷ cs)) 0 empty))
+
+-- another adds what it says
+pub adds_said : (line : List ℕ) (old new : Tree) (said : TreeLine) → (length line == 0) ≡ false → Says line said → IsBuilt (added said old) new → Adds line old new
+adds_said [] old new said some says built = cc
+adds_said (c ∷ cs) old new said some says built = (said, says, built)
 
 -- the text of a numbered line
 abbrev pub text_of : ℕ × Bor (List ℕ) → List ℕ

@@ -1,5 +1,6 @@
 pub mod Lists
 pub mod Texts
+pub mod TreeLineFacts
 pub mod TextLineFacts
 pub mod BuiltFacts
 pub mod WordFacts

@@ -42,3 +42,8 @@ no_linked_path text x splits empty (target, path, is) = let ends = ends_target t
 pub on_none : {T P : Type 0} (r : Option T) → P → IfNone r P
 on_none None p = p
 on_none (Some x) p = tt
+
+-- and so does what follows from it
+pub on_none_weaker : {T P Q : Type 0} (r : Option T) → (P → Q) → IfNone r P → IfNone r Q
+on_none_weaker None f p = f p
+on_none_weaker (Some x) f p = tt

@@ -1,7 +1,7 @@
 -- The words of a call, option by option.
-use Rattle.std.proofs.Common.{◌≡◌, ◌≢◌, ◌<◌, ℕ, arith, length, List, [], ◌∷◌, ◌++◌, Option, Some, None, codes, if◌then◌else◌, bytes_eq, MatchOption, unwrap_or, ap, refl, sym, subst, ◌∙◌}
-use Rattle.std.proofs.lemmas.List.{same_from_push}
-use Rattle.walk_text.specs.Number.{value_of}
+use Rattle.std.proofs.Common.{◌≡◌, ◌≢◌, ◌<◌, ℕ, arith, length, List, [], ◌∷◌, ◌++◌, Option, Some, None, codes, if◌then◌else◌, bytes_eq, MatchOption, unwrap_or, ap, sym, subst, ◌∙◌}
+use Rattle.std.proofs.lemmas.List.{length-append, same_from_push}
+use Rattle.walk_text.specs.Number.{IsNumber, value_of}
 use Rattle.walk_text.specs.Asked.{nothing, also}
 use Rattle.walk_text.specs.Words.{BeginWithNumber, BeginWithNamedNumber, Begin, AddAll, Add, Ask, AreGood}
 use Rattle.walk_text.specs.declared.asked.Asked.{Asked}
@@ -87,34 +87,76 @@ fewer_behind words (Max n) others begin = two_words (codes "--max") words n othe
 fewer_behind words (Read (Batch n)) others begin = two_words (codes "--batch") words n others begin
 fewer_behind words (Read (Crew n)) others begin = two_words (codes "--crew") words n others begin
 
--- Words that begin with an option's name begin with no option where no number follows.
-lacks_number : (option : ℕ → Choice) (name : List ℕ) (behind : List (List ℕ)) → split (name ∷ behind) ≡ numbered option behind → ((words : List (List ℕ)) (n : ℕ) (others : List (List ℕ)) → Begin words (option n) others → BeginWithNamedNumber name words n others) → ((n : ℕ) (others : List (List ℕ)) → ¬ (BeginWithNumber behind n others)) → (choice : Choice) (others : List (List ℕ)) → ¬ (Begin (name ∷ behind) choice others)
-unfolding numbered
-lacks_number option name [] by_name begins none choice others begin =
-    let differ : None ≡ split_as choice others = sym by_name ∙ split_is (name ∷ []) choice others begin in
-    subst (λ o. MatchOption o (Unit {0}) (λ _. ⊥)) differ tt
-lacks_number option name (digits ∷ behind) by_name begins none choice others begin =
-    let same = same_parts (option (value_of digits)) choice behind others (sym by_name ∙ split_is (name ∷ digits ∷ behind) choice others begin) in
-    let number : Begin (name ∷ digits ∷ behind) (option (value_of digits)) others = subst (λ c. Begin (name ∷ digits ∷ behind) c others) (sym same.0) begin in
-    let named : BeginWithNamedNumber name (name ∷ digits ∷ behind) (value_of digits) others = begins (name ∷ digits ∷ behind) (value_of digits) others number in
-    let e : named.0 ≡ digits ∷ behind = cc (named.1) in
-    none (value_of digits) others (subst (λ ws. BeginWithNumber ws (value_of digits) others) e named.2)
+-- no words begin with no number
+pub no_first_word : (words : List (List ℕ)) → length words ≡ 0 → (n : ℕ) (others : List (List ℕ)) → ¬ (BeginWithNumber words n others)
+no_first_word words none n others (digits, is, number, value) = absurd (omega (arith, none, ap length is))
 
-pub lacks_min : (behind : List (List ℕ)) → ((n : ℕ) (others : List (List ℕ)) → ¬ (BeginWithNumber behind n others)) → (choice : Choice) (others : List (List ℕ)) → ¬ (Begin (codes "--min" ∷ behind) choice others)
-unfolding split named
-lacks_min behind = lacks_number Min (codes "--min") behind refl (λ words n others begin. begin)
+-- nor do words whose first is none
+pub no_number : (words : List (List ℕ)) (first : List ℕ) (behind : List (List ℕ)) → words ≡ first ∷ behind → ¬ (IsNumber first) → (n : ℕ) (others : List (List ℕ)) → ¬ (BeginWithNumber words n others)
+no_number words first behind is none n others (digits, begins, number, value) =
+    let e : digits ≡ first = cc in
+    none (subst IsNumber e number)
 
-pub lacks_max : (behind : List (List ℕ)) → ((n : ℕ) (others : List (List ℕ)) → ¬ (BeginWithNumber behind n others)) → (choice : Choice) (others : List (List ℕ)) → ¬ (Begin (codes "--max" ∷ behind) choice others)
-unfolding split named
-lacks_max behind = lacks_number Max (codes "--max") behind refl (λ words n others begin. begin)
+-- words that begin with a number are more than those behind it
+fewer_behind_number : (words : List (List ℕ)) (n : ℕ) (others : List (List ℕ)) → BeginWithNumber words n others → length others < length words
+fewer_behind_number words n others (digits, is, number, value) = omega (arith, ap length is)
 
-pub lacks_batch : (behind : List (List ℕ)) → ((n : ℕ) (others : List (List ℕ)) → ¬ (BeginWithNumber behind n others)) → (choice : Choice) (others : List (List ℕ)) → ¬ (Begin (codes "--batch" ∷ behind) choice others)
-unfolding split named
-lacks_batch behind = lacks_number batch (codes "--batch") behind refl (λ words n others begin. begin)
+-- what stands behind a name in front of a number
+behind_name : (name : List ℕ) (words : List (List ℕ)) (option : List ℕ) (n : ℕ) (others : List (List ℕ)) → BeginWithNamedNumber option (name ∷ words) n others → (name ≡ option) × BeginWithNumber words n others
+behind_name name words option n others (behind, is, number) =
+    let same : words ≡ behind = cc in
+    (cc, subst (λ ws. BeginWithNumber ws n others) (sym same) number)
 
-pub lacks_crew : (behind : List (List ℕ)) → ((n : ℕ) (others : List (List ℕ)) → ¬ (BeginWithNumber behind n others)) → (choice : Choice) (others : List (List ℕ)) → ¬ (Begin (codes "--crew" ∷ behind) choice others)
-unfolding split named
-lacks_crew behind = lacks_number crew (codes "--crew") behind refl (λ words n others begin. begin)
+-- a name is no option of one word unless it is one of four
+pub no_plain_option : (name : List ℕ) → name ≢ codes "--tree" → name ≢ codes "--sort" → name ≢ codes "--hidden" → name ≢ codes "--follow" → (choice : Choice) (others : List (List ℕ)) → ¬ (Begin (name ∷ others) choice others)
+no_plain_option name tree sort hidden follow choice others begin = refuted choice begin
+  where
+    by_number : (option : List ℕ) (n : ℕ) → ¬ (BeginWithNamedNumber option (name ∷ others) n others)
+    by_number option n named = absurd (omega (arith, fewer_behind_number others n others (behind_name name others option n others named).1))
+
+    refuted : (c : Choice) → ¬ (Begin (name ∷ others) c others)
+    refuted Tree b = tree cc
+    refuted Sort b = sort cc
+    refuted Hidden b = hidden cc
+    refuted Follow b = follow cc
+    refuted (Min n) b = by_number (codes "--min") n b
+    refuted (Max n) b = by_number (codes "--max") n b
+    refuted (Read (Batch n)) b = by_number (codes "--batch") n b
+    refuted (Read (Crew n)) b = by_number (codes "--crew") n b
+
+-- nor an option with a number, unless it is one of four others
+pub no_numbered_option : (name : List ℕ) → name ≢ codes "--min" → name ≢ codes "--max" → name ≢ codes "--batch" → name ≢ codes "--crew" → (n : ℕ) (words others : List (List ℕ)) → BeginWithNumber words n others → (choice : Choice) → ¬ (Begin (name ∷ words) choice others)
+no_numbered_option name not_min not_max not_batch not_crew n words others number choice begin = refuted choice begin
+  where
+    one_word_alone : (option : List ℕ) → name ∷ words ≢ option ∷ others
+    one_word_alone option is = absurd (omega (arith, fewer_behind_number words n others number, ap length is))
+
+    refuted : (c : Choice) → ¬ (Begin (name ∷ words) c others)
+    refuted Tree b = one_word_alone (codes "--tree") b
+    refuted Sort b = one_word_alone (codes "--sort") b
+    refuted Hidden b = one_word_alone (codes "--hidden") b
+    refuted Follow b = one_word_alone (codes "--follow") b
+    refuted (Min k) b = not_min (behind_name name words (codes "--min") k others b).0
+    refuted (Max k) b = not_max (behind_name name words (codes "--max") k others b).0
+    refuted (Read (Batch k)) b = not_batch (behind_name name words (codes "--batch") k others b).0
+    refuted (Read (Crew k)) b = not_crew (behind_name name words (codes "--crew") k others b).0
+
+-- words begin with no option where their first is none of one word, and none with a number that stands behind it
+pub no_option : (words : List (List ℕ)) (name : List ℕ) (behind : List (List ℕ)) → words ≡ name ∷ behind → ((choice : Choice) (others : List (List ℕ)) → ¬ (Begin (name ∷ others) choice others)) → ((n : ℕ) (others : List (List ℕ)) → BeginWithNumber behind n others → (choice : Choice) → ¬ (Begin (name ∷ behind) choice others)) → (choice : Choice) (others : List (List ℕ)) → ¬ (Begin words choice others)
+no_option words name behind is plain numbered choice others begin = refuted choice (subst (λ ws. Begin ws choice others) is begin)
+  where
+    by_number : (option : List ℕ) (n : ℕ) (c : Choice) → BeginWithNamedNumber option (name ∷ behind) n others → ¬ (Begin (name ∷ behind) c others)
+    by_number option n c named = numbered n others (behind_name name behind option n others named).1 c
+
+    refuted : (c : Choice) → ¬ (Begin (name ∷ behind) c others)
+    refuted Tree b = plain Tree others cc
+    refuted Sort b = plain Sort others cc
+    refuted Hidden b = plain Hidden others cc
+    refuted Follow b = plain Follow others cc
+    refuted (Min n) b = by_number (codes "--min") n (Min n) b b
+    refuted (Max n) b = by_number (codes "--max") n (Max n) b b
+    refuted (Read (Batch n)) b = by_number (codes "--batch") n (batch n) b b
+    refuted (Read (Crew n)) b = by_number (codes "--crew") n (crew n) b b
 
 -- no words begin with no option
 none_begins : (choice : Choice) (others : List (List ℕ)) → ¬ (Begin [] choice others)
@@ -141,6 +183,10 @@ add_behind words others choice old mid new some begin more (c ∷ choices, (rest
 pub record AsksAlike (old : Asked) (words : List (List ℕ)) (mid : Asked) (left : List (List ℕ)) : Type 0 where
   pub forth : (new : Asked) → Add left mid new → Add words old new
   pub back : (new : Asked) → Add words old new → Add left mid new
+
+-- all words ask for what they ask for
+pub alike_at_first : (old : Asked) (words : List (List ℕ)) (mid : Asked) → mid ≡ old → AsksAlike old words mid words
+alike_at_first old words mid is = subst (λ asked. AsksAlike old words asked words) (sym is) (record { forth = λ new add. add; back = λ new add. add })
 
 -- one option more
 pub alike_behind : (old : Asked) (words : List (List ℕ)) (asked mid : Asked) (left others : List (List ℕ)) (choice : Choice) → AsksAlike old words asked left → left ≢ [] → Begin left choice others → also choice asked ≡ Some mid → AsksAlike old words mid others
@@ -181,6 +227,10 @@ asks_by_last : (words options : List (List ℕ)) (last : List ℕ) → words ≡
 asks_by_last words options last is asked root (front, front_is, add) =
     let same : (front ≡ options) × (root ≡ last) = same_from_push front options root last (sym front_is ∙ is) in
     (same.1, subst (λ ws. Add ws nothing asked) same.0 add)
+
+-- no words are no good ones
+pub no_root : (words : List (List ℕ)) → length words ≡ 0 → ¬ (AreGood words)
+no_root words none (asked, root, (options, is, add)) = absurd (omega (arith, none, ap length is, length-append options (root ∷ [])))
 
 -- words whose others ask for nothing are bad ones
 pub bad_options : (words options : List (List ℕ)) (last : List ℕ) → words ≡ options ++ last ∷ [] → ((asked : Asked) → ¬ (Add options nothing asked)) → ¬ (AreGood words)

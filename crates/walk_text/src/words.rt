@@ -1,5 +1,5 @@
 //! The words of a call.
-ghost use Rattle.std.specs.Prelude.{◌≡◌, ℕ, List, map, string_bytes, IfSome, IfNone};
+ghost use Rattle.std.specs.Prelude.{◌≡◌, ℕ, List, ◌∷◌, map, string_bytes, IfSome, IfNone};
 ghost use Rattle.walk_text.specs.declared.asked.Asked.{Asked};
 ghost use Rattle.walk_text.specs.declared.asked.Choice.{Choice};
 ghost use Rattle.walk_text.specs.Asked.{nothing};
@@ -30,6 +30,37 @@ fn split_number<A: Allocator>(words: &[String<A>]) -> Option<(usize, &[String<A>
     Some((number as usize, others))
 }
 
+/// The option of one word that a name stands for.
+fn plain_option(name: &str) -> Option<Choice>
+    ensures some { IfSome result (λ choice. (others : List (List ℕ)) → Begin (name.now ∷ others) choice others) }
+    ensures none { IfNone result ((choice : Choice) → (others : List (List ℕ))
+        → ¬ (Begin (name.now ∷ others) choice others)) }
+{
+    match name {
+        "--tree" => Some(Choice::Tree),
+        "--sort" => Some(Choice::Sort),
+        "--hidden" => Some(Choice::Hidden),
+        "--follow" => Some(Choice::Follow),
+        _ => None,
+    }
+}
+
+/// The option that a name and a number stand for.
+fn numbered_option(name: &str, number: usize) -> Option<Choice>
+    ensures some { IfSome result (λ choice. (words : List (List ℕ)) → (others : List (List ℕ))
+        → BeginWithNumber words number others → Begin (name.now ∷ words) choice others) }
+    ensures none { IfNone result ((n : ℕ) → (words : List (List ℕ)) → (others : List (List ℕ))
+        → BeginWithNumber words n others → (choice : Choice) → ¬ (Begin (name.now ∷ words) choice others)) }
+{
+    match name {
+        "--min" => Some(Choice::Min(number)),
+        "--max" => Some(Choice::Max(number)),
+        "--batch" => Some(Choice::Read(ReadBy::Batch(number))),
+        "--crew" => Some(Choice::Read(ReadBy::Crew(number))),
+        _ => None,
+    }
+}
+
 /// The option that words begin with, and the words behind it.
 fn split_option<A: Allocator>(words: &[String<A>]) -> Option<(Choice, &[String<A>])>
     ensures some { IfSome result (λ x. Begin (map string_bytes words.now) x.0 (map string_bytes x.1.now)) }
@@ -37,29 +68,12 @@ fn split_option<A: Allocator>(words: &[String<A>]) -> Option<(Choice, &[String<A
         → ¬ (Begin (map string_bytes words.now) choice others)) }
 {
     let (name, behind) = words.split_first()?;
-    match name.as_str() {
-        "--tree" => Some((Choice::Tree, behind)),
-        "--sort" => Some((Choice::Sort, behind)),
-        "--hidden" => Some((Choice::Hidden, behind)),
-        "--follow" => Some((Choice::Follow, behind)),
-        "--min" => {
-            let (depth, others) = split_number(behind)?;
-            Some((Choice::Min(depth), others))
-        }
-        "--max" => {
-            let (depth, others) = split_number(behind)?;
-            Some((Choice::Max(depth), others))
-        }
-        "--batch" => {
-            let (width, others) = split_number(behind)?;
-            Some((Choice::Read(ReadBy::Batch(width)), others))
-        }
-        "--crew" => {
-            let (workers, others) = split_number(behind)?;
-            Some((Choice::Read(ReadBy::Crew(workers)), others))
-        }
-        _ => None,
+    let name = name.as_str();
+    if let Some(choice) = plain_option(name) {
+        return Some((choice, behind));
     }
+    let (number, others) = split_number(behind)?;
+    Some((numbered_option(name, number)?, others))
 }
 
 /// Reads options, in any order and each at most once. None for any other words.

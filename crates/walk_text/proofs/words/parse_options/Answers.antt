@@ -1,9 +1,9 @@
-use Rattle.std.proofs.Common.{arith, map, string_bytes, sym, subst, ◌∙◌}
+use Rattle.std.proofs.Common.{[], refl, arith, map, string_bytes, sym, subst, ◌∙◌}
 use Rattle.std.proofs.lemmas.List.{length-map}
 use Rattle.walk_text.specs.Asked.{nothing}
 use Rattle.walk_text.proofs.Lists.{map-none, map-some}
 use Rattle.walk_text.proofs.Texts.{on_none}
-use Rattle.walk_text.proofs.WordFacts.{AsksAlike, alike_behind, asks_no_option, asks_twice, asks_only, fewer_behind}
+use Rattle.walk_text.proofs.WordFacts.{AsksAlike, alike_at_first, alike_behind, asks_no_option, asks_twice, asks_only, fewer_behind}
 use Rattle.walk_text.proofs.words.parse_options.Goals as goal
 
 pub returns-in_err-choice-clause-none : goal.returns-in_err-choice-clause-none
@@ -38,3 +38,11 @@ returns-clause-only g c =
     let words = map string_bytes c.args.words.now in
     let none = map-none string_bytes c.loop-left.left.now (sym c.is_empty.ensures ∙ c.loop-left-test.false) in
     asks_only nothing words c.loop-left.asked (subst (AsksAlike nothing words c.loop-left.asked) none c.loop-left.invariant)
+
+pub loop-left-init : goal.loop-left-init
+loop-left-init g c = alike_at_first nothing (map string_bytes c.args.words.now) c.nothing-asked.result c.nothing-asked.ensures
+
+pub returns-clause-some : goal.returns-clause-some
+returns-clause-some g c =
+    let none = map-none string_bytes c.loop-left.left.now (sym c.is_empty.ensures ∙ c.loop-left-test.false) in
+    c.loop-left.invariant.forth c.loop-left.asked ([], (none, refl))

@@ -1,8 +1,13 @@
-use Rattle.std.proofs.Common.{[], ◌∷◌, ◌++◌, map, string_bytes, ap, sym, ◌∙◌}
-use Rattle.std.proofs.lemmas.List.{map-append}
+use Rattle.std.proofs.Common.{[], ◌∷◌, ◌++◌, map, string_bytes, arith, ap, sym, ◌∙◌}
+use Rattle.std.proofs.lemmas.List.{length-map, map-append}
 use Rattle.walk_text.proofs.Texts.{on_none}
-use Rattle.walk_text.proofs.WordFacts.{bad_options, asks_one}
+use Rattle.walk_text.proofs.WordFacts.{no_root, bad_options, asks_one}
 use Rattle.walk_text.proofs.words.parse_words.Goals as goal
+
+pub returns-in_err-root-clause-none : goal.returns-in_err-root-clause-none
+returns-in_err-root-clause-none g c =
+    let words = c.args.words.now in
+    on_none _ (no_root (map string_bytes words) (omega (arith, c.in_err-root.ensures.cases, length-map words string_bytes)))
 
 pub returns-in_err-asked-clause-none : goal.returns-in_err-asked-clause-none
 returns-in_err-asked-clause-none g c =
