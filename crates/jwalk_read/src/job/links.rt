@@ -70,7 +70,8 @@ pub(super) fn joined<A: Allocator + Copy>(
     Ok(Arc::new(alloc, path_text::join(alloc, path, name)?)?)
 }
 
-/// The ancestors of what stands at a path below these, one list for all of it: none are kept where links aren't followed.
+/// The ancestors of what stands in a directory below these, one list for all of it: none are kept where links aren't
+/// followed.
 pub(super) fn ancestors_below<A: Allocator + Copy>(
     alloc: A,
     follow_links: bool,
@@ -101,8 +102,8 @@ fn parent_of<A: Allocator + Copy>(
     shared(alloc, parent)
 }
 
-/// Whether what a link at a path led to, of this type, is reached: not if it is one of the directories above the link, as
-/// the link's text tells, nor if the text of the link to a directory can't be read.
+/// Whether what a link at a path led to, of this type, is reached: not if it is a directory above the link, as the
+/// link's text tells, nor if the text of the link to a directory can't be read.
 fn admitted<S: FileSystem, A: Allocator + Copy>(
     alloc: A,
     fs: &S,
@@ -147,6 +148,7 @@ impl<C: ClientState, S: FileSystem, P: ProcessReadDir<C, A>, A: Allocator + Copy
     {
         let file_name = String::from_str(self.alloc, own_name(path.as_str()))?;
         let parent_path = parent_of(self.alloc, path.as_str(), near)?;
+        let directory = path.clone()?;
         let ancestors = ancestors.share()?;
         let found = DirEntry::new(
             depth,
@@ -157,7 +159,7 @@ impl<C: ClientState, S: FileSystem, P: ProcessReadDir<C, A>, A: Allocator + Copy
             through_link,
             ancestors,
         );
-        Ok(found.with_directory(path.clone()?, metadata))
+        Ok(found.with_directory(directory, metadata))
     }
 
     /// The entry of a path, or the error with its depth and path. A text near by may be that of its parent.

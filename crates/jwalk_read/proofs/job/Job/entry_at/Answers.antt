@@ -32,7 +32,7 @@ at_depth false bare path = refl
 pub returns-clause-depth : goal.returns-clause-depth
 returns-clause-depth g c =
     ap (λ e. e.depth) c.with_directory.ensures
-    ∙ at_depth (is_dir (type_of c.args.metadata)) (entry c.new-found.result) (text c.in_ok-clone.field-0)
+    ∙ at_depth (is_dir (type_of c.args.metadata)) (entry c.new-found.result) (text c.in_ok-directory.directory)
     ∙ ap (λ e. e.depth) c.new-found.ensures.entry
 
 pub returns-clause-value : goal.returns-clause-value
@@ -43,5 +43,5 @@ returns-clause-value g c = λ given default.
     let state = default (entry c.new-found.result).client_state c.new-found.ensures.state in
     let bare : counted_entry given (entry c.new-found.result) ≡ record (value.made_of job c.args.depth path c.args.through_link (texts c.args.ancestors.now) c.args.metadata) { read_children = None } = search (rules, state) in
     ap (counted_entry given) c.with_directory.ensures
-    ∙ counted-with_directory given.read_dir_state given.dir_entry_state (entry c.new-found.result) dir (text c.in_ok-clone.field-0)
-    ∙ placed_as dir (counted_entry given (entry c.new-found.result)) _ (text c.in_ok-clone.field-0) path bare refl (ap string_bytes c.in_ok-clone.ensures.cases)
+    ∙ counted-with_directory given.read_dir_state given.dir_entry_state (entry c.new-found.result) dir (text c.in_ok-directory.directory)
+    ∙ placed_as dir (counted_entry given (entry c.new-found.result)) _ (text c.in_ok-directory.directory) path bare refl (ap string_bytes c.in_ok-directory.ensures.cases)
