@@ -23,7 +23,6 @@ use std::sync::Arc;
 use walk_fs::fault::Fault;
 use walk_fs::file_system::FileSystem;
 use walk_model::file_type::FileType;
-use walk_model::metadata::Metadata;
 use walk_paths::path_text;
 
 /// The name of an entry made from a path: its file name, or its whole path where it has none.
@@ -130,38 +129,6 @@ fn admitted<S: FileSystem, A: Allocator + Copy>(
 }
 
 impl<C: ClientState, S: FileSystem, P: ProcessReadDir<C, A>, A: Allocator + Copy> Job<C, S, P, A> {
-    /// The entry of a path with this metadata.
-    fn entry_at(
-        &self,
-        depth: usize,
-        path: &Arc<String<A>, A>,
-        near: &Arc<String<A>, A>,
-        through_link: bool,
-        ancestors: &Ancestors<A>,
-        metadata: Metadata,
-    ) -> Result<DirEntry<C, A>, AllocError>
-        ensures depth { IfOk result (λ e. e.depth ≡ depth) }
-        ensures value { (g : _) → DefaultsCount C.DirEntryState.Default g
-            → IfOk result (λ e. counted_entry g (entry e)
-            ≡ value.made_of (job_by S.FileSystem g self.now) depth (text path.now)
-            through_link (texts ancestors.now) metadata) }
-    {
-        let file_name = String::from_str(self.alloc, own_name(path.as_str()))?;
-        let parent_path = parent_of(self.alloc, path.as_str(), near)?;
-        let directory = path.clone()?;
-        let ancestors = ancestors.share()?;
-        let found = DirEntry::new(
-            depth,
-            file_name,
-            metadata.file_type(),
-            parent_path,
-            None,
-            through_link,
-            ancestors,
-        );
-        Ok(found.with_directory(directory, metadata))
-    }
-
     /// The entry of a path, or the error with its depth and path. A text near by may be that of its parent.
     pub(super) fn made(
         &self,
@@ -178,8 +145,21 @@ impl<C: ClientState, S: FileSystem, P: ProcessReadDir<C, A>, A: Allocator + Copy
     {
         match metadata_at(&self.fs, path.as_str(), through_link) {
             Ok(metadata) => {
-                let found = self.entry_at(depth, path, near, through_link, ancestors, metadata)?;
-                Ok(Ok(found))
+                let file_name = String::from_str(self.alloc, own_name(path.as_str()))?;
+                let parent_path = parent_of(self.alloc, path.as_str(), near)?;
+                let directory = path.clone()?;
+                let ancestors = ancestors.share()?;
+                let file_type = metadata.file_type();
+                let found = DirEntry::new(
+                    depth,
+                    file_name,
+                    file_type,
+                    parent_path,
+                    None,
+                    through_link,
+                    ancestors,
+                );
+                Ok(Ok(found.with_directory(directory, metadata)))
             }
             Err(Fault::Io(err)) => Ok(Err(Error::from_path(depth, path.clone()?, err))),
             Err(Fault::Memory) => Err(AllocError),
