@@ -1,7 +1,7 @@
 // The texts of errors.
-ghost use Rattle.std.specs.Prelude.{◌≡◌, ◌++◌, ℕ, List, Some, IfOk, string_bytes};
+ghost use Rattle.std.specs.Prelude.{◌≡◌, ℕ, List, Some, IfOk, string_bytes};
 ghost use Rattle.std.specs.Fmt.{DisplaysOnOk, WritesOnOk};
-ghost use Rattle.read_parts.specs.Error.{failure, kind_or_other, text_with, text_of};
+ghost use Rattle.read_parts.specs.Error.{failure, kind_or_other, loop_text, text_with, text_of};
 
 use super::{Error, ErrorInner};
 use std::alloc::{AllocError, Allocator};
@@ -18,17 +18,14 @@ struct Told<'a, A: Allocator + Copy> {
     own: &'a str,
 }
 
-/// Writes two texts, each after the words that lead to it.
-fn write_led<W: fmt::Write>(
-    f: &mut fmt::Formatter<W>,
-    lead: &str,
-    first: &str,
-    between: &str,
-    second: &str,
-) -> fmt::Result
-    ensures { WritesOnOk W.write_str_gives f.old result (lead.now ++ first.now ++ between.now ++ second.now) f.new }
+/// Writes the text of a link that leads back to an ancestor.
+fn write_loop<W: fmt::Write>(f: &mut fmt::Formatter<W>, child: &str, ancestor: &str) -> fmt::Result
+    ensures { WritesOnOk W.write_str_gives f.old result (loop_text child.now ancestor.now) f.new }
 {
-    write!(f, "{lead}{first}{between}{second}")
+    write!(
+        f,
+        "File system loop found: {child} points to an ancestor {ancestor}"
+    )
 }
 
 impl<A: Allocator + Copy> fmt::Display for Told<'_, A> {
@@ -39,21 +36,16 @@ impl<A: Allocator + Copy> fmt::Display for Told<'_, A> {
             ErrorInner::Io {
                 path: Some(path),
                 ..
-            } => write_led(
+            } => write!(
                 f,
-                "IO error for operation on ",
+                "IO error for operation on {}: {}",
                 path.as_str(),
-                ": ",
-                self.own,
+                self.own
             ),
             ErrorInner::Io { path: None, .. } => f.write_str(self.own),
-            ErrorInner::Loop { ancestor, child } => write_led(
-                f,
-                "File system loop found: ",
-                child.as_str(),
-                " points to an ancestor ",
-                ancestor.as_str(),
-            ),
+            ErrorInner::Loop { ancestor, child } => {
+                write_loop(f, child.as_str(), ancestor.as_str())
+            }
             ErrorInner::Busy => f.write_str(
                 "rayon thread-pool too busy or dependency loop detected - aborting before possibility of deadlock",
             ),

@@ -1,4 +1,4 @@
-use Rattle.std.proofs.Common.{◌≡◌, ◌∙◌, ◌∷◌, ◌++◌, [], ℕ, List, Some, cond, false, map, sym, ap}
+use Rattle.std.proofs.Common.{◌≡◌, ◌∙◌, ◌∷◌, ◌++◌, [], ℕ, List, Some, cond, true, false, map, sym, ap}
 use Rattle.std.specs.Prelude.{string_bytes}
 use Rattle.std.specs.List.{find}
 use Rattle.std.proofs.lemmas.List.{map-append, reverse-append}
@@ -22,3 +22,14 @@ loop-last-preserved g c =
     let other : same_path target last ≡ false = sym (c.if-same_path.ensures ∙ ap (same_path target) (c.as_str.ensures.value ∙ ap string_bytes c.deref.ensures)) in
     let step = last_first text target c.loop-last.left.now c.in-Some.above.now c.in-Some.last.now c.in-Some.ensures.cases.0 in
     sym (step ∙ ap (λ b. cond b (Some last) (looped_to target above)) other) ∙ c.loop-last.invariant
+
+pub returns-then-same_path : goal.returns-then-same_path
+returns-then-same_path g c =
+    let target = c.args.target.now in
+    let last = text c.in-Some.last.now in
+    let above = map text c.in-Some.above.now in
+    let same : same_path target last ≡ true = sym (c.if-same_path.ensures ∙ ap (same_path target) (c.as_str.ensures.value ∙ ap string_bytes c.deref.ensures)) in
+    let step = last_first text target c.loop-last.left.now c.in-Some.above.now c.in-Some.last.now c.in-Some.ensures.cases.0 in
+    ap (λ s. Some (string_bytes s)) c.in_ok-clone.ensures.cases
+    ∙ sym (step ∙ ap (λ b. cond b (Some last) (looped_to target above)) same)
+    ∙ c.loop-last.invariant
