@@ -1,7 +1,5 @@
 //! One reading of a directory.
 ghost use Rattle.std.specs.Prelude.{◌≡◌, ◌+◌, ◌<◌, ◌^◌, ◌++◌, Some, IfOk, OnOk, length, map, option_map, option_to_list, string_bytes};
-ghost use Rattle.std.specs.IoError.{error_kind};
-ghost use Rattle.walk_model.specs.Error.{io};
 ghost use Rattle.walk_model.specs.Entry.{AtDepth, children_at};
 ghost use Rattle.walk_model.specs.FileType.{is_dir};
 ghost use Rattle.walk_model.specs.Paths.{join};
@@ -22,6 +20,7 @@ mod plan;
 mod root;
 
 use crate::read_dir::ReadDir;
+use links::{ancestors_below, joined};
 use read_parts::ancestors::Ancestors;
 use read_parts::client_state::ClientState;
 use read_parts::dir_entry::DirEntry;
@@ -34,12 +33,11 @@ use read_parts::read_dir_spec::ReadDirSpec;
 use std::alloc::{AllocError, Allocator, Global};
 use std::io;
 use std::marker::PhantomData;
-use std::sync::{Arc, Mutex};
+use std::sync::Mutex;
 use walk_fs::fault::Fault;
 use walk_fs::file_system::FileSystem;
 use walk_fs::listed::Listed;
 use walk_model::file_type::FileType;
-use walk_paths::path_text;
 
 /// What reads one directory: a file system, a callback, and the options that a reading goes by.
 pub struct Job<C: ClientState, S, P, A: Allocator + Copy = Global> {
@@ -61,6 +59,22 @@ impl<C: ClientState, S: Drop, P: Drop, A: Allocator + Copy> Drop for Job<C, S, P
             of: _,
         } = self;
     }
+}
+
+/// The directory that an entry of this type, with a name in a directory, is to be read from.
+fn children_in<C: ClientState, A: Allocator + Copy>(
+    alloc: A,
+    directory: &str,
+    name: &str,
+    file_type: FileType,
+) -> Result<Option<ReadChildren<C, A>>, AllocError>
+    ensures { IfOk result (λ o. option_map children o
+        ≡ children_at (is_dir file_type) (join directory.now name.now)) }
+{
+    if !file_type.is_dir() {
+        return Ok(None);
+    }
+    Ok(Some(ReadChildren::new(joined(alloc, directory, name)?)))
 }
 
 impl<C: ClientState, S: FileSystem, P: ProcessReadDir<C, A>, A: Allocator + Copy> Job<C, S, P, A> {
@@ -110,23 +124,6 @@ impl<C: ClientState, S: FileSystem, P: ProcessReadDir<C, A>, A: Allocator + Copy
         self.options
     }
 
-    /// The directory that an entry of this type is to be read from.
-    fn children_in(
-        &self,
-        of: &ReadDirSpec<C, A>,
-        name: &str,
-        file_type: FileType,
-    ) -> Result<Option<ReadChildren<C, A>>, AllocError>
-        ensures { IfOk result (λ o. option_map children o
-            ≡ children_at (is_dir file_type) (join (text of.now.path) name.now)) }
-    {
-        if !file_type.is_dir() {
-            return Ok(None);
-        }
-        let joined = path_text::join(self.alloc, of.path.as_str(), name)?;
-        Ok(Some(ReadChildren::new(Arc::new(self.alloc, joined)?)))
-    }
-
     /// The entry of a name in a directory.
     fn entry_in(
         &self,
@@ -144,32 +141,18 @@ impl<C: ClientState, S: FileSystem, P: ProcessReadDir<C, A>, A: Allocator + Copy
             ≡ value.entry_in (job_by S.FileSystem g self.now)
             (counted_spec g (spec of.now)) (string_bytes name) file_type) }
     {
-        let read_children = self.children_in(of, name.as_str(), file_type)?;
+        let parent_path = of.path.clone()?;
+        let ancestors = inside.share()?;
+        let read_children = children_in(self.alloc, of.path.as_str(), name.as_str(), file_type)?;
         Ok(DirEntry::new(
             of.depth() + 1,
             name,
             file_type,
-            of.path.clone()?,
+            parent_path,
             read_children,
             false,
-            inside.share()?,
+            ancestors,
         ))
-    }
-
-    /// The error of a name whose type could not be told.
-    fn untyped(
-        &self,
-        of: &ReadDirSpec<C, A>,
-        name: &str,
-        err: io::Error,
-    ) -> Result<Error<A>, AllocError>
-        requires { (spec of.now).depth + 1 < 2 ^ 64 }
-        ensures { IfOk result (λ e. failure e
-            ≡ io ((spec of.now).depth + 1) (Some (join (text of.now.path) name.now)) (error_kind err)) }
-    {
-        let joined = path_text::join(self.alloc, of.path.as_str(), name)?;
-        let path = Arc::new(self.alloc, joined)?;
-        Ok(Error::from_path(of.depth() + 1, path, err))
     }
 
     /// What an item of a listing that has a name gives: nothing where it is hidden and skipped.
@@ -189,7 +172,10 @@ impl<C: ClientState, S: FileSystem, P: ProcessReadDir<C, A>, A: Allocator + Copy
     {
         let Listed { name, file_type } = found;
         match file_type {
-            Err(err) => Ok(Some(Err(self.untyped(of, name.as_str(), err)?))),
+            Err(err) => {
+                let path = joined(self.alloc, of.path.as_str(), name.as_str())?;
+                Ok(Some(Err(Error::from_path(of.depth() + 1, path, err))))
+            }
             Ok(file_type) => {
                 if self.options.skips(name.as_str()) {
                     return Ok(None);
@@ -261,7 +247,8 @@ impl<C: ClientState, S: FileSystem, P: ProcessReadDir<C, A>, A: Allocator + Copy
             ≡ value.raw (job_by S.FileSystem g self.now)
             (counted_spec g (spec of.now)) (map listed listing.items)) }
     {
-        let inside = self.ancestors_in(of)?;
+        let follow_links = self.options.follow_links();
+        let inside = ancestors_below(self.alloc, follow_links, of.ancestors(), &of.path)?;
         let mut items = Vec::with_capacity(self.alloc, listing.len())?;
         for found in listing {
             self.push_item(&mut items, of, &inside, found)?;

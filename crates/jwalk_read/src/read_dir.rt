@@ -71,6 +71,24 @@ fn push_spec<C: ClientState, A: Allocator + Copy>(
     }
 }
 
+/// These values, each at its address: child `i` of the directory at `address`. Each has the child count 0.
+fn addressed<T: Drop, A: Allocator + Copy>(
+    address: &IndexPath<A>,
+    values: Vec<T, A>,
+) -> Result<Vec<Ordered<T, A>, A>, AllocError>
+    ensures same { IfOk result (λ v. map (λ x. x.value) v.items ≡ values.items) }
+    ensures addresses { IfOk result (λ v. map address_of v.items
+        ≡ children_from 0 (indices_of address.now) (length v.items)) }
+    ensures unread { IfOk result (λ v. All (λ x. child_count_of x ≡ 0) v.items) }
+{
+    let mut ordered = Vec::with_capacity(*values.allocator(), values.len())?;
+    for value in values {
+        let child = address.adding(ordered.len())?;
+        ordered.push(Ordered::new(value, child, 0))?;
+    }
+    Ok(ordered)
+}
+
 impl<C: ClientState, A: Allocator + Copy> ReadDir<C, A> {
     /// The reading that left this state and this list.
     pub fn new(
@@ -132,12 +150,6 @@ impl<C: ClientState, A: Allocator + Copy> ReadDir<C, A> {
             ≡ children_from 0 (indices_of address.now) (length v.items)) }
         ensures unread { IfOk result (λ v. All (λ x. child_count_of x ≡ 0) v.items) }
     {
-        let specs = self.read_children_specs()?;
-        let mut ordered = Vec::with_capacity(*self.results_list.allocator(), specs.len())?;
-        for spec in specs {
-            let child = address.adding(ordered.len())?;
-            ordered.push(Ordered::new(spec, child, 0))?;
-        }
-        Ok(ordered)
+        addressed(address, self.read_children_specs()?)
     }
 }

@@ -1,5 +1,5 @@
 //! The directories above an entry.
-ghost use Rattle.std.specs.Prelude.{◌≡◌, ◌↔◌, ◌++◌, ◌∷◌, [], IfOk, IsTrue, OnOk, map, option_map};
+ghost use Rattle.std.specs.Prelude.{◌≡◌, ◌↔◌, ◌++◌, ◌∷◌, [], IfOk, IsTrue, map, option_map};
 ghost use Rattle.walk_model.specs.Job.{looped_to};
 ghost use Rattle.read_parts.specs.Text.{text};
 ghost use Rattle.read_parts.specs.Ancestors.{texts};
@@ -18,19 +18,6 @@ impl<A: Allocator + Copy> Drop for Ancestors<A> {
     fn drop(self) {
         let Ancestors { paths: _ } = self;
     }
-}
-
-/// Adds handles of these paths.
-fn push_all<A: Allocator + Copy>(
-    all: &mut Vec<Arc<String<A>, A>, A>,
-    paths: &[Arc<String<A>, A>],
-) -> Result<(), AllocError>
-    ensures { OnOk result (map text all.new.items ≡ map text all.old.items ++ map text paths.now) }
-{
-    for path in paths {
-        all.push(path.clone()?)?;
-    }
-    Ok(())
 }
 
 impl<A: Allocator + Copy> Ancestors<A> {
@@ -80,7 +67,7 @@ impl<A: Allocator + Copy> Ancestors<A> {
     {
         let above = self.paths();
         let mut all = Vec::with_capacity(alloc, above.len().saturating_add(1))?;
-        push_all(&mut all, above)?;
+        all.extend_with_clones(above)?;
         all.push(path)?;
         Ok(Ancestors {
             paths: Some(Arc::new(alloc, all)?),

@@ -1,4 +1,10 @@
 //! An entry of a walk.
+ghost use Rattle.std.specs.Prelude.{◌≡◌, Some, Ok, Err, IfOk, IfErr, IfSome, MatchResult, string_bytes};
+ghost use Rattle.std.specs.declared.io.ErrorKind.{ErrorKind};
+ghost use Rattle.walk_model.specs.Error.{io};
+ghost use Rattle.walk_model.specs.FileSystem.{metadata_at};
+ghost use Rattle.read_parts.specs.Error.{failure, kind_of};
+
 use crate::ancestors::Ancestors;
 use crate::client_state::ClientState;
 use crate::error::Error;
@@ -31,6 +37,30 @@ pub struct DirEntry<C: ClientState, A: Allocator + Copy = Global> {
     pub(crate) through_link: bool,
     #[derive_where(skip)]
     pub(crate) ancestors: Ancestors<A>,
+}
+
+/// What a file system answers of a path, or its error, with this depth and the path.
+fn asked<S: FileSystem, A: Allocator + Copy>(
+    fs: &S,
+    depth: usize,
+    path: String<A>,
+    through_link: bool,
+) -> Result<Result<Metadata, Error<A>>, AllocError>
+    ensures value { S.IsFixed fs.now → IfOk result (λ r. MatchResult r
+        (λ m. metadata_at (S.functions fs.now) through_link (string_bytes path) ≡ Ok m)
+        (λ e. IfSome (kind_of (failure e))
+        (λ kind. metadata_at (S.functions fs.now) through_link (string_bytes path) ≡ Err kind))) }
+    ensures error { IfOk result (λ r. IfErr r (λ e. (kind : ErrorKind)
+        × (failure e ≡ io depth (Some (string_bytes path)) kind))) }
+{
+    match metadata_at(fs, path.as_str(), through_link) {
+        Ok(metadata) => Ok(Ok(metadata)),
+        Err(Fault::Io(err)) => {
+            let path = Arc::new(*path.allocator(), path)?;
+            Ok(Err(Error::from_path(depth, path, err)))
+        }
+        Err(Fault::Memory) => Err(AllocError),
+    }
 }
 
 impl<C: ClientState, A: Allocator + Copy> DirEntry<C, A> {
@@ -129,25 +159,6 @@ impl<C: ClientState, A: Allocator + Copy> DirEntry<C, A> {
         path_text::join(alloc, self.parent_path.as_str(), self.file_name.as_str())
     }
 
-    /// What the file system answers of the entry's path, or its error.
-    fn asked<S: FileSystem>(&self, fs: &S) -> Result<Result<Metadata, Error<A>>, AllocError>
-        ensures value { S.IsFixed fs.now → IfOk result (λ r. MatchResult r
-            (λ m. metadata_of (S.functions fs.now) (entry self.now) ≡ Ok m)
-            (λ e. IfSome (kind_of (failure e))
-            (λ kind. metadata_of (S.functions fs.now) (entry self.now) ≡ Err kind))) }
-        ensures error { IfOk result (λ r. IfErr r (λ e. IsErrorOf (entry self.now) (failure e))) }
-    {
-        let path = self.path()?;
-        match metadata_at(fs, path.as_str(), self.through_link) {
-            Ok(metadata) => Ok(Ok(metadata)),
-            Err(Fault::Io(err)) => {
-                let path = Arc::new(*path.allocator(), path)?;
-                Ok(Err(Error::from_path(self.depth, path, err)))
-            }
-            Err(Fault::Memory) => Err(AllocError),
-        }
-    }
-
     /// The type and the length of what stands at the entry's path. Where the entry is that of a link which was
     /// followed, they are those of what the link leads to (`metadata` of the file system, else `symlink_metadata`). The
     /// file system is asked once, at each call: so the type may be another than the entry's.
@@ -161,7 +172,10 @@ impl<C: ClientState, A: Allocator + Copy> DirEntry<C, A> {
             (λ kind. metadata_of (S.functions fs.now) (entry self.now) ≡ Err kind)) }
         ensures error { IfErr result (λ e. IsErrorOf (entry self.now) (failure e)) }
     {
-        match self.asked(fs) {
+        let Ok(path) = self.path() else {
+            return Err(Error::memory());
+        };
+        match asked(fs, self.depth, path, self.through_link) {
             Ok(answer) => answer,
             Err(AllocError) => Err(Error::memory()),
         }

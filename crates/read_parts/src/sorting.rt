@@ -30,32 +30,45 @@ fn by_name<C: ClientState, A: Allocator + Copy>(
     }
 }
 
-/// The name of an entry: none where the item is an error.
-fn name_of<C: ClientState, A: Allocator + Copy>(
-    found: &Result<DirEntry<C, A>, Error<A>>,
+/// The name of the first entry of a list.
+fn first_name<C: ClientState, A: Allocator + Copy>(
+    list: &[Result<DirEntry<C, A>, Error<A>>],
 ) -> Option<&str> {
-    match found {
-        Ok(entry) => Some(entry.file_name.as_str()),
-        Err(_) => None,
+    for found in list {
+        if let Ok(entry) = found {
+            return Some(entry.file_name.as_str());
+        }
     }
+    None
 }
 
 /// How many bytes two names begin with in common.
 fn common_length(a: &str, b: &str) -> usize {
-    a.bytes().zip(b.bytes()).take_while(|(x, y)| x == y).count()
+    let a = a.as_bytes();
+    let b = b.as_bytes();
+    let shorter = a.len().min(b.len());
+    for i in 0..shorter {
+        if a[i] != b[i] {
+            return i;
+        }
+    }
+    shorter
 }
 
 /// How many bytes all names of a list begin with in common.
 fn shared_length<C: ClientState, A: Allocator + Copy>(
     list: &[Result<DirEntry<C, A>, Error<A>>],
 ) -> usize {
-    let mut names = list.iter().filter_map(name_of);
-    let Some(first) = names.next() else {
+    let Some(first) = first_name(list) else {
         return 0;
     };
-    names.fold(first.len(), |shared, name| {
-        shared.min(common_length(first, name))
-    })
+    let mut shared = first.len();
+    for found in list {
+        if let Ok(entry) = found {
+            shared = shared.min(common_length(first, entry.file_name.as_str()));
+        }
+    }
+    shared
 }
 
 /// The bytes of a name from a place on.
@@ -112,7 +125,7 @@ fn sort_by_name<C: ClientState, A: Allocator + Copy>(
     ensures { OnOk result (map item list.new.items ≡ arranged (map item list.old.items)) }
 {
     sort_by_beginnings(list)?;
-    list.sort_by(|a, b| by_name(a, b))
+    list.sort_by(by_name)
 }
 
 /// A list in order by name where that is asked for, and else as it is.

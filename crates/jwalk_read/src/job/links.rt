@@ -1,16 +1,15 @@
 // Entries made from paths, and what a link that is followed gives way to.
-ghost use Rattle.std.specs.Prelude.{◌≡◌, ◌&&◌, ◌∷◌, [], true, Ok, Err, IfOk, MatchResult, if◌then◌else◌};
-ghost use Rattle.walk_model.specs.Counted.{Worth};
-ghost use Rattle.walk_model.specs.Entry.{AtDepth, Entry, path_of};
+ghost use Rattle.std.specs.Prelude.{◌≡◌, ◌&&◌, ◌++◌, ◌∷◌, [], true, Ok, Err, IfOk, MatchResult, if◌then◌else◌};
+ghost use Rattle.walk_model.specs.Entry.{AtDepth, path_of};
 ghost use Rattle.walk_model.specs.FileType.{is_symlink};
 ghost use Rattle.walk_model.specs.Job as value;
+ghost use Rattle.walk_model.specs.Paths.{join};
 ghost use Rattle.read_parts.specs.Text.{text};
 ghost use Rattle.read_parts.specs.Ancestors.{texts};
 ghost use Rattle.read_parts.specs.Error.{failure};
 ghost use Rattle.read_parts.specs.Entry.{entry, item};
-ghost use Rattle.read_parts.specs.ReadDirSpec.{spec};
-ghost use Rattle.read_parts.specs.Given.{Given, counted_spec, counted_item, counted_entry, DefaultsCount};
-ghost use Rattle.jwalk_read.specs.Job.{file_system, options_of, job_by};
+ghost use Rattle.read_parts.specs.Given.{Given, counted_item, counted_entry, DefaultsCount};
+ghost use Rattle.jwalk_read.specs.Job.{file_system, options_of, job_by, admitted};
 
 use super::Job;
 use read_parts::ancestors::Ancestors;
@@ -19,14 +18,11 @@ use read_parts::dir_entry::DirEntry;
 use read_parts::error::Error;
 use read_parts::metadata::metadata_at;
 use read_parts::process_read_dir::ProcessReadDir;
-use read_parts::read_children::ReadChildren;
-use read_parts::read_dir_spec::ReadDirSpec;
 use std::alloc::{AllocError, Allocator};
 use std::sync::Arc;
 use walk_fs::fault::Fault;
 use walk_fs::file_system::FileSystem;
 use walk_model::file_type::FileType;
-use walk_model::metadata::Metadata;
 use walk_paths::path_text;
 
 /// The name of an entry made from a path: its file name, or its whole path where it has none.
@@ -52,116 +48,120 @@ fn own_parent(path: &str) -> &str
     }
 }
 
+/// A text that is shared.
+pub(super) fn shared<A: Allocator + Copy>(
+    alloc: A,
+    words: &str,
+) -> Result<Arc<String<A>, A>, AllocError>
+    ensures { IfOk result (λ shared. text shared ≡ words.now) }
+{
+    Ok(Arc::new(alloc, String::from_str(alloc, words)?)?)
+}
+
+/// The path of a name below a path, shared.
+pub(super) fn joined<A: Allocator + Copy>(
+    alloc: A,
+    path: &str,
+    name: &str,
+) -> Result<Arc<String<A>, A>, AllocError>
+    ensures { IfOk result (λ joined. text joined ≡ join path.now name.now) }
+{
+    Ok(Arc::new(alloc, path_text::join(alloc, path, name)?)?)
+}
+
+/// The ancestors of what stands in a directory below these, one list for all of it: none are kept where links aren't
+/// followed.
+pub(super) fn ancestors_below<A: Allocator + Copy>(
+    alloc: A,
+    follow_links: bool,
+    above: &Ancestors<A>,
+    path: &Arc<String<A>, A>,
+) -> Result<Ancestors<A>, AllocError>
+    ensures { IfOk result (λ inside. texts inside
+        ≡ (if follow_links then texts above.now ++ text path.now ∷ [] else [])) }
+{
+    if !follow_links {
+        return Ok(Ancestors::none());
+    }
+    above.with(alloc, path.clone()?)
+}
+
+/// The parent of an entry made from a path: a handle of a text near by, where that is the same text.
+fn parent_of<A: Allocator + Copy>(
+    alloc: A,
+    path: &str,
+    near: &Arc<String<A>, A>,
+) -> Result<Arc<String<A>, A>, AllocError>
+    ensures { IfOk result (λ parent. text parent ≡ value.own_parent path.now) }
+{
+    let parent = own_parent(path);
+    if parent == near.as_str() {
+        return Ok(near.clone()?);
+    }
+    shared(alloc, parent)
+}
+
+/// Whether what a link at a path led to, of this type, is reached: not if it is a directory above the link, as the
+/// link's text tells, nor if the text of the link to a directory can't be read.
+fn admitted<S: FileSystem, A: Allocator + Copy>(
+    alloc: A,
+    fs: &S,
+    depth: usize,
+    ancestors: &Ancestors<A>,
+    path: &Arc<String<A>, A>,
+    file_type: FileType,
+) -> Result<Result<(), Error<A>>, AllocError>
+    ensures { S.IsFixed fs.now → IfOk result (λ r. MatchResult r
+        (λ _. admitted (S.functions fs.now) depth (texts ancestors.now) (text path.now) file_type ≡ Ok tt)
+        (λ e. admitted (S.functions fs.now) depth (texts ancestors.now) (text path.now) file_type ≡ Err (failure e))) }
+{
+    if !file_type.is_dir() {
+        return Ok(Ok(()));
+    }
+    match fs.read_link(alloc, path.as_str()) {
+        Ok(target) => match ancestors.nearest(target.as_str())? {
+            Some(ancestor) => Ok(Err(Error::from_loop(depth, ancestor, path.clone()?))),
+            None => Ok(Ok(())),
+        },
+        Err(Fault::Io(err)) => Ok(Err(Error::from_io(depth, err))),
+        Err(Fault::Memory) => Err(AllocError),
+    }
+}
+
 impl<C: ClientState, S: FileSystem, P: ProcessReadDir<C, A>, A: Allocator + Copy> Job<C, S, P, A> {
-    /// The ancestors of what stands in a directory, one list for all of it: none are kept where links aren't followed.
-    pub(super) fn ancestors_in(&self, of: &ReadDirSpec<C, A>) -> Result<Ancestors<A>, AllocError>
-        ensures { (g : _) → IfOk result (λ inside. texts inside
-            ≡ value.ancestors_in (job_by S.FileSystem g self.now) (counted_spec g (spec of.now))) }
-    {
-        if !self.options.follow_links() {
-            return Ok(Ancestors::none());
-        }
-        of.ancestors().with(self.alloc, of.path.clone()?)
-    }
-
-    /// The parent of an entry made from a path: a handle of a text near by, where that is the same text.
-    fn parent_of(
-        &self,
-        path: &str,
-        near: &Arc<String<A>, A>,
-    ) -> Result<Arc<String<A>, A>, AllocError>
-        ensures { IfOk result (λ parent. text parent ≡ value.own_parent path.now) }
-    {
-        let parent = own_parent(path);
-        if parent == near.as_str() {
-            return Ok(near.clone()?);
-        }
-        Ok(Arc::new(self.alloc, String::from_str(self.alloc, parent)?)?)
-    }
-
-    /// The entry of a path with this metadata.
-    fn entry_at(
-        &self,
-        depth: usize,
-        path: Arc<String<A>, A>,
-        near: &Arc<String<A>, A>,
-        through_link: bool,
-        ancestors: Ancestors<A>,
-        metadata: Metadata,
-    ) -> Result<DirEntry<C, A>, AllocError>
-        ensures depth { IfOk result (λ e. e.depth ≡ depth) }
-        ensures value { (g : _) → DefaultsCount C.DirEntryState.Default g
-            → IfOk result (λ e. counted_entry g (entry e)
-            ≡ value.made_of (job_by S.FileSystem g self.now) depth (text path)
-            through_link (texts ancestors) metadata) }
-    {
-        let file_type = metadata.file_type();
-        let file_name = String::from_str(self.alloc, own_name(path.as_str()))?;
-        let parent_path = self.parent_of(path.as_str(), near)?;
-        let read_children = if file_type.is_dir() {
-            Some(ReadChildren::new(path))
-        } else {
-            None
-        };
-        Ok(DirEntry::new(
-            depth,
-            file_name,
-            file_type,
-            parent_path,
-            read_children,
-            through_link,
-            ancestors,
-        ))
-    }
-
     /// The entry of a path, or the error with its depth and path. A text near by may be that of its parent.
     pub(super) fn made(
         &self,
         depth: usize,
-        path: Arc<String<A>, A>,
+        path: &Arc<String<A>, A>,
         near: &Arc<String<A>, A>,
         through_link: bool,
-        ancestors: Ancestors<A>,
+        ancestors: &Ancestors<A>,
     ) -> Result<Result<DirEntry<C, A>, Error<A>>, AllocError>
         ensures depth { IfOk result (λ r. AtDepth depth (item r ∷ [])) }
         ensures value { (g : _) → S.IsFixed (file_system self.now) → DefaultsCount C.DirEntryState.Default g
             → IfOk result (λ r. counted_item g (item r)
-            ≡ value.made (job_by S.FileSystem g self.now) depth (text path) through_link (texts ancestors)) }
+            ≡ value.made (job_by S.FileSystem g self.now) depth (text path.now) through_link (texts ancestors.now)) }
     {
         match metadata_at(&self.fs, path.as_str(), through_link) {
             Ok(metadata) => {
-                let found = self.entry_at(depth, path, near, through_link, ancestors, metadata)?;
-                Ok(Ok(found))
+                let file_name = String::from_str(self.alloc, own_name(path.as_str()))?;
+                let parent_path = parent_of(self.alloc, path.as_str(), near)?;
+                let directory = path.clone()?;
+                let ancestors = ancestors.share()?;
+                let file_type = metadata.file_type();
+                let found = DirEntry::new(
+                    depth,
+                    file_name,
+                    file_type,
+                    parent_path,
+                    None,
+                    through_link,
+                    ancestors,
+                );
+                Ok(Ok(found.with_directory(directory, metadata)))
             }
-            Err(Fault::Io(err)) => Ok(Err(Error::from_path(depth, path, err))),
-            Err(Fault::Memory) => Err(AllocError),
-        }
-    }
-
-    /// Whether what a link at a path led to, of this type, is reached: not if it is a directory above the link, as the
-    /// link's text tells, nor if the text of the link to a directory can't be read.
-    fn admitted(
-        &self,
-        link: &DirEntry<C, A>,
-        path: Arc<String<A>, A>,
-        file_type: FileType,
-    ) -> Result<Result<(), Error<A>>, AllocError>
-        requires { text path ≡ path_of (entry link.now) }
-        ensures { (g : Given C.ReadDirState C.DirEntryState) → S.IsFixed (file_system self.now)
-            → (x : Entry Worth Worth) → x.file_type ≡ file_type → IfOk result (λ r. MatchResult r
-            (λ _. value.reached (job_by S.FileSystem g self.now) (counted_entry g (entry link.now)) x ≡ Ok x)
-            (λ e. value.reached (job_by S.FileSystem g self.now) (counted_entry g (entry link.now)) x
-            ≡ Err (failure e))) }
-    {
-        if !file_type.is_dir() {
-            return Ok(Ok(()));
-        }
-        match self.fs.read_link(self.alloc, path.as_str()) {
-            Ok(target) => match link.ancestors().nearest(target.as_str())? {
-                Some(ancestor) => Ok(Err(Error::from_loop(link.depth, ancestor, path))),
-                None => Ok(Ok(())),
-            },
-            Err(Fault::Io(err)) => Ok(Err(Error::from_io(link.depth, err))),
+            Err(Fault::Io(err)) => Ok(Err(Error::from_path(depth, path.clone()?, err))),
             Err(Fault::Memory) => Err(AllocError),
         }
     }
@@ -170,10 +170,10 @@ impl<C: ClientState, S: FileSystem, P: ProcessReadDir<C, A>, A: Allocator + Copy
     fn reached(
         &self,
         link: &DirEntry<C, A>,
-        path: Arc<String<A>, A>,
+        path: &Arc<String<A>, A>,
         found: DirEntry<C, A>,
     ) -> Result<Result<DirEntry<C, A>, Error<A>>, AllocError>
-        requires { text path ≡ path_of (entry link.now) }
+        requires { text path.now ≡ path_of (entry link.now) }
         ensures depth { AtDepth (entry link.now).depth (item (Ok found) ∷ [])
             → IfOk result (λ r. AtDepth (entry link.now).depth (item r ∷ [])) }
         ensures value { (g : Given C.ReadDirState C.DirEntryState) → S.IsFixed (file_system self.now)
@@ -181,7 +181,15 @@ impl<C: ClientState, S: FileSystem, P: ProcessReadDir<C, A>, A: Allocator + Copy
             ≡ value.reached (job_by S.FileSystem g self.now)
             (counted_entry g (entry link.now)) (counted_entry g (entry found))) }
     {
-        let admitted = self.admitted(link, path, found.file_type)?;
+        let above = link.ancestors();
+        let admitted = admitted(
+            self.alloc,
+            &self.fs,
+            link.depth,
+            above,
+            path,
+            found.file_type,
+        )?;
         Ok(admitted.and(Ok(found)))
     }
 
@@ -194,16 +202,9 @@ impl<C: ClientState, S: FileSystem, P: ProcessReadDir<C, A>, A: Allocator + Copy
             (value.made (job_by S.FileSystem g self.now) (entry link.now).depth
             (path_of (entry link.now)) true (entry link.now).ancestors)) }
     {
-        let path = Arc::new(self.alloc, link.path()?)?;
-        let ancestors = link.ancestors().share()?;
-        match self.made(
-            link.depth,
-            path.clone()?,
-            &link.parent_path,
-            true,
-            ancestors,
-        )? {
-            Ok(found) => self.reached(link, path, found),
+        let path = joined(self.alloc, link.parent_path(), link.file_name())?;
+        match self.made(link.depth, &path, &link.parent_path, true, link.ancestors())? {
+            Ok(found) => self.reached(link, &path, found),
             Err(error) => Ok(Err(error)),
         }
     }

@@ -1,10 +1,10 @@
 // The list that a walk begins with.
-ghost use Rattle.std.specs.Prelude.{◌≡◌, ◌∷◌, [], Some, Ok, Err, IfOk, MatchResult, if◌then◌else◌};
+ghost use Rattle.std.specs.Prelude.{◌≡◌, ◌∷◌, [], false, Some, Ok, Err, IfOk, MatchResult, if◌then◌else◌};
 ghost use Rattle.walk_model.specs.Error.{io};
-ghost use Rattle.walk_model.specs.Entry.{AtDepth, path_of};
+ghost use Rattle.walk_model.specs.Entry.{AtDepth};
 ghost use Rattle.walk_model.specs.Job as value;
+ghost use Rattle.walk_model.specs.Paths.{join};
 ghost use Rattle.read_parts.specs.Text.{text};
-ghost use Rattle.read_parts.specs.Ancestors.{texts};
 ghost use Rattle.read_parts.specs.Error.{failure};
 ghost use Rattle.read_parts.specs.Entry.{entry, item};
 ghost use Rattle.jwalk_read.specs.ReadDir.{reading};
@@ -12,6 +12,7 @@ ghost use Rattle.read_parts.specs.Given.{Given, counted_item, counted_reading, c
 ghost use Rattle.jwalk_read.specs.Job.{file_system, callback, options_of, job_by, IsSteadyJob};
 
 use super::Job;
+use super::links::{ancestors_below, joined, shared};
 use crate::read_dir::ReadDir;
 use read_parts::ancestors::Ancestors;
 use read_parts::client_state::ClientState;
@@ -38,34 +39,28 @@ struct Behind<A: Allocator + Copy> {
     metadata: Metadata,
 }
 
+/// What stands behind a root that is a link of this name below a path, or the error of one that is broken.
+fn behind_root<S: FileSystem, A: Allocator + Copy>(
+    alloc: A,
+    fs: &S,
+    parent_path: &str,
+    name: &str,
+) -> Result<Result<Behind<A>, Error<A>>, AllocError>
+    ensures path { IfOk result (λ r. IfOk r (λ b. text b.path ≡ join parent_path.now name.now)) }
+    ensures value { S.IsFixed fs.now → IfOk result (λ r. MatchResult r
+        (λ b. (S.functions fs.now).meta_of (join parent_path.now name.now) ≡ Ok b.metadata)
+        (λ e. value.either Ok (λ kind. Err (io 0 (Some (join parent_path.now name.now)) kind))
+        ((S.functions fs.now).meta_of (join parent_path.now name.now)) ≡ Err (failure e))) }
+{
+    let path = joined(alloc, parent_path, name)?;
+    match fs.metadata(path.as_str()) {
+        Ok(metadata) => Ok(Ok(Behind { path, metadata })),
+        Err(Fault::Io(err)) => Ok(Err(Error::from_path(0, path, err))),
+        Err(Fault::Memory) => Err(AllocError),
+    }
+}
+
 impl<C: ClientState, S: FileSystem, P: ProcessReadDir<C, A>, A: Allocator + Copy> Job<C, S, P, A> {
-    /// The ancestors of a root: its own path, where links are followed.
-    fn root_ancestors(&self, path: &Arc<String<A>, A>) -> Result<Ancestors<A>, AllocError>
-        ensures { IfOk result (λ above. texts above
-            ≡ (if (options_of self.now).follow_links then text path.now ∷ [] else [])) }
-    {
-        if !self.options.follow_links() {
-            return Ok(Ancestors::none());
-        }
-        Ancestors::none().with(self.alloc, path.clone()?)
-    }
-
-    /// What stands behind a root that is a link, or the error of one that is broken.
-    fn behind_root(&self, link: &DirEntry<C, A>) -> Result<Result<Behind<A>, Error<A>>, AllocError>
-        ensures path { IfOk result (λ r. IfOk r (λ b. text b.path ≡ path_of (entry link.now))) }
-        ensures value { S.IsFixed (file_system self.now) → IfOk result (λ r. MatchResult r
-            (λ b. (S.functions (file_system self.now)).meta_of (path_of (entry link.now)) ≡ Ok b.metadata)
-            (λ e. value.either Ok (λ kind. Err (io 0 (Some (path_of (entry link.now))) kind))
-            ((S.functions (file_system self.now)).meta_of (path_of (entry link.now))) ≡ Err (failure e))) }
-    {
-        let path = Arc::new(self.alloc, link.path()?)?;
-        match self.fs.metadata(path.as_str()) {
-            Ok(metadata) => Ok(Ok(Behind { path, metadata })),
-            Err(Fault::Io(err)) => Ok(Err(Error::from_path(0, path, err))),
-            Err(Fault::Memory) => Err(AllocError),
-        }
-    }
-
     /// A root's entry with what stands behind it, if it is a link: a directory there is to be read.
     fn with_target(
         &self,
@@ -79,7 +74,7 @@ impl<C: ClientState, S: FileSystem, P: ProcessReadDir<C, A>, A: Allocator + Copy
         if !found.file_type.is_symlink() {
             return Ok(Ok(found));
         }
-        match self.behind_root(&found)? {
+        match behind_root(self.alloc, &self.fs, found.parent_path(), found.file_name())? {
             Ok(behind) => Ok(Ok(found.with_directory(behind.path, behind.metadata))),
             Err(broken) => {
                 drop(found);
@@ -105,6 +100,20 @@ impl<C: ClientState, S: FileSystem, P: ProcessReadDir<C, A>, A: Allocator + Copy
         }
     }
 
+    /// The root's entry, or the error met when it was asked for.
+    fn root_entry(&self, path: &str) -> Result<Result<DirEntry<C, A>, Error<A>>, AllocError>
+        ensures depth { IfOk result (λ r. AtDepth 0 (item r ∷ [])) }
+        ensures value { (g : _) → S.IsFixed (file_system self.now) → DefaultsCount C.DirEntryState.Default g
+            → IfOk result (λ r. counted_item g (item r)
+            ≡ value.made (job_by S.FileSystem g self.now) 0 path.now false
+            (if (options_of self.now).follow_links then path.now ∷ [] else [])) }
+    {
+        let path = shared(self.alloc, path)?;
+        let follow_links = self.options.follow_links();
+        let ancestors = ancestors_below(self.alloc, follow_links, &Ancestors::none(), &path)?;
+        self.made(0, &path, &path, false, &ancestors)
+    }
+
     /// The root's item before the callback, with the path that the callback is given beside it.
     fn root_item(&self, path: &str) -> Result<RootItem<C, A>, AllocError>
         ensures depth { IfOk result (λ r. AtDepth 0 (item r.item ∷ [])) }
@@ -114,9 +123,7 @@ impl<C: ClientState, S: FileSystem, P: ProcessReadDir<C, A>, A: Allocator + Copy
         ensures parent { (g : _) → S.IsFixed (file_system self.now) → DefaultsCount C.DirEntryState.Default g
             → IfOk result (λ r. text r.parent_path ≡ value.root_parent (job_by S.FileSystem g self.now) path.now) }
     {
-        let shared = Arc::new(self.alloc, String::from_str(self.alloc, path)?)?;
-        let ancestors = self.root_ancestors(&shared)?;
-        match self.made(0, shared.clone()?, &shared, false, ancestors)? {
+        match self.root_entry(path)? {
             Ok(found) => {
                 let parent_path = found.parent_path.clone()?;
                 let item = self.root_target(found)?;
@@ -124,7 +131,7 @@ impl<C: ClientState, S: FileSystem, P: ProcessReadDir<C, A>, A: Allocator + Copy
             }
             Err(error) => Ok(RootItem {
                 item: Err(error),
-                parent_path: Arc::new(self.alloc, String::new(self.alloc))?,
+                parent_path: shared(self.alloc, "")?,
             }),
         }
     }

@@ -1,14 +1,22 @@
-use Rattle.std.proofs.Common.{◌++◌, ◌∷◌, [], map, ap, sym, ◌∙◌, append-nil}
+use Rattle.std.proofs.Common.{◌++◌, ◌∷◌, [], cond, map, ap, sym, ◌∙◌, append-nil}
 use Rattle.std.proofs.lemmas.Grind.{flat_map-append}
 use Rattle.std.proofs.lemmas.List.{map-append, map-id}
 use Rattle.std.proofs.lemmas.Iterator.Adapters.{YieldsList-from_vec}
 use Rattle.std.proofs.lemmas.Iterator.Consumers.{YieldsList-end}
 use Rattle.walk_fs.specs.Views.{listed}
 use Rattle.walk_model.specs.Job as value
+use Rattle.read_parts.specs.Text.{text}
+use Rattle.read_parts.specs.Ancestors.{texts}
 use Rattle.read_parts.specs.ReadDirSpec.{spec}
 use Rattle.read_parts.specs.Given.{counted_spec}
 use Rattle.jwalk_read.specs.Job.{job_by}
 use Rattle.jwalk_read.proofs.job.Job.raw.Goals as goal
+
+pub push_item-requires-clause-inside : goal.push_item-requires-clause-inside
+push_item-requires-clause-inside g c = λ given.
+    c.in_ok-inside.ensures
+    ∙ ap (λ b. cond b (texts c.ancestors.result.now ++ text c.args.of.now.path ∷ []) []) c.follow_links-follow_links.ensures
+    ∙ ap (λ l. cond c.args.self.now.options.follow_links (l ++ text c.args.of.now.path ∷ []) []) c.ancestors.ensures
 
 pub loop-found-preserved : goal.loop-found-preserved
 loop-found-preserved g c = record {

@@ -1,39 +1,25 @@
-use Rattle.std.proofs.Common.{◌≡◌, ◌∙◌, ℕ, List, [], ◌∷◌, Ok, Err, false, cond, ap, refl}
+use Rattle.std.proofs.Common.{◌≡◌, ℕ, List, [], ◌∷◌, Ok, Err, false, cond, ap, sym}
 use Rattle.std.specs.Prelude.{string_bytes}
 use Rattle.walk_model.specs.Entry.{Entry, Item}
 use Rattle.walk_model.specs.Counted.{Worth}
 use Rattle.walk_model.specs.Job.{Job, either, made, followed, with_target, root_item}
-use Rattle.read_parts.specs.Text.{text}
-use Rattle.read_parts.specs.Ancestors.{texts}
 use Rattle.read_parts.specs.Entry.{entry, item}
 use Rattle.read_parts.specs.Given.{counted_entry, counted_item}
 use Rattle.jwalk_read.specs.Job.{job_by}
 use Rattle.jwalk_read.proofs.job.Job.root_item.Goals as goal
 
--- what was made at the root's path, under it alone
-found_at : (job : Job Worth Worth) (path other shared : List ℕ) (above : List (List ℕ)) (x : Item Worth Worth) → other ≡ path → shared ≡ path → above ≡ cond job.options.follow_links (shared ∷ []) [] → x ≡ made job 0 other false above
-    → made job 0 path false (cond job.options.follow_links (path ∷ []) []) ≡ x
-found_at job path other shared above x at named is met = rw (met, is, named, at) refl
-
 -- the root's item, once its entry was made
 rooted : (job : Job Worth Worth) (path : List ℕ) (e : Entry Worth Worth) (x : Item Worth Worth) → made job 0 path false (cond job.options.follow_links (path ∷ []) []) ≡ Ok e → x ≡ either (with_target job) Err (followed job e) → x ≡ root_item job path
 rooted job path e x met is = rw met is
 
-pub returns-in-Ok-clause-value : goal.returns-in-Ok-clause-value
-returns-in-Ok-clause-value g c = λ given fixed default.
-    let named : text c.in_ok-shared.shared ≡ c.args.path.now = ap string_bytes c.in_ok-shared.ensures.ok ∙ c.in_ok-from_str.ensures.ok in
-    let cloned : text c.in_ok-clone.field-0 ≡ text c.in_ok-shared.shared = ap string_bytes c.in_ok-clone.ensures.cases in
+pub returns-in_ok-item-in-Ok-clause-value : goal.returns-in_ok-item-in-Ok-clause-value
+returns-in_ok-item-in-Ok-clause-value g c = λ given fixed default.
     let met = rw c.in-Ok.is at (c.in_ok-found.ensures.value given fixed default) in
     let job = job_by g.S.FileSystem given c.args.self.now in
-    rooted job c.args.path.now (counted_entry given (entry c.in-Ok.found)) (counted_item given (item c.in_ok-item-in-Ok.item))
-    (found_at job c.args.path.now (text c.in_ok-clone.field-0) (text c.in_ok-shared.shared) (texts c.in_ok-ancestors.ancestors) (Ok (counted_entry given (entry c.in-Ok.found))) (cloned ∙ named) named c.in_ok-ancestors.ensures met)
+    rooted job c.args.path.now (counted_entry given (entry c.in-Ok.found)) (counted_item given (item c.in_ok-item-in-Ok.item)) (sym met)
     (c.in_ok-item-in-Ok.ensures.value given fixed default)
 
-pub returns-in-Ok-clause-parent : goal.returns-in-Ok-clause-parent
-returns-in-Ok-clause-parent g c = λ given fixed default.
-    let named : text c.in_ok-shared.shared ≡ c.args.path.now = ap string_bytes c.in_ok-shared.ensures.ok ∙ c.in_ok-from_str.ensures.ok in
-    let cloned : text c.in_ok-clone.field-0 ≡ text c.in_ok-shared.shared = ap string_bytes c.in_ok-clone.ensures.cases in
+pub returns-in_ok-item-in-Ok-clause-parent : goal.returns-in_ok-item-in-Ok-clause-parent
+returns-in_ok-item-in-Ok-clause-parent g c = λ given fixed default.
     let met = rw c.in-Ok.is at (c.in_ok-found.ensures.value given fixed default) in
-    let job = job_by g.S.FileSystem given c.args.self.now in
-    rw (found_at job c.args.path.now (text c.in_ok-clone.field-0) (text c.in_ok-shared.shared) (texts c.in_ok-ancestors.ancestors) (Ok (counted_entry given (entry c.in-Ok.found))) (cloned ∙ named) named c.in_ok-ancestors.ensures met)
-    (ap string_bytes c.in_ok-parent_path-in-Ok.ensures.cases)
+    rw (← met) (ap string_bytes c.in_ok-parent_path-in-Ok.ensures.cases)
