@@ -1,5 +1,5 @@
 //! The start of a walk over a crew.
-ghost use Rattle.std.specs.Prelude.{◌≡◌, ◌⊎◌, true, [], map, IfSome, IfOk, IfErr, OnErr, OnOk, Some, option_map};
+ghost use Rattle.std.specs.Prelude.{◌≡◌, ◌⊎◌, true, [], map, IfSome, OnErr, OnOk, Some, option_map};
 ghost use Rattle.walk_model.specs.Entry.{AtDepth};
 ghost use Rattle.walk_model.specs.Options as parallelism;
 ghost use Rattle.walk_model.specs.ReadDir.{children, AreClones};
@@ -132,40 +132,6 @@ pub(super) fn from_root_alone<
     (walk, None)
 }
 
-/// A crew's readings that are yet to begin, and the root's list; or the walk whose start was refused, where there is no
-/// list or memory runs out.
-fn prepared<
-    C: ClientState,
-    S: FileSystem,
-    P: ProcessReadDir<C, A>,
-    A: Allocator + Copy,
-    T: Drop,
-    L: Pool<C, S, P, A>,
->(
-    alloc: A,
-    threads: T,
-    job: Job<C, S, P, A>,
-    read: Option<ReadDir<C, A>>,
-) -> Result<(CrewReads<C, S, P, A, L>, ReadDir<C, A>), DirEntryIter<C, S, P, A, T, L>>
-    ensures read { IfOk result (λ made. read ≡ Some made.1) }
-    ensures job { IfOk result (λ made. reads_by.job_of made.0 ≡ job) }
-    ensures nothing { IfOk result (λ made. reads_by.to_read made.0 ≡ []) }
-    ensures begins { IfOk result (λ made. reads_by.StartsSteady S.FileSystem P.ProcessReadDir C.ReadDirState.Clone
-        C.DirEntryState.Default L.Pool made.0) }
-    ensures refused { IfErr result (IsFromRoot C.ReadDirState.Clone (option_map reading read) job
-        (Some NotStarted.Memory)) }
-    ensures steady { IfErr result (StartsSteady S.FileSystem P.ProcessReadDir C.ReadDirState.Clone
-        C.DirEntryState.Default L.Pool) }
-{
-    let Some(read) = read else {
-        return Err(DirEntryIter::refused(alloc, threads, job));
-    };
-    match CrewReads::new(alloc, job) {
-        Ok(reads) => Ok((reads, read)),
-        Err(job) => Err(DirEntryIter::refused(alloc, threads, job)),
-    }
-}
-
 /// Has a crew read the directories of a root's list.
 fn start_reads<
     R: Wait + Threads + Clock + Drop + Send + Sync + 'static,
@@ -227,10 +193,8 @@ where
         ensures steady { StartsSteady S.FileSystem P.ProcessReadDir C.ReadDirState.Clone C.DirEntryState.Default
             ⟦<Session<R, C, S, P, A> as Pool<C, S, P, A>>⟧ result.0 }
     {
-        match start_reads(&mut reads, crew, busy_timeout, &read) {
-            Ok(()) => (begun(reads, read, None), None),
-            Err(why_not) => (begun(reads, read, Some(why_not)), Some(why_not)),
-        }
+        let why_not = start_reads(&mut reads, crew, busy_timeout, &read).err();
+        (begun(reads, read, why_not), why_not)
     }
 
     /// The walk that begins with the root's list, whose directories a crew reads; and why it doesn't begin, if so. Where
@@ -252,9 +216,18 @@ where
         ensures steady { StartsSteady S.FileSystem P.ProcessReadDir C.ReadDirState.Clone C.DirEntryState.Default
             ⟦<Session<R, C, S, P, A> as Pool<C, S, P, A>>⟧ result.0 }
     {
-        match prepared(alloc, threads, job, read) {
-            Ok((reads, read)) => WalkDirGeneric::with_reads(reads, read, crew, busy_timeout),
-            Err(walk) => (walk, Some(NotStarted::Memory)),
+        let Some(read) = read else {
+            return (
+                DirEntryIter::refused(alloc, threads, job),
+                Some(NotStarted::Memory),
+            );
+        };
+        match CrewReads::new(alloc, job) {
+            Ok(reads) => WalkDirGeneric::with_reads(reads, read, crew, busy_timeout),
+            Err(job) => (
+                DirEntryIter::refused(alloc, threads, job),
+                Some(NotStarted::Memory),
+            ),
         }
     }
 }
