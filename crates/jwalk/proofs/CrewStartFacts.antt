@@ -1,29 +1,38 @@
 -- How a walk over a crew begins.
-use Rattle.std.proofs.Common.{◌≡◌, ◌∙◌, ◌⊎◌, ℕ, true, false, List, [], ◌∷◌, map, length, Option, Some, None, is_some, Ok, Err, IfSome, IsSomeAnd, inl, inr, refl, sym, ap, arith}
+use Rattle.std.proofs.Common.{◌≡◌, ◌∙◌, ◌⊎◌, ℕ, Bool, true, false, List, [], ◌∷◌, map, length, Option, Some, None, is_some, Result, Ok, Err, OnOk, OnErr, IfSome, IsSomeAnd, inl, inr, refl, sym, ap, subst, arith}
 use Rattle.std.specs.Prelude.{option_map, if◌then◌else◌}
+use Rattle.std.specs.Result.{result_err}
 use Rattle.std.specs.declared.clone.Clone as Clone
+use Rattle.std.specs.declared.default.Default as Default
 use Rattle.walk_model.specs.Error.{memory, busy}
 use Rattle.walk_model.specs.Entry.{Item, AtDepth, has_directory}
 use Rattle.walk_model.specs.Options.{crew}
-use Rattle.walk_model.specs.ReadDir.{Reading}
+use Rattle.walk_model.specs.ReadDir.{Spec, Reading, children, AreClones}
 use Rattle.jwalk_read.specs.declared.read_dir.ReadDir.{ReadDir}
 use Rattle.jwalk_read.specs.ReadDir.{reading}
 use Rattle.walk_model.specs.Counted.{Worth, entry_by, children_by}
 use Rattle.walk_model.specs.Listing.{Pair, nothing, paired}
 use Rattle.walk_model.specs.Held.{pair_up, sources, first_source, after_first}
 use Rattle.walk_model.proofs.HeldFacts.{directories}
+use Rattle.walk_fs.specs.declared.file_system.FileSystem as FileSystem
+use Rattle.read_parts.specs.declared.process_read_dir.ProcessReadDir as ProcessReadDir
 use Rattle.read_parts.specs.Given.{Given, counted_item, counted_spec, counted_reading, ClonesCount}
 use Rattle.jwalk_read.specs.declared.job.Job.{Job}
 use Rattle.read_parts.specs.Options as options
 use Rattle.jwalk_read.specs.Job.{options_of, greatest_depth}
+use Rattle.jwalk_crew.specs.declared.pool.Pool as Pool
 use Rattle.jwalk_crew.specs.declared.crew.NotStarted.{NotStarted}
 use Rattle.jwalk_crew.specs.declared.crew.NotStarted.TheVariants.{Busy, Memory}
-use Rattle.jwalk_entries.specs.DirEntryIter.{reads_of, is_refused, by_crew, width_of, early_of, job_of, items_of, unread_of, held, held_by, IsWithin, IsSourced, IsRefused}
-use Rattle.jwalk.specs.CrewStart.{busied, busy_pair, left_of, IsBegun, HoldsList, IsFromRoot}
+use Rattle.jwalk_entries.specs.DirEntryIter.{reads_of, is_refused, by_crew, width_of, early_of, job_of, items_of, unread_of, held, held_by, IsWithin, IsSourced, IsRefused, ArePlaced}
+use Rattle.jwalk.specs.CrewStart.{busied, busy_pair, left_of, IsToRead, IsBegun, HoldsList, IsFromRoot}
+use Rattle.jwalk_readings.specs.CrewReads as reads_by
+use Rattle.jwalk_readings.specs.declared.crew_reads.CrewReads.{CrewReads}
 use Rattle.jwalk_readings.specs.ReadDirIter as readings
 use Rattle.jwalk_readings.specs.declared.read_dir_iter.ReadDirIter.{ReadDirIter}
 use Rattle.jwalk_readings.specs.declared.read_dir_iter.ReadDirIter.TheVariants.{Walk, ParWalk, CrewWalk}
 use Rattle.jwalk_entries.specs.declared.dir_entry_iter.DirEntryIter.{DirEntryIter}
+use Rattle.jwalk_readings.proofs.CrewSteadyFacts.{starts_steady}
+use Rattle.jwalk_entries.proofs.PlacedFacts.{list_placed, unread_placed}
 use Rattle.jwalk_entries.proofs.AnswerFacts.{held_by_rest, held_refused, rest_sourced, list_sourced, holds_list, within_root}
 
 module _ {R E : Type 0} where
@@ -196,3 +205,20 @@ some_and_map view P (Some x) h = h
 
 pub held_of : {C S P A T L R E : Type 0} (given : Given R E) (read : Option (ReadDir C A R E)) (it : DirEntryIter C S P A T L R E) → IsSomeAnd read (λ r. held_by given it ≡ paired (counted_reading given (reading r))) → IsSomeAnd (option_map reading read) (λ r. held_by given it ≡ paired (counted_reading given r))
 held_of given read it h = some_and_map reading (λ r. held_by given it ≡ paired (counted_reading given r)) read h
+
+-- what is left of a root's list stands with the directories that are to be read
+pub left_placed : {R E : Type 0} (clone : Clone.Ghosts R) (r : Reading R E) (why_not : Option NotStarted) (b : Bool) (items : List (Item R E)) (specs : List (Spec R)) → items ≡ left_of why_not r.list → IsToRead clone r why_not specs → ArePlaced b items specs
+left_placed clone r None b items specs are clones = list_placed clone.is_clone r.state b r.list items specs are clones
+left_placed clone r (Some reason) b items specs are none = unread_placed b items specs none
+
+module _ {T C S P A L R E : Type 0} (old new : CrewReads C S P A L R E) where
+  -- the directories of a root's list are to be read once the readings began, and none where they didn't
+  pub left_to_read : (clone : Clone.Ghosts R) (r : Reading R E) (started : Result T NotStarted) → OnOk started (AreClones clone.is_clone (children r) (reads_by.to_read new)) → OnErr started (new ≡ old) → reads_by.to_read old ≡ [] → IsToRead clone r (result_err started) (reads_by.to_read new)
+  left_to_read clone r (Ok done) clones same none = clones
+  left_to_read clone r (Err why_not) clones same none = ap reads_by.to_read same ∙ none
+
+  -- and the readings are steady either way
+  pub left_steady : (files : FileSystem.Ghosts S) (process : ProcessReadDir.Ghosts P C A R E) (clone : Clone.Ghosts R) (defaults : Default.Ghosts E) (pool : Pool.Ghosts L C S P A R E) (started : Result T NotStarted) → OnOk started (reads_by.BeginsBy (reads_by.IsMadeFor pool) new) → OnErr started (new ≡ old)
+      → reads_by.StartsSteady files process clone defaults pool old → reads_by.StartsSteady files process clone defaults pool new
+  left_steady files process clone defaults pool (Ok done) begins same steady = starts_steady files process clone defaults pool new begins
+  left_steady files process clone defaults pool (Err why_not) begins same steady = subst (reads_by.StartsSteady files process clone defaults pool) (sym same) steady

@@ -1,5 +1,5 @@
 -- What calls of a walk's `next` answer, one after another.
-use Rattle.std.proofs.Common.{◌≡◌, ◌≢◌, ◌≤◌, ◌<◌, ◌⊎◌, ◌∙◌, true, false, ℕ, ◌+◌, List, [], ◌∷◌, ◌++◌, map, length, append_assoc, Option, Some, None, Result, Ok, Err, inl, inr, refl, sym, ap, subst, arith}
+use Rattle.std.proofs.Common.{◌≡◌, ◌≢◌, ◌≤◌, ◌<◌, ◌⊎◌, ◌∙◌, true, false, ℕ, ◌+◌, List, [], ◌∷◌, ◌++◌, map, length, append-nil, append_assoc, Option, Some, None, Result, Ok, Err, inl, inr, refl, sym, ap, subst, arith}
 use lib.ListN.{length-append}
 use Rattle.std.specs.Prelude.{IsErr}
 use Rattle.std.specs.Iterator.{Yields, Drains}
@@ -135,6 +135,9 @@ module _ {C S P A T L R E : Type 0} (files : FileSystem.Ghosts S) (process : Pro
     pub number : filled ≡ length answered
     pub few : filled ≤ n
     pub calls : Yields (Answers files process clone defaults pool) old answered new
+
+  pub none_filled : Filled 0 before old
+  none_filled = record { answered = []; appended = sym (append-nil before); number = refl; few = omega arith; calls = refl }
 
   pub one_filled : (filled : ℕ) (now : List (Result (DirEntry C A R E) (Error A))) (mid new : DirEntryIter C S P A T L R E) (x : Result (DirEntry C A R E) (Error A)) → Filled filled now mid → filled < n → Answers files process clone defaults pool mid (Some x) new → Filled (filled + 1) (now ++ x ∷ []) new
   one_filled filled now mid new x sofar less step = record {

@@ -1,5 +1,5 @@
 -- One item is passed, and items are passed one after another.
-use Rattle.std.proofs.Common.{◌≡◌, ℕ, ◌+◌, ◌<◌, ◌≤◌, Bool, true, false, List, [], ◌∷◌, ◌++◌, map, length, Option, Some, None, Result, Ok, Err, refl, sym, ap, ◌∙◌, subst, arith}
+use Rattle.std.proofs.Common.{◌≡◌, ℕ, ◌+◌, ◌<◌, ◌≤◌, Bool, true, false, List, [], ◌∷◌, ◌++◌, map, length, Option, Some, None, Result, Ok, Err, IfErr, IsErrAnd, refl, sym, ap, ◌∙◌, subst, arith}
 use Rattle.std.specs.Prelude.{if◌then◌else◌}
 use Rattle.std.proofs.lemmas.List.{map-append}
 use lib.ListN.{length-append}
@@ -25,6 +25,9 @@ use Rattle.read_parts.specs.Given.{Given, counted_entry, counted_item, counted_s
 use Rattle.jwalk_read.specs.Job.{options_of, greatest_depth, job_by, IsAsGiven}
 use Rattle.jwalk_engine.specs.Reads.{ReadsFirstBy, ReadsNextBy}
 use Rattle.jwalk_crew.specs.declared.pool.Pool as Pool
+use Rattle.jwalk_crew.specs.declared.pool.Missed.{Missed}
+use Rattle.jwalk_readings.specs.CrewReads.{failure_of}
+use Rattle.jwalk_readings.specs.ReadDirIter.{Tells}
 use Rattle.jwalk_entries.specs.declared.dir_entry_iter.DirEntryIter.{DirEntryIter}
 use Rattle.jwalk_entries.specs.Step.{Receives, PassesNext, passed_plainly, passed_entering, LeavesOut, none_left_out, one_left_out, ReadsUpTo}
 use Rattle.jwalk_entries.specs.DirEntryIter.{by_crew, job_of, min_depth_of, items_of, unread_of, width_of, next_address, Known, KnownAt, IsSteadyWalk, ReadsStaySteady, EntersIfAny, PassesMany, none_passed, GrowsAhead}
@@ -253,3 +256,8 @@ module _ {C S P A T L R E : Type 0} (files : FileSystem.Ghosts S) (process : Pro
 
   pub passes_lighter : (old new : DirEntryIter C S P A T L R E) (passed : Result (DirEntry C A R E) (Error A)) → Passes old passed new → weight (greatest_depth (job_of new)) (pair_up (items_of new) (unread_of new)) < weight (greatest_depth (job_of old)) (pair_up (items_of old) (unread_of old))
   passes_lighter old new passed passes = rw passes.job (next_lighter clone (KnownAt files process clone defaults pool old (next_address old)) (job_of old) passes.next)
+
+-- a reading that is missed tells why the walk ends early, by the crew that it had before
+pub passed_tells : {T : Type 0} (before now : Bool) (missed : Missed) (r : Result T Missed) → IsErrAnd r (λ m. m ≡ missed) → now ≡ before → Tells now (failure_of missed) → IfErr r (λ m. Tells before (failure_of m))
+passed_tells before now missed (Ok x) same crew tells = tt
+passed_tells before now missed (Err m) same crew tells = subst (λ b. Tells b (failure_of m)) crew (subst (λ f. Tells now (failure_of f)) (sym same) tells)

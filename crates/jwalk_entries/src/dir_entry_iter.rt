@@ -178,8 +178,7 @@ impl<
             self.items = items;
             return Ok(());
         }
-        self.items.append(&mut items)?;
-        Ok(())
+        self.items.append(&mut items)
     }
 
     /// Forgets all that is still to come.

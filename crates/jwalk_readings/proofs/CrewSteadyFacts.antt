@@ -31,7 +31,7 @@ use Rattle.crew_parts.specs.Message.{Message}
 use Rattle.jwalk_crew.specs.Origin.{Origin, CountAlike, spec_at, IsMessageOf}
 use Rattle.jwalk_crew.specs.declared.pool.Pool as Pool
 use Rattle.jwalk_crew.proofs.OriginFacts.{at_child, below_read}
-use Rattle.jwalk_readings.specs.CrewReads.{job_of, to_read, awaited, BeginsBy, IsMadeFor, IsSteadyOver, StartsSteady, ReadsSteadily}
+use Rattle.jwalk_readings.specs.CrewReads.{job_of, to_read, awaited, BeginsBy, IsMadeFor, IsSteadyOver, IsSteadyCrew, StartsSteady, ReadsSteadily}
 use Rattle.jwalk_readings.specs.declared.crew_reads.CrewReads.{CrewReads}
 
 -- at the addresses of children stand these, if at each child's address stands the one of its index
@@ -119,6 +119,14 @@ module _ {C S P A L R E : Type 0} (files : FileSystem.Ghosts S) (process : Proce
         pool = some_is p it.pool (λ q. IsMadeFor pool q (record { job = job_of it; roots = to_read it }) it.matcher) begins.pool
             (subst (λ j. pool.comes_from p (record { job = j; roots = to_read it })) (sym same) (subst (λ l. pool.comes_from p (record { job = job; roots = l })) (sym are) made.0), made.1 ∙ sym here);
       }
+
+  -- They stay steady where these directories are put in front of those that are kept.
+  pub front_steady : (old mid new : CrewReads C S P A L R E) (front : List (Spec R)) (given : Given R E) → job_of new ≡ job_of old → new ≡ record mid { unread = new.unread } → to_read new ≡ front ++ to_read old
+      → IsSteadyOver files process clone defaults pool (job_of old) mid.pool mid.matcher (front ++ to_read old) given → IsSteadyCrew files process clone defaults pool new given
+  front_steady old mid new front given job others left steady =
+      subst (λ l. IsSteadyOver files process clone defaults pool (job_of new) new.pool new.matcher l given) (sym left)
+      (subst (λ j. IsSteadyOver files process clone defaults pool j new.pool new.matcher (front ++ to_read old) given) (sym job)
+      (subst (λ (it : CrewReads C S P A L R E). IsSteadyOver files process clone defaults pool (job_of old) it.pool it.matcher (front ++ to_read old) given) (sym others) steady))
 
   -- A pool doesn't lose the reading that comes next over what is steady: that is due.
   pub not_lost : (job : Job C S P A R E) (before : L) (addresses : List (List ℕ)) (first : Spec R) (rest : List (Spec R)) (given : Given R E) (wanted : Wanted A) → IsFor (next_address addresses) first (options_of job) wanted

@@ -8,7 +8,7 @@ ghost use Rattle.jwalk_read.specs.ReadDir.{reading};
 ghost use Rattle.jwalk_read.specs.Job.{callback};
 ghost use Rattle.jwalk_crew.specs.Session.{origin_of, awaited_by};
 ghost use Rattle.jwalk_readings.specs.CrewReads as reads_by;
-ghost use Rattle.jwalk.specs.CrewStart.{busied, left_of, is_refusal};
+ghost use Rattle.jwalk.specs.CrewStart.{busied, left_of, is_refusal, IsFromRoot};
 ghost use Rattle.jwalk_entries.specs.DirEntryIter.{reads_of, is_refused, by_crew, job_of, items_of, StartsSteady};
 
 use crate::walk_dir::WalkDirGeneric;
@@ -85,6 +85,53 @@ fn is_refused(why_not: Option<NotStarted>) -> bool
     }
 }
 
+/// The walk that holds what is left of the root's list once its readings began, or didn't.
+fn begun<
+    C: ClientState,
+    S: FileSystem,
+    P: ProcessReadDir<C, A>,
+    A: Allocator + Copy,
+    T: Drop,
+    L: Pool<C, S, P, A>,
+>(
+    reads: CrewReads<C, S, P, A, L>,
+    read: ReadDir<C, A>,
+    why_not: Option<NotStarted>,
+) -> DirEntryIter<C, S, P, A, T, L>
+    ensures reads { reads_of result ≡ ReadDirIter.CrewWalk reads }
+    ensures items { items_of result ≡ left_of why_not (reading read).list }
+    ensures refused { is_refused result ≡ is_refusal why_not }
+{
+    let list = left(read.into_results_list(), why_not);
+    DirEntryIter::with_list(ReadDirIter::CrewWalk(reads), list, is_refused(why_not))
+}
+
+/// The walk that begins with the root's list and reads by itself; and why it doesn't begin, if so.
+pub(super) fn from_root_alone<
+    C: ClientState,
+    S: FileSystem,
+    P: ProcessReadDir<C, A>,
+    A: Allocator + Copy,
+    T: Drop,
+    L: Pool<C, S, P, A>,
+>(
+    alloc: A,
+    threads: T,
+    job: Job<C, S, P, A>,
+    read: Option<ReadDir<C, A>>,
+) -> (DirEntryIter<C, S, P, A, T, L>, Option<NotStarted>)
+    requires { IfSome read (λ r. AtDepth 0 (reading r).list) }
+    ensures from_root { IsFromRoot C.ReadDirState.Clone (option_map reading read) job result.1 result.0 }
+    ensures steady { StartsSteady S.FileSystem P.ProcessReadDir C.ReadDirState.Clone C.DirEntryState.Default
+        L.Pool result.0 }
+{
+    let walk = DirEntryIter::from_root(alloc, threads, job, read);
+    if walk.is_refused() {
+        return (walk, Some(NotStarted::Memory));
+    }
+    (walk, None)
+}
+
 /// Has a crew read the directories of a root's list.
 fn start_reads<
     R: Wait + Threads + Clock + Drop + Send + Sync + 'static,
@@ -127,21 +174,7 @@ where
     C::DirEntryState: Send + 'static,
 {
     ghost use Rattle.jwalk_read.specs.Job.{options_of};
-    ghost use Rattle.jwalk.specs.CrewStart.{IsBegun, IsFromRoot};
-
-    /// The walk that holds what is left of the root's list once its readings began, or didn't.
-    fn begun(
-        reads: CrewReads<C, S, P, A, Session<R, C, S, P, A>>,
-        read: ReadDir<C, A>,
-        why_not: Option<NotStarted>,
-    ) -> CrewWalk<R, C, S, P, A, T>
-        ensures reads { reads_of result ≡ ReadDirIter.CrewWalk reads }
-        ensures items { items_of result ≡ left_of why_not (reading read).list }
-        ensures refused { is_refused result ≡ is_refusal why_not }
-    {
-        let list = left(read.into_results_list(), why_not);
-        DirEntryIter::with_list(ReadDirIter::CrewWalk(reads), list, is_refused(why_not))
-    }
+    ghost use Rattle.jwalk.specs.CrewStart.{IsBegun};
 
     /// The walk whose directories a crew reads, once its readings began, or didn't; and why they didn't.
     fn with_reads(
@@ -160,13 +193,8 @@ where
         ensures steady { StartsSteady S.FileSystem P.ProcessReadDir C.ReadDirState.Clone C.DirEntryState.Default
             ⟦<Session<R, C, S, P, A> as Pool<C, S, P, A>>⟧ result.0 }
     {
-        match start_reads(&mut reads, crew, busy_timeout, &read) {
-            Ok(()) => (WalkDirGeneric::begun(reads, read, None), None),
-            Err(why_not) => (
-                WalkDirGeneric::begun(reads, read, Some(why_not)),
-                Some(why_not),
-            ),
-        }
+        let why_not = start_reads(&mut reads, crew, busy_timeout, &read).err();
+        (begun(reads, read, why_not), why_not)
     }
 
     /// The walk that begins with the root's list, whose directories a crew reads; and why it doesn't begin, if so. Where
@@ -201,24 +229,5 @@ where
                 Some(NotStarted::Memory),
             ),
         }
-    }
-
-    /// The walk that begins with the root's list and reads by itself; and why it doesn't begin, if so.
-    pub(super) fn from_root_alone(
-        alloc: A,
-        threads: T,
-        job: Job<C, S, P, A>,
-        read: Option<ReadDir<C, A>>,
-    ) -> (CrewWalk<R, C, S, P, A, T>, Option<NotStarted>)
-        requires { IfSome read (λ r. AtDepth 0 (reading r).list) }
-        ensures from_root { IsFromRoot C.ReadDirState.Clone (option_map reading read) job result.1 result.0 }
-        ensures steady { StartsSteady S.FileSystem P.ProcessReadDir C.ReadDirState.Clone C.DirEntryState.Default
-            ⟦<Session<R, C, S, P, A> as Pool<C, S, P, A>>⟧ result.0 }
-    {
-        let walk = DirEntryIter::from_root(alloc, threads, job, read);
-        if walk.is_refused() {
-            return (walk, Some(NotStarted::Memory));
-        }
-        (walk, None)
     }
 }

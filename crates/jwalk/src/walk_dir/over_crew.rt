@@ -6,7 +6,7 @@ ghost use Rattle.walk_model.specs.Error.{memory, busy};
 ghost use Rattle.read_parts.specs.Error.{failure};
 
 use crate::walk_dir::WalkDirGeneric;
-use crate::walk_dir::crew_start::CrewWalk;
+use crate::walk_dir::crew_start::{CrewWalk, from_root_alone};
 use jwalk_crew::crew::{Crew, NotStarted};
 use jwalk_crew::pool::Pool;
 use jwalk_crew::session::Session;
@@ -98,7 +98,7 @@ where
             Some((crew, busy_timeout)) => {
                 WalkDirGeneric::from_root_by(alloc, threads, job, read, &crew, busy_timeout)
             }
-            None => WalkDirGeneric::from_root_alone(alloc, threads, job, read),
+            None => from_root_alone(alloc, threads, job, read),
         }
     }
 

@@ -18,3 +18,6 @@ returns g c =
     ap (map item) (with_items_is c.args.list.now c.loop-found.found-items (c.loop-found.auto.found-items ∙ long ∙ sym c.args.list.now.ok.0))
     ∙ changed_all item busied c.args.list.now.items
     c.loop-found.found-items c.loop-found.found-index (rw long at c.loop-found-test.false) c.loop-found.invariant
+
+pub loop-found-init : goal.loop-found-init
+loop-found-init g c = ap (map item) c.deref_mut-found-items.ensures.value

@@ -1,5 +1,6 @@
-use Rattle.std.proofs.Common.{refl, ap}
+use Rattle.std.proofs.Common.{is_some, refl, ap}
 use Rattle.jwalk_readings.specs.ReadDirIter.{job_of}
+use Rattle.jwalk_readings.proofs.ResultFacts.{none_ok, on_err}
 use Rattle.jwalk_entries.proofs.dir_entry_iter.DirEntryIter.entered.Goals as goal
 
 pub returns-in-None : goal.returns-in-None
@@ -23,4 +24,16 @@ returns-in_ok-receive-in-Some-Ok g c =
       received = rw (c.in-Some-Ok.is, c.in-Some-Ok.field-0-is, received.items) (refl, refl);
       reads = received.reads;
       stopped = tt;
+    }
+
+pub returns-in_err-receive-in-Some-Ok : goal.returns-in_err-receive-in-Some-Ok
+returns-in_err-receive-in-Some-Ok g c =
+    let received = c.in_err-receive-in-Some-Ok.ensures in
+    let told = c.from_residual in
+    record {
+      job = ap job_of received.reads;
+      refused = received.refused;
+      received = none_ok _ told.result told.ensures.0;
+      reads = received.reads;
+      stopped = on_err told.result (ap is_some c.in-Some-Ok.is);
     }

@@ -1,6 +1,7 @@
 use Rattle.std.proofs.Common.{◌∙◌}
-use Rattle.jwalk_entries.proofs.StepFacts.{none_passed_over, over_steady, one_passed_over, one_answered, grows_to_answer, grows_to_end, passes_lighter}
-use Rattle.jwalk_readings.proofs.ResultFacts.{none_ok, none_on_ok, fewer_not_lost, passed_not_lost}
+use Rattle.jwalk_entries.specs.DirEntryIter.{by_crew, items_of, unread_of}
+use Rattle.jwalk_entries.proofs.StepFacts.{none_passed_over, over_steady, one_passed_over, one_answered, grows_to_answer, grows_to_end, passes_lighter, passed_tells}
+use Rattle.jwalk_readings.proofs.ResultFacts.{none_ok, none_on_ok, on_err, fewer_not_lost, passed_not_lost}
 use Rattle.jwalk_entries.proofs.dir_entry_iter.DirEntryIter.next_kept.Goals as goal
 
 pub loop-passed-init : goal.loop-passed-init
@@ -88,3 +89,12 @@ pub returns-in_err-passed-clause-comes : goal.returns-in_err-passed-clause-comes
 returns-in_err-passed-clause-comes g c =
     passed_not_lost _ c.in_err-passed.field-0.0 c.from_residual.result c.from_residual.ensures.1
     (fewer_not_lost _ _ c.in_err-passed.field-0.0 (λ given steady. over_steady g.S.FileSystem g.P.ProcessReadDir g.C.ReadDirState.Clone g.C.DirEntryState.Default g.L.Pool c.args.self.now c.loop-passed.self c.loop-passed.invariant given steady) c.in_err-passed.ensures.comes)
+
+pub returns-in_err-passed-clause-tells : goal.returns-in_err-passed-clause-tells
+returns-in_err-passed-clause-tells g c = passed_tells (by_crew c.args.self.now) (by_crew c.loop-passed.self) c.in_err-passed.field-0.0 c.from_residual.result c.from_residual.ensures.1 c.loop-passed.invariant.crew c.in_err-passed.ensures.tells
+
+pub returns-in_err-passed-clause-stopped : goal.returns-in_err-passed-clause-stopped
+returns-in_err-passed-clause-stopped g c = on_err c.from_residual.result (items_of c.loop-passed.self, unread_of c.loop-passed.self, c.loop-passed.invariant.leaves, c.in_err-passed.ensures.stopped)
+
+pub returns-clause-reads : goal.returns-clause-reads
+returns-clause-reads g c = (items_of c.loop-passed.self, unread_of c.loop-passed.self, c.loop-passed.invariant.leaves, (rw c.in_default.is at c.in_ok-passed.ensures.end))

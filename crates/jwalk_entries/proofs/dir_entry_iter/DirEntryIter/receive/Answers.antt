@@ -1,7 +1,8 @@
-use Rattle.std.proofs.Common.{◌≡◌, ◌∙◌, ◌++◌, [], map, reverse, ap, sym, append-nil, eqb-true}
+use Rattle.std.proofs.Common.{◌≡◌, ◌∙◌, ◌++◌, [], map, reverse, refl, ap, sym, append-nil, eqb-true}
 use Rattle.std.proofs.lemmas.List.{nil_from_length, reverse-reverse}
 use Rattle.read_parts.specs.Entry.{item}
 use Rattle.jwalk_read.specs.ReadDir.{reading}
+use Rattle.jwalk_entries.proofs.ReceivedFacts.{received}
 use Rattle.jwalk_entries.proofs.dir_entry_iter.DirEntryIter.receive.Goals as goal
 
 pub returns-then-is_empty-clause-items : goal.returns-then-is_empty-clause-items
@@ -12,3 +13,10 @@ returns-then-is_empty-clause-items g c =
     ∙ c.into_results_list-items.ensures
     ∙ sym (append-nil (reading c.args.read).list)
     ∙ ap (λ l. (reading c.args.read).list ++ map item (reverse l)) (sym none)
+
+pub returns : goal.returns
+returns g c = record {
+  reads = refl;
+  refused = refl;
+  items = received c.append.result c.args.self.now.items.items _ _ c.into_results_list-items.result.items (reading c.args.read).list c.append.ensures.items c.reverse.ensures.items c.into_results_list-items.ensures;
+}

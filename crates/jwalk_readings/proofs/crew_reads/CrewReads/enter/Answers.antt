@@ -1,14 +1,61 @@
+use Rattle.std.proofs.Common.{◌∙◌, ◌++◌, map, ap}
 use Rattle.read_parts.specs.ReadDirSpec.{spec}
-use Rattle.read_parts.specs.Given.{Given}
-use Rattle.jwalk_readings.specs.CrewReads.{to_read, IsSteadyBefore}
-use Rattle.jwalk_readings.proofs.ResultFacts.{passed_not_lost}
+use Rattle.jwalk_read.specs.ReadDir.{outcome}
+use Rattle.jwalk_readings.specs.CrewReads.{job_of, to_read, next_address}
+use Rattle.jwalk_readings.proofs.CrewFacts.{told_reading}
+use Rattle.jwalk_readings.proofs.CrewSteadyFacts.{front_steady}
+use Rattle.jwalk_readings.proofs.ResultFacts.{none_ok, none_on_ok, refused_not_lost, passed_not_lost}
 use Rattle.jwalk_readings.proofs.crew_reads.CrewReads.enter.Goals as goal
 
-pub returns-clause-value : goal.returns-clause-value
-returns-clause-value g c = λ given steady. c.in_ok-outcome.ensures.steadily.value (to_read c.args.self.now) given steady
+pub returns-in_err-outcome : goal.returns-in_err-outcome
+returns-in_err-outcome g c =
+    let told = c.from_residual in
+    record {
+      job = c.read.ensures.job;
+      reading = none_ok _ told.result told.ensures.0;
+      stacks = none_ok _ told.result told.ensures.0;
+      value = none_ok _ told.result told.ensures.0;
+      steady = none_on_ok _ told.result told.ensures.0;
+      comes = passed_not_lost _ c.in_err-outcome.field-0.0 told.result told.ensures.1 (c.in_err-outcome.ensures.comes (to_read c.args.self.now));
+    }
 
-pub returns-in_err-outcome-clause-comes : goal.returns-in_err-outcome-clause-comes
-returns-in_err-outcome-clause-comes g c =
+pub returns-in_err-below : goal.returns-in_err-below
+returns-in_err-below g c =
+    let told = c.from_residual-in_err-below in
+    record {
+      job = c.read.ensures.job;
+      reading = none_ok _ told.result told.ensures.0;
+      stacks = none_ok _ told.result told.ensures.0;
+      value = none_ok _ told.result told.ensures.0;
+      steady = none_on_ok _ told.result told.ensures.0;
+      comes = refused_not_lost _ told.result told.ensures.1;
+    }
+
+pub returns-in_err-put_in_front : goal.returns-in_err-put_in_front
+returns-in_err-put_in_front g c =
+    let told = c.from_residual-in_err-put_in_front in
+    record {
+      job = ap job_of c.put_in_front.ensures.others ∙ c.read.ensures.job;
+      reading = none_ok _ told.result told.ensures.0;
+      stacks = none_ok _ told.result told.ensures.0;
+      value = none_ok _ told.result told.ensures.0;
+      steady = none_on_ok _ told.result told.ensures.0;
+      comes = refused_not_lost _ told.result told.ensures.1;
+    }
+
+pub returns : goal.returns
+returns g c =
     let old = c.args.self.now in
-    let over : Given g.row.C-ReadDirState.Denot g.row.C-DirEntryState.Denot → Type 0 = IsSteadyBefore g.S.FileSystem g.P.ProcessReadDir g.C.ReadDirState.Clone g.C.DirEntryState.Default g.L.Pool old (spec c.args.of) in
-    passed_not_lost over c.in_err-outcome.field-0.0 c.from_residual.result c.from_residual.ensures.1 (c.in_err-outcome.ensures.comes (to_read old))
+    let read = c.in_ok-outcome.ensures in
+    let front = map spec c.in_ok-below.below.items in
+    let job = ap job_of c.put_in_front.ensures.others ∙ c.read.ensures.job in
+    let left = c.in_ok-put_in_front.ensures.to_read ∙ ap (λ l. front ++ l) c.read.ensures.to_read in
+    record {
+      job = job;
+      reading = told_reading g.S.FileSystem g.P.ProcessReadDir g.C.ReadDirState.Clone g.C.DirEntryState.Default (job_of old) (spec c.args.of) (outcome c.in_ok-outcome.outcome) (next_address old) read.told;
+      stacks = record { front = front; left = left; clones = c.in_ok-below.ensures };
+      value = read.steadily.value (to_read old);
+      steady = λ given steady. front_steady g.S.FileSystem g.P.ProcessReadDir g.C.ReadDirState.Clone g.C.DirEntryState.Default g.L.Pool old c.read.new.self c.put_in_front.new.self front given job c.put_in_front.ensures.others left
+          (read.steadily.steady (to_read old) front c.in_ok-below.ensures given steady);
+      comes = tt;
+    }

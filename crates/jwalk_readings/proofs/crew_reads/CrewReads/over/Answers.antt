@@ -1,5 +1,6 @@
-use Rattle.std.proofs.Common.{◌∙◌, map, reverse, ap}
-use Rattle.std.proofs.lemmas.List.{reverse-reverse}
+use Rattle.std.proofs.Common.{◌∙◌, map, reverse, length, refl, sym, ap}
+use Rattle.std.proofs.lemmas.List.{reverse-reverse, length-map}
+use Rattle.jwalk_order.specs.Frontier.{roots}
 use Rattle.read_parts.specs.ReadDirSpec.{spec}
 use Rattle.jwalk_readings.proofs.ResultFacts.{none_ok}
 use Rattle.jwalk_readings.proofs.crew_reads.CrewReads.over.Goals as goal
@@ -12,3 +13,11 @@ returns-in_err-job g c = record { job = none_ok _ c.from_residual-in_err-job.res
 
 pub returns-clause-to_read : goal.returns-clause-to_read
 returns-clause-to_read g c = ap (map spec) (ap reverse c.reverse.ensures.items ∙ reverse-reverse c.args.roots.items)
+
+pub returns-clause-begins : goal.returns-clause-begins
+returns-clause-begins g c =
+    let same = ap (map spec) (ap reverse c.reverse.ensures.items ∙ reverse-reverse c.args.roots.items) in
+    record {
+      addresses = c.in_ok-matcher.ensures ∙ ap roots (c.len.ensures ∙ c.args.roots.ok.0 ∙ sym (length-map c.args.roots.items spec) ∙ ap length (sym same));
+      pool = refl;
+    }

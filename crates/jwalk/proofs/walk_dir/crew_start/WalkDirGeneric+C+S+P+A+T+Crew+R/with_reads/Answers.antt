@@ -1,35 +1,29 @@
 use Rattle.std.proofs.Common.{◌∙◌, sym, ap, subst}
-use Rattle.walk_model.specs.ReadDir.{children, AreClones}
 use Rattle.jwalk_read.specs.ReadDir.{reading}
 use Rattle.jwalk_readings.specs.ReadDirIter as readings
 use Rattle.jwalk_readings.specs.CrewReads as reads_by
-use Rattle.jwalk_readings.proofs.CrewSteadyFacts.{starts_steady}
-use Rattle.jwalk_entries.proofs.PlacedFacts.{list_placed, unread_placed}
+use Rattle.jwalk.specs.CrewStart.{IsToRead}
+use Rattle.jwalk.proofs.CrewStartFacts.{left_placed, left_to_read, left_steady}
 use Rattle.jwalk.proofs.walk_dir.crew_start.WalkDirGeneric+C+S+P+A+T+Crew+R.with_reads.Goals as goal
 
-pub returns-in-Ok : goal.returns-in-Ok
-returns-in-Ok g c =
+pub returns : goal.returns
+returns g c =
+    let old = c.args.reads in
+    let new = c.start_reads.new.reads in
+    let started = c.start_reads.ensures in
     let is = c.begun.ensures in
+    let read = reading c.args.read in
+    let left =
+    subst (IsToRead g.C.ReadDirState.Clone read c.err-why_not.result) (sym (ap readings.to_read is.reads))
+    (subst (λ w. IsToRead g.C.ReadDirState.Clone read w (reads_by.to_read new)) (sym c.err-why_not.ensures.value)
+    (left_to_read old new g.C.ReadDirState.Clone read c.start_reads.result started.to_read started.unchanged c.requires.nothing)) in
     record {
       by = ap readings.by_crew is.reads;
-      job = ap readings.job_of is.reads ∙ c.start_reads.ensures.job;
-      begun = (is.refused, is.items, subst (AreClones g.C.ReadDirState.Clone.is_clone (children (reading c.args.read))) (sym (ap readings.to_read is.reads)) c.in-Ok.ensures.to_read);
+      job = ap readings.job_of is.reads ∙ started.job;
+      begun = (is.refused, is.items, left);
       steady = λ given steady. record {
-        reads = subst (readings.StartsSteady g.S.FileSystem g.P.ProcessReadDir g.C.ReadDirState.Clone g.C.DirEntryState.Default _) (sym is.reads) (starts_steady g.S.FileSystem g.P.ProcessReadDir g.C.ReadDirState.Clone g.C.DirEntryState.Default _ c.start_reads.new.reads c.in-Ok.ensures.begins) given steady;
-        placed = list_placed g.C.ReadDirState.Clone.is_clone (reading c.args.read).state _ (reading c.args.read).list _ _ is.items (subst (AreClones g.C.ReadDirState.Clone.is_clone (children (reading c.args.read))) (sym (ap readings.to_read is.reads)) c.in-Ok.ensures.to_read);
-      };
-    }
-
-pub returns-in-Err : goal.returns-in-Err
-returns-in-Err g c =
-    let is = c.begun-in-Err.ensures in
-    let same = c.in-Err.ensures.unchanged in
-    record {
-      by = ap readings.by_crew is.reads;
-      job = ap readings.job_of is.reads ∙ ap reads_by.job_of same;
-      begun = (is.refused, is.items, ap readings.to_read is.reads ∙ ap reads_by.to_read same ∙ c.requires.nothing);
-      steady = λ given steady. record {
-        reads = subst (readings.StartsSteady g.S.FileSystem g.P.ProcessReadDir g.C.ReadDirState.Clone g.C.DirEntryState.Default _) (sym is.reads) (subst (reads_by.StartsSteady g.S.FileSystem g.P.ProcessReadDir g.C.ReadDirState.Clone g.C.DirEntryState.Default _) (sym same) c.requires.steady) given steady;
-        placed = unread_placed _ _ _ (ap readings.to_read is.reads ∙ ap reads_by.to_read same ∙ c.requires.nothing);
+        reads = subst (readings.StartsSteady g.S.FileSystem g.P.ProcessReadDir g.C.ReadDirState.Clone g.C.DirEntryState.Default _) (sym is.reads)
+            (left_steady old new g.S.FileSystem g.P.ProcessReadDir g.C.ReadDirState.Clone g.C.DirEntryState.Default _ c.start_reads.result started.begins started.unchanged c.requires.steady) given steady;
+        placed = left_placed g.C.ReadDirState.Clone read c.err-why_not.result _ _ _ is.items left;
       };
     }

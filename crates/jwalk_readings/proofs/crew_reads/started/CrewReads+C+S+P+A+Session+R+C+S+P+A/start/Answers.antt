@@ -1,7 +1,9 @@
-use Rattle.std.proofs.Common.{◌≡◌, ◌∙◌, map, reverse, length, refl, sym, ap}
+use Rattle.std.proofs.Common.{◌≡◌, ◌∙◌, map, reverse, length, refl, sym, ap, subst}
 use Rattle.std.proofs.lemmas.List.{reverse-reverse, length-map}
 use Rattle.jwalk_order.specs.Frontier.{roots}
 use Rattle.read_parts.specs.ReadDirSpec.{spec}
+use Rattle.jwalk_read.specs.Job.{callback}
+use Rattle.jwalk_crew.specs.Origin.{CountAlike}
 use Rattle.jwalk_readings.proofs.CrewSteadyFacts.{origin_same, alike_length}
 use Rattle.jwalk_readings.proofs.ResultFacts.{none_on_ok, on_err}
 use Rattle.jwalk_readings.proofs.crew_reads.started.CrewReads+C+S+P+A+Session+R+C+S+P+A.start.Goals as goal
@@ -17,6 +19,12 @@ returns-in_err-place g c = record { job = refl; to_read = none_on_ok _ c.from_re
 
 pub returns-in_err-start : goal.returns-in_err-start
 returns-in_err-start g c = record { job = refl; to_read = none_on_ok _ c.from_residual-in_err-start.result c.from_residual-in_err-start.ensures.0; begins = none_on_ok _ c.from_residual-in_err-start.result c.from_residual-in_err-start.ensures.0; unchanged = on_err c.from_residual-in_err-start.result refl }
+
+pub start-requires-clause-lawful : goal.start-requires-clause-lawful
+start-requires-clause-lawful g c κs within = subst (λ j. g.P.ProcessReadDir.IsLawful (callback j)) (sym (ap (λ o. o.job) c.new-origin.ensures ∙ c.in_ok-job.ensures.cases)) c.requires.lawful
+
+pub start-requires-clause-alike : goal.start-requires-clause-alike
+start-requires-clause-alike g c κs within = subst (CountAlike g.C.ReadDirState.Clone (map spec c.args.shared.items)) (sym (ap (λ o. o.roots) c.new-origin.ensures)) c.requires.alike
 
 pub returns-clause-job : goal.returns-clause-job
 returns-clause-job g c = refl

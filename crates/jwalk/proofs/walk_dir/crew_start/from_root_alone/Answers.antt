@@ -3,7 +3,7 @@ use Rattle.jwalk_read.specs.ReadDir.{reading}
 use Rattle.jwalk_crew.specs.declared.crew.NotStarted.TheVariants.{Memory}
 use Rattle.jwalk.proofs.CrewStartFacts.{alone_from_root, held_of}
 use Rattle.jwalk_entries.proofs.AnswerFacts.{alone_steady}
-use Rattle.jwalk.proofs.walk_dir.crew_start.WalkDirGeneric+C+S+P+A+T+Crew+R.from_root_alone.Goals as goal
+use Rattle.jwalk.proofs.walk_dir.crew_start.from_root_alone.Goals as goal
 
 pub returns-then-is_refused-clause-from_root : goal.returns-then-is_refused-clause-from_root
 returns-then-is_refused-clause-from_root g c =
@@ -18,7 +18,7 @@ returns-clause-from_root g c =
     alone_from_root g.C.ReadDirState.Clone (option_map reading c.args.read) c.args.job c.from_root-walk.result None is.own (λ no. cc) is.job is.within is.sourced (inr (is.depth started)) is.width is.early (λ given counts. held_of given c.args.read c.from_root-walk.result (is.held given counts started))
 
 pub returns-then-is_refused-clause-steady : goal.returns-then-is_refused-clause-steady
-returns-then-is_refused-clause-steady g c = λ given steady. alone_steady g.S.FileSystem g.P.ProcessReadDir g.C.ReadDirState.Clone g.C.DirEntryState.Default _ c.from_root-walk.result given c.from_root-walk.ensures.own steady c.from_root-walk.ensures.early
+returns-then-is_refused-clause-steady g c = λ given steady. alone_steady g.S.FileSystem g.P.ProcessReadDir g.C.ReadDirState.Clone g.C.DirEntryState.Default g.L.Pool c.from_root-walk.result given c.from_root-walk.ensures.own steady c.from_root-walk.ensures.early
 
 pub returns-clause-steady : goal.returns-clause-steady
-returns-clause-steady g c = λ given steady. alone_steady g.S.FileSystem g.P.ProcessReadDir g.C.ReadDirState.Clone g.C.DirEntryState.Default _ c.from_root-walk.result given c.from_root-walk.ensures.own steady c.from_root-walk.ensures.early
+returns-clause-steady g c = λ given steady. alone_steady g.S.FileSystem g.P.ProcessReadDir g.C.ReadDirState.Clone g.C.DirEntryState.Default g.L.Pool c.from_root-walk.result given c.from_root-walk.ensures.own steady c.from_root-walk.ensures.early

@@ -1,0 +1,15 @@
+use Rattle.std.proofs.Common.{◌∙◌, map, reverse, refl, ap}
+use Rattle.read_parts.specs.Entry.{item}
+use Rattle.read_parts.specs.Options.{width_of}
+use Rattle.jwalk_entries.proofs.dir_entry_iter.DirEntryIter.refused.Goals as goal
+
+pub returns : goal.returns
+returns g c = record {
+  own = c.new.ensures.own;
+  job = c.new.ensures.job;
+  refused = refl;
+  items = ap (λ l. map item (reverse l)) c.new-2.ensures.items;
+  unread = c.new.ensures.to_read;
+  width = c.new.ensures.width ∙ ap width_of (c.mode-mode.ensures ∙ ap (λ o. o.parallelism) c.options.ensures);
+  early = ap (λ a. a.done) c.new.ensures.read_ahead;
+}
