@@ -22,17 +22,12 @@ use read_parts::read_dir_spec::ReadDirSpec;
 use std::alloc::{Allocator, Global};
 use walk_fs::file_system::FileSystem;
 
-fn add_files(fs: &mut MemoryFs, paths: &[&str]) -> Option<()> {
-    for path in paths {
-        fs.add_file(path, 1).ok()?;
-    }
-    Some(())
-}
-
 /// A root with a directory that holds another, a directory and a file.
 fn tree(alloc: Global) -> Option<MemoryFs> {
     let mut fs = given::tree(alloc, &["/t", "/t/b", "/t/b/d", "/t/c"])?;
-    add_files(&mut fs, &["/t/a", "/t/b/e", "/t/b/d/f", "/t/c/g"])?;
+    for path in ["/t/a", "/t/b/e", "/t/b/d/f", "/t/c/g"] {
+        fs.add_file(path, 1).ok()?;
+    }
     Some(fs)
 }
 
