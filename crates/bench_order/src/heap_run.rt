@@ -20,27 +20,31 @@ pub fn run_heap(alloc: Global, addresses: Vec<Vec<usize>>) -> Option<Digest> {
     Some(digest)
 }
 
-/// The address of a child.
-fn child(alloc: Global, parent: &[usize], index: usize) -> Option<Vec<usize>> {
+/// Pushes the address of a child.
+fn push_child(
+    heap: &mut BinaryHeap<Reverse<Vec<usize>>>,
+    alloc: Global,
+    parent: &[usize],
+    index: usize,
+) -> Option<()> {
     let mut indices = Vec::with_capacity(alloc, parent.len() + 1).ok()?;
     indices.extend_from_slice(parent).ok()?;
     indices.push(index).ok()?;
-    Some(indices)
+    heap.push(Reverse(indices)).ok()
 }
 
 /// Pushes the roots of a tree, and then pops each directory and pushes its children.
 pub fn run_tree_heap(alloc: Global, tree: &Tree) -> Option<Digest> {
     let mut heap = BinaryHeap::new(alloc);
     for i in 0..tree.roots {
-        heap.push(Reverse(child(alloc, &[], i)?)).ok()?;
+        push_child(&mut heap, alloc, &[], i)?;
     }
     let mut digest = Digest::new();
     for count in tree.child_counts.iter() {
         let Reverse(indices) = heap.pop()?;
         digest.add(indices.as_slice());
         for i in 0..*count {
-            heap.push(Reverse(child(alloc, indices.as_slice(), i)?))
-                .ok()?;
+            push_child(&mut heap, alloc, indices.as_slice(), i)?;
         }
     }
     Some(digest)

@@ -4,10 +4,10 @@ use crate::tree::Tree;
 use jwalk_board::board::Board;
 use jwalk_order::index_path::IndexPath;
 use jwalk_order::ordered::Ordered;
-use jwalk_order::ordered_queue::{OrderedQueue, Ordering, Step};
+use jwalk_order::ordered_queue::{OrderedQueue, Ordering};
 use std::alloc::Global;
 
-/// Pushes an item at each address, and then takes them all by steps.
+/// Pushes an item at each address, and then takes them all.
 pub fn run_queue(alloc: Global, addresses: Vec<Vec<usize>>) -> Option<Digest> {
     let count = addresses.len();
     let mut queue = OrderedQueue::new(alloc, Ordering::Relaxed).ok()?;
@@ -19,10 +19,7 @@ pub fn run_queue(alloc: Global, addresses: Vec<Vec<usize>>) -> Option<Digest> {
             .ok()?;
     }
     let mut digest = Digest::new();
-    for _address in 0..count {
-        let Step::Item(item) = queue.iter().step().ok()? else {
-            return None;
-        };
+    for item in queue.iter() {
         digest.add(item.index_path.indices.as_slice());
     }
     Some(digest)

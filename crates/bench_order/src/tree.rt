@@ -18,16 +18,21 @@ fn root_sizes(alloc: Global, shape: &str, count: usize) -> Option<Vec<usize>> {
     }
 }
 
+/// Ten shares of so many, as equal as can be, but for those of none.
+fn ten_shares(alloc: Global, count: usize) -> Option<Vec<usize>> {
+    let mut shares = Vec::new(alloc);
+    for i in 0..count.min(10) {
+        shares.push(count / 10 + usize::from(i < count % 10)).ok()?;
+    }
+    Some(shares)
+}
+
 /// How many lie at and below each child of a directory that has so many below it: in `wide` trees one directory has all
 /// others in it, in `bushy` ones each has ten as long as there are as many, and in `chains` a hundred are in one another.
 fn child_sizes(alloc: Global, shape: &str, below: usize) -> Option<Vec<usize>> {
     match shape {
         "wide" => vec![in alloc; 1; below].ok(),
-        "bushy" => (0..10)
-            .map(|i| below / 10 + usize::from(i < below % 10))
-            .filter(|size| *size > 0)
-            .collect(alloc)
-            .ok(),
+        "bushy" => ten_shares(alloc, below),
         _ if below > 0 => vec![in alloc; below].ok(),
         _ => Some(Vec::new(alloc)),
     }

@@ -60,43 +60,24 @@ fn next(
     }
 }
 
-/// Adds what comes next: the names in a reading, or that there is an error or a refusal. None at the end.
+/// Adds what comes next: the names in a reading, or that there is an error or a refusal, and how many others are ahead.
+/// None at the end.
 fn push_next(
     text: &mut String,
     next: Result<Option<Outcome<States, Global>>, AllocError>,
+    ahead: usize,
 ) -> Option<()> {
     match next {
-        Ok(Some(Ok(read))) => push_names(text, &read),
-        Ok(Some(Err(_))) => text.push_str("error").ok(),
-        Ok(None) => None,
-        Err(_) => text.push_str("refused").ok(),
+        Ok(Some(Ok(read))) => push_names(text, &read)?,
+        Ok(Some(Err(_error))) => text.push_str("error").ok()?,
+        Ok(None) => return None,
+        Err(_refused) => text.push_str("refused").ok()?,
     }
-}
-
-/// Adds how many others are ahead.
-fn push_ahead(text: &mut String, ahead: usize) -> Option<()> {
     text.push_str(DIGITS.get(ahead).unwrap_or(&"+")).ok()?;
     text.push_str(" ").ok()
 }
 
-/// What comes of a walk: each reading, and after each how many others are ahead.
-fn readings(
-    rt: &(impl Threads + Sync),
-    alloc: Global,
-    walk: &mut Walk<'_>,
-    by: By,
-) -> Option<String> {
-    let mut text = String::new(alloc);
-    for _ in 0..100 {
-        if push_next(&mut text, next(rt, walk, by)).is_none() {
-            break;
-        }
-        push_ahead(&mut text, walk.ahead())?;
-    }
-    Some(text)
-}
-
-/// Whether this comes of a walk.
+/// Whether this comes of a walk: each reading, and after each how many others are ahead.
 fn gives(
     rt: &(impl Threads + Sync),
     alloc: Global,
@@ -105,10 +86,17 @@ fn gives(
     by: By,
     wanted: &str,
 ) -> bool {
-    match walk(alloc, fs, width) {
-        Some(mut walk) => readings(rt, alloc, &mut walk, by).as_deref() == Some(wanted),
-        None => false,
+    let Some(mut walk) = walk(alloc, fs, width) else {
+        return false;
+    };
+    let mut text = String::new(alloc);
+    for _ in 0..100 {
+        let next = next(rt, &mut walk, by);
+        if push_next(&mut text, next, walk.ahead()).is_none() {
+            break;
+        }
     }
+    text.as_str() == wanted
 }
 
 /// Whether both ways of reading these directories give this, where the one at a path is refused memory.

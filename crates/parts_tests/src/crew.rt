@@ -42,11 +42,6 @@ fn job_by(alloc: Global, fs: &Refusing, options: Options) -> Option<Arc<TreeJob<
     Arc::new(alloc, Job::with_options(alloc, fs, NoProcess, options)).ok()
 }
 
-/// The directory at a root.
-fn root_of(job: &TreeJob<'_>, root: &str) -> Option<Spec> {
-    roots_of(job, root)?.pop()
-}
-
 // Messages.
 
 /// What comes of a reading.
@@ -94,13 +89,11 @@ fn is_of(message: &Told<'_>, path: &str, refused: bool) -> bool {
 /// Whether the message of a directory says what comes of it, and the directories below it stand at these paths.
 fn tells(alloc: Global, fs: &Refusing, path: &str, below: &[&str], comes: Comes) -> Option<bool> {
     let job = job_by(alloc, fs, options())?;
-    let of = root_of(&job, path)?;
+    let of = roots_of(&job, path)?.pop()?;
     let (message, found) = Message::read(job, of);
-    Some(
-        is_of(&message, path, matches!(comes, Comes::Refusal))
-            && are_below(found.as_slice(), below)
-            && has(message, path, comes),
-    )
+    let is_told = is_of(&message, path, matches!(comes, Comes::Refusal))
+        && are_below(found.as_slice(), below);
+    Some(has(message, path, comes) && is_told)
 }
 
 /// Whether it does in a tree where memory is refused at one path.
@@ -181,22 +174,6 @@ fn begin<'f>(alloc: Global, job: &TreeJob<'f>, other: Other) -> Option<(Reads<'f
     Some((Board::new(roots).ok()?, wanted))
 }
 
-/// A worker takes the least directory.
-fn take(board: &mut Reads<'_>) -> Option<Ordered<Spec>> {
-    board.take().ok()
-}
-
-/// It finishes it.
-fn finish<'f>(board: &mut Reads<'f>, job: Arc<TreeJob<'f>>, taken: Ordered<Spec>) -> Option<()> {
-    let Ordered {
-        value: of,
-        index_path: address,
-        ..
-    } = taken;
-    let (message, below) = Message::read(job, of);
-    board.finish(address, message, below).ok()
-}
-
 /// What becomes of the reading that is wanted.
 fn asks(board: &mut Reads<'_>, wanted: &Wanted) -> &'static str {
     match arrive(board, wanted) {
@@ -207,108 +184,69 @@ fn asks(board: &mut Reads<'_>, wanted: &Wanted) -> &'static str {
     }
 }
 
-/// When the reading that is wanted is asked for.
-#[derive(Clone, Copy)]
-enum When {
-    /// Once the root was read.
-    AfterReading,
-    /// Before the root is taken, while it is in hand, once it was read, and after that.
-    AllAlong,
-    /// Once the board was stopped.
-    AfterStop,
-}
-
-/// Adds what becomes of the reading that is wanted.
-fn push_answer(text: &mut String, board: &mut Reads<'_>, wanted: &Wanted) -> Option<()> {
-    text.push_str(asks(board, wanted)).ok()?;
-    text.push_str(" ").ok()
-}
-
-/// Adds what becomes of it all along.
-fn push_all_along<'f>(
-    text: &mut String,
+/// A worker takes the least directory and finishes it. It says what became of the reading that is wanted in between.
+fn read_least<'f>(
     board: &mut Reads<'f>,
     job: Arc<TreeJob<'f>>,
     wanted: &Wanted,
-) -> Option<()> {
-    push_answer(text, board, wanted)?;
-    let taken = take(board)?;
-    push_answer(text, board, wanted)?;
-    finish(board, job, taken)?;
-    push_answer(text, board, wanted)?;
-    push_answer(text, board, wanted)
+) -> Option<&'static str> {
+    let Ordered {
+        value: of,
+        index_path: address,
+        ..
+    } = board.take().ok()?;
+    let in_hand = asks(board, wanted);
+    let (message, below) = Message::read(job, of);
+    board.finish(address, message, below).ok()?;
+    Some(in_hand)
 }
 
-/// Adds what becomes of it once the root was read.
-fn push_after_reading<'f>(
-    text: &mut String,
-    board: &mut Reads<'f>,
-    job: Arc<TreeJob<'f>>,
-    wanted: &Wanted,
-) -> Option<()> {
-    let taken = take(board)?;
-    finish(board, job, taken)?;
-    push_answer(text, board, wanted)
-}
-
-/// Adds what becomes of it then.
-fn push_answers<'f>(
-    text: &mut String,
-    board: &mut Reads<'f>,
-    job: Arc<TreeJob<'f>>,
-    wanted: &Wanted,
-    when: When,
-) -> Option<()> {
-    match when {
-        When::AfterReading => push_after_reading(text, board, job, wanted),
-        When::AllAlong => push_all_along(text, board, job, wanted),
-        When::AfterStop => {
-            board.stop();
-            push_answer(text, board, wanted)
-        }
-    }
-}
-
-/// What becomes of it then, in a walk by these options.
+/// What becomes of it in a walk by these options: before the root is taken, while it is in hand, once it was read, and
+/// after that.
 fn answers_by(
     alloc: Global,
     fs: &Refusing,
     own: Options,
     other: Other,
-    when: When,
-) -> Option<String> {
+) -> Option<(&'static str, &'static str, &'static str, &'static str)> {
     let job = job_by(alloc, fs, own)?;
     let (mut board, wanted) = begin(alloc, &job, other)?;
-    let mut text = String::new(alloc);
-    push_answers(&mut text, &mut board, job, &wanted, when)?;
-    Some(text)
+    let queued = asks(&mut board, &wanted);
+    let in_hand = read_least(&mut board, job, &wanted)?;
+    let read = asks(&mut board, &wanted);
+    Some((queued, in_hand, read, asks(&mut board, &wanted)))
+}
+
+/// What becomes of it once the board was stopped.
+fn answer_after_stop(alloc: Global, fs: &Refusing) -> Option<&'static str> {
+    let job = job_by(alloc, fs, options())?;
+    let (mut board, wanted) = begin(alloc, &job, Other::Nothing)?;
+    board.stop();
+    Some(asks(&mut board, &wanted))
 }
 
 /// Whether it is waited for until it comes, where nothing is below the root, and no longer than to a stop.
-fn is_waited_for(alloc: Global) -> bool {
+fn is_waited_for(alloc: Global) -> Option<bool> {
+    let fs = tree(alloc, "")?;
     let own = options().with_max_depth(0);
-    match &tree(alloc, "") {
-        Some(fs) => {
-            answers_by(alloc, fs, own, Other::Options(own), When::AllAlong).as_deref()
-                == Some("wait wait entered lost ")
-                && answers_by(alloc, fs, options(), Other::Nothing, When::AfterStop).as_deref()
-                    == Some("memory ")
-        }
-        None => false,
-    }
+    let (queued, in_hand, read, after) = answers_by(alloc, &fs, own, Other::Options(own))?;
+    let stopped = answer_after_stop(alloc, &fs)?;
+    let answers = [queued, in_hand, read, after, stopped];
+    Some(answers == ["wait", "wait", "entered", "lost", "memory"])
 }
 
 #[test]
 fn a_reading_is_waited_for_until_it_comes(rt: HostRuntime) {
-    assert!(rt; is_waited_for(rt.alloc()));
+    assert!(rt; is_waited_for(rt.alloc()) == Some(true));
 }
 
 /// Whether this becomes of it once the root was read, where memory is refused at one path.
 fn answers(alloc: Global, at: &'static str, other: Other, answer: &str) -> bool {
-    match &tree(alloc, at) {
-        Some(fs) => {
-            answers_by(alloc, fs, options(), other, When::AfterReading).as_deref() == Some(answer)
-        }
+    let Some(fs) = tree(alloc, at) else {
+        return false;
+    };
+    match answers_by(alloc, &fs, options(), other) {
+        Some((_, _, read, _)) => read == answer,
         None => false,
     }
 }
@@ -316,11 +254,11 @@ fn answers(alloc: Global, at: &'static str, other: Other, answer: &str) -> bool 
 #[test]
 fn a_message_of_another_reading_is_lost(rt: HostRuntime) {
     let rows = [
-        (Other::Nothing, "entered "),
-        (Other::Address, "lost "),
-        (Other::Path, "lost "),
-        (Other::Depth, "lost "),
-        (Other::Ancestors, "lost "),
+        (Other::Nothing, "entered"),
+        (Other::Address, "lost"),
+        (Other::Path, "lost"),
+        (Other::Depth, "lost"),
+        (Other::Ancestors, "lost"),
     ];
     for (other, answer) in &rows {
         assert!(rt; answers(rt.alloc(), "", *other, answer));
@@ -331,14 +269,11 @@ fn a_message_of_another_reading_is_lost(rt: HostRuntime) {
 fn a_message_by_other_options_is_lost(rt: HostRuntime) {
     let own = options();
     let rows = [
-        (own.with_sort(false), "lost "),
-        (own.with_skip_hidden(false), "lost "),
-        (own.with_follow_links(true), "lost "),
-        (own.with_max_depth(3), "lost "),
-        (
-            own.with_min_depth(1).with_mode(Mode::Batches(2)),
-            "entered ",
-        ),
+        (own.with_sort(false), "lost"),
+        (own.with_skip_hidden(false), "lost"),
+        (own.with_follow_links(true), "lost"),
+        (own.with_max_depth(3), "lost"),
+        (own.with_min_depth(1).with_mode(Mode::Batches(2)), "entered"),
     ];
     for (other, answer) in &rows {
         assert!(rt; answers(rt.alloc(), "", Other::Options(*other), answer));
@@ -347,7 +282,7 @@ fn a_message_by_other_options_is_lost(rt: HostRuntime) {
 
 #[test]
 fn a_message_that_was_refused_memory_says_so_where_it_is_waited_for(rt: HostRuntime) {
-    let rows = [(Other::Nothing, "memory "), (Other::Path, "lost ")];
+    let rows = [(Other::Nothing, "memory"), (Other::Path, "lost")];
     for (other, answer) in &rows {
         assert!(rt; answers(rt.alloc(), "/r", *other, answer));
     }
@@ -355,21 +290,24 @@ fn a_message_that_was_refused_memory_says_so_where_it_is_waited_for(rt: HostRunt
 
 // Lists of ancestors.
 
-/// Whether an entry has the same list of ancestors as the directory below it.
-fn has_list_of(found: &Result<DirEntry<States>, Error>, of: &Spec) -> bool {
-    match found {
-        Ok(entry) => entry.ancestors().is_same(of.ancestors()),
-        Err(_) => false,
-    }
+/// Whether an entry and the directory below it, alone each, have the same list of ancestors, and which it is.
+fn have_list(
+    found: &[Result<DirEntry<States>, Error>],
+    below: &[Spec],
+    ancestors: &Ancestors,
+) -> bool {
+    let [of] = below else {
+        return false;
+    };
+    of.ancestors().is_same(ancestors)
+        && matches!(found, [Ok(entry)] if entry.ancestors().is_same(of.ancestors()))
 }
 
 /// Whether the root's entry and its directory have the same list of ancestors.
 fn root_has_list_of_directory(job: &TreeJob<'_>, ancestors: &Ancestors) -> Option<bool> {
     let list = job.root_list("/r", ()).ok()?;
     let below = list.read_children_specs().ok()?;
-    let of = below.last()?;
-    let found = list.results_list().first()?;
-    Some(has_list_of(found, of) && of.ancestors().is_same(ancestors))
+    Some(have_list(list.results_list(), below.as_slice(), ancestors))
 }
 
 /// Whether both have the list of the root's path alone.
@@ -394,21 +332,19 @@ fn are_compared(
         && !deeper.is_same(other)
 }
 
-/// Whether lists below the root are compared by their paths.
-fn are_compared_below(alloc: Global, root: &Ancestors) -> Option<bool> {
-    let deeper = below(alloc, root, "/r/a")?;
-    let again = below(alloc, root, "/r/a")?;
-    let other = below(alloc, root, "/r/b")?;
-    Some(are_compared(root, &deeper, &again, &other))
+/// Whether lists from the root down are compared by their paths, and the root has the first of them.
+fn are_compared_by_paths(alloc: Global) -> Option<bool> {
+    let root = below(alloc, &Ancestors::none(), "/r")?;
+    let deeper = below(alloc, &root, "/r/a")?;
+    let again = below(alloc, &root, "/r/a")?;
+    let other = below(alloc, &root, "/r/b")?;
+    let compared = are_compared(&root, &deeper, &again, &other);
+    Some(compared && root_is_its_own_ancestor(alloc, &root) == Some(true))
 }
 
 #[test]
 fn lists_of_ancestors_are_compared_by_their_paths(rt: HostRuntime) {
-    let Some(root) = below(rt.alloc(), &Ancestors::none(), "/r") else {
-        panic!(rt; "memory is there")
-    };
-    assert!(rt; are_compared_below(rt.alloc(), &root) == Some(true));
-    assert!(rt; root_is_its_own_ancestor(rt.alloc(), &root) == Some(true));
+    assert!(rt; are_compared_by_paths(rt.alloc()) == Some(true));
 }
 
 // Places.

@@ -1,22 +1,11 @@
 //! Addresses in a heap, in a set and side by side.
 use crate::given::address;
 use jwalk_order::index_path::IndexPath;
-use std::alloc::{AllocError, Global};
+use std::alloc::Global;
 use std::collections::BinaryHeap;
 
 fn is(address: &IndexPath, indices: &[usize]) -> bool {
     address.indices.as_slice() == indices
-}
-
-fn push_all(
-    heap: &mut BinaryHeap<IndexPath>,
-    alloc: Global,
-    lists: &[&[usize]],
-) -> Result<(), AllocError> {
-    for indices in lists {
-        heap.push(IndexPath::new(Vec::from_slice(alloc, indices)?))?;
-    }
-    Ok(())
 }
 
 fn gives(heap: &mut BinaryHeap<IndexPath>, indices: &[usize]) -> bool {
@@ -27,12 +16,12 @@ fn gives(heap: &mut BinaryHeap<IndexPath>, indices: &[usize]) -> bool {
 }
 
 // Whether a greatest-first heap of these gives a root, its first child and its second.
-fn come_in_order(alloc: Global, lists: &[&[usize]]) -> bool {
+fn come_in_order(alloc: Global, lists: &[&[usize]]) -> Option<bool> {
     let mut heap = BinaryHeap::new(alloc);
-    push_all(&mut heap, alloc, lists).is_ok()
-        && gives(&mut heap, &[0])
-        && gives(&mut heap, &[0, 0])
-        && gives(&mut heap, &[0, 1])
+    for indices in lists {
+        heap.push(address(alloc, indices)?).ok()?;
+    }
+    Some(gives(&mut heap, &[0]) && gives(&mut heap, &[0, 0]) && gives(&mut heap, &[0, 1]))
 }
 
 const ORDERS: &[&[&[usize]]] = &[
@@ -47,7 +36,7 @@ const ORDERS: &[&[&[usize]]] = &[
 #[test]
 fn a_heap_gives_the_least_address_first(rt: HostRuntime) {
     for lists in ORDERS {
-        assert!(rt; come_in_order(rt.alloc(), lists));
+        assert!(rt; come_in_order(rt.alloc(), lists) == Some(true));
     }
 }
 
@@ -85,29 +74,15 @@ fn an_address_goes_down_and_up(rt: HostRuntime) {
     assert!(rt; has_child(&root, 2, &[0, 2]) && has_clone(&root) && goes_about(&mut root));
 }
 
-// Goes down from no index by `adding`.
-fn added(alloc: Global, indices: &[usize]) -> Option<IndexPath> {
-    let mut address = address(alloc, &[])?;
-    for index in indices {
-        address = address.adding(*index).ok()?;
-    }
-    Some(address)
-}
-
-// Goes down from no index by `push`.
-fn pushed(alloc: Global, indices: &[usize]) -> Option<IndexPath> {
-    let mut address = address(alloc, &[])?;
-    for index in indices {
-        address.push(*index).ok()?;
-    }
-    Some(address)
-}
-
-// Whether both ways lead down these indices.
+// Whether `adding` and `push` lead from no index down these.
 fn lead_down(alloc: Global, indices: &[usize]) -> Option<bool> {
-    let address = pushed(alloc, indices)?;
-    let same = added(alloc, indices)?;
-    Some(is(&address, indices) && same == address && has_clone(&address))
+    let mut added = address(alloc, &[])?;
+    let mut pushed = address(alloc, &[])?;
+    for index in indices {
+        added = added.adding(*index).ok()?;
+        pushed.push(*index).ok()?;
+    }
+    Some(is(&pushed, indices) && added == pushed && has_clone(&pushed))
 }
 
 // Whether both lead down so many indices, the greatest first.

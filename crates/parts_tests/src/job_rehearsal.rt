@@ -22,17 +22,12 @@ use read_parts::read_dir_spec::ReadDirSpec;
 use std::alloc::{Allocator, Global};
 use walk_fs::file_system::FileSystem;
 
-fn add_files(fs: &mut MemoryFs, paths: &[&str]) -> Option<()> {
-    for path in paths {
-        fs.add_file(path, 1).ok()?;
-    }
-    Some(())
-}
-
 /// A root with a directory that holds another, a directory and a file.
 fn tree(alloc: Global) -> Option<MemoryFs> {
     let mut fs = given::tree(alloc, &["/t", "/t/b", "/t/b/d", "/t/c"])?;
-    add_files(&mut fs, &["/t/a", "/t/b/e", "/t/b/d/f", "/t/c/g"])?;
+    for path in ["/t/a", "/t/b/e", "/t/b/d/f", "/t/c/g"] {
+        fs.add_file(path, 1).ok()?;
+    }
     Some(fs)
 }
 
@@ -122,24 +117,19 @@ fn stand_at(items: &[Ordered<ReadDirSpec<States>>], first: &str, second: &str) -
         && matches!(items, [a, b] if a.value.path.as_str() == first && b.value.path.as_str() == second)
 }
 
-/// Whether the directories in the reading of the root stand at the children of the address 3 and 1.
-fn has_addresses(alloc: Global, read: &ReadDir<States>) -> Option<bool> {
-    let above = address(alloc, &[3, 1])?;
-    let below = read.ordered_read_children_specs(&above).ok()?;
-    Some(stand_at(below.as_slice(), "/t/b", "/t/c"))
-}
-
 /// The reading of the root.
 fn root_reading(job: &TreeJob<'_>) -> Option<ReadDir<States>> {
     let roots = roots_of(job, "/t")?;
     job.read_one(roots.first()?).ok()?.ok()
 }
 
-/// Whether they do in the tree.
+/// Whether the directories in the reading of the root stand at the children of the address 3 and 1.
 fn root_has_addresses(alloc: Global) -> Option<bool> {
     let fs = tree(alloc)?;
+    let above = address(alloc, &[3, 1])?;
     let read = root_reading(&job_of(alloc, &fs))?;
-    has_addresses(alloc, &read)
+    let below = read.ordered_read_children_specs(&above).ok()?;
+    Some(stand_at(below.as_slice(), "/t/b", "/t/c"))
 }
 
 #[test]

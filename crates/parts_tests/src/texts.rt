@@ -62,6 +62,27 @@ fn other_words_are_bad(rt: HostRuntime) {
     }
 }
 
+fn are_same(asked: &Asked, wanted: &Asked) -> bool {
+    asked.tree == wanted.tree
+        && asked.sort == wanted.sort
+        && asked.hidden == wanted.hidden
+        && asked.follow == wanted.follow
+        && asked.min == wanted.min
+        && asked.max == wanted.max
+        && asked.read_by == wanted.read_by
+}
+
+// Whether words ask for this, and for a walk from this root.
+fn ask_for(alloc: Global, words: &[&str], wanted: &Asked, root: &str) -> bool {
+    let Ok(words) = texts(alloc, words) else {
+        return false;
+    };
+    match parse_words(words.as_slice()) {
+        Some(request) => request.root == root && are_same(&request.asked, wanted),
+        None => false,
+    }
+}
+
 fn is_no_number(alloc: Global, number: &str) -> bool {
     are_bad(alloc, &["--min", number, "--tree", "/t"])
         && are_bad(alloc, &["--max", number, "--tree", "/t"])
@@ -69,18 +90,29 @@ fn is_no_number(alloc: Global, number: &str) -> bool {
         && are_bad(alloc, &["--crew", number, "--tree", "/t"])
 }
 
-// The greatest depth, and what directories are read by, that a number asks for behind the name of an option.
-fn numbers_of(alloc: Global, name: &str, number: &str) -> Option<(Option<usize>, Option<ReadBy>)> {
-    let words = texts(alloc, &["--max", number, name, number, "/t"]).ok()?;
-    let asked = parse_words(words.as_slice())?.asked;
-    Some((asked.max, asked.read_by))
-}
-
+// Whether a number is read as this value, behind the names of options.
 fn is_number(alloc: Global, number: &str, value: usize) -> bool {
-    let batch = (Some(value), Some(ReadBy::Batch(value)));
-    let crew = (Some(value), Some(ReadBy::Crew(value)));
-    numbers_of(alloc, "--batch", number) == Some(batch)
-        && numbers_of(alloc, "--crew", number) == Some(crew)
+    let max = Some(value);
+    let batch = Asked {
+        max,
+        read_by: Some(ReadBy::Batch(value)),
+        ..Asked::nothing()
+    };
+    let crew = Asked {
+        read_by: Some(ReadBy::Crew(value)),
+        ..batch
+    };
+    ask_for(
+        alloc,
+        &["--max", number, "--batch", number, "/t"],
+        &batch,
+        "/t",
+    ) && ask_for(
+        alloc,
+        &["--max", number, "--crew", number, "/t"],
+        &crew,
+        "/t",
+    )
 }
 
 fn is_read_as(alloc: Global, number: &str, value: Option<usize>) -> bool {
@@ -109,27 +141,6 @@ fn numbers_have_up_to_20_digits_and_fit(rt: HostRuntime) {
     ];
     for (number, value) in ROWS {
         assert!(rt; is_read_as(rt.alloc(), number, *value), "{:?}", number);
-    }
-}
-
-fn are_same(asked: &Asked, wanted: &Asked) -> bool {
-    asked.tree == wanted.tree
-        && asked.sort == wanted.sort
-        && asked.hidden == wanted.hidden
-        && asked.follow == wanted.follow
-        && asked.min == wanted.min
-        && asked.max == wanted.max
-        && asked.read_by == wanted.read_by
-}
-
-// Whether words ask for this, and for a walk from this root.
-fn ask_for(alloc: Global, words: &[&str], wanted: &Asked, root: &str) -> bool {
-    let Ok(words) = texts(alloc, words) else {
-        return false;
-    };
-    match parse_words(words.as_slice()) {
-        Some(request) => request.root == root && are_same(&request.asked, wanted),
-        None => false,
     }
 }
 

@@ -76,18 +76,13 @@ fn is(fs: &MemoryFs, path: &str, wanted: Found) -> bool {
     found(fs.symlink_metadata(path)) == wanted
 }
 
-fn push_name(text: &mut String, item: &io::Result<Listed>) -> Option<()> {
-    let item = item.as_ref().ok()?;
-    text.push_str(" ").ok()?;
-    text.push_str(item.name.as_str()).ok()?;
-    let is_dir = item.file_type.as_ref().ok()?.is_dir();
-    text.push_str(if is_dir { "/" } else { "" }).ok()
-}
-
 fn names(alloc: Global, items: &[io::Result<Listed>]) -> Option<String> {
     let mut text = String::new(alloc);
     for item in items {
-        push_name(&mut text, item)?;
+        let item = item.as_ref().ok()?;
+        let is_dir = item.file_type.as_ref().ok()?.is_dir();
+        let mark = if is_dir { "/" } else { "" };
+        write!(text, " {}{mark}", item.name).ok()?;
     }
     Some(text)
 }

@@ -1,11 +1,9 @@
 //! Why a board refuses.
-ghost use Rattle.std.specs.Prelude.{◌≡◌, ◌↔◌, IsTrue};
-
 use jwalk_order::index_path::IndexPath;
 use std::alloc::{Allocator, Global};
 
 /// Why nothing was taken.
-#[derive(Clone, Copy, Debug, PartialEq, Eq)]
+#[derive(Clone, Copy, PartialEq, Eq)]
 pub enum TakeRefusal {
     /// The board is stopped.
     Stopped,
@@ -17,16 +15,8 @@ pub enum TakeRefusal {
     Memory,
 }
 
-impl TakeRefusal {
-    pub(super) fn is_memory(self) -> bool
-        ensures { IsTrue result ↔ (self ≡ TakeRefusal.Memory) }
-    {
-        matches!(self, TakeRefusal::Memory)
-    }
-}
-
 /// Why an address was not finished.
-#[derive(Clone, Copy, Debug, PartialEq, Eq)]
+#[derive(Clone, Copy, PartialEq, Eq)]
 pub enum FinishRefusal {
     /// The board is stopped.
     Stopped,
@@ -36,16 +26,8 @@ pub enum FinishRefusal {
     Memory,
 }
 
-impl FinishRefusal {
-    pub(super) fn is_memory(self) -> bool
-        ensures { IsTrue result ↔ (self ≡ FinishRefusal.Memory) }
-    {
-        matches!(self, FinishRefusal::Memory)
-    }
-}
-
 /// Why nothing was handed out.
-#[derive(Clone, Copy, Debug, PartialEq, Eq)]
+#[derive(Clone, Copy, PartialEq, Eq)]
 pub enum HandOutRefusal {
     /// The board is stopped.
     Stopped,
@@ -57,16 +39,8 @@ pub enum HandOutRefusal {
     Memory,
 }
 
-impl HandOutRefusal {
-    pub(super) fn is_memory(self) -> bool
-        ensures { IsTrue result ↔ (self ≡ HandOutRefusal.Memory) }
-    {
-        matches!(self, HandOutRefusal::Memory)
-    }
-}
-
 /// A refusal to finish, with what was to be finished.
-#[derive(Debug, Drop)]
+#[derive(Drop)]
 pub struct FinishFault<T, R, A: Allocator + Copy = Global> {
     pub cause: FinishRefusal,
     pub address: IndexPath<A>,

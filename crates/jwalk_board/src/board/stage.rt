@@ -8,6 +8,7 @@ ghost use Rattle.jwalk_board.specs.Stage.{stage_of, IsUnderWay};
 
 use super::moves::Move;
 use super::plan::{Plan, Refused};
+use super::refusal::{FinishRefusal, HandOutRefusal, TakeRefusal};
 use super::rehearsal::Rehearsal;
 use jwalk_order::ordered::Ordered;
 use std::alloc::{AllocError, Allocator};
@@ -42,8 +43,10 @@ fn take<P: Plan<A>, A: Allocator + Copy>(
             stage.hands[worker] = Some(item);
             Ok(())
         }
-        Err(refusal) if refusal.is_memory() => Err(AllocError),
-        Err(_) => Ok(()),
+        Err(refusal) => match refusal {
+            TakeRefusal::Memory => Err(AllocError),
+            _ => Ok(()),
+        },
     }
 }
 
@@ -59,8 +62,10 @@ fn hand_out<P: Plan<A>, A: Allocator + Copy>(
 {
     match stage.done.board.hand_out() {
         Ok(item) => Ok(stage.done.handed_out.push(item)?),
-        Err(refusal) if refusal.is_memory() => Err(AllocError),
-        Err(_) => Ok(()),
+        Err(refusal) => match refusal {
+            HandOutRefusal::Memory => Err(AllocError),
+            _ => Ok(()),
+        },
     }
 }
 
@@ -88,9 +93,11 @@ fn finish<P: Plan<A>, A: Allocator + Copy>(
     let (reading, children) = plan.read(alloc, &item.value)?;
     match stage.done.board.finish(item.index_path, reading, children) {
         Ok(()) => Ok(()),
-        Err(fault) if fault.cause.is_memory() => Err(AllocError),
-        // What a worker holds is in hand, and nothing stops the board.
-        Err(_) => unreachable!(),
+        Err(fault) => match fault.cause {
+            FinishRefusal::Memory => Err(AllocError),
+            // What a worker holds is in hand, and nothing stops the board.
+            _ => unreachable!(),
+        },
     }
 }
 

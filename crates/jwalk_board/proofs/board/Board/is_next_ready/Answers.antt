@@ -1,5 +1,8 @@
 use Rattle.std.proofs.Common.{rules, ◌≡◌, ◌≢◌, [], IsTrue, subst, sym, ◌∙◌}
+use Rattle.std.specs.Bool.{Decides}
 use Rattle.std.proofs.lemmas.Bool.{false≢true}
+use Rattle.std.proofs.lemmas.Bool.Decides.{Decides-eqb}
+use Rattle.std.proofs.lemmas.Slice.Eq.{slice_eq-Decides}
 use Rattle.jwalk_order.specs.Frontier.{next_address}
 use Rattle.jwalk_order.specs.Ordered.{address_of}
 use Rattle.board_parts.specs.Addresses.{IsAmong}
@@ -10,11 +13,11 @@ use Rattle.jwalk_board.proofs.board.Board.is_next_ready.Goals as goal
 pub returns-then-not-is_none : goal.returns-then-not-is_none
 returns-then-not-is_none g c =
     let some : c.self.inside.matcher ≢ [] = λ empty. false≢true (sym c.if-not-is_none.true ∙ c.is_none.ensures.1 empty) in
-    let forth : IsTrue c.eq.result → address_of c.in-Some.least.now ≡ next_address c.self.inside.matcher = search rules in
-    let back : address_of c.in-Some.least.now ≡ next_address c.self.inside.matcher → IsTrue c.eq.result = search rules in
+    let same : Decides c.eq.result (address_of c.in-Some.least.now ≡ next_address c.self.inside.matcher) =
+    rw (← c.looking_for.ensures) (slice_eq-Decides Decides-eqb _ _ c.eq.result c.eq.ensures) in
     rw (← c.self.view_is) (
-      λ yes. (some, subst (λ a. IsAmong a (addresses_of c.self.inside.ready.items)) (forth yes) c.in-Some.ensures.some),
-      λ ready. back (next_is_first _ c.self.invariant (address_of c.in-Some.least.now) c.in-Some.ensures.some c.in-Some.ensures.least ready.1),
+      λ yes. (some, subst (λ a. IsAmong a (addresses_of c.self.inside.ready.items)) (same.0 yes) c.in-Some.ensures.some),
+      λ ready. same.1 (next_is_first _ c.self.invariant (address_of c.in-Some.least.now) c.in-Some.ensures.some c.in-Some.ensures.least ready.1),
     )
 
 pub returns-else-not-is_none : goal.returns-else-not-is_none

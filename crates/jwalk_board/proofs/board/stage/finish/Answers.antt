@@ -1,5 +1,4 @@
 use Rattle.std.proofs.Common.{◌≡◌, ◌<◌, Some, None, length, map, set, refl, ap, sym, ◌∙◌, arith, subst}
-use Rattle.std.proofs.lemmas.Bool.{false≢true}
 use Rattle.std.proofs.lemmas.Option.{slice_get-map}
 use Rattle.std.specs.List.{slice_get}
 use Rattle.std.specs.Option.{option_map}
@@ -20,7 +19,7 @@ unreachable-requires g c =
     let there : c.args.worker < length hands.items = omega (arith, hands.ok.0, c.len.ensures) in
     let holds = get_read hands.items c.args.worker c.index_mut.result.now there c.index_mut.ensures.value ∙ ap Some (sym c.take.ensures.value ∙ c.in-Some.is) in
     let wanting = only_memory hands.items c.args.stage.now.done.board c.requires.under_way c.args.worker c.in-Some.item holds c.in-Err.fault.cause c.in-Err.ensures.refused in
-    false≢true (sym c.if-is_memory.false ∙ c.is_memory.ensures.1 wanting)
+    c.in_default-cause.not-Memory wanting
 
 pub returns-in-Ok-clause-kept : goal.returns-in-Ok-clause-kept
 returns-in-Ok-clause-kept g c =
@@ -83,8 +82,8 @@ returns-in_err-reading-clause-kept g c = IfOk-from_err c.from_residual.result _ 
 pub returns-in_err-reading-clause-follows : goal.returns-in_err-reading-clause-follows
 returns-in_err-reading-clause-follows g c = λ given fixed roots r f. IfOk-from_err c.from_residual.result _ c.from_residual.ensures.0
 
-pub returns-in-Err-clause-kept : goal.returns-in-Err-clause-kept
-returns-in-Err-clause-kept g c = tt
+pub returns-in-Memory-clause-kept : goal.returns-in-Memory-clause-kept
+returns-in-Memory-clause-kept g c = tt
 
-pub returns-in-Err-clause-follows : goal.returns-in-Err-clause-follows
-returns-in-Err-clause-follows g c = λ given fixed roots r f. tt
+pub returns-in-Memory-clause-follows : goal.returns-in-Memory-clause-follows
+returns-in-Memory-clause-follows g c = λ given fixed roots r f. tt

@@ -1,5 +1,4 @@
 use Rattle.std.proofs.Common.{◌∷◌, [], map, refl, ap, sym, ◌∙◌, subst}
-use Rattle.std.proofs.lemmas.Bool.{false≢true}
 use Rattle.std.proofs.lemmas.List.{map-append}
 use Rattle.std.specs.List.{slice_get}
 use Rattle.std.specs.Option.{option_map}
@@ -22,10 +21,10 @@ returns-in_ok-push-in-Ok-clause-follows g c = λ given t roots r falls f.
     (ap (map (seen_item w)) c.in_ok-push-in-Ok.ensures.items ∙ map-append (seen_item w) done.handed_out.items (c.in-Ok.item ∷ [])) refl refl
     (played_hand_out v w t falls roots r (map (option_map (seen_item v)) c.args.stage.now.hands.items) (map (seen_item w) done.handed_out.items) (map address done.taken.items) done.board c.hand_out.new.self c.in-Ok.item f c.in-Ok.ensures.handed_out)
 
-pub returns-in-Err-2-clause-follows : goal.returns-in-Err-2-clause-follows
-returns-in-Err-2-clause-follows g c = λ given t roots r falls f.
+pub returns-in_default-clause-follows : goal.returns-in_default-clause-follows
+returns-in_default-clause-follows g c = λ given t roots r falls f.
     let v = (g.P.Plan.spec_value given) in
     let w = (g.P.Plan.reading_value given) in
-    let same = hand_out_refused v w t falls roots r _ _ _ _ c.in-Err.refusal f c.in-Err.ensures.refused (λ q. false≢true (sym c.if-is_memory.false ∙ c.is_memory.ensures.1 q)) in
+    let same = hand_out_refused v w t falls roots r _ _ _ _ c.in-Err.refusal f c.in-Err.ensures.refused c.in_default.not-Memory in
     stage_as t roots (hand_out_next r (slice_get (addresses_of (specs_in_preorder t roots)) r.handed_out)) _ _ _ _ _ _ _ _ refl refl refl (ap (seen_board v w) c.in-Err.ensures.unchanged)
     (subst (λ z. Follows t roots z (stage_of v w c.args.stage.now)) (sym same) f)

@@ -1,5 +1,4 @@
 use Rattle.std.proofs.Common.{◌<◌, ◌∷◌, [], Some, length, map, refl, ap, sym, ◌∙◌, arith, subst}
-use Rattle.std.proofs.lemmas.Bool.{false≢true}
 use Rattle.std.proofs.lemmas.List.{map-append}
 use Rattle.std.proofs.lemmas.Option.{slice_get-map}
 use Rattle.std.specs.List.{slice_get}
@@ -50,8 +49,8 @@ returns-in_ok-push-in-Ok-clause-follows g c = λ given t roots r falls f.
     (played_take v w t falls roots r c.args.stage.now.hands.items (map (seen_item w) done.handed_out.items) (map address done.taken.items) done.board c.take.new.self k c.in-Ok.item
     (address c.in_ok-try_clone-in-Ok.field-0) f free c.in-Ok.ensures.taken c.in_ok-try_clone-in-Ok.ensures)
 
-pub returns-in-Err-2-clause-follows : goal.returns-in-Err-2-clause-follows
-returns-in-Err-2-clause-follows g c = λ given t roots r falls f.
+pub returns-in_default-clause-follows : goal.returns-in_default-clause-follows
+returns-in_default-clause-follows g c = λ given t roots r falls f.
     let v = (g.P.Plan.spec_value given) in
     let w = (g.P.Plan.reading_value given) in
     let hands = c.args.stage.now.hands in
@@ -59,7 +58,7 @@ returns-in-Err-2-clause-follows g c = λ given t roots r falls f.
     let there : k < length hands.items = omega (arith, hands.ok.0, c.len.ensures) in
     let free = get_read hands.items k c.index.result.now there c.index.ensures ∙ ap Some (none_is c.index.result.now (sym c.is_some.ensures ∙ c.if-is_some.false)) in
     let e = slice_get-map (option_map (seen_item v)) hands.items k ∙ ap (option_map (option_map (seen_item v))) free in
-    let same = take_refused v w t falls roots r _ _ _ _ k c.in-Err.refusal f e c.in-Err.ensures.refused (λ q. false≢true (sym c.if-is_memory.false ∙ c.is_memory.ensures.1 q)) in
+    let same = take_refused v w t falls roots r _ _ _ _ k c.in-Err.refusal f e c.in-Err.ensures.refused c.in_default.not-Memory in
     stage_as t roots (take_by (addresses_of (specs_in_preorder t roots)) r k (slice_get r.hands k)) _ _ _ _ _ _ _ _ refl refl refl (ap (seen_board v w) c.in-Err.ensures.unchanged)
     (subst (λ z. Follows t roots z (stage_of v w c.args.stage.now)) (sym same) f)
 
