@@ -12,7 +12,7 @@ use std::cmp::Ordering;
 
 /// The address of a node in a tree: the index of its root, then that of each child on the way to it. Child `i` of a
 /// node has the node's indices followed by `i`.
-#[derive(Drop)]
+#[derive(Debug, Drop)]
 pub struct IndexPath<A: Allocator + Copy = Global> {
     pub indices: Vec<usize, A>,
 }

@@ -12,7 +12,7 @@ use std::alloc::{Allocator, Global};
 use std::cmp::Ordering;
 
 /// A value with its address and the count of its children. Comparisons look at the address alone.
-#[derive(Drop)]
+#[derive(Debug, Drop)]
 pub struct Ordered<T, A: Allocator + Copy = Global> {
     pub value: T,
     pub index_path: IndexPath<A>,

@@ -16,7 +16,7 @@ pub use ordered_matcher::OrderedMatcher;
 pub use ordered_queue_iter::{OrderedQueueIter, Step};
 
 /// When an item may come.
-#[derive(Clone, Copy)]
+#[derive(Clone, Copy, Debug, PartialEq, Eq)]
 pub enum Ordering {
     /// As soon as it has the least address of those that are there.
     Relaxed,

@@ -3,7 +3,7 @@ use jwalk_order::index_path::IndexPath;
 use std::alloc::{Allocator, Global};
 
 /// Why nothing was taken.
-#[derive(Clone, Copy, PartialEq, Eq)]
+#[derive(Clone, Copy, Debug, PartialEq, Eq)]
 pub enum TakeRefusal {
     /// The board is stopped.
     Stopped,
@@ -16,7 +16,7 @@ pub enum TakeRefusal {
 }
 
 /// Why an address was not finished.
-#[derive(Clone, Copy, PartialEq, Eq)]
+#[derive(Clone, Copy, Debug, PartialEq, Eq)]
 pub enum FinishRefusal {
     /// The board is stopped.
     Stopped,
@@ -27,7 +27,7 @@ pub enum FinishRefusal {
 }
 
 /// Why nothing was handed out.
-#[derive(Clone, Copy, PartialEq, Eq)]
+#[derive(Clone, Copy, Debug, PartialEq, Eq)]
 pub enum HandOutRefusal {
     /// The board is stopped.
     Stopped,
@@ -40,7 +40,7 @@ pub enum HandOutRefusal {
 }
 
 /// A refusal to finish, with what was to be finished.
-#[derive(Drop)]
+#[derive(Debug, Drop)]
 pub struct FinishFault<T, R, A: Allocator + Copy = Global> {
     pub cause: FinishRefusal,
     pub address: IndexPath<A>,

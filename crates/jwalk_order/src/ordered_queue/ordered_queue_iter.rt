@@ -10,7 +10,7 @@ use crate::ordered_queue::OrderedQueue;
 use std::alloc::{AllocError, Allocator, Global};
 
 /// What a step answers.
-#[derive(Drop)]
+#[derive(Debug, Drop)]
 pub enum Step<T, A: Allocator + Copy = Global> {
     /// The next item.
     Item(Ordered<T, A>),
