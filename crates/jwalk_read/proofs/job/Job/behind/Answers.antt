@@ -9,6 +9,3 @@ returns-in-Ok-clause-value g c = λ given fixed default.
     let named : text c.in_ok-path.path ≡ path_of (entry c.args.link.now) = rw (← c.parent_path.ensures, ← c.file_name.ensures) c.in_ok-path.ensures in
     let made = rw (c.in-Ok.is, named, c.ancestors.ensures) at (c.in_ok-found.ensures.value given fixed default) in
     rw (← made) (c.reached.ensures.value given fixed)
-
-pub reached-requires : goal.reached-requires
-reached-requires g c = rw (← c.parent_path.ensures, ← c.file_name.ensures) c.in_ok-path.ensures
