@@ -12,11 +12,10 @@ use crate::crew::Crew;
 use crate::hand_in::HandIn;
 use crate::origin::Origin;
 use crate::sleepers::Sleepers;
-use crate::steps::{Calls, Turn, take_turn};
+use crate::steps::{Calls, Turn, new_board, take_turn};
 use crate::work::{SharedBoard, Work};
 use crew_parts::arrival::{Arrival, arrive};
 use crew_parts::wanted::Wanted;
-use jwalk_board::board::Board;
 use jwalk_read::job::Job;
 use keyed_slot::slot::{Key, KeyedSlot, Loan};
 use read_parts::client_state::ClientState;
@@ -28,6 +27,7 @@ use std::time::Clock;
 use walk_fs::file_system::FileSystem;
 
 /// What a walk and its workers share.
+#[derive(Drop)]
 pub(crate) struct Shared<
     R: Wait + Clock + Drop,
     C: ClientState,
@@ -56,25 +56,6 @@ impl<
     S: FileSystem,
     P: ProcessReadDir<C, A>,
     A: Allocator + Copy,
-> Drop for Shared<R, C, S, P, A> {
-    fn drop(self) {
-        let Shared {
-            crew: _,
-            job: _,
-            sleepers: _,
-            work: _,
-            queued: _,
-            arrived: _,
-        } = self;
-    }
-}
-
-impl<
-    R: Wait + Clock + Drop,
-    C: ClientState,
-    S: FileSystem,
-    P: ProcessReadDir<C, A>,
-    A: Allocator + Copy,
 > Shared<R, C, S, P, A> {
     /// What the workers of a walk are given: the roots of the walk are queued on its board. The key is for the walk.
     pub(crate) fn new(
@@ -91,12 +72,7 @@ impl<
         let crew = crew.clone()?;
         let job = origin.job().clone()?;
         let alloc = *roots.allocator();
-        let Ok(board) = Board::new(roots) else {
-            return Err(AllocError);
-        };
-        let Ok(board) = Box::new(alloc, board) else {
-            return Err(AllocError);
-        };
+        let board = new_board(roots)?;
         let (work, key) = KeyedSlot::new(alloc, Work::new(board), origin)?;
         let shared = Shared {
             crew,
