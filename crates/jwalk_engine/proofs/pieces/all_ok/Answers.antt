@@ -3,7 +3,7 @@ use Rattle.std.proofs.lemmas.List.{map-id, map-append}
 use Rattle.std.proofs.lemmas.Result.{IfOk-from_err}
 use Rattle.std.proofs.lemmas.Iterator.Adapters.{YieldsList-from_vec}
 use Rattle.std.proofs.lemmas.Iterator.Consumers.{YieldsList-end}
-use Rattle.jwalk_engine.proofs.batch.all_made.Goals as goal
+use Rattle.jwalk_engine.proofs.pieces.all_ok.Goals as goal
 
 pub returns : goal.returns
 returns g c =
@@ -11,8 +11,8 @@ returns g c =
     let all = YieldsList-end (YieldsList-from_vec {s = c.into_iter-one-iterator.result} c.args.results.items begins.0 (begins.1 ∙ c.args.results.ok.0)) c.loop-one.yielded c.loop-one.one-iterator c.loop-one.yielded_by c.next.result c.next.new.self c.in-None.is c.next.ensures.steps in
     c.loop-one.invariant ∙ (sym (map-id c.loop-one.yielded) ∙ all.0)
 
-pub returns-in_err-made : goal.returns-in_err-made
-returns-in_err-made g c = IfOk-from_err c.from_residual.result _ c.from_residual.ensures.0
+pub returns-in_err-all : goal.returns-in_err-all
+returns-in_err-all g c = IfOk-from_err c.from_residual.result _ c.from_residual.ensures.0
 
 pub returns-in_err-one : goal.returns-in_err-one
 returns-in_err-one g c = IfOk-from_err c.from_residual-in_err-one.result _ c.from_residual-in_err-one.ensures.0
@@ -21,11 +21,11 @@ pub returns-in_err-push : goal.returns-in_err-push
 returns-in_err-push g c = IfOk-from_err c.from_residual-in_err-push.result _ c.from_residual-in_err-push.ensures.0
 
 pub loop-one-init : goal.loop-one-init
-loop-one-init g c = rw c.in_ok-made.ensures.items refl
+loop-one-init g c = rw c.in_ok-all.ensures.items refl
 
 pub loop-one-preserved : goal.loop-one-preserved
 loop-one-preserved g c =
     rw c.in_ok-push.ensures.items
-    (map-append (λ m. Ok m) c.loop-one.made.items (c.in_ok-one.field-0 ∷ [])
+    (map-append (λ m. Ok m) c.loop-one.all.items (c.in_ok-one.field-0 ∷ [])
     ∙ ap (λ l. l ++ Ok c.in_ok-one.field-0 ∷ []) c.loop-one.invariant
     ∙ ap (λ r. c.loop-one.yielded ++ r ∷ []) (sym c.in_ok-one.was))
