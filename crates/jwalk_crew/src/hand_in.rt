@@ -14,7 +14,6 @@ use std::alloc::Allocator;
 use walk_fs::file_system::FileSystem;
 
 /// A reading that a worker made: where its directory stands in the walk, its message, and the directories below it.
-#[derive(Drop)]
 pub(crate) struct HandIn<
     C: ClientState,
     S: FileSystem,
@@ -24,6 +23,17 @@ pub(crate) struct HandIn<
     pub(crate) address: IndexPath<A>,
     pub(crate) message: Message<C, S, P, A>,
     pub(crate) children: Vec<ReadDirSpec<C, A>, A>,
+}
+
+impl<C: ClientState, S: FileSystem, P: ProcessReadDir<C, A>, A: Allocator + Copy> Drop
+    for HandIn<C, S, P, A> {
+    fn drop(self) {
+        let HandIn {
+            address: _,
+            message: _,
+            children: _,
+        } = self;
+    }
 }
 
 impl<C: ClientState, S: FileSystem, P: ProcessReadDir<C, A>, A: Allocator + Copy> HandIn<

@@ -27,7 +27,6 @@ use std::time::Clock;
 use walk_fs::file_system::FileSystem;
 
 /// What a walk and its workers share.
-#[derive(Drop)]
 pub(crate) struct Shared<
     R: Wait + Clock + Drop,
     C: ClientState,
@@ -48,6 +47,25 @@ pub(crate) struct Shared<
     /// Called where the walk's next reading is ready, or none will be.
     pub(crate) arrived: Condvar,
     ghost own: { arc_value job ≡ (tag_of work).job },
+}
+
+impl<
+    R: Wait + Clock + Drop,
+    C: ClientState,
+    S: FileSystem,
+    P: ProcessReadDir<C, A>,
+    A: Allocator + Copy,
+> Drop for Shared<R, C, S, P, A> {
+    fn drop(self) {
+        let Shared {
+            crew: _,
+            job: _,
+            sleepers: _,
+            work: _,
+            queued: _,
+            arrived: _,
+        } = self;
+    }
 }
 
 impl<

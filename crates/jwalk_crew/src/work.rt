@@ -17,7 +17,6 @@ pub(crate) type SharedBoard<C, S, P, A> = Box<Board<ReadDirSpec<C, A>, Message<C
 
 /// The board of a walk while nobody works on it: all that is queued on it, and all that is ready, comes from where the
 /// walk began. Its mark is the addresses that it has still to hand out.
-#[derive(Drop)]
 pub(crate) struct Work<
     C: ClientState,
     S: FileSystem,
@@ -25,6 +24,13 @@ pub(crate) struct Work<
     A: Allocator + Copy,
 > {
     board: SharedBoard<C, S, P, A>,
+}
+
+impl<C: ClientState, S: FileSystem, P: ProcessReadDir<C, A>, A: Allocator + Copy> Drop
+    for Work<C, S, P, A> {
+    fn drop(self) {
+        let Work { board: _ } = self;
+    }
 }
 
 impl<C: ClientState, S: FileSystem, P: ProcessReadDir<C, A>, A: Allocator + Copy> Marked

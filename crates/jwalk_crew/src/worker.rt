@@ -25,7 +25,6 @@ use std::time::Clock;
 use walk_fs::file_system::FileSystem;
 
 /// A thread of a walk: it takes directories, reads them and hands in what came of it.
-#[derive(Drop)]
 pub(crate) struct Worker<
     R: Wait + Clock + Drop,
     C: ClientState,
@@ -34,6 +33,18 @@ pub(crate) struct Worker<
     A: Allocator + Copy,
 > {
     shared: Arc<Shared<R, C, S, P, A>, A>,
+}
+
+impl<
+    R: Wait + Clock + Drop,
+    C: ClientState,
+    S: FileSystem,
+    P: ProcessReadDir<C, A>,
+    A: Allocator + Copy,
+> Drop for Worker<R, C, S, P, A> {
+    fn drop(self) {
+        let Worker { shared: _ } = self;
+    }
 }
 
 impl<
@@ -60,18 +71,27 @@ impl<
         for _ in rt.forever() {
             let (turn, wanted) = self.shared.turn(&sleepers);
             let calls = sleepers.called_by(wanted);
-            if calls.is_empty() && matches!(&turn, Turn::Wait) {
-                sleepers.add_worker();
-                sleepers = wait_a_turn(rt, &self.shared.queued, sleepers);
-                sleepers.remove_worker();
-                continue;
-            }
-            drop(sleepers);
-            self.shared.call(calls);
             match turn {
-                Turn::Read(item) => return Some(item),
-                Turn::End => return None,
-                Turn::Wait => sleepers = self.shared.sleepers.lock(rt),
+                Turn::Wait if calls.is_empty() => {
+                    sleepers.add_worker();
+                    sleepers = wait_a_turn(rt, &self.shared.queued, sleepers);
+                    sleepers.remove_worker();
+                }
+                Turn::Wait => {
+                    drop(sleepers);
+                    self.shared.call(calls);
+                    sleepers = self.shared.sleepers.lock(rt);
+                }
+                Turn::Read(item) => {
+                    drop(sleepers);
+                    self.shared.call(calls);
+                    return Some(item);
+                }
+                Turn::End => {
+                    drop(sleepers);
+                    self.shared.call(calls);
+                    return None;
+                }
             }
         }
         unreachable!()
