@@ -9,7 +9,7 @@ ghost use Rattle.jwalk_engine.specs.ReadAhead.{ahead_on, LeastLeave, Joins};
 ghost use Rattle.jwalk_engine.specs.Batch.{hand_of, held_by, with_children, made_at, seen_taken, IsMadeOf, MakesOf};
 ghost use Rattle.jwalk_engine.specs.BoardWalk.{ReadsBatch};
 
-use crate::pieces::{LEAST_PIECE, all_ok, map_on};
+use crate::pieces::{LEAST_PIECE, try_map_on};
 use crate::read::{Read, finish};
 use jwalk_board::board::{Board, TakeRefusal};
 use jwalk_order::index_path::IndexPath;
@@ -105,7 +105,7 @@ pub(crate) fn read_in_turn<
 {
     let mut made = Vec::with_capacity(alloc, taken.len())?;
     for item in taken {
-        made.push(make(alloc, job, item)?)?;
+        made.push_reserved(make(alloc, job, item)?);
     }
     Ok(made)
 }
@@ -133,7 +133,7 @@ where
     if taken.len() < 2 * LEAST_PIECE {
         return read_in_turn(alloc, job, taken);
     }
-    let results = map_on(
+    try_map_on(
         rt,
         alloc,
         taken,
@@ -142,8 +142,7 @@ where
             ensures { MakesOf S.FileSystem P.ProcessReadDir C.ReadDirState.Clone C.DirEntryState.Default
                 job.entry.now item result }
         { make(alloc, job, item) },
-    )?;
-    all_ok(alloc, results)
+    )
 }
 
 /// Finishes what was made, the last first, so that the directories below come in order of their addresses.

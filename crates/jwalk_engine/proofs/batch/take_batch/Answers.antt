@@ -1,4 +1,4 @@
-use Rattle.std.proofs.Common.{◌≡◌, ◌∷◌, [], length, map, ap, sym, ◌∙◌, arith, subst, refl}
+use Rattle.std.proofs.Common.{◌≡◌, false, true, ◌∷◌, [], length, map, ap, sym, ◌∙◌, arith, subst, refl}
 use Rattle.std.specs.Prelude.{All}
 use Rattle.std.proofs.lemmas.List.Elements.{All-nil, All-cons, All-append}
 use Rattle.std.proofs.lemmas.Result.{IfOk-from_err}
@@ -104,3 +104,9 @@ pub unreachable-requires-in-Err-Done : goal.unreachable-requires-in-Err-Done
 unreachable-requires-in-Err-Done g c =
     let refused = subst (RefusesTake c.loop.board) c.in-Err-Done.field-0-is c.in-Err-Done.ensures.refused in
     omega (arith, ap length refused.1, c.loop.invariant.queued, c.loop.invariant.fewer)
+
+pub unreachable-requires-in-Err-Stopped : goal.unreachable-requires-in-Err-Stopped
+unreachable-requires-in-Err-Stopped g c =
+    let refused = subst (RefusesTake c.loop.board) c.in-Err-Stopped.field-0-is c.in-Err-Stopped.ensures.refused in
+    let both : false ≡ true = sym c.loop.invariant.running ∙ refused in
+    cc
