@@ -12,11 +12,10 @@ use crate::crew::Crew;
 use crate::hand_in::HandIn;
 use crate::origin::Origin;
 use crate::sleepers::Sleepers;
-use crate::steps::{Calls, Turn, take_turn};
+use crate::steps::{Calls, Turn, new_board, take_turn};
 use crate::work::{SharedBoard, Work};
 use crew_parts::arrival::{Arrival, arrive};
 use crew_parts::wanted::Wanted;
-use jwalk_board::board::Board;
 use jwalk_read::job::Job;
 use keyed_slot::slot::{Key, KeyedSlot, Loan};
 use read_parts::client_state::ClientState;
@@ -91,12 +90,7 @@ impl<
         let crew = crew.clone()?;
         let job = origin.job().clone()?;
         let alloc = *roots.allocator();
-        let Ok(board) = Board::new(roots) else {
-            return Err(AllocError);
-        };
-        let Ok(board) = Box::new(alloc, board) else {
-            return Err(AllocError);
-        };
+        let board = new_board(roots)?;
         let (work, key) = KeyedSlot::new(alloc, Work::new(board), origin)?;
         let shared = Shared {
             crew,

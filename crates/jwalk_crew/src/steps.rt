@@ -1,13 +1,29 @@
-//! What a worker does on the board, one step each.
-ghost use Rattle.std.specs.Prelude.{◌≡◌, ◌↔◌, length, true, IsTrue, OnErr, OnOk};
+//! A new board, and what a worker does on it, one step each.
+ghost use Rattle.std.specs.Prelude.{◌≡◌, ◌↔◌, length, box_value, true, IsTrue, IfOk, OnErr, OnOk};
 ghost use Rattle.jwalk_order.specs.IndexPath.{address as indices_of};
-ghost use Rattle.jwalk_board.specs.Board.{Finishes, IsNextReady};
+ghost use Rattle.jwalk_board.specs.Board.{Finishes, IsNew, IsNextReady};
 ghost use Rattle.jwalk_crew.specs.Steps.{Turns};
 
 use jwalk_board::board::{Board, FinishFault, TakeRefusal};
 use jwalk_order::index_path::IndexPath;
 use jwalk_order::ordered::Ordered;
-use std::alloc::Allocator;
+use std::alloc::{AllocError, Allocator};
+
+/// A board on which these are queued, in a box.
+pub(crate) fn new_board<T: Drop, R: Drop, A: Allocator + Copy>(
+    roots: Vec<T, A>,
+) -> Result<Box<Board<T, R, A>, A>, AllocError>
+    ensures { IfOk result (λ board. IsNew roots.items (box_value board)) }
+{
+    let alloc = *roots.allocator();
+    let Ok(board) = Board::new(roots) else {
+        return Err(AllocError);
+    };
+    match Box::new(alloc, board) {
+        Ok(board) => Ok(board),
+        Err(_) => Err(AllocError),
+    }
+}
 
 /// What a worker does next.
 #[derive(Drop)]

@@ -1,6 +1,6 @@
 -- What is taken together.
 use Rattle.std.proofs.Common.{◌≡◌, ℕ, suc, ◌+◌, min, List, [], ◌∷◌, ◌++◌, map, length, reverse, refl, sym, ap, subst, ◌∙◌, arith, append_assoc}
-use Rattle.std.specs.Prelude.{All, Ok}
+use Rattle.std.specs.Prelude.{All, Ok, Result}
 use Rattle.std.specs.List.{AllZip}
 use Rattle.std.specs.declared.clone.Clone as Clone
 use Rattle.std.specs.declared.default.Default as Default
@@ -25,7 +25,7 @@ use Rattle.read_parts.specs.ReadDirSpec.{spec}
 use Rattle.jwalk_engine.specs.declared.read.Read.{Read}
 use Rattle.jwalk_engine.specs.ToGive.{IsHeld, Makes, MakesAll}
 use Rattle.jwalk_engine.specs.Reads.{spec_of, to_give, IsSound, ReadsSome}
-use Rattle.jwalk_engine.specs.Batch.{hand_of, held_by, with_children, IsMadeOf, MakesOf}
+use Rattle.jwalk_engine.specs.Batch.{hand_of, held_by, with_children, IsMadeOf}
 use Rattle.jwalk_engine.specs.declared.batch.Made.{Made}
 use Rattle.jwalk_engine.proofs.Steps.{gives-taken, gives-finished}
 
@@ -44,6 +44,20 @@ module _ {C A R E : Type 0} (b c : Board (ReadDirSpec C A R E) (Read C A R E)) (
 
   pub fewer_queued : length b.queued ≡ 1 + length c.queued
   fewer_queued = omega (arith, length_permutation b.queued (addressed item ∷ c.queued) t.queued)
+
+-- What holds of each result, where all of them are there, holds of what is in them.
+pub all_there : {X Y F : Type 0} (Q : X → Result Y F → Type 0) (xs : List X) (ys : List Y) (results : List (Result Y F)) → map Ok ys ≡ results → AllZip Q xs results → AllZip (λ x y. Q x (Ok y)) xs ys
+all_there {X} {Y} Q xs ys results is all = by xs ys (subst (AllZip Q xs) (sym is) all)
+  where
+    by : (xs : List X) (ys : List Y) → AllZip Q xs (map Ok ys) → AllZip (λ x y. Q x (Ok y)) xs ys
+    by [] [] all = tt
+    by [] (y ∷ ys) all = absurd all
+    by (x ∷ xs) [] all = absurd all
+    by (x ∷ xs) (y ∷ ys) all = (all.0, by xs ys all.1)
+
+-- and there are as many
+pub as_many_there : {Y F : Type 0} (ys : List Y) (results : List (Result Y F)) → map Ok ys ≡ results → length ys ≡ length results
+as_many_there {Y} {F} ys results is = sym (length-map {B = Result Y F} ys Ok) ∙ ap length is
 
 pub AllZip-push : {X Y : Type 0} (R : X → Y → Type 0) (xs : List X) (ys : List Y) (x : X) (y : Y) → AllZip R xs ys → R x y → AllZip R (xs ++ x ∷ []) (ys ++ y ∷ [])
 AllZip-push R [] [] x y all one = (one, tt)
@@ -101,13 +115,6 @@ none_held b held =
 module _ {C S P A R E : Type 0} (files : FileSystem.Ghosts S) (process : ProcessReadDir.Ghosts P C A R E) (clone : Clone.Ghosts R) (defaults : Default.Ghosts E) (job : Job C S P A R E) where
   abbrev IsOf : Ordered (ReadDirSpec C A R E) A → Made C A R E → Type 0
   IsOf = IsMadeOf files process clone defaults job
-
-  -- Where none was refused, all are made of what was taken.
-  pub none_refused : (taken : List (Ordered (ReadDirSpec C A R E) A)) (made : List (Made C A R E)) → AllZip (MakesOf files process clone defaults job) taken (map Ok made) → AllZip IsOf taken made
-  none_refused [] [] all = tt
-  none_refused [] (m ∷ made) all = absurd all
-  none_refused (x ∷ taken) [] all = absurd all
-  none_refused (x ∷ taken) (m ∷ made) all = (all.0, none_refused taken made all.1)
 
   -- as many are made as were taken
   pub as_many : (taken : List (Ordered (ReadDirSpec C A R E) A)) (made : List (Made C A R E)) → AllZip IsOf taken made → length made ≡ length taken

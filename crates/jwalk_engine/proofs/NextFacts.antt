@@ -1,6 +1,6 @@
 -- What one call answers, from what a board hands on.
 use Rattle.std.proofs.Common.{◌≡◌, ◌≢◌, ◌<◌, ◌≤◌, ◌+◌, ℕ, zero, suc, true, false, cond, List, [], ◌∷◌, ◌++◌, map, length, refl, sym, ap, ◌∙◌, arith, subst, ⊎_elim, inl, inr}
-use Rattle.std.specs.Prelude.{Option, Some, None, All}
+use Rattle.std.specs.Prelude.{Option, Some, None, IsSomeAnd, All}
 use Rattle.std.specs.List.Sorted.{IsPermutation}
 use Rattle.std.proofs.lemmas.List.{map-append, length-map}
 use Rattle.std.proofs.lemmas.List.Elements.{All-head, All-tail}
@@ -158,9 +158,10 @@ module _ {C S P A R E : Type 0} (files : FileSystem.Ghosts S) (process : Process
         goes_on old new given refl was_sound h (omega arith) (inl (was_done (next_address old.frontier) (ahead_on old) (ahead_on new) h.at, h.at))
 
     -- What is handed on after some were read goes on.
-    pub made_goes_on : IsWhole old → RefusesHandOut old NotReady → (mid new : Board (ReadDirSpec C A R E) (Read C A R E)) (given : Outcome R E) → ReadsBatch files process clone defaults job width old mid → HandsOnNext mid given new
-        → GoesOn files process clone defaults job width old (Some given) new
-    made_goes_on whole refused mid new given reads h =
+    pub made_goes_on : IsWhole old → RefusesHandOut old NotReady → (mid new : Board (ReadDirSpec C A R E) (Read C A R E)) (answer : Option (Outcome R E)) → ReadsBatch files process clone defaults job width old mid
+        → IsSomeAnd answer (λ given. HandsOnNext mid given new) → GoesOn files process clone defaults job width old answer new
+    made_goes_on whole refused mid new None reads h = absurd h
+    made_goes_on whole refused mid new (Some given) reads h =
         let more = some_more files process clone defaults job width (to_give old []) (to_give mid []) reads.reads in
         goes_on mid new given reads.reads.same
         (some_sound files process clone defaults job width (to_give old []) (to_give mid []) reads.reads Counts (λ over steady. steady.steady) was_sound)

@@ -1,5 +1,5 @@
 //! Directories that are taken, read and finished, one or several together.
-ghost use Rattle.std.specs.Prelude.{◌≡◌, [], false, length, min, map, Ok, IfOk, OnOk, All};
+ghost use Rattle.std.specs.Prelude.{◌≡◌, [], false, length, min, map, IfOk, OnOk, All};
 ghost use Rattle.std.specs.List.{AllZip};
 ghost use Rattle.jwalk_order.specs.Ordered.{child_count_of};
 ghost use Rattle.jwalk_read.specs.Job.{callback};
@@ -9,25 +9,19 @@ ghost use Rattle.jwalk_engine.specs.ReadAhead.{ahead_on, LeastLeave, Joins};
 ghost use Rattle.jwalk_engine.specs.Batch.{hand_of, held_by, with_children, made_at, seen_taken, IsMadeOf, MakesOf};
 ghost use Rattle.jwalk_engine.specs.BoardWalk.{ReadsBatch};
 
+use crate::pieces::{LEAST_PIECE, try_map_on};
 use crate::read::{Read, finish};
 use jwalk_board::board::{Board, TakeRefusal};
 use jwalk_order::index_path::IndexPath;
 use jwalk_order::ordered::Ordered;
 use jwalk_read::job::Job;
 use jwalk_read::read_dir::directories_of;
-use rayon::prelude::*;
 use read_parts::client_state::ClientState;
 use read_parts::process_read_dir::ProcessReadDir;
 use read_parts::read_dir_spec::ReadDirSpec;
 use std::alloc::{AllocError, Allocator};
 use std::thread::Threads;
 use walk_fs::file_system::FileSystem;
-
-/// How few readings are worth a thread: to start one costs as much as to read some small directories of a disk.
-const LEAST_PIECE: usize = 16;
-
-/// Into how many pieces a batch is split at most: each starts a thread of its own, which no pool keeps.
-const MOST_PIECES: usize = 8;
 
 /// A directory that was taken and read, and isn't finished yet: where it stands, what came of it, and the directories
 /// below it.
@@ -62,7 +56,9 @@ pub(crate) fn take_batch<C: ClientState, A: Allocator + Copy>(
             Ok(item) => taken.push_reserved(item),
             Err(TakeRefusal::Memory) => return Err(AllocError),
             // So many are queued, and nothing stops the board.
-            Err(_) => unreachable!(),
+            Err(TakeRefusal::Empty) => unreachable!(),
+            Err(TakeRefusal::Done) => unreachable!(),
+            Err(TakeRefusal::Stopped) => unreachable!(),
         }
     }
     Ok(taken)
@@ -109,56 +105,7 @@ pub(crate) fn read_in_turn<
 {
     let mut made = Vec::with_capacity(alloc, taken.len())?;
     for item in taken {
-        made.push(make(alloc, job, item)?)?;
-    }
-    Ok(made)
-}
-
-/// Reads the directories that were taken, each by itself, on several threads where there are enough of them. What came
-/// of each is there, also where another was refused memory.
-fn read_each_on<
-    R: Threads + Sync,
-    C: ClientState + Send,
-    S: FileSystem + Send + Sync,
-    P: ProcessReadDir<C, A> + Send + Sync,
-    A: Allocator + Copy + Send + Sync,
->(
-    rt: &R,
-    alloc: A,
-    job: &Job<C, S, P, A>,
-    taken: Vec<Ordered<ReadDirSpec<C, A>, A>, A>,
-) -> Result<Vec<Result<Made<C, A>, AllocError>, A>, AllocError>
-where
-    C::ReadDirState: Send,
-    C::DirEntryState: Send,
-    requires { P.IsLawful (callback job.now) }
-    ensures { IfOk result (λ v. AllZip (MakesOf S.FileSystem P.ProcessReadDir C.ReadDirState.Clone
-        C.DirEntryState.Default job.now) taken.items v.items) }
-{
-    let piece = taken.len().div_ceil(MOST_PIECES).max(LEAST_PIECE);
-    taken
-        .into_par_iter()
-        .with_min_len(piece)
-        .map(
-            |item: Ordered<ReadDirSpec<C, A>, A>| -> Result<Made<C, A>, AllocError>
-                requires { P.IsLawful (callback job.now) }
-                ensures { MakesOf S.FileSystem P.ProcessReadDir C.ReadDirState.Clone C.DirEntryState.Default
-                    job.entry.now item result }
-            { make(alloc, job, item) },
-        )
-        .collect(rt, alloc)
-}
-
-/// What was made, unless one of them was refused memory.
-fn all_made<C: ClientState, A: Allocator + Copy>(
-    alloc: A,
-    results: Vec<Result<Made<C, A>, AllocError>, A>,
-) -> Result<Vec<Made<C, A>, A>, AllocError>
-    ensures { IfOk result (λ v. map Ok v.items ≡ results.items) }
-{
-    let mut made = Vec::with_capacity(alloc, results.len())?;
-    for one in results {
-        made.push(one?)?;
+        made.push_reserved(make(alloc, job, item)?);
     }
     Ok(made)
 }
@@ -186,8 +133,16 @@ where
     if taken.len() < 2 * LEAST_PIECE {
         return read_in_turn(alloc, job, taken);
     }
-    let results = read_each_on(rt, alloc, job, taken)?;
-    all_made(alloc, results)
+    try_map_on(
+        rt,
+        alloc,
+        taken,
+        &|item: Ordered<ReadDirSpec<C, A>, A>| -> Result<Made<C, A>, AllocError>
+            requires { P.IsLawful (callback job.now) }
+            ensures { MakesOf S.FileSystem P.ProcessReadDir C.ReadDirState.Clone C.DirEntryState.Default
+                job.entry.now item result }
+        { make(alloc, job, item) },
+    )
 }
 
 /// Finishes what was made, the last first, so that the directories below come in order of their addresses.
@@ -211,7 +166,8 @@ pub(crate) fn finish_batch<C: ClientState, A: Allocator + Copy>(
     Ok(())
 }
 
-/// Takes a batch of the least specifications, reads their directories one after another, and finishes them all.
+/// Takes a batch of the least specifications, reads their directories one after another, and finishes them all. One
+/// alone is read without a list.
 pub(crate) fn read_batch<
     C: ClientState,
     S: FileSystem,
@@ -229,12 +185,15 @@ pub(crate) fn read_batch<
     ensures { OnOk result (ReadsBatch S.FileSystem P.ProcessReadDir C.ReadDirState.Clone C.DirEntryState.Default
         job.now width board.old board.new) }
 {
+    if width == 1 {
+        return read_least(alloc, job, board);
+    }
     let taken = take_batch(alloc, board, width)?;
     let made = read_in_turn(alloc, job, taken)?;
     finish_batch(board, made)
 }
 
-/// Takes a batch of the least specifications, reads their directories on several threads, and finishes them all.
+/// The same, with the directories read on several threads where there are enough of them.
 pub(crate) fn read_batch_on<
     R: Threads + Sync,
     C: ClientState + Send,
@@ -257,6 +216,9 @@ where
     ensures { OnOk result (ReadsBatch S.FileSystem P.ProcessReadDir C.ReadDirState.Clone C.DirEntryState.Default
         job.now width board.old board.new) }
 {
+    if width == 1 {
+        return read_least(alloc, job, board);
+    }
     let taken = take_batch(alloc, board, width)?;
     let made = read_on_threads(rt, alloc, job, taken)?;
     finish_batch(board, made)

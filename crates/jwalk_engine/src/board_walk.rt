@@ -1,6 +1,6 @@
 //! Readings of directories in preorder.
 ghost use Rattle.std.specs.Prelude.{◌≡◌, ◌≢◌, ◌≤◌, ◌+◌, [], false, length, map, option_map};
-ghost use Rattle.std.specs.Prelude.{IfOk, IfErr, IfSome, IfNone, OnOk, OnErr};
+ghost use Rattle.std.specs.Prelude.{IfOk, IfErr, IfSome, IsSomeAnd, IfNone, OnOk, OnErr};
 ghost use Rattle.jwalk_order.specs.Frontier.{next_address};
 ghost use Rattle.board_parts.specs.Addresses.{IsAmong};
 ghost use Rattle.board_parts.specs.Addressed.{addresses_of};
@@ -11,9 +11,9 @@ ghost use Rattle.jwalk_read.specs.ReadDir.{outcome};
 ghost use Rattle.jwalk_read.specs.Job.{callback};
 ghost use Rattle.jwalk_engine.specs.Reads.{to_give, ReadsNext};
 ghost use Rattle.jwalk_engine.specs.ReadAhead.{nothing_ahead, BeginsWith, EntersNext};
-ghost use Rattle.jwalk_engine.specs.BoardWalk.{Keeps, ReadsBatch, HandsOnNext, HandsOnIfAny, GoesOn};
+ghost use Rattle.jwalk_engine.specs.BoardWalk.{Keeps, HandsOnNext, HandsOnIfAny, GoesOn};
 
-use crate::batch::{read_batch, read_batch_on, read_least};
+use crate::batch::{read_batch, read_batch_on};
 use crate::read::{Outcome, Read};
 use jwalk_board::board::{Board, HandOutRefusal};
 use jwalk_read::job::Job;
@@ -42,16 +42,16 @@ fn hand_on<C: ClientState, A: Allocator + Copy>(
 /// Hands on the next reading, which is ready.
 fn hand_on_ready<C: ClientState, A: Allocator + Copy>(
     board: &mut Board<ReadDirSpec<C, A>, Read<C, A>, A>,
-) -> Result<Outcome<C, A>, AllocError>
+) -> Result<Option<Outcome<C, A>>, AllocError>
     requires none_in_hand { board.old.in_hand ≡ [] }
     requires running { board.old.stopped ≡ false }
     requires some { board.old.frontier ≢ [] }
     requires ready { IsAmong (next_address board.old.frontier) (addresses_of board.old.ready) }
-    ensures { IfOk result (λ o. HandsOnNext board.old (outcome o) board.new) }
+    ensures { IfOk result (λ o. IsSomeAnd (option_map outcome o) (λ given. HandsOnNext board.old given board.new)) }
 {
     let _pending = board.pending();
     match hand_on(board) {
-        Ok(outcome) => Ok(outcome),
+        Ok(outcome) => Ok(Some(outcome)),
         Err(HandOutRefusal::Memory) => Err(AllocError),
         Err(HandOutRefusal::Stopped) => unreachable!(),
         Err(HandOutRefusal::Done) => unreachable!(),
@@ -81,56 +81,6 @@ fn answer_ready<C: ClientState, A: Allocator + Copy>(
     }
 }
 
-/// Reads so many of the least directories, or all if there are fewer. One alone is read without a list.
-fn read_some<C: ClientState, S: FileSystem, P: ProcessReadDir<C, A>, A: Allocator + Copy>(
-    alloc: A,
-    job: &Job<C, S, P, A>,
-    board: &mut Board<ReadDirSpec<C, A>, Read<C, A>, A>,
-    width: usize,
-) -> Result<(), AllocError>
-    requires lawful { P.IsLawful (callback job.now) }
-    requires none_in_hand { board.old.in_hand ≡ [] }
-    requires running { board.old.stopped ≡ false }
-    ensures { OnOk result (ReadsBatch S.FileSystem P.ProcessReadDir C.ReadDirState.Clone C.DirEntryState.Default
-        job.now width board.old board.new) }
-{
-    if width == 1 {
-        read_least(alloc, job, board)
-    } else {
-        read_batch(alloc, job, board, width)
-    }
-}
-
-/// The same on several threads, where there are enough.
-fn read_some_on<
-    R: Threads + Sync,
-    C: ClientState + Send,
-    S: FileSystem + Send + Sync,
-    P: ProcessReadDir<C, A> + Send + Sync,
-    A: Allocator + Copy + Send + Sync,
->(
-    rt: &R,
-    alloc: A,
-    job: &Job<C, S, P, A>,
-    board: &mut Board<ReadDirSpec<C, A>, Read<C, A>, A>,
-    width: usize,
-) -> Result<(), AllocError>
-where
-    C::ReadDirState: Send,
-    C::DirEntryState: Send,
-    requires lawful { P.IsLawful (callback job.now) }
-    requires none_in_hand { board.old.in_hand ≡ [] }
-    requires running { board.old.stopped ≡ false }
-    ensures { OnOk result (ReadsBatch S.FileSystem P.ProcessReadDir C.ReadDirState.Clone C.DirEntryState.Default
-        job.now width board.old board.new) }
-{
-    if width == 1 {
-        read_least(alloc, job, board)
-    } else {
-        read_batch_on(rt, alloc, job, board, width)
-    }
-}
-
 /// The next reading, for which the least directories are read where it isn't there yet.
 fn read_next<C: ClientState, S: FileSystem, P: ProcessReadDir<C, A>, A: Allocator + Copy>(
     alloc: A,
@@ -149,9 +99,8 @@ fn read_next<C: ClientState, S: FileSystem, P: ProcessReadDir<C, A>, A: Allocato
     if let Some(answer) = answer_ready(board) {
         return answer;
     }
-    read_some(alloc, job, board, width)?;
-    let outcome = hand_on_ready(board)?;
-    Ok(Some(outcome))
+    read_batch(alloc, job, board, width)?;
+    hand_on_ready(board)
 }
 
 /// The same, with the directories read on several threads.
@@ -182,9 +131,8 @@ where
     if let Some(answer) = answer_ready(board) {
         return answer;
     }
-    read_some_on(rt, alloc, job, board, width)?;
-    let outcome = hand_on_ready(board)?;
-    Ok(Some(outcome))
+    read_batch_on(rt, alloc, job, board, width)?;
+    hand_on_ready(board)
 }
 
 /// Readings in preorder: a directory's, and then those of all that is below it. So many directories are read together,

@@ -3,4 +3,5 @@
 
 mod batch;
 pub mod board_walk;
+mod pieces;
 pub mod read;

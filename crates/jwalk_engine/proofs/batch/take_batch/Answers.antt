@@ -1,9 +1,10 @@
-use Rattle.std.proofs.Common.{◌≡◌, ◌∷◌, [], map, ap, sym, ◌∙◌, arith, subst, refl}
+use Rattle.std.proofs.Common.{◌≡◌, false, true, ◌∷◌, [], length, map, ap, sym, ◌∙◌, arith, subst, refl}
 use Rattle.std.specs.Prelude.{All}
 use Rattle.std.proofs.lemmas.List.Elements.{All-nil, All-cons, All-append}
 use Rattle.std.proofs.lemmas.Result.{IfOk-from_err}
 use Rattle.jwalk_order.specs.Ordered.{child_count_of}
 use Rattle.board_parts.specs.Addresses.{times}
+use Rattle.jwalk_board.specs.Refusal.{RefusesTake}
 use Rattle.jwalk_engine.specs.ToGive.{IsHeld}
 use Rattle.jwalk_engine.specs.Reads.{to_give}
 use Rattle.jwalk_engine.specs.ReadAhead.{ahead_on, LeastLeave}
@@ -93,3 +94,19 @@ returns-clause-frontier g c = c.loop.invariant.frontier
 
 pub returns-clause-running : goal.returns-clause-running
 returns-clause-running g c = c.loop.invariant.running
+
+pub unreachable-requires : goal.unreachable-requires
+unreachable-requires g c =
+    let refused = subst (RefusesTake c.loop.board) c.in-Err-Empty.field-0-is c.in-Err-Empty.ensures.refused in
+    omega (arith, ap length refused.1, c.loop.invariant.queued, c.loop.invariant.fewer)
+
+pub unreachable-requires-in-Err-Done : goal.unreachable-requires-in-Err-Done
+unreachable-requires-in-Err-Done g c =
+    let refused = subst (RefusesTake c.loop.board) c.in-Err-Done.field-0-is c.in-Err-Done.ensures.refused in
+    omega (arith, ap length refused.1, c.loop.invariant.queued, c.loop.invariant.fewer)
+
+pub unreachable-requires-in-Err-Stopped : goal.unreachable-requires-in-Err-Stopped
+unreachable-requires-in-Err-Stopped g c =
+    let refused = subst (RefusesTake c.loop.board) c.in-Err-Stopped.field-0-is c.in-Err-Stopped.ensures.refused in
+    let both : false ≡ true = sym c.loop.invariant.running ∙ refused in
+    cc

@@ -18,22 +18,21 @@ pub returns-in-Some-clause-goes_on : goal.returns-in-Some-clause-goes_on
 returns-in-Some-clause-goes_on g c =
     if_ok c.in-Some.answer (λ o. answer_goes_on g.S.FileSystem g.P.ProcessReadDir g.C.ReadDirState.Clone g.C.DirEntryState.Default c.args.job.now c.args.width c.args.board.now c.requires.keeps c.requires.width c.answer_ready.new.board (option_map outcome o)) c.in-Some.ensures.answer
 
-pub returns-in_err-read_some_on-clause-some : goal.returns-in_err-read_some_on-clause-some
-returns-in_err-read_some_on-clause-some g c =
+pub returns-in_err-read_batch_on-clause-some : goal.returns-in_err-read_batch_on-clause-some
+returns-in_err-read_batch_on-clause-some g c =
     on_err_always c.from_residual.result (first_left g.S.FileSystem g.P.ProcessReadDir g.C.ReadDirState.Clone g.C.DirEntryState.Default c.args.job.now c.args.width c.args.board.now c.requires.keeps c.pending-pending.ensures.whole c.in_default.ensures.unread.1)
 
 pub hand_on_ready-requires-clause-ready : goal.hand_on_ready-requires-clause-ready
 hand_on_ready-requires-clause-ready g c =
-    let reads = subst (λ b. ReadsBatch g.S.FileSystem g.P.ProcessReadDir g.C.ReadDirState.Clone g.C.DirEntryState.Default c.args.job.now c.args.width b c.read_some_on.new.board) c.in_default.ensures.unchanged c.in_ok-read_some_on.ensures in
-    subst (λ f. IsAmong (next_address f) (addresses_of c.read_some_on.new.board.ready)) (sym reads.frontier)
-    (next_is_read g.S.FileSystem g.P.ProcessReadDir g.C.ReadDirState.Clone g.C.DirEntryState.Default c.args.job.now c.args.width c.args.board.now (ahead_on c.read_some_on.new.board) c.pending-pending.ensures.whole reads.least c.requires.width c.requires.keeps.none_in_hand c.in_default.ensures.unread)
+    let reads = subst (λ b. ReadsBatch g.S.FileSystem g.P.ProcessReadDir g.C.ReadDirState.Clone g.C.DirEntryState.Default c.args.job.now c.args.width b c.read_batch_on.new.board) c.in_default.ensures.unchanged c.in_ok-read_batch_on.ensures in
+    subst (λ f. IsAmong (next_address f) (addresses_of c.read_batch_on.new.board.ready)) (sym reads.frontier)
+    (next_is_read g.S.FileSystem g.P.ProcessReadDir g.C.ReadDirState.Clone g.C.DirEntryState.Default c.args.job.now c.args.width c.args.board.now (ahead_on c.read_batch_on.new.board) c.pending-pending.ensures.whole reads.least c.requires.width c.requires.keeps.none_in_hand c.in_default.ensures.unread)
 
-pub returns-in_err-outcome-clause-some : goal.returns-in_err-outcome-clause-some
-returns-in_err-outcome-clause-some g c =
-    on_err_always c.from_residual-in_err-outcome.result (first_left g.S.FileSystem g.P.ProcessReadDir g.C.ReadDirState.Clone g.C.DirEntryState.Default c.args.job.now c.args.width c.args.board.now c.requires.keeps c.pending-pending.ensures.whole c.in_default.ensures.unread.1)
+pub returns-clause-some : goal.returns-clause-some
+returns-clause-some g c =
+    on_err_always c.hand_on_ready.result (first_left g.S.FileSystem g.P.ProcessReadDir g.C.ReadDirState.Clone g.C.DirEntryState.Default c.args.job.now c.args.width c.args.board.now c.requires.keeps c.pending-pending.ensures.whole c.in_default.ensures.unread.1)
 
 pub returns-clause-goes_on : goal.returns-clause-goes_on
 returns-clause-goes_on g c =
-    made_goes_on g.S.FileSystem g.P.ProcessReadDir g.C.ReadDirState.Clone g.C.DirEntryState.Default c.args.job.now c.args.width c.args.board.now c.requires.keeps c.pending-pending.ensures.whole c.in_default.ensures.unread c.read_some_on.new.board c.hand_on_ready.new.board (outcome c.in_ok-outcome.outcome)
-    (subst (λ b. ReadsBatch g.S.FileSystem g.P.ProcessReadDir g.C.ReadDirState.Clone g.C.DirEntryState.Default c.args.job.now c.args.width b c.read_some_on.new.board) c.in_default.ensures.unchanged c.in_ok-read_some_on.ensures)
-    c.in_ok-outcome.ensures
+    let reads = subst (λ b. ReadsBatch g.S.FileSystem g.P.ProcessReadDir g.C.ReadDirState.Clone g.C.DirEntryState.Default c.args.job.now c.args.width b c.read_batch_on.new.board) c.in_default.ensures.unchanged c.in_ok-read_batch_on.ensures in
+    if_ok c.hand_on_ready.result (λ o. made_goes_on g.S.FileSystem g.P.ProcessReadDir g.C.ReadDirState.Clone g.C.DirEntryState.Default c.args.job.now c.args.width c.args.board.now c.requires.keeps c.pending-pending.ensures.whole c.in_default.ensures.unread c.read_batch_on.new.board c.hand_on_ready.new.board (option_map outcome o) reads) c.hand_on_ready.ensures
