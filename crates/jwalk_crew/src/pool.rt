@@ -66,7 +66,7 @@ pub trait Pool<C: ClientState, S: FileSystem, P: ProcessReadDir<C, A>, A: Alloca
 }
 
 /// No crew. Nothing makes a value of it, so no walk is over one.
-#[derive(Drop)]
+#[derive(Debug, Drop)]
 pub struct NoPool(());
 
 impl<C: ClientState, S: FileSystem, P: ProcessReadDir<C, A>, A: Allocator + Copy> Pool<C, S, P, A>
