@@ -15,7 +15,6 @@ pub use Rattle.read_parts.specs as read_parts
 pub use Rattle.jwalk_read.specs as jwalk_read
 pub use Rattle.jwalk_process.specs as jwalk_process
 pub use Rattle.jwalk_order.specs as jwalk_order
-pub use Rattle.board_parts.specs as board_parts
 pub use Rattle.jwalk_board.specs as jwalk_board
 pub use Rattle.jwalk_engine.specs as jwalk_engine
 pub use Rattle.jwalk_crew.specs as jwalk_crew

@@ -13,20 +13,20 @@ use Rattle.std.specs.List.Sorted.{IsPermutation}
 use Rattle.std.specs.Option.{option_map}
 use Rattle.jwalk_order.specs.Frontier.{children_from, next_address, passed, roots as root_addresses}
 use Rattle.jwalk_order.specs.IndexPath.{is_before}
-use Rattle.board_parts.specs.Addresses.{times}
+use Rattle.jwalk_order.specs.Addresses.{times}
 use Rattle.jwalk_board.specs.Board.{Board, on_board, IsNew}
-use Rattle.board_parts.specs.Addressed.{Addressed, addresses_of, child_addresses, numbered, IsFirst}
+use Rattle.jwalk_order.specs.Addressed.{Addressed, addresses_of, child_addresses, numbered, IsFirst}
 use Rattle.jwalk_board.specs.Plan.{PlanTree, Falls, forest, node, read, subtree, specs_in_preorder, readings_in_preorder}
 use Rattle.jwalk_board.specs.Rehearsal.{Stage, MatchesRun, IsInOrder, Follows, trees}
-use Rattle.board_parts.specs.Siblings.{parent_address}
+use Rattle.jwalk_order.specs.Siblings.{parent_address}
 use Rattle.jwalk_board.specs.Run.{Run, is_among, is_queued, moved, move, taken_by, take_first, take_by, finish_by, hand_out_next}
 use Rattle.jwalk_board.specs.declared.board.moves.Move.{Move}
-use Rattle.board_parts.proofs.Children.{IsChild, HasParent, has_parent, child_from_times, times_from_child, times-contains, times-child_addresses, addresses_of-numbered}
+use Rattle.jwalk_order.proofs.Children.{IsChild, HasParent, has_parent, child_from_times, times_from_child, times-contains, times-child_addresses, addresses_of-numbered}
 use Rattle.jwalk_board.proofs.Hands.{in_hands-taken, in_hands-finished, in_hands-none, get_set_cases, get_replicate, Splits, splits, get_past, contains_map, find_first, find_none, times-filter}
 use Rattle.jwalk_board.proofs.Left.{not_before-below}
 use Rattle.jwalk_board.proofs.Opens.{times-on_board, times-addresses_of, is_below, whole_taken, whole_finished, whole_handed_out, whole_new, times_finished}
 use Rattle.jwalk_board.proofs.Preorders.{IsAscending, ascending-cross, ascending-once, unique, contains_first, contains_later, ascends, root_or_child, subtree-is, closed_below, children_there}
-use Rattle.board_parts.proofs.Sets.{times-append, times-permutation, times-itself, among_cases}
+use Rattle.jwalk_order.proofs.Sets.{times-append, times-permutation, times-itself, among_cases}
 use Rattle.jwalk_board.proofs.Steps.{first_among}
 
 or_true : (b : Bool) → (b || true) ≡ true

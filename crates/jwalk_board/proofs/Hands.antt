@@ -4,10 +4,10 @@ use Rattle.std.proofs.lemmas.Bool.{false≢true}
 use Rattle.std.proofs.lemmas.List.Elements.{Contains-append_right}
 use Rattle.std.specs.List.{slice_get, find, filter}
 use Rattle.jwalk_order.specs.IndexPath.{is_before}
-use Rattle.board_parts.specs.Addresses.{is_same, times}
+use Rattle.jwalk_order.specs.Addresses.{is_same, times}
 use Rattle.jwalk_board.specs.Run.{in_hands}
 use Rattle.jwalk_board.proofs.Preorders.{IsAscending}
-use Rattle.board_parts.proofs.Sets.{among_cases, same, times-itself}
+use Rattle.jwalk_order.proofs.Sets.{among_cases, same, times-itself}
 
 pub in_hands-taken : (a c : List ℕ) (hs : List (Option (List ℕ))) (k : ℕ) → slice_get hs k ≡ Some None → times a (in_hands (set hs k (Some c))) ≡ times a (c ∷ in_hands hs)
 in_hands-taken a c [] k h = absurd (let e : None ≡ Some None = h in cc)

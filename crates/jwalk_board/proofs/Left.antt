@@ -7,9 +7,9 @@ use Rattle.std.specs.Cmp.Lexicographic.{slice_cmp}
 use Rattle.std.specs.Ordering.{nat_cmp, is_lt, ordering_then}
 use Rattle.jwalk_order.specs.Frontier.{children_from}
 use Rattle.jwalk_order.specs.IndexPath.{is_before}
-use Rattle.board_parts.specs.Addresses.{times}
+use Rattle.jwalk_order.specs.Addresses.{times}
 use Rattle.jwalk_board.specs.Left.{is_left, IsLeftOf, IsApart}
-use Rattle.board_parts.proofs.Sets.{among_cases}
+use Rattle.jwalk_order.proofs.Sets.{among_cases}
 
 eqb-itself : (x : ℕ) → eqb x x ≡ true
 eqb-itself x = search arith

@@ -8,13 +8,13 @@ use Rattle.std.proofs.lemmas.List.Sorted.{IsPermutation-map, All-permutation}
 use Rattle.std.specs.List.Sorted.{IsPermutation}
 use Rattle.jwalk_order.specs.Frontier.{children_from, next_address, passed}
 use Rattle.jwalk_order.specs.IndexPath.{is_before}
-use Rattle.board_parts.specs.Addresses.{times}
+use Rattle.jwalk_order.specs.Addresses.{times}
 use Rattle.jwalk_board.specs.Board.{Board, IsOpen, of_frontier, of_parent, on_board, IsWhole, HoldsOpen, IsNew}
 use Rattle.jwalk_board.specs.Left.{is_left, IsApart}
-use Rattle.board_parts.specs.Addressed.{Addressed, addresses_of, child_addresses, numbered}
-use Rattle.board_parts.proofs.Children.{has_parent, HasParent, times-contains, times-child_addresses, children-once, child_from_times, child_addresses-permutation, addresses_of-numbered, unread-numbered}
+use Rattle.jwalk_order.specs.Addressed.{Addressed, addresses_of, child_addresses, numbered}
+use Rattle.jwalk_order.proofs.Children.{has_parent, HasParent, times-contains, times-child_addresses, children-once, child_from_times, child_addresses-permutation, addresses_of-numbered, unread-numbered}
 use Rattle.jwalk_board.proofs.Left.{apart_children, apart_passed, apart_pair, left_of-among, not_left-below, not_left-above, left-before, not_before-below, left-below}
-use Rattle.board_parts.proofs.Sets.{times-append, times-permutation, times-itself, among_cases}
+use Rattle.jwalk_order.proofs.Sets.{times-append, times-permutation, times-itself, among_cases}
 
 module _ {V : Type 0} where
   pub times-addresses_of : (a : List ℕ) (xs ys : List (Addressed V)) → IsPermutation xs ys → times a (addresses_of ys) ≡ times a (addresses_of xs)

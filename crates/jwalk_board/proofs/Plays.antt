@@ -9,11 +9,11 @@ use Rattle.std.specs.Option.{option_map}
 use Rattle.jwalk_order.specs.Ordered.{address_of}
 use Rattle.jwalk_order.specs.declared.ordered.Ordered.{Ordered}
 use Rattle.jwalk_board.specs.Board.{Board, IsNew, Takes, Finishes, HandsOut}
-use Rattle.board_parts.specs.Addressed.{Addressed, addressed, addresses_of, numbered}
+use Rattle.jwalk_order.specs.Addressed.{Addressed, addressed, addresses_of, numbered}
 use Rattle.jwalk_board.specs.Plan.{PlanTree, Falls, node, read, specs_in_preorder}
 use Rattle.jwalk_board.specs.Refusal.{RefusesTake, RefusesHandOut}
 use Rattle.jwalk_board.specs.Seen.{seen, seen_item, seen_board}
-use Rattle.board_parts.specs.Addresses.{times}
+use Rattle.jwalk_order.specs.Addresses.{times}
 use Rattle.jwalk_order.specs.Frontier.{next_address, roots as root_addresses}
 use Rattle.jwalk_order.specs.IndexPath.{is_before}
 use Rattle.std.proofs.lemmas.List.Elements.{All-map}

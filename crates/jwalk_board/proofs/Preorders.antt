@@ -8,13 +8,13 @@ use Rattle.std.specs.Cmp.Lexicographic.{slice_cmp}
 use Rattle.std.specs.Ordering.{nat_cmp, is_lt, ordering_then}
 use Rattle.jwalk_order.specs.IndexPath.{is_before}
 use Rattle.std.proofs.Math.Nat.{eq-zero-or-pos}
-use Rattle.board_parts.specs.Addresses.{is_same, times}
+use Rattle.jwalk_order.specs.Addresses.{is_same, times}
 use Rattle.jwalk_board.specs.Left.{is_left}
-use Rattle.board_parts.specs.Addressed.{Addressed, addresses_of, numbered}
+use Rattle.jwalk_order.specs.Addressed.{Addressed, addresses_of, numbered}
 use Rattle.jwalk_board.specs.Plan.{PlanTree, Falls, forest, node, subtree_within, subtree, specs_in_preorder}
-use Rattle.board_parts.proofs.Children.{HasParent, IsChild, times-contains, at_most_one}
+use Rattle.jwalk_order.proofs.Children.{HasParent, IsChild, times-contains, at_most_one}
 use Rattle.jwalk_board.proofs.Left.{left-below, left-children, not_before-below}
-use Rattle.board_parts.proofs.Sets.{same, times-append, times-itself, among_cases}
+use Rattle.jwalk_order.proofs.Sets.{same, times-append, times-itself, among_cases}
 
 -- ---- the order of addresses
 

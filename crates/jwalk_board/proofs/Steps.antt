@@ -8,11 +8,11 @@ use Rattle.jwalk_order.specs.IndexPath.{is_before}
 use Rattle.jwalk_order.specs.Ordered.{address_of, child_count_of}
 use Rattle.jwalk_order.specs.declared.ordered.Ordered.{Ordered}
 use Rattle.jwalk_order.proofs.AddressOrder.{same_address}
-use Rattle.board_parts.specs.Addresses.{times}
+use Rattle.jwalk_order.specs.Addresses.{times}
 use Rattle.jwalk_board.specs.Board.{Board, on_board, IsWhole, Takes, Finishes, HandsOut}
-use Rattle.board_parts.specs.Addressed.{Addressed, addressed, addresses_of, IsFirst}
+use Rattle.jwalk_order.specs.Addressed.{Addressed, addressed, addresses_of, IsFirst}
 use Rattle.jwalk_board.proofs.Opens.{times-on_board, next_there, next_least, whole_taken, whole_finished, whole_handed_out}
-use Rattle.board_parts.proofs.Sets.{among_cases}
+use Rattle.jwalk_order.proofs.Sets.{among_cases}
 
 module _ {V : Type 0} where
   pub first_among : (a c : List ℕ) (items : List (Addressed V)) → IsFirst a items → 0 < times c (addresses_of items) → is_before c a ≡ false

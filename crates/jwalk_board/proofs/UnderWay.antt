@@ -7,7 +7,7 @@ use Rattle.std.specs.List.{slice_get}
 use Rattle.std.specs.Option.{option_map}
 use Rattle.jwalk_order.specs.Ordered.{address_of}
 use Rattle.jwalk_order.specs.declared.ordered.Ordered.{Ordered}
-use Rattle.board_parts.specs.Addresses.{times}
+use Rattle.jwalk_order.specs.Addresses.{times}
 use Rattle.jwalk_board.specs.Board.{Board, IsNew, Takes, Finishes}
 use Rattle.jwalk_board.specs.Refusal.{RefusesFinish}
 use Rattle.jwalk_board.specs.Run.{in_hands}
@@ -16,7 +16,7 @@ use Rattle.jwalk_board.specs.declared.board.refusal.FinishRefusal.{FinishRefusal
 use Rattle.jwalk_board.specs.declared.board.refusal.FinishRefusal.TheVariants as finishing
 use Rattle.jwalk_board.proofs.Hands.{in_hands-taken, in_hands-finished, in_hands-none}
 use Rattle.jwalk_board.proofs.Plays.{map_none}
-use Rattle.board_parts.proofs.Sets.{times-permutation, times-itself}
+use Rattle.jwalk_order.proofs.Sets.{times-permutation, times-itself}
 
 module _ {T R A : Type 0} where
   pub begins : (specs : List T) (b : Board T R) (workers : ℕ) (hands : List (Option (Ordered T A))) → IsNew specs b → hands ≡ replicate workers None → IsUnderWay hands b

@@ -5,9 +5,9 @@ use Rattle.jwalk_order.specs.Frontier.{next_address, passed, roots}
 use Rattle.jwalk_order.specs.IndexPath.{is_before}
 use Rattle.jwalk_order.specs.Ordered.{address_of, child_count_of}
 use Rattle.jwalk_order.specs.declared.ordered.Ordered.{Ordered}
-use Rattle.board_parts.specs.Addresses.{times, IsAmong}
+use Rattle.jwalk_order.specs.Addresses.{times, IsAmong}
 use Rattle.jwalk_board.specs.Left.{IsApart}
-use Rattle.board_parts.specs.Addressed.{Addressed, addressed, addresses_of, child_addresses, numbered, IsFirst}
+use Rattle.jwalk_order.specs.Addressed.{Addressed, addressed, addresses_of, child_addresses, numbered, IsFirst}
 
 -- No list but the frontier is in a particular order.
 pub record Board (T R : Type 0) : Type 0 where

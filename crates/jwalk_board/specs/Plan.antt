@@ -1,6 +1,6 @@
 -- The readings of a tree of specifications, a parent before its children.
 use Rattle.std.specs.Prelude.{ℕ, zero, suc, ◌+◌, ◌<◌, List, [], ◌∷◌, ◌++◌, length, map, All}
-use Rattle.board_parts.specs.Addressed.{Addressed}
+use Rattle.jwalk_order.specs.Addressed.{Addressed}
 
 -- What a fixed plan answers.
 pub record PlanTree (S R : Type 0) : Type 0 where

@@ -1,9 +1,9 @@
 -- When a board refuses.
 use Rattle.std.specs.Prelude.{◌≡◌, ◌≢◌, ℕ, true, false, List, [], ◌⊎◌}
 use Rattle.jwalk_order.specs.Frontier.{next_address}
-use Rattle.board_parts.specs.Addresses.{IsAmong}
+use Rattle.jwalk_order.specs.Addresses.{IsAmong}
 use Rattle.jwalk_board.specs.Board.{Board}
-use Rattle.board_parts.specs.Addressed.{addresses_of}
+use Rattle.jwalk_order.specs.Addressed.{addresses_of}
 use Rattle.jwalk_board.specs.declared.board.refusal.TakeRefusal.{TakeRefusal}
 use Rattle.jwalk_board.specs.declared.board.refusal.TakeRefusal.TheVariants as taking
 use Rattle.jwalk_board.specs.declared.board.refusal.FinishRefusal.{FinishRefusal}

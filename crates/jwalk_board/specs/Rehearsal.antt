@@ -3,9 +3,9 @@ use Rattle.std.specs.Prelude.{◌≡◌, ℕ, ◌+◌, ◌≤◌, false, List, [
 use Rattle.std.specs.List.{filter}
 use Rattle.std.specs.Option.{option_map}
 use Rattle.jwalk_order.specs.Frontier.{roots as root_addresses}
-use Rattle.board_parts.specs.Addresses.{times}
+use Rattle.jwalk_order.specs.Addresses.{times}
 use Rattle.jwalk_board.specs.Board.{Board, on_board, IsWhole}
-use Rattle.board_parts.specs.Addressed.{Addressed, addresses_of, child_addresses}
+use Rattle.jwalk_order.specs.Addressed.{Addressed, addresses_of, child_addresses}
 use Rattle.jwalk_board.specs.Plan.{PlanTree, node, read, subtree, specs_in_preorder, readings_in_preorder}
 use Rattle.jwalk_board.specs.Run.{Run, is_queued, in_hands}
 

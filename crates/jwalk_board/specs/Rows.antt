@@ -3,7 +3,7 @@ use Rattle.std.specs.Prelude.{◌≡◌, ℕ, ◌-◌, ◌<◌, true, false, con
 use Rattle.std.proofs.Common.{arith}
 use Rattle.std.proofs.lemmas.Bool.{eqb-true}
 use Rattle.std.proofs.lemmas.List.Elements.{All-nil, All-cons}
-use Rattle.board_parts.specs.Addressed.{Addressed, addresses_of}
+use Rattle.jwalk_order.specs.Addressed.{Addressed, addresses_of}
 use Rattle.jwalk_board.specs.Plan.{PlanTree, Falls, readings_in_preorder, specs_in_preorder}
 use Rattle.jwalk_board.specs.Run.{run_of_moves}
 use Rattle.jwalk_board.specs.declared.board.moves.Move.TheVariants.{Take, Finish, HandOut}

@@ -1,8 +1,8 @@
 -- What a list of moves does, over the addresses of a preorder alone.
 use Rattle.std.specs.Prelude.{ℕ, ◌+◌, ◌-◌, Bool, cond, not, nat_lt, ◌&&◌, ◌||◌, ◌==◌, List, [], ◌∷◌, ◌++◌, length, slice_get, slice_set, replicate, Option, Some, None}
 use Rattle.std.specs.List.{find}
-use Rattle.board_parts.specs.Addresses.{times}
-use Rattle.board_parts.specs.Siblings.{parent_address}
+use Rattle.jwalk_order.specs.Addresses.{times}
+use Rattle.jwalk_order.specs.Siblings.{parent_address}
 use Rattle.jwalk_board.specs.declared.board.moves.Move.{Move}
 use Rattle.jwalk_board.specs.declared.board.moves.Move.TheVariants.{Take, Finish, HandOut}
 

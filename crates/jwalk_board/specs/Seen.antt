@@ -2,7 +2,7 @@
 use Rattle.std.specs.Prelude.{map}
 use Rattle.jwalk_order.specs.declared.ordered.Ordered.{Ordered}
 use Rattle.jwalk_board.specs.Board.{Board}
-use Rattle.board_parts.specs.Addressed.{Addressed, addressed}
+use Rattle.jwalk_order.specs.Addressed.{Addressed, addressed}
 
 -- A value is seen at its address.
 abbrev pub seen : {V W : Type 0} → (V → W) → Addressed V → Addressed W

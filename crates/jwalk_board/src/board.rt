@@ -2,16 +2,16 @@
 ghost use Rattle.std.specs.Prelude.{◌≡◌, ◌+◌, ◌<◌, ◌++◌, ◌↔◌, length, true, IfErr, IfOk, IsTrue, OnErr, OnOk};
 ghost use Rattle.std.specs.List.Sorted.{IsPermutation};
 ghost use Rattle.jwalk_order.specs.IndexPath.{address as indices_of};
-ghost use Rattle.board_parts.specs.Addressed.{numbered};
+ghost use Rattle.jwalk_order.specs.Addressed.{numbered};
 ghost use Rattle.jwalk_board.specs.Board.{Finishes, HandsOut, HoldsOpen, IsNew, IsNextReady, IsWhole, Takes};
 ghost use Rattle.jwalk_board.specs.Refusal.{RefusesFinish, RefusesHandOut, RefusesTake};
 
-use board_parts::address_heap::AddressHeap;
-use board_parts::address_set::AddressSet;
-use board_parts::sibling_queue::SiblingQueue;
+use jwalk_order::address_heap::AddressHeap;
+use jwalk_order::address_set::AddressSet;
 use jwalk_order::index_path::IndexPath;
 use jwalk_order::ordered::Ordered;
 use jwalk_order::ordered_queue::OrderedMatcher;
+use jwalk_order::sibling_queue::SiblingQueue;
 use std::alloc::{Allocator, Global};
 use std::marker::Model;
 

@@ -9,7 +9,7 @@ use Rattle.walk_fs.specs.declared.file_system.FileSystem as FileSystem
 use Rattle.jwalk_order.specs.Frontier.{next_address}
 use Rattle.jwalk_order.specs.Ordered.{address_of}
 use Rattle.jwalk_order.specs.declared.ordered.Ordered.{Ordered}
-use Rattle.board_parts.specs.Addressed.{addressed}
+use Rattle.jwalk_order.specs.Addressed.{addressed}
 use Rattle.read_parts.specs.declared.process_read_dir.ProcessReadDir as ProcessReadDir
 use Rattle.read_parts.specs.Given.{Given, counted_spec}
 use Rattle.jwalk_read.specs.Job.{options_of}

@@ -14,7 +14,7 @@ use Rattle.walk_model.proofs.CountedFacts.{counted-children_of}
 use Rattle.walk_fs.specs.declared.file_system.FileSystem as FileSystem
 use Rattle.jwalk_order.specs.Ordered.{address_of}
 use Rattle.jwalk_order.specs.declared.ordered.Ordered.{Ordered}
-use Rattle.board_parts.specs.Addressed.{Addressed, addressed, numbered}
+use Rattle.jwalk_order.specs.Addressed.{Addressed, addressed, numbered}
 use Rattle.jwalk_board.specs.Board.{Board, IsNew, Takes, HandsOut, Finishes}
 use Rattle.read_parts.specs.declared.process_read_dir.ProcessReadDir as ProcessReadDir
 use Rattle.jwalk_read.specs.declared.job.Job.{Job}

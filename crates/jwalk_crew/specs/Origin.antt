@@ -6,7 +6,7 @@ use Rattle.walk_model.specs.Counted.{Worth, spec_by}
 use Rattle.walk_model.specs.Job.{reading}
 use Rattle.walk_model.specs.ReadDir.{Spec, children_of, AreClones}
 use Rattle.walk_fs.specs.declared.file_system.FileSystem as FileSystem
-use Rattle.board_parts.specs.Addressed.{Addressed}
+use Rattle.jwalk_order.specs.Addressed.{Addressed}
 use Rattle.jwalk_board.specs.Board.{Board}
 use Rattle.read_parts.specs.declared.process_read_dir.ProcessReadDir as ProcessReadDir
 use Rattle.jwalk_read.specs.declared.job.Job.{Job}

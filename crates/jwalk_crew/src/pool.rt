@@ -2,7 +2,7 @@
 ghost use Rattle.std.specs.Prelude.{◌≡◌, ℕ, List, [], IfOk, IsOk};
 ghost use Rattle.jwalk_order.specs.Frontier.{passed};
 ghost use Rattle.jwalk_order.specs.Ordered.{child_count_of};
-ghost use Rattle.board_parts.specs.Addressed.{addressed};
+ghost use Rattle.jwalk_order.specs.Addressed.{addressed};
 ghost use Rattle.jwalk_crew.specs.Due.{IsDue};
 ghost use Rattle.jwalk_crew.specs.Origin.{Origin, IsMessageOf};
 ghost use Rattle.crew_parts.specs.Wanted.{Fits};

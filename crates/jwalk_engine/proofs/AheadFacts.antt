@@ -19,10 +19,10 @@ use Rattle.jwalk_order.specs.IndexPath.{address, is_before}
 use Rattle.jwalk_order.specs.Ordered.{address_of, child_count_of}
 use Rattle.jwalk_order.specs.declared.ordered.Ordered.{Ordered}
 use Rattle.jwalk_board.specs.Board.{Board, IsWhole, IsNew, Takes, Finishes}
-use Rattle.board_parts.specs.Addressed.{Addressed, addressed, addresses_of, numbered, IsFirst}
-use Rattle.board_parts.specs.Addresses.{is_same, times}
+use Rattle.jwalk_order.specs.Addressed.{Addressed, addressed, addresses_of, numbered, IsFirst}
+use Rattle.jwalk_order.specs.Addresses.{is_same, times}
 use Rattle.jwalk_board.proofs.Opens.{times-addresses_of, times-on_board}
-use Rattle.board_parts.proofs.Sets.{times-itself}
+use Rattle.jwalk_order.proofs.Sets.{times-itself}
 use Rattle.jwalk_board.specs.Seen.{seen}
 use Rattle.read_parts.specs.declared.process_read_dir.ProcessReadDir as ProcessReadDir
 use Rattle.read_parts.specs.declared.read_dir_spec.ReadDirSpec.{ReadDirSpec}

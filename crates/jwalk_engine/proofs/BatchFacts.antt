@@ -15,10 +15,10 @@ use Rattle.walk_model.specs.ReadDir.{Spec}
 use Rattle.jwalk_order.specs.IndexPath.{address}
 use Rattle.jwalk_order.specs.Ordered.{address_of, child_count_of}
 use Rattle.jwalk_order.specs.declared.ordered.Ordered.{Ordered}
-use Rattle.board_parts.specs.Addresses.{times}
+use Rattle.jwalk_order.specs.Addresses.{times}
 use Rattle.jwalk_board.specs.Board.{Board, IsWhole, Takes, Finishes}
-use Rattle.board_parts.specs.Addressed.{Addressed, addressed, addresses_of}
-use Rattle.board_parts.proofs.Sets.{times-permutation, times-itself}
+use Rattle.jwalk_order.specs.Addressed.{Addressed, addressed, addresses_of}
+use Rattle.jwalk_order.proofs.Sets.{times-permutation, times-itself}
 use Rattle.jwalk_board.proofs.Opens.{whole_finished}
 use Rattle.read_parts.specs.declared.read_dir_spec.ReadDirSpec.{ReadDirSpec}
 use Rattle.read_parts.specs.ReadDirSpec.{spec}

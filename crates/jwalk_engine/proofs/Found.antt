@@ -5,10 +5,10 @@ use Rattle.std.specs.Prelude.{All}
 use Rattle.std.specs.List.Sorted.{IsPermutation}
 use Rattle.std.proofs.lemmas.List.Elements.{All-nil, All-cons, All-head, All-tail}
 use Rattle.std.proofs.lemmas.List.Sorted.{All-permutation}
-use Rattle.board_parts.specs.Addresses.{is_same, times}
-use Rattle.board_parts.specs.Addressed.{Addressed, addresses_of}
+use Rattle.jwalk_order.specs.Addresses.{is_same, times}
+use Rattle.jwalk_order.specs.Addressed.{Addressed, addresses_of}
 use Rattle.jwalk_board.proofs.Opens.{times-addresses_of}
-use Rattle.board_parts.proofs.Sets.{is_same-itself}
+use Rattle.jwalk_order.proofs.Sets.{is_same-itself}
 use Rattle.jwalk_engine.specs.ToGive.{found_at}
 
 module _ {X V : Type 0} (v : X → V) where

@@ -11,14 +11,14 @@ use Rattle.walk_model.specs.ReadDir.{Spec, Outcome}
 use Rattle.walk_fs.specs.declared.file_system.FileSystem as FileSystem
 use Rattle.jwalk_order.specs.Frontier.{next_address}
 use Rattle.jwalk_order.specs.IndexPath.{is_before}
-use Rattle.board_parts.specs.Addresses.{is_same, times, IsAmong}
+use Rattle.jwalk_order.specs.Addresses.{is_same, times, IsAmong}
 use Rattle.jwalk_order.specs.declared.ordered.Ordered.{Ordered}
 use Rattle.jwalk_board.specs.Board.{Board, IsWhole, HandsOut}
-use Rattle.board_parts.specs.Addressed.{Addressed, addressed, addresses_of}
+use Rattle.jwalk_order.specs.Addressed.{Addressed, addressed, addresses_of}
 use Rattle.jwalk_board.specs.Seen.{seen}
 use Rattle.jwalk_board.specs.Refusal.{RefusesHandOut}
 use Rattle.jwalk_board.specs.declared.board.refusal.HandOutRefusal.TheVariants.{NotReady}
-use Rattle.board_parts.proofs.Sets.{same, times-append, times-permutation, times-itself}
+use Rattle.jwalk_order.proofs.Sets.{same, times-append, times-permutation, times-itself}
 use Rattle.jwalk_board.proofs.Opens.{times-addresses_of, times-on_board, next_least}
 use Rattle.read_parts.specs.declared.process_read_dir.ProcessReadDir as ProcessReadDir
 use Rattle.read_parts.specs.declared.read_dir_spec.ReadDirSpec.{ReadDirSpec}

@@ -12,10 +12,10 @@ use Rattle.walk_model.specs.ReadDir.{Spec, children_of, AreClones}
 use Rattle.walk_fs.specs.declared.file_system.FileSystem as FileSystem
 use Rattle.jwalk_order.specs.Ordered.{address_of}
 use Rattle.jwalk_order.specs.declared.ordered.Ordered.{Ordered}
-use Rattle.board_parts.specs.Addresses.{times}
+use Rattle.jwalk_order.specs.Addresses.{times}
 use Rattle.jwalk_board.specs.Board.{Board, IsWhole, Takes, Finishes}
-use Rattle.board_parts.specs.Addressed.{addressed}
-use Rattle.board_parts.proofs.Sets.{times-permutation}
+use Rattle.jwalk_order.specs.Addressed.{addressed}
+use Rattle.jwalk_order.proofs.Sets.{times-permutation}
 use Rattle.jwalk_board.proofs.Opens.{whole_taken, whole_finished}
 use Rattle.read_parts.specs.declared.process_read_dir.ProcessReadDir as ProcessReadDir
 use Rattle.read_parts.specs.declared.read_dir_spec.ReadDirSpec.{ReadDirSpec}

@@ -9,12 +9,12 @@ use Rattle.std.proofs.lemmas.List.Sorted.{IsPermutation-map}
 use Rattle.jwalk_order.specs.Frontier.{children_from, next_address, passed, roots}
 use Rattle.jwalk_order.specs.Ordered.{address_of, child_count_of}
 use Rattle.jwalk_order.specs.declared.ordered.Ordered.{Ordered}
-use Rattle.board_parts.specs.Addresses.{is_same, times}
+use Rattle.jwalk_order.specs.Addresses.{is_same, times}
 use Rattle.jwalk_board.specs.Board.{Board, on_board, IsWhole, IsNew, Takes, Finishes, HandsOut}
-use Rattle.board_parts.specs.Addressed.{Addressed, addressed, addresses_of, child_addresses, numbered}
-use Rattle.board_parts.proofs.Children.{addresses_of-numbered, children-once, child_addresses-permutation}
+use Rattle.jwalk_order.specs.Addressed.{Addressed, addressed, addresses_of, child_addresses, numbered}
+use Rattle.jwalk_order.proofs.Children.{addresses_of-numbered, children-once, child_addresses-permutation}
 use Rattle.jwalk_board.proofs.Opens.{whole_new, times-addresses_of, times-on_board, times_finished, next_there}
-use Rattle.board_parts.proofs.Sets.{same, times-append, times-itself}
+use Rattle.jwalk_order.proofs.Sets.{same, times-append, times-itself}
 use Rattle.jwalk_engine.specs.ToGive.{found_at, IsHeld, spec_at, specs_at, with_below, to_give, Makes, HandsOn}
 use Rattle.jwalk_engine.proofs.Found.{found_at-append, found_at-none, found_at-first, found_at-permutation, nothing_found}
 

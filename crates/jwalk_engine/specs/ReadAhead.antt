@@ -6,9 +6,9 @@ use Rattle.std.specs.declared.default.Default as Default
 use Rattle.walk_model.specs.ReadDir.{Spec}
 use Rattle.walk_fs.specs.declared.file_system.FileSystem as FileSystem
 use Rattle.jwalk_order.specs.IndexPath.{is_before}
-use Rattle.board_parts.specs.Addresses.{IsAmong}
+use Rattle.jwalk_order.specs.Addresses.{IsAmong}
 use Rattle.jwalk_board.specs.Board.{Board}
-use Rattle.board_parts.specs.Addressed.{Addressed, addresses_of, numbered}
+use Rattle.jwalk_order.specs.Addressed.{Addressed, addresses_of, numbered}
 use Rattle.jwalk_board.specs.Seen.{seen}
 use Rattle.read_parts.specs.declared.process_read_dir.ProcessReadDir as ProcessReadDir
 use Rattle.read_parts.specs.declared.read_dir_spec.ReadDirSpec.{ReadDirSpec}

@@ -6,7 +6,7 @@ use Rattle.std.specs.declared.default.Default as Default
 use Rattle.walk_model.specs.ReadDir.{Spec, Outcome, IsLawful, list_of, children_of, AreClones}
 use Rattle.walk_fs.specs.declared.file_system.FileSystem as FileSystem
 use Rattle.jwalk_board.specs.Board.{Board}
-use Rattle.board_parts.specs.Addressed.{Addressed}
+use Rattle.jwalk_order.specs.Addressed.{Addressed}
 use Rattle.read_parts.specs.declared.process_read_dir.ProcessReadDir as ProcessReadDir
 use Rattle.read_parts.specs.declared.read_dir_spec.ReadDirSpec.{ReadDirSpec}
 use Rattle.jwalk_read.specs.declared.job.Job.{Job}

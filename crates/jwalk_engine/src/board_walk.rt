@@ -2,8 +2,8 @@
 ghost use Rattle.std.specs.Prelude.{◌≡◌, ◌≢◌, ◌≤◌, ◌+◌, [], false, length, map, option_map};
 ghost use Rattle.std.specs.Prelude.{IfOk, IfErr, IfSome, IsSomeAnd, IfNone, OnOk, OnErr};
 ghost use Rattle.jwalk_order.specs.Frontier.{next_address};
-ghost use Rattle.board_parts.specs.Addresses.{IsAmong};
-ghost use Rattle.board_parts.specs.Addressed.{addresses_of};
+ghost use Rattle.jwalk_order.specs.Addresses.{IsAmong};
+ghost use Rattle.jwalk_order.specs.Addressed.{addresses_of};
 ghost use Rattle.jwalk_board.specs.Refusal.{RefusesHandOut};
 ghost use Rattle.jwalk_board.specs.declared.board.refusal.HandOutRefusal.TheVariants.{NotReady};
 ghost use Rattle.read_parts.specs.ReadDirSpec.{spec};

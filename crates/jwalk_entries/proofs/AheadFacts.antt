@@ -10,7 +10,7 @@ use Rattle.std.specs.declared.default.Default as Default
 use Rattle.walk_model.specs.Entry.{Item, has_directory}
 use Rattle.walk_model.specs.ReadDir.{Spec, Outcome}
 use Rattle.walk_fs.specs.declared.file_system.FileSystem as FileSystem
-use Rattle.board_parts.specs.Addressed.{addresses_of}
+use Rattle.jwalk_order.specs.Addressed.{addresses_of}
 use Rattle.read_parts.specs.declared.process_read_dir.ProcessReadDir as ProcessReadDir
 use Rattle.jwalk_read.specs.declared.job.Job.{Job}
 use Rattle.jwalk_read.specs.Job.{greatest_depth}

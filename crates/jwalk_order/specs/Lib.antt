@@ -1,7 +1,11 @@
+pub mod Addressed
+pub mod Addresses
 pub mod Frontier
+pub mod Heap
 pub mod IndexPath
 pub mod Ordered
 pub mod OrderedMatcher
 pub mod OrderedQueue
 pub mod OrderedQueueIter
+pub mod Siblings
 pub mod Step

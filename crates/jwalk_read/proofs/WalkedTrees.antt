@@ -6,7 +6,7 @@ use Rattle.std.proofs.lemmas.Simd.{map-map}
 use Rattle.walk_model.specs.ReadDir.{Spec, Outcome, children_of}
 use Rattle.walk_model.specs.Job.{Job, reading}
 use Rattle.walk_model.specs.Preorder.{readings}
-use Rattle.board_parts.specs.Addressed.{Addressed}
+use Rattle.jwalk_order.specs.Addressed.{Addressed}
 use Rattle.jwalk_board.specs.Plan.{forest, read, subtree, subtree_within, specs_in_preorder}
 use Rattle.jwalk_read.specs.Plan.{tree_of, TreesAreWalked}
 

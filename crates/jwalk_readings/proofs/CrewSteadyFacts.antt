@@ -14,7 +14,7 @@ use Rattle.walk_fs.specs.declared.file_system.FileSystem as FileSystem
 use Rattle.jwalk_order.specs.Frontier.{children_from, roots, passed, next_address}
 use Rattle.jwalk_order.specs.Ordered.{address_of, child_count_of}
 use Rattle.jwalk_order.specs.declared.ordered.Ordered.{Ordered}
-use Rattle.board_parts.specs.Addressed.{addressed}
+use Rattle.jwalk_order.specs.Addressed.{addressed}
 use Rattle.read_parts.specs.declared.process_read_dir.ProcessReadDir as ProcessReadDir
 use Rattle.jwalk_read.specs.declared.job.Job.{Job}
 use Rattle.read_parts.specs.declared.error.Error.{Error}

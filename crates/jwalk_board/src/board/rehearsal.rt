@@ -1,6 +1,6 @@
 //! Moves played on a board.
 ghost use Rattle.std.specs.Prelude.{◌≡◌, false, map, IfOk, replicate};
-ghost use Rattle.board_parts.specs.Addressed.{addresses_of};
+ghost use Rattle.jwalk_order.specs.Addressed.{addresses_of};
 ghost use Rattle.jwalk_board.specs.Plan.{readings_in_preorder, specs_in_preorder};
 ghost use Rattle.jwalk_board.specs.Rehearsal.{MatchesRun, IsInOrder};
 ghost use Rattle.jwalk_board.specs.Run.{run_of_moves};

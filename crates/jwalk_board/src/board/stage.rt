@@ -1,6 +1,6 @@
 // A rehearsal under way.
 ghost use Rattle.std.specs.Prelude.{List, OnOk};
-ghost use Rattle.board_parts.specs.Addressed.{addresses_of};
+ghost use Rattle.jwalk_order.specs.Addressed.{addresses_of};
 ghost use Rattle.jwalk_board.specs.Plan.{Falls, PlanTree, specs_in_preorder};
 ghost use Rattle.jwalk_board.specs.Rehearsal.{Follows};
 ghost use Rattle.jwalk_board.specs.Run.{Run, move};

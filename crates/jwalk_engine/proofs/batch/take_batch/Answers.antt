@@ -3,7 +3,7 @@ use Rattle.std.specs.Prelude.{All}
 use Rattle.std.proofs.lemmas.List.Elements.{All-nil, All-cons, All-append}
 use Rattle.std.proofs.lemmas.Result.{IfOk-from_err}
 use Rattle.jwalk_order.specs.Ordered.{child_count_of}
-use Rattle.board_parts.specs.Addresses.{times}
+use Rattle.jwalk_order.specs.Addresses.{times}
 use Rattle.jwalk_board.specs.Refusal.{RefusesTake}
 use Rattle.jwalk_engine.specs.ToGive.{IsHeld}
 use Rattle.jwalk_engine.specs.Reads.{to_give}

@@ -1,8 +1,8 @@
 use Rattle.std.proofs.Common.{sym, subst}
 use Rattle.std.specs.Prelude.{option_map}
 use Rattle.jwalk_order.specs.Frontier.{next_address}
-use Rattle.board_parts.specs.Addresses.{IsAmong}
-use Rattle.board_parts.specs.Addressed.{addresses_of}
+use Rattle.jwalk_order.specs.Addresses.{IsAmong}
+use Rattle.jwalk_order.specs.Addressed.{addresses_of}
 use Rattle.jwalk_read.specs.ReadDir.{outcome}
 use Rattle.jwalk_engine.specs.ReadAhead.{ahead_on}
 use Rattle.jwalk_engine.specs.BoardWalk.{ReadsBatch}

@@ -1,7 +1,7 @@
 use Rattle.std.proofs.Common.{◌≡◌, ◌∙◌, length, refl}
 use Rattle.jwalk_order.specs.IndexPath.{address as indices_of}
 use Rattle.jwalk_board.proofs.Steps.{pushed_as, keeps_finished}
-use Rattle.board_parts.proofs.Tops.{addressed-is}
+use Rattle.jwalk_order.proofs.Tops.{addressed-is}
 use Rattle.jwalk_board.proofs.board.Board.finish.Goals as goal
 
 pub invariant_of-self-2 : goal.invariant_of-self-2

@@ -1,8 +1,8 @@
 use Rattle.std.proofs.Common.{rules, ◌≡◌, ◌≢◌, [], ap}
 use Rattle.jwalk_order.specs.Frontier.{next_address}
 use Rattle.jwalk_order.specs.Ordered.{address_of}
-use Rattle.board_parts.specs.Addresses.{times}
-use Rattle.board_parts.specs.Addressed.{addresses_of}
+use Rattle.jwalk_order.specs.Addresses.{times}
+use Rattle.jwalk_order.specs.Addressed.{addresses_of}
 use Rattle.jwalk_board.proofs.Steps.{waits, not_ready, hands_out, keeps_handed_out}
 use Rattle.jwalk_board.proofs.board.Board.hand_out.Goals as goal
 

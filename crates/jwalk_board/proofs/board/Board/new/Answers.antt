@@ -3,7 +3,7 @@ use Rattle.std.proofs.lemmas.List.{append-nil}
 use Rattle.std.specs.List.Sorted.{IsPermutation}
 use Rattle.jwalk_order.specs.Frontier.{roots}
 use Rattle.jwalk_order.specs.IndexPath.{address as indices_of}
-use Rattle.board_parts.specs.Addressed.{numbered}
+use Rattle.jwalk_order.specs.Addressed.{numbered}
 use Rattle.jwalk_board.proofs.Opens.{whole_new}
 use Rattle.jwalk_board.proofs.board.Board.new.Goals as goal
 

@@ -1,7 +1,7 @@
 use Rattle.std.proofs.Common.{◌≡◌, ◌∙◌, ap}
 use Rattle.jwalk_order.specs.IndexPath.{address}
 use Rattle.jwalk_board.proofs.Steps.{not_in_hand, takes, keeps_taken}
-use Rattle.board_parts.proofs.Tops.{addressed-is}
+use Rattle.jwalk_order.proofs.Tops.{addressed-is}
 use Rattle.jwalk_board.proofs.board.Board.take.Goals as goal
 
 pub insert-requires : goal.insert-requires

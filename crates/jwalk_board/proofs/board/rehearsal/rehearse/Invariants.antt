@@ -1,5 +1,5 @@
 use Rattle.std.proofs.Common.{map, take}
-use Rattle.board_parts.specs.Addressed.{addresses_of}
+use Rattle.jwalk_order.specs.Addressed.{addresses_of}
 use Rattle.jwalk_board.specs.Plan.{specs_in_preorder}
 use Rattle.jwalk_board.specs.Rehearsal.{Follows}
 use Rattle.jwalk_board.specs.Run.{run_of_moves}

@@ -3,7 +3,7 @@ use Rattle.std.proofs.lemmas.List.{map-append}
 use Rattle.std.specs.List.{slice_get}
 use Rattle.std.specs.Option.{option_map}
 use Rattle.jwalk_order.specs.IndexPath.{address}
-use Rattle.board_parts.specs.Addressed.{addresses_of}
+use Rattle.jwalk_order.specs.Addressed.{addresses_of}
 use Rattle.jwalk_board.specs.Plan.{specs_in_preorder}
 use Rattle.jwalk_board.specs.Rehearsal.{Follows}
 use Rattle.jwalk_board.specs.Run.{hand_out_next}

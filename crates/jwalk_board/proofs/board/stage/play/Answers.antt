@@ -1,6 +1,6 @@
 use Rattle.std.proofs.Common.{sym, subst}
 use Rattle.std.specs.Result.{OnOk}
-use Rattle.board_parts.specs.Addressed.{addresses_of}
+use Rattle.jwalk_order.specs.Addressed.{addresses_of}
 use Rattle.jwalk_board.specs.Plan.{specs_in_preorder}
 use Rattle.jwalk_board.specs.Rehearsal.{Follows}
 use Rattle.jwalk_board.specs.Run.{move}

@@ -1,4 +1,0 @@
-pub mod Addressed
-pub mod Addresses
-pub mod Heap
-pub mod Siblings
