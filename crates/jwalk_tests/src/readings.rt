@@ -1,6 +1,9 @@
 //! Readings of one directory, without a walk.
-use jwalk::read_dir::{Job, ProcessReadDir, ReadDirSpec};
-use jwalk::{DirEntry, Error};
+ghost use Rattle.jwalk.specs.jwalk_read.Job.{callback};
+
+use jwalk::file_system::{FileSystem, MemoryFs};
+use jwalk::read_dir::{Job, NoProcess, ProcessReadDir, ReadDirSpec};
+use jwalk::{ClientState, DirEntry, Error};
 use std::alloc::{AllocError, Global};
 use walk_fixtures::trees::{GROUPED, tree};
 use walk_fixtures::watched::{Failing, Watched};
@@ -42,23 +45,25 @@ impl ProcessReadDir<Noted, Global> for NotesNames {
     }
 }
 
-/// What reads the directories of a tree as far as this depth.
-fn job(alloc: Global, fs: &Watched, max_depth: usize) -> Job<Noted, &Watched, NotesNames> {
-    Job::new(alloc, fs, NotesNames, false, true, false, max_depth)
+// The specification of the root that a job begins with.
+fn root_spec<C: ClientState, S: FileSystem, P: ProcessReadDir<C, Global>>(
+    job: &Job<C, S, P>,
+) -> Option<ReadDirSpec<C>>
+    requires { P.IsLawful (callback job.now) }
+{
+    let list = job.root_list("/t", C::ReadDirState::default()).ok()?;
+    list.read_children_specs().ok()?.pop()
 }
 
-/// The specifications of the directories in the root, if that is the one that was named.
-fn directories(job: &Job<Noted, &Watched, NotesNames>) -> Option<Vec<ReadDirSpec<Noted>>> {
-    let root = job
-        .root_list("/t", None)
-        .ok()?
-        .read_children_specs()
-        .ok()?
-        .pop()?;
-    if root.path.as_str() != "/t" {
-        return None;
-    }
-    job.read_one(&root).ok()?.ok()?.read_children_specs().ok()
+// The specifications of the directories in a directory.
+fn specs_in<C: ClientState, S: FileSystem, P: ProcessReadDir<C, Global>>(
+    job: &Job<C, S, P>,
+    of: &ReadDirSpec<C>,
+) -> Option<Vec<ReadDirSpec<C>>>
+    requires { P.IsLawful (callback job.now) }
+{
+    let read = job.read_one(of).ok()?.ok()?;
+    read.read_children_specs().ok()
 }
 
 fn is_noted(spec: &ReadDirSpec<Noted>, path: &str) -> bool {
@@ -66,26 +71,49 @@ fn is_noted(spec: &ReadDirSpec<Noted>, path: &str) -> bool {
         && spec.client_read_state.as_deref() == Some("c.txt;a.txt;group 2;group 1;b.txt;")
 }
 
-/// Whether the directories in the root of the grouped tree are the two groups.
-fn has_groups(alloc: Global) -> Option<bool> {
-    let fs = Watched::new(tree(alloc, GROUPED).ok()?, Failing::Never);
-    Some(
-        match directories(&job(alloc, &fs, usize::MAX))?.as_slice() {
-            [first, second] => is_noted(first, "/t/group 2") && is_noted(second, "/t/group 1"),
-            _ => false,
-        },
-    )
+fn are_groups(specs: &[ReadDirSpec<Noted>]) -> bool {
+    match specs {
+        [first, second] => is_noted(first, "/t/group 2") && is_noted(second, "/t/group 1"),
+        _ => false,
+    }
+}
+
+/// Whether the root is the one that was named, and its directories are the two groups.
+fn has_groups(job: &Job<Noted, MemoryFs, NotesNames>) -> Option<bool> {
+    let root = root_spec(job)?;
+    let specs = specs_in(job, &root)?;
+    Some(root.path.as_str() == "/t" && are_groups(specs.as_slice()))
+}
+
+/// Whether the root of the grouped tree has the two groups.
+fn tree_has_groups(alloc: Global) -> Option<bool> {
+    let fs = tree(alloc, GROUPED).ok()?;
+    has_groups(&Job::new(alloc, fs, NotesNames, false, true, false, usize::MAX))
 }
 
 #[test]
 fn a_reading_has_its_items_and_directories_in_order(rt: HostRuntime) {
-    assert!(rt; has_groups(rt.alloc()) == Some(true));
+    assert!(rt; tree_has_groups(rt.alloc()) == Some(true));
+}
+
+/// A reading without a callback.
+type Plain<S> = Job<((), ()), S, NoProcess>;
+
+/// A reading as far as this depth.
+fn plain<S: FileSystem>(alloc: Global, fs: S, max_depth: usize) -> Plain<S> {
+    Job::new(alloc, fs, NoProcess, false, true, false, max_depth)
+}
+
+// How many directories the root has, as far as a job reads.
+fn directories<S: FileSystem>(job: &Plain<S>) -> Option<usize> {
+    let root = root_spec(job)?;
+    Some(specs_in(job, &root)?.len())
 }
 
 /// How many directories the root has at the greatest depth, and how many listings were asked for.
 fn directories_and_lists(alloc: Global) -> Option<(usize, usize)> {
     let fs = Watched::new(tree(alloc, GROUPED).ok()?, Failing::Never);
-    let found = directories(&job(alloc, &fs, 0))?.len();
+    let found = directories(&plain(alloc, &fs, 0))?;
     Some((found, fs.lists()))
 }
 
@@ -94,19 +122,24 @@ fn nothing_is_read_at_the_greatest_depth(rt: HostRuntime) {
     assert!(rt; directories_and_lists(rt.alloc()) == Some((0, 0)));
 }
 
-/// The entry of the root of the grouped tree, if it comes alone.
-fn root(alloc: Global) -> Option<DirEntry<Noted>> {
-    let fs = Watched::new(tree(alloc, GROUPED).ok()?, Failing::Never);
-    let read = job(alloc, &fs, usize::MAX).root_list("/t", None).ok()?;
+/// The root's entry, if it comes alone.
+fn root_of<S: FileSystem>(job: &Plain<S>) -> Option<DirEntry<((), ())>> {
+    let read = job.root_list("/t", ()).ok()?;
     if read.results_list().len() != 1 {
         return None;
     }
     read.into_results_list().pop()?.ok()
 }
 
+/// The entry of the root of the grouped tree.
+fn root_of_the_grouped_tree(alloc: Global) -> Option<DirEntry<((), ())>> {
+    let fs = tree(alloc, GROUPED).ok()?;
+    root_of(&plain(alloc, fs, usize::MAX))
+}
+
 /// The path of that entry.
 fn root_path(alloc: Global) -> Option<String> {
-    root(alloc)?.path().ok()
+    root_of_the_grouped_tree(alloc)?.path().ok()
 }
 
 #[test]
@@ -114,11 +147,16 @@ fn a_reading_gives_its_list_out(rt: HostRuntime) {
     assert!(rt; root_path(rt.alloc()).as_deref() == Some("/t"));
 }
 
+/// Whether an entry's directory has the error that tells of nothing but the want of memory.
+fn holds_memory(entry: &DirEntry<((), ())>) -> Option<bool> {
+    let error = entry.read_children.as_ref()?.error()?;
+    Some(error.is_memory() && error.depth() == 0 && error.path().is_none())
+}
+
 /// Whether the root's entry, which is given an error, has it.
 fn holds_error(alloc: Global) -> Option<bool> {
-    let failed = root(alloc)?.with_error(Error::memory());
-    let error = failed.read_children.as_ref()?.error()?;
-    Some(error.is_memory() && error.depth() == 0 && error.path().is_none())
+    let failed = root_of_the_grouped_tree(alloc)?.with_error(Error::memory());
+    holds_memory(&failed)
 }
 
 #[test]
