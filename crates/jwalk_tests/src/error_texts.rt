@@ -1,12 +1,13 @@
 //! The texts of a file system's errors.
 ghost use Rattle.walk_model.specs.Tree.{functions_of, only_root};
 
-use crate::lines::{Entry, all_answers, walk};
-use jwalk::Error;
+use crate::lines::builder;
 use jwalk::file_system::{Fault, FileSystem, FileType, Listed, Metadata};
 use std::alloc::{AllocError, Allocator, Global};
 use std::io;
 use std::io::ErrorKind;
+use walk_fixtures::answers::Answer;
+use walk_fixtures::ways::all_of;
 
 /// What of a file system fails.
 #[derive(Clone, Copy)]
@@ -84,51 +85,26 @@ impl FileSystem for Telling {
     }
 }
 
-/// The error that an answer is, or that an entry's directory has.
-fn error_of(answer: &Result<Entry, Error>) -> Option<&Error> {
+/// The file system's error that an answer tells of, or that an entry's directory has.
+fn io_error_of(answer: &Answer) -> Option<&io::Error> {
     match answer {
-        Ok(entry) => entry.read_children.as_ref()?.error(),
-        Err(error) => Some(error),
+        Ok(entry) => entry.read_children.as_ref()?.error()?.io_error(),
+        Err(error) => error.io_error(),
     }
-}
-
-/// Adds the text of an answer's error to a text, if it has one.
-fn push_text(text: &mut String, answer: &Result<Entry, Error>) -> Result<(), AllocError> {
-    if let Some(error) = error_of(answer) {
-        push_error(text, error)?;
-    }
-    Ok(())
-}
-
-fn push_error(text: &mut String, error: &Error) -> Result<(), AllocError> {
-    if let Some(err) = error.io_error() {
-        text.push_str(format!(in *text.allocator(); "{err}")?.as_str())?;
-    }
-    Ok(())
-}
-
-/// The texts of all errors among answers.
-fn texts_of(alloc: Global, answers: &[Result<Entry, Error>]) -> Result<String, AllocError> {
-    let mut texts = String::new(alloc);
-    for answer in answers {
-        push_text(&mut texts, answer)?;
-    }
-    Ok(texts)
-}
-
-/// The texts of all errors that a walk meets.
-fn texts_over<S: FileSystem>(alloc: Global, fs: S) -> Result<String, AllocError> {
-    let found = all_answers(alloc, walk(alloc, fs, "/d")?)?;
-    texts_of(alloc, found.as_slice())
 }
 
 /// Whether a walk tells the text of the one error that it meets.
-fn is_told(alloc: Global, failing: Failing) -> bool {
+fn is_told(alloc: Global, failing: Failing) -> Result<bool, AllocError> {
     let text = "block 17 can't be read";
-    match texts_over(alloc, Telling { failing, text }) {
-        Ok(told) => told.as_str() == text,
-        Err(_) => false,
+    let walk = builder(alloc, Telling { failing, text }, "/d")?;
+    let found = all_of(alloc, walk.into_iter())?;
+    let mut told = String::new(alloc);
+    for answer in &found {
+        if let Some(err) = io_error_of(answer) {
+            write!(told, "{err}")?;
+        }
     }
+    Ok(told.as_str() == text)
 }
 
 #[test]
@@ -140,6 +116,6 @@ fn errors_keep_their_own_texts(rt: HostRuntime) {
         Failing::Root,
     ];
     for failing in ALL {
-        assert!(rt; is_told(rt.alloc(), *failing));
+        assert!(rt; is_told(rt.alloc(), *failing) == Ok(true));
     }
 }

@@ -1,32 +1,26 @@
 //! What errors tell, and the metadata of entries.
-use crate::lines::{Builder, Entry, builder, over_tree};
+use crate::lines::{Builder, builder, over_tree};
 use jwalk::Error;
-use jwalk::file_system::{BuildError, FileSystem, FileType, MemoryFs, Metadata};
+use jwalk::file_system::{FileSystem, FileType, MemoryFs, Metadata};
 use std::alloc::Global;
 use std::io::ErrorKind;
+use walk_fixtures::answers::Answer;
 use walk_fixtures::listed_directory::{Item, ListedDirectory};
 use walk_fixtures::trees::{DENIED, LOOPED, Step, tree};
 use walk_fixtures::watched::{Failing, Watched};
 
 /// The last answer of a walk, if there is one.
-fn last<S: FileSystem>(walk: Builder<S>) -> Option<Result<Entry, Error>> {
+fn last<S: FileSystem>(walk: Builder<S>) -> Option<Answer> {
     walk.into_iter().last()
-}
-
-fn is_printed(alloc: Global, error: &Error, text: &str) -> bool {
-    match error.to_string(alloc) {
-        Ok(printed) => printed.as_str() == text,
-        Err(_) => false,
-    }
 }
 
 /// Whether an error is told by this kind and this text, and printed as the text.
 fn tells(alloc: Global, error: &Error, kind: ErrorKind, text: &str) -> bool {
-    match error.kind_and_text(alloc) {
-        Ok((found, told)) => {
-            found == kind && told.as_str() == text && is_printed(alloc, error, text)
+    match (error.kind_and_text(alloc), error.to_string(alloc)) {
+        (Ok((found, told)), Ok(printed)) => {
+            found == kind && told.as_str() == text && printed.as_str() == text
         }
-        Err(_) => false,
+        _ => false,
     }
 }
 
@@ -49,13 +43,9 @@ fn kind_of(error: Error) -> Option<ErrorKind> {
 /// What is said of the loop in the looped tree.
 const LOOP_TEXT: &str = "File system loop found: /r/a/b/c/a-link points to an ancestor /r/a";
 
-/// The error of the loop, where a walk follows the link.
-fn loop_error(alloc: Global) -> Option<Error> {
-    last(over_tree(alloc, LOOPED, "/r").ok()?.follow_links(true))?.err()
-}
-
+/// Whether a walk that follows the link tells of the loop.
 fn tells_of_the_loop(alloc: Global) -> Option<bool> {
-    let error = loop_error(alloc)?;
+    let error = last(over_tree(alloc, LOOPED, "/r").ok()?.follow_links(true))?.err()?;
     Some(tells(alloc, &error, ErrorKind::Other, LOOP_TEXT) && kind_of(error).is_none())
 }
 
@@ -64,22 +54,13 @@ fn a_loop_tells_of_the_link_and_of_the_ancestor(rt: HostRuntime) {
     assert!(rt; tells_of_the_loop(rt.alloc()) == Some(true));
 }
 
-/// The entry of the directory that may not be listed.
-fn denied_entry(alloc: Global) -> Option<Entry> {
-    last(over_tree(alloc, DENIED, "/t").ok()?.sort(true))?.ok()
-}
-
-/// Whether an entry's directory has the error that it may not be listed.
-fn is_denied(alloc: Global, entry: &Entry) -> Option<bool> {
+/// Whether the entry of the directory that may not be listed has the error of that.
+fn meets_denied(alloc: Global) -> Option<bool> {
+    let entry = last(over_tree(alloc, DENIED, "/t").ok()?.sort(true))?.ok()?;
     let error = entry.read_children.as_ref()?.error()?;
     let lead = "IO error for operation on /t/group 2: ";
     let is_told = tells_own(alloc, error, ErrorKind::PermissionDenied, lead)?;
     Some(is_told && is_at(error, 1, Some("/t/group 2")))
-}
-
-/// Whether a walk meets the directory that may not be listed.
-fn meets_denied(alloc: Global) -> Option<bool> {
-    is_denied(alloc, &denied_entry(alloc)?)
 }
 
 #[test]
@@ -118,14 +99,9 @@ fn is_bare(alloc: Global, error: &Error, text: &str) -> bool {
         && tells(alloc, error, ErrorKind::Other, text)
 }
 
-/// What an error says of memory and of a crew.
-fn causes(error: &Error) -> (bool, bool, bool) {
-    (error.is_busy(), error.is_memory(), error.is_lost())
-}
-
-/// Whether an error has nothing but its text and its cause.
+/// Whether an error has nothing but its text and its cause: a busy crew, want of memory, or a lost reading.
 fn has_cause(alloc: Global, error: Error, text: &str, wanted: (bool, bool, bool)) -> bool {
-    is_bare(alloc, &error, text) && causes(&error) == wanted
+    is_bare(alloc, &error, text) && (error.is_busy(), error.is_memory(), error.is_lost()) == wanted
 }
 
 #[test]
@@ -140,19 +116,13 @@ fn errors_of_a_crew_and_of_memory(rt: HostRuntime) {
     assert!(rt; is_busy && is_memory && is_lost);
 }
 
-/// How many bytes the paths of a walk have; the first error ends it.
-fn path_bytes<S: FileSystem>(walk: Builder<S>) -> anyhow::Result<usize> {
+/// How many bytes the paths of the looped tree have; the first error ends the walk.
+fn looped_bytes(alloc: Global, follow: bool) -> anyhow::Result<usize> {
     let mut bytes: usize = 0;
-    for answer in walk {
-        let entry = answer?;
-        bytes = bytes.saturating_add(entry.path()?.len());
+    for answer in over_tree(alloc, LOOPED, "/r")?.follow_links(follow) {
+        bytes = bytes.saturating_add(answer?.path()?.len());
     }
     Ok(bytes)
-}
-
-/// How many bytes the paths of the looped tree have.
-fn looped_bytes(alloc: Global, follow: bool) -> anyhow::Result<usize> {
-    path_bytes(over_tree(alloc, LOOPED, "/r")?.follow_links(follow))
 }
 
 /// The text of the error that ends a walk through the loop.
@@ -174,43 +144,43 @@ const LINKED_FILE: &[Step] = &[
     Step::Link("f", "/r/l"),
 ];
 
-/// The entry of the link, or of the file where a walk follows it.
-fn link(alloc: Global, follow: bool) -> Option<Entry> {
+/// What the entry of the link, or of the file where a walk follows it, says of its metadata over another file system.
+fn link_metadata(
+    alloc: Global,
+    follow: bool,
+    fs: MemoryFs,
+    failing: Failing,
+) -> Option<Result<Metadata, Error>> {
     let walk = over_tree(alloc, LINKED_FILE, "/r").ok()?;
-    last(walk.follow_links(follow))?.ok()
+    let entry = last(walk.follow_links(follow))?.ok()?;
+    Some(entry.metadata(&Watched::new(fs, failing)))
 }
 
 /// The metadata of the link, or of the file where a walk follows it.
-fn link_metadata(alloc: Global, follow: bool) -> Option<Metadata> {
-    let fs = tree(alloc, LINKED_FILE).ok()?;
-    link(alloc, follow)?.metadata(&fs).ok()
+fn metadata(alloc: Global, follow: bool) -> Option<Metadata> {
+    link_metadata(
+        alloc,
+        follow,
+        tree(alloc, LINKED_FILE).ok()?,
+        Failing::Never,
+    )?
+    .ok()
 }
 
 #[test]
 fn the_metadata_of_a_link_and_of_what_was_followed(rt: HostRuntime) {
-    let link = link_metadata(rt.alloc(), false);
-    let file = link_metadata(rt.alloc(), true);
+    let link = metadata(rt.alloc(), false);
+    let file = metadata(rt.alloc(), true);
     let is_link = link == Some(Metadata::new(FileType::Symlink, 1));
     let is_file = file == Some(Metadata::new(FileType::File, 7));
     assert!(rt; is_link && is_file);
 }
 
-/// The error of the link's metadata over another file system.
-fn metadata_error<S: FileSystem>(alloc: Global, fs: &S) -> Option<Error> {
-    link(alloc, false)?.metadata(fs).err()
-}
-
-/// The same directory once the link is removed.
-fn without_the_link(alloc: Global) -> Result<MemoryFs, BuildError> {
-    let mut fs = tree(alloc, LINKED_FILE)?;
-    fs.remove("/r/l")?;
-    Ok(fs)
-}
-
 /// Whether the link's metadata is not found once the link is removed.
 fn is_gone(alloc: Global) -> Option<bool> {
-    let fs = without_the_link(alloc).ok()?;
-    let error = metadata_error(alloc, &fs)?;
+    let mut fs = tree(alloc, LINKED_FILE).ok()?;
+    fs.remove("/r/l").ok()?;
+    let error = link_metadata(alloc, false, fs, Failing::Never)?.err()?;
     Some(is_at(&error, 1, Some("/r/l")) && kind_of(error) == Some(ErrorKind::NotFound))
 }
 
@@ -221,9 +191,8 @@ fn the_metadata_of_what_is_gone(rt: HostRuntime) {
 
 /// The error of the link's metadata where memory for it is refused.
 fn refused_metadata(alloc: Global) -> Option<Error> {
-    let failing = Failing::MetadataForMemory("/r/l");
-    let fs = Watched::new(tree(alloc, LINKED_FILE).ok()?, failing);
-    metadata_error(alloc, &fs)
+    let fs = tree(alloc, LINKED_FILE).ok()?;
+    link_metadata(alloc, false, fs, Failing::MetadataForMemory("/r/l"))?.err()
 }
 
 #[test]
@@ -233,15 +202,11 @@ fn the_metadata_where_memory_is_refused(rt: HostRuntime) {
     assert!(rt; matches!(&error, Some(error) if is_bare(rt.alloc(), error, text)));
 }
 
-/// An entry and an error as `Debug` shows them.
-fn shown(alloc: Global, entry: Option<Entry>) -> Option<String> {
+/// The entry of an empty root and an error, as `Debug` shows them.
+fn shown(alloc: Global) -> Option<String> {
+    let entry = last(over_tree(alloc, &[Step::Dir("/r")], "/r").ok()?)?.ok();
     let answers = (entry, Error::<Global>::lost());
     format!(in alloc; "{answers:?}").ok()
-}
-
-/// The entry of an empty root.
-fn empty_root(alloc: Global) -> Option<Entry> {
-    last(over_tree(alloc, &[Step::Dir("/r")], "/r").ok()?)?.ok()
 }
 
 #[test]
@@ -250,6 +215,5 @@ fn entries_and_errors_are_shown(rt: HostRuntime) {
                   parent_path: \"/\", read_children: Some(ReadChildren { path: \"/r\", error: None, \
                   client_read_state: None }), through_link: false, .. }), \
                   Error { depth: 0, inner: Lost })";
-    let shown = shown(rt.alloc(), empty_root(rt.alloc()));
-    assert!(rt; shown.as_deref() == Some(wanted));
+    assert!(rt; shown(rt.alloc()).as_deref() == Some(wanted));
 }

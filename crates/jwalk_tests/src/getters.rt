@@ -1,14 +1,13 @@
 //! What each getter of each entry answers.
 use crate::lines::{Entry, in_a_for_loop, over_tree};
-use jwalk::Error;
 use jwalk::file_system::BuildError;
 use std::alloc::{AllocError, Global};
-use walk_fixtures::answers::{letter, push};
+use walk_fixtures::answers::{Answer, letter};
 use walk_fixtures::trees::{SMALL, Step};
 
-/// What the getters of an entry answer: depth, name, parent, the letter of its type, and `+` where it has a directory
-/// to be read.
-fn getters(alloc: Global, entry: &Entry) -> Result<String, AllocError> {
+/// Adds what the getters of an entry answer to a text: depth, name, parent, the letter of its type, and `+` where it
+/// has a directory to be read.
+fn push_getters(text: &mut String, entry: &Entry) -> Result<(), AllocError> {
     let depth = entry.depth();
     let name = entry.file_name();
     let parent = entry.parent_path();
@@ -18,30 +17,18 @@ fn getters(alloc: Global, entry: &Entry) -> Result<String, AllocError> {
     } else {
         ""
     };
-    format!(in alloc; "{depth} {name} in {parent} {letter}{mark}")
+    write!(text, "{depth} {name} in {parent} {letter}{mark}")
 }
 
-/// Adds the getters of an answer to a text.
-fn push_getters(text: &mut String, answer: &Result<Entry, Error>) -> Result<(), AllocError> {
+/// Adds the getters of an answer to a text, in which answers are parted by `; `.
+fn push_answer(text: &mut String, answer: &Answer) -> Result<(), AllocError> {
+    if !text.is_empty() {
+        text.push_str("; ")?;
+    }
     match answer {
-        Ok(entry) => push(text, getters(*text.allocator(), entry)?.as_str()),
-        Err(_) => push(text, "an error"),
+        Ok(entry) => push_getters(text, entry),
+        Err(_) => text.push_str("an error"),
     }
-}
-
-/// The getters of all answers, parted by `; `.
-fn getters_of(alloc: Global, answers: &[Result<Entry, Error>]) -> Result<String, AllocError> {
-    let mut text = String::new(alloc);
-    for answer in answers {
-        push_getters(&mut text, answer)?;
-    }
-    Ok(text)
-}
-
-/// The getters of all that a walk over the tree answers that these steps build.
-fn getters_from(alloc: Global, steps: &[Step], root: &str) -> Result<String, BuildError> {
-    let found = in_a_for_loop(alloc, over_tree(alloc, steps, root)?)?;
-    Ok(getters_of(alloc, found.as_slice())?)
 }
 
 /// A walk with the options as they are, and the getters of its entries.
@@ -52,11 +39,13 @@ struct Row {
 }
 
 /// Whether these are the getters.
-fn holds(alloc: Global, row: &Row) -> bool {
-    match getters_from(alloc, row.steps, row.root) {
-        Ok(found) => found.as_str() == row.getters,
-        Err(_) => false,
+fn holds(alloc: Global, row: &Row) -> Result<bool, BuildError> {
+    let found = in_a_for_loop(alloc, over_tree(alloc, row.steps, row.root)?)?;
+    let mut text = String::new(alloc);
+    for answer in &found {
+        push_answer(&mut text, answer)?;
     }
+    Ok(text.as_str() == row.getters)
 }
 
 #[test]
@@ -95,6 +84,10 @@ fn each_getter_of_each_entry(rt: HostRuntime) {
         },
     ];
     for row in ROWS {
-        assert!(rt; holds(rt.alloc(), row), "from {}", row.root);
+        assert!(rt;
+            matches!(holds(rt.alloc(), row), Ok(true)),
+            "from {}",
+            row.root
+        );
     }
 }

@@ -1,5 +1,5 @@
 //! Readings of one directory, without a walk.
-ghost use Rattle.jwalk_read.specs.Job.{callback};
+ghost use Rattle.jwalk.specs.jwalk_read.Job.{callback};
 
 use jwalk::file_system::{FileSystem, MemoryFs};
 use jwalk::read_dir::{Job, NoProcess, ProcessReadDir, ReadDirSpec};
@@ -147,19 +147,16 @@ fn a_reading_gives_its_list_out(rt: HostRuntime) {
     assert!(rt; root_path(rt.alloc()).as_deref() == Some("/t"));
 }
 
-/// The error that an entry's directory has.
-fn error_of(entry: &DirEntry<((), ())>) -> Option<&Error> {
-    entry.read_children.as_ref()?.error()
-}
-
-fn is_bare_memory(error: &Error) -> bool {
-    error.is_memory() && error.depth() == 0 && error.path().is_none()
+/// Whether an entry's directory has the error that tells of nothing but the want of memory.
+fn holds_memory(entry: &DirEntry<((), ())>) -> Option<bool> {
+    let error = entry.read_children.as_ref()?.error()?;
+    Some(error.is_memory() && error.depth() == 0 && error.path().is_none())
 }
 
 /// Whether the root's entry, which is given an error, has it.
 fn holds_error(alloc: Global) -> Option<bool> {
     let failed = root_of_the_grouped_tree(alloc)?.with_error(Error::memory());
-    Some(is_bare_memory(error_of(&failed)?))
+    holds_memory(&failed)
 }
 
 #[test]

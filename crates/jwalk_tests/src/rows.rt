@@ -2,13 +2,12 @@
 mod begun;
 mod callbacks;
 mod calls;
-mod coming;
+mod courses;
 mod faults;
 mod links;
 mod options;
 mod parts;
 mod roots;
 mod row;
-mod table;
 mod walks;
 mod widths;

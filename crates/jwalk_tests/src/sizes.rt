@@ -1,36 +1,44 @@
 //! Walks over trees of size.
-use crate::lines::{Entry, Walk, builder, is_over, next_entry, next_path, walk};
-use crate::wide::{FILES, file_path, scrambled, wide_directory};
-use jwalk::Error;
-use jwalk::file_system::{BuildError, FileSystem, MemoryFs};
-use std::alloc::Global;
+use crate::lines::builder;
+use crate::wide::{FILES, name, scrambled, wide_directory};
+use jwalk::DirEntryIter;
+use jwalk::file_system::{BuildError, MemoryFs};
+use jwalk::read_dir::NoProcess;
+use std::alloc::{AllocError, Global};
+use walk_fixtures::answers::{Answer, are_lines};
 use walk_fixtures::watched::{Failing, Watched};
 
-/// The next answer is the file of this number.
-fn file_is_next<S: FileSystem>(alloc: Global, walk: &mut Walk<S>, number: usize) -> bool {
-    match (next_path(walk), file_path(alloc, number)) {
-        (Some(found), Ok(wanted)) => found.as_str() == wanted.as_str(),
-        _ => false,
-    }
-}
+/// A walk that is begun.
+type Walk<'a> = DirEntryIter<((), ()), &'a Watched, NoProcess>;
 
-/// The next answers are all files, by name or as they were made, and then the walk is over.
-fn files_are_next<S: FileSystem>(alloc: Global, walk: &mut Walk<S>, by_name: bool) -> bool {
-    for place in 0..FILES {
-        let number = if by_name { place } else { scrambled(place) };
-        if !file_is_next(alloc, walk, number) {
-            return false;
+/// What comes of so many calls for the next answer.
+fn called(alloc: Global, mut walk: Walk<'_>, calls: usize) -> Result<Vec<Answer>, AllocError> {
+    let mut found = Vec::new(alloc);
+    for _ in 0..calls {
+        if let Some(answer) = walk.next() {
+            found.push(answer)?;
         }
     }
-    is_over(walk)
+    Ok(found)
 }
 
-/// A walk has the directory and all its files, of one listing.
+/// The lines of the wide directory and of all its files, by name or as they were made.
+fn wide_lines(alloc: Global, by_name: bool) -> Result<String, AllocError> {
+    let mut lines = String::from_str(alloc, "0 d /d")?;
+    for place in 0..FILES {
+        let name = name(if by_name { place } else { scrambled(place) });
+        write!(lines, "; 1 f /d/{name}")?;
+    }
+    Ok(lines)
+}
+
+/// A walk has the directory and all its files, of one listing, and nothing after them.
 fn has_all_files(alloc: Global, by_name: bool) -> Result<bool, BuildError> {
     let fs = Watched::new(wide_directory(alloc)?, Failing::Never);
-    let mut walk = builder(alloc, &fs, "/d")?.sort(by_name).into_iter();
-    let is_first = next_entry(&mut walk).is_some();
-    Ok(is_first && files_are_next(alloc, &mut walk, by_name) && fs.lists() == 1)
+    let walk = builder(alloc, &fs, "/d")?.sort(by_name);
+    let found = called(alloc, walk.into_iter(), FILES + 3)?;
+    let lines = wide_lines(alloc, by_name)?;
+    Ok(are_lines(alloc, found.as_slice(), lines.as_str()) && fs.lists() == 1)
 }
 
 #[test]
@@ -43,30 +51,18 @@ fn many_files_by_name(rt: HostRuntime) {
     assert!(rt; matches!(has_all_files(rt.alloc(), true), Ok(true)));
 }
 
-/// A call for all answers gives so many, and 5001 are then there.
-fn fills<S: FileSystem>(
-    walk: &mut Walk<S>,
-    found: &mut Vec<Result<Entry, Error>>,
-    count: usize,
-) -> bool {
-    matches!(walk.fill(usize::MAX, found), Ok(added) if added == count) && found.len() == 5_001
-}
-
-/// A first call gives all answers, and a second none.
-fn comes_at_once<S: FileSystem>(alloc: Global, walk: &mut Walk<S>) -> bool {
+/// How many answers of the wide directory a call for all gives and a second one, and how many are there then.
+fn filled(alloc: Global) -> Result<(usize, usize, usize), BuildError> {
+    let mut walk = builder(alloc, wide_directory(alloc)?, "/d")?.into_iter();
     let mut found = Vec::new(alloc);
-    fills(walk, &mut found, 5_001) && fills(walk, &mut found, 0)
-}
-
-/// Whether all answers of the wide directory come at once.
-fn wide_comes_at_once(alloc: Global) -> Result<bool, BuildError> {
-    let mut walk = walk(alloc, wide_directory(alloc)?, "/d")?;
-    Ok(comes_at_once(alloc, &mut walk))
+    let first = walk.fill(usize::MAX, &mut found)?;
+    let second = walk.fill(usize::MAX, &mut found)?;
+    Ok((first, second, found.len()))
 }
 
 #[test]
 fn all_answers_by_one_call(rt: HostRuntime) {
-    assert!(rt; matches!(wide_comes_at_once(rt.alloc()), Ok(true)));
+    assert!(rt; matches!(filled(rt.alloc()), Ok((5_001, 0, 5_001))));
 }
 
 /// A directory in a directory, and so on, down to a depth of 30 below the first.
@@ -80,28 +76,22 @@ fn chain(alloc: Global) -> Result<MemoryFs, BuildError> {
     Ok(fs)
 }
 
-fn depth_is_next<S: FileSystem>(walk: &mut Walk<S>, depth: usize) -> bool {
-    match next_entry(walk) {
-        Some(entry) => entry.depth() == depth,
-        None => false,
-    }
-}
-
-/// The next answers lie deeper and deeper, and then the walk is over.
-fn depths_are_next<S: FileSystem>(walk: &mut Walk<S>, depths: usize) -> bool {
-    for depth in 0..depths {
-        if !depth_is_next(walk, depth) {
+/// Whether these are entries that lie deeper and deeper.
+fn go_down(found: &[Answer]) -> bool {
+    for (depth, answer) in found.iter().enumerate() {
+        if !matches!(answer, Ok(entry) if entry.depth() == depth) {
             return false;
         }
     }
-    is_over(walk)
+    true
 }
 
 /// A walk goes down the chain, and lists each directory once.
 fn goes_down_once(alloc: Global) -> Result<bool, BuildError> {
     let fs = Watched::new(chain(alloc)?, Failing::Never);
-    let mut walk = walk(alloc, &fs, "/c")?;
-    Ok(depths_are_next(&mut walk, 31) && fs.lists() == 31)
+    let walk = builder(alloc, &fs, "/c")?;
+    let found = called(alloc, walk.into_iter(), 34)?;
+    Ok(found.len() == 31 && go_down(found.as_slice()) && fs.lists() == 31)
 }
 
 #[test]

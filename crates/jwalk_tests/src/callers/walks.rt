@@ -1,42 +1,30 @@
 //! Whole walks, and walks in batches.
-use crate::lines::{Entry, builder, walk};
+use crate::lines::{builder, over_tree};
 use crate::wide::wide_directory;
-use jwalk::Error;
-use jwalk::file_system::{BuildError, FileSystem};
+use jwalk::file_system::BuildError;
 use proved_walk::batches::count_in_batches;
 use proved_walk::counted::Counted;
 use proved_walk::whole::walk_whole;
-use std::alloc::{AllocError, Global};
+use std::alloc::Global;
 use walk_fixtures::answers::are_lines;
 use walk_fixtures::trees::{GROUPED, SMALL, tree};
 
-/// All answers of a walk in one list.
-fn whole<S: FileSystem>(
-    alloc: Global,
-    fs: S,
-    root: &str,
-) -> Result<Vec<Result<Entry, Error>>, AllocError> {
-    walk_whole(alloc, builder(alloc, fs, root)?)
-}
-
-/// What a walk over the small tree answers.
-const SMALL_LINES: &str = "0 d /r; 1 f /r/b; 1 d /r/s; 2 f /r/s/x; 1 f /r/a";
-
 /// Whether these are the lines of a whole walk over the small tree.
 fn shows_small(alloc: Global, wanted: &str) -> Result<bool, BuildError> {
-    let found = whole(alloc, tree(alloc, SMALL)?, "/r")?;
+    let found = walk_whole(alloc, over_tree(alloc, SMALL, "/r")?)?;
     Ok(are_lines(alloc, found.as_slice(), wanted))
 }
 
 #[test]
 fn a_whole_walk_in_one_list(rt: HostRuntime) {
-    assert!(rt; matches!(shows_small(rt.alloc(), SMALL_LINES), Ok(true)));
+    let wanted = "0 d /r; 1 f /r/b; 1 d /r/s; 2 f /r/s/x; 1 f /r/a";
+    assert!(rt; matches!(shows_small(rt.alloc(), wanted), Ok(true)));
 }
 
 /// How many answers a walk over the grouped tree has, and how many listings were asked for.
 fn answers_and_listings(alloc: Global) -> Result<(usize, usize), BuildError> {
     let fs = Counted::new(tree(alloc, GROUPED)?);
-    let answers = whole(alloc, &fs, "/t")?.len();
+    let answers = walk_whole(alloc, builder(alloc, &fs, "/t")?)?.len();
     Ok((answers, fs.listings()))
 }
 
@@ -47,8 +35,8 @@ fn a_file_system_of_ones_own_that_counts(rt: HostRuntime) {
 
 /// How many answers a walk over the wide directory gives in batches.
 fn count(alloc: Global) -> Result<usize, BuildError> {
-    let fs = wide_directory(alloc)?;
-    Ok(count_in_batches(alloc, walk(alloc, fs, "/d")?)?)
+    let walk = builder(alloc, wide_directory(alloc)?, "/d")?;
+    Ok(count_in_batches(alloc, walk.into_iter())?)
 }
 
 #[test]

@@ -1,16 +1,12 @@
 //! Walks over file systems that fail, or whose names are odd.
-use crate::rows::begun::Begun;
-use crate::rows::coming::{Coming, is_over, next};
-use crate::rows::row::{Over, Row};
-use crate::rows::table::all_hold;
+use crate::rows::courses::{Course, Seen, all_take};
+use crate::rows::row::{Over, Row, all_hold};
 use jwalk::file_system::FileType;
-use jwalk::read_dir::NoProcess;
 use std::io::ErrorKind;
-use std::thread::Threads;
 use walk_fixtures::listed_directory::{Item, ListedDirectory};
-use walk_fixtures::trees::{GROUPED, SMALL, Step, tree};
-use walk_fixtures::watched::{Failing, Watched};
-use walk_fixtures::ways::{Asked, Setting, WAYS, Way};
+use walk_fixtures::trees::{GROUPED, SMALL};
+use walk_fixtures::watched::Failing;
+use walk_fixtures::ways::Setting;
 use walk_fixtures::width::Width;
 
 /// A directory whose files have odd names.
@@ -37,110 +33,58 @@ fn odd_names_are_joined_as_texts(rt: HostRuntime) {
     all_hold(&rt, ROWS);
 }
 
-/// A walk over a tree that fails somewhere, and its answers.
-struct Failed {
-    steps: &'static [Step],
-    root: &'static str,
-    failing: Failing,
-    answers: &'static str,
-}
-
-/// Whether these are the walk's answers, read in this way.
-fn shows<R: Threads + AllocGlobal + Sync>(rt: &R, row: &Failed, way: Way) -> bool {
-    let Ok(tree) = tree(rt.alloc(), row.steps) else {
-        return false;
-    };
-    let fs = Watched::new(tree, row.failing);
-    let asked = Asked {
-        fs: &fs,
-        root: row.root,
-        settings: &[],
-    };
-    asked.shows::<_, ((), ()), _>(rt, NoProcess, way, row.answers)
-}
-
 #[test]
 fn failures_told_where_they_are_met(rt: HostRuntime) {
-    const ROWS: &[Failed] = &[
-        Failed {
-            steps: SMALL,
+    const ROWS: &[Row] = &[
+        Row {
+            over: Over::Failing(SMALL, Failing::List("/r/s", ErrorKind::PermissionDenied)),
             root: "/r",
-            failing: Failing::List("/r/s", ErrorKind::PermissionDenied),
+            settings: &[],
             answers: "0 d /r; 1 f /r/b; 1 d /r/s ! 1 /r/s PermissionDenied; 1 f /r/a",
         },
         // Want of memory ends the walk.
-        Failed {
-            steps: GROUPED,
+        Row {
+            over: Over::Failing(GROUPED, Failing::ListForMemory("/t/group 2")),
             root: "/t",
-            failing: Failing::ListForMemory("/t/group 2"),
+            settings: &[],
             answers: "0 d /t; 1 f /t/c.txt; 1 f /t/a.txt; ! 0 - memory",
         },
-        Failed {
-            steps: GROUPED,
+        Row {
+            over: Over::Failing(GROUPED, Failing::ListForMemory("/t")),
             root: "/t",
-            failing: Failing::ListForMemory("/t"),
+            settings: &[],
             answers: "! 0 - memory",
         },
-        Failed {
-            steps: GROUPED,
+        Row {
+            over: Over::Failing(GROUPED, Failing::MetadataForMemory("/t")),
             root: "/t",
-            failing: Failing::MetadataForMemory("/t"),
+            settings: &[],
             answers: "! 0 - memory",
         },
     ];
-    for row in ROWS {
-        for way in WAYS {
-            assert!(rt; shows(&rt, row, *way), "{:?}: {}", way, row.answers);
-        }
-    }
-}
-
-/// Whether a walk ends with the want of memory after so many entries, and nothing is left of it then.
-fn ends_with_memory<R: Threads + Drop + Sync>(
-    walk: &mut Begun<R, &Watched>,
-    before: usize,
-) -> bool {
-    for _ in 0..before {
-        if !matches!(next(walk), Coming::Entry) {
-            return false;
-        }
-    }
-    matches!(next(walk), Coming::Memory) && walk.ahead() == 0 && is_over(walk)
-}
-
-/// How directories are read, on threads or not, and how many entries come before the want of memory.
-type Refused = (Width, bool, usize);
-
-/// Whether so many entries come before the want of memory of a directory that is read early.
-fn is_refused<R: Threads + AllocGlobal + Sync>(rt: &R, row: &Refused) -> bool {
-    let (width, on_threads, before) = *row;
-    let Ok(tree) = tree(rt.alloc(), GROUPED) else {
-        return false;
-    };
-    let fs = Watched::new(tree, Failing::ListForMemory("/t/group 1"));
-    let asked = Asked {
-        fs: &fs,
-        root: "/t",
-        settings: &[Setting::By(width)],
-    };
-    match Begun::new(rt, &asked, on_threads) {
-        Ok(mut walk) => ends_with_memory(&mut walk, before),
-        Err(_) => false,
-    }
+    all_hold(&rt, ROWS);
 }
 
 #[test]
 fn want_of_memory_in_any_reading_of_a_batch(rt: HostRuntime) {
-    const ROWS: &[Refused] = &[
-        (Width::Serial, false, 5),
-        (Width::Batches(1), false, 5),
-        (Width::Batches(2), false, 3),
-        (Width::Batches(8), false, 3),
-        (Width::Batches(1), true, 5),
-        (Width::Batches(2), true, 3),
-        (Width::Batches(8), true, 3),
+    const COURSES: &[Course] = &[
+        Course {
+            settings: &[Setting::By(Width::Serial)],
+            seen: Seen::Refused(5),
+        },
+        Course {
+            settings: &[Setting::By(Width::Batches(1))],
+            seen: Seen::Refused(5),
+        },
+        Course {
+            settings: &[Setting::By(Width::Batches(2))],
+            seen: Seen::Refused(3),
+        },
+        Course {
+            settings: &[Setting::By(Width::Batches(8))],
+            seen: Seen::Refused(3),
+        },
     ];
-    for row in ROWS {
-        assert!(rt; is_refused(&rt, row), "{:?}", row);
-    }
+    let failing = Failing::ListForMemory("/t/group 1");
+    all_take(&rt, &(GROUPED, failing, "/t"), COURSES);
 }

@@ -1,6 +1,5 @@
 //! Walks over links.
-use crate::rows::row::{Over, Row};
-use crate::rows::table::all_hold;
+use crate::rows::row::{Over, Row, all_hold};
 use jwalk::read_dir::NoProcess;
 use std::thread::Threads;
 use walk_fixtures::answers::Answer;
@@ -170,6 +169,6 @@ fn is_ended<R: Threads + AllocGlobal + Sync>(rt: &R, way: Way) -> bool {
 #[test]
 fn a_link_to_its_own_directory_ends_at_the_41st(rt: HostRuntime) {
     for way in WAYS {
-        assert!(rt; is_ended(&rt, *way), "{:?}", way);
+        assert!(rt; is_ended(&rt, *way));
     }
 }

@@ -1,6 +1,5 @@
 //! Walks with the options as they are, from roots of every kind.
-use crate::rows::row::{Over, Row};
-use crate::rows::table::all_hold;
+use crate::rows::row::{Over, Row, all_hold};
 use jwalk::file_system::FileType;
 use std::io::ErrorKind;
 use walk_fixtures::listed_directory::{Item, ListedDirectory};

@@ -1,10 +1,11 @@
 //! Walks whose callback is refused memory.
-use crate::rows::callbacks::rows::{Callback, Row, all_hold, by_name};
-use jwalk::file_system::MemoryFs;
+use crate::lines::over_tree;
+use crate::rows::callbacks::rows::{Callback, Row, all_hold};
+use jwalk::file_system::BuildError;
 use jwalk::read_dir::ProcessReadDir;
 use std::alloc::{AllocError, Global};
 use walk_fixtures::answers::Answer;
-use walk_fixtures::trees::{GROUPED, tree};
+use walk_fixtures::trees::GROUPED;
 
 /// A callback that is refused memory for the list of the root, or for those of directories at a depth.
 #[derive(Drop)]
@@ -55,24 +56,15 @@ fn a_callback_that_is_refused_memory(rt: HostRuntime) {
 }
 
 /// Whether a walk whose callback is refused memory for the root's list is not begun.
-fn is_not_begun(alloc: Global, fs: &MemoryFs) -> Result<bool, AllocError> {
-    let walk = by_name(fs, "/t").builder::<((), ())>(alloc)?;
-    let walk = walk.process_read_dir(RefusedAt { at: None });
+fn is_not_begun(alloc: Global) -> Result<bool, BuildError> {
+    let walk = over_tree(alloc, GROUPED, "/t")?.process_read_dir(RefusedAt { at: None });
     Ok(match walk.try_into_iter() {
         Ok(_) => false,
         Err(error) => error.is_memory(),
     })
 }
 
-/// Whether it is not over the groups of files.
-fn no_groups_begun(alloc: Global) -> bool {
-    match tree(alloc, GROUPED) {
-        Ok(fs) => is_not_begun(alloc, &fs) == Ok(true),
-        Err(_) => false,
-    }
-}
-
 #[test]
 fn a_walk_that_is_not_begun_without_memory(rt: HostRuntime) {
-    assert!(rt; no_groups_begun(rt.alloc()));
+    assert!(rt; matches!(is_not_begun(rt.alloc()), Ok(true)));
 }
