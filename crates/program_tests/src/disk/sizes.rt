@@ -17,8 +17,8 @@ fn make_file(rt: &HostRuntime, folder: &str, number: usize, lines: &mut String) 
     Ok(())
 }
 
-/// Whether a walk by name answers thousands of files that are made in the wide directory. Their names are longer together
-/// than what one reading of it gives.
+/// Whether a walk by name answers thousands of files that are made in the wide directory. Their names are longer
+/// together than what one reading of it gives.
 fn finds_all_files(rt: &HostRuntime, folder: &str) -> io::Result<bool> {
     let mut lines = String::from_str(rt.alloc(), "0 d /t\n")?;
     for number in 10_000..15_000 {
