@@ -1,196 +1,157 @@
 //! Walks whose crew is busy, and how many a crew serves.
-use crate::begun::Begun;
-use crate::crewed::Crewed;
-use crate::stand::Stand;
-use jwalk::Crew;
-use jwalk::file_system::MemoryFs;
-use jwalk::read_dir::NoProcess;
-use jwalk_crew::crew::Place;
-use std::alloc::Global;
-use std::sync::{Arc, Wait};
-use std::test::Fail;
-use std::thread;
-use std::thread::Threads;
-use std::time::{Clock, Duration};
-use walk_fixtures::answers::Answer;
-use walk_fixtures::trees::{FORKED, GROUPED, tree};
+use crate::acts::{Act, Going, Scene, all_come_off};
+use crate::crewed::{Asked, Reader, Taken};
+use walk_fixtures::trees::{FORKED, GROUPED};
+use walk_fixtures::watched::Failing;
 use walk_fixtures::ways::Setting;
 
-/// A walk by name from a root, that waits ten milliseconds for a place.
-fn impatient<'a, R: Wait + Clock + Drop>(
-    stand: &'a Stand<R, MemoryFs>,
-    root: &'a str,
-) -> Crewed<'a, R, MemoryFs> {
-    stand
-        .crewed(root, &[Setting::Sort])
-        .within(Duration::from_millis(10))
-}
-
-/// Whether an answer tells of a busy crew.
-fn is_busy(answer: &Option<Answer>) -> bool {
-    match answer {
-        Some(Err(error)) => error.is_busy() && error.path().is_none() && error.depth() == 0,
-        _ => false,
-    }
-}
-
-/// Whether all that comes of a walk is that its crew is busy.
-fn tells_busy<R: Wait + Clock + Drop>(mut walk: Begun<R, MemoryFs>) -> bool {
-    let busy = is_busy(&walk.next());
-    let ended = walk.next().is_none();
-    let ended_for_good = walk.next().is_none();
-    busy && ended && ended_for_good
-}
-
-/// Whether all that a walk answers is that its crew is busy.
-fn is_busy_alone<R: Wait + Threads + Clock + Drop + Send + Sync + 'static>(
-    crewed: &Crewed<'_, R, MemoryFs>,
-    alloc: Global,
-) -> bool {
-    match crewed.begun(alloc) {
-        Ok(walk) => tells_busy(walk),
-        Err(_) => false,
-    }
-}
-
-/// Whether a walk doesn't begin, since its crew is busy.
-fn is_refused<R: Wait + Threads + Clock + Drop + Send + Sync + 'static>(
-    crewed: &Crewed<'_, R, MemoryFs>,
-    alloc: Global,
-) -> bool {
-    match crewed.tried(alloc) {
-        Ok(Err(error)) => error.is_busy(),
-        _ => false,
-    }
-}
-
 /// A crew of one place, and one worker for a walk.
-fn one_place<R: Wait + Clock + AllocGlobal + Clone + Drop>(
-    rt: &R,
-) -> Result<Stand<R, MemoryFs>, Fail> {
-    Ok(Stand::new(rt, tree(rt.alloc(), GROUPED)?, 1, 1)?)
-}
+const ONE_PLACE: Scene = Scene {
+    steps: GROUPED,
+    failing: Failing::Never,
+    places: 1,
+    workers: 1,
+};
 
-/// A crew of one place, and a walk from a root that has it.
-fn taken_by<R: Wait + Threads + Clock + AllocGlobal + Clone + Drop + Send + Sync + 'static>(
-    rt: &R,
-    root: &str,
-) -> Result<(Stand<R, MemoryFs>, Begun<R, MemoryFs>), Fail> {
-    let stand = one_place(rt)?;
-    let held = stand.crewed(root, &[]).begun(stand.alloc)?;
-    Ok((stand, held))
+/// A walk that waits for a place without limit.
+const PATIENT: Asked<'static> = Asked {
+    root: "/t",
+    settings: &[],
+    reader: Reader::Crew,
+    then: &[],
+};
+
+/// The same from a file.
+const PATIENT_FROM_FILE: Asked<'static> = Asked {
+    root: "/t/a.txt",
+    ..PATIENT
+};
+
+/// A walk by name that waits ten milliseconds for a place.
+const IMPATIENT: Asked<'static> = Asked {
+    root: "/t",
+    settings: &[Setting::Sort],
+    reader: Reader::CrewWithin(10),
+    then: &[],
+};
+
+/// The same from a file.
+const IMPATIENT_FROM_FILE: Asked<'static> = Asked {
+    root: "/t/a.txt",
+    ..IMPATIENT
+};
+
+#[test]
+fn a_directory_is_not_read_while_another_walk_has_the_place(rt: HostRuntime) {
+    const ACTS: &[Act<'static>] = &[
+        Act::Begins(PATIENT),
+        Act::IsBusy(IMPATIENT),
+        Act::IsRefused(IMPATIENT),
+        Act::InUse(1),
+        Act::Last(Going::Drops),
+        Act::InUse(0),
+    ];
+    assert!(rt; all_come_off(&rt, &ONE_PLACE, ACTS));
 }
 
 #[test]
-fn a_directory_is_not_read_while_another_walk_has_the_place(rt: HostRuntime) -> Result<(), Fail> {
-    let (stand, held) = taken_by(&rt, "/t")?;
-    let second = impatient(&stand, "/t");
-    let told = is_busy_alone(&second, rt.alloc());
-    let refused = is_refused(&second, rt.alloc());
-    let in_use = stand.crew.in_use();
-    drop(held);
-    assert!(rt; told && refused && in_use == 1 && stand.crew.in_use() == 0);
-    Ok(())
+fn a_busy_crew_is_told_of_above_the_least_depth_too(rt: HostRuntime) {
+    const DEEP: Asked<'static> = Asked {
+        settings: &[Setting::Min(1)],
+        ..IMPATIENT
+    };
+    assert!(rt; all_come_off(&rt, &ONE_PLACE, &[Act::Begins(PATIENT), Act::IsBusy(DEEP)]));
 }
 
 #[test]
-fn a_busy_crew_is_told_of_above_the_least_depth_too(rt: HostRuntime) -> Result<(), Fail> {
-    let (stand, held) = taken_by(&rt, "/t")?;
-    let second = stand
-        .crewed("/t", &[Setting::Min(1)])
-        .within(Duration::from_millis(10));
-    let told = is_busy_alone(&second, rt.alloc());
-    drop(held);
-    assert!(rt; told);
-    Ok(())
+fn a_root_without_a_directory_is_answered_by_a_busy_crew(rt: HostRuntime) {
+    const FROM_NOTHING: Asked<'static> = Asked {
+        root: "/none",
+        ..IMPATIENT
+    };
+    const ACTS: &[Act<'static>] = &[
+        Act::Begins(PATIENT),
+        Act::Answers(Taken::AtOnce, IMPATIENT_FROM_FILE, "0 f /t/a.txt"),
+        Act::IsRefused(IMPATIENT_FROM_FILE),
+        Act::Answers(Taken::AtOnce, FROM_NOTHING, "! 0 /none NotFound"),
+        Act::Last(Going::Drops),
+        Act::InUse(0),
+    ];
+    assert!(rt; all_come_off(&rt, &ONE_PLACE, ACTS));
 }
 
 #[test]
-fn a_root_without_a_directory_is_answered_by_a_busy_crew(rt: HostRuntime) -> Result<(), Fail> {
-    let (stand, held) = taken_by(&rt, "/t")?;
-    let second = impatient(&stand, "/t/a.txt");
-    let told = second.shows(rt.alloc(), NoProcess, "0 f /t/a.txt");
-    let refused = is_refused(&second, rt.alloc());
-    let none = impatient(&stand, "/none");
-    let missing = none.shows(rt.alloc(), NoProcess, "! 0 /none NotFound");
-    drop(held);
-    assert!(rt; told && refused && missing && stand.crew.in_use() == 0);
-    Ok(())
+fn a_root_without_a_directory_takes_a_place(rt: HostRuntime) {
+    const ACTS: &[Act<'static>] = &[
+        Act::Begins(PATIENT_FROM_FILE),
+        Act::InUse(1),
+        Act::IsRefused(IMPATIENT),
+        Act::Last(Going::Drops),
+        Act::InUse(0),
+    ];
+    assert!(rt; all_come_off(&rt, &ONE_PLACE, ACTS));
 }
 
 #[test]
-fn a_root_without_a_directory_takes_a_place(rt: HostRuntime) -> Result<(), Fail> {
-    let (stand, held) = taken_by(&rt, "/t/a.txt")?;
-    let in_use = stand.crew.in_use();
-    let refused = is_refused(&impatient(&stand, "/t"), rt.alloc());
-    drop(held);
-    assert!(rt; in_use == 1 && refused && stand.crew.in_use() == 0);
-    Ok(())
-}
-
-/// How many places are in use before two walks begin, with both, with one and with none of them; and whether a third is
-/// refused beside both.
-fn in_use_by_two<R: Wait + Threads + Clock + Drop + Send + Sync + 'static>(
-    stand: &Stand<R, MemoryFs>,
-) -> Option<([usize; 4], bool)> {
-    let crewed = stand.crewed("/r", &[]);
-    let at_first = stand.crew.in_use();
-    let first = crewed.tried(stand.alloc).ok()?.ok()?;
-    let second = crewed.tried(stand.alloc).ok()?.ok()?;
-    let with_both = stand.crew.in_use();
-    let third = stand.crewed("/r", &[]).within(Duration::from_millis(0));
-    let refused = is_refused(&third, stand.alloc);
-    drop(first);
-    let with_one = stand.crew.in_use();
-    drop(second);
-    let with_none = stand.crew.in_use();
-    Some(([at_first, with_both, with_one, with_none], refused))
-}
-
-#[test]
-fn as_many_walks_at_once_as_there_are_places(rt: HostRuntime) -> Result<(), Fail> {
-    let stand = Stand::new(&rt, tree(rt.alloc(), FORKED)?, 2, 1)?;
-    assert!(rt; in_use_by_two(&stand) == Some(([0, 2, 1, 0], true)));
-    Ok(())
-}
-
-/// Takes a place, and gives it back a while later on another thread.
-fn takes_for_a_while<R: Wait + Threads + Clock + Clone + Drop + Send + Sync + 'static>(
-    rt: &R,
-    crew: &Arc<Crew<R>>,
-) -> Option<()> {
-    let clock: R = rt.clone().ok()?;
-    let place = Place::take(crew, None).ok()?;
-    let holder = thread::spawn(rt, move || {
-        thread::sleep(&clock, Duration::from_millis(20));
-        drop(place);
-    });
-    holder.ok()?;
-    Some(())
+fn as_many_walks_at_once_as_there_are_places(rt: HostRuntime) {
+    const TWO_PLACES: Scene = Scene {
+        steps: FORKED,
+        failing: Failing::Never,
+        places: 2,
+        workers: 1,
+    };
+    const WALK: Asked<'static> = Asked {
+        root: "/r",
+        ..PATIENT
+    };
+    const THIRD: Asked<'static> = Asked {
+        reader: Reader::CrewWithin(0),
+        ..WALK
+    };
+    const ACTS: &[Act<'static>] = &[
+        Act::InUse(0),
+        Act::Begins(WALK),
+        Act::Begins(WALK),
+        Act::InUse(2),
+        Act::IsRefused(THIRD),
+        Act::Last(Going::Drops),
+        Act::InUse(1),
+        Act::Last(Going::Drops),
+        Act::InUse(0),
+    ];
+    assert!(rt; all_come_off(&rt, &TWO_PLACES, ACTS));
 }
 
 #[test]
-fn who_waits_gets_the_place_that_is_given_back(rt: HostRuntime) -> Result<(), Fail> {
-    let stand = one_place(&rt)?;
-    let taken = takes_for_a_while(&rt, &stand.crew).is_some();
-    let waits = stand.crewed("/t/a.txt", &[]);
-    let told = waits.shows(stand.alloc, NoProcess, "0 f /t/a.txt");
-    assert!(rt; taken && told && stand.crew.in_use() == 0);
-    Ok(())
+fn who_waits_gets_the_place_that_is_given_back(rt: HostRuntime) {
+    const ACTS: &[Act<'static>] = &[
+        Act::Holds,
+        Act::Answers(Taken::AtOnce, PATIENT_FROM_FILE, "0 f /t/a.txt"),
+        Act::InUse(0),
+    ];
+    assert!(rt; all_come_off(&rt, &ONE_PLACE, ACTS));
 }
 
 #[test]
-fn no_places_and_no_workers_count_as_one(rt: HostRuntime) -> Result<(), Fail> {
-    let stand = Stand::new(&rt, tree(rt.alloc(), GROUPED)?, 0, 0)?;
-    let held = stand.crewed("/t", &[]).begun(stand.alloc)?;
-    let refused = is_refused(&impatient(&stand, "/t"), stand.alloc);
-    drop(held);
-    let next = impatient(&stand, "/t/group 1");
-    let told = next.shows(
-        stand.alloc,
-        NoProcess,
-        "0 d /t/group 1; 1 f /t/group 1/d.txt",
-    );
-    assert!(rt; refused && told);
-    Ok(())
+fn no_places_and_no_workers_count_as_one(rt: HostRuntime) {
+    const NO_PLACES: Scene = Scene {
+        places: 0,
+        workers: 0,
+        ..ONE_PLACE
+    };
+    const FROM_GROUP: Asked<'static> = Asked {
+        root: "/t/group 1",
+        ..IMPATIENT
+    };
+    const ACTS: &[Act<'static>] = &[
+        Act::Begins(PATIENT),
+        Act::IsRefused(IMPATIENT),
+        Act::Last(Going::Drops),
+        Act::Answers(
+            Taken::AtOnce,
+            FROM_GROUP,
+            "0 d /t/group 1; 1 f /t/group 1/d.txt",
+        ),
+    ];
+    assert!(rt; all_come_off(&rt, &NO_PLACES, ACTS));
 }

@@ -24,9 +24,4 @@ impl Dice {
             .wrapping_add(1_442_695_040_888_963_407);
         (self.state >> 33).checked_rem(sides).unwrap_or(0)
     }
-
-    /// Whether the next number is one out of so many.
-    pub fn is_one_in(&mut self, sides: usize) -> bool {
-        self.below(sides) == 0
-    }
 }

@@ -1,70 +1,57 @@
 //! Walks over a crew whose workers meet faults.
-use crate::stand::Stand;
-use jwalk::read_dir::NoProcess;
+use crate::acts::{Act, Scene, all_come_off};
+use crate::crewed::{Asked, Reader, Taken};
 use std::io::ErrorKind;
-use std::sync::Wait;
-use std::test::Fail;
-use std::thread::Threads;
-use std::time::Clock;
-use walk_fixtures::trees::{GROUPED, SMALL, Step, tree};
-use walk_fixtures::watched::{Failing, Watched};
+use walk_fixtures::trees::{GROUPED, SMALL, Step};
+use walk_fixtures::watched::Failing;
 
-/// A walk over a tree that fails somewhere, and its answers.
-struct Failed {
-    steps: &'static [Step],
-    root: &'static str,
-    failing: Failing,
-    answers: &'static str,
-}
-
-/// Whether these are the walk's answers over a crew, which is free afterwards.
-fn shows<R: Wait + Threads + Clock + AllocGlobal + Clone + Drop + Send + Sync + 'static>(
-    rt: &R,
-    row: &Failed,
-) -> Result<bool, Fail> {
-    let fs = Watched::new(tree(rt.alloc(), row.steps)?, row.failing);
-    let stand = Stand::new(rt, fs, 1, 2)?;
-    let crewed = stand.crewed(row.root, &[]);
-    Ok(crewed.shows(stand.alloc, NoProcess, row.answers) && stand.crew.in_use() == 0)
-}
+/// A tree, the root of a walk, where the tree fails, and the walk's answers.
+type Row = (&'static [Step], &'static str, Failing, &'static str);
 
 #[test]
-fn failures_of_workers_told_where_they_are_met(rt: HostRuntime) -> Result<(), Fail> {
-    const ROWS: &[Failed] = &[
-        Failed {
-            steps: SMALL,
-            root: "/r",
-            failing: Failing::List("/r", ErrorKind::PermissionDenied),
-            answers: "0 d /r ! 0 /r PermissionDenied",
-        },
-        Failed {
-            steps: SMALL,
-            root: "/r",
-            failing: Failing::List("/r/s", ErrorKind::PermissionDenied),
-            answers: "0 d /r; 1 f /r/b; 1 d /r/s ! 1 /r/s PermissionDenied; 1 f /r/a",
-        },
+fn failures_of_workers_told_where_they_are_met(rt: HostRuntime) {
+    const ROWS: &[Row] = &[
+        (
+            SMALL,
+            "/r",
+            Failing::List("/r", ErrorKind::PermissionDenied),
+            "0 d /r ! 0 /r PermissionDenied",
+        ),
+        (
+            SMALL,
+            "/r",
+            Failing::List("/r/s", ErrorKind::PermissionDenied),
+            "0 d /r; 1 f /r/b; 1 d /r/s ! 1 /r/s PermissionDenied; 1 f /r/a",
+        ),
         // Want of memory ends the walk.
-        Failed {
-            steps: GROUPED,
-            root: "/t",
-            failing: Failing::ListForMemory("/t/group 2"),
-            answers: "0 d /t; 1 f /t/c.txt; 1 f /t/a.txt; ! 0 - memory",
-        },
-        Failed {
-            steps: GROUPED,
-            root: "/t",
-            failing: Failing::ListForMemory("/t"),
-            answers: "! 0 - memory",
-        },
-        Failed {
-            steps: GROUPED,
-            root: "/t",
-            failing: Failing::MetadataForMemory("/t"),
-            answers: "! 0 - memory",
-        },
+        (
+            GROUPED,
+            "/t",
+            Failing::ListForMemory("/t/group 2"),
+            "0 d /t; 1 f /t/c.txt; 1 f /t/a.txt; ! 0 - memory",
+        ),
+        (GROUPED, "/t", Failing::ListForMemory("/t"), "! 0 - memory"),
+        (
+            GROUPED,
+            "/t",
+            Failing::MetadataForMemory("/t"),
+            "! 0 - memory",
+        ),
     ];
-    for row in ROWS {
-        assert!(rt; shows(&rt, row)?, "{}", row.answers);
+    for (steps, root, failing, answers) in ROWS {
+        let scene = Scene {
+            steps: *steps,
+            failing: *failing,
+            places: 1,
+            workers: 2,
+        };
+        let walk = Asked {
+            root: *root,
+            settings: &[],
+            reader: Reader::Crew,
+            then: &[],
+        };
+        let acts = [Act::Answers(Taken::AtOnce, walk, *answers), Act::InUse(0)];
+        assert!(rt; all_come_off(&rt, &scene, &acts), "{}", *answers);
     }
-    Ok(())
 }

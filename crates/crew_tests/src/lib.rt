@@ -2,9 +2,7 @@
 #![tactic(auto)]
 
 #[cfg(test)]
-mod alike;
-#[cfg(test)]
-mod begun;
+mod acts;
 #[cfg(test)]
 mod busy;
 #[cfg(test)]
@@ -14,13 +12,9 @@ mod dice;
 #[cfg(test)]
 mod early;
 #[cfg(test)]
-mod endless;
-#[cfg(test)]
 mod faults;
 #[cfg(test)]
 mod lost;
-#[cfg(test)]
-mod meeting;
 #[cfg(test)]
 mod options;
 #[cfg(test)]
@@ -32,7 +26,7 @@ mod readings;
 #[cfg(test)]
 mod rows;
 #[cfg(test)]
-mod stand;
+mod serial;
 #[cfg(test)]
 mod together;
 #[cfg(test)]

@@ -11,7 +11,6 @@ use jwalk::threads::InTurn;
 use jwalk_crew::pool::{Missed, Pool};
 use std::alloc::Global;
 use std::sync::Arc;
-use std::test::Fail;
 use walk_fixtures::trees::{Step, tree};
 
 type States = ((), ());
@@ -91,50 +90,35 @@ fn pool_of<'f>(alloc: Global, fs: &'f MemoryFs, first: &str, second: &str) -> Op
 fn word_of<S: FileSystem, L: Pool<States, S, NoProcess, Global>>(
     reads: &mut ReadDirIter<States, S, NoProcess, Global, InTurn, L>,
 ) -> &'static str {
-    let Some(read) = reads.next() else {
-        return " none";
-    };
-    let Err(error) = read else {
-        return " read";
-    };
-    if error.is_lost() { " lost" } else { " error" }
-}
-
-/// What comes of four readings, in a word each.
-fn words_of<S: FileSystem, L: Pool<States, S, NoProcess, Global>>(
-    alloc: Global,
-    mut reads: ReadDirIter<States, S, NoProcess, Global, InTurn, L>,
-) -> Option<String> {
-    let mut words = String::new(alloc);
-    for _ in 0..4 {
-        words.push_str(word_of(&mut reads)).ok()?;
+    match reads.next() {
+        None => "none",
+        Some(Ok(_)) => "read",
+        Some(Err(error)) => { if error.is_lost() { "lost" } else { "error" } }
     }
-    Some(words)
 }
 
-/// What comes of four readings from `/r` on, of which these two are there.
-fn comes(alloc: Global, fs: &MemoryFs, first: &str, second: &str) -> Option<String> {
-    let pool = pool_of(alloc, fs, first, second)?;
-    let own = job_over(alloc, fs);
+/// Whether this comes of readings from `/r` on, of which these two are there.
+fn comes(alloc: Global, first: &str, second: &str, words: &[&str]) -> Option<bool> {
+    let fs = tree(alloc, TWO_ROOTS).ok()?;
+    let pool = pool_of(alloc, &fs, first, second)?;
+    let own = job_over(alloc, &fs);
     let from = roots(&own, "/r")?;
-    words_of(alloc, ReadDirIter::over_pool(own, from, pool).ok()?)
-}
-
-/// Whether this is what comes.
-fn is_what_comes(alloc: Global, fs: &MemoryFs, first: &str, second: &str, words: &str) -> bool {
-    match comes(alloc, fs, first, second) {
-        Some(found) => found.as_str() == words,
-        None => false,
+    let mut reads = ReadDirIter::over_pool(own, from, pool).ok()?;
+    for word in words {
+        if word_of(&mut reads) != *word {
+            return Some(false);
+        }
     }
+    Some(true)
 }
 
 #[test]
-fn a_reading_of_another_directory_is_lost_and_ends_the_readings(
-    rt: HostRuntime,
-) -> Result<(), Fail> {
-    let alloc = rt.alloc();
-    let fs = tree(alloc, TWO_ROOTS)?;
-    assert!(rt; is_what_comes(alloc, &fs, "/s", "/r/a", " lost none none none"));
-    assert!(rt; is_what_comes(alloc, &fs, "/r", "/s", " read lost none none"));
-    Ok(())
+fn a_reading_of_another_directory_is_lost_and_ends_the_readings(rt: HostRuntime) {
+    const ROWS: &[(&str, &str, &[&str])] = &[
+        ("/s", "/r/a", &["lost", "none", "none", "none"]),
+        ("/r", "/s", &["read", "lost", "none", "none"]),
+    ];
+    for (first, second, words) in ROWS {
+        assert!(rt; comes(rt.alloc(), first, second, words) == Some(true));
+    }
 }

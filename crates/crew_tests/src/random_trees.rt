@@ -10,7 +10,7 @@ const STEPS: usize = 60;
 /// How many links a tree has at most: where they are followed, each can multiply what is below it.
 const MOST_LINKS: usize = 3;
 
-/// A tree that grows by thrown steps.
+/// A tree that grows by thrown steps, and its directories below the root.
 #[derive(Drop)]
 struct Growing {
     alloc: Global,
@@ -20,126 +20,91 @@ struct Growing {
     links: usize,
 }
 
-/// What came of a step: a name that is there already leaves the tree as it is.
-fn made(step: Result<(), BuildError>) -> Result<bool, AllocError> {
-    match step {
-        Ok(()) => Ok(true),
-        Err(BuildError::Memory) => Err(AllocError),
-        Err(_) => Ok(false),
+/// The path of the root or of one of these directories.
+fn some_dir<'d>(dice: &mut Dice, dirs: &'d [String]) -> &'d str {
+    let place = dice.below(dirs.len().saturating_add(1));
+    match dirs.get(place) {
+        Some(path) => path.as_str(),
+        None => "/r",
     }
 }
 
-/// The list of the one path `/r`.
-fn root_alone(alloc: Global) -> Result<Vec<String>, AllocError> {
-    let mut dirs = Vec::new(alloc);
-    dirs.push(String::from_str(alloc, "/r")?)?;
-    Ok(dirs)
+/// What a link leads to: one of these directories, up, itself or nothing.
+fn some_target<'d>(dice: &mut Dice, dirs: &'d [String]) -> &'d str {
+    match dice.below(6) {
+        0 => "..",
+        1 => ".",
+        2 => "nothing",
+        _ => some_dir(dice, dirs),
+    }
 }
 
 impl Growing {
-    /// A tree of one directory.
-    fn new(alloc: Global, seed: usize) -> Result<Self, BuildError> {
-        let mut fs = MemoryFs::new(alloc);
-        fs.add_dir("/r")?;
-        Ok(Growing {
-            alloc,
-            dice: Dice::new(seed),
-            fs,
-            dirs: root_alone(alloc)?,
-            links: 0,
-        })
-    }
-
-    /// The path of one of its directories.
-    fn some_dir(&mut self) -> &str {
-        let place = self.dice.below(self.dirs.len());
-        match self.dirs.get(place) {
-            Some(path) => path.as_str(),
-            None => "/r",
-        }
-    }
-
-    /// A name, hidden now and then.
-    fn some_name(&mut self) -> Result<String, AllocError> {
-        let dot = if self.dice.is_one_in(5) { "." } else { "" };
-        let letter = ["a", "b", "Z", "_"]
-            .get(self.dice.below(4))
-            .copied()
-            .unwrap_or("x");
-        let number = self.dice.below(30);
-        format!(in self.alloc; "{dot}{letter}{number}")
-    }
-
-    /// A path in one of its directories.
+    /// A path in one of its directories, whose name is hidden now and then.
     fn some_path(&mut self) -> Result<String, AllocError> {
-        let name = self.some_name()?;
-        let alloc = self.alloc;
-        let dir = self.some_dir();
-        format!(in alloc; "{dir}/{name}")
-    }
-
-    fn add_dir(&mut self) -> Result<(), AllocError> {
-        let path = self.some_path()?;
-        if made(self.fs.add_dir(path.as_str()))? {
-            self.dirs.push(path)?;
-        }
-        Ok(())
-    }
-
-    fn add_file(&mut self) -> Result<(), AllocError> {
-        let path = self.some_path()?;
-        made(self.fs.add_file(path.as_str(), 1))?;
-        Ok(())
-    }
-
-    /// The text of a link: to a directory, up, to itself or to nothing.
-    fn some_target(&mut self) -> Result<String, AllocError> {
-        let alloc = self.alloc;
-        match self.dice.below(6) {
-            0 => String::from_str(alloc, ".."),
-            1 => String::from_str(alloc, "."),
-            2 => String::from_str(alloc, "nothing"),
-            _ => String::from_str(alloc, self.some_dir()),
-        }
-    }
-
-    fn add_link(&mut self) -> Result<(), AllocError> {
-        if self.links >= MOST_LINKS {
-            return Ok(());
-        }
-        self.links += 1;
-        let path = self.some_path()?;
-        let target = self.some_target()?;
-        made(self.fs.add_link(path.as_str(), target.as_str()))?;
-        Ok(())
-    }
-
-    /// Denies the directory that was made last, unless that is the root.
-    fn deny(&mut self) -> Result<(), AllocError> {
-        let Some(path) = self.dirs.last() else {
-            return Ok(());
+        let dot = if self.dice.below(5) == 0 { "." } else { "" };
+        let letter = match self.dice.below(4) {
+            0 => "a",
+            1 => "b",
+            2 => "Z",
+            _ => "_",
         };
-        if path.as_str() != "/r" {
-            made(self.fs.deny(path.as_str(), ErrorKind::PermissionDenied))?;
-        }
-        Ok(())
+        let number = self.dice.below(30);
+        let dir = some_dir(&mut self.dice, self.dirs.as_slice());
+        format!(in self.alloc; "{dir}/{dot}{letter}{number}")
     }
 
-    fn step(&mut self) -> Result<(), AllocError> {
+    /// Adds a directory.
+    fn add_dir(&mut self, path: String) -> Result<(), BuildError> {
+        self.fs.add_dir(path.as_str())?;
+        match self.dirs.push(path) {
+            Ok(()) => Ok(()),
+            Err(_) => Err(BuildError::Memory),
+        }
+    }
+
+    /// Adds a link.
+    fn add_link(&mut self, path: &str) -> Result<(), BuildError> {
+        self.links = self.links.saturating_add(1);
+        let target = some_target(&mut self.dice, self.dirs.as_slice());
+        self.fs.add_link(path, target)
+    }
+
+    /// Denies the directory that was made last.
+    fn deny(&mut self) -> Result<(), BuildError> {
+        match self.dirs.last() {
+            Some(path) => self.fs.deny(path.as_str(), ErrorKind::PermissionDenied),
+            None => Ok(()),
+        }
+    }
+
+    /// Takes one step.
+    fn step(&mut self) -> Result<(), BuildError> {
+        let path = self.some_path()?;
         match self.dice.below(12) {
-            0 => self.add_link(),
+            0 if self.links < MOST_LINKS => self.add_link(path.as_str()),
             1 => self.deny(),
-            2..=6 => self.add_dir(),
-            _ => self.add_file(),
+            2..=6 => self.add_dir(path),
+            _ => self.fs.add_file(path.as_str(), 1),
         }
     }
 }
 
 /// The tree `/r` of a seed: directories, files, hidden names, links, and directories that may not be listed.
 pub fn random_tree(alloc: Global, seed: usize) -> Result<MemoryFs, BuildError> {
-    let mut growing = Growing::new(alloc, seed)?;
+    let mut growing = Growing {
+        alloc,
+        dice: Dice::new(seed),
+        fs: MemoryFs::new(alloc),
+        dirs: Vec::new(alloc),
+        links: 0,
+    };
+    growing.fs.add_dir("/r")?;
     for _ in 0..STEPS {
-        growing.step()?;
+        // A name that is there already leaves the tree as it is.
+        if let Err(BuildError::Memory) = growing.step() {
+            return Err(BuildError::Memory);
+        }
     }
     Ok(growing.fs)
 }

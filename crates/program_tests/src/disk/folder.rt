@@ -1,6 +1,5 @@
 //! Folders on the disk, made for one test and removed after it.
 use std::os::unix::fs::symlink;
-use std::test::Fail;
 use std::{env, fs, io, process};
 
 /// One step of filling a folder. Paths begin at the folder.
@@ -59,7 +58,7 @@ fn path_of(rt: &HostRuntime, name: &str) -> io::Result<String> {
 }
 
 /// Makes a folder for the test of this name, and fills it.
-pub fn make(rt: &HostRuntime, name: &str, steps: &[Step]) -> Result<String, Fail> {
+pub fn make(rt: &HostRuntime, name: &str, steps: &[Step]) -> io::Result<String> {
     let folder = path_of(rt, name)?;
     let _ = remove(rt, folder.as_str());
     fs::create_dir(rt, folder.as_str())?;

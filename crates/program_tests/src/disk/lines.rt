@@ -3,7 +3,6 @@ use jwalk::file_system::FileSystem;
 use jwalk::read_dir::NoProcess;
 use jwalk::{DirEntry, DirEntryIter, Error, WalkDirGeneric};
 use std::alloc::{AllocError, Global};
-use std::io::ErrorKind;
 use std::str::from_utf8;
 use walk_text::print::print_answer;
 
@@ -44,30 +43,4 @@ pub fn rest<S: FileSystem>(alloc: Global, walk: &mut Walk<S>) -> Result<Vec<Answ
     let mut found = Vec::new(alloc);
     walk.fill(usize::MAX, &mut found)?;
     Ok(found)
-}
-
-fn error_in(answer: &Answer) -> Option<&Error> {
-    answer.as_ref().ok()?.read_children.as_ref()?.error()
-}
-
-/// The first error of a directory that is answered as an entry.
-pub fn inner_error(answers: &[Answer]) -> Option<&Error> {
-    answers.iter().find_map(error_in)
-}
-
-/// Whether an error is of this depth, path and kind.
-fn is(error: &Error, depth: usize, path: &str, kind: ErrorKind) -> bool {
-    let is_kind = match error.io_error() {
-        Some(err) => err.kind() == kind,
-        None => false,
-    };
-    is_kind && error.depth() == depth && error.path() == Some(path)
-}
-
-/// Whether the first error of a directory that is answered as an entry is of this depth, path and kind.
-pub fn has_inner_error(answers: &[Answer], depth: usize, path: &str, kind: ErrorKind) -> bool {
-    match inner_error(answers) {
-        Some(error) => is(error, depth, path, kind),
-        None => false,
-    }
 }

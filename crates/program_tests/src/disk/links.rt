@@ -1,7 +1,6 @@
 //! Walks over links on the disk.
 use crate::disk::folder::{Step, make, remove};
-use crate::disk::real::{found_from, shown};
-use std::io;
+use crate::disk::real::{shows, shows_from};
 use std::test::Fail;
 
 /// A directory of one file, and links to both and to nothing.
@@ -14,22 +13,20 @@ const LINKED: &[Step] = &[
 ];
 
 #[test]
-fn links_that_are_not_followed(rt: HostRuntime) -> Result<(), Fail> {
+fn links_that_are_not_followed(rt: HostRuntime) {
     let wanted = "0 d /t\n1 d /t/a\n2 f /t/a/x\n1 L /t/to_a\n1 L /t/to_none\n1 L /t/to_x\n";
-    assert_eq!(rt; shown(&rt, "links", LINKED, false)?.as_str(), wanted);
-    Ok(())
+    assert!(rt; shows(&rt, "links", LINKED, false, wanted));
 }
 
 #[test]
-fn links_that_are_followed(rt: HostRuntime) -> Result<(), Fail> {
+fn links_that_are_followed(rt: HostRuntime) {
     let wanted = "0 d /t\n1 d /t/a\n2 f /t/a/x\n1 D /t/to_a\n2 f /t/to_a/x\n1 F /t/to_x\n\
                   ! 1 /t/to_none NotFound\n";
-    assert_eq!(rt; shown(&rt, "followed", LINKED, true)?.as_str(), wanted);
-    Ok(())
+    assert!(rt; shows(&rt, "followed", LINKED, true, wanted));
 }
 
 #[test]
-fn a_link_to_a_directory_above_is_a_loop(rt: HostRuntime) -> Result<(), Fail> {
+fn a_link_to_a_directory_above_is_a_loop(rt: HostRuntime) {
     const STEPS: &[Step] = &[
         Step::Dir("/a"),
         Step::Dir("/a/b"),
@@ -37,27 +34,30 @@ fn a_link_to_a_directory_above_is_a_loop(rt: HostRuntime) -> Result<(), Fail> {
         Step::LinkTo("/a", "/a/b/c/a-link"),
     ];
     let wanted = "0 d /t\n1 d /t/a\n2 d /t/a/b\n3 d /t/a/b/c\n! 4 /t/a/b/c/a-link loop /t/a\n";
-    assert_eq!(rt; shown(&rt, "loop", STEPS, true)?.as_str(), wanted);
-    Ok(())
+    assert!(rt; shows(&rt, "loop", STEPS, true, wanted));
 }
 
-/// What walks that don't follow links answer from a link to a directory, from one to nothing, from a file and from a
-/// name that isn't there.
-fn found_from_names(rt: &HostRuntime, folder: &str) -> io::Result<String> {
-    let mut all = String::new(rt.alloc());
-    for below in ["/to_a", "/to_none", "/a/x", "/none"] {
-        all.push_str(found_from(rt, folder, below, false)?.as_str())?;
+/// Whether walks that don't follow links answer as is said from names in a folder.
+fn show(rt: &HostRuntime, folder: &str, rows: &[(&str, &str)]) -> bool {
+    for (below, wanted) in rows {
+        if !shows_from(rt, folder, below, false, wanted) {
+            return false;
+        }
     }
-    Ok(all)
+    true
 }
 
 #[test]
 fn roots_that_are_no_directories(rt: HostRuntime) -> Result<(), Fail> {
+    const ROWS: &[(&str, &str)] = &[
+        ("/to_a", "0 L /t/to_a\n1 f /t/to_a/x\n"),
+        ("/to_none", "! 0 /t/to_none NotFound\n"),
+        ("/a/x", "0 f /t/a/x\n"),
+        ("/none", "! 0 /t/none NotFound\n"),
+    ];
     let folder = make(&rt, "roots", LINKED)?;
-    let found = found_from_names(&rt, folder.as_str());
+    let are_shown = show(&rt, folder.as_str(), ROWS);
     remove(&rt, folder.as_str())?;
-    let wanted = "0 L /t/to_a\n1 f /t/to_a/x\n! 0 /t/to_none NotFound\n0 f /t/a/x\n\
-                  ! 0 /t/none NotFound\n";
-    assert_eq!(rt; found?.as_str(), wanted);
+    assert!(rt; are_shown);
     Ok(())
 }

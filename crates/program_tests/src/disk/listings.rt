@@ -1,10 +1,11 @@
 //! Walks over a disk whose answers are written down.
-use crate::disk::lines::{Answer, Walk, builder, has_inner_error, lines, rest};
+use crate::disk::lines::{Answer, Walk, builder, lines, rest};
 use crate::disk::told::{Call, Calls, Readings, Told, ToldDisk};
 use jwalk::file_system::RealFs;
 use std::alloc::{AllocError, Global};
 use std::io::ErrorKind;
 use std::rc::Rc;
+use walk_fixtures::answers::are_lines;
 
 /// A call that fails, at a path.
 type Failing = (Call, &'static str);
@@ -21,15 +22,13 @@ fn answers(alloc: Global, told: Told, follow: bool) -> Result<Vec<Answer>, Alloc
     rest(alloc, &mut walk(alloc, disk, follow)?)
 }
 
-fn shown(alloc: Global, told: Told, follow: bool) -> Result<String, AllocError> {
-    let found = answers(alloc, told, follow)?;
-    lines(alloc, found.as_slice(), "/t")
-}
-
 /// Whether this is what a walk answers.
 fn shows(alloc: Global, told: Told, follow: bool, wanted: &str) -> bool {
-    match shown(alloc, told, follow) {
-        Ok(found) => found.as_str() == wanted,
+    let Ok(found) = answers(alloc, told, follow) else {
+        return false;
+    };
+    match lines(alloc, found.as_slice(), "/t") {
+        Ok(lines) => lines.as_str() == wanted,
         Err(_) => false,
     }
 }
@@ -151,19 +150,13 @@ fn a_directory_that_may_not_be_read_is_answered(rt: HostRuntime) -> Result<(), A
     const FAILING: &[Failing] = &[(Call::Open, "/t/s/")];
     let told = failing(FAILING, ErrorKind::PermissionDenied);
     let found = answers(rt.alloc(), told, false)?;
-    let found = found.as_slice();
-    assert!(rt; found.len() == 4);
-    assert!(rt; has_inner_error(found, 1, "/t/s", ErrorKind::PermissionDenied));
+    let wanted = "0 d /t; 1 f /t/a; 1 L /t/l; 1 d /t/s ! 1 /t/s PermissionDenied";
+    assert!(rt; are_lines(rt.alloc(), found.as_slice(), wanted));
     Ok(())
 }
 
-/// Whether a walk answers four entries.
-fn has_four(alloc: Global, disk: ToldDisk, follow: bool) -> Result<bool, AllocError> {
-    Ok(walk(alloc, disk, follow)?.count() == 4)
-}
-
-/// Whether a walk over a disk that doesn't fail makes so many calls: for directories that are opened, for what stands
-/// at paths, for what they lead to, and for the texts of links.
+/// Whether a walk over a disk that doesn't fail answers four entries and makes so many calls: for directories that are
+/// opened, for what stands at paths, for what they lead to, and for the texts of links.
 fn makes_calls(
     alloc: Global,
     follow: bool,
@@ -171,7 +164,8 @@ fn makes_calls(
 ) -> Result<bool, AllocError> {
     let calls = Rc::new(alloc, Calls::none())?;
     let disk = ToldDisk::new(failing(&[], ErrorKind::Other), calls.clone()?);
-    Ok(has_four(alloc, disk, follow)? && calls.counts() == wanted)
+    let count = walk(alloc, disk, follow)?.count();
+    Ok(count == 4 && calls.counts() == wanted)
 }
 
 #[test]

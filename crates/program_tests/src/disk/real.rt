@@ -3,7 +3,6 @@ use crate::disk::folder::{Step, make, path_in, remove};
 use crate::disk::lines::{Walk, builder, lines, rest};
 use jwalk::file_system::RealFs;
 use std::io;
-use std::test::Fail;
 
 /// A walk by name.
 pub fn by_name(rt: &HostRuntime, root: &str, follow: bool) -> io::Result<Walk<RealFs>> {
@@ -18,10 +17,19 @@ pub fn found_from(rt: &HostRuntime, folder: &str, below: &str, follow: bool) -> 
     Ok(lines(rt.alloc(), found.as_slice(), folder)?)
 }
 
-/// What a walk by name from a folder answers that these steps fill.
-pub fn shown(rt: &HostRuntime, name: &str, steps: &[Step], follow: bool) -> Result<String, Fail> {
-    let folder = make(rt, name, steps)?;
-    let found = found_from(rt, folder.as_str(), "", follow);
-    remove(rt, folder.as_str())?;
-    Ok(found?)
+/// Whether this is what a walk by name from something in a folder answers.
+pub fn shows_from(rt: &HostRuntime, folder: &str, below: &str, follow: bool, wanted: &str) -> bool {
+    match found_from(rt, folder, below, follow) {
+        Ok(found) => found.as_str() == wanted,
+        Err(_) => false,
+    }
+}
+
+/// Whether this is what a walk by name answers from a folder for the test of this name, which these steps fill.
+pub fn shows(rt: &HostRuntime, name: &str, steps: &[Step], follow: bool, wanted: &str) -> bool {
+    let Ok(folder) = make(rt, name, steps) else {
+        return false;
+    };
+    let is_shown = shows_from(rt, folder.as_str(), "", follow, wanted);
+    remove(rt, folder.as_str()).is_ok() && is_shown
 }

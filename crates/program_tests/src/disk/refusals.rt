@@ -1,12 +1,12 @@
 //! Walks over directories on the disk that can't be read.
 use crate::disk::folder::{Step, make, path_in, remove};
-use crate::disk::lines::{Answer, has_inner_error, lines};
-use crate::disk::real::{by_name, found_from};
-use std::io::ErrorKind;
+use crate::disk::lines::Answer;
+use crate::disk::real::{by_name, shows_from};
 use std::os::unix::fs::PermissionsExt;
 use std::rt::Files;
 use std::test::Fail;
 use std::{fs, io};
+use walk_fixtures::answers::are_lines;
 
 /// The answers of a walk from a folder, one directory of which is removed once the folder is answered.
 fn answers_around_removal(
@@ -22,6 +22,17 @@ fn answers_around_removal(
     Ok(found)
 }
 
+/// Whether the error of the removed directory stands where it would have been read.
+fn shows_removal(rt: &HostRuntime, folder: &str) -> io::Result<bool> {
+    let removed = path_in(rt, folder, "/b")?;
+    let found = answers_around_removal(rt, folder, removed.as_str())?;
+    let wanted = format!(in rt.alloc();
+        "0 d {folder}; 1 d {folder}/a; 2 f {folder}/a/x; 1 d {folder}/b ! 1 {folder}/b NotFound; \
+         1 d {folder}/c; 2 f {folder}/c/x"
+    )?;
+    Ok(are_lines(rt.alloc(), found.as_slice(), wanted.as_str()))
+}
+
 #[test]
 fn a_directory_that_is_removed_under_way(rt: HostRuntime) -> Result<(), Fail> {
     const STEPS: &[Step] = &[
@@ -33,32 +44,25 @@ fn a_directory_that_is_removed_under_way(rt: HostRuntime) -> Result<(), Fail> {
         Step::File(1, "/c/x"),
     ];
     let folder = make(&rt, "removed", STEPS)?;
-    let removed = path_in(&rt, folder.as_str(), "/b")?;
-    let found = answers_around_removal(&rt, folder.as_str(), removed.as_str());
+    let is_shown = shows_removal(&rt, folder.as_str());
     remove(&rt, folder.as_str())?;
-    let found = found?;
-    let found = found.as_slice();
-    assert!(rt; has_inner_error(found, 1, removed.as_str(), ErrorKind::NotFound));
-    let lines = lines(rt.alloc(), found, folder.as_str())?;
-    assert_eq!(rt;
-        lines.as_str(),
-        "0 d /t\n1 d /t/a\n2 f /t/a/x\n1 d /t/b ! NotFound\n1 d /t/c\n2 f /t/c/x\n"
-    );
+    assert!(rt; is_shown?);
     Ok(())
 }
 
-/// What a walk from a folder answers where one of its directories has no permissions, and whether that is denied to
-/// this process: nothing is, to the superuser.
-fn found_without_permission(
-    rt: &HostRuntime,
-    folder: &str,
-    closed: &str,
-) -> io::Result<(String, bool)> {
-    fs::set_permissions(rt, closed, fs::Permissions::from_mode(0))?;
-    let is_denied = rt.open_dir(closed).is_err();
-    let found = found_from(rt, folder, "", false);
-    fs::set_permissions(rt, closed, fs::Permissions::from_mode(0o700))?;
-    Ok((found?, is_denied))
+/// Whether the error of a directory without permissions stands where it would be read, if that is denied to this
+/// process: nothing is, to the superuser.
+fn shows_closed(rt: &HostRuntime, folder: &str) -> io::Result<bool> {
+    let closed = path_in(rt, folder, "/a")?;
+    fs::set_permissions(rt, closed.as_str(), fs::Permissions::from_mode(0))?;
+    let wanted = if rt.open_dir(closed.as_str()).is_err() {
+        "0 d /t\n1 d /t/a ! PermissionDenied\n1 f /t/b\n"
+    } else {
+        "0 d /t\n1 d /t/a\n2 f /t/a/x\n1 f /t/b\n"
+    };
+    let is_shown = shows_from(rt, folder, "", false, wanted);
+    fs::set_permissions(rt, closed.as_str(), fs::Permissions::from_mode(0o700))?;
+    Ok(is_shown)
 }
 
 /// A directory of one file, and a file beside it.
@@ -67,15 +71,8 @@ const CLOSED: &[Step] = &[Step::Dir("/a"), Step::File(1, "/a/x"), Step::File(1, 
 #[test]
 fn a_directory_without_permissions(rt: HostRuntime) -> Result<(), Fail> {
     let folder = make(&rt, "closed", CLOSED)?;
-    let closed = path_in(&rt, folder.as_str(), "/a")?;
-    let found = found_without_permission(&rt, folder.as_str(), closed.as_str());
+    let is_shown = shows_closed(&rt, folder.as_str());
     remove(&rt, folder.as_str())?;
-    let (found, is_denied) = found?;
-    let wanted = if is_denied {
-        "0 d /t\n1 d /t/a ! PermissionDenied\n1 f /t/b\n"
-    } else {
-        "0 d /t\n1 d /t/a\n2 f /t/a/x\n1 f /t/b\n"
-    };
-    assert_eq!(rt; found.as_str(), wanted);
+    assert!(rt; is_shown?);
     Ok(())
 }

@@ -1,57 +1,30 @@
 //! Walks over folders of size on the disk.
 use crate::disk::folder::{make, path_in, remove};
-use crate::disk::lines::{Answer, inner_error, rest};
-use crate::disk::real::by_name;
+use crate::disk::lines::{Answer, rest};
+use crate::disk::real::{by_name, shows_from};
 use std::test::Fail;
 use std::{fs, io};
 
-/// How many files the wide directory holds. Their names are longer together than what one reading of it gives.
-const FILES: usize = 5_000;
-
-/// The name of a file of the wide directory, behind a slash. Names are in the order of their numbers.
-fn name_of(rt: &HostRuntime, number: usize) -> io::Result<String> {
-    let number = number.wrapping_add(10_000);
-    Ok(format!(in rt.alloc(); "/{number} of the files of one wide directory")?)
-}
-
-fn make_files(rt: &HostRuntime, folder: &str) -> io::Result<()> {
-    for number in 0..FILES {
-        let name = name_of(rt, number)?;
-        fs::write(
-            rt,
-            path_in(rt, folder, name.as_str())?.as_str(),
-            b"".as_slice(),
-        )?;
-    }
+/// Makes a file of the wide directory, and adds the line of its entry. Names are in the order of their numbers.
+fn make_file(rt: &HostRuntime, folder: &str, number: usize, lines: &mut String) -> io::Result<()> {
+    let name = format!(in rt.alloc(); "/{number} of the files of one wide directory")?;
+    fs::write(
+        rt,
+        path_in(rt, folder, name.as_str())?.as_str(),
+        b"".as_slice(),
+    )?;
+    lines.push_str(format!(in rt.alloc(); "1 f /t{name}\n")?.as_str())?;
     Ok(())
 }
 
-fn has_name(answer: &Answer, wanted: &str) -> bool {
-    match answer {
-        Ok(entry) => entry.depth() == 1 && wanted.strip_prefix("/") == Some(entry.file_name()),
-        Err(_) => false,
-    }
-}
-
-/// Whether answers are those of the files, in the order of their numbers.
-fn are_all_files(rt: &HostRuntime, answers: &[Answer]) -> bool {
-    for (number, answer) in answers.iter().enumerate() {
-        match name_of(rt, number) {
-            Ok(name) if has_name(answer, name.as_str()) => {}
-            _ => return false,
-        }
-    }
-    answers.len() == FILES
-}
-
-/// Whether a walk by name from the folder answers it and all its files.
+/// Whether a walk by name answers thousands of files that are made in the wide directory. Their names are longer
+/// together than what one reading of it gives.
 fn finds_all_files(rt: &HostRuntime, folder: &str) -> io::Result<bool> {
-    make_files(rt, folder)?;
-    let found = rest(rt.alloc(), &mut by_name(rt, folder, false)?)?;
-    Ok(match found.as_slice().split_first() {
-        Some((Ok(_), files)) => are_all_files(rt, files),
-        _ => false,
-    })
+    let mut lines = String::from_str(rt.alloc(), "0 d /t\n")?;
+    for number in 10_000..15_000 {
+        make_file(rt, folder, number, &mut lines)?;
+    }
+    Ok(shows_from(rt, folder, "", false, lines.as_str()))
 }
 
 #[test]
@@ -76,28 +49,27 @@ fn make_directories(rt: &HostRuntime, folder: &str) -> io::Result<()> {
     Ok(())
 }
 
+/// Whether an answer is a directory at this depth that could be read.
 fn is_at(answer: &Answer, depth: usize) -> bool {
     match answer {
-        Ok(entry) => entry.depth() == depth && entry.file_type().is_dir(),
+        Ok(entry) => {
+            let error = entry.read_children.as_ref().and_then(|c| c.error());
+            entry.depth() == depth && entry.file_type().is_dir() && error.is_none()
+        }
         Err(_) => false,
     }
 }
 
-/// Whether answers are directories, each one deeper than the one before it, and none of them has an error.
-fn go_down(answers: &[Answer]) -> bool {
-    for (depth, answer) in answers.iter().enumerate() {
-        if !is_at(answer, depth) {
-            return false;
-        }
-    }
-    inner_error(answers).is_none()
-}
-
-/// Whether a walk from the folder answers it and all directories in one another.
+/// Whether a walk from the folder answers it and all directories in one another, each one deeper than the one before.
 fn goes_down(rt: &HostRuntime, folder: &str) -> io::Result<bool> {
     make_directories(rt, folder)?;
     let found = rest(rt.alloc(), &mut by_name(rt, folder, false)?)?;
-    Ok(found.len() == DEPTH.wrapping_add(1) && go_down(found.as_slice()))
+    for (depth, answer) in found.iter().enumerate() {
+        if !is_at(answer, depth) {
+            return Ok(false);
+        }
+    }
+    Ok(found.len() == DEPTH.wrapping_add(1))
 }
 
 #[test]

@@ -1,7 +1,7 @@
 //! Walks from folders, files and other things on the disk.
 use crate::disk::folder::{Step, make, path_in, remove};
 use crate::disk::lines::{builder, lines, rest};
-use crate::disk::real::{found_from, shown};
+use crate::disk::real::{shows, shows_from};
 use jwalk::file_system::{Fault, FileSystem, RealFs};
 use jwalk::read_dir::NoProcess;
 use jwalk::threads::OnThreads;
@@ -23,12 +23,13 @@ const GROUPED: &[Step] = &[
     Step::File(6, "/b.txt"),
 ];
 
+/// What walks by name answer over them.
+const BY_NAME: &str = "0 d /t\n1 f /t/a.txt\n1 f /t/b.txt\n1 f /t/c.txt\n\
+                       1 d /t/group 1\n2 f /t/group 1/d.txt\n1 d /t/group 2\n2 f /t/group 2/e.txt\n";
+
 #[test]
-fn a_folder_of_groups_by_name(rt: HostRuntime) -> Result<(), Fail> {
-    let wanted = "0 d /t\n1 f /t/a.txt\n1 f /t/b.txt\n1 f /t/c.txt\n\
-                  1 d /t/group 1\n2 f /t/group 1/d.txt\n1 d /t/group 2\n2 f /t/group 2/e.txt\n";
-    assert_eq!(rt; shown(&rt, "groups", GROUPED, false)?.as_str(), wanted);
-    Ok(())
+fn a_folder_of_groups_by_name(rt: HostRuntime) {
+    assert!(rt; shows(&rt, "groups", GROUPED, false, BY_NAME));
 }
 
 /// What a walk answers by name whose directories are read several at a time, with `/t` for the folder.
@@ -52,9 +53,7 @@ fn a_folder_of_groups_in_batches(rt: HostRuntime) -> Result<(), Fail> {
     let walk = WalkDir::at(&rt, folder.as_str())?;
     let found = found_in_batches(rt.alloc(), walk, folder.as_str());
     remove(&rt, folder.as_str())?;
-    let wanted = "0 d /t\n1 f /t/a.txt\n1 f /t/b.txt\n1 f /t/c.txt\n\
-                  1 d /t/group 1\n2 f /t/group 1/d.txt\n1 d /t/group 2\n2 f /t/group 2/e.txt\n";
-    assert_eq!(rt; found?.as_str(), wanted);
+    assert_eq!(rt; found?.as_str(), BY_NAME);
     Ok(())
 }
 
@@ -122,8 +121,6 @@ fn roots_from_where_the_process_stands(rt: HostRuntime) -> Result<(), Fail> {
 }
 
 #[test]
-fn a_device_is_something_else(rt: HostRuntime) -> Result<(), Fail> {
-    let found = found_from(&rt, "/dev", "/null", false)?;
-    assert_eq!(rt; found.as_str(), "0 o /t/null\n");
-    Ok(())
+fn a_device_is_something_else(rt: HostRuntime) {
+    assert!(rt; shows_from(&rt, "/dev", "/null", false, "0 o /t/null\n"));
 }

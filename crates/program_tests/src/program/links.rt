@@ -108,30 +108,15 @@ fn links_to_files_and_to_nothing(rt: HostRuntime) {
     all_come_over_tree(&rt, ROWS);
 }
 
-/// The path that goes so many times through a link.
-fn path_of_links(alloc: Global, count: usize) -> Result<String, AllocError> {
-    let mut path = String::from_str(alloc, "/r")?;
-    for _ in 0..count {
+/// The lines of the paths that go once through a link, twice and so on, up to the one that is refused.
+fn lines_of_links(alloc: Global) -> Result<String, AllocError> {
+    let mut path = String::from_str(alloc, "/r/l")?;
+    let mut out = String::from_str(alloc, "0 d /r\n")?;
+    for depth in 1..41 {
+        out.push_str(format!(in alloc; "{depth} D {path}\n")?.as_str())?;
         path.push_str("/l")?;
     }
-    Ok(path)
-}
-
-/// The line of the path that goes so many times through a link.
-fn line_of_links(alloc: Global, count: usize) -> Result<String, AllocError> {
-    let path = path_of_links(alloc, count)?;
-    if count < 41 {
-        format!(in alloc; "{count} D {path}\n")
-    } else {
-        format!(in alloc; "! {count} {path} Other\n")
-    }
-}
-
-fn lines_of_links(alloc: Global) -> Result<String, AllocError> {
-    let mut out = String::from_str(alloc, "0 d /r\n")?;
-    for depth in 1..42 {
-        out.push_str(line_of_links(alloc, depth)?.as_str())?;
-    }
+    out.push_str(format!(in alloc; "! 41 {path} Other\n")?.as_str())?;
     Ok(out)
 }
 

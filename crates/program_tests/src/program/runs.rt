@@ -23,7 +23,7 @@ pub const BAD_WORDS: Want<'static> = ("", "walk: bad words\n", 2);
 pub type Row<'a> = (&'a [&'a str], &'a str, Want<'a>);
 
 /// Whether this comes over this disk of some words and then others.
-fn comes<S: FileSystem + Send + Sync + 'static, R: Read>(
+pub fn comes<S: FileSystem + Send + Sync + 'static, R: Read>(
     rt: &(impl Wait + Threads + Clock + Clone + Drop + Send + Sync + AllocGlobal + 'static),
     disk: S,
     front: &[&str],
@@ -98,79 +98,67 @@ pub fn comes_unread<S: FileSystem + Send + Sync + 'static>(
     comes(rt, disk, front, words, &mut input, want) && input.reads == 0
 }
 
-/// Whether this comes of a call over a disk of these lines, and the input isn't read.
-fn comes_of_disk(
+/// The words in front of a call's own, and whether the tree of a row's lines is the disk. Else the lines are the input,
+/// and the disk is empty.
+type Way = (&'static [&'static str], bool);
+
+/// Nothing in front, and the lines on the input.
+const INPUT: &[Way] = &[(&[], false)];
+
+/// One directory at a time, batches of several widths, and crews: on the disk, and on the input's tree.
+const WAYS: &[Way] = &[
+    (&[], true),
+    (&["--tree"], false),
+    (&["--batch", "1"], true),
+    (&["--tree", "--batch", "1"], false),
+    (&["--batch", "2"], true),
+    (&["--tree", "--batch", "2"], false),
+    (&["--batch", "8"], true),
+    (&["--tree", "--batch", "8"], false),
+    (&["--batch", "0"], true),
+    (&["--tree", "--batch", "0"], false),
+    (&["--crew", "1"], true),
+    (&["--tree", "--crew", "1"], false),
+    (&["--crew", "3"], true),
+    (&["--tree", "--crew", "3"], false),
+    (&["--crew", "0"], true),
+    (&["--tree", "--crew", "0"], false),
+];
+
+/// Whether a row comes as is said in one of the ways. Where its tree is the disk, the input isn't read.
+fn comes_by(
     rt: &(impl Wait + Threads + Clock + Clone + Drop + Send + Sync + AllocGlobal + 'static),
-    way: &[&str],
+    (front, is_on_disk): &Way,
     (words, lines, want): &Row<'_>,
 ) -> bool {
-    match build_tree(rt.alloc(), lines.as_bytes()) {
-        Ok(disk) => comes_unread(rt, disk, way, words, want),
+    let alloc = rt.alloc();
+    if !*is_on_disk {
+        return comes(
+            rt,
+            MemoryFs::new(alloc),
+            front,
+            words,
+            &mut lines.as_bytes(),
+            want,
+        );
+    }
+    match build_tree(alloc, lines.as_bytes()) {
+        Ok(disk) => comes_unread(rt, disk, front, words, want),
         Err(_) => false,
     }
 }
 
-/// Whether this comes of some words and then others, where the disk is empty.
-pub fn comes_alone<R: Read>(
-    rt: &(impl Wait + Threads + Clock + Clone + Drop + Send + Sync + AllocGlobal + 'static),
-    front: &[&str],
-    words: &[&str],
-    input: &mut R,
-    want: &Want<'_>,
-) -> bool {
-    comes(rt, MemoryFs::new(rt.alloc()), front, words, input, want)
-}
-
-/// The words that ask for one directory at a time, for batches of several widths, and for crews: on the disk, and on
-/// the input's tree.
-const WAYS: &[(&[&str], &[&str])] = &[
-    (&[], &["--tree"]),
-    (&["--batch", "1"], &["--tree", "--batch", "1"]),
-    (&["--batch", "2"], &["--tree", "--batch", "2"]),
-    (&["--batch", "8"], &["--tree", "--batch", "8"]),
-    (&["--batch", "0"], &["--tree", "--batch", "0"]),
-    (&["--crew", "1"], &["--tree", "--crew", "1"]),
-    (&["--crew", "3"], &["--tree", "--crew", "3"]),
-    (&["--crew", "0"], &["--tree", "--crew", "0"]),
-];
-
-/// Whether a row comes as is said in each of these ways, be its tree the input's or the disk's.
-fn comes_in_each_way(
-    rt: &(impl Wait + Threads + Clock + Clone + Drop + Send + Sync + AllocGlobal + 'static),
-    row: &Row<'_>,
-) -> bool {
-    let (words, lines, want) = row;
-    for (on_disk, on_tree) in WAYS {
-        if !comes_alone(rt, on_tree, words, &mut lines.as_bytes(), want)
-            || !comes_of_disk(rt, on_disk, row)
-        {
-            return false;
-        }
-    }
-    true
-}
-
-/// The number of the first row that comes otherwise of its words, where the lines are the input.
+/// The number of the first row that comes otherwise in one of these ways.
 fn first_wrong(
     rt: &(impl Wait + Threads + Clock + Clone + Drop + Send + Sync + AllocGlobal + 'static),
-    rows: &[Row<'_>],
-) -> Option<usize> {
-    for (number, (words, lines, want)) in rows.iter().enumerate() {
-        if !comes_alone(rt, &[], words, &mut lines.as_bytes(), want) {
-            return Some(number);
-        }
-    }
-    None
-}
-
-/// The number of the first row that comes otherwise over the tree of its lines.
-fn first_wrong_over_tree(
-    rt: &(impl Wait + Threads + Clock + Clone + Drop + Send + Sync + AllocGlobal + 'static),
+    ways: &[Way],
     rows: &[Row<'_>],
 ) -> Option<usize> {
     for (number, row) in rows.iter().enumerate() {
-        if !comes_in_each_way(rt, row) {
-            return Some(number);
+        for way in ways {
+            if !comes_by(rt, way, row) {
+                return Some(number);
+            }
         }
     }
     None
@@ -181,7 +169,7 @@ pub fn all_come(
     rt: &(impl Abort + Wait + Threads + Clock + Clone + Drop + Send + Sync + AllocGlobal + 'static),
     rows: &[Row<'_>],
 ) {
-    assert_eq!(rt; first_wrong(rt, rows), None);
+    assert_eq!(rt; first_wrong(rt, INPUT, rows), None);
 }
 
 /// Each row comes as is said over the tree of its lines, whatever its directories are read by: with `--tree` in front
@@ -190,5 +178,5 @@ pub fn all_come_over_tree(
     rt: &(impl Abort + Wait + Threads + Clock + Clone + Drop + Send + Sync + AllocGlobal + 'static),
     rows: &[Row<'_>],
 ) {
-    assert_eq!(rt; first_wrong_over_tree(rt, rows), None);
+    assert_eq!(rt; first_wrong(rt, WAYS, rows), None);
 }

@@ -1,12 +1,9 @@
 //! Inputs and outputs that fail, and long ones.
-use crate::program::runs::{BAD_WORDS, TREE_A, Want, comes_alone, ends};
+use crate::program::runs::{BAD_WORDS, TREE_A, Want, comes, ends};
 use jwalk::file_system::MemoryFs;
 use std::alloc::AllocError;
 use std::io;
 use std::io::{ErrorKind, Read, Write};
-use std::sync::Wait;
-use std::thread::Threads;
-use std::time::Clock;
 
 /// Neither reads nor writes: each call fails with an error of this kind.
 #[derive(Drop)]
@@ -31,14 +28,6 @@ impl Write for Broken {
 /// The words of a call, the error of its input, and what comes of it.
 type Row = (&'static [&'static str], ErrorKind, Want<'static>);
 
-/// Whether a row comes as is said, where the disk is empty.
-fn comes_broken(
-    rt: &(impl Wait + Threads + Clock + Clone + Drop + Send + Sync + AllocGlobal + 'static),
-    (words, kind, want): &Row,
-) -> bool {
-    comes_alone(rt, &[], words, &mut Broken(*kind), want)
-}
-
 #[test]
 fn an_input_that_cannot_be_read_is_told(rt: HostRuntime) {
     const ROWS: &[Row] = &[
@@ -55,27 +44,20 @@ fn an_input_that_cannot_be_read_is_told(rt: HostRuntime) {
         (&["--tree", "--min", "/r"], ErrorKind::Other, BAD_WORDS),
         (&["/"], ErrorKind::Other, ("0 d /\n", "", 0)),
     ];
-    for row in ROWS {
-        assert!(rt; comes_broken(&rt, row), "{:?}", row.0);
+    for (words, kind, want) in ROWS {
+        let disk = MemoryFs::new(rt.alloc());
+        assert!(rt; comes(&rt, disk, &[], words, &mut Broken(*kind), want));
     }
-}
-
-/// Whether a call over an empty disk that writes there ends with this status and tells of nothing.
-fn ends_alone<W: Write>(
-    rt: &(impl Wait + Threads + Clock + Clone + Drop + Send + Sync + AllocGlobal + 'static),
-    words: &[&str],
-    input: &str,
-    out: &mut W,
-    status: u8,
-) -> bool {
-    ends(rt, MemoryFs::new(rt.alloc()), words, input, out, status)
 }
 
 #[test]
 fn an_output_that_cannot_be_written_ends_the_walk(rt: HostRuntime) {
-    let mut out = Broken(ErrorKind::BrokenPipe);
-    assert!(rt; ends_alone(&rt, &["--tree", "/t"], TREE_A, &mut out, 1));
-    assert!(rt; ends_alone(&rt, &["--tree", "--crew", "3", "/t"], TREE_A, &mut out, 1));
+    const CALLS: &[&[&str]] = &[&["--tree", "/t"], &["--tree", "--crew", "3", "/t"]];
+    for words in CALLS {
+        let disk = MemoryFs::new(rt.alloc());
+        let mut out = Broken(ErrorKind::BrokenPipe);
+        assert!(rt; ends(&rt, disk, words, TREE_A, &mut out, 1));
+    }
 }
 
 /// Keeps what is written until it is flushed.
@@ -108,8 +90,16 @@ fn the_output_is_flushed_at_the_end(rt: HostRuntime) {
         written: Vec::new(rt.alloc()),
         flushed: Vec::new(rt.alloc()),
     };
-    assert!(rt; ends_alone(&rt, &["--tree", "/r"], "d /r\nf 1 /r/a\n", &mut out, 0));
-    assert!(rt; is_kept(&out, "0 d /r\n1 f /r/a\n"));
+    let disk = MemoryFs::new(rt.alloc());
+    let ended = ends(
+        &rt,
+        disk,
+        &["--tree", "/r"],
+        "d /r\nf 1 /r/a\n",
+        &mut out,
+        0,
+    );
+    assert!(rt; ended && is_kept(&out, "0 d /r\n1 f /r/a\n"));
 }
 
 /// Gives a text in pieces, which end anywhere in a line.
@@ -126,34 +116,16 @@ impl<'t> Read for Pieces<'t> {
     }
 }
 
-/// Adds the line of a file to an input, and that of its entry to an output.
-fn push_file(input: &mut String, out: &mut String, number: u64) -> Result<(), AllocError> {
-    let alloc = *input.allocator();
-    input.push_str(format!(in alloc; "f {number} /r/file number {number}\n")?.as_str())?;
-    out.push_str(format!(in alloc; "1 f /r/file number {number}\n")?.as_str())
-}
-
+/// Adds the line of a directory to an input, and that of its entry to an output, and those of so many files in it.
 fn push_files(input: &mut String, out: &mut String, count: u64) -> Result<(), AllocError> {
+    let alloc = *input.allocator();
     input.push_str("d /r\n")?;
     out.push_str("0 d /r\n")?;
     for number in 0..count {
-        push_file(input, out, number)?;
+        input.push_str(format!(in alloc; "f {number} /r/file number {number}\n")?.as_str())?;
+        out.push_str(format!(in alloc; "1 f /r/file number {number}\n")?.as_str())?;
     }
     Ok(())
-}
-
-fn comes_of_pieces(
-    rt: &(impl Wait + Threads + Clock + Clone + Drop + Send + Sync + AllocGlobal + 'static),
-    input: &str,
-    out: &str,
-) -> bool {
-    comes_alone(
-        rt,
-        &[],
-        &["--tree", "/r"],
-        &mut Pieces(input.as_bytes()),
-        &(out, "", 0),
-    )
 }
 
 #[test]
@@ -161,7 +133,10 @@ fn a_long_input_is_read_whole(rt: HostRuntime) -> Result<(), AllocError> {
     let mut input = String::new(rt.alloc());
     let mut out = String::new(rt.alloc());
     push_files(&mut input, &mut out, 6000)?;
-    assert!(rt; input.len() > 100000);
-    assert!(rt; comes_of_pieces(&rt, input.as_str(), out.as_str()));
+    let mut pieces = Pieces(input.as_str().as_bytes());
+    let disk = MemoryFs::new(rt.alloc());
+    let want = (out.as_str(), "", 0);
+    let is_whole = comes(&rt, disk, &[], &["--tree", "/r"], &mut pieces, &want);
+    assert!(rt; input.len() > 100000 && is_whole);
     Ok(())
 }

@@ -109,18 +109,15 @@ fn a_denied_directory_is_answered_with_its_error(rt: HostRuntime) {
     all_come_over_tree(&rt, ROWS);
 }
 
-/// Adds the lines of a directory with one file to an input, and those of their entries to an output.
-fn push_dir(input: &mut String, out: &mut String, number: u64) -> Result<(), AllocError> {
-    let alloc = *input.allocator();
-    input.push_str(format!(in alloc; "d /r/{number}\nf 1 /r/{number}/x\n")?.as_str())?;
-    out.push_str(format!(in alloc; "1 d /r/{number}\n2 f /r/{number}/x\n")?.as_str())
-}
-
+/// Adds the line of a directory to an input, and that of its entry to an output, and those of so many directories with
+/// one file in it.
 fn push_dirs(input: &mut String, out: &mut String, count: u64) -> Result<(), AllocError> {
+    let alloc = *input.allocator();
     input.push_str("d /r\n")?;
     out.push_str("0 d /r\n")?;
     for number in 0..count {
-        push_dir(input, out, number)?;
+        input.push_str(format!(in alloc; "d /r/{number}\nf 1 /r/{number}/x\n")?.as_str())?;
+        out.push_str(format!(in alloc; "1 d /r/{number}\n2 f /r/{number}/x\n")?.as_str())?;
     }
     Ok(())
 }

@@ -1,0 +1,236 @@
+//! What is done with walks over a crew, one act after another.
+use crate::crewed::{Asked, PoolWalk, Stand, States, Taken, Walk};
+use jwalk::file_system::FileSystem;
+use jwalk::read_dir::{NoProcess, ProcessReadDir};
+use jwalk::{Crew, Pool};
+use jwalk_crew::crew::Place;
+use std::alloc::{AllocError, Global};
+use std::sync::{Arc, Wait};
+use std::thread;
+use std::thread::Threads;
+use std::time::{Clock, Duration};
+use walk_fixtures::answers::{Answer, are_lines};
+use walk_fixtures::trees::{Step, tree};
+use walk_fixtures::watched::{Failing, Watched};
+use walk_fixtures::ways::all_of;
+
+/// An act, which comes off or not.
+#[derive(Clone, Copy)]
+pub enum Act<'a> {
+    /// A walk begins.
+    Begins(Asked<'a>),
+    /// A walk doesn't begin, since the crew is busy.
+    IsRefused(Asked<'a>),
+    /// All that a walk answers is that the crew is busy.
+    IsBusy(Asked<'a>),
+    /// A walk whose answers are taken in this way answers this.
+    Answers(Taken, Asked<'a>, &'a str),
+    /// The walk that began last goes on so.
+    Last(Going<'a>),
+    /// A place is taken, and given back a while later on another thread.
+    Holds,
+    /// So many places are in use.
+    InUse(usize),
+    /// Within some seconds no directory is listed any more.
+    Rests,
+}
+
+/// How a walk under way goes on.
+#[derive(Clone, Copy)]
+pub enum Going<'a> {
+    /// Within some seconds so many readings are ahead.
+    Ahead(usize),
+    /// So many entries come.
+    Comes(usize),
+    /// This is all that still comes.
+    Ends(&'a str),
+    /// It is dropped.
+    Drops,
+}
+
+/// A tree, where it fails, and how many places and workers for a walk its crew has.
+#[derive(Clone, Copy)]
+pub struct Scene {
+    pub steps: &'static [Step],
+    pub failing: Failing,
+    pub places: usize,
+    pub workers: usize,
+}
+
+/// Whether this is what a walk answers.
+fn are(alloc: Global, found: Result<Vec<Answer>, AllocError>, wanted: &str) -> bool {
+    match found {
+        Ok(found) => are_lines(alloc, found.as_slice(), wanted),
+        Err(_) => false,
+    }
+}
+
+/// Whether the one answer is that the crew is busy.
+fn is_busy(found: Result<Vec<Answer>, AllocError>) -> bool {
+    let Ok(found) = found else {
+        return false;
+    };
+    match found.as_slice() {
+        [Err(error)] => error.is_busy() && error.path().is_none() && error.depth() == 0,
+        _ => false,
+    }
+}
+
+/// Whether so many entries come of a walk.
+fn comes<S: FileSystem, L: Pool<States, S, NoProcess, Global>>(
+    walk: &mut PoolWalk<S, L>,
+    count: usize,
+) -> bool {
+    for _ in 0..count {
+        if !matches!(walk.next(), Some(Ok(_))) {
+            return false;
+        }
+    }
+    true
+}
+
+/// Whether within some seconds so many readings are ahead for a walk.
+fn come_ahead<S: FileSystem, L: Pool<States, S, NoProcess, Global>>(
+    clock: &impl Clock,
+    walk: &PoolWalk<S, L>,
+    count: usize,
+) -> bool {
+    for _ in 0..5_000 {
+        if walk.ahead() == count {
+            return true;
+        }
+        thread::sleep(clock, Duration::from_millis(1));
+    }
+    false
+}
+
+/// Whether the last of these walks goes on so.
+fn goes_on<S: FileSystem, L: Pool<States, S, NoProcess, Global>>(
+    clock: &impl Clock,
+    walks: &mut Vec<PoolWalk<S, L>>,
+    going: &Going<'_>,
+) -> bool {
+    match going {
+        Going::Ahead(count) => match walks.last() {
+            Some(walk) => come_ahead(clock, walk, *count),
+            None => false,
+        },
+        Going::Comes(count) => match walks.last_mut() {
+            Some(walk) => comes(walk, *count),
+            None => false,
+        },
+        Going::Ends(wanted) => match walks.pop() {
+            Some(walk) => are(*walks.allocator(), all_of(*walks.allocator(), walk), wanted),
+            None => false,
+        },
+        Going::Drops => walks.pop().is_some(),
+    }
+}
+
+/// Whether no directory is listed any more for a while, within some seconds.
+fn rests(clock: &impl Clock, fs: &Watched) -> bool {
+    let mut lists = fs.lists();
+    let mut still: usize = 0;
+    for _ in 0..5_000 {
+        thread::sleep(clock, Duration::from_millis(1));
+        let now = fs.lists();
+        still = if now == lists {
+            still.saturating_add(1)
+        } else {
+            0
+        };
+        lists = now;
+        if still >= 200 {
+            return true;
+        }
+    }
+    false
+}
+
+/// Takes a place, and gives it back a while later on another thread.
+fn holds<R: Wait + Threads + Clock + Clone + Drop + Send + Sync + 'static>(
+    rt: &R,
+    crew: &Arc<Crew<R>>,
+) -> Option<()> {
+    let clock: R = rt.clone().ok()?;
+    let place = Place::take(crew, None).ok()?;
+    let holder = thread::spawn(rt, move || {
+        thread::sleep(&clock, Duration::from_millis(20));
+        drop(place);
+    });
+    holder.ok()?;
+    Some(())
+}
+
+/// Whether an act comes off beside these walks.
+fn comes_off<R: Wait + Threads + Clock + AllocGlobal + Clone + Drop + Send + Sync + 'static>(
+    rt: &R,
+    stand: &Stand<R>,
+    walks: &mut Vec<Walk<R>>,
+    act: &Act<'_>,
+) -> bool {
+    match act {
+        Act::Begins(asked) => match stand.tried(asked) {
+            Ok(walk) => walks.push(walk).is_ok(),
+            Err(_) => false,
+        },
+        Act::IsRefused(asked) => match stand.tried(asked) {
+            Ok(_) => false,
+            Err(error) => error.is_busy(),
+        },
+        Act::IsBusy(asked) => is_busy(stand.taken(rt, asked, Taken::AtOnce)),
+        Act::Answers(way, asked, wanted) => {
+            are(stand.alloc, stand.taken(rt, asked, *way), wanted)
+        }
+        Act::Last(going) => goes_on(rt, walks, going),
+        Act::Holds => holds(rt, &stand.crew).is_some(),
+        Act::InUse(places) => stand.crew.in_use() == *places,
+        Act::Rests => rests(rt, &*stand.fs),
+    }
+}
+
+/// Whether all acts come off, one after another.
+fn come_off<R: Wait + Threads + Clock + AllocGlobal + Clone + Drop + Send + Sync + 'static>(
+    rt: &R,
+    stand: &Stand<R>,
+    acts: &[Act<'_>],
+) -> bool {
+    let mut walks = Vec::new(stand.alloc);
+    for act in acts {
+        if !comes_off(rt, stand, &mut walks, act) {
+            return false;
+        }
+    }
+    true
+}
+
+/// Whether all acts come off over the crew and the tree of a scene.
+pub fn all_come_off<R: Wait + Threads + Clock + AllocGlobal + Clone + Drop + Send + Sync + 'static>(
+    rt: &R,
+    scene: &Scene,
+    acts: &[Act<'_>],
+) -> bool {
+    let Ok(tree) = tree(rt.alloc(), scene.steps) else {
+        return false;
+    };
+    match Stand::new(rt, tree, scene.failing, scene.places, scene.workers) {
+        Ok(stand) => come_off(rt, &stand, acts),
+        Err(_) => false,
+    }
+}
+
+/// Whether a walk with a callback answers this over a tree, whose crew has two workers.
+pub fn shows_by<
+    R: Wait + Threads + Clock + AllocGlobal + Clone + Drop + Send + Sync + 'static,
+    P: ProcessReadDir<States, Global> + Send + Sync + 'static,
+>(rt: &R, steps: &[Step], asked: &Asked<'_>, process: P, wanted: &str) -> bool
+    requires { P.IsLawful process }
+{
+    let Ok(tree) = tree(rt.alloc(), steps) else {
+        return false;
+    };
+    match Stand::new(rt, tree, Failing::Never, 1, 2) {
+        Ok(stand) => are(stand.alloc, stand.found(asked, process), wanted),
+        Err(_) => false,
+    }
+}

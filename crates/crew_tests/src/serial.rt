@@ -1,0 +1,93 @@
+//! Whether walks over a crew answer as serial walks do, item by item.
+use crate::crewed::{Asked, Stand};
+use jwalk::DirEntry;
+use jwalk::file_system::{BuildError, MemoryFs};
+use jwalk::read_dir::{ByFn, NoProcess, ProcessReadDir};
+use std::alloc::{AllocError, Global};
+use std::sync::Wait;
+use std::thread::Threads;
+use std::time::Clock;
+use walk_fixtures::answers::Answer;
+use walk_fixtures::watched::Failing;
+use walk_fixtures::ways::{self, Way};
+use walk_fixtures::width::Width;
+
+/// States that count: one beside each directory's reading, and one beside each entry.
+type Counts = (usize, usize);
+
+/// All that answers hold, as a text.
+fn text_of(alloc: Global, found: Result<Vec<Answer<Counts>>, AllocError>) -> Option<String> {
+    let found = found.ok()?;
+    format!(in alloc; "{:?}", found.as_slice()).ok()
+}
+
+/// Whether a walk over the crew with a callback answers what the serial walk does with the same one.
+fn is_serial<
+    R: Wait + Threads + Clock + AllocGlobal + Drop + Send + Sync + 'static,
+    P: ProcessReadDir<Counts, Global> + Send + Sync + 'static,
+>(rt: &R, stand: &Stand<R>, asked: &Asked<'_>, process: P, same: P) -> bool
+    requires lawful { P.IsLawful process }
+    requires same { P.IsLawful same }
+{
+    let alone = ways::Asked {
+        fs: &*stand.fs,
+        root: asked.root,
+        settings: asked.settings,
+    };
+    let crewed = text_of(stand.alloc, stand.found(asked, process));
+    let serial = alone.found(rt, same, Way::InTurn(Width::Serial));
+    match (crewed, text_of(stand.alloc, serial)) {
+        (Some(crewed), Some(serial)) => crewed.as_str() == serial.as_str(),
+        _ => false,
+    }
+}
+
+/// Takes some directories away, and tells some in which state to begin.
+fn mark(entry: &mut DirEntry<Counts>, place: usize, state: usize) {
+    entry.client_state = state.wrapping_add(place);
+    if entry.depth > 0 && state.wrapping_add(place) % 6 == 0 {
+        entry.read_children = None;
+    }
+    if let Some(directory) = &mut entry.read_children
+        && place % 2 == 0
+    {
+        directory.client_read_state = Some(state.wrapping_mul(3));
+    }
+}
+
+/// A callback that counts, reorders a list and takes directories away from some of its entries.
+fn reorder(
+    _depth: Option<usize>,
+    _path: &str,
+    state: &mut usize,
+    list: &mut Vec<Answer<Counts>>,
+) -> Result<(), AllocError> {
+    *state = state.wrapping_add(list.len());
+    for (place, found) in list.iter_mut().enumerate() {
+        if let Ok(entry) = found {
+            mark(entry, place, *state);
+        }
+    }
+    if *state % 3 != 0 {
+        list.reverse();
+    }
+    Ok(())
+}
+
+/// Whether walks over a tree, without a callback and with one that reorders lists, answer what serial ones do over a
+/// crew with so many workers for a walk.
+pub fn are_serial<R: Wait + Threads + Clock + AllocGlobal + Clone + Drop + Send + Sync + 'static>(
+    rt: &R,
+    tree: Result<MemoryFs, BuildError>,
+    asked: &Asked<'_>,
+    workers: usize,
+) -> bool {
+    let Ok(tree) = tree else {
+        return false;
+    };
+    let Ok(stand) = Stand::new(rt, tree, Failing::Never, 1, workers) else {
+        return false;
+    };
+    is_serial(rt, &stand, asked, NoProcess, NoProcess)
+        && is_serial(rt, &stand, asked, ByFn::of(reorder), ByFn::of(reorder))
+}
