@@ -1,12 +1,9 @@
 -- What the tree answers as a file system, by what the table finds.
-use Rattle.std.proofs.Common.{◌≡◌, ◌≢◌, ℕ, Bool, List, [], ◌∷◌, map, Option, None, Some, Result, Ok, Err, refl, sym, ap, subst, ◌∙◌}
+use Rattle.std.proofs.Common.{◌≡◌, ℕ, Bool, List, [], ◌∷◌, map, Option, None, Some, Result, Ok, Err, refl, sym, ap, subst, ◌∙◌}
 use Rattle.std.specs.Prelude.{option_and_then}
 use Rattle.std.specs.Option.{option_map}
 use Rattle.std.specs.declared.io.ErrorKind.{ErrorKind}
 use Rattle.std.specs.declared.io.ErrorKind.TheVariants as kind
-use Rattle.std.specs.declared.io.Error.{Error}
-use Rattle.walk_fs.specs.declared.fault.Fault.{Fault}
-use Rattle.walk_fs.specs.declared.fault.Fault.TheVariants.{Io, Memory}
 use Rattle.walk_model.specs.declared.file_type.FileType.{FileType}
 use Rattle.walk_model.specs.FileSystem.{Listed}
 use Rattle.walk_model.specs.Tree.{Place, directory, child, look_up, at_found, listing_at, metadata_at, target_at, type_at}
@@ -130,7 +127,3 @@ module _ (table : List Branch) (sound : IsSound table) (follow : Bool) (path : L
       (λ place e.
       ap (λ (o : Option Child). listing_at (tree_of_table table) place (option_map (node_of table) o)) e
       ∙ ap (λ (d : Option ErrorKind). listing_at (tree_of_table table) place (Some (directory (names_of (children_at table i)) d))) denied)
-
--- an error of the file system is not want of memory
-pub not_memory : {X : Type 0} (e : Error) (r : Result X Fault) → r ≡ Err (Io e) → r ≢ Err Memory
-not_memory e r is same = cc

@@ -1,5 +1,5 @@
 -- What a directory's map of children says of its branch.
-use Rattle.std.proofs.Common.{◌≡◌, ℕ, Bool, true, false, cond, ◌<◌, ◌≤◌, List, [], ◌∷◌, ◌++◌, append-nil, append_assoc, map, length, Option, None, Some, refl, sym, ap, ◌∙◌, String, string_bytes, ◌⊎◌, inl, inr, arith}
+use Rattle.std.proofs.Common.{◌≡◌, ℕ, Bool, true, false, cond, ◌<◌, ◌≤◌, List, [], ◌∷◌, ◌++◌, append-nil, map, length, Option, None, Some, refl, sym, ap, ◌∙◌, String, string_bytes, ◌⊎◌, inl, inr, arith}
 use Rattle.std.specs.Borrow.{Bor}
 use Rattle.std.specs.Option.{option_map, option_copied}
 use Rattle.std.specs.String.{string_eq}
@@ -14,15 +14,9 @@ use Rattle.std.proofs.lemmas.List.{map-append, nil_from_length}
 use Rattle.indexmap.specs.IndexMap.{IndexMap, insert_entry, get}
 use Rattle.indexmap.proofs.CallerLemmas.{insert_entry-new}
 use Rattle.std.specs.declared.io.ErrorKind.{ErrorKind}
-use Rattle.std.specs.declared.io.Error.{Error}
-use Rattle.std.specs.Prelude.{Result, Ok}
-use Rattle.walk_model.specs.declared.file_type.FileType.{FileType}
-use Rattle.walk_model.specs.FileSystem as value
-use Rattle.walk_fs.specs.declared.listed.Listed.{Listed}
-use Rattle.walk_fs.specs.Views.{listed}
 use Rattle.memory_fs.specs.declared.child.Child.{Child as CodeChild}
-use Rattle.memory_fs.specs.Child.{Child, child_seen, type_of}
-use Rattle.memory_fs.specs.Branch.{Branch, child_named, without, listing_of, AreFound, PopsLast}
+use Rattle.memory_fs.specs.Child.{Child, child_seen}
+use Rattle.memory_fs.specs.Branch.{Branch, child_named, without, AreFound, PopsLast}
 
 abbrev pub named : {A : Type 0} → List (String A × CodeChild A) → List (List ℕ × Child)
 named es = map (λ e. (string_bytes e.0, child_seen e.1)) es
@@ -53,23 +47,6 @@ named-insert m n text name child parent denied is absent entries =
     let none : get string_eq m text ≡ None = unmapped child_seen (get string_eq m text) (sym (child_named-named (string_bytes text) m.entries) ∙ ap (λ bs. child_named (named m.entries) bs) is ∙ absent) in
     ap (λ es. made parent denied (named es)) (entries ∙ insert_entry-new string_eq m text child none)
     ∙ ap (made parent denied) (map-append (λ e. (string_bytes e.0, child_seen e.1)) m.entries ((text, child) ∷ []) ∙ ap (λ bs. named m.entries ++ (bs, child_seen child) ∷ []) is)
-
--- an item of a listing
-abbrev item_of : List ℕ → FileType → value.Listed
-item_of name file_type = Ok (record { name = name; file_type = Ok file_type })
-
--- one more item is listed
-pub listed-more : {A B : Type 0} (items new : List (Result (Listed B) Error)) (name : String B) (key : String A) (child : CodeChild A) (file_type : FileType) (left rest all : List (String A × CodeChild A))
-    → map listed items ++ listing_of (named left) ≡ listing_of (named all) → left ≡ (key, child) ∷ rest → new ≡ items ++ Ok (record { name = name; file_type = Ok file_type }) ∷ []
-    → string_bytes name ≡ string_bytes key → file_type ≡ type_of (child_seen child) → map listed new ++ listing_of (named rest) ≡ listing_of (named all)
-listed-more items new name key child file_type left rest all before is more same type =
-    ap (λ is. map listed is ++ listing_of (named rest)) more
-    ∙ ap (λ ls. ls ++ listing_of (named rest)) (map-append listed items (Ok (record { name = name; file_type = Ok file_type }) ∷ []))
-    ∙ append_assoc (map listed items) (item_of (string_bytes name) file_type ∷ []) (listing_of (named rest))
-    ∙ ap (λ n. map listed items ++ item_of n file_type ∷ listing_of (named rest)) same
-    ∙ ap (λ t. map listed items ++ item_of (string_bytes key) t ∷ listing_of (named rest)) type
-    ∙ ap (λ es. map listed items ++ listing_of (named es)) (sym is)
-    ∙ before
 
 -- ---- names that differ
 apart : (a b : List ℕ) → bytes_eq a b ≡ false → bytes_eq b a ≡ false

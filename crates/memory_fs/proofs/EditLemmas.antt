@@ -1,8 +1,8 @@
 -- A table in which one directory is edited, and what the edits of its vector are to its branches.
-use Rattle.std.proofs.Common.{◌≡◌, ◌≢◌, ℕ, suc, ◌-◌, ◌<◌, List, [], ◌∷◌, ◌++◌, map, length, get_or, sym, ap, ◌∙◌, ◌⊎◌, inl, inr, arith}
+use Rattle.std.proofs.Common.{◌≡◌, ◌≢◌, ℕ, suc, ◌-◌, ◌<◌, List, ◌∷◌, map, length, get_or, sym, ap, ◌∙◌, ◌⊎◌, inl, inr, arith}
 use Rattle.std.specs.Prelude.{slice_set}
 use Rattle.std.proofs.lemmas.Bool.{cases_eq}
-use Rattle.std.proofs.lemmas.List.{get_or-map, get_or-set_same, get_or-set_other, length-map, length-set, map-append, map-set}
+use Rattle.std.proofs.lemmas.List.{get_or-map, get_or-set_same, get_or-set_other, length-map, length-set, map-set}
 use Rattle.std.proofs.Math.Seq.{map-set_same}
 use Rattle.memory_fs.specs.declared.directory.Directory.{Directory}
 use Rattle.memory_fs.specs.Child.{Child}
@@ -32,10 +32,6 @@ module _ (edit : Branch → Branch) (table : List Branch) (index : ℕ) where
       by (inr ne) = ap part (at_other other ne)
 
 module _ {A : Type 0} (root : Branch) (items : List (Directory A)) where
-  -- the root is edited
-  pub edited-root : (edit : Branch → Branch) (index : ℕ) (new : Branch) → index ≡ 0 → new ≡ edit root → new ∷ map branch items ≡ edited edit (root ∷ map branch items) index
-  edited-root edit index new first is = ap (λ (b : Branch). b ∷ map branch items) is ∙ ap (λ k. edited edit (root ∷ map branch items) k) (sym first)
-
   suc_edited : (edit : Branch → Branch) (i : ℕ) (new old : Directory A) → i < length items → old ≡ get_or items i old → branch new ≡ edit (branch old)
       → root ∷ map branch (slice_set items i new) ≡ edited edit (root ∷ map branch items) (suc i)
   suc_edited edit i new old lt stood is =
@@ -73,9 +69,3 @@ length-others root first new old holder name child is =
     let here : length (map branch new) ≡ length new = length-map new branch in
     let there : length (map branch old) ≡ length old = length-map old branch in
     omega arith
-
--- a directory behind the others
-pub pushed-behind : {A : Type 0} (root : Branch) (items new : List (Directory A)) (last : Directory A) (holder : ℕ) (table : List Branch) → new ≡ items ++ last ∷ [] → branch last ≡ empty_branch holder → root ∷ map branch items ≡ table
-    → root ∷ map branch new ≡ table ++ empty_branch holder ∷ []
-pushed-behind root items new last holder table is empty stood =
-    ap (λ ds. root ∷ map branch ds) is ∙ ap (λ (bs : List Branch). root ∷ bs) (map-append branch items (last ∷ [])) ∙ ap (λ b. root ∷ map branch items ++ b ∷ []) empty ∙ ap (λ bs. bs ++ empty_branch holder ∷ []) stood

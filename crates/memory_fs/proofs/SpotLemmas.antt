@@ -1,6 +1,6 @@
 -- Where a path that is built on leads, in the table and in the tree.
 use Rattle.std.proofs.Common.{◌≡◌, ℕ, true, List, [], ◌∷◌, ◌++◌, map, Option, None, Some, Result, Ok, Err, refl, sym, ap, subst, ◌∙◌}
-use Rattle.std.specs.Prelude.{is_some, if◌then◌else◌}
+use Rattle.std.specs.Prelude.{if◌then◌else◌}
 use Rattle.std.specs.Option.{option_map}
 use Rattle.std.specs.Path.{IsLastComponent}
 use Rattle.std.specs.declared.io.ErrorKind.{ErrorKind}
@@ -11,7 +11,7 @@ use Rattle.walk_model.specs.Tree.{Place, is_directory, looked_up, Spot, spot_in,
 use Rattle.walk_model.proofs.PathFacts.{last_read}
 use Rattle.memory_fs.specs.Child.{Child, Dir}
 use Rattle.memory_fs.specs.Hit.{Hit, on_dir, on_file, on_link}
-use Rattle.memory_fs.specs.Branch.{Branch, child_named, branch_at, if_taken, taken_spot, at_end, node_of, tree_of_table, from_root, holder_of, named_below, named_spot, IsSound}
+use Rattle.memory_fs.specs.Branch.{Branch, at_end, node_of, tree_of_table, from_root, holder_of, named_below, named_spot, IsSound}
 use Rattle.memory_fs.proofs.LookUpLemmas.{Agrees, from_root_agrees}
 
 last_of-append : (front : List Component) (c : Component) → last_of (front ++ c ∷ []) ≡ Some c
@@ -76,9 +76,3 @@ module _ (table : List Branch) (sound : IsSound table) where
   -- the tree's spot is the table's
   pub spots_agree : (path : List ℕ) → SpotsAgree table (spot_of (tree_of_table table) path) (named_spot table (components path))
   spots_agree path = agree_below (all_but_last (components path)) (last_of (components path))
-
--- where a name stands for a child, that is the spot
-pub taken_at : (table : List Branch) (cs : List Component) (dir : Branch) (holder : ℕ) (name : List ℕ) (child : Option Child) → named_spot table cs ≡ Some (holder, name) → dir ≡ branch_at table holder → child ≡ child_named dir.children name
-    → taken_spot table cs ≡ (if is_some child then Some (holder, name) else None)
-taken_at table cs dir holder name child spot is found =
-    ap (if_taken table) spot ∙ ap (λ (b : Branch). if is_some (child_named b.children name) then Some (holder, name) else None) (sym is) ∙ ap (λ (o : Option Child). if is_some o then Some (holder, name) else None) (sym found)

@@ -1,14 +1,14 @@
 -- How a look-up goes on over components and links.
 use Rattle.std.proofs.Common.{◌≡◌, ◌≢◌, ℕ, zero, suc, ◌-◌, ◌≤◌, Bool, false, List, [], ◌∷◌, ◌++◌, append-nil, None, Some, Result, Ok, Err, refl, sym, ap, subst, ◌∙◌, arith}
 use Rattle.std.specs.Borrow.{Bor}
-use Rattle.std.specs.Prelude.{if◌then◌else◌}
+use Rattle.std.specs.Prelude.{IfOk, if◌then◌else◌}
 use Rattle.std.specs.declared.io.ErrorKind.{ErrorKind}
 use Rattle.std.specs.declared.io.ErrorKind.TheVariants as kind
 use Rattle.walk_model.specs.Paths.{Component, components}
 use Rattle.memory_fs.specs.declared.hit.Hit.{Hit as CodeHit}
 use Rattle.memory_fs.specs.declared.hit.Hit.TheVariants as code
 use Rattle.memory_fs.specs.Hit.{Hit, on_dir, on_file, on_link, hit_seen, answer_seen}
-use Rattle.memory_fs.specs.Branch.{Branch, next_hit, go_on, through, reached, from_root, IsSettled, IsFollowed, LeadsOn, LinkLeadsOn, SettlesAs}
+use Rattle.memory_fs.specs.Branch.{Branch, next_hit, go_on, through, reached, from_root, IsSettled, IsFollowed, LeadsOn, LinkLeadsOn}
 
 -- a component is worked off from what is no link
 settled-step : (table : List Branch) (follow : Bool) (links : ℕ) (h : Hit) → IsSettled h → (c : Component) (cs : List Component)
@@ -27,13 +27,6 @@ followed-link table follow links holder target [] followed =
 followed-link table follow links holder target (c ∷ left) followed = refl
 
 module _ (table : List Branch) where
-  -- no link is followed where none may be
-  pub no_links : (links holder : ℕ) (target : List ℕ) → links ≡ 0 → LinkLeadsOn table links holder target (Err kind.Other)
-  no_links zero holder target none follow [] followed =
-      ap (λ (b : Bool). if b then through None holder target [] else Ok (on_link holder target)) followed
-  no_links zero holder target none follow (c ∷ left) followed = refl
-  no_links (suc n) holder target none follow left followed = absurd (omega arith)
-
   -- there is nothing behind an empty target
   pub no_target : (links holder : ℕ) (target : List ℕ) → links ≢ 0 → target ≡ [] → (follow : Bool) (left : List Component) → IsFollowed follow left
       → reached table follow links (on_link holder target) left ≡ Err kind.NotFound
@@ -57,33 +50,41 @@ module _ (table : List Branch) where
     pub less : fewer ≤ left
     pub same : (follow : Bool) (c : Component) (cs : List Component) → reached table follow left hit (c ∷ cs) ≡ reached table follow fewer ready (c ∷ cs)
 
-  pub are_ready : (left : ℕ) (hit : Hit) (result : Result (CodeHit × ℕ) ErrorKind) (end : CodeHit) (fewer : ℕ) → SettlesAs table left hit result → result ≡ Ok (end, fewer) → IsSettled (hit_seen end) → fewer ≤ left
-      → IsReady left hit fewer (hit_seen end)
-  are_ready left hit result end fewer settles is settled less = record {
-    settled = settled;
-    less = less;
-    same = λ follow c cs. settles follow (c ∷ cs) tt ∙ ap (go_on (λ (r : CodeHit × ℕ). reached table follow r.1 (hit_seen r.0) (c ∷ cs))) is;
+  ready-end : (left holder : ℕ) (target : List ℕ) (result : Result (CodeHit × ℕ) ErrorKind) (end : CodeHit) (fewer : ℕ) → LinkLeadsOn table left holder target result → result ≡ Ok (end, fewer)
+      → IfOk result (λ r. IsSettled (hit_seen r.0)) → IfOk result (λ r. r.1 ≤ left) → IsReady left (on_link holder target) fewer (hit_seen end)
+  ready-end left holder target result end fewer leads is settled less = record {
+    settled = subst (λ r. IfOk r (λ x. IsSettled (hit_seen x.0))) is settled;
+    less = subst (λ r. IfOk r (λ x. x.1 ≤ left)) is less;
+    same = λ follow c cs. leads follow (c ∷ cs) tt ∙ ap (go_on (λ (r : CodeHit × ℕ). reached table follow r.1 (hit_seen r.0) (c ∷ cs))) is;
   }
 
-  -- what is no link is settled
-  pub settled-hit : (hit : CodeHit) → ((holder : ℕ) (target : Bor (List ℕ)) → hit ≢ code.Link holder target) → IsSettled (hit_seen hit)
+  pub ready-link : (left holder : ℕ) (target : List ℕ) (hit : Hit) → hit ≡ on_link holder target → (result : Result (CodeHit × ℕ) ErrorKind) (end ready : CodeHit) (fewer less : ℕ) → ready ≡ end → less ≡ fewer
+      → LinkLeadsOn table left holder target result → result ≡ Ok (end, fewer) → IfOk result (λ r. IsSettled (hit_seen r.0)) → IfOk result (λ r. r.1 ≤ left) → IsReady left hit less (hit_seen ready)
+  ready-link left holder target hit is result end ready fewer less same equal leads was settled at_most =
+      subst (λ h. IsReady left h less (hit_seen ready)) (sym is)
+      (subst (λ k. IsReady left (on_link holder target) k (hit_seen ready)) (sym equal)
+      (subst (λ (h : CodeHit). IsReady left (on_link holder target) fewer (hit_seen h)) (sym same) (ready-end left holder target result end fewer leads was settled at_most)))
+
+  settled-hit : (hit : CodeHit) → ((holder : ℕ) (target : Bor (List ℕ)) → hit ≢ code.Link holder target) → IsSettled (hit_seen hit)
   settled-hit (code.Dir i) no_link = tt
   settled-hit (code.File len) no_link = tt
   settled-hit (code.Link holder target) no_link = absurd (no_link holder target refl)
 
-  -- what is a link settles as that does
-  pub settles_link : (links : ℕ) (hit : CodeHit) (holder : ℕ) (target : Bor (List ℕ)) → hit ≡ code.Link holder target → (result : Result (CodeHit × ℕ) ErrorKind) → LinkLeadsOn table links holder target.now result → SettlesAs table links (hit_seen hit) result
-  settles_link links hit holder target is result leads = subst (λ (h : CodeHit). SettlesAs table links (hit_seen h) result) (sym is) leads
+  pub ready-plain : (left : ℕ) (hit ready : CodeHit) (less : ℕ) → ((holder : ℕ) (target : Bor (List ℕ)) → hit ≢ code.Link holder target) → ready ≡ hit → less ≡ left
+      → IsReady left (hit_seen hit) less (hit_seen ready)
+  ready-plain left hit ready less no_link same equal =
+      subst (λ k. IsReady left (hit_seen hit) k (hit_seen ready)) (sym equal)
+      (subst (λ (h : CodeHit). IsReady left (hit_seen hit) left (hit_seen h)) (sym same) (record { settled = settled-hit hit no_link; less = omega arith; same = λ follow c cs. refl }))
 
   -- one component further
   pub walk_on : (links left fewer : ℕ) (from hit ready : Hit) (all cs cs' : List Component) (c : Component) (r : Result CodeHit ErrorKind)
       → ((follow : Bool) (rest : List Component) → reached table follow left hit (cs ++ rest) ≡ reached table follow links from (all ++ rest))
       → cs ≡ c ∷ cs' → IsReady left hit fewer ready → answer_seen r ≡ next_hit table ready c
       → (follow : Bool) (rest : List Component) → go_on (λ next. reached table follow fewer next (cs' ++ rest)) (answer_seen r) ≡ reached table follow links from (all ++ rest)
-  walk_on links left fewer from hit ready all cs cs' c r before is settling step follow rest =
+  walk_on links left fewer from hit ready all cs cs' c r before is are_ready step follow rest =
       ap (go_on (λ next. reached table follow fewer next (cs' ++ rest))) step
-      ∙ sym (settled-step table follow fewer ready settling.settled c (cs' ++ rest))
-      ∙ sym (settling.same follow c (cs' ++ rest))
+      ∙ sym (settled-step table follow fewer ready are_ready.settled c (cs' ++ rest))
+      ∙ sym (are_ready.same follow c (cs' ++ rest))
       ∙ ap (λ (ds : List Component). reached table follow left hit (ds ++ rest)) (sym is)
       ∙ before follow rest
 

@@ -191,12 +191,6 @@ LinkLeadsOn table links holder target result =
     (follow : Bool) (left : List Component) → IsFollowed follow left
     → reached table follow links (on_link holder target) left ≡ go_on (λ r. reached table follow r.1 (hit_seen r.0) left) result
 
--- The same for a hit, where all links are followed.
-abbrev pub SettlesAs : List Branch → ℕ → Hit → Result (CodeHit × ℕ) ErrorKind → Type 0
-SettlesAs table links from result =
-    (follow : Bool) (left : List Component) → IsFollowed follow left
-    → reached table follow links from left ≡ go_on (λ r. reached table follow r.1 (hit_seen r.0) left) result
-
 -- the directory, if one was found
 abbrev pub holder_of : Result Hit ErrorKind → Option ℕ
 holder_of (Ok (on_dir index)) = Some index

@@ -43,7 +43,7 @@ impl<A: Allocator + Copy> MemoryFs<A> {
     ghost use Rattle.walk_model.specs.PathTexts.{components_left, component_seen};
     ghost use Rattle.walk_model.specs.Tree.{Place, only_root, directory, file, link, deny, remove, not_found};
     ghost use Rattle.memory_fs.specs.Hit.{hit_seen, answer_seen};
-    ghost use Rattle.memory_fs.specs.Branch.{next_hit, from_root, found, holder_of, named_spot, free_spot, taken_spot, directory_spot, IsWithin, IsSettled, LeadsOn, SettlesAs};
+    ghost use Rattle.memory_fs.specs.Branch.{next_hit, from_root, found, holder_of, named_spot, free_spot, taken_spot, directory_spot, IsWithin, IsSettled, LeadsOn, LinkLeadsOn};
     ghost use Rattle.memory_fs.specs.MemoryFs.{tree_of, IsSameTree, IsBuilt, IsAddition};
 
     /// The tree with nothing below its root, which needs no memory. The allocator serves all that is added.
@@ -158,33 +158,42 @@ impl<A: Allocator + Copy> MemoryFs<A> {
         let mut hit = from;
         let mut left = links;
         for component in components {
-            let (end, fewer) = self.settled(hit, left)?;
-            hit = self.step(end, component)?;
-            left = fewer;
+            if let Hit::Link(holder, target) = hit {
+                let (end, fewer) = self.followed(holder, target, left)?;
+                hit = end;
+                left = fewer;
+            }
+            hit = self.step(hit, component)?;
         }
         Ok((hit, left))
     }
 
-    // What a hit is with all links followed, and how many may be followed from there.
+    // What a link leads to, all links followed, and how many may be followed from there.
     #[cycle(links)]
-    fn settled<'a>(&'a self, hit: Hit<'a>, links: u32) -> Result<(Hit<'a>, u32), ErrorKind>
-        requires { IsWithin (branches self.now.table) (hit_seen hit) }
-        ensures value { SettlesAs (branches self.now.table) links (hit_seen hit.entry) result }
+    fn followed<'a>(
+        &'a self,
+        holder: usize,
+        target: &'a str,
+        links: u32,
+    ) -> Result<(Hit<'a>, u32), ErrorKind>
+        requires { holder < length (branches self.now.table) }
+        ensures value { LinkLeadsOn (branches self.now.table) links holder target.now result }
         ensures settled { IfOk result (λ r. IsSettled (hit_seen r.0)) }
         ensures within { IfOk result (λ r. IsWithin (branches self.now.table) (hit_seen r.0)) }
         ensures fewer { IfOk result (λ r. r.1 ≤ links) }
     {
-        let Hit::Link(holder, target) = hit else {
-            return Ok((hit, links));
-        };
         if links == 0 {
             return Err(ErrorKind::Other);
         }
         if target.is_empty() {
             return Err(ErrorKind::NotFound);
         }
-        let (end, left) = self.walk(Hit::Dir(holder), Path::new(target).components(), links - 1)?;
-        self.settled(end, left)
+        let (hit, left) = self.walk(Hit::Dir(holder), Path::new(target).components(), links - 1)?;
+        match hit {
+            Hit::Link(holder, target) => self.followed(holder, target, left),
+            Hit::Dir(_) => Ok((hit, left)),
+            Hit::File(_) => Ok((hit, left)),
+        }
     }
 
     // What the components lead to, from the root. The last, if it is a link, is followed where that is asked.
@@ -194,10 +203,16 @@ impl<A: Allocator + Copy> MemoryFs<A> {
         ensures within { IfOk result (λ h. IsWithin (branches self.now.table) (hit_seen h)) }
     {
         let (hit, left) = self.walk(Hit::Dir(0), components, LINK_LIMIT)?;
-        if follow {
-            Ok(self.settled(hit, left)?.0)
-        } else {
-            Ok(hit)
+        match hit {
+            Hit::Dir(_) => Ok(hit),
+            Hit::File(_) => Ok(hit),
+            Hit::Link(holder, target) => {
+                if follow {
+                    Ok(self.followed(holder, target, left)?.0)
+                } else {
+                    Ok(hit)
+                }
+            }
         }
     }
 

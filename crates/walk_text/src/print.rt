@@ -1,6 +1,8 @@
 //! Answers as lines.
-ghost use Rattle.std.specs.Prelude.{◌≡◌, ◌++◌, None, codes, decimal, OnOk, option_map, flat_map};
+ghost use Rattle.std.specs.Prelude.{◌≡◌, None, decimal, OnOk, option_map};
 ghost use Rattle.std.specs.Io.KnownBytes.{Appends};
+ghost use Rattle.walk_model.specs.Error.{looped};
+ghost use Rattle.walk_model.specs.Paths.{join};
 ghost use Rattle.read_parts.specs.Entry.{children, entry, item};
 ghost use Rattle.read_parts.specs.Error.{failure, ancestor_of, kind_of};
 ghost use Rattle.walk_model.specs.Lines.{kind_name, letter_of, failure_name, reading_part, entry_line, failure_line, line_of};
@@ -52,14 +54,21 @@ fn letter<C: ClientState, A: Allocator + Copy>(found: &DirEntry<C, A>) -> &'stat
     }
 }
 
-/// Writes texts, one behind another.
-fn write_texts<W: Write>(out: &mut W, texts: &[&str]) -> io::Result<()>
-    ensures { OnOk result (Appends (W.contents out.old) (W.contents out.new) (flat_map (λ text. text.now) texts.now)) }
+/// Writes a number in decimal digits.
+fn write_number<W: Write>(out: &mut W, n: usize) -> io::Result<()>
+    ensures { OnOk result (Appends (W.contents out.old) (W.contents out.new) (decimal n)) }
 {
-    for text in texts {
-        out.write_all(text.as_bytes())?;
-    }
-    Ok(())
+    out.write_all(Buffer::new().format(n).as_bytes())
+}
+
+/// Writes the path of a name below the path of its directory.
+fn write_path<W: Write>(out: &mut W, parent: &str, name: &str) -> io::Result<()>
+    ensures { OnOk result (Appends (W.contents out.old) (W.contents out.new) (join parent.now name.now)) }
+{
+    let (front, slash, name) = join_parts(parent, name);
+    out.write_all(front.as_bytes())?;
+    out.write_all(slash.as_bytes())?;
+    out.write_all(name.as_bytes())
 }
 
 /// The kind of an error, and `Other` where it has none.
@@ -72,41 +81,22 @@ fn kind_of<A: Allocator + Copy>(error: &Error<A>) -> ErrorKind
     }
 }
 
-/// What tells of the error that the reading of a directory ended in, if it did: a mark and the name of a kind.
-fn error_mark<C: ClientState, A: Allocator + Copy>(
-    below: &Option<ReadChildren<C, A>>,
-) -> (&'static str, &'static str)
-    ensures { result.0.now ++ result.1.now ≡ reading_part (option_map children below.now) }
-{
-    let Some(children) = below else {
-        return ("", "");
-    };
-    match children.error() {
-        Some(error) => (" ! ", kind_name(kind_of(error))),
-        None => ("", ""),
-    }
-}
-
-/// Writes the line of an entry: its depth, its letter, its path in three parts, and what tells of an error.
-fn write_entry<'t, W: Write>(
+/// Writes the kind of the error that the reading of a directory ended in, if it did.
+fn write_reading<W: Write, C: ClientState, A: Allocator + Copy>(
     out: &mut W,
-    depth: &'t str,
-    letter: &'t str,
-    path: (&'t str, &'t str, &'t str),
-    error: (&'t str, &'t str),
+    below: &Option<ReadChildren<C, A>>,
 ) -> io::Result<()>
     ensures { OnOk result (Appends (W.contents out.old) (W.contents out.new)
-        (depth.now ++ (codes " " ++ (letter.now ++ (codes " " ++ ((path.entry.0.now ++ (path.entry.1.now
-        ++ path.entry.2.now)) ++ ((error.entry.0.now ++ error.entry.1.now) ++ codes "\n"))))))) }
+        (reading_part (option_map children below.now))) }
 {
-    let (front, slash, name) = path;
-    let (mark, kind) = error;
-    write_texts(
-        out,
-        &[
-            depth, " ", letter, " ", front, slash, name, mark, kind, "\n",
-        ],
-    )
+    let Some(children) = below else {
+        return Ok(());
+    };
+    let Some(error) = children.error() else {
+        return Ok(());
+    };
+    out.write_all(b" ! ")?;
+    out.write_all(kind_name(kind_of(error)).as_bytes())
 }
 
 /// Writes the line of an entry.
@@ -116,31 +106,27 @@ fn print_entry<W: Write, C: ClientState, A: Allocator + Copy>(
 ) -> io::Result<()>
     ensures { OnOk result (Appends (W.contents out.old) (W.contents out.new) (entry_line (entry found.now))) }
 {
-    let mut digits = Buffer::new();
-    let path = join_parts(found.parent_path(), found.file_name());
-    write_entry(
-        out,
-        digits.format(found.depth()),
-        letter(found),
-        path,
-        error_mark(&found.read_children),
-    )
+    write_number(out, found.depth())?;
+    out.write_all(b" ")?;
+    out.write_all(letter(found).as_bytes())?;
+    out.write_all(b" ")?;
+    write_path(out, found.parent_path(), found.file_name())?;
+    write_reading(out, &found.read_children)?;
+    out.write_all(b"\n")
 }
 
-/// Writes the line of an error that came at a depth, with a path, and behind a mark what more tells of it.
-fn write_error<'t, W: Write>(
-    out: &mut W,
-    depth: usize,
-    path: &'t str,
-    mark: &'t str,
-    what: &'t str,
-) -> io::Result<()>
+/// Writes the line of a link that leads back to an ancestor.
+fn print_loop<W: Write>(out: &mut W, depth: usize, ancestor: &str, child: &str) -> io::Result<()>
     ensures { OnOk result (Appends (W.contents out.old) (W.contents out.new)
-        (codes "! " ++ (decimal depth ++ (codes " " ++ (path.now ++ (mark.now ++ (what.now ++ codes "\n"))))))) }
+        (failure_line (looped depth ancestor.now child.now))) }
 {
-    let mut digits = Buffer::new();
-    let depth = digits.format(depth);
-    write_texts(out, &["! ", depth, " ", path, mark, what, "\n"])
+    out.write_all(b"! ")?;
+    write_number(out, depth)?;
+    out.write_all(b" ")?;
+    out.write_all(child.as_bytes())?;
+    out.write_all(b" loop ")?;
+    out.write_all(ancestor.as_bytes())?;
+    out.write_all(b"\n")
 }
 
 /// The line of an error that is neither one of the file system nor a loop.
@@ -162,14 +148,20 @@ fn bare_line<A: Allocator + Copy>(error: &Error<A>) -> &'static str
 fn print_error<W: Write, A: Allocator + Copy>(out: &mut W, error: &Error<A>) -> io::Result<()>
     ensures { OnOk result (Appends (W.contents out.old) (W.contents out.new) (failure_line (failure error.now))) }
 {
-    let path = error.path().unwrap_or("-");
     if let Some(ancestor) = error.loop_ancestor() {
-        return write_error(out, error.depth(), path, " loop ", ancestor);
+        let child = error.path().unwrap_or("-");
+        return print_loop(out, error.depth(), ancestor, child);
     }
-    match error.io_error() {
-        Some(err) => write_error(out, error.depth(), path, " ", kind_name(err.kind())),
-        None => out.write_all(bare_line(error).as_bytes()),
-    }
+    let Some(err) = error.io_error() else {
+        return out.write_all(bare_line(error).as_bytes());
+    };
+    out.write_all(b"! ")?;
+    write_number(out, error.depth())?;
+    out.write_all(b" ")?;
+    out.write_all(error.path().unwrap_or("-").as_bytes())?;
+    out.write_all(b" ")?;
+    out.write_all(kind_name(err.kind()).as_bytes())?;
+    out.write_all(b"\n")
 }
 
 /// Writes the line of an answer.

@@ -10,8 +10,8 @@ use Rattle.memory_fs.proofs.memory_fs.MemoryFs.+links.Given as goal
 abbrev pub decreases-walk : goal.decreases-walk
 decreases-walk g l = 2 * l.links + 1
 
-abbrev pub decreases-settled : goal.decreases-settled
-decreases-settled g l = 2 * l.links
+abbrev pub decreases-followed : goal.decreases-followed
+decreases-followed g l = 2 * l.links
 
 -- the components that are left lead on from the hit as all of them do from the first one
 abbrev pub invariant-walk-loop-component : goal.invariant-walk-loop-component

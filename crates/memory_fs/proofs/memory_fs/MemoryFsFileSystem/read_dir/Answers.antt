@@ -1,10 +1,10 @@
-use Rattle.std.proofs.Common.{true, Ok, Err, is_err, refl, sym, ap, ◌∙◌}
+use Rattle.std.proofs.Common.{true, Ok, Err, is_err, sym, ap, ◌∙◌}
 use Rattle.std.proofs.lemmas.Bool.{false≢true}
 use Rattle.memory_fs.specs.Hit.{answer_seen}
 use Rattle.memory_fs.specs.Branch.{Branch, branch_at}
 use Rattle.memory_fs.specs.Directory.{branch}
 use Rattle.memory_fs.specs.Table.{branches}
-use Rattle.memory_fs.proofs.AnswerLemmas.{not_memory, answer-err, listing-found, no_listing-denied, no_listing-file, no_listing-link}
+use Rattle.memory_fs.proofs.AnswerLemmas.{answer-err, listing-found, no_listing-denied, no_listing-file, no_listing-link}
 use Rattle.memory_fs.proofs.memory_fs.MemoryFsFileSystem.read_dir.Goals as goal
 
 pub returns-in-Some-clause-value : goal.returns-in-Some-clause-value
@@ -45,15 +45,3 @@ pub returns-in-Err-clause-value : goal.returns-in-Err-clause-value
 returns-in-Err-clause-value g c =
     answer-err (branches c.args.self.now.table) c.args.self.now.sound true c.args.path.now _ c.in-Err.kind (sym c.look_up.ensures.value ∙ ap answer_seen c.in-Err.is)
     ∙ ap (λ k. Err k) (sym c.from-in-Err.ensures)
-
-pub returns-in-Some-clause-errors_need_no_memory : goal.returns-in-Some-clause-errors_need_no_memory
-returns-in-Some-clause-errors_need_no_memory g c = λ _. not_memory c.from.result _ refl
-
-pub returns-in-Ok-File-clause-errors_need_no_memory : goal.returns-in-Ok-File-clause-errors_need_no_memory
-returns-in-Ok-File-clause-errors_need_no_memory g c = λ _. not_memory c.from-in-Ok-File.result _ refl
-
-pub returns-in-Ok-Link-clause-errors_need_no_memory : goal.returns-in-Ok-Link-clause-errors_need_no_memory
-returns-in-Ok-Link-clause-errors_need_no_memory g c = λ _. not_memory c.from-in-Ok-Link.result _ refl
-
-pub returns-in-Err-clause-errors_need_no_memory : goal.returns-in-Err-clause-errors_need_no_memory
-returns-in-Err-clause-errors_need_no_memory g c = λ _. not_memory c.from-in-Err.result _ refl

@@ -1,8 +1,8 @@
-use Rattle.std.proofs.Common.{false, Ok, Err, is_err, refl, sym, ap, ◌∙◌}
+use Rattle.std.proofs.Common.{false, Ok, Err, is_err, sym, ap, ◌∙◌}
 use Rattle.std.proofs.lemmas.Bool.{false≢true}
 use Rattle.memory_fs.specs.Hit.{on_dir, on_file, answer_seen}
 use Rattle.memory_fs.specs.Table.{branches}
-use Rattle.memory_fs.proofs.AnswerLemmas.{not_memory, answer-err, target-found, no_target-found}
+use Rattle.memory_fs.proofs.AnswerLemmas.{answer-err, target-found, no_target-found}
 use Rattle.memory_fs.proofs.memory_fs.MemoryFsFileSystem.read_link.Goals as goal
 
 -- a link that is found is no error
@@ -34,12 +34,3 @@ pub returns-in-Err-clause-value : goal.returns-in-Err-clause-value
 returns-in-Err-clause-value g c =
     answer-err (branches c.args.self.now.table) c.args.self.now.sound false c.args.path.now _ c.in-Err.kind (sym c.look_up.ensures.value ∙ ap answer_seen c.in-Err.is)
     ∙ ap (λ k. Err k) (sym c.from-in-Err.ensures)
-
-pub returns-in-Ok-File-clause-errors_need_no_memory : goal.returns-in-Ok-File-clause-errors_need_no_memory
-returns-in-Ok-File-clause-errors_need_no_memory g c = λ _. not_memory c.from.result _ refl
-
-pub returns-in-Ok-Dir-clause-errors_need_no_memory : goal.returns-in-Ok-Dir-clause-errors_need_no_memory
-returns-in-Ok-Dir-clause-errors_need_no_memory g c = λ _. not_memory c.from-in-Ok-Dir.result _ refl
-
-pub returns-in-Err-clause-errors_need_no_memory : goal.returns-in-Err-clause-errors_need_no_memory
-returns-in-Err-clause-errors_need_no_memory g c = λ _. not_memory c.from-in-Err.result _ refl

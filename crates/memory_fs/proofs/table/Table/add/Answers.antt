@@ -1,10 +1,8 @@
-use Rattle.std.proofs.Common.{arith}
-use Rattle.std.proofs.lemmas.List.{length-map}
 use Rattle.std.proofs.lemmas.Result.{on_ok_weaker, on_err_weaker}
 use Rattle.memory_fs.specs.Child.{child_seen}
 use Rattle.memory_fs.specs.Branch.{with_child}
 use Rattle.memory_fs.specs.Directory.{branch}
-use Rattle.memory_fs.proofs.EditLemmas.{edited-root, edited-set, same-set}
+use Rattle.memory_fs.proofs.EditLemmas.{edited-set, same-set}
 use Rattle.memory_fs.proofs.table.Table.add.Goals as goal
 
 pub returns-else-holder-eq0-clause-ok : goal.returns-else-holder-eq0-clause-ok
@@ -15,14 +13,3 @@ returns-else-holder-eq0-clause-ok g c =
 pub returns-else-holder-eq0-clause-err : goal.returns-else-holder-eq0-clause-err
 returns-else-holder-eq0-clause-err g c =
     on_err_weaker _ (same-set (branch c.args.self.now.root) c.args.self.now.others.items _ c.add-else-holder-eq0.new.self c.index_mut.result.now c.index_mut.ensures.value) c.add-else-holder-eq0.ensures.err
-
-pub returns-then-holder-eq0-clause-ok : goal.returns-then-holder-eq0-clause-ok
-returns-then-holder-eq0-clause-ok g c =
-    on_ok_weaker _ (edited-root (branch c.args.self.now.root) c.args.self.now.others.items (with_child c.args.name.now (child_seen c.args.child)) c.args.holder (branch c.add.new.self) c.if-holder-eq0.true)
-    c.add.ensures.ok
-
-pub index_mut-requires : goal.index_mut-requires
-index_mut-requires g c =
-    let some = c.if-holder-eq0.false in
-    let within = c.requires.within in
-    omega (arith, length-map c.args.self.now.others.items branch)

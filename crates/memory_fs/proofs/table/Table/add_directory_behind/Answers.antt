@@ -1,11 +1,9 @@
-use Rattle.std.proofs.Common.{◌≡◌, suc, ◌∷◌, map, length, arith, refl, sym, ap, subst, ◌∙◌, None, Ok, Err}
+use Rattle.std.proofs.Common.{arith, refl, Ok, Err}
 use Rattle.std.proofs.lemmas.Result.{IfOk-from_err}
 use Rattle.std.specs.Prelude.{OnErr, Result}
-use Rattle.memory_fs.specs.Branch.{child_named, children_at, with_named}
 use Rattle.memory_fs.specs.Child.{Dir}
 use Rattle.memory_fs.specs.Directory.{branch}
-use Rattle.memory_fs.specs.Table.{branches}
-use Rattle.memory_fs.proofs.EditLemmas.{length-others, pushed-behind}
+use Rattle.memory_fs.proofs.EditLemmas.{length-others}
 use Rattle.memory_fs.proofs.table.Table.add_directory_behind.Goals as goal
 
 -- whatever is answered
@@ -36,16 +34,3 @@ returns-in_err-add-clause-ok g c = IfOk-from_err c.from_residual-in_err-add.resu
 
 pub returns-in_err-add-clause-err : goal.returns-in_err-add-clause-err
 returns-in_err-add-clause-err g c = on_err_always c.from_residual-in_err-add.result (rw c.in_ok-reserve.ensures.items at c.in_err-add.ensures.err)
-
-pub add-requires-clause-free : goal.add-requires-clause-free
-add-requires-clause-free g c =
-    subst (λ ds. child_named (children_at (branch c.args.self.now.root ∷ map branch ds) c.args.holder) c.args.name.now ≡ None) (sym c.in_ok-reserve.ensures.items) c.requires.free
-
-pub returns-clause-ok : goal.returns-clause-ok
-returns-clause-ok g c =
-    let items = c.in_ok-reserve.ensures.items in
-    let index = c.len-index.ensures ∙ ap (λ ds. suc (length (map branch ds))) items in
-    pushed-behind (branch c.add.new.self.root) c.add.new.self.others.items c.push.new.self.items c.new-directory.result c.args.holder _ c.in-Ok.ensures.items c.new-directory.ensures
-    (c.in_ok-add.ensures.ok
-    ∙ ap (λ ds. with_named (branch c.args.self.now.root ∷ map branch ds) c.args.holder c.args.name.now (Dir c.len-index.result)) items
-    ∙ ap (λ k. with_named (branches c.args.self.now) c.args.holder c.args.name.now (Dir k)) index)

@@ -1,5 +1,4 @@
 use Rattle.std.proofs.Common.{arith}
-use Rattle.std.proofs.lemmas.List.{length-map}
 use Rattle.memory_fs.specs.Branch.{empty_branch}
 use Rattle.memory_fs.specs.Directory.{branch}
 use Rattle.memory_fs.proofs.EditLemmas.{edited-set}
@@ -9,9 +8,3 @@ pub returns-clause-cleared : goal.returns-clause-cleared
 returns-clause-cleared g c =
     edited-set (branch c.args.self.now.root) c.args.self.now.others.items (λ b. empty_branch 0) c.args.place c.new.result c.index_mut.result.now
     (λ e. let r = c.requires.below_root in omega arith) c.requires.within c.index_mut.ensures.value c.new.ensures
-
-pub index_mut-requires : goal.index_mut-requires
-index_mut-requires g c =
-    let below_root = c.requires.below_root in
-    let within = c.requires.within in
-    omega (arith, length-map c.args.self.now.others.items branch)

@@ -1,11 +1,7 @@
 use Rattle.memory_fs.specs.Branch.{with_denied}
 use Rattle.memory_fs.specs.Directory.{branch}
-use Rattle.memory_fs.proofs.EditLemmas.{edited-root, edited-set}
+use Rattle.memory_fs.proofs.EditLemmas.{edited-set}
 use Rattle.memory_fs.proofs.table.Table.deny.Goals as goal
-
-pub returns-then-index-eq0-clause-denied : goal.returns-then-index-eq0-clause-denied
-returns-then-index-eq0-clause-denied g c =
-    edited-root (branch c.args.self.now.root) c.args.self.now.others.items (with_denied c.args.kind) c.args.index (branch c.deny.new.self) c.if-index-eq0.true c.deny.ensures
 
 pub returns-else-index-eq0-clause-denied : goal.returns-else-index-eq0-clause-denied
 returns-else-index-eq0-clause-denied g c =

@@ -1,8 +1,6 @@
-use Rattle.std.proofs.Common.{◌≡◌, ℕ, ◌<◌, List, length, Some, sym, ap, subst, ◌∙◌}
-use Rattle.std.specs.Prelude.{slice_index_or}
+use Rattle.std.proofs.Common.{ℕ, List, length, Some, sym, ap, subst, ◌∙◌}
 use Rattle.std.specs.Option.{option_map}
-use Rattle.std.proofs.lemmas.Result.{IfOk-from_err}
-use Rattle.memory_fs.specs.Child.{Dir, child_seen}
+use Rattle.memory_fs.specs.Child.{child_seen}
 use Rattle.memory_fs.specs.Branch.{Branch, tree_of_table, IsSound, IsLoose, AreSpare, IsRemoved}
 use Rattle.memory_fs.specs.Table.{branches, free_places}
 use Rattle.memory_fs.proofs.ReleaseLemmas.{sound-removed, spare-removed, loose-removed, removed-leaf}
@@ -39,13 +37,3 @@ returns-clause-ok g c =
       | in-Some w ↦ subst (λ t. IsRemoved (branches c.args.self.now) c.args.holder c.args.name.now (branches t) (free_places t)) (sym w.self-is) leaf
       | in-None w ↦ subst (λ t. IsRemoved (branches c.args.self.now) c.args.holder c.args.name.now (branches t) (free_places t)) (sym w.self-is) leaf
     ]
-
-pub release-requires-clause-once : goal.release-requires-clause-once
-release-requires-clause-once g c = λ k lt same.
-    let kept = c.take.ensures.kept ∙ c.reserve.ensures.items in
-    let named = sym c.take.ensures.value ∙ ap (option_map child_seen) c.in-Some-Dir.is ∙ ap (λ x. Some (child_seen x)) c.in-Some-Dir.field-0-is in
-    let here = subst (λ (ks : List ℕ). slice_index_or ks k 0 ≡ c.in-Some-Dir.index) kept same in
-    (c.requires.spare.loose k (subst (λ (ks : List ℕ). k < length ks) kept lt)).unnamed c.args.holder c.args.name.now (named ∙ ap (λ i. Some (Dir i)) (sym here))
-
-pub returns-in_err-reserve-clause-ok : goal.returns-in_err-reserve-clause-ok
-returns-in_err-reserve-clause-ok g c = IfOk-from_err c.from_residual.result _ c.from_residual.ensures.0

@@ -1,9 +1,8 @@
-use Rattle.std.proofs.Common.{◌≡◌, ℕ, ◌<◌, List, [], ◌∷◌, ◌++◌, length, sym, ap, subst, ◌∙◌, string_bytes, arith}
+use Rattle.std.proofs.Common.{◌≡◌, ℕ, List, [], ◌∷◌, ◌++◌, length, sym, ap, subst, ◌∙◌, string_bytes, arith}
 use Rattle.std.specs.Prelude.{slice_set, vec_capacity}
-use Rattle.std.proofs.lemmas.List.{length-set}
 use Rattle.std.proofs.lemmas.Grind.{get_or_default_zero}
 use Rattle.memory_fs.specs.Child.{child_seen}
-use Rattle.memory_fs.specs.Branch.{Branch, branch_at, children_at, empty_branch, PopsLast}
+use Rattle.memory_fs.specs.Branch.{branch_at, children_at, empty_branch, PopsLast}
 use Rattle.memory_fs.specs.Table.{branches, free_places, IsTurn}
 use Rattle.memory_fs.proofs.ReleaseLemmas.{set-twice, turn-leaf, turn-directory, turn-empty, room-directory}
 use Rattle.memory_fs.proofs.table.Table.turn.Goals as goal
@@ -52,25 +51,3 @@ returns-clause-turn g c =
           (turn-leaf (branches c.args.self.now) (free_places c.args.self.now) c.args.next c.requires.sound c.requires.spare c.requires.within (string_bytes c.in-Some.field-0-0) (child_seen c.in-Some.child)
           (branches c.pop.new.self) others pops (free_places c.pop.new.self) c.pop.ensures.kept))
     ]
-
-pub pop-requires-clause-below_root : goal.pop-requires-clause-below_root
-pop-requires-clause-below_root g c =
-    let at = c.index-place.ensures ∙ get_or_default_zero (free_places c.args.self.now) c.args.next c.index-place.result.now c.requires.within in
-    subst (λ p. 0 < p) (sym at) (c.requires.spare.loose c.args.next c.requires.within).below_root
-
-pub pop-requires-clause-within : goal.pop-requires-clause-within
-pop-requires-clause-within g c =
-    let at = c.index-place.ensures ∙ get_or_default_zero (free_places c.args.self.now) c.args.next c.index-place.result.now c.requires.within in
-    subst (λ p. p < length (branches c.args.self.now)) (sym at) (c.requires.spare.loose c.args.next c.requires.within).within
-
-pub clear-requires-clause-below_root : goal.clear-requires-clause-below_root
-clear-requires-clause-below_root g c =
-    let at = c.index-place.ensures ∙ get_or_default_zero (free_places c.args.self.now) c.args.next c.index-place.result.now c.requires.within in
-    subst (λ p. 0 < p) (sym at) (c.requires.spare.loose c.args.next c.requires.within).below_root
-
-pub clear-requires-clause-within : goal.clear-requires-clause-within
-clear-requires-clause-within g c =
-    let at = c.index-place.ensures ∙ get_or_default_zero (free_places c.args.self.now) c.args.next c.index-place.result.now c.requires.within in
-    let within = subst (λ p. p < length (branches c.args.self.now)) (sym at) (c.requires.spare.loose c.args.next c.requires.within).within in
-    let same : length (branches c.pop.new.self) ≡ length (branches c.args.self.now) = ap (λ (bs : List Branch). length bs) c.pop.ensures.others ∙ length-set (branches c.args.self.now) c.index-place.result.now (branch_at (branches c.pop.new.self) c.index-place.result.now) in
-    subst (λ n. c.index-place.result.now < n) (sym same) within
