@@ -12,7 +12,7 @@ use std::time::{Clock, Duration};
 use walk_fixtures::answers::{Answer, are_lines};
 use walk_fixtures::trees::{Step, tree};
 use walk_fixtures::watched::{Failing, Watched};
-use walk_fixtures::ways::all_of;
+use walk_ways::ways::all_of;
 
 /// An act, which comes off or not.
 #[derive(Clone, Copy)]

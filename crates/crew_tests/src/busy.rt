@@ -3,7 +3,7 @@ use crate::acts::{Act, Going, Scene, all_come_off};
 use crate::crewed::{Asked, Reader, Taken};
 use walk_fixtures::trees::{FORKED, GROUPED};
 use walk_fixtures::watched::Failing;
-use walk_fixtures::ways::Setting;
+use walk_ways::ways::Setting;
 
 /// A crew of one place, and one worker for a walk.
 const ONE_PLACE: Scene = Scene {

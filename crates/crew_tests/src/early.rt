@@ -3,7 +3,7 @@ use crate::acts::{Act, Going, Scene, all_come_off};
 use crate::crewed::{Asked, Reader};
 use walk_fixtures::trees::{FORKED, Step};
 use walk_fixtures::watched::Failing;
-use walk_fixtures::ways::Setting;
+use walk_ways::ways::Setting;
 
 /// A walk over the crew.
 const WALK: Asked<'static> = Asked {

@@ -29,5 +29,3 @@ mod rows;
 mod serial;
 #[cfg(test)]
 mod together;
-#[cfg(test)]
-mod whole;

@@ -3,8 +3,8 @@ use crate::acts::{Act, Going, Scene, all_come_off};
 use crate::crewed::{Asked, Reader, Taken};
 use walk_fixtures::trees::FORKED;
 use walk_fixtures::watched::Failing;
-use walk_fixtures::ways::Setting;
-use walk_fixtures::width::Width;
+use walk_ways::ways::Setting;
+use walk_ways::width::Width;
 
 /// A crew of two workers, with one place, over the forked directories.
 const TWO_WORKERS: Scene = Scene {

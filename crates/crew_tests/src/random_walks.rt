@@ -6,7 +6,7 @@ use crate::serial::are_serial;
 use std::sync::Wait;
 use std::thread::Threads;
 use std::time::Clock;
-use walk_fixtures::ways::Setting;
+use walk_ways::ways::Setting;
 
 /// How many trees there are.
 const TREES: usize = 50;

@@ -12,7 +12,7 @@ use std::thread::Threads;
 use std::time::{Clock, Duration};
 use walk_fixtures::trees::{FORKED, tree};
 use walk_fixtures::watched::{Failing, Watched};
-use walk_fixtures::width::Width;
+use walk_ways::width::Width;
 
 /// Readings over some file system that some pool may give.
 type PoolReads<S, L> = ReadDirIter<States, S, NoProcess, Global, InTurn, L>;

@@ -12,7 +12,7 @@ use walk_fixtures::answers::Answer;
 use walk_fixtures::moving::move_directory;
 use walk_fixtures::trees::{DENIED, FORKED, GROUPED, LOOPED, Step, tree};
 use walk_fixtures::watched::Failing;
-use walk_fixtures::ways::Setting;
+use walk_ways::ways::Setting;
 
 /// A tree, the root and the options of a walk over it, and its answers.
 type Row = (

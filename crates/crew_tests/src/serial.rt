@@ -9,8 +9,8 @@ use std::thread::Threads;
 use std::time::Clock;
 use walk_fixtures::answers::Answer;
 use walk_fixtures::watched::Failing;
-use walk_fixtures::ways::{self, Way};
-use walk_fixtures::width::Width;
+use walk_ways::ways::{self, Way};
+use walk_ways::width::Width;
 
 /// States that count: one beside each directory's reading, and one beside each entry.
 type Counts = (usize, usize);

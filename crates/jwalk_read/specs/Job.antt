@@ -2,10 +2,6 @@
 use Rattle.std.specs.Prelude.{◌≡◌, ◌<◌, ◌^◌, ℕ, List, length, Option, None, Some, Result, Ok, Err, if◌then◌else◌}
 use Rattle.std.specs.declared.clone.Clone as Clone
 use Rattle.std.specs.declared.default.Default as Default
-use Rattle.walk_model.specs.declared.file_type.FileType.{FileType}
-use Rattle.walk_model.specs.FileType.{is_dir}
-use Rattle.walk_model.specs.FileSystem.{Functions}
-use Rattle.walk_model.specs.Error.{Failure, io, looped}
 use Rattle.walk_model.specs.Options as value_options
 use Rattle.walk_model.specs.ReadDir.{Spec, Outcome, IsLawful, list_of}
 use Rattle.walk_model.specs.Counted.{Worth}
@@ -37,21 +33,6 @@ job_by files given job = record {
   processed = given.processed;
   default = given.new_entry;
 }
-
--- where a link stands that leads back to a directory above it, its error
-abbrev pub unless_above : ℕ → List ℕ → Option (List ℕ) → Result (Unit {0}) Failure
-unless_above depth path None = Ok tt
-unless_above depth path (Some ancestor) = Err (looped depth ancestor path)
-
--- whether what a link at a depth and a path leads to, of a type, is reached: a directory is looked for among the ancestors, by the link's text
-abbrev pub admitted : Functions → ℕ → List (List ℕ) → List ℕ → FileType → Result (Unit {0}) Failure
-admitted fs depth ancestors path type =
-    if is_dir type
-    then value.either
-    (λ target. unless_above depth path (value.looped_to target ancestors))
-    (λ kind. Err (io depth None kind))
-    (fs.target_of path)
-    else Ok tt
 
 -- Over what is given the outcome is the reading of the definition.
 abbrev pub IsAsGiven : {C S P A R E : Type 0} → FileSystem.Ghosts S → Given R E → Job C S P A R E → Spec R → Outcome R E → Type 0

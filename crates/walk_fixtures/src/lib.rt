@@ -1,4 +1,4 @@
-//! What the tests of walks share: trees, file systems that count or fail, the ways in which a walk can be read, and
+//! What the tests of walks share: trees, file systems that count or fail, a plain walk to compare others with, and
 //! answers as texts.
 #![tactic(auto)]
 
@@ -9,5 +9,3 @@ pub mod plain_walk;
 pub mod texts;
 pub mod trees;
 pub mod watched;
-pub mod ways;
-pub mod width;

@@ -2,13 +2,14 @@
 use Rattle.std.proofs.Common.{◌≡◌, ℕ, zero, suc, ◌+◌, ◌≤◌, Bool, true, false, cond, ◌&&◌, List, [], ◌∷◌, ◌++◌, length, map, Option, Some, None, Result, Ok, Err, refl, arith}
 use Rattle.std.proofs.lemmas.List.{length-append}
 use Rattle.std.specs.Prelude.{nat_le, filter, flat_map, option_map, if◌then◌else◌}
+use Rattle.std.specs.Result.{result_and}
 use Rattle.std.specs.declared.io.ErrorKind.{ErrorKind}
 use Rattle.walk_model.specs.FileType.{is_dir, is_symlink}
 use Rattle.walk_model.specs.Metadata.{type_of}
 use Rattle.walk_model.specs.Paths.{join}
 use Rattle.walk_model.specs.FileSystem.{Named, Listed, Functions}
 use Rattle.walk_model.specs.Options.{Options}
-use Rattle.walk_model.specs.Error.{io}
+use Rattle.walk_model.specs.Error.{Failure, io}
 use Rattle.walk_model.specs.Entry.{Entry, Item, children_at, is_hidden, path_of}
 use Rattle.walk_model.specs.ReadDir.{Spec, Outcome, list_of, spec_below}
 use Rattle.walk_model.specs.Sorting.{stands_before, put, arranged}
@@ -91,12 +92,12 @@ module _ {R E : Type 0} (job : Job R E) where
   made_few : (depth : ℕ) (path : List ℕ) (through : Bool) (ancestors : List (List ℕ)) → Above ancestors depth → Few (value.made job depth path through ancestors)
   made_few depth path through ancestors h = of_either job.options.follow_links _ _ (if through then job.fs.meta_of path else job.fs.link_meta_of path) (λ m. h) (λ kind. tt)
 
-  looped_few : (e x : Entry R E) (o : Option (List ℕ)) → Few (Ok x) → Few (value.unless_looped job e x o)
-  looped_few e x None h = h
-  looped_few e x (Some ancestor) h = tt
+  and_few : (x : Entry R E) (r : Result (Unit {0}) Failure) → Few (Ok x) → Few (result_and r (Ok x))
+  and_few x (Ok leads) h = h
+  and_few x (Err error) h = tt
 
   reached_few : (e x : Entry R E) → Few (Ok x) → Few (value.reached job e x)
-  reached_few e x h = of_cond job.options.follow_links (is_dir x.file_type) _ (Ok x) (of_either job.options.follow_links _ _ (job.fs.target_of (path_of e)) (λ target. looped_few e x (value.looped_to target e.ancestors) h) (λ kind. tt)) h
+  reached_few e x = and_few x (value.leads_on job.fs e.depth e.ancestors (path_of e) x.file_type)
 
   then_few : (f : Entry R E → Item R E) (x : Item R E) → ((e : Entry R E) → Few (Ok e) → Few (f e)) → Few x → Few (either f Err x)
   then_few f (Ok e) next h = next e h

@@ -1,12 +1,13 @@
 -- The depths of a reading's entries.
 use Rattle.std.proofs.Common.{ℕ, ◌+◌, ◌<◌, Bool, true, false, cond, ◌&&◌, List, [], ◌∷◌, Option, Some, None, Result, Ok, Err, inl, inr, refl, arith}
 use Rattle.std.proofs.lemmas.Bool.Decides.{leb_tells}
+use Rattle.std.specs.Result.{result_and}
 use Rattle.std.specs.declared.io.ErrorKind.{ErrorKind}
 use Rattle.walk_model.specs.declared.file_type.FileType.{FileType}
-use Rattle.walk_model.specs.FileType.{is_dir, is_symlink}
+use Rattle.walk_model.specs.FileType.{is_symlink}
 use Rattle.walk_model.specs.Paths.{join}
 use Rattle.walk_model.specs.FileSystem.{Named, Listed}
-use Rattle.walk_model.specs.Error.{io}
+use Rattle.walk_model.specs.Error.{Failure, io}
 use Rattle.walk_model.specs.Entry.{Entry, Item, AtDepth, is_hidden, path_of}
 use Rattle.walk_model.specs.ReadDir.{Spec, IsLawful}
 use Rattle.walk_model.specs.Job as value
@@ -19,20 +20,16 @@ module _ {R E : Type 0} (job : Job R E) where
   abbrev At : ℕ → Item R E → Type 0
   At depth x = AtDepth depth (x ∷ [])
 
-  either_at : {X F : Type 0} (depth : ℕ) (f : X → Item R E) (g : F → Item R E) (r : Result X F) → ((x : X) → At depth (f x)) → ((e : F) → At depth (g e)) → At depth (either f g r)
-  either_at depth f g (Ok x) h k = h x
-  either_at depth f g (Err e) h k = k e
-
   cond_at : (depth : ℕ) (b : Bool) (x y : Item R E) → At depth x → At depth y → At depth (cond b x y)
   cond_at depth true x y h k = h
   cond_at depth false x y h k = k
 
-  looped_at : (e x : Entry R E) (o : Option (List ℕ)) → At x.depth (value.unless_looped job e x o)
-  looped_at e x None = (refl, tt)
-  looped_at e x (Some ancestor) = tt
+  and_at : (x : Entry R E) (r : Result (Unit {0}) Failure) → At x.depth (result_and r (Ok x))
+  and_at x (Ok leads) = (refl, tt)
+  and_at x (Err error) = tt
 
   reached_at : (e x : Entry R E) → At x.depth (value.reached job e x)
-  reached_at e x = cond_at x.depth (is_dir x.file_type) _ (Ok x) (either_at x.depth _ _ (job.fs.target_of (path_of e)) (λ target. looped_at e x (value.looped_to target e.ancestors)) (λ kind. tt)) (refl, tt)
+  reached_at e x = and_at x (value.leads_on job.fs e.depth e.ancestors (path_of e) x.file_type)
 
   -- an entry after the link rule is where it was
   followed_at : (e : Entry R E) → At e.depth (value.followed job e)

@@ -1,12 +1,13 @@
 -- One reading of a directory, and the list of one item that a walk begins with.
 use Rattle.std.specs.Prelude.{ℕ, ◌+◌, nat_le, Bool, true, false, ◌&&◌, List, [], ◌∷◌, ◌++◌, flat_map, find, reverse, Option, Some, None, is_some, unwrap_or, Result, Ok, Err, if◌then◌else◌}
+use Rattle.std.specs.Result.{result_and}
 use Rattle.walk_model.specs.declared.file_type.FileType.{FileType}
 use Rattle.walk_model.specs.declared.metadata.Metadata.{Metadata}
 use Rattle.walk_model.specs.FileType.{is_dir, is_symlink}
 use Rattle.walk_model.specs.Metadata.{type_of}
 use Rattle.walk_model.specs.FileSystem.{Named, Listed, Functions, metadata_at}
 use Rattle.walk_model.specs.Paths.{join, parent, file_name, same_path}
-use Rattle.walk_model.specs.Error.{io, looped}
+use Rattle.walk_model.specs.Error.{Failure, io, looped}
 use Rattle.walk_model.specs.Entry.{Entry, Item, children_at, is_hidden, path_of}
 use Rattle.walk_model.specs.ReadDir.{Spec, Reading, Outcome, KeepsDepths, IsLawful}
 use Rattle.walk_model.specs.Options.{Options}
@@ -43,6 +44,21 @@ own_name path = unwrap_or (file_name path) path
 abbrev pub own_parent : List ℕ → List ℕ
 own_parent path = if is_some (file_name path) then unwrap_or (parent path) [] else []
 
+-- where a link stands that leads back to a directory above it, its error
+abbrev pub unless_above : ℕ → List ℕ → Option (List ℕ) → Result (Unit {0}) Failure
+unless_above depth path None = Ok tt
+unless_above depth path (Some ancestor) = Err (looped depth ancestor path)
+
+-- whether a link at a depth and a path, below these ancestors, leads on to what it stands for, of a type: a directory is looked for among the ancestors, by the link's text
+abbrev pub leads_on : Functions → ℕ → List (List ℕ) → List ℕ → FileType → Result (Unit {0}) Failure
+leads_on fs depth ancestors path type =
+    if is_dir type
+    then either
+    (λ target. unless_above depth path (looped_to target ancestors))
+    (λ kind. Err (io depth None kind))
+    (fs.target_of path)
+    else Ok tt
+
 module _ {R E : Type 0} (job : Job R E) where
   abbrev pub made_of : ℕ → List ℕ → Bool → List (List ℕ) → Metadata → Entry R E
   made_of depth path through ancestors m = record {
@@ -63,20 +79,9 @@ module _ {R E : Type 0} (job : Job R E) where
       (λ kind. Err (io depth (Some path) kind))
       (metadata_at job.fs through path)
 
-  -- the entry x behind the link e, unless x is an ancestor
-  abbrev pub unless_looped : Entry R E → Entry R E → Option (List ℕ) → Item R E
-  unless_looped e x None = Ok x
-  unless_looped e x (Some ancestor) = Err (looped e.depth ancestor (path_of e))
-
-  -- the entry x that is reached through the link e: a directory is looked for among the ancestors, by the link's text
+  -- the entry x that is reached through the link e, where that leads on
   abbrev pub reached : Entry R E → Entry R E → Item R E
-  reached e x =
-      if is_dir x.file_type
-      then either
-      (λ target. unless_looped e x (looped_to target e.ancestors))
-      (λ kind. Err (io e.depth None kind))
-      (job.fs.target_of (path_of e))
-      else Ok x
+  reached e x = result_and (leads_on job.fs e.depth e.ancestors (path_of e) x.file_type) (Ok x)
 
   -- an entry after the link rule: where links are followed, a link gives way to what it leads to
   abbrev pub followed : Entry R E → Item R E

@@ -9,7 +9,7 @@ ghost use Rattle.read_parts.specs.Ancestors.{texts};
 ghost use Rattle.read_parts.specs.Error.{failure};
 ghost use Rattle.read_parts.specs.Entry.{entry, item};
 ghost use Rattle.read_parts.specs.Given.{Given, counted_item, counted_entry, DefaultsCount};
-ghost use Rattle.jwalk_read.specs.Job.{file_system, options_of, job_by, admitted};
+ghost use Rattle.jwalk_read.specs.Job.{file_system, options_of, job_by};
 
 use super::Job;
 use read_parts::ancestors::Ancestors;
@@ -101,9 +101,9 @@ fn parent_of<A: Allocator + Copy>(
     shared(alloc, parent)
 }
 
-/// Whether what a link at a path led to, of this type, is reached: not if it is a directory above the link, as the
-/// link's text tells, nor if the text of the link to a directory can't be read.
-fn admitted<S: FileSystem, A: Allocator + Copy>(
+/// Whether a link at a path leads on to what it stands for, of this type: not if that is a directory above the link, as
+/// the link's text tells, nor if the text of the link to a directory can't be read.
+fn leads_on<S: FileSystem, A: Allocator + Copy>(
     alloc: A,
     fs: &S,
     depth: usize,
@@ -112,8 +112,8 @@ fn admitted<S: FileSystem, A: Allocator + Copy>(
     file_type: FileType,
 ) -> Result<Result<(), Error<A>>, AllocError>
     ensures { S.IsFixed fs.now → IfOk result (λ r. MatchResult r
-        (λ _. admitted (S.functions fs.now) depth (texts ancestors.now) (text path.now) file_type ≡ Ok tt)
-        (λ e. admitted (S.functions fs.now) depth (texts ancestors.now) (text path.now) file_type ≡ Err (failure e))) }
+        (λ _. value.leads_on (S.functions fs.now) depth (texts ancestors.now) (text path.now) file_type ≡ Ok tt)
+        (λ e. value.leads_on (S.functions fs.now) depth (texts ancestors.now) (text path.now) file_type ≡ Err (failure e))) }
 {
     if !file_type.is_dir() {
         return Ok(Ok(()));
@@ -182,7 +182,7 @@ impl<C: ClientState, S: FileSystem, P: ProcessReadDir<C, A>, A: Allocator + Copy
             (counted_entry g (entry link.now)) (counted_entry g (entry found))) }
     {
         let above = link.ancestors();
-        let admitted = admitted(
+        let leads_on = leads_on(
             self.alloc,
             &self.fs,
             link.depth,
@@ -190,7 +190,7 @@ impl<C: ClientState, S: FileSystem, P: ProcessReadDir<C, A>, A: Allocator + Copy
             path,
             found.file_type,
         )?;
-        Ok(admitted.and(Ok(found)))
+        Ok(leads_on.and(Ok(found)))
     }
 
     /// What a link gives way to.

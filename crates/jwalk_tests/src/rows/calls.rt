@@ -2,7 +2,7 @@
 use crate::rows::row::{Over, Row, all_hold};
 use walk_fixtures::trees::{GROUPED, Step};
 use walk_fixtures::watched::Calls;
-use walk_fixtures::ways::Setting;
+use walk_ways::ways::Setting;
 
 /// Files, directories, and links to them.
 const LINKED: &[Step] = &[

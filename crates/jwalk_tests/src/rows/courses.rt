@@ -6,7 +6,7 @@ use std::thread::Threads;
 use walk_fixtures::answers::are_lines;
 use walk_fixtures::trees::{Step, tree};
 use walk_fixtures::watched::{Failing, Watched};
-use walk_fixtures::ways::{Asked, Setting};
+use walk_ways::ways::{Asked, Setting};
 
 /// What walks begin with: the steps that build their tree, where that fails, and their root.
 pub type Start = (&'static [Step], Failing, &'static str);

@@ -6,8 +6,8 @@ use std::io::ErrorKind;
 use walk_fixtures::listed_directory::{Item, ListedDirectory};
 use walk_fixtures::trees::{GROUPED, SMALL};
 use walk_fixtures::watched::Failing;
-use walk_fixtures::ways::Setting;
-use walk_fixtures::width::Width;
+use walk_ways::ways::Setting;
+use walk_ways::width::Width;
 
 /// A directory whose files have odd names.
 const ODD: ListedDirectory<'static> = ListedDirectory {

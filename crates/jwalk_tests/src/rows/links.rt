@@ -4,7 +4,7 @@ use jwalk::read_dir::NoProcess;
 use std::thread::Threads;
 use walk_fixtures::answers::Answer;
 use walk_fixtures::trees::{LOOPED, Step, tree};
-use walk_fixtures::ways::{Asked, Setting, WAYS, Way};
+use walk_ways::ways::{Asked, Setting, WAYS, Way};
 
 #[test]
 fn a_link_to_an_ancestor_is_a_loop(rt: HostRuntime) {

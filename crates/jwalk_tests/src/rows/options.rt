@@ -4,7 +4,7 @@ use jwalk::file_system::FileType;
 use std::io::ErrorKind;
 use walk_fixtures::listed_directory::{Item, ListedDirectory};
 use walk_fixtures::trees::{DENIED, GROUPED};
-use walk_fixtures::ways::Setting;
+use walk_ways::ways::Setting;
 
 #[test]
 fn names_in_order(rt: HostRuntime) {

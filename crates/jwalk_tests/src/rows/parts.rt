@@ -2,8 +2,8 @@
 use crate::rows::courses::{Course, Seen, all_take};
 use walk_fixtures::trees::GROUPED;
 use walk_fixtures::watched::Failing;
-use walk_fixtures::ways::Setting;
-use walk_fixtures::width::Width;
+use walk_ways::ways::Setting;
+use walk_ways::width::Width;
 
 /// The first answers of a walk by name over the groups of files.
 const SOME: &str = "0 d /t; 1 f /t/a.txt; 1 f /t/b.txt";

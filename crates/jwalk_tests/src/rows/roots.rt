@@ -7,7 +7,7 @@ use jwalk::{DirEntry, Error};
 use std::alloc::Global;
 use std::thread::Threads;
 use walk_fixtures::trees::{FORKED, tree};
-use walk_fixtures::width::Width;
+use walk_ways::width::Width;
 
 /// Readings that are made in some way.
 type ReadsBy<'a, T> = ReadDirIter<((), ()), &'a MemoryFs, NoProcess, Global, T>;

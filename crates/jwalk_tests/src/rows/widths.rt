@@ -2,8 +2,8 @@
 use crate::rows::courses::{Course, Seen, all_take};
 use walk_fixtures::trees::{FORKED, GROUPED};
 use walk_fixtures::watched::Failing;
-use walk_fixtures::ways::Setting;
-use walk_fixtures::width::Width;
+use walk_ways::ways::Setting;
+use walk_ways::width::Width;
 
 #[test]
 fn directories_of_directories(rt: HostRuntime) {

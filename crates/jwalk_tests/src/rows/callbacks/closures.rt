@@ -1,5 +1,4 @@
 //! Walks whose callbacks are closures.
-use crate::lines::over_tree;
 use crate::rows::callbacks::rows::{Callback, Row, all_hold};
 use jwalk::DirEntry;
 use jwalk::file_system::BuildError;
@@ -7,7 +6,8 @@ use std::alloc::Global;
 use walk_fixtures::answers::{Answer, are_lines};
 use walk_fixtures::moving::move_directory;
 use walk_fixtures::trees::GROUPED;
-use walk_fixtures::ways::all_looped;
+use walk_ways::builders::over_tree;
+use walk_ways::ways::all_looped;
 
 /// What a closure does with each list.
 pub enum Change {

@@ -1,11 +1,11 @@
 //! Walks whose callback is refused memory.
-use crate::lines::over_tree;
 use crate::rows::callbacks::rows::{Callback, Row, all_hold};
 use jwalk::file_system::BuildError;
 use jwalk::read_dir::ProcessReadDir;
 use std::alloc::{AllocError, Global};
 use walk_fixtures::answers::Answer;
 use walk_fixtures::trees::GROUPED;
+use walk_ways::builders::over_tree;
 
 /// A callback that is refused memory for the list of the root, or for those of directories at a depth.
 #[derive(Drop)]

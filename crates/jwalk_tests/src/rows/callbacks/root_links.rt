@@ -5,7 +5,7 @@ use std::sync::atomic::{AtomicUsize, Ordering};
 use std::thread::Threads;
 use walk_fixtures::answers::Answer;
 use walk_fixtures::trees::{Step, tree};
-use walk_fixtures::ways::{Asked, WAYS, Way};
+use walk_ways::ways::{Asked, WAYS, Way};
 
 /// How often a callback was called without a depth and at the path `/`, and how often otherwise.
 #[derive(Drop)]

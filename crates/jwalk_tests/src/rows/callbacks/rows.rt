@@ -8,7 +8,7 @@ use std::process::Abort;
 use std::thread::Threads;
 use walk_fixtures::answers::Answer;
 use walk_fixtures::trees::{GROUPED, tree};
-use walk_fixtures::ways::{Asked, Setting, WAYS, Way};
+use walk_ways::ways::{Asked, Setting, WAYS, Way};
 
 /// What a callback does with each list.
 pub enum Callback {

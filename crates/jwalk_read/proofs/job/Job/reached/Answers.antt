@@ -10,27 +10,8 @@ use Rattle.walk_model.specs.Job as value
 use Rattle.read_parts.specs.Error.{failure}
 use Rattle.read_parts.specs.Entry.{entry, item}
 use Rattle.read_parts.specs.Given.{counted_entry, counted_item}
-use Rattle.jwalk_read.specs.Job.{job_by, admitted, unless_above}
+use Rattle.jwalk_read.specs.Job.{job_by}
 use Rattle.jwalk_read.proofs.job.Job.reached.Goals as goal
-
-module _ (job : value.Job Worth Worth) (e x : Entry Worth Worth) where
-  above : (o : Option (List ℕ)) → result_and (unless_above e.depth (path_of e) o) (Ok x) ≡ value.unless_looped job e x o
-  above None = refl
-  above (Some ancestor) = refl
-
-  leads : (target : Result (List ℕ) ErrorKind)
-      → result_and (value.either (λ t. unless_above e.depth (path_of e) (value.looped_to t e.ancestors)) (λ kind. Err (io e.depth None kind)) target) (Ok x)
-      ≡ value.either (λ t. value.unless_looped job e x (value.looped_to t e.ancestors)) (λ kind. Err (io e.depth None kind)) target
-  leads (Ok target) = above (value.looped_to target e.ancestors)
-  leads (Err kind) = refl
-
-  chosen : {X Y : Type 0} (f : X → Y) (dir : Bool) (y n : X) (z : Y) → f y ≡ z → f (cond dir y n) ≡ cond dir z (f n)
-  chosen f true y n z is = is
-  chosen f false y n z is = refl
-
-  -- what is admitted is reached
-  as_admitted : result_and (admitted job.fs e.depth e.ancestors (path_of e) x.file_type) (Ok x) ≡ value.reached job e x
-  as_admitted = chosen (λ r. result_and r (Ok x)) (is_dir x.file_type) _ (Ok tt) _ (leads (job.fs.target_of (path_of e)))
 
 -- what is handed on, unless there is an error
 handed_on : {X E Y Z : Type 0} (view : Result X E → Result Y Z) (seen : E → Z) (x : X) (refused : Result (Unit {0}) E) (value : Result (Unit {0}) Z) (y : Result Y Z) → ((e : E) → view (Err e) ≡ Err (seen e))
@@ -42,7 +23,6 @@ pub returns-clause-value : goal.returns-clause-value
 returns-clause-value g c = λ given fixed.
     let job = job_by g.S.FileSystem given c.args.self.now in
     let link = counted_entry given (entry c.args.link.now) in
-    let found = counted_entry given (entry c.args.found) in
-    let met = rw (c.requires, c.ancestors-above.ensures) at (c.in_ok-admitted.ensures fixed) in
+    let met = rw (c.requires, c.ancestors-above.ensures) at (c.in_ok-leads_on.ensures fixed) in
     ap (λ r. counted_item given (item r)) c.and.ensures
-    ∙ handed_on (λ r. counted_item given (item r)) failure c.args.found c.in_ok-admitted.admitted _ _ (λ e. refl) met (as_admitted job link found)
+    ∙ handed_on (λ r. counted_item given (item r)) failure c.args.found c.in_ok-leads_on.leads_on _ _ (λ e. refl) met refl

@@ -1,5 +1,4 @@
 //! What errors tell, and the metadata of entries.
-use crate::lines::{Builder, builder, over_tree};
 use jwalk::Error;
 use jwalk::file_system::{FileSystem, FileType, MemoryFs, Metadata};
 use std::alloc::Global;
@@ -8,6 +7,7 @@ use walk_fixtures::answers::Answer;
 use walk_fixtures::listed_directory::{Item, ListedDirectory};
 use walk_fixtures::trees::{DENIED, LOOPED, Step, tree};
 use walk_fixtures::watched::{Failing, Watched};
+use walk_ways::builders::{Builder, builder, over_tree};
 
 /// The last answer of a walk, if there is one.
 fn last<S: FileSystem>(walk: Builder<S>) -> Option<Answer> {

@@ -1,5 +1,4 @@
 //! Walks over trees of size.
-use crate::lines::builder;
 use crate::wide::{FILES, name, scrambled, wide_directory};
 use jwalk::DirEntryIter;
 use jwalk::file_system::{BuildError, MemoryFs};
@@ -7,6 +6,7 @@ use jwalk::read_dir::NoProcess;
 use std::alloc::{AllocError, Global};
 use walk_fixtures::answers::{Answer, are_lines};
 use walk_fixtures::watched::{Failing, Watched};
+use walk_ways::builders::builder;
 
 /// A walk that is begun.
 type Walk<'a> = DirEntryIter<((), ()), &'a Watched, NoProcess>;

@@ -1,9 +1,9 @@
 //! What each getter of each entry answers.
-use crate::lines::{Entry, in_a_for_loop, over_tree};
 use jwalk::file_system::BuildError;
 use std::alloc::{AllocError, Global};
 use walk_fixtures::answers::{Answer, letter};
 use walk_fixtures::trees::{SMALL, Step};
+use walk_ways::builders::{Entry, in_a_for_loop, over_tree};
 
 /// Adds what the getters of an entry answer to a text: depth, name, parent, the letter of its type, and `+` where it
 /// has a directory to be read.

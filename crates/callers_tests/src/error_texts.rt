@@ -1,13 +1,13 @@
 //! The texts of a file system's errors.
 ghost use Rattle.walk_model.specs.Tree.{functions_of, only_root};
 
-use crate::lines::builder;
 use jwalk::file_system::{Fault, FileSystem, FileType, Listed, Metadata};
 use std::alloc::{AllocError, Allocator, Global};
 use std::io;
 use std::io::ErrorKind;
 use walk_fixtures::answers::Answer;
-use walk_fixtures::ways::all_of;
+use walk_ways::builders::builder;
+use walk_ways::ways::all_of;
 
 /// What of a file system fails.
 #[derive(Clone, Copy)]

@@ -1,5 +1,4 @@
 //! Whole walks, and walks in batches.
-use crate::lines::{builder, over_tree};
 use crate::wide::wide_directory;
 use jwalk::file_system::BuildError;
 use proved_walk::batches::count_in_batches;
@@ -8,6 +7,7 @@ use proved_walk::whole::walk_whole;
 use std::alloc::Global;
 use walk_fixtures::answers::are_lines;
 use walk_fixtures::trees::{GROUPED, SMALL, tree};
+use walk_ways::builders::{builder, over_tree};
 
 /// Whether these are the lines of a whole walk over the small tree.
 fn shows_small(alloc: Global, wanted: &str) -> Result<bool, BuildError> {

@@ -1,4 +1,4 @@
-//! Walks to try, and what comes of them.
+//! Walks yet to begin, and a `for` loop over one.
 use jwalk::file_system::{BuildError, FileSystem, MemoryFs};
 use jwalk::read_dir::NoProcess;
 use jwalk::{DirEntry, WalkDirGeneric};

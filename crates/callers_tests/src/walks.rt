@@ -1,12 +1,12 @@
 //! Walks over trees in memory, and what is asked of them.
-use crate::lines::{builder, in_a_for_loop, over_tree};
 use jwalk::file_system::{BuildError, MemoryFs};
 use jwalk::path_text;
 use std::alloc::{AllocError, Global};
 use std::sync::Arc;
 use walk_fixtures::answers::are_lines;
 use walk_fixtures::trees::{SMALL, tree};
-use walk_fixtures::ways::all_of;
+use walk_ways::builders::{builder, in_a_for_loop, over_tree};
+use walk_ways::ways::all_of;
 
 /// What the walk answers from the root of the small tree.
 const ALL: &str = "0 d /r; 1 f /r/b; 1 d /r/s; 2 f /r/s/x; 1 f /r/a";

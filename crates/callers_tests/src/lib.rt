@@ -1,0 +1,20 @@
+//! What callers of walks meet: the functions of `proved_walk`, `for` loops, getters, errors and their texts, and walks
+//! of size.
+#![tactic(auto)]
+
+#[cfg(test)]
+mod callers;
+#[cfg(test)]
+mod error_texts;
+#[cfg(test)]
+mod errors;
+#[cfg(test)]
+mod getters;
+#[cfg(test)]
+mod sizes;
+#[cfg(test)]
+mod walks;
+#[cfg(test)]
+mod whole;
+#[cfg(test)]
+mod wide;
