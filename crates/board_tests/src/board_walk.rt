@@ -23,8 +23,6 @@ const MANY: [&str; 67] = [
     "/r/x", "/r/x/x", "/r/y", "/r/y/y", "/r/z", "/r/z/z",
 ];
 
-const DIGITS: [&str; 10] = ["0", "1", "2", "3", "4", "5", "6", "7", "8", "9"];
-
 /// These directories and no others, of which the one at this path is refused memory.
 fn tree(alloc: Global, dirs: &[&str], at: &'static str) -> Option<Refusing> {
     let fs = given::tree(alloc, dirs)?;
@@ -73,8 +71,7 @@ fn push_next(
         Ok(None) => return None,
         Err(_refused) => text.push_str("refused").ok()?,
     }
-    text.push_str(DIGITS.get(ahead).unwrap_or(&"+")).ok()?;
-    text.push_str(" ").ok()
+    write!(text, "{ahead} ").ok()
 }
 
 /// Whether this comes of a walk: each reading, and after each how many others are ahead.
@@ -132,8 +129,9 @@ fn directories_are_read_in_order_however_many_together(rt: HostRuntime) {
 #[test]
 fn threads_read_a_wide_batch_in_order(rt: HostRuntime) {
     let wanted = "ABCDEFGabcdefghijklmnopqrstuvwxyz0 \
-                  A+ + B+ + C+ + D+ + E+ + F+ + G+ + a+ + b+ + c+ + d+ + e+ + f+ + g+ + h+ + i+ + j+ + \
-                  k+ + l+ + m+ + n+ + o+ + p+ + q+ + r+ + s+ + t+ + u+ + v9 8 w7 6 x5 4 y3 2 z1 0 ";
+                  A32 64 B63 62 C61 60 D59 58 E57 56 F55 54 G53 52 a51 50 b49 48 c47 46 d45 44 e43 42 f41 40 g39 \
+                  38 h37 36 i35 34 j33 32 k31 30 l29 28 m27 26 n25 24 o23 22 p21 20 q19 18 r17 16 s15 14 t13 12 \
+                  u11 10 v9 8 w7 6 x5 4 y3 2 z1 0 ";
     assert!(rt; both_give(&rt, &MANY, "", 64, wanted));
 }
 

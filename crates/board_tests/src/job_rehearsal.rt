@@ -9,7 +9,7 @@ ghost use Rattle.read_parts.specs.Given.{counted_spec, counted_outcome};
 ghost use Rattle.jwalk_read.specs.Job.{callback, job_by, IsSteadyJob};
 ghost use Rattle.jwalk_read.specs.Plan.{tree_of};
 
-use crate::given::{self, States, address, are_at, push_names, roots_of};
+use crate::given::{self, States, address, are_at, is_at, push_names, roots_of};
 use jwalk_board::board::{Move, Refused, Rehearsal, rehearse};
 use jwalk_order::ordered::Ordered;
 use jwalk_read::job::Job;
@@ -111,28 +111,58 @@ fn a_job_is_rehearsed_in_preorder(rt: HostRuntime) {
     assert!(rt; hands_out(rt.alloc(), &MOVES[..7], FIRST) == Some(true));
 }
 
-/// Whether these are the directories at two paths and the addresses 0 and 1 below 3 and 1, with no children counted.
-fn stand_at(items: &[Ordered<ReadDirSpec<States>>], first: &str, second: &str) -> bool {
-    are_at(items, &[(&[3, 1, 0], 0), (&[3, 1, 1], 0)])
-        && matches!(items, [a, b] if a.value.path.as_str() == first && b.value.path.as_str() == second)
+/// The addresses and the paths of directories.
+type Places = &'static [(&'static [usize], &'static str)];
+
+/// Whether directories stand at these addresses, with no children counted, and have these paths.
+fn stand_at(items: &[Ordered<ReadDirSpec<States>>], wanted: Places) -> bool {
+    for (item, (indices, path)) in items.iter().zip(wanted) {
+        if !is_at(item, *indices, 0) || item.value.path.as_str() != *path {
+            return false;
+        }
+    }
+    items.len() == wanted.len()
 }
 
-/// The reading of the root.
-fn root_reading(job: &TreeJob<'_>) -> Option<ReadDir<States>> {
-    let roots = roots_of(job, "/t")?;
-    job.read_one(roots.first()?).ok()?.ok()
+/// The reading of a root, which is the only directory of its list.
+fn root_reading(job: &TreeJob<'_>, root: &str) -> Option<ReadDir<States>> {
+    let roots = roots_of(job, root)?;
+    match roots.as_slice() {
+        [only] => job.read_one(only).ok()?.ok(),
+        _ => None,
+    }
 }
 
-/// Whether the directories in the reading of the root stand at the children of the address 3 and 1.
-fn root_has_addresses(alloc: Global) -> Option<bool> {
-    let fs = tree(alloc)?;
-    let above = address(alloc, &[3, 1])?;
-    let read = root_reading(&job_of(alloc, &fs))?;
+/// Whether the directories in the reading of a root stand at these addresses below this one.
+fn have_addresses(
+    alloc: Global,
+    fs: &MemoryFs,
+    root: &str,
+    above: &[usize],
+    wanted: Places,
+) -> Option<bool> {
+    let above = address(alloc, above)?;
+    let read = root_reading(&job_of(alloc, fs), root)?;
     let below = read.ordered_read_children_specs(&above).ok()?;
-    Some(stand_at(below.as_slice(), "/t/b", "/t/c"))
+    Some(stand_at(below.as_slice(), wanted))
 }
 
 #[test]
 fn directories_below_a_reading_have_their_addresses(rt: HostRuntime) {
-    assert!(rt; root_has_addresses(rt.alloc()) == Some(true));
+    const FORKED: &[&str] = &["/r", "/r/a", "/r/a/x", "/r/b", "/r/b/x", "/r/c", "/r/c/x"];
+    let alloc = rt.alloc();
+    let forked = given::tree(alloc, FORKED);
+    assert!(rt;
+        matches!(&forked, Some(fs) if have_addresses(alloc, fs, "/r", &[0], &[
+        (&[0, 0], "/r/a"),
+        (&[0, 1], "/r/b"),
+        (&[0, 2], "/r/c"),
+    ]) == Some(true))
+    );
+    assert!(rt;
+        matches!(&tree(alloc), Some(fs) if have_addresses(alloc, fs, "/t", &[3, 1], &[
+        (&[3, 1, 0], "/t/b"),
+        (&[3, 1, 1], "/t/c"),
+    ]) == Some(true))
+    );
 }

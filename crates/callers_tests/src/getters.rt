@@ -56,7 +56,7 @@ fn each_getter_of_each_entry(rt: HostRuntime) {
             root: "/r",
             getters: "0 r in / d+; 1 b in /r f; 1 s in /r d+; 2 x in /r/s f; 1 a in /r f",
         },
-        // Roots that have no file name: the name is the whole path, and the parent is empty.
+        // Roots without a file name: such a root stands for itself, below an empty path.
         Row {
             steps: &[Step::Dir("/r")],
             root: ".",

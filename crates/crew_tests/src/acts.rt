@@ -189,33 +189,33 @@ fn comes_off<R: Wait + Threads + Clock + AllocGlobal + Clone + Drop + Send + Syn
     }
 }
 
-/// Whether all acts come off, one after another.
-fn come_off<R: Wait + Threads + Clock + AllocGlobal + Clone + Drop + Send + Sync + 'static>(
+/// The number of the first act that doesn't come off, where they come one after another.
+fn wrong<R: Wait + Threads + Clock + AllocGlobal + Clone + Drop + Send + Sync + 'static>(
     rt: &R,
     stand: &Stand<R>,
     acts: &[Act<'_>],
-) -> bool {
+) -> Option<usize> {
     let mut walks = Vec::new(stand.alloc);
-    for act in acts {
+    for (number, act) in acts.iter().enumerate() {
         if !comes_off(rt, stand, &mut walks, act) {
-            return false;
+            return Some(number);
         }
     }
-    true
+    None
 }
 
-/// Whether all acts come off over the crew and the tree of a scene.
-pub fn all_come_off<R: Wait + Threads + Clock + AllocGlobal + Clone + Drop + Send + Sync + 'static>(
+/// The number of the first act that doesn't come off over the crew and the tree of a scene.
+pub fn first_wrong<R: Wait + Threads + Clock + AllocGlobal + Clone + Drop + Send + Sync + 'static>(
     rt: &R,
     scene: &Scene,
     acts: &[Act<'_>],
-) -> bool {
+) -> Option<usize> {
     let Ok(tree) = tree(rt.alloc(), scene.steps) else {
-        return false;
+        return Some(0);
     };
     match Stand::new(rt, tree, scene.failing, scene.places, scene.workers) {
-        Ok(stand) => come_off(rt, &stand, acts),
-        Err(_) => false,
+        Ok(stand) => wrong(rt, &stand, acts),
+        Err(_) => Some(0),
     }
 }
 

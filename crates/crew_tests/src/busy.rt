@@ -1,5 +1,5 @@
 //! Walks whose crew is busy, and how many a crew serves.
-use crate::acts::{Act, Going, Scene, all_come_off};
+use crate::acts::{Act, Going, Scene, first_wrong};
 use crate::crewed::{Asked, Reader, Taken};
 use walk_fixtures::trees::{FORKED, GROUPED};
 use walk_fixtures::watched::Failing;
@@ -41,6 +41,7 @@ const IMPATIENT_FROM_FILE: Asked<'static> = Asked {
     ..IMPATIENT
 };
 
+// That a place is in use is what the wrong body `in_use_always_zero` fails to say.
 #[test]
 fn a_directory_is_not_read_while_another_walk_has_the_place(rt: HostRuntime) {
     const ACTS: &[Act<'static>] = &[
@@ -51,7 +52,7 @@ fn a_directory_is_not_read_while_another_walk_has_the_place(rt: HostRuntime) {
         Act::Last(Going::Drops),
         Act::InUse(0),
     ];
-    assert!(rt; all_come_off(&rt, &ONE_PLACE, ACTS));
+    assert_eq!(rt; first_wrong(&rt, &ONE_PLACE, ACTS), None);
 }
 
 #[test]
@@ -60,7 +61,10 @@ fn a_busy_crew_is_told_of_above_the_least_depth_too(rt: HostRuntime) {
         settings: &[Setting::Min(1)],
         ..IMPATIENT
     };
-    assert!(rt; all_come_off(&rt, &ONE_PLACE, &[Act::Begins(PATIENT), Act::IsBusy(DEEP)]));
+    assert_eq!(rt;
+        first_wrong(&rt, &ONE_PLACE, &[Act::Begins(PATIENT), Act::IsBusy(DEEP)]),
+        None
+    );
 }
 
 #[test]
@@ -77,7 +81,7 @@ fn a_root_without_a_directory_is_answered_by_a_busy_crew(rt: HostRuntime) {
         Act::Last(Going::Drops),
         Act::InUse(0),
     ];
-    assert!(rt; all_come_off(&rt, &ONE_PLACE, ACTS));
+    assert_eq!(rt; first_wrong(&rt, &ONE_PLACE, ACTS), None);
 }
 
 #[test]
@@ -89,7 +93,7 @@ fn a_root_without_a_directory_takes_a_place(rt: HostRuntime) {
         Act::Last(Going::Drops),
         Act::InUse(0),
     ];
-    assert!(rt; all_come_off(&rt, &ONE_PLACE, ACTS));
+    assert_eq!(rt; first_wrong(&rt, &ONE_PLACE, ACTS), None);
 }
 
 #[test]
@@ -119,7 +123,7 @@ fn as_many_walks_at_once_as_there_are_places(rt: HostRuntime) {
         Act::Last(Going::Drops),
         Act::InUse(0),
     ];
-    assert!(rt; all_come_off(&rt, &TWO_PLACES, ACTS));
+    assert_eq!(rt; first_wrong(&rt, &TWO_PLACES, ACTS), None);
 }
 
 #[test]
@@ -129,7 +133,7 @@ fn who_waits_gets_the_place_that_is_given_back(rt: HostRuntime) {
         Act::Answers(Taken::AtOnce, PATIENT_FROM_FILE, "0 f /t/a.txt"),
         Act::InUse(0),
     ];
-    assert!(rt; all_come_off(&rt, &ONE_PLACE, ACTS));
+    assert_eq!(rt; first_wrong(&rt, &ONE_PLACE, ACTS), None);
 }
 
 #[test]
@@ -153,5 +157,5 @@ fn no_places_and_no_workers_count_as_one(rt: HostRuntime) {
             "0 d /t/group 1; 1 f /t/group 1/d.txt",
         ),
     ];
-    assert!(rt; all_come_off(&rt, &NO_PLACES, ACTS));
+    assert_eq!(rt; first_wrong(&rt, &NO_PLACES, ACTS), None);
 }

@@ -1,5 +1,5 @@
 //! Walks that are dropped before their end.
-use crate::acts::{Act, Going, Scene, all_come_off};
+use crate::acts::{Act, Going, Scene, first_wrong};
 use crate::crewed::{Asked, Reader};
 use walk_fixtures::trees::{FORKED, Step};
 use walk_fixtures::watched::Failing;
@@ -34,12 +34,18 @@ fn the_place_is_given_back_after_any_number_of_answers(rt: HostRuntime) {
             Act::Begins(NEXT),
             Act::Last(Going::Comes(7)),
         ];
-        assert!(rt; all_come_off(&rt, &SCENE, &acts), "after {} answers", count);
+        assert_eq!(rt;
+            first_wrong(&rt, &SCENE, &acts),
+            None,
+            "after {} answers",
+            count
+        );
     }
 }
 
+// Where readers outlive the walk (the wrong body `readers_outlive_the_walk`), directories are listed on and on.
 #[test]
-fn workers_end_after_a_walk_without_an_end_is_dropped(rt: HostRuntime) {
+fn workers_list_nothing_more_once_a_long_walk_is_dropped(rt: HostRuntime) {
     // Each link leads back to both, more than 2^39 times in all.
     const SCENE: Scene = Scene {
         steps: &[
@@ -62,5 +68,5 @@ fn workers_end_after_a_walk_without_an_end_is_dropped(rt: HostRuntime) {
         Act::Rests,
         Act::InUse(0),
     ];
-    assert!(rt; all_come_off(&rt, &SCENE, ACTS));
+    assert_eq!(rt; first_wrong(&rt, &SCENE, ACTS), None);
 }

@@ -1,5 +1,5 @@
 //! Walks over a crew whose workers meet faults.
-use crate::acts::{Act, Scene, all_come_off};
+use crate::acts::{Act, Scene, first_wrong};
 use crate::crewed::{Asked, Reader, Taken};
 use std::io::ErrorKind;
 use walk_fixtures::trees::{GROUPED, SMALL, Step};
@@ -52,6 +52,6 @@ fn failures_of_workers_told_where_they_are_met(rt: HostRuntime) {
             then: &[],
         };
         let acts = [Act::Answers(Taken::AtOnce, walk, *answers), Act::InUse(0)];
-        assert!(rt; all_come_off(&rt, &scene, &acts), "{}", *answers);
+        assert_eq!(rt; first_wrong(&rt, &scene, &acts), None, "{}", *answers);
     }
 }

@@ -1,5 +1,5 @@
 //! Walks over a crew and their answers, which are those of walks without one.
-use crate::acts::{Act, Scene, all_come_off, shows_by};
+use crate::acts::{Act, Scene, first_wrong, shows_by};
 use crate::crewed::{Asked, Reader, Taken};
 use crate::serial::are_serial;
 use jwalk::file_system::{BuildError, MemoryFs};
@@ -41,7 +41,8 @@ fn holds<R: Wait + Threads + Clock + AllocGlobal + Clone + Drop + Send + Sync + 
         then: &[],
     };
     let act = Act::Answers(Taken::AtOnce, walk, *answers);
-    all_come_off(rt, &scene, &[act]) && are_serial(rt, tree(rt.alloc(), *steps), &walk, workers)
+    first_wrong(rt, &scene, &[act]).is_none()
+        && are_serial(rt, tree(rt.alloc(), *steps), &walk, workers)
 }
 
 #[test]

@@ -15,7 +15,7 @@ use walk_ways::width::Width;
 /// States that count: one beside each directory's reading, and one beside each entry.
 type Counts = (usize, usize);
 
-/// All that answers hold, as a text.
+/// All that answers show, as a text: of an entry all but the directories above it.
 fn text_of(alloc: Global, found: Result<Vec<Answer<Counts>>, AllocError>) -> Option<String> {
     let found = found.ok()?;
     format!(in alloc; "{:?}", found.as_slice()).ok()

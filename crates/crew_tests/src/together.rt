@@ -1,15 +1,31 @@
 //! Two directories that are read at the same time.
-use crate::acts::shows_by;
-use crate::crewed::{Asked, Reader};
-use jwalk::read_dir::ProcessReadDir;
-use std::alloc::{AllocError, Global};
-use std::sync::atomic::{AtomicBool, Ordering};
-use std::thread;
-use std::time::{Clock, Duration};
-use walk_fixtures::answers::Answer;
-use walk_fixtures::trees::Step;
+ghost use Rattle.jwalk.specs.walk_model.Tree.{functions_of, only_root};
 
-/// A callback that two directories come to, of which each waits there until the other has come.
+use jwalk::file_system::{Fault, FileSystem, FileType, Listed, Metadata};
+use jwalk::{Crew, Parallelism, WalkDirGeneric};
+use std::alloc::{AllocError, Allocator};
+use std::io::ErrorKind;
+use std::sync::atomic::{AtomicBool, Ordering};
+use std::sync::{Arc, Wait};
+use std::thread::Threads;
+use std::time::{Clock, Duration};
+use std::{io, thread};
+use walk_fixtures::answers::{Answer, are_lines};
+use walk_fixtures::listed_directory::{Item, ListedDirectory};
+use walk_ways::ways::all_of;
+
+/// A directory of two directories.
+const BOTH: ListedDirectory<'static> = ListedDirectory {
+    path: "/r",
+    file_type: FileType::Dir,
+    target: Some(FileType::Dir),
+    items: &[
+        Item::Typed("a", FileType::Dir),
+        Item::Typed("b", FileType::Dir),
+    ],
+};
+
+/// That directory, where each of the two waits in its listing until the other's has begun too.
 #[derive(Drop)]
 struct Meeting<R> {
     clock: R,
@@ -18,52 +34,77 @@ struct Meeting<R> {
 }
 
 impl<R: Clock> Meeting<R> {
-    /// Comes to a place, and waits some seconds at most until the other is come to.
-    fn meets(&self, own: &AtomicBool, other: &AtomicBool) -> Result<(), AllocError> {
+    /// Lists nothing once the other is listed too, which is waited for some seconds at most.
+    fn meet<A: Allocator + Copy>(
+        &self,
+        alloc: A,
+        own: &AtomicBool,
+        other: &AtomicBool,
+    ) -> Result<Vec<io::Result<Listed<A>>, A>, Fault> {
         own.store(true, Ordering::SeqCst);
         for _ in 0..5_000 {
             if other.load(Ordering::SeqCst) {
-                return Ok(());
+                return Ok(Vec::new(alloc));
             }
             thread::sleep(&self.clock, Duration::from_millis(1));
         }
-        Err(AllocError)
+        Err(Fault::Io(io::Error::from(ErrorKind::Other)))
     }
 }
 
-impl<R: Clock + Drop> ProcessReadDir<((), ()), Global> for Meeting<R> {
-    ghost IsLawful = { λ _. Unit {0} };
+impl<R: Clock + Drop> FileSystem for Meeting<R> {
+    ghost IsFixed = { λ _. ⊥ };
 
-    ghost Makes = { λ _ _. ⊥ };
+    ghost functions = { λ _. functions_of only_root };
 
-    fn process(
+    fn read_dir<A: Allocator + Copy>(
         &self,
-        _depth: Option<usize>,
+        alloc: A,
         path: &str,
-        _state: &mut (),
-        _list: &mut Vec<Answer>,
-    ) -> Result<(), AllocError> {
+    ) -> Result<Vec<io::Result<Listed<A>>, A>, Fault> {
         match path {
-            "/r/a" => self.meets(&self.a, &self.b),
-            "/r/b" => self.meets(&self.b, &self.a),
-            _ => Ok(()),
+            "/r/a" => self.meet(alloc, &self.a, &self.b),
+            "/r/b" => self.meet(alloc, &self.b, &self.a),
+            _ => BOTH.read_dir(alloc, path),
         }
     }
+
+    fn metadata(&self, path: &str) -> Result<Metadata, Fault> {
+        BOTH.metadata(path)
+    }
+
+    fn symlink_metadata(&self, path: &str) -> Result<Metadata, Fault> {
+        BOTH.symlink_metadata(path)
+    }
+
+    fn read_link<A: Allocator + Copy>(&self, alloc: A, path: &str) -> Result<String<A>, Fault> {
+        BOTH.read_link(alloc, path)
+    }
 }
 
-#[test]
-fn two_workers_read_at_the_same_time(rt: HostRuntime) {
-    const STEPS: &[Step] = &[Step::Dir("/r"), Step::Dir("/r/a"), Step::Dir("/r/b")];
-    const WALK: Asked<'static> = Asked {
-        root: "/r",
-        settings: &[],
-        reader: Reader::Crew,
-        then: &[],
+/// All that a walk over the two answers, for which a crew of two workers reads.
+fn answers_by_two<R: Wait + Threads + Clock + AllocGlobal + Clone + Drop + Send + Sync + 'static>(
+    rt: &R,
+    fs: Meeting<R>,
+) -> Result<Vec<Answer>, AllocError> {
+    let alloc = rt.alloc();
+    let by_crew = Parallelism::RayonExistingPool {
+        pool: Arc::new(alloc, Crew::new(rt.clone()?, 1, 2))?,
+        busy_timeout: None,
     };
-    let meeting = Meeting {
+    let walk = WalkDirGeneric::with_crew(fs, String::from_str(alloc, "/r")?);
+    all_of(alloc, walk.parallelism(by_crew).into_iter())
+}
+
+// A crew of one thread (the wrong body `crew_of_one_thread`) answers an error inside each of the two.
+#[test]
+fn two_workers_read_at_the_same_time(rt: HostRuntime) -> Result<(), AllocError> {
+    let fs = Meeting {
         clock: rt,
         a: AtomicBool::new(false),
         b: AtomicBool::new(false),
     };
-    assert!(rt; shows_by(&rt, STEPS, &WALK, meeting, "0 d /r; 1 d /r/a; 1 d /r/b"));
+    let found = answers_by_two(&rt, fs)?;
+    assert!(rt; are_lines(rt.alloc(), found.as_slice(), "0 d /r; 1 d /r/a; 1 d /r/b"));
+    Ok(())
 }

@@ -1,6 +1,6 @@
 //! What walks over the real disk answer, and over disks whose answers are written down.
 mod folder;
-mod lines;
+pub mod lines;
 mod links;
 mod listings;
 mod real;

@@ -2,7 +2,7 @@
 mod closed;
 mod lines;
 mod links;
-mod runs;
+pub mod runs;
 mod streams;
 mod trees;
 mod words;

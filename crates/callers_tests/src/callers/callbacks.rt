@@ -1,13 +1,16 @@
 //! Walks with callbacks.
 use jwalk::file_system::BuildError;
 use jwalk::{ClientState, DirEntry};
+use proved_walk::hands_on_names::{Found, HandsOnNames};
 use proved_walk::marked::walk_marked;
 use proved_walk::root_alone::walk_root_alone;
 use proved_walk::skipping::small_tree_without_group_1;
 use proved_walk::small_tree::names_in_small_tree;
 use std::alloc::{AllocError, Global};
+use std::thread::Threads;
 use walk_fixtures::answers::are_lines;
 use walk_fixtures::trees::{GROUPED, tree};
+use walk_ways::ways::{Asked, Setting, WAYS, Way};
 
 /// Adds the path of an entry with the text of its state to a text.
 fn push_entry<C: ClientState>(
@@ -19,11 +22,10 @@ fn push_entry<C: ClientState>(
     write!(text, "{path} {state};")
 }
 
-/// Whether these are the names that are handed on in the small tree: the state of each entry is a text or nothing.
-fn hands_on(alloc: Global, wanted: &str) -> Result<bool, BuildError> {
-    let found = names_in_small_tree(alloc)?;
+/// The paths of answers that are entries, each with its state: a text or nothing.
+fn text_of(alloc: Global, found: &[Found]) -> Result<String, AllocError> {
     let mut text = String::new(alloc);
-    for answer in &found {
+    for answer in found {
         if let Ok(entry) = answer {
             push_entry(
                 &mut text,
@@ -32,13 +34,36 @@ fn hands_on(alloc: Global, wanted: &str) -> Result<bool, BuildError> {
             )?;
         }
     }
-    Ok(text.as_str() == wanted)
+    Ok(text)
+}
+
+/// What is handed on in the small tree.
+const HANDED_ON: &str = "/t none;/t/group 1 t;/t/group 2 t;";
+
+/// Whether that is handed on in the small tree.
+fn hands_on(alloc: Global) -> Result<bool, BuildError> {
+    let found = names_in_small_tree(alloc)?;
+    Ok(text_of(alloc, found.as_slice())?.as_str() == HANDED_ON)
+}
+
+/// Whether that is handed on where a walk is read in this way.
+fn hands_on_by(rt: &(impl Threads + AllocGlobal + Sync), way: Way) -> Result<bool, BuildError> {
+    let fs = tree(rt.alloc(), GROUPED)?;
+    let asked = Asked {
+        fs: &fs,
+        root: "/t",
+        settings: &[Setting::Sort],
+    };
+    let found = asked.found(rt, HandsOnNames, way)?;
+    Ok(text_of(rt.alloc(), found.as_slice())?.as_str() == HANDED_ON)
 }
 
 #[test]
 fn names_handed_on_to_the_directories_below(rt: HostRuntime) {
-    let wanted = "/t none;/t/group 1 t;/t/group 2 t;";
-    assert!(rt; matches!(hands_on(rt.alloc(), wanted), Ok(true)));
+    assert!(rt; matches!(hands_on(rt.alloc()), Ok(true)));
+    for way in WAYS {
+        assert!(rt; matches!(hands_on_by(&rt, *way), Ok(true)));
+    }
 }
 
 /// Whether these are the lines of the small tree without one group.

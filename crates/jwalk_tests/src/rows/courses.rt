@@ -28,7 +28,8 @@ pub struct Course {
     pub seen: Seen,
 }
 
-/// Whether each answer is an entry, and that is how many readings are ahead then, and listings made.
+/// Whether each answer is an entry, and that is how many readings are ahead then, and listings made. At the end no
+/// other listing was made.
 fn goes_on<R: Threads + Sync>(
     walk: &mut Begun<'_, R>,
     fs: &Watched,
@@ -40,7 +41,7 @@ fn goes_on<R: Threads + Sync>(
             return false;
         }
     }
-    walk.is_over()
+    walk.is_over() && counts.last().map(|(_, lists)| *lists) == Some(fs.lists())
 }
 
 /// Whether a walk ends with the want of memory after so many entries, and nothing is left of it then.

@@ -3,7 +3,7 @@ use crate::rows::row::{Over, Row, all_hold};
 use jwalk::file_system::FileType;
 use std::io::ErrorKind;
 use walk_fixtures::listed_directory::{Item, ListedDirectory};
-use walk_fixtures::trees::{DENIED, GROUPED};
+use walk_fixtures::trees::{DENIED, FORKED, GROUPED};
 use walk_ways::ways::Setting;
 
 #[test]
@@ -56,6 +56,25 @@ fn depths(rt: HostRuntime) {
             root: "/t",
             settings: &[Setting::Sort, Setting::Max(2), Setting::Min(5)],
             answers: "2 f /t/group 1/d.txt; 2 f /t/group 2/e.txt",
+        },
+    ];
+    all_hold(&rt, ROWS);
+}
+
+#[test]
+fn directories_of_directories_from_the_root_and_from_below_it(rt: HostRuntime) {
+    const ROWS: &[Row] = &[
+        Row {
+            over: Over::Tree(FORKED),
+            root: "/r",
+            settings: &[],
+            answers: "0 d /r; 1 d /r/a; 2 d /r/a/x; 1 d /r/b; 2 d /r/b/x; 1 d /r/c; 2 d /r/c/x",
+        },
+        Row {
+            over: Over::Tree(FORKED),
+            root: "/r",
+            settings: &[Setting::Min(2)],
+            answers: "2 d /r/a/x; 2 d /r/b/x; 2 d /r/c/x",
         },
     ];
     all_hold(&rt, ROWS);

@@ -1,7 +1,11 @@
 //! How many directories are read together, and when.
 use crate::rows::courses::{Course, Seen, all_take};
+use jwalk::Parallelism;
+use jwalk::file_system::{BuildError, MemoryFs};
+use std::alloc::{AllocError, Global};
 use walk_fixtures::trees::{FORKED, GROUPED};
 use walk_fixtures::watched::Failing;
+use walk_ways::builders::{Builder, over_tree};
 use walk_ways::ways::Setting;
 use walk_ways::width::Width;
 
@@ -40,7 +44,6 @@ fn directories_of_directories(rt: HostRuntime) {
     all_take(&rt, &(FORKED, Failing::Never, "/r"), COURSES);
 }
 
-/// One and the same value, in two walks.
 const THREE: Width = Width::Batches(3);
 
 #[test]
@@ -83,4 +86,28 @@ fn groups_of_files(rt: HostRuntime) {
         },
     ];
     all_take(&rt, &(GROUPED, Failing::Never, "/t"), COURSES);
+}
+
+/// How many readings are ahead of a walk once it has answered the first of the groups.
+fn ahead_at_first_group(alloc: Global, walk: Builder<MemoryFs>) -> Result<usize, AllocError> {
+    let mut walk = walk.sort(true).into_iter();
+    let mut found = Vec::new(alloc);
+    walk.fill(5, &mut found)?;
+    Ok(walk.ahead())
+}
+
+/// The same of two walks that read by clones of one value, one before its greatest depth is set to 1 and one after.
+fn ahead_by_clones(alloc: Global) -> Result<(usize, usize), BuildError> {
+    let three: Parallelism = Parallelism::RayonNewPool(3);
+    let before = over_tree(alloc, GROUPED, "/t")?.parallelism(three.clone()?);
+    let after = over_tree(alloc, GROUPED, "/t")?.max_depth(1);
+    Ok((
+        ahead_at_first_group(alloc, before.max_depth(1))?,
+        ahead_at_first_group(alloc, after.parallelism(three))?,
+    ))
+}
+
+#[test]
+fn clones_of_one_parallelism(rt: HostRuntime) {
+    assert!(rt; matches!(ahead_by_clones(rt.alloc()), Ok((0, 1))));
 }

@@ -169,7 +169,7 @@ fn makes_calls(
 }
 
 #[test]
-fn one_look_at_the_root_and_at_each_name_and_no_other_call(
+fn a_look_at_the_root_and_at_each_name_and_more_for_followed_links(
     rt: HostRuntime,
 ) -> Result<(), AllocError> {
     assert!(rt; makes_calls(rt.alloc(), false, (2, 5, 0, 0))?);

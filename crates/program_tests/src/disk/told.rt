@@ -46,8 +46,8 @@ pub enum Call {
     Text,
 }
 
-/// What is written down of a disk. It has the directory `/t`, in which the directory `/t/s` is empty and the link `/t/l`
-/// leads to an empty directory elsewhere. All else is a file.
+/// What is written down of a disk. It has the directory `/t`, in which the directory `/t/s` is empty and the link
+/// `/t/l` leads to an empty directory elsewhere. All else is a file.
 #[derive(Clone, Copy)]
 pub struct Told {
     /// What is read of `/t`.

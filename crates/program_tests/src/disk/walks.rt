@@ -2,6 +2,7 @@
 use crate::disk::folder::{Step, make, path_in, remove};
 use crate::disk::lines::{builder, lines, rest};
 use crate::disk::real::{shows, shows_from};
+use crate::program::runs::comes_unread;
 use jwalk::file_system::{Fault, FileSystem, RealFs};
 use jwalk::read_dir::NoProcess;
 use jwalk::threads::OnThreads;
@@ -30,6 +31,18 @@ const BY_NAME: &str = "0 d /t\n1 f /t/a.txt\n1 f /t/b.txt\n1 f /t/c.txt\n\
 #[test]
 fn a_folder_of_groups_by_name(rt: HostRuntime) {
     assert!(rt; shows(&rt, "groups", GROUPED, false, BY_NAME));
+}
+
+#[test]
+fn a_run_over_a_folder_of_groups(rt: HostRuntime) -> Result<(), Fail> {
+    let folder = make(&rt, "run", GROUPED)?;
+    let printed = BY_NAME.replace(rt.alloc(), "/t", folder.as_str())?;
+    let words: &[&str] = &["--sort", folder.as_str()];
+    let want = (printed.as_str(), "", 0);
+    let comes = comes_unread(&rt, RealFs::new(rt), &[], words, &want);
+    remove(&rt, folder.as_str())?;
+    assert!(rt; comes);
+    Ok(())
 }
 
 /// What a walk answers by name whose directories are read several at a time, with `/t` for the folder.

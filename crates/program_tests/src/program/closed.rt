@@ -63,19 +63,18 @@ fn watched_over(alloc: Global, lines: &str) -> Result<Arc<Watched>, Failure> {
     Ok(shared(alloc, Watched::new(tree, Failing::Never))?)
 }
 
-/// Whether one write failed and the disk was asked for nothing since then, long before it was walked to its end.
-fn is_closed(out: &Closed<'_>, before: usize) -> bool {
-    out.takes == 0
-        && out.failures == 1
-        && out.calls == asked(out.disk)
-        && out.calls.wrapping_sub(before) < 3000
+/// Whether the disk was asked for nothing since a write failed, long before it was walked to its end.
+fn is_left(out: &Closed<'_>, before: usize) -> bool {
+    out.calls == asked(out.disk) && out.calls.wrapping_sub(before) < 3000
 }
 
-/// Whether the disk is asked for nothing once a write has failed, and isn't walked to its end.
+/// Whether nothing is written once a write has failed; and the disk is asked for nothing then, and isn't walked to its
+/// end, unless workers read ahead.
 fn stops(
     rt: &(impl Wait + Threads + Clock + Clone + Drop + Send + Sync + AllocGlobal + 'static),
     words: &[&str],
     disk: &Arc<Watched>,
+    ahead: bool,
 ) -> bool {
     let before = asked(disk);
     let mut out = Closed {
@@ -84,16 +83,20 @@ fn stops(
         calls: 0,
         failures: 0,
     };
-    match disk.clone() {
-        Ok(shared) => ends(rt, shared, words, "", &mut out, 1) && is_closed(&out, before),
-        Err(_) => false,
-    }
+    let Ok(shared) = disk.clone() else {
+        return false;
+    };
+    ends(rt, shared, words, "", &mut out, 1)
+        && (out.takes, out.failures) == (0, 1)
+        && (ahead || is_left(&out, before))
 }
 
 #[test]
 fn nothing_is_asked_once_a_write_has_failed(rt: HostRuntime) -> Result<(), Failure> {
     let lines = dir_lines(rt.alloc(), 6000)?;
     let disk = watched_over(rt.alloc(), lines.as_str())?;
-    assert!(rt; stops(&rt, &["/r"], &disk) && stops(&rt, &["--batch", "8", "/r"], &disk));
+    assert!(rt; stops(&rt, &["/r"], &disk, false));
+    assert!(rt; stops(&rt, &["--batch", "8", "/r"], &disk, false));
+    assert!(rt; stops(&rt, &["--crew", "2", "/r"], &disk, true));
     Ok(())
 }

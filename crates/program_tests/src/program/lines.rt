@@ -1,7 +1,9 @@
 //! The line of each sort of answer.
+use crate::disk::lines::lines;
 use crate::program::runs::{Want, comes_unread};
+use jwalk::Error;
 use jwalk::file_system::{Fault, FileSystem, FileType, Listed, Metadata};
-use std::alloc::Allocator;
+use std::alloc::{AllocError, Allocator};
 use std::io;
 use std::io::ErrorKind;
 use std::sync::Wait;
@@ -35,7 +37,15 @@ const FAULTY: ListedDirectory<'static> = ListedDirectory {
     ],
 };
 
-/// A file system of directories: these two, `/wide`, where memory is refused, and others that can't be read.
+/// A link to what is neither a directory nor a file.
+const SPECIAL: ListedDirectory<'static> = ListedDirectory {
+    path: "/special",
+    file_type: FileType::Dir,
+    target: Some(FileType::Dir),
+    items: &[Item::Typed("pipe", FileType::Symlink)],
+};
+
+/// A file system of directories: these three, `/wide`, where memory is refused, and others that can't be read.
 #[derive(Drop)]
 struct Odd;
 
@@ -60,13 +70,19 @@ impl FileSystem for Odd {
         match path {
             "/odd" => ODD.read_dir(alloc, path),
             "/d" => FAULTY.read_dir(alloc, path),
+            "/special" => SPECIAL.read_dir(alloc, path),
             "/wide" => Err(Fault::Memory),
             _ => Err(Fault::Io(io::Error::from(ErrorKind::PermissionDenied))),
         }
     }
 
-    fn metadata(&self, _path: &str) -> Result<Metadata, Fault> {
-        Ok(Metadata::new(FileType::Dir, 0))
+    fn metadata(&self, path: &str) -> Result<Metadata, Fault> {
+        let file_type = if path == "/special/pipe" {
+            FileType::Other
+        } else {
+            FileType::Dir
+        };
+        Ok(Metadata::new(file_type, 0))
     }
 
     fn symlink_metadata(&self, _path: &str) -> Result<Metadata, Fault> {
@@ -105,6 +121,10 @@ fn each_sort_of_answer_has_its_line(rt: HostRuntime) {
                 1,
             ),
         ),
+        (
+            &["--follow", "/special"],
+            ("0 d /special\n1 O /special/pipe\n", "", 0),
+        ),
         (&["/denied"], ("0 d /denied ! PermissionDenied\n", "", 0)),
         (&["/wide"], ("! 0 - memory\n", "", 1)),
     ];
@@ -128,4 +148,32 @@ fn errors_come_last_and_whatever_their_depth(rt: HostRuntime) {
         ),
     ];
     assert_eq!(rt; first_wrong(&rt, ROWS), None);
+}
+
+/// An error of this kind, without a path.
+fn of_kind(kind: ErrorKind) -> Error {
+    Error::from_io(7, io::Error::from(kind))
+}
+
+#[test]
+fn each_error_without_a_path_has_its_line(rt: HostRuntime) -> Result<(), AllocError> {
+    let answers = [
+        Err(Error::busy()),
+        Err(Error::memory()),
+        Err(Error::lost()),
+        Err(of_kind(ErrorKind::NotFound)),
+        Err(of_kind(ErrorKind::PermissionDenied)),
+        Err(of_kind(ErrorKind::AlreadyExists)),
+        Err(of_kind(ErrorKind::InvalidInput)),
+        Err(of_kind(ErrorKind::InvalidData)),
+        Err(of_kind(ErrorKind::Interrupted)),
+        Err(of_kind(ErrorKind::Unsupported)),
+        Err(of_kind(ErrorKind::TimedOut)),
+    ];
+    let wanted = "! 0 - busy\n! 0 - memory\n! 0 - lost\n! 7 - NotFound\n! 7 - PermissionDenied\n\
+                  ! 7 - AlreadyExists\n! 7 - InvalidInput\n! 7 - InvalidData\n\
+                  ! 7 - Interrupted\n! 7 - Unsupported\n! 7 - Other\n";
+    let printed = lines(rt.alloc(), &answers, "/t")?;
+    assert_eq!(rt; printed.as_str(), wanted);
+    Ok(())
 }
