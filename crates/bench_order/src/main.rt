@@ -1,6 +1,6 @@
 //! The ordered queue and the board at work, and the same work on the standard library's heap alone, to be timed from
-//! outside: `bench_order PART SHAPE COUNT ..`. Each three words are a job, and it prints a line for each: the words, and
-//! a digest of the addresses in the order in which they came.
+//! outside: `bench_order PART SHAPE COUNT ..`. Each three words are a job, and it prints a line for each: the words,
+//! and a digest of the addresses in the order in which they came.
 #![tactic(auto)]
 
 mod digest;

@@ -1,8 +1,8 @@
 //! Addresses in an order that looks random.
 use std::alloc::Global;
 
-/// The address of the node with this number, where the nodes of a tree are numbered from 0, level by level, and each has
-/// ten children.
+/// The address of the node with this number, where the nodes of a tree are numbered from 0, level by level, and each
+/// has ten children.
 fn address(alloc: Global, number: usize) -> Option<Vec<usize>> {
     let mut indices = Vec::new(alloc);
     let mut node = number;

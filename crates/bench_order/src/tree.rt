@@ -28,7 +28,8 @@ fn ten_shares(alloc: Global, count: usize) -> Option<Vec<usize>> {
 }
 
 /// How many lie at and below each child of a directory that has so many below it: in `wide` trees one directory has all
-/// others in it, in `bushy` ones each has ten as long as there are as many, and in `chains` a hundred are in one another.
+/// others in it, in `bushy` ones each has ten as long as there are as many, and in `chains` a hundred are in one
+/// another.
 fn child_sizes(alloc: Global, shape: &str, below: usize) -> Option<Vec<usize>> {
     match shape {
         "wide" => vec![in alloc; 1; below].ok(),

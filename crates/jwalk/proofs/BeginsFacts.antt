@@ -84,7 +84,7 @@ module _ {C S P A T W L R E : Type 0} (files : FileSystem.Ghosts S) (process : P
       sourced = is.sourced;
       start = is.start;
       width = is.width ∙ ap (λ o. width_of o.parallelism) options;
-      early = is.early;
+      ahead = is.ahead;
     }
 
     -- and begins with its root's list

@@ -23,7 +23,8 @@ use Rattle.jwalk_read.specs.Job.{options_of, greatest_depth}
 use Rattle.jwalk_crew.specs.declared.pool.Pool as Pool
 use Rattle.jwalk_crew.specs.declared.crew.NotStarted.{NotStarted}
 use Rattle.jwalk_crew.specs.declared.crew.NotStarted.TheVariants.{Busy, Memory}
-use Rattle.jwalk_entries.specs.DirEntryIter.{reads_of, is_refused, by_crew, width_of, early_of, job_of, items_of, unread_of, held, held_by, IsWithin, IsSourced, IsRefused, ArePlaced}
+use Rattle.jwalk_engine.specs.ReadAhead.{BeginsWith}
+use Rattle.jwalk_entries.specs.DirEntryIter.{reads_of, is_refused, by_crew, width_of, read_ahead, job_of, items_of, unread_of, held, held_by, IsWithin, IsSourced, IsRefused, ArePlaced}
 use Rattle.jwalk.specs.CrewStart.{busied, busy_pair, left_of, IsToRead, IsBegun, HoldsList, IsFromRoot}
 use Rattle.jwalk_readings.specs.CrewReads as reads_by
 use Rattle.jwalk_readings.specs.declared.crew_reads.CrewReads.{CrewReads}
@@ -89,11 +90,6 @@ width_by (Walk walk) by = absurd cc
 width_by (ParWalk walk threads) by = absurd cc
 width_by (CrewWalk reads) by = refl
 
-early_by : {C S P A T L R E : Type 0} (reads : ReadDirIter C S P A T L R E) → readings.by_crew reads ≡ true → readings.early_of reads ≡ []
-early_by (Walk walk) by = absurd cc
-early_by (ParWalk walk threads) by = absurd cc
-early_by (CrewWalk reads) by = refl
-
 module _ {C S P A T L R E : Type 0} where
   holds_refusal : (it : DirEntryIter C S P A T L R E) → is_refused it ≡ true → items_of it ≡ [] → held it ≡ record { item = Err memory; source = nothing } ∷ []
   holds_refusal it refused none = held_refused it refused ∙ ap (λ l. record { item = Err memory; source = nothing } ∷ pair_up l (unread_of it)) none
@@ -142,17 +138,14 @@ module _ {C S P A T L R E : Type 0} where
     begun_list read (Some Busy) it begun = λ given. begun_busy given read it begun
     begun_list read (Some Memory) it begun = begun_refused read it begun
 
-  -- a crew's width is one, and what it reads ahead isn't spoken of
+  -- a crew's width is one
   crew_width : (it : DirEntryIter C S P A T L R E) → by_crew it ≡ true → width_of it ≡ 1
   crew_width it by = width_by (reads_of it) by
 
-  crew_early : (it : DirEntryIter C S P A T L R E) → by_crew it ≡ true → early_of it ≡ []
-  crew_early it by = early_by (reads_of it) by
-
   module _ (clone : Clone.Ghosts R) (read : Option (Reading R E)) (begun : Job C S P A R E) (it : DirEntryIter C S P A T L R E) where
     -- a start that was refused
-    pub refused_from_root : by_crew it ≡ false → job_of it ≡ begun → is_refused it ≡ true → items_of it ≡ [] → unread_of it ≡ [] → width_of it ≡ options.width_of (options_of begun).parallelism → early_of it ≡ [] → IsFromRoot clone read begun (Some Memory) it
-    refused_from_root own job refused none nothing_unread width early =
+    pub refused_from_root : by_crew it ≡ false → job_of it ≡ begun → is_refused it ≡ true → items_of it ≡ [] → unread_of it ≡ [] → width_of it ≡ options.width_of (options_of begun).parallelism → BeginsWith (unread_of it) (read_ahead it) → IsFromRoot clone read begun (Some Memory) it
+    refused_from_root own job refused none nothing_unread width ahead =
         let refusal : IsRefused it = record { tells = holds_refusal it refused none; nothing_unread = nothing_unread } in
         record {
           job = job;
@@ -160,7 +153,7 @@ module _ {C S P A T L R E : Type 0} where
           sourced = refusal_sourced it refused none nothing_unread;
           start = inl refusal;
           width = width;
-          early = early;
+          ahead = λ alone. ahead;
           holds = refusal;
           busy = λ is. absurd cc;
           by = λ is. absurd (let no : false ≡ true = sym own ∙ is in cc);
@@ -174,21 +167,21 @@ module _ {C S P A T L R E : Type 0} where
       sourced = begun_sourced clone read why_not it is;
       start = inr (begun_depth clone read why_not it depth is);
       width = crew_width it by ∙ sym (ap options.width_of mode);
-      early = crew_early it by;
+      ahead = λ alone. absurd (let no : false ≡ true = sym alone ∙ by in cc);
       holds = begun_list clone read why_not it is;
       busy = λ busy. mode;
       by = λ by. mode;
     }
 
     -- one that reads by itself
-    pub alone_from_root : (why_not : Option NotStarted) → by_crew it ≡ false → ¬ (why_not ≡ Some Busy) → job_of it ≡ begun → IsWithin it → IsSourced it → IsRefused it ⊎ AtDepth 0 (items_of it) → width_of it ≡ options.width_of (options_of begun).parallelism → early_of it ≡ [] → HoldsList clone read why_not it → IsFromRoot clone read begun why_not it
-    alone_from_root why_not own not_busy job within sourced start width early holds = record {
+    pub alone_from_root : (why_not : Option NotStarted) → by_crew it ≡ false → ¬ (why_not ≡ Some Busy) → job_of it ≡ begun → IsWithin it → IsSourced it → IsRefused it ⊎ AtDepth 0 (items_of it) → width_of it ≡ options.width_of (options_of begun).parallelism → BeginsWith (unread_of it) (read_ahead it) → HoldsList clone read why_not it → IsFromRoot clone read begun why_not it
+    alone_from_root why_not own not_busy job within sourced start width ahead holds = record {
       job = job;
       within = within;
       sourced = sourced;
       start = start;
       width = width;
-      early = early;
+      ahead = λ alone. ahead;
       holds = holds;
       busy = λ is. absurd (not_busy is);
       by = λ is. absurd (let no : false ≡ true = sym own ∙ is in cc);

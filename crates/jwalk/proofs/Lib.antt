@@ -2,6 +2,7 @@ pub mod BeginFacts
 pub mod BeginsFacts
 pub mod WholeFacts
 pub mod CleanFacts
+pub mod AlikeFacts
 mod CrewStartFacts
 -- what callers cite of a walk's answers
 pub use Rattle.jwalk_entries.proofs.AnswerFacts as AnswerFacts

@@ -141,7 +141,7 @@ module _ {C S P A T W L R E : Type 0} (files : FileSystem.Ghosts S) (process : P
 
   -- and one that no crew reads for is
   pub steady_start : (walk : WalkDirGeneric C S P A T W R E) (it : DirEntryIter C S P A T L R E) → by_crew it ≡ false → Starts walk it → IsSteady files process clone defaults (file_system_of walk) (callback_of walk) given → IsSteadyWalk files process clone defaults pool it given
-  steady_start walk it own starts steady = steady_begun walk it (λ value steadily. alone_steady files process clone defaults pool it value own steadily starts.early) starts steady
+  steady_start walk it own starts steady = steady_begun walk it (λ value steadily. alone_steady files process clone defaults pool it value own steadily (starts.ahead own).done) starts steady
 
   -- A walk that was begun and asked up to `None`, where no answer tells of want of memory, answered the whole walk from its root.
   pub whole : (walk : WalkDirGeneric C S P A T W R E) (it : DirEntryIter C S P A T L R E) (xs : List (Result (DirEntry C A R E) (Error A))) → IsSteadyWalk files process clone defaults pool it given → Starts walk it → IsRefused it ⊎ Holds files process clone defaults walk it → IsSteady files process clone defaults (file_system_of walk) (callback_of walk) given → Drains (Answers files process clone defaults pool) it xs → NoneRefused xs

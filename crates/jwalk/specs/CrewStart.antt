@@ -12,7 +12,8 @@ use Rattle.jwalk_read.specs.declared.job.Job.{Job}
 use Rattle.read_parts.specs.Options as options
 use Rattle.read_parts.specs.Given.{Given, counted_reading, ClonesCount}
 use Rattle.jwalk_read.specs.Job.{options_of}
-use Rattle.jwalk_entries.specs.DirEntryIter.{is_refused, by_crew, job_of, items_of, unread_of, width_of, early_of, held_by, IsWithin, IsSourced, IsRefused}
+use Rattle.jwalk_engine.specs.ReadAhead.{BeginsWith}
+use Rattle.jwalk_entries.specs.DirEntryIter.{is_refused, by_crew, job_of, items_of, unread_of, width_of, read_ahead, held_by, IsWithin, IsSourced, IsRefused}
 use Rattle.jwalk_entries.specs.declared.dir_entry_iter.DirEntryIter.{DirEntryIter}
 
 -- what a busy crew leaves of an item: the error that tells of it, where the item has a directory to be read
@@ -55,14 +56,14 @@ module _ {C S P A T L R E : Type 0} (clone : Clone.Ghosts R) (read : Option (Rea
   HoldsList (Some Busy) it = (given : Given R E) → IsSomeAnd read (λ r. held_by given it ≡ map busy_pair (counted_reading given r).list)
   HoldsList (Some Memory) it = IsRefused it
 
-  -- The walk of a job that begins with a root's list: it holds no entry that is too deep, what it has to read are the directories of what it holds, and none is read yet. Only one that a crew is to read for finds the crew busy.
+  -- The walk of a job that begins with a root's list: it holds no entry that is too deep, and what it has to read are the directories of what it holds. Where no crew reads, these alone are queued, in their order, and none is read yet. Only one that a crew is to read for finds the crew busy.
   pub record IsFromRoot (begun : Job C S P A R E) (why_not : Option NotStarted) (it : DirEntryIter C S P A T L R E) : Type 0 where
     pub job : job_of it ≡ begun
     pub within : IsWithin it
     pub sourced : IsSourced it
     pub start : IsRefused it ⊎ AtDepth 0 (items_of it)
     pub width : width_of it ≡ options.width_of (options_of begun).parallelism
-    pub early : early_of it ≡ []
+    pub ahead : by_crew it ≡ false → BeginsWith (unread_of it) (read_ahead it)
     pub holds : HoldsList why_not it
     pub busy : why_not ≡ Some Busy → (options_of begun).parallelism ≡ crew
     pub by : by_crew it ≡ true → (options_of begun).parallelism ≡ crew

@@ -1,5 +1,5 @@
 -- A walk as its builder describes it.
-use Rattle.std.specs.Prelude.{◌≡◌, ◌⊎◌, ℕ, true, List, [], map, Option, Some, None, IsSome, string_bytes}
+use Rattle.std.specs.Prelude.{◌≡◌, ◌⊎◌, ℕ, true, false, List, [], map, Option, Some, None, IsSome, string_bytes}
 use Rattle.std.specs.declared.clone.Clone as Clone
 use Rattle.std.specs.declared.default.Default as Default
 use Rattle.walk_model.specs.Options.{Options, crew, with_parallelism}
@@ -13,6 +13,7 @@ use Rattle.read_parts.specs.Options.{options_value, width_of}
 use Rattle.read_parts.specs.Given.{Given}
 use Rattle.jwalk_read.specs.Job as job
 use Rattle.jwalk_read.specs.Job.{file_system, callback, IsSteady}
+use Rattle.jwalk_engine.specs.ReadAhead.{BeginsWith}
 use Rattle.jwalk_entries.specs.DirEntryIter as iter
 use Rattle.jwalk_crew.specs.declared.crew.NotStarted.{NotStarted}
 use Rattle.jwalk_crew.specs.declared.crew.NotStarted.TheVariants.{Busy, Memory}
@@ -88,7 +89,7 @@ module _ {C S P A T W R E : Type 0} where
     default = given.new_entry;
   }
 
-  -- A walk that begins, whatever its file system answers: it is over the builder's file system, callback and options, holds no entry that is too deep, and what it has to read are the directories of what it holds. It reads as many of them together as the options say, and none is read yet. It holds what tells that its start was refused, or a list of the root's depth.
+  -- A walk that begins, whatever its file system answers: it is over the builder's file system, callback and options, holds no entry that is too deep, and what it has to read are the directories of what it holds. It reads as many of them together as the options say; where no crew reads, these alone are queued, in their order, and none is read yet. It holds what tells that its start was refused, or a list of the root's depth.
   pub record Starts {L : Type 0} (walk : WalkDirGeneric C S P A T W R E) (it : DirEntryIter C S P A T L R E) : Type 0 where
     pub file_system : file_system (job_of it) ≡ file_system_of walk
     pub callback : callback (job_of it) ≡ callback_of walk
@@ -97,7 +98,7 @@ module _ {C S P A T W R E : Type 0} where
     pub sourced : IsSourced it
     pub start : IsRefused it ⊎ AtDepth 0 (items_of it)
     pub width : iter.width_of it ≡ width_of (options_of walk).parallelism
-    pub early : iter.early_of it ≡ []
+    pub ahead : iter.by_crew it ≡ false → BeginsWith (iter.unread_of it) (iter.read_ahead it)
 
 -- One that puts another callback in the place of the walk's own, and changes nothing else.
 pub record SetsCallback {C S P Q A T W R E : Type 0} (process : Q) (old : WalkDirGeneric C S P A T W R E) (new : WalkDirGeneric C S Q A T W R E) : Type 0 where

@@ -3,7 +3,7 @@ pub use crew_parts::arrival::{Arrival, arrive};
 pub use crew_parts::message::Message;
 pub use crew_parts::places::Places;
 pub use crew_parts::wanted::Wanted;
-pub use jwalk_crew::crew::Crew;
+pub use jwalk_crew::crew::{Crew, NotStarted, Place};
 pub use jwalk_crew::origin::Origin;
 pub use jwalk_crew::pool::{Missed, NoPool, Pool};
 pub use jwalk_crew::session::Session;

@@ -1,4 +1,4 @@
-//! Directory walks in strict depth-first order: a directory first, then everything in it, then its next sibling.
+//! Directory walks in strict depth-first order: what a directory holds comes right behind it, before its next sibling.
 //!
 //! A walk takes a file system, a root and options, and gives a stream of entries and errors. Its order is one and the
 //! same however it reads. A directory that could not be read is still answered, with its error inside.

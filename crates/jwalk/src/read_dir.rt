@@ -5,5 +5,8 @@ pub use jwalk_process::filter_entry::FilterEntry;
 pub use jwalk_process::skip_names::SkipNames;
 pub use jwalk_read::job::Job;
 pub use jwalk_read::read_dir::ReadDir;
+pub use read_parts::ancestors::Ancestors;
+pub use read_parts::mode::Mode;
+pub use read_parts::options::Options;
 pub use read_parts::process_read_dir::{NoProcess, ProcessReadDir};
 pub use read_parts::read_dir_spec::ReadDirSpec;

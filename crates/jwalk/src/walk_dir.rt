@@ -26,6 +26,11 @@ use std::time::Duration;
 use walk_fs::file_system::FileSystem;
 
 /// A walk that is yet to begin: a root in a file system, and options.
+///
+/// `C` is the pair of states that a user keeps beside directories and entries, `((), ())` for none. `S` is the file
+/// system, `P` the callback (`NoProcess` for none), and `A` the allocator. `T` is what reads directories that are read
+/// together: `InTurn`, one after another, or `OnThreads` of a runtime. `W` is the crew that reads ahead, `NoPool` for
+/// none.
 #[derive(Drop)]
 pub struct WalkDirGeneric<
     C: ClientState,
@@ -162,7 +167,8 @@ impl<
         self
     }
 
-    /// Whether names that start with a dot are left out. On by default. The root is never left out.
+    /// Whether names that start with a dot are left out. On by default. The root is never left out, and a name whose
+    /// type can't be told is answered as an error, hidden or not.
     pub fn skip_hidden(mut self, skip_hidden: bool) -> Self
         ensures { Sets (with_skip_hidden skip_hidden (options_of self)) self result }
     {
@@ -206,9 +212,8 @@ impl<
     /// directories were read when an entry is answered, and how fast that is.
     ///
     /// Several directories are read together by several threads where the walk was made by `at` or `threads`, and its
-    /// answers are asked for by the walk's own `next`, `fill` or `next_of`, as in
-    /// `while let Some(answer) = walk.next()`. A `for` loop and adapters call `Iterator::next`, which reads
-    /// the same directories one after another.
+    /// answers are asked for by the walk's own `next` or `fill`, as in `while let Some(answer) = walk.next()`. A
+    /// `for` loop and adapters call `Iterator::next`, which reads the same directories one after another.
     pub fn parallelism(mut self, parallelism: Parallelism<W, A>) -> Self
         ensures { SetsParallelism parallelism self result }
     {
@@ -242,7 +247,10 @@ impl<
     }
 
     /// The same walk with this callback in place of its own. It is given each list before the walk goes on with it: the
-    /// root's first, then that of each directory as it is read, in its order and after links gave way.
+    /// root's first, then that of each directory as it is read, in its order and after links gave way. It isn't called
+    /// for a directory that couldn't be listed, nor for one at the greatest depth. Where threads or a crew read, it may
+    /// be called by several of them side by side. Where it is refused memory, the list is dropped, and the walk tells
+    /// of it.
     pub fn process_read_dir<Q: ProcessReadDir<C, A>>(
         self,
         process: Q,

@@ -1,5 +1,5 @@
 -- What a list of moves does, over the addresses of a preorder alone.
-use Rattle.std.specs.Prelude.{ℕ, ◌+◌, ◌-◌, Bool, cond, not, nat_lt, ◌&&◌, ◌||◌, ◌==◌, List, [], ◌∷◌, ◌++◌, length, slice_get, slice_set, replicate, Option, Some, None}
+use Rattle.std.specs.Prelude.{ℕ, ◌+◌, Bool, cond, not, nat_lt, ◌&&◌, ◌||◌, ◌==◌, List, [], ◌∷◌, ◌++◌, length, slice_get, slice_set, replicate, Option, Some, None}
 use Rattle.std.specs.List.{find}
 use Rattle.jwalk_order.specs.Addresses.{times}
 use Rattle.jwalk_order.specs.Siblings.{parent_address}
@@ -18,7 +18,7 @@ pub record Run : Type 0 where
 abbrev pub is_among : List ℕ → List (List ℕ) → Bool
 is_among a xs = nat_lt 0 (times a xs)
 
--- It is not taken, and is a root or the child of what is finished.
+-- Nobody took it so far, and it stands at the top or right below a finished address.
 abbrev pub is_queued : Run → List ℕ → Bool
 is_queued r a = not (is_among a r.taken) && ((length a == 1) || is_among (parent_address a) r.finished)
 

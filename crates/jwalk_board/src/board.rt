@@ -100,8 +100,8 @@ impl<T: Drop, R: Drop, A: Allocator + Copy> Board<T, R, A> {
     ///
     /// # Errors
     ///
-    /// `Stopped` if the board is stopped. Otherwise `Empty` if nothing is queued and something is in hand, and `Done` if
-    /// there is neither. Otherwise `Memory`, if memory runs out. The board is then unchanged.
+    /// `Stopped` if the board is stopped. Otherwise `Empty` if nothing is queued and something is in hand, and `Done`
+    /// if there is neither. Otherwise `Memory`, if memory runs out. The board is then unchanged.
     pub fn take(&mut self) -> Result<Ordered<T, A>, TakeRefusal>
         ensures taken { IfOk result (λ item. Takes item self.old self.new) }
         ensures refused { IfErr result (RefusesTake self.old) }

@@ -44,7 +44,7 @@ impl<R: Wait + Clock> Crew<R> {
         }
     }
 
-    /// How many walks it serves now.
+    /// How many walks it serves now. It may wait for a lock.
     pub fn in_use(&self) -> usize {
         let places = self.places.lock(&self.rt);
         places.in_use()

@@ -43,8 +43,8 @@ pub trait Pool<C: ClientState, S: FileSystem, P: ProcessReadDir<C, A>, A: Alloca
     /// The addresses of the readings that it has still to give, the next one first.
     ghost awaits: { Self → List (List ℕ) };
 
-    /// The reading that is wanted, once it is there. The addresses of the directories below it are then awaited in its
-    /// stead.
+    /// The reading that is wanted, once it is there: over a crew it may wait, for the reading or for a lock. The
+    /// addresses of the directories below it are then awaited in its stead.
     ///
     /// # Errors
     ///
@@ -61,7 +61,7 @@ pub trait Pool<C: ClientState, S: FileSystem, P: ProcessReadDir<C, A>, A: Alloca
         ensures due { result ≡ Err Missed.Lost → (origin : _) → Self.comes_from self.old origin → ¬ IsDue S.FileSystem
             P.ProcessReadDir C.ReadDirState.Clone C.DirEntryState.Default origin (Self.awaits self.old) wanted.now };
 
-    /// How many readings were made and not handed on.
+    /// How many readings were made and not handed on. Over a crew it may wait for a lock.
     fn ahead(&self) -> usize;
 }
 

@@ -29,7 +29,8 @@ use std::time::Clock;
 use walk_fs::file_system::FileSystem;
 
 /// The readings of a walk's directories, made by a crew's workers. It has a place of the crew. Dropping it ends the
-/// workers, each after the directory that it is reading, and gives the place back; it waits for none of them.
+/// workers, each after the directory that it is reading, and gives the place back; it waits for none of them, but may
+/// wait for a lock.
 pub struct Session<
     R: Wait + Clock + Drop,
     C: ClientState,

@@ -1,6 +1,6 @@
 -- A specification that is taken, read and finished.
 use Rattle.std.proofs.Common.{◌≡◌, ◌+◌, ◌≤◌, ℕ, List, [], ◌∷◌, ◌++◌, length, map, refl, sym, ap, ◌∙◌, arith, subst}
-use Rattle.std.specs.Prelude.{All, OnOk, OnErr, IfOk, Result, Ok, Err}
+use Rattle.std.specs.Prelude.{All, OnErr, IfOk, Result, Ok, Err}
 use Rattle.std.specs.declared.clone.Clone as Clone
 use Rattle.std.specs.declared.default.Default as Default
 use Rattle.std.specs.List.Sorted.{IsPermutation}
@@ -28,10 +28,6 @@ use Rattle.jwalk_engine.specs.declared.read.Read.{Read}
 use Rattle.jwalk_engine.specs.ToGive.{ToGive, IsHeld, HandsOn}
 use Rattle.jwalk_engine.specs.Reads.{spec_of, to_give, IsMade, MadeAsGiven, IsSoundOver, IsSound, ReadsSome, ReadsFirst}
 use Rattle.jwalk_engine.proofs.Steps.{gives-taken, gives-finished}
-
-pub on_ok : {X F : Type 0} (r : Result X F) {P Q : Type 0} → (P → Q) → OnOk r P → OnOk r Q
-on_ok (Ok x) f h = f h
-on_ok (Err e) f h = tt
 
 pub on_err : {X F : Type 0} (r : Result X F) {P Q : Type 0} → (P → Q) → OnErr r P → OnErr r Q
 on_err (Ok x) f h = tt

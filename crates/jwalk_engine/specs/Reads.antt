@@ -3,7 +3,7 @@ use Rattle.std.specs.Prelude.{◌≡◌, ◌≤◌, ◌<◌, ◌^◌, ℕ, List,
 use Rattle.std.specs.List.Sorted.{IsPermutation}
 use Rattle.std.specs.declared.clone.Clone as Clone
 use Rattle.std.specs.declared.default.Default as Default
-use Rattle.walk_model.specs.ReadDir.{Spec, Outcome, IsLawful, list_of, children_of, AreClones}
+use Rattle.walk_model.specs.ReadDir.{Spec, Outcome, IsLawfulReading, list_of, children_of, AreClones}
 use Rattle.walk_fs.specs.declared.file_system.FileSystem as FileSystem
 use Rattle.jwalk_board.specs.Board.{Board}
 use Rattle.jwalk_order.specs.Addressed.{Addressed}
@@ -62,7 +62,7 @@ module _ {C S P A R E : Type 0} (files : FileSystem.Ghosts S) (clone : Clone.Gho
 
 -- Whatever the file system answers: it is a lawful outcome of its directory, its list fits in memory, and with it stand the directories of its list, with clones of their states.
 pub record IsMade {C S P A R E : Type 0} (clone : Clone.Ghosts R) (job : Job C S P A R E) (made : Read C A R E × List (Spec R)) : Type 0 where
-  pub lawful : IsLawful (greatest_depth job) (spec_of made.0) (outcome made.0.outcome)
+  pub lawful : IsLawfulReading (greatest_depth job) (spec_of made.0) (outcome made.0.outcome)
   pub few : length (list_of (outcome made.0.outcome)) < 2 ^ 64
   pub clones : AreClones clone.is_clone (children_of (outcome made.0.outcome)) made.1
 

@@ -1,5 +1,5 @@
 -- What passing items does to what was read ahead.
-use Rattle.std.proofs.Common.{◌≡◌, ◌∙◌, ◌≤◌, ℕ, suc, ◌+◌, ◌*◌, Bool, false, true, List, [], ◌∷◌, ◌++◌, length, Option, Some, None, IsSome, Result, Ok, Err, OnErr, inl, inr, sym, ap, subst, arith}
+use Rattle.std.proofs.Common.{◌≡◌, ◌∙◌, ◌≤◌, ℕ, suc, ◌+◌, ◌*◌, Bool, false, true, List, [], ◌∷◌, ◌++◌, length, Option, Some, None, IsSome, Result, Ok, Err, OnErr, inl, inr, refl, sym, ap, subst, arith}
 use Rattle.std.specs.Prelude.{option_map}
 use Rattle.std.proofs.Math.Nat.{min-le_left}
 use Rattle.std.proofs.lemmas.List.{length-map}
@@ -15,7 +15,7 @@ use Rattle.read_parts.specs.declared.process_read_dir.ProcessReadDir as ProcessR
 use Rattle.jwalk_read.specs.declared.job.Job.{Job}
 use Rattle.jwalk_read.specs.Job.{greatest_depth}
 use Rattle.jwalk_engine.specs.Reads.{ReadsNextBy}
-use Rattle.jwalk_engine.specs.ReadAhead.{ReadAhead, HandsOnAt, ReadsLeast}
+use Rattle.jwalk_engine.specs.ReadAhead.{ReadAhead, nothing_ahead, BeginsWith, HandsOnAt, ReadsLeast}
 use Rattle.jwalk_crew.specs.declared.pool.Pool as Pool
 use Rattle.jwalk_entries.specs.declared.dir_entry_iter.DirEntryIter.{DirEntryIter}
 use Rattle.jwalk_readings.specs.ReadDirIter.{EntersBy, EntersNextBy}
@@ -49,6 +49,10 @@ at_read clone known max_depth view None (Err refused) items rest x specs left is
 at_read clone known max_depth view (Some o) (Err refused) items rest x specs left is dir some reads = at_first items rest x specs reads.rest reads.first is dir reads.took
 
 module _ {R : Type 0} where
+  -- where nothing is to be read, nothing is queued
+  pub begins_with_none : (specs : List (Spec R)) (ahead : ReadAhead R) → specs ≡ [] → ahead ≡ nothing_ahead → BeginsWith specs ahead
+  begins_with_none specs ahead none nothing = rw (none, nothing) (record { queue = record { moves = []; below = tt; is = refl }; done = refl })
+
   -- the reading that is handed on leaves those that are done
   one_leaves : (at : List ℕ) (old new : ReadAhead R) → HandsOnAt at old new → length old.done ≡ length new.done + 1
   one_leaves at old new hands = omega (arith, length_permutation old.done (at ∷ new.done) hands.done)

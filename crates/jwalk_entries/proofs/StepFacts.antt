@@ -12,7 +12,7 @@ use Rattle.walk_model.specs.Job as value
 use Rattle.walk_model.specs.Listing.{Pair, after_reading, is_answered, answers, listing}
 use Rattle.walk_model.specs.Held.{first_source, after_first, is_plain, pair_up, weight, AnswersPlainly}
 use Rattle.walk_model.proofs.CloneFacts.{same_length, counted_clones}
-use Rattle.walk_model.proofs.CountedFacts.{counted-has_directory, counted-after_reading, counted-is_answered, counted-list_of, counted-children_of, counted-IsLawful}
+use Rattle.walk_model.proofs.CountedFacts.{counted-has_directory, counted-after_reading, counted-is_answered, counted-list_of, counted-children_of, counted-IsLawfulReading}
 use Rattle.walk_model.proofs.HeldFacts.{directories, directories-append, as_many_of, lighter, lighter_alone, listed, alone, unread_none}
 use Rattle.walk_model.proofs.WithinFacts.{NoDeeper-append, of_reading, after, first_of}
 use Rattle.walk_fs.specs.declared.file_system.FileSystem as FileSystem
@@ -140,7 +140,7 @@ module _ {C S P A R E : Type 0} (clone : Clone.Ghosts R) (known : Item R E → S
           let items_too : map (counted_item given) (list_of outcome ++ items) ≡ list_of (counted_outcome given outcome) ++ map (counted_item given) items
           = map-append (counted_item given) (list_of outcome) items ∙ ap (λ l. l ++ map (counted_item given) items) (sym (counted-list_of view mark outcome)) in
           ap (Listed (Ok e ∷ items)) reads.took
-          ∙ listed reading (greatest_depth job) (counted_entry given e) (map (counted_item given) items) (counted_spec given reads.first) (map (counted_spec given) reads.rest) (counted_outcome given outcome) (counted-has_directory view mark (Ok e) ∙ dir) (counted-IsLawful view mark (greatest_depth job) reads.first outcome reads.reading.lawful) (as_given (Ok e) reads.first outcome reads.reading.value)
+          ∙ listed reading (greatest_depth job) (counted_entry given e) (map (counted_item given) items) (counted_spec given reads.first) (map (counted_spec given) reads.rest) (counted_outcome given outcome) (counted-has_directory view mark (Ok e) ∙ dir) (counted-IsLawfulReading view mark (greatest_depth job) reads.first outcome reads.reading.lawful) (as_given (Ok e) reads.first outcome reads.reading.value)
           ∙ ap (λ a. a ∷ listing reading (greatest_depth job) (pair_up (list_of (counted_outcome given outcome) ++ map (counted_item given) items) (children_of (counted_outcome given outcome) ++ map (counted_spec given) reads.rest))) (counted-after_reading view mark outcome (Ok e))
           ∙ ap (λ l. counted_item given (after_reading outcome (Ok e)) ∷ listing reading (greatest_depth job) (pair_up l (children_of (counted_outcome given outcome) ++ map (counted_spec given) reads.rest))) (sym items_too)
           ∙ ap (λ l. counted_item given (after_reading outcome (Ok e)) ∷ listing reading (greatest_depth job) (pair_up (map (counted_item given) (list_of outcome ++ items)) l)) (sym front)

@@ -26,6 +26,8 @@ use walk_fs::file_system::FileSystem;
 /// for good; so is the end of the walk. A walk over a crew ends in the same way, by an error whose `is_lost` is true,
 /// where a reading is lost. Over a file system whose answers stay the same, and with a callback that always does the
 /// same, none is.
+///
+/// Over a crew, calls may wait: `next`, `fill` and `count` for a reading, and these, `ahead` and the drop for a lock.
 pub struct DirEntryIter<
     C: ClientState,
     S: FileSystem,
@@ -74,14 +76,14 @@ impl<
     ghost use Rattle.read_parts.specs.Given.{counted_reading, ClonesCount};
     ghost use Rattle.read_parts.specs.Options as options;
     ghost use Rattle.jwalk_read.specs.Job.{options_of};
-    ghost use Rattle.jwalk_engine.specs.ReadAhead.{nothing_ahead};
+    ghost use Rattle.jwalk_engine.specs.ReadAhead.{nothing_ahead, BeginsWith};
     ghost use Rattle.jwalk_readings.specs.CrewReads.{failure_of, NotLost};
     ghost use Rattle.jwalk_readings.specs.ReadDirIter.{Tells};
     ghost use Rattle.jwalk_entries.specs.DirEntryIter.{reads_of, by_crew, is_refused, job_of, min_depth_of, items_of, unread_of, width_of, read_ahead, early_of, held_by, next_address, IsWithin, IsSourced, IsRefused, Known, KnownAt, IsSteadyWalk, ReadsStaySteady, EntersIfAny, GrowsAhead, Answers, Counts};
     ghost use Rattle.jwalk_entries.specs.Step.{IsAtDirectory, Receives, PassesNext, ReadsUpTo, StopsAtDirectory};
 
-    /// A walk whose start was refused, which needs no memory: what it answers is the error that tells of it, and nothing
-    /// else.
+    /// A walk whose start was refused, which needs no memory: what it answers is the error that tells of it, and
+    /// nothing else.
     pub fn refused(alloc: A, threads: T, job: Job<C, S, P, A>) -> Self
         ensures own { by_crew result ≡ false }
         ensures job { job_of result ≡ job }
@@ -89,7 +91,7 @@ impl<
         ensures items { items_of result ≡ [] }
         ensures unread { unread_of result ≡ [] }
         ensures width { width_of result ≡ options.width_of (options_of job).parallelism }
-        ensures early { early_of result ≡ [] }
+        ensures ahead { BeginsWith (unread_of result) (read_ahead result) }
     {
         let mode = job.options().mode();
         DirEntryIter {
@@ -128,7 +130,7 @@ impl<
         ensures children { OnOk result (AreClones C.ReadDirState.is_clone
             (children (reading read)) (unread_of self.new)) }
         ensures width { width_of self.new ≡ width_of self.old }
-        ensures early { OnOk result (early_of self.new ≡ []) }
+        ensures ahead { OnOk result (BeginsWith (unread_of self.new) (read_ahead self.new)) }
     {
         self.reads.begin(read.read_children_specs()?)?;
         self.receive(read)?;
@@ -151,7 +153,7 @@ impl<
         ensures sourced { IsSourced result }
         ensures depth { is_refused result ≡ false → AtDepth 0 (items_of result) }
         ensures width { width_of result ≡ options.width_of (options_of job).parallelism }
-        ensures early { early_of result ≡ [] }
+        ensures ahead { BeginsWith (unread_of result) (read_ahead result) }
         ensures held { (g : _) → ClonesCount C.ReadDirState.Clone g → is_refused result ≡ false
             → IsSomeAnd read (λ r. held_by g result ≡ paired (counted_reading g (reading r))) }
     {
@@ -332,7 +334,7 @@ impl<
     }
 
     /// How many directories were read whose readings are not handed on yet. A serial walk reads none ahead; over a crew
-    /// the number changes while the workers read.
+    /// the number changes while the workers read, and the call may wait for a lock.
     pub fn ahead(&self) -> usize
         ensures { by_crew self.now ≡ false → result ≡ length (early_of self.now) }
     {
@@ -340,7 +342,7 @@ impl<
     }
 
     /// The number of answers that are still to come, or the greatest `usize` where there are more. Unlike
-    /// `Iterator::count`, it asks for no bound of them.
+    /// `Iterator::count`, it asks for no bound of them. Over a crew it may wait: for a reading, or for a lock.
     pub fn count(self) -> usize
         requires { P.IsLawful (callback (job_of self)) }
         ensures { Counts S.FileSystem P.ProcessReadDir C.ReadDirState.Clone C.DirEntryState.Default L.Pool self result }
@@ -362,10 +364,14 @@ impl<
 > DirEntryIter<C, S, P, A, InTurn, L> {
     ghost use Rattle.jwalk_entries.specs.DirEntryIter.{job_of, Fills};
 
-    /// Appends answers to `out` until they are `n` or the walk ends, and answers how many.
+    /// Puts up to `n` answers behind those in `out`, fewer where the walk ends before that, and tells how many.
     ///
-    /// Room is made before each answer is asked for: where that is refused, `out` holds all that was answered, and
-    /// the walk goes on from there. Want of memory within the walk is an answer like any other.
+    /// The walk is asked only once `out` has a free place. Over a crew it may wait: for a reading, or for a lock.
+    ///
+    /// # Errors
+    ///
+    /// If there is no memory for the place. No answer is lost then: `out` has those that were given, and another call
+    /// gives the next ones. Memory that is refused to the walk itself is told by an answer.
     pub fn fill(
         &mut self,
         n: usize,

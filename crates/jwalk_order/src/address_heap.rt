@@ -15,8 +15,8 @@ use std::marker::Model;
 
 /// Values by address, of which the least comes out first.
 ///
-/// The one in front, where there is one, comes before all others and stands outside the heap. What is pushed and is then
-/// the first stands there, so that no sift is made where it comes out at once.
+/// The one in front, where there is one, comes before all others and stands outside the heap. What is pushed and is
+/// then the first stands there, so that no sift is made where it comes out at once.
 #[derive(Drop)]
 pub struct AddressHeap<T, A: Allocator + Copy> {
     front: Option<Ordered<T, A>>,

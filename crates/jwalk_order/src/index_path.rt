@@ -14,6 +14,7 @@ use std::cmp::Ordering;
 /// node has the node's indices followed by `i`.
 #[derive(Debug, Drop)]
 pub struct IndexPath<A: Allocator + Copy = Global> {
+    /// The indices on the way down, that of the root first. An address without any is above all roots.
     pub indices: Vec<usize, A>,
 }
 
@@ -51,7 +52,7 @@ impl<A: Allocator + Copy> IndexPath<A> {
         Ok(self.indices.push(index)?)
     }
 
-    /// Goes to the next sibling.
+    /// Goes to the next sibling. The address must have an index, and its last one must be below 2^64 - 1.
     pub fn increment_last(&mut self)
         requires some { 0 < length (address self.old) }
         requires room { slice_index (address self.old) (length (address self.old) - 1) + 1 < 2 ^ 64 }

@@ -14,7 +14,9 @@ use std::cmp::Ordering;
 /// A value with its address and the count of its children. Comparisons look at the address alone.
 #[derive(Debug, Drop)]
 pub struct Ordered<T, A: Allocator + Copy = Global> {
+    /// The value.
     pub value: T,
+    /// Where it stands in the tree.
     pub index_path: IndexPath<A>,
     child_count: usize,
 }

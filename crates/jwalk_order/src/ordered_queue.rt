@@ -85,7 +85,7 @@ impl<T, A: Allocator + Copy> OrderedQueue<T, A> {
         })
     }
 
-    /// Adds an item, which is then pending.
+    /// Adds an item, which is then pending. Fewer than 2^64 - 1 items may be pending before.
     ///
     /// # Errors
     ///
@@ -106,7 +106,7 @@ impl<T, A: Allocator + Copy> OrderedQueue<T, A> {
         }
     }
 
-    /// Counts an item that came as completed, so that it is no longer pending.
+    /// Counts an item that came as completed, so that it is no longer pending. At least one item must be pending.
     pub fn complete_item(&mut self)
         requires { 0 < self.old.pending }
         ensures { self.new ≡ record self.old { pending = self.old.pending - 1 } }

@@ -13,8 +13,8 @@ use std::alloc::Allocator;
 use std::marker::Model;
 use std::vec::IntoIter;
 
-/// Values by address, of which the least comes out first. Siblings that came together have one entry, and stand in order
-/// at its address and the ones after it.
+/// Values by address, of which the least comes out first. Siblings that came together have one entry, and stand in
+/// order at its address and the ones after it.
 #[derive(Drop)]
 pub struct SiblingQueue<T, A: Allocator + Copy> {
     entries: AddressHeap<IntoIter<T, A>, A>,
@@ -55,8 +55,8 @@ impl<T: Drop, A: Allocator + Copy> SiblingQueue<T, A> {
         self.len
     }
 
-    /// Puts values at the children of an address. It refuses for want of memory, or where the count of all would pass that
-    /// of any list: then it hands the values back, and nothing is changed.
+    /// Puts values at the children of an address. It refuses for want of memory, or where the count of all would pass
+    /// that of any list: then it hands the values back, and nothing is changed.
     pub fn push_children(
         &mut self,
         parent: &IndexPath<A>,

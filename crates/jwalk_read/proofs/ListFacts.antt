@@ -1,5 +1,5 @@
 -- Facts on lists that are gathered.
-use Rattle.std.proofs.Common.{◌≡◌, ◌++◌, List, [], ◌∷◌, Result, map, ap, sym, ◌∙◌, append-nil, option_to_list}
+use Rattle.std.proofs.Common.{◌≡◌, ◌++◌, List, [], ◌∷◌, Result, map, ap, ◌∙◌, append-nil, option_to_list}
 use Rattle.std.proofs.lemmas.Grind.{flat_map-append}
 use Rattle.std.proofs.lemmas.List.{map-append}
 use Rattle.walk_model.specs.Entry.{Item}

@@ -1,9 +1,9 @@
 -- A job seen as a value, and what its readings are.
-use Rattle.std.specs.Prelude.{◌≡◌, ◌<◌, ◌^◌, ℕ, List, length, Option, None, Some, Result, Ok, Err, if◌then◌else◌}
+use Rattle.std.specs.Prelude.{◌≡◌, ◌<◌, ◌^◌, ℕ, length}
 use Rattle.std.specs.declared.clone.Clone as Clone
 use Rattle.std.specs.declared.default.Default as Default
 use Rattle.walk_model.specs.Options as value_options
-use Rattle.walk_model.specs.ReadDir.{Spec, Outcome, IsLawful, list_of}
+use Rattle.walk_model.specs.ReadDir.{Spec, Outcome, IsLawfulReading, list_of}
 use Rattle.walk_model.specs.Counted.{Worth}
 use Rattle.walk_model.specs.Job as value
 use Rattle.walk_fs.specs.declared.file_system.FileSystem as FileSystem
@@ -40,7 +40,7 @@ IsAsGiven files given job spec outcome = counted_outcome given outcome ≡ value
 
 -- The outcome is a reading of the directory: lawful whatever the file system answers, a list that fits in memory, and what is known of a reading of this directory.
 pub record IsReadingBy {R E : Type 0} (known : Spec R → Outcome R E → Type 0) (max_depth : ℕ) (spec : Spec R) (outcome : Outcome R E) : Type 0 where
-  pub lawful : IsLawful max_depth spec outcome
+  pub lawful : IsLawfulReading max_depth spec outcome
   pub few : length (list_of outcome) < 2 ^ 64
   pub value : known spec outcome
 

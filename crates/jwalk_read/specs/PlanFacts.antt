@@ -4,7 +4,7 @@ use Rattle.std.specs.Prelude.{All, flat_map, option_map}
 use Rattle.std.proofs.lemmas.Bool.Decides.{leb_tells}
 use Rattle.std.proofs.lemmas.List.Elements.{All-nil, All-cons, All-append, All-weaker}
 use Rattle.walk_model.specs.Entry.{Entry, Item, AtDepth}
-use Rattle.walk_model.specs.ReadDir.{Spec, Reading, Outcome, IsLawful, spec_of, spec_below, children, children_of}
+use Rattle.walk_model.specs.ReadDir.{Spec, Reading, Outcome, IsLawfulReading, spec_of, spec_below, children, children_of}
 use Rattle.walk_model.specs.Job.{Job, KeepsDepthsOf, reading}
 use Rattle.walk_model.proofs.ReadingFacts.{readings_lawful}
 use Rattle.jwalk_board.specs.Plan.{Falls}
@@ -30,7 +30,7 @@ module _ {R E : Type 0} where
   children_deeper depth state (Ok e ∷ l) h = All-append (λ (s : Spec R). s.depth ≡ depth) (option_to_list (spec_of {E = E} state (Ok e))) _ (one_deeper depth state e h.0) (children_deeper depth state l h.1)
 
   -- those of a lawful list are nearer to the greatest depth than the directory that was listed
-  nearer_below : (max_depth : ℕ) (s : Spec R) (r : Reading R E) → IsLawful {E = E} max_depth s (Ok r) → AreNearer max_depth s (children r)
+  nearer_below : (max_depth : ℕ) (s : Spec R) (r : Reading R E) → IsLawfulReading {E = E} max_depth s (Ok r) → AreNearer max_depth s (children r)
   nearer_below max_depth s r lawful =
       elim (leb_tells max_depth s.depth) [
         | inl deep ↦ rw (lawful.1 deep.1) (All-nil _)
@@ -40,7 +40,7 @@ module _ {R E : Type 0} where
       ]
 
   -- and so are those of any lawful outcome
-  nearer_of : (max_depth : ℕ) (s : Spec R) (outcome : Outcome R E) → IsLawful max_depth s outcome → AreNearer max_depth s (children_of outcome)
+  nearer_of : (max_depth : ℕ) (s : Spec R) (outcome : Outcome R E) → IsLawfulReading max_depth s outcome → AreNearer max_depth s (children_of outcome)
   nearer_of max_depth s (Ok r) lawful = nearer_below max_depth s r lawful
   nearer_of max_depth s (Err f) lawful = All-nil _
 

@@ -7,7 +7,6 @@ ghost use Rattle.walk_model.specs.Job as value;
 ghost use Rattle.walk_fs.specs.Views.{listed, named};
 ghost use Rattle.read_parts.specs.Text.{text};
 ghost use Rattle.read_parts.specs.Ancestors.{texts};
-ghost use Rattle.read_parts.specs.Error.{failure};
 ghost use Rattle.read_parts.specs.Entry.{entry, item, children};
 ghost use Rattle.read_parts.specs.ReadDirSpec.{spec};
 ghost use Rattle.jwalk_read.specs.ReadDir.{outcome, reading};
@@ -45,7 +44,7 @@ pub struct Job<C: ClientState, S, P, A: Allocator + Copy = Global> {
     process: P,
     options: Options,
     alloc: A,
-    // Behind a lock, since a job may be shared where the states themselves may not.
+    // No lock is there: the type alone says that a job may be shared where the states may not.
     of: PhantomData<Mutex<C>>,
 }
 

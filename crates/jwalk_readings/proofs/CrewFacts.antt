@@ -4,7 +4,7 @@ use Rattle.std.specs.declared.clone.Clone as Clone
 use Rattle.std.specs.declared.default.Default as Default
 use Rattle.walk_model.specs.Options.{ReadsAs}
 use Rattle.walk_model.specs.Entry.{AtDepth}
-use Rattle.walk_model.specs.ReadDir.{Spec, Outcome, IsLawful}
+use Rattle.walk_model.specs.ReadDir.{Spec, Outcome, IsLawfulReading}
 use Rattle.walk_fs.specs.declared.file_system.FileSystem as FileSystem
 use Rattle.jwalk_order.specs.declared.ordered.Ordered.{Ordered}
 use Rattle.read_parts.specs.declared.process_read_dir.ProcessReadDir as ProcessReadDir
@@ -18,7 +18,7 @@ use Rattle.crew_parts.specs.Wanted.{IsFor, Fits}
 use Rattle.jwalk_readings.specs.CrewReads.{IsTold}
 
 -- a lawful outcome is one of every directory at this depth, up to the same greatest depth
-lawful_there : {R E : Type 0} (max_depth reads_to : ℕ) (of s : Spec R) (o : Outcome R E) → reads_to ≡ max_depth → of.depth ≡ s.depth → IsLawful reads_to of o → IsLawful max_depth s o
+lawful_there : {R E : Type 0} (max_depth reads_to : ℕ) (of s : Spec R) (o : Outcome R E) → reads_to ≡ max_depth → of.depth ≡ s.depth → IsLawfulReading reads_to of o → IsLawfulReading max_depth s o
 lawful_there max_depth reads_to of s (Ok r) same there lawful = (subst (λ d. AtDepth (d + 1) r.list) there lawful.0, λ deep. lawful.1 (omega (arith, same, there, deep)))
 lawful_there max_depth reads_to of s (Err f) same there lawful = (omega (arith, same, there, lawful.0), lawful.1)
 

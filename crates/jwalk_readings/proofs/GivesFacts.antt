@@ -10,7 +10,7 @@ use Rattle.walk_model.specs.Preorder.{preorder}
 use Rattle.walk_model.specs.Held.{spec_weight}
 use Rattle.walk_model.specs.Job.{reading}
 use Rattle.walk_model.proofs.CloneFacts.{counted_clones}
-use Rattle.walk_model.proofs.CountedFacts.{counted-children_of, counted-IsLawful}
+use Rattle.walk_model.proofs.CountedFacts.{counted-children_of, counted-IsLawfulReading}
 use Rattle.walk_model.proofs.PreorderFacts.{preorder-first, fewer_to_read, heavy_specs}
 use Rattle.walk_fs.specs.declared.file_system.FileSystem as FileSystem
 use Rattle.read_parts.specs.declared.process_read_dir.ProcessReadDir as ProcessReadDir
@@ -45,7 +45,7 @@ module _ {C S P A R E : Type 0} (clone : Clone.Ghosts R) (known : Spec R → Out
         ∙ sym (map-append (counted_spec given) reads.stacks.front reads.rest)
         ∙ sym (ap (map (counted_spec given)) reads.stacks.left) in
         ap (λ l. preorder (reading (job_by files given job)) (greatest_depth job) (map (counted_spec given) l)) reads.took
-        ∙ preorder-first (reading (job_by files given job)) (greatest_depth job) (counted_spec given reads.first) (map (counted_spec given) reads.rest) (counted_outcome given read) (counted-IsLawful view mark (greatest_depth job) reads.first read reads.reading.lawful) (as_given reads.first read reads.reading.value)
+        ∙ preorder-first (reading (job_by files given job)) (greatest_depth job) (counted_spec given reads.first) (map (counted_spec given) reads.rest) (counted_outcome given read) (counted-IsLawfulReading view mark (greatest_depth job) reads.first read reads.reading.lawful) (as_given reads.first read reads.reading.value)
         ∙ ap (λ l. counted_outcome given read ∷ preorder (reading (job_by files given job)) (greatest_depth job) l) left
 
     -- readings that are given one by one come in preorder

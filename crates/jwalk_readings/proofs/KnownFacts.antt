@@ -18,7 +18,7 @@ use Rattle.jwalk_readings.specs.declared.read_dir_iter.ReadDirIter.{ReadDirIter}
 use Rattle.jwalk_readings.specs.declared.read_dir_iter.ReadDirIter.TheVariants.{Walk, ParWalk, CrewWalk}
 use Rattle.jwalk_readings.specs.CrewReads.{failure_of, NotLost, IsNextBelow}
 use Rattle.jwalk_readings.specs.ReadDirIter as readings
-use Rattle.jwalk_readings.specs.ReadDirIter.{Tells, GivesError, GivesFirst, IsSteadyReads, KnownBy}
+use Rattle.jwalk_readings.specs.ReadDirIter.{Tells, GivesFirst, IsSteadyReads, KnownBy}
 
 -- want of memory may end any walk early
 pub tells_memory : (b : Bool) (f : Failure) → f ≡ memory → Tells b f

@@ -12,7 +12,7 @@ ghost use Rattle.jwalk_readings.specs.ReadDirIter.{KnownBy};
 pub mod started;
 
 use crew_parts::wanted::Wanted;
-use jwalk_crew::pool::{Missed, Pool};
+use jwalk_crew::pool::{Missed, NoPool, Pool};
 use jwalk_order::ordered::Ordered;
 use jwalk_order::ordered_queue::OrderedMatcher;
 use jwalk_read::job::Job;
@@ -33,7 +33,7 @@ pub struct CrewReads<
     S: FileSystem,
     P: ProcessReadDir<C, A>,
     A: Allocator + Copy = Global,
-    L = jwalk_crew::pool::NoPool,
+    L = NoPool,
 > {
     job: Arc<Job<C, S, P, A>, A>,
     matcher: OrderedMatcher<A>,

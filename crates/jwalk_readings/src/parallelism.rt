@@ -22,6 +22,7 @@ pub enum Parallelism<W = NoPool, A: Allocator + Copy = Global> {
         busy_timeout: Option<Duration>,
     },
     /// So many directories at a time: the one whose entry is answered, and those that come after it. 0 stands for 8.
+    /// Fewer than 32 start no thread.
     RayonNewPool(usize),
 }
 
@@ -61,6 +62,7 @@ impl<W: Drop, A: Allocator + Copy> Parallelism<W, A> {
     }
 }
 
+/// A clone names the same crew. It is refused only for want of memory.
 impl<W: Drop, A: Allocator + Copy> Clone for Parallelism<W, A> {
     ghost use Rattle.jwalk_readings.specs.Parallelism.{IsCloneOf};
 

@@ -31,9 +31,11 @@ use walk_fs::file_system::FileSystem;
 /// An iterator over readings, each before those of its own directories: the one of the first directory not given yet
 /// comes next, and then those below it.
 ///
-/// Want of memory is answered by one error whose `is_memory` is true, and then by `None`; so is a crew's reading that is
-/// lost, by one whose `is_lost` is true. Over a file system whose answers stay the same, and with a callback that always
-/// does the same, none is, unless the iterator is asked for another directory than the next one.
+/// Want of memory is answered by one error whose `is_memory` is true, and then by `None`; so is a crew's reading that
+/// is lost, by one whose `is_lost` is true. Over a file system whose answers stay the same, and with a callback that
+/// always does the same, none is, unless the iterator is asked for another directory than the next one.
+///
+/// Over a crew, calls may wait: `next` and `next_of` for a reading, and these, `ahead` and the drop for a lock.
 pub enum ReadDirIter<
     C: ClientState,
     S: FileSystem,
@@ -99,6 +101,10 @@ impl<
     }
 
     /// Puts these directories in the place of what was to be read, where no crew reads.
+    ///
+    /// # Errors
+    ///
+    /// If memory runs out.
     pub fn begin(&mut self, roots: Vec<ReadDirSpec<C, A>, A>) -> Result<(), AllocError>
         requires { by_crew self.old ≡ false }
         ensures own { by_crew self.new ≡ false }
@@ -106,6 +112,8 @@ impl<
         ensures width { width_of self.new ≡ width_of self.old }
         ensures to_read { OnOk result (to_read self.new ≡ map spec roots.items) }
         ensures read_ahead { OnOk result (BeginsWith (map spec roots.items) (read_ahead self.new)) }
+        ensures stopped { OnErr result (to_read self.new ≡ []) }
+        ensures nothing_ahead { OnErr result (read_ahead self.new ≡ nothing_ahead) }
     {
         match self {
             ReadDirIter::Walk(walk) => walk.begin(roots),
@@ -202,7 +210,8 @@ impl<
         }
     }
 
-    /// How many readings were made and not handed on. Over a crew it changes while the workers read.
+    /// How many readings were made and not handed on. Over a crew it changes while the workers read, and the call may
+    /// wait for a lock.
     pub fn ahead(&self) -> usize
         ensures { by_crew self.now ≡ false → result ≡ length (early_of self.now) }
     {
@@ -275,7 +284,10 @@ impl<
     ghost use Rattle.jwalk_readings.specs.ReadDirIter.{by_crew, job_of, to_read, KnownOf, GivesFirst, Gives};
 
     /// The reading of an entry's directory: the next one, where the entries are those of the readings so far in the
-    /// walk's order. Over a crew it is that of the entry's directory, or the error whose `is_lost` is true.
+    /// walk's order. The entry must have `read_children`. `None` says that nothing is left to be read.
+    ///
+    /// Over a crew it is that of the entry's directory, or the error whose `is_lost` is true: nothing is left to be
+    /// read after that. The call may wait there: for a reading, or for a lock.
     pub fn next_of(&mut self, found: &DirEntry<C, A>) -> Option<Result<ReadDir<C, A>, Error<A>>>
         requires lawful { P.IsLawful (callback (job_of self.old)) }
         requires has_directory { IsSome found.now.read_children }

@@ -6,7 +6,7 @@ use Rattle.std.specs.declared.io.ErrorKind.{ErrorKind}
 use Rattle.std.specs.declared.io.ErrorKind.TheVariants as kind
 use Rattle.walk_model.specs.declared.file_type.FileType.{FileType}
 use Rattle.walk_model.specs.FileSystem.{Listed}
-use Rattle.walk_model.specs.Tree.{Place, directory, child, look_up, at_found, listing_at, metadata_at, target_at, type_at}
+use Rattle.walk_model.specs.Tree.{Place, directory, child, look_up, at_found, listing_at, node_metadata, target_at, type_at}
 use Rattle.memory_fs.specs.Child.{Child, Dir, File, Link, type_of}
 use Rattle.memory_fs.specs.Hit.{Hit, on_dir, on_file, on_link, metadata_of}
 use Rattle.memory_fs.specs.Branch.{Branch, branch_at, children_at, denied_at, child_of, at_end, names_of, node_of, tree_of_table, found, IsSettled, listed_child, listing_of, AreFound, IsSound}
@@ -46,7 +46,7 @@ module _ {X : Type 0} (table : List Branch) (sound : IsSound table) (follow : Bo
       (λ place d e is_at. let z : Ok d ≡ Err k = sym e ∙ is in cc)
       (λ l e. let z : ◌≡◌ {A = Result Hit ErrorKind} (Err l) (Err k) = sym e ∙ is in let same : l ≡ k = cc in ap (λ (m : ErrorKind). Err m) same)
 
-metadata-node : (table : List Branch) (h : Hit) → metadata_at (Some (node_of table (child_hit h))) ≡ Ok (metadata_of h)
+metadata-node : (table : List Branch) (h : Hit) → node_metadata (Some (node_of table (child_hit h))) ≡ Ok (metadata_of h)
 metadata-node table (on_dir i) = refl
 metadata-node table (on_file len) = refl
 metadata-node table (on_link holder target) = refl
@@ -62,10 +62,10 @@ type-node table (File len) = refl
 type-node table (Link target) = refl
 
 module _ (table : List Branch) (sound : IsSound table) (follow : Bool) (path : List ℕ) where
-  pub metadata-found : (h : Hit) → found table follow path ≡ Ok h → at_found (λ place. metadata_at (tree_of_table table place)) (look_up (tree_of_table table) follow path) ≡ Ok (metadata_of h)
+  pub metadata-found : (h : Hit) → found table follow path ≡ Ok h → at_found (λ place. node_metadata (tree_of_table table place)) (look_up (tree_of_table table) follow path) ≡ Ok (metadata_of h)
   metadata-found h is =
-      answer-found table sound follow path (λ place. metadata_at (tree_of_table table place)) h is (Ok (metadata_of h))
-      (λ place e. ap (λ (o : Option Child). metadata_at (option_map (node_of table) o)) e ∙ metadata-node table h)
+      answer-found table sound follow path (λ place. node_metadata (tree_of_table table place)) h is (Ok (metadata_of h))
+      (λ place e. ap (λ (o : Option Child). node_metadata (option_map (node_of table) o)) e ∙ metadata-node table h)
 
   pub target-found : (holder : ℕ) (target : List ℕ) → found table follow path ≡ Ok (on_link holder target)
       → at_found (λ place. target_at (tree_of_table table place)) (look_up (tree_of_table table) follow path) ≡ Ok target

@@ -5,6 +5,6 @@ use Rattle.memory_fs.specs.declared.build_error.BuildError.TheVariants.{NotFound
 
 -- the text that tells of it
 abbrev pub text_of : BuildError → List ℕ
-text_of NotFound = codes "no such directory"
+text_of NotFound = codes "no such file or directory"
 text_of AlreadyExists = codes "the name is taken"
 text_of Memory = codes "memory refused"

@@ -8,8 +8,8 @@ use std::fmt;
 /// Why a step of building was refused. The tree is then as it was.
 #[derive(Clone, Copy, Debug, PartialEq, Eq)]
 pub enum BuildError {
-    /// The path's last component is no plain name, or the ones before it lead to no directory; or the step needs a
-    /// directory there and there is none.
+    /// The path's last component is no plain name, or the ones before it lead to no directory; or nothing stands there
+    /// that is to be removed, or no directory that is to be denied.
     NotFound,
     /// The name for a new child is taken.
     AlreadyExists,
@@ -25,7 +25,7 @@ impl fmt::Display for BuildError {
 
     fn fmt<W: fmt::Write>(&self, f: &mut fmt::Formatter<W>) -> fmt::Result {
         f.write_str(match self {
-            BuildError::NotFound => "no such directory",
+            BuildError::NotFound => "no such file or directory",
             BuildError::AlreadyExists => "the name is taken",
             BuildError::Memory => "memory refused",
         })

@@ -55,9 +55,9 @@ impl<A: Allocator + Copy> MemoryFs<A> {
         }
     }
 
-    /// Adds an empty directory, the last of its holder's children. `NotFound` where the path's last component is no plain
-    /// name or the ones before it lead to no directory, from the root; `AlreadyExists` where the name is taken; else `Memory`
-    /// where memory is refused. After a refusal the tree is as it was.
+    /// Adds an empty directory, the last of its holder's children. `NotFound` where the path's last component is no
+    /// plain name or the ones before it lead to no directory, from the root; `AlreadyExists` where the name is taken;
+    /// else `Memory` where memory is refused. After a refusal the tree is as it was.
     pub fn add_dir(&mut self, path: &str) -> Result<(), BuildError>
         ensures { IsAddition (directory [] None) path.now (tree_of self.old) result (tree_of self.new) }
     {
@@ -75,8 +75,8 @@ impl<A: Allocator + Copy> MemoryFs<A> {
         Ok(())
     }
 
-    /// Adds a link to a target, which may lead nowhere, where `add_dir` would add a directory, with the same refusals. A
-    /// relative target starts at the directory that holds the link.
+    /// Adds a link to a target, which may lead nowhere, where `add_dir` would add a directory, with the same refusals.
+    /// A relative target starts at the directory that holds the link.
     pub fn add_link(&mut self, path: &str, target: &str) -> Result<(), BuildError>
         ensures { IsAddition (link target.now) path.now (tree_of self.old) result (tree_of self.new) }
     {
@@ -85,9 +85,9 @@ impl<A: Allocator + Copy> MemoryFs<A> {
         Ok(())
     }
 
-    /// Reading the directory at the path fails with this kind from now on; a later kind replaces it, and nothing else is
-    /// touched. `NotFound` where `add_dir` answers it, and where no directory has that name. It needs no memory. After a
-    /// refusal the tree is as it was.
+    /// Reading the directory at the path fails with this kind from now on; a later kind replaces it, and nothing else
+    /// is touched. `NotFound` where `add_dir` answers it, and where no directory has that name. It needs no memory.
+    /// After a refusal the tree is as it was.
     pub fn deny(&mut self, path: &str, kind: ErrorKind) -> Result<(), BuildError>
         ensures denied { OnOk result (IsBuilt (deny kind path.now (tree_of self.old)) (tree_of self.new)) }
         ensures not_found { (result ≡ Err BuildError.NotFound)
@@ -291,7 +291,13 @@ impl<A: Allocator + Copy> MemoryFs<A> {
     }
 }
 
-/// Of its answers only a listing that is made takes memory: metadata and every error are answered without.
+/// Only a listing or a link's text takes memory: metadata and every error are answered without.
+///
+/// # Errors
+///
+/// `NotFound` where nothing stands at the path. `InvalidInput` for a listing of what is no directory, and for the text
+/// of what is no link. The kind that `deny` set, for a listing of that directory. `Other` where a look-up would follow
+/// a 41st link, or goes on below what is no directory.
 impl<A: Allocator + Copy> FileSystem for MemoryFs<A> {
     ghost use Rattle.std.specs.Prelude.{◌≢◌, IsErr, map, string_bytes};
     ghost use Rattle.walk_fs.specs.Views.{listed, AnswersValue};

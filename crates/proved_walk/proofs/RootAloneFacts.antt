@@ -1,5 +1,5 @@
 -- Lists that are emptied but for the root's.
-use Rattle.std.proofs.Common.{◌≡◌, ℕ, List, [], Option, Some, None, Result, Ok, Err, map, ap, sym, refl}
+use Rattle.std.proofs.Common.{◌≡◌, ℕ, List, Option, Some, None, Result, Ok, Err, map, ap, sym}
 use Rattle.jwalk.specs.walk_model.Entry.{Item}
 use Rattle.jwalk.specs.walk_model.Counted.{blank}
 use Rattle.jwalk.specs.read_parts.Given.{counted_item, IsProcessed}

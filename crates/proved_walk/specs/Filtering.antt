@@ -1,5 +1,5 @@
 -- Walks whose entries are kept by a test.
-use Rattle.std.specs.Prelude.{ℕ, Bool, not, ◌&&◌, List, bytes_eq, codes}
+use Rattle.std.specs.Prelude.{not, ◌&&◌, bytes_eq, codes}
 use Rattle.jwalk.specs.walk_model.FileSystem.{Functions}
 use Rattle.jwalk.specs.walk_model.FileType.{is_dir}
 use Rattle.jwalk.specs.walk_model.Options.{defaults}

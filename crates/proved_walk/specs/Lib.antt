@@ -4,3 +4,4 @@ pub mod Skipping
 pub mod RootAlone
 pub mod Filtering
 pub mod Texts
+pub mod Numbers

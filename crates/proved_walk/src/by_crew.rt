@@ -1,6 +1,8 @@
 //! A walk over a crew.
-ghost use Rattle.std.specs.Prelude.{◌≡◌, true, IfOk};
+ghost use Rattle.std.specs.Prelude.{◌≡◌, ◌⊎◌, IfOk, IfErr};
+ghost use Rattle.jwalk.specs.walk_model.Error.{memory, busy};
 ghost use Rattle.jwalk.specs.walk_model.Walk.{whole_walk};
+ghost use Rattle.jwalk.specs.read_parts.Error.{failure};
 ghost use Rattle.jwalk.specs.read_parts.Given.{counted_list};
 ghost use Rattle.jwalk.specs.jwalk_read.Job.{IsSteady};
 ghost use Rattle.jwalk.specs.WalkDir.{file_system_of, callback_of, root_of, state_of, job_for};
@@ -38,10 +40,11 @@ where
     C::ReadDirState: Send + 'static,
     C::DirEntryState: Send + 'static,
     requires { P.IsLawful (callback_of walk) }
-    ensures { IfOk result (λ found. (given : _) → IsSteady S.FileSystem P.ProcessReadDir
+    ensures answers { IfOk result (λ found. (given : _) → IsSteady S.FileSystem P.ProcessReadDir
         C.ReadDirState.Clone C.DirEntryState.Default (file_system_of walk) (callback_of walk) given
         → NoneRefused found.items → counted_list given found.items
         ≡ whole_walk (job_for S.FileSystem given walk) (root_of walk) (given.read_dir_state (state_of walk))) }
+    ensures fails { IfErr result (λ error. (failure error ≡ memory) ⊎ (failure error ≡ busy)) }
 {
     let mut found = Vec::new(alloc);
     let mut answers = walk.try_into_iter()?;

@@ -1,6 +1,7 @@
 //! Functions over walks, callbacks and a file system, with contracts of their own.
 #![tactic(auto)]
 
+pub mod alike;
 pub mod anywhere;
 pub mod batches;
 pub mod by_crew;
@@ -8,6 +9,7 @@ pub mod counted;
 pub mod filtering;
 pub mod hands_on_names;
 pub mod marked;
+pub mod numbers;
 pub mod root_alone;
 pub mod skipping;
 pub mod small_tree;

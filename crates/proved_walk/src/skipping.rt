@@ -1,5 +1,5 @@
 //! Walks with a ready callback.
-ghost use Rattle.std.specs.Prelude.{◌≡◌, IfOk, map, codes, [], ◌∷◌};
+ghost use Rattle.std.specs.Prelude.{◌≡◌, IfOk, IfErr, map, codes, [], ◌∷◌};
 ghost use Rattle.jwalk.specs.walk_model.Counted.{blank};
 ghost use Rattle.jwalk.specs.walk_model.Lines.{line_of};
 ghost use Rattle.jwalk.specs.walk_model.Walk.{whole_walk};
@@ -44,7 +44,7 @@ fn no_group_1(alloc: Global) -> Result<SkipNames, AllocError>
 pub fn small_tree_without_group_1(
     alloc: Global,
 ) -> Result<Vec<Answer<DirEntry<((), ())>>>, BuildError>
-    ensures { IfOk result (λ found. NoneRefused found.items
+    ensures answers { IfOk result (λ found. NoneRefused found.items
         → map line_of (counted_list (skipping (codes "group 1" ∷ [])) found.items)
         ≡ codes "0 d /t\n"
         ∷ codes "1 f /t/a.txt\n"
@@ -54,6 +54,7 @@ pub fn small_tree_without_group_1(
         ∷ codes "1 d /t/group 2\n"
         ∷ codes "2 f /t/group 2/e.txt\n"
         ∷ []) }
+    ensures refused { IfErr result (λ error. error ≡ BuildError.Memory) }
 {
     let root = String::from_str(alloc, "/t")?;
     let walk = WalkDirGeneric::<((), ()), _, _, _>::new(small_tree(alloc)?, root)

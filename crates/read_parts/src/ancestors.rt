@@ -75,6 +75,8 @@ impl<A: Allocator + Copy> Ancestors<A> {
     }
 
     /// A handle of the nearest of these paths that a target is the same path as.
+    ///
+    /// Fails only for want of memory.
     pub fn nearest(&self, target: &str) -> Result<Option<Arc<String<A>, A>>, AllocError>
         ensures { IfOk result (λ o. option_map text o ≡ looped_to target.now (texts self.now)) }
     {

@@ -10,8 +10,10 @@ use std::fmt::Debug;
 /// A clone may be refused for want of memory; then so is the step that made it. A pair `(B, E)` of two states is a
 /// `ClientState`.
 pub trait ClientState: Default + Debug + Drop {
+    /// The state of a directory, which goes down the tree.
     type ReadDirState: Clone + Default + Debug + Drop;
 
+    /// The state of an entry, which stays with it.
     type DirEntryState: Default + Debug + Drop;
 }
 

@@ -15,8 +15,8 @@ pub trait ProcessReadDir<C: ClientState, A: Allocator + Copy>: Drop {
     /// It may be called.
     ghost IsLawful: { Self → Type 0 };
 
-    /// It always makes of a list what is given, as far as states count, unless memory runs out. A callback of which nothing
-    /// is to be said so has `⊥` here.
+    /// It always makes of a list what is given, as far as states count, unless memory runs out. A callback of which
+    /// nothing is to be said so has `⊥` here.
     ghost Makes: { Self → Given C.ReadDirState C.DirEntryState → Type 0 };
 
     /// Works on the list of the directory at `path`, which has this depth, or on the list of the root alone, where
@@ -24,7 +24,10 @@ pub trait ProcessReadDir<C: ClientState, A: Allocator + Copy>: Drop {
     /// with, and it may reorder the list, drop items, change their states, and take away or move `read_children`; but
     /// an entry keeps its depth.
     ///
-    /// Fails only for want of memory.
+    /// It isn't called for a directory that couldn't be listed, nor for one at the greatest depth. Where threads or a
+    /// crew read, several of them may call it side by side, each with a list of its own.
+    ///
+    /// Fails only for want of memory. The list of a call that fails is dropped, with all that its reading gave.
     fn process(
         &self,
         depth: Option<usize>,

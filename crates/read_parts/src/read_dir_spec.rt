@@ -61,8 +61,10 @@ impl<C: ClientState, A: Allocator + Copy> ReadDirSpec<C, A> {
         &self.ancestors
     }
 
-    /// The specification of an item's directory, if it has one, where the reading of its list left `state`; its state is a
-    /// clone.
+    /// The specification of an item's directory, if it has one, where the reading of its list left `state`; its state
+    /// is a clone.
+    ///
+    /// Fails only for want of memory.
     pub fn of_item(
         state: &C::ReadDirState,
         found: &Result<DirEntry<C, A>, Error<A>>,

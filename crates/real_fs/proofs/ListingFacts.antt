@@ -42,10 +42,6 @@ pub adds_one_if : {A T : Type 0} (r : Result T Fault) (name : List ℕ) (old new
 adds_one_if (Ok _) name old new item is more = adds_one name old new item is more
 adds_one_if (Err _) name old new item is more = tt
 
--- nothing is added for no names
-pub adds_none : {A : Type 0} (listing : Listing A) → Adds [] listing listing
-adds_none listing = sym (append-nil (names_of listing))
-
 -- items for some names and then for others
 pub adds_on : {A : Type 0} (names others : List (List ℕ)) (a b c : Listing A) → Adds names a b → Adds others b c → Adds (names ++ others) a c
 adds_on names others a b c first second =

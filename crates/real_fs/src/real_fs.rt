@@ -8,8 +8,8 @@ use walk_fs::file_system::FileSystem;
 use walk_fs::listed::Listed;
 use walk_model::metadata::Metadata;
 
-/// The file system that a runtime reaches: the disk, where that is the host's. It is made with the runtime that `main` is
-/// given, or with a `&` of it.
+/// The file system that a runtime reaches: the disk, where that is the host's. It is made with the runtime that `main`
+/// is given, or with a `&` of it.
 ///
 /// It answers what stands there when it is asked, and nothing is promised of that.
 #[derive(Drop)]

@@ -8,7 +8,9 @@ use std::io;
 /// An error of the file system, or want of memory.
 #[derive(Drop)]
 pub enum Fault {
+    /// The file system can't answer, and this says why. A walk tells it in its place and goes on.
     Io(io::Error),
+    /// Memory was refused. A walk tells it once and ends.
     Memory,
 }
 

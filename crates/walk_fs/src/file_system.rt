@@ -17,7 +17,7 @@ use walk_model::metadata::Metadata;
 /// A file system whose answers may change, or that can't promise them, says that it isn't fixed. Then it owes nothing,
 /// and names any functions:
 ///
-///     ghost use Rattle.walk_model.specs.Tree.{functions_of, only_root};
+///     ghost use Rattle.jwalk.specs.walk_model.Tree.{functions_of, only_root};
 ///
 ///     impl FileSystem for Disk {
 ///         ghost IsFixed = { λ _. ⊥ };
@@ -38,6 +38,10 @@ pub trait FileSystem: Drop {
 
     /// The items of a directory, in the file system's order, without `.` and `..` (`std::fs::read_dir`). An item that
     /// could not be read is an error in its place.
+    ///
+    /// # Errors
+    ///
+    /// `Fault::Io` where the directory can't be listed, `Fault::Memory` where memory is refused.
     fn read_dir<A: Allocator + Copy>(
         &self,
         alloc: A,
@@ -46,15 +50,27 @@ pub trait FileSystem: Drop {
         ensures { IsFixed self.now
             → AnswersValue (λ v. map listed v.items) result ((functions self.now).list_of path.now) };
 
-    /// The type and length of what a path leads to, all links followed (`std::fs::metadata`).
+    /// The type of what a path leads to, and its length in bytes, all links followed (`std::fs::metadata`).
+    ///
+    /// # Errors
+    ///
+    /// `Fault::Io` where they can't be told, `Fault::Memory` where memory is refused.
     fn metadata(&self, path: &str) -> Result<Metadata, Fault>
         ensures { IsFixed self.now → AnswersValue (λ m. m) result ((functions self.now).meta_of path.now) };
 
     /// The same without following the last component (`std::fs::symlink_metadata`).
+    ///
+    /// # Errors
+    ///
+    /// `Fault::Io` where they can't be told, `Fault::Memory` where memory is refused.
     fn symlink_metadata(&self, path: &str) -> Result<Metadata, Fault>
         ensures { IsFixed self.now → AnswersValue (λ m. m) result ((functions self.now).link_meta_of path.now) };
 
     /// The target of a symbolic link as its text stands (`std::fs::read_link`).
+    ///
+    /// # Errors
+    ///
+    /// `Fault::Io` where it can't be told, also of what is no link; `Fault::Memory` where memory is refused.
     fn read_link<A: Allocator + Copy>(&self, alloc: A, path: &str) -> Result<String<A>, Fault>
         ensures { IsFixed self.now → AnswersValue string_bytes result ((functions self.now).target_of path.now) };
 }

@@ -3,7 +3,7 @@ use Rattle.std.proofs.Common.{◌≡◌, ℕ, List, [], ◌∷◌, ◌++◌, map
 use Rattle.std.specs.Prelude.{flat_map, option_map}
 use Rattle.std.proofs.lemmas.List.{map-append}
 use Rattle.walk_model.specs.Entry.{Entry, Item, Children, children_at, has_directory, AtDepth}
-use Rattle.walk_model.specs.ReadDir.{Spec, Outcome, spec_below, spec_of, children_of, list_of, IsLawful}
+use Rattle.walk_model.specs.ReadDir.{Spec, Outcome, spec_below, spec_of, children_of, list_of, IsLawfulReading}
 use Rattle.walk_model.specs.Listing.{after_reading, is_answered}
 use Rattle.walk_model.specs.Sorting.{stands_before, put, arranged}
 use Rattle.walk_model.specs.Counted.{children_by, spec_by, entry_by, item_by, outcome_by}
@@ -56,9 +56,9 @@ module _ {R E V W : Type 0} (view : R → V) (mark : E → W) where
   counted-AtDepth depth (Err f ∷ l) h = counted-AtDepth depth l h
 
   -- nor does the law of readings
-  pub counted-IsLawful : (max_depth : ℕ) (s : Spec R) (outcome : Outcome R E) → IsLawful max_depth s outcome → IsLawful max_depth (spec_by view s) (outcome_by view mark outcome)
-  counted-IsLawful max_depth s (Ok r) h = (counted-AtDepth _ r.list h.0, λ deep. ap (map (item_by view mark)) (h.1 deep))
-  counted-IsLawful max_depth s (Err f) h = h
+  pub counted-IsLawfulReading : (max_depth : ℕ) (s : Spec R) (outcome : Outcome R E) → IsLawfulReading max_depth s outcome → IsLawfulReading max_depth (spec_by view s) (outcome_by view mark outcome)
+  counted-IsLawfulReading max_depth s (Ok r) h = (counted-AtDepth _ r.list h.0, λ deep. ap (map (item_by view mark)) (h.1 deep))
+  counted-IsLawfulReading max_depth s (Err f) h = h
 
   -- nor does the order by name
   counted-stands_before : (x y : Item R E) → stands_before (item_by view mark x) (item_by view mark y) ≡ stands_before x y

@@ -4,7 +4,7 @@ use Rattle.std.proofs.Math.Nat.{mul-le-mul_right}
 use Rattle.std.proofs.lemmas.Grind.{flat_map-append}
 use Rattle.std.specs.Prelude.{flat_map, option_map}
 use Rattle.walk_model.specs.Entry.{Entry, Item, has_directory, AtDepth}
-use Rattle.walk_model.specs.ReadDir.{Spec, Outcome, spec_of, spec_below, children_of, list_of, IsLawful, AreClones}
+use Rattle.walk_model.specs.ReadDir.{Spec, Outcome, spec_of, spec_below, children_of, list_of, IsLawfulReading, AreClones}
 use Rattle.walk_model.proofs.CloneFacts.{depths, same_depths}
 use Rattle.walk_model.specs.Listing.{Pair, nothing, unread, source_of, pair, paired, pairs_of, after_reading, levels_of, stands, below, listing}
 use Rattle.walk_model.specs.Held.{first_source, after_first, pair_up, is_plain, bound, source_weight, weight, sources, AreSourced}
@@ -70,7 +70,7 @@ module _ {R E : Type 0} where
   weight-paired max_depth depth state (Ok e ∷ l) a = omega (arith, weight-paired max_depth depth state l a.1, one_source max_depth depth state e a.0)
 
   -- the pairs of an outcome weigh less than the specification that it was read from
-  lighter_at : (max_depth n : ℕ) (s : Spec R) (outcome : Outcome R E) → IsLawful max_depth s outcome → length (list_of outcome) < 2 ^ 64 → max_depth - s.depth ≡ n → weight max_depth (pairs_of outcome) < bound n
+  lighter_at : (max_depth n : ℕ) (s : Spec R) (outcome : Outcome R E) → IsLawfulReading max_depth s outcome → length (list_of outcome) < 2 ^ 64 → max_depth - s.depth ≡ n → weight max_depth (pairs_of outcome) < bound n
   lighter_at max_depth n s (Err f) lawful few levels = bound_pos n
   lighter_at max_depth zero s (Ok r) lawful few levels =
       let none : r.list ≡ [] = lawful.1 (omega arith) in
@@ -80,7 +80,7 @@ module _ {R E : Type 0} where
       (let same : max_depth - (s.depth + 1) ≡ n = omega arith in rw same at (weight-paired max_depth (s.depth + 1) r.state r.list lawful.0))
 
   -- reading the directory of an entry makes what is held lighter
-  pub lighter : (max_depth : ℕ) (is_clone : R → R → Type 0) (e : Entry R E) (xs : List (Item R E)) (first : Spec R) (rest front : List (Spec R)) (outcome : Outcome R E) → has_directory {R = R} (Ok e) ≡ true → IsLawful max_depth first outcome → length (list_of outcome) < 2 ^ 64 → AreClones is_clone (children_of outcome) front → weight max_depth (pair_up (list_of outcome ++ xs) (front ++ rest)) < weight max_depth (pair_up (Ok e ∷ xs) (first ∷ rest))
+  pub lighter : (max_depth : ℕ) (is_clone : R → R → Type 0) (e : Entry R E) (xs : List (Item R E)) (first : Spec R) (rest front : List (Spec R)) (outcome : Outcome R E) → has_directory {R = R} (Ok e) ≡ true → IsLawfulReading max_depth first outcome → length (list_of outcome) < 2 ^ 64 → AreClones is_clone (children_of outcome) front → weight max_depth (pair_up (list_of outcome ++ xs) (front ++ rest)) < weight max_depth (pair_up (Ok e ∷ xs) (first ∷ rest))
   lighter max_depth is_clone e xs first rest front outcome dir lawful few clones =
       rw (dir, same_weight max_depth (list_of outcome ++ xs) (front ++ rest) (children_of outcome ++ rest) (same_depths is_clone (children_of outcome) front rest clones), pair_up-outcome outcome xs rest, weight-append max_depth (pairs_of outcome) (pair_up xs rest))
       (omega (arith, lighter_at max_depth (max_depth - first.depth) first outcome lawful few refl))
@@ -122,7 +122,7 @@ module _ {R E : Type 0} (reading : Spec R → Outcome R E) where
   list_below max_depth depth n state (Err f ∷ l) a levels = rw (below-nothing n, below-nothing 0) (ap (λ t. Err f ∷ t) (list_below max_depth depth n state l a levels))
   list_below max_depth depth n state (Ok e ∷ l) a levels = rw (one_below max_depth depth n state e a.0 levels, list_below max_depth depth n state l a.1 levels) refl
 
-  opened_at : (max_depth n : ℕ) (s : Spec R) (outcome : Outcome R E) → outcome ≡ reading s → IsLawful max_depth s outcome → max_depth - s.depth ≡ n → below reading n (unread s) ≡ listing reading max_depth (pairs_of outcome)
+  opened_at : (max_depth n : ℕ) (s : Spec R) (outcome : Outcome R E) → outcome ≡ reading s → IsLawfulReading max_depth s outcome → max_depth - s.depth ≡ n → below reading n (unread s) ≡ listing reading max_depth (pairs_of outcome)
   unfolding below
   opened_at max_depth zero s (Ok r) is lawful levels =
       let none : r.list ≡ [] = lawful.1 (omega arith) in
@@ -132,7 +132,7 @@ module _ {R E : Type 0} (reading : Spec R → Outcome R E) where
   opened_at max_depth (suc n) s (Err f) is lawful levels = rw (← is) refl
 
   -- what is listed of an entry and the rest, once its directory was read
-  pub listed : (max_depth : ℕ) (e : Entry R E) (xs : List (Item R E)) (first : Spec R) (rest : List (Spec R)) (outcome : Outcome R E) → has_directory {R = R} (Ok e) ≡ true → IsLawful max_depth first outcome → outcome ≡ reading first → listing reading max_depth (pair_up (Ok e ∷ xs) (first ∷ rest)) ≡ after_reading outcome (Ok e) ∷ listing reading max_depth (pair_up (list_of outcome ++ xs) (children_of outcome ++ rest))
+  pub listed : (max_depth : ℕ) (e : Entry R E) (xs : List (Item R E)) (first : Spec R) (rest : List (Spec R)) (outcome : Outcome R E) → has_directory {R = R} (Ok e) ≡ true → IsLawfulReading max_depth first outcome → outcome ≡ reading first → listing reading max_depth (pair_up (Ok e ∷ xs) (first ∷ rest)) ≡ after_reading outcome (Ok e) ∷ listing reading max_depth (pair_up (list_of outcome ++ xs) (children_of outcome ++ rest))
   listed max_depth e xs first rest outcome dir lawful is =
       rw (dir, pair_up-outcome outcome xs rest, listing-append max_depth (pairs_of outcome) (pair_up xs rest), ← is, opened_at max_depth (max_depth - first.depth) first outcome is lawful refl)
       refl

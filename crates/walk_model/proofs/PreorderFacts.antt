@@ -3,7 +3,7 @@ use Rattle.std.proofs.Common.{◌≡◌, ◌≢◌, ℕ, zero, suc, ◌+◌, ◌
 use Rattle.std.proofs.lemmas.Grind.{flat_map-append}
 use Rattle.std.specs.Prelude.{flat_map, option_map}
 use Rattle.walk_model.specs.Entry.{Entry, Item, AtDepth}
-use Rattle.walk_model.specs.ReadDir.{Spec, Outcome, spec_of, spec_below, children, children_of, list_of, IsLawful, AreClones}
+use Rattle.walk_model.specs.ReadDir.{Spec, Outcome, spec_of, spec_below, children, children_of, list_of, IsLawfulReading, AreClones}
 use Rattle.walk_model.specs.Held.{bound, spec_weight}
 use Rattle.walk_model.specs.Preorder.{readings, preorder}
 use Rattle.walk_model.proofs.CloneFacts.{depths, same_depths}
@@ -29,7 +29,7 @@ module _ {R E : Type 0} (reading : Spec R → Outcome R E) where
       ∙ ap (λ t. preorder reading max_depth mine ++ t) (list_readings max_depth depth n state l a.1 levels)
       ∙ sym (flat_map-append (λ spec. readings reading (max_depth - spec.depth) spec) mine others)
 
-  first_readings : (max_depth n : ℕ) (s : Spec R) (outcome : Outcome R E) → outcome ≡ reading s → IsLawful max_depth s outcome → max_depth - s.depth ≡ n → readings reading n s ≡ outcome ∷ preorder reading max_depth (children_of outcome)
+  first_readings : (max_depth n : ℕ) (s : Spec R) (outcome : Outcome R E) → outcome ≡ reading s → IsLawfulReading max_depth s outcome → max_depth - s.depth ≡ n → readings reading n s ≡ outcome ∷ preorder reading max_depth (children_of outcome)
   unfolding readings
   first_readings max_depth zero s (Ok r) is lawful levels =
       let none : r.list ≡ [] = lawful.1 (omega arith) in
@@ -39,7 +39,7 @@ module _ {R E : Type 0} (reading : Spec R → Outcome R E) where
   first_readings max_depth (suc n) s (Err f) is lawful levels = rw (← is) refl
 
   -- the first reading, and then the preorder of what is left
-  pub preorder-first : (max_depth : ℕ) (first : Spec R) (rest : List (Spec R)) (outcome : Outcome R E) → IsLawful max_depth first outcome → outcome ≡ reading first → preorder reading max_depth (first ∷ rest) ≡ outcome ∷ preorder reading max_depth (children_of outcome ++ rest)
+  pub preorder-first : (max_depth : ℕ) (first : Spec R) (rest : List (Spec R)) (outcome : Outcome R E) → IsLawfulReading max_depth first outcome → outcome ≡ reading first → preorder reading max_depth (first ∷ rest) ≡ outcome ∷ preorder reading max_depth (children_of outcome ++ rest)
   preorder-first max_depth first rest outcome lawful is =
       rw (flat_map-append (λ spec. readings reading (max_depth - spec.depth) spec) (children_of outcome) rest, first_readings max_depth (max_depth - first.depth) first outcome is lawful refl)
       refl
@@ -74,7 +74,7 @@ module _ {R E : Type 0} where
       let others : List (Spec R) = flat_map (λ item. option_to_list (spec_of state item)) l in
       omega (arith, spec_weight-append max_depth mine others, spec_weight-children max_depth depth state l a.1, one_spec max_depth depth state e a.0)
 
-  fewer_at : (max_depth n : ℕ) (s : Spec R) (outcome : Outcome R E) → IsLawful max_depth s outcome → length (list_of outcome) < 2 ^ 64 → max_depth - s.depth ≡ n → spec_weight max_depth (children_of outcome) < bound n
+  fewer_at : (max_depth n : ℕ) (s : Spec R) (outcome : Outcome R E) → IsLawfulReading max_depth s outcome → length (list_of outcome) < 2 ^ 64 → max_depth - s.depth ≡ n → spec_weight max_depth (children_of outcome) < bound n
   fewer_at max_depth n s (Err f) lawful few levels = bound_pos n
   fewer_at max_depth zero s (Ok r) lawful few levels =
       let none : r.list ≡ [] = lawful.1 (omega arith) in
@@ -84,7 +84,7 @@ module _ {R E : Type 0} where
       (let same : max_depth - (s.depth + 1) ≡ n = omega arith in rw same at (spec_weight-children max_depth (s.depth + 1) r.state r.list lawful.0))
 
   -- reading the first makes what is to be read weigh less
-  pub fewer_to_read : (max_depth : ℕ) (is_clone : R → R → Type 0) (first : Spec R) (rest front : List (Spec R)) (outcome : Outcome R E) → IsLawful max_depth first outcome → length (list_of outcome) < 2 ^ 64 → AreClones is_clone (children_of outcome) front → spec_weight max_depth (front ++ rest) < spec_weight max_depth (first ∷ rest)
+  pub fewer_to_read : (max_depth : ℕ) (is_clone : R → R → Type 0) (first : Spec R) (rest front : List (Spec R)) (outcome : Outcome R E) → IsLawfulReading max_depth first outcome → length (list_of outcome) < 2 ^ 64 → AreClones is_clone (children_of outcome) front → spec_weight max_depth (front ++ rest) < spec_weight max_depth (first ∷ rest)
   fewer_to_read max_depth is_clone first rest front outcome lawful few clones =
       rw (same_spec_weight max_depth (front ++ rest) (children_of outcome ++ rest) (same_depths is_clone (children_of outcome) front rest clones), spec_weight-append max_depth (children_of outcome) rest)
       (omega (arith, fewer_at max_depth (max_depth - first.depth) first outcome lawful few refl))

@@ -1,5 +1,5 @@
 -- The depths of a reading's entries.
-use Rattle.std.proofs.Common.{ℕ, ◌+◌, ◌<◌, Bool, true, false, cond, ◌&&◌, List, [], ◌∷◌, Option, Some, None, Result, Ok, Err, inl, inr, refl, arith}
+use Rattle.std.proofs.Common.{ℕ, ◌+◌, ◌<◌, Bool, true, false, cond, ◌&&◌, List, [], ◌∷◌, Some, Result, Ok, Err, inl, inr, refl, arith}
 use Rattle.std.proofs.lemmas.Bool.Decides.{leb_tells}
 use Rattle.std.specs.Result.{result_and}
 use Rattle.std.specs.declared.io.ErrorKind.{ErrorKind}
@@ -9,7 +9,7 @@ use Rattle.walk_model.specs.Paths.{join}
 use Rattle.walk_model.specs.FileSystem.{Named, Listed}
 use Rattle.walk_model.specs.Error.{Failure, io}
 use Rattle.walk_model.specs.Entry.{Entry, Item, AtDepth, is_hidden, path_of}
-use Rattle.walk_model.specs.ReadDir.{Spec, IsLawful}
+use Rattle.walk_model.specs.ReadDir.{Spec, IsLawfulReading}
 use Rattle.walk_model.specs.Job as value
 use Rattle.walk_model.specs.Job.{Job, either, KeepsDepthsOf, ReadingsAreLawful}
 use Rattle.walk_model.proofs.HeldFacts.{AtDepth-append}
@@ -58,11 +58,11 @@ module _ {R E : Type 0} (job : Job R E) where
 
   module _ (keeps : KeepsDepthsOf job.processed) where
     above : (spec : Spec R) → spec.depth < job.options.max_depth → (answer : Result (List Listed) ErrorKind)
-        → IsLawful job.options.max_depth spec (either (λ items. Ok (job.processed (Some spec.depth) spec.path spec.state (value.ordered job spec items))) (λ kind. Err (io spec.depth (Some spec.path) kind)) answer)
+        → IsLawfulReading job.options.max_depth spec (either (λ items. Ok (job.processed (Some spec.depth) spec.path spec.state (value.ordered job spec items))) (λ kind. Err (io spec.depth (Some spec.path) kind)) answer)
     above spec higher (Ok items) = (keeps (Some spec.depth) spec.path spec.state (value.ordered job spec items) (AtDepth-in_order (spec.depth + 1) job.options.sort (value.raw job spec items) (raw_at spec items)), λ deep. absurd (omega (arith, higher, deep)))
     above spec higher (Err kind) = (higher, λ is. cc)
 
-    reading_at : (spec : Spec R) → IsLawful job.options.max_depth spec (value.reading job spec)
+    reading_at : (spec : Spec R) → IsLawfulReading job.options.max_depth spec (value.reading job spec)
     reading_at spec =
         elim (leb_tells job.options.max_depth spec.depth) [
           | inl deep ↦ rw deep.0 (tt, λ at. refl)

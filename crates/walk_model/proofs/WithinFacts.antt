@@ -2,7 +2,7 @@
 use Rattle.std.proofs.Common.{◌≡◌, ℕ, ◌+◌, ◌≤◌, true, false, List, [], ◌∷◌, ◌++◌, Ok, Err, inl, inr, arith, sym, ◌∙◌}
 use Rattle.std.proofs.lemmas.Bool.Decides.{leb_tells}
 use Rattle.walk_model.specs.Entry.{Item, AtDepth, NoDeeper, IsBetween}
-use Rattle.walk_model.specs.ReadDir.{Spec, Outcome, list_of, IsLawful}
+use Rattle.walk_model.specs.ReadDir.{Spec, Outcome, list_of, IsLawfulReading}
 use Rattle.walk_model.specs.Listing.{after_reading, is_answered}
 
 module _ {R E : Type 0} where
@@ -25,7 +25,7 @@ module _ {R E : Type 0} where
         | inr higher ↦ at_depth (s.depth + 1) max_depth l (omega (arith, higher.1)) depth
       ]
 
-  pub of_reading : (max_depth : ℕ) (s : Spec R) (outcome : Outcome R E) → IsLawful max_depth s outcome → NoDeeper max_depth (list_of outcome)
+  pub of_reading : (max_depth : ℕ) (s : Spec R) (outcome : Outcome R E) → IsLawfulReading max_depth s outcome → NoDeeper max_depth (list_of outcome)
   of_reading max_depth s (Err f) lawful = tt
   of_reading max_depth s (Ok r) lawful = of_list max_depth s r.list lawful.0 lawful.1
 

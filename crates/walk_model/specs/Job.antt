@@ -9,7 +9,7 @@ use Rattle.walk_model.specs.FileSystem.{Named, Listed, Functions, metadata_at}
 use Rattle.walk_model.specs.Paths.{join, parent, file_name, same_path}
 use Rattle.walk_model.specs.Error.{Failure, io, looped}
 use Rattle.walk_model.specs.Entry.{Entry, Item, children_at, is_hidden, path_of}
-use Rattle.walk_model.specs.ReadDir.{Spec, Reading, Outcome, KeepsDepths, IsLawful}
+use Rattle.walk_model.specs.ReadDir.{Spec, Reading, Outcome, KeepsDepths, IsLawfulReading}
 use Rattle.walk_model.specs.Options.{Options}
 use Rattle.walk_model.specs.Sorting.{arranged}
 
@@ -166,4 +166,4 @@ module _ {R E : Type 0} (job : Job R E) where
 
 -- whatever the file system answers, readings by a callback that keeps depths are lawful
 abbrev pub ReadingsAreLawful : Type 0 → Type 0 → Type 0
-ReadingsAreLawful R E = (job : Job R E) → KeepsDepthsOf job.processed → (spec : Spec R) → IsLawful job.options.max_depth spec (reading job spec)
+ReadingsAreLawful R E = (job : Job R E) → KeepsDepthsOf job.processed → (spec : Spec R) → IsLawfulReading job.options.max_depth spec (reading job spec)

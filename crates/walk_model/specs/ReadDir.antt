@@ -52,9 +52,9 @@ module _ {R E : Type 0} where
   KeepsDepths depth old new = AtDepth (list_depth depth) old → AtDepth (list_depth depth) new
 
   -- What every reading keeps, whatever a file system answers: its entries are one below their directory, at the greatest depth there are none, and only above it a reading fails, never for want of memory.
-  abbrev pub IsLawful : ℕ → Spec R → Outcome R E → Type 0
-  IsLawful max_depth s (Ok r) = AtDepth (s.depth + 1) r.list × (max_depth ≤ s.depth → r.list ≡ [])
-  IsLawful max_depth s (Err f) = (s.depth < max_depth) × (f ≢ memory)
+  abbrev pub IsLawfulReading : ℕ → Spec R → Outcome R E → Type 0
+  IsLawfulReading max_depth s (Ok r) = AtDepth (s.depth + 1) r.list × (max_depth ≤ s.depth → r.list ≡ [])
+  IsLawfulReading max_depth s (Err f) = (s.depth < max_depth) × (f ≢ memory)
 
 -- the same directory, whose state is a clone of the other's
 abbrev pub IsClone : {R : Type 0} → (R → R → Type 0) → Spec R → Spec R → Type 0

@@ -111,11 +111,11 @@ listing_at tree place (Some (link target)) = Err kind.InvalidInput
 listing_at tree place None = Err kind.NotFound
 
 -- type and length: a directory has length 0, a link as many bytes as its target
-abbrev pub metadata_at : Option Node → Result Metadata ErrorKind
-metadata_at None = Err kind.NotFound
-metadata_at (Some (directory names denied)) = Ok (metadata type.Dir 0)
-metadata_at (Some (file len)) = Ok (metadata type.File len)
-metadata_at (Some (link target)) = Ok (metadata type.Symlink (length target))
+abbrev pub node_metadata : Option Node → Result Metadata ErrorKind
+node_metadata None = Err kind.NotFound
+node_metadata (Some (directory names denied)) = Ok (metadata type.Dir 0)
+node_metadata (Some (file len)) = Ok (metadata type.File len)
+node_metadata (Some (link target)) = Ok (metadata type.Symlink (length target))
 
 -- the target of a link
 abbrev pub target_at : Option Node → Result (List ℕ) ErrorKind
@@ -133,8 +133,8 @@ at_found f (Err k) = Err k
 abbrev pub functions_of : Tree → Functions
 functions_of tree = record {
   list_of = λ path. at_found (λ place. listing_at tree place (tree place)) (look_up tree true path);
-  meta_of = λ path. at_found (λ place. metadata_at (tree place)) (look_up tree true path);
-  link_meta_of = λ path. at_found (λ place. metadata_at (tree place)) (look_up tree false path);
+  meta_of = λ path. at_found (λ place. node_metadata (tree place)) (look_up tree true path);
+  link_meta_of = λ path. at_found (λ place. node_metadata (tree place)) (look_up tree false path);
   target_of = λ path. at_found (λ place. target_at (tree place)) (look_up tree false path);
 }
 

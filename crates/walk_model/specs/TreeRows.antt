@@ -1,4 +1,4 @@
--- A small tree, built, and what it answers.
+-- A small tree, built, and what it small_functions.
 use Rattle.std.specs.Prelude.{◌≡◌, ℕ, List, [], ◌∷◌, None, Result, Ok, Err, codes, refl}
 use Rattle.std.specs.declared.io.ErrorKind.TheVariants as kind
 use Rattle.walk_model.specs.declared.file_type.FileType.TheVariants as type
@@ -36,37 +36,37 @@ built tree (step ∷ steps) = built (or_same tree (step tree)) steps
 abbrev small : Tree
 small = built only_root (d (codes "/r") ∷ f 7 (codes "/r/f") ∷ l (codes "f") (codes "/r/l") ∷ l (codes "r") (codes "/q") ∷ [])
 
-abbrev answers : Functions
-answers = functions_of small
+abbrev small_functions : Functions
+small_functions = functions_of small
 
-metadata_through_links : answers.meta_of (codes "/q/l") ≡ Ok (metadata type.File 7)
+metadata_through_links : small_functions.meta_of (codes "/q/l") ≡ Ok (metadata type.File 7)
 metadata_through_links = refl
 
-symlink_metadata_of_a_link : answers.link_meta_of (codes "/q/l") ≡ Ok (metadata type.Symlink 1)
+symlink_metadata_of_a_link : small_functions.link_meta_of (codes "/q/l") ≡ Ok (metadata type.Symlink 1)
 symlink_metadata_of_a_link = refl
 
-read_link_of_a_file : answers.target_of (codes "/r/f") ≡ Err kind.InvalidInput
+read_link_of_a_file : small_functions.target_of (codes "/r/f") ≡ Err kind.InvalidInput
 read_link_of_a_file = refl
 
-read_dir_of_a_file : answers.list_of (codes "/r/f") ≡ Err kind.InvalidInput
+read_dir_of_a_file : small_functions.list_of (codes "/r/f") ≡ Err kind.InvalidInput
 read_dir_of_a_file = refl
 
-below_a_file : answers.meta_of (codes "/r/f/x") ≡ Err kind.Other
+below_a_file : small_functions.meta_of (codes "/r/f/x") ≡ Err kind.Other
 below_a_file = refl
 
-up_after_a_link : answers.meta_of (codes "/q/..") ≡ Ok (metadata type.Dir 0)
+up_after_a_link : small_functions.meta_of (codes "/q/..") ≡ Ok (metadata type.Dir 0)
 up_after_a_link = refl
 
-relative_path : answers.meta_of (codes "r") ≡ Ok (metadata type.Dir 0)
+relative_path : small_functions.meta_of (codes "r") ≡ Ok (metadata type.Dir 0)
 relative_path = refl
 
-empty_path : answers.meta_of [] ≡ Err kind.NotFound
+empty_path : small_functions.meta_of [] ≡ Err kind.NotFound
 empty_path = refl
 
-dot_of_a_file : answers.meta_of (codes "/r/f/.") ≡ Ok (metadata type.File 7)
+dot_of_a_file : small_functions.meta_of (codes "/r/f/.") ≡ Ok (metadata type.File 7)
 dot_of_a_file = refl
 
-dots_of_a_file : answers.meta_of (codes "/r/f/..") ≡ Err kind.Other
+dots_of_a_file : small_functions.meta_of (codes "/r/f/..") ≡ Err kind.Other
 dots_of_a_file = refl
 
 add_through_a_link : f 1 (codes "/q/f") small ≡ Err already_exists

@@ -1,14 +1,12 @@
 -- The lines of answers and whether they are entries, whatever their states count as.
-use Rattle.std.proofs.Common.{◌≡◌, ◌++◌, ◌∙◌, ℕ, true, List, [], ◌∷◌, map, Option, Some, None, Result, Ok, Err, is_ok, ap, refl, sym, subst}
+use Rattle.std.proofs.Common.{◌≡◌, ◌++◌, ◌∙◌, List, [], ◌∷◌, map, Some, None, Result, Ok, Err, is_ok, ap, refl}
 use Rattle.std.specs.List.{list_all}
-use Rattle.std.specs.Io.KnownBytes.{Appends}
 use Rattle.walk_model.specs.Entry.{Item}
 use Rattle.walk_model.specs.Lines.{line_of, lines_of}
 use Rattle.read_parts.specs.declared.dir_entry.DirEntry.{DirEntry}
 use Rattle.read_parts.specs.declared.error.Error.{Error}
 use Rattle.read_parts.specs.Entry.{item}
 use Rattle.read_parts.specs.Given.{Given, counted_item}
-use Rattle.walk_run.specs.AskedWalk.{PrintsEntries}
 
 module _ {R E : Type 0} (given : Given R E) where
   -- a line doesn't tell states
@@ -25,11 +23,3 @@ module _ {R E : Type 0} (given : Given R E) where
   all_entries [] = refl
   all_entries (Ok e ∷ xs) = all_entries xs
   all_entries (Err f ∷ xs) = refl
-
-  -- lines of answers that are all entries are lines of entries
-  pub prints_entries : {C A : Type 0} (old new : Option (List ℕ)) (xs : List (Result (DirEntry C A R E) (Error A))) → true ≡ list_all is_ok xs → Appends old new (lines_of (map item xs)) → PrintsEntries old new
-  prints_entries old new xs all prints = record {
-    items = map (counted_item given) (map item xs);
-    prints = subst (λ l. Appends old new l) (sym (same_lines (map item xs))) prints;
-    clean = all_entries xs ∙ sym all;
-  }

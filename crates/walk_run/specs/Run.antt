@@ -1,7 +1,14 @@
 -- How a call of the program ends.
-use Rattle.std.specs.Prelude.{◌≡◌, ◌≤◌, ℕ, List, Option, is_some, IfSome, IfNone, ◌⊎◌}
-use Rattle.walk_model.specs.Tree.{Tree, functions_of}
+use Rattle.std.specs.Prelude.{◌≡◌, ◌≤◌, ◌⊎◌, ℕ, List, Option, Some, None, is_some, IfSome, IfNone}
+use Rattle.walk_model.specs.Tree as tree
+use Rattle.walk_model.specs.Tree.{functions_of}
+use Rattle.std.specs.declared.clone.Clone as Clone
+use Rattle.std.specs.declared.default.Default as Default
 use Rattle.walk_fs.specs.declared.file_system.FileSystem as FileSystem
+use Rattle.memory_fs.specs.declared.memory_fs.MemoryFs.{MemoryFs}
+use Rattle.memory_fs.specs.MemoryFs.{tree_of}
+use Rattle.read_parts.specs.declared.process_read_dir.ProcessReadDir as ProcessReadDir
+use Rattle.jwalk.specs.declared.crew.Pool as Pool
 use Rattle.walk_text.specs.declared.asked.Asked.{Asked}
 use Rattle.walk_text.specs.declared.failure.Failure.{Failure}
 use Rattle.walk_text.specs.declared.failure.Failure.TheVariants.{BadWords, BadTree, Memory, Output}
@@ -9,21 +16,30 @@ use Rattle.walk_text.specs.Failure.{status_of}
 use Rattle.walk_text.specs.Words.{Ask, AreGood, AskForTree}
 use Rattle.walk_text.specs.TextLines.{text_lines}
 use Rattle.walk_text.specs.Built.{Builds, TellsOfInput}
-use Rattle.walk_run.specs.AskedWalk.{PrintsEntries, PrintsOver}
+use Rattle.walk_run.specs.AskedWalk.{PrintsBegun, PrintsOver}
+use Rattle.walk_run.specs.declared.source.Source.{Source}
+use Rattle.walk_run.specs.declared.source.Source.TheVariants.{Disk, Tree}
 
 -- The words ask for a walk; where that is to go over a tree, there is one, and the bytes to come build it.
 pub record BeginsWalk (words : List (List ℕ)) (to_come : Option (List ℕ)) : Type 0 where
   pub asked : Asked
   pub root : List ℕ
   pub ask : Ask words asked root
-  pub tree : Option Tree
+  pub tree : Option tree.Tree
   pub wanted : is_some tree ≡ asked.tree
   pub builds : IfSome tree (λ t. IfSome to_come (λ bytes. Builds (text_lines bytes) t))
 
--- The walk that begins so was printed, and no answer is an error. It was printed whole: over its tree or, where it has none, over the disk, if that always answers the same.
-pub record PrintsWalk {S : Type 0} (files : FileSystem.Ghosts S) (disk : S) (words : List (List ℕ)) (to_come old new : Option (List ℕ)) : Type 0 where
+-- what the walk goes over: the disk, or the tree
+abbrev pub IsSource : {S A : Type 0} → S → Option tree.Tree → Source S A → Type 0
+IsSource disk None source = source ≡ Disk disk
+IsSource {S} {A} disk (Some t) source = (tree : MemoryFs A) × (source ≡ Tree tree) × (tree_of tree ≡ t)
+
+-- The walk that begins so was printed to its end, and no answer is an error. Its answers are the whole walk: over its tree or, where it has none, over the disk, if that always answers the same.
+pub record PrintsWalk (T : Type 0) {C S P A L R E : Type 0} (files : FileSystem.Ghosts S) (sources : FileSystem.Ghosts (Source S A)) (process : ProcessReadDir.Ghosts P C A R E) (clone : Clone.Ghosts R) (defaults : Default.Ghosts E) (pool : Pool.Ghosts L C (Source S A) P A R E) (disk : S) (words : List (List ℕ)) (to_come old new : Option (List ℕ)) : Type 0 where
   pub walk : BeginsWalk words to_come
-  pub entries : PrintsEntries old new
+  pub source : Source S A
+  pub over : IsSource disk walk.tree source
+  pub begun : PrintsBegun T sources process clone defaults pool source walk.asked walk.root old new
   pub over_tree : IfSome walk.tree (λ t. PrintsOver (functions_of t) walk.asked walk.root old new)
   pub over_disk : IfNone walk.tree (files.IsFixed disk → PrintsOver (files.functions disk) walk.asked walk.root old new)
 
@@ -33,10 +49,6 @@ TellsOfCall words to_come BadWords = ¬ (AreGood words)
 TellsOfCall words to_come (BadTree number) = AskForTree words × TellsOfInput to_come (BadTree number)
 TellsOfCall words to_come Memory = Unit {0}
 TellsOfCall words to_come Output = ⊥
-
--- the words ask for no walk, or for one over a tree that the bytes to come don't build
-abbrev pub IsBadCall : List (List ℕ) → Option (List ℕ) → Type 0
-IsBadCall words to_come = ¬ (AreGood words) ⊎ ((number : ℕ) × TellsOfCall words to_come (BadTree number))
 
 -- a call ends with the status of what stands in the way of its walk, or with 0 or 1 once the walk has begun
 abbrev pub Ends : List (List ℕ) → Option (List ℕ) → ℕ → Type 0

@@ -3,14 +3,15 @@ ghost use Rattle.std.specs.Prelude.{◌≡◌, ◌≤◌, string_bytes, IfOk, If
 ghost use Rattle.jwalk.specs.Parallelism.{parallelism_value};
 ghost use Rattle.jwalk.specs.WalkDir.{file_system_of, root_of, options_of};
 ghost use Rattle.walk_text.specs.Asked.{parallelism_by, options_for};
-ghost use Rattle.walk_run.specs.AskedWalk.{PrintsEntries, PrintsOver};
+ghost use Rattle.walk_run.specs.AskedWalk.{PrintsBegun, PrintsOver};
 
 use crate::answers::status_once;
 use crate::walk_printed::print_walked;
+use jwalk::crew::Session;
 use jwalk::file_system::FileSystem;
-use jwalk::read_dir::NoProcess;
+use jwalk::read_dir::{NoProcess, ProcessReadDir};
 use jwalk::threads::OnThreads;
-use jwalk::{Crew, Parallelism, WalkDirGeneric};
+use jwalk::{Crew, Parallelism, Pool, WalkDirGeneric};
 use std::alloc::{AllocError, Allocator};
 use std::io::Write;
 use std::sync::{Arc, Wait};
@@ -41,8 +42,8 @@ fn parallelism_of<T: Wait + Clock + Clone + Drop, A: Allocator + Copy>(
     }
 }
 
-/// The walk that is asked for. Its options are set one after another: the order, hidden names, links, the least depth, the
-/// greatest, and last what directories are read by, which holds whatever the greatest depth is.
+/// The walk that is asked for. Its options are set one after another: the order, hidden names, links, the least depth,
+/// the greatest, and last what directories are read by, which holds whatever the greatest depth is.
 fn walk_of<'t, T: Wait + Threads + Clock + Clone + Drop, S: FileSystem, A: Allocator + Copy>(
     rt: &'t T,
     fs: S,
@@ -85,7 +86,10 @@ pub fn print_walk<
     ensures status { IfOk result (λ status. status ≤ 1) }
     ensures memory { IfErr result (λ failure. failure ≡ Failure.Memory) }
     ensures untouched { OnErr result (W.contents out.new ≡ W.contents out.old) }
-    ensures entries { IfOk result (λ status. status ≡ 0 → PrintsEntries (W.contents out.old) (W.contents out.new)) }
+    ensures walked { IfOk result (λ status. status ≡ 0 → PrintsBegun T S.FileSystem
+        ⟦<NoProcess as ProcessReadDir<((), ()), A>>⟧ ⟦<() as Clone>⟧ ⟦<() as Default>⟧
+        ⟦<Session<T, ((), ()), S, NoProcess, A> as Pool<((), ()), S, NoProcess, A>>⟧
+        fs request.now.asked request.now.root.now (W.contents out.old) (W.contents out.new)) }
     ensures printed { IfOk result (λ status. status ≡ 0 → S.IsFixed fs
         → PrintsOver (S.functions fs) request.now.asked request.now.root.now
         (W.contents out.old) (W.contents out.new)) }

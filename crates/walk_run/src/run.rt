@@ -1,11 +1,14 @@
 //! A call of the program.
 ghost use Rattle.std.specs.Prelude.{◌≡◌, ◌≤◌, Err, map, string_bytes, IfOk, IfErr, OnOk, OnErr};
 ghost use Rattle.walk_text.specs.Words.{AreGood, AskForTree};
-ghost use Rattle.walk_run.specs.Run.{BeginsWalk, PrintsWalk, TellsOfCall, IsBadCall, Ends};
+ghost use Rattle.walk_run.specs.Run.{BeginsWalk, PrintsWalk, TellsOfCall, Ends};
 
 use crate::asked_walk::print_walk;
 use crate::source::Source;
+use jwalk::Pool;
+use jwalk::crew::Session;
 use jwalk::file_system::FileSystem;
+use jwalk::read_dir::{NoProcess, ProcessReadDir};
 use std::alloc::Allocator;
 use std::io::{Read, Write};
 use std::sync::Wait;
@@ -38,8 +41,10 @@ fn try_run<
     ensures told { IfErr result (TellsOfCall (map string_bytes words.now) (R.remaining input.old)) }
     ensures untouched { OnErr result (W.contents out.new ≡ W.contents out.old) }
     ensures unread { ¬ (AskForTree (map string_bytes words.now)) → input.new ≡ input.old }
-    ensures printed { IfOk result (λ status. status ≡ 0 → PrintsWalk S.FileSystem disk (map string_bytes words.now)
-        (R.remaining input.old) (W.contents out.old) (W.contents out.new)) }
+    ensures printed { IfOk result (λ status. status ≡ 0 → PrintsWalk T S.FileSystem
+        ⟦<Source<S, A> as FileSystem>⟧ ⟦<NoProcess as ProcessReadDir<((), ()), A>>⟧ ⟦<() as Clone>⟧ ⟦<() as Default>⟧
+        ⟦<Session<T, ((), ()), Source<S, A>, NoProcess, A> as Pool<((), ()), Source<S, A>, NoProcess, A>>⟧
+        disk (map string_bytes words.now) (R.remaining input.old) (W.contents out.old) (W.contents out.new)) }
 {
     let Some(request) = parse_words(words) else {
         return Err(Failure::BadWords);
@@ -51,9 +56,10 @@ fn try_run<
     print_walk(rt, alloc, Source::<S, A>::Disk(disk), &request, out, err)
 }
 
-/// Walks as the words ask, prints one line for each answer, and answers the status: 0 where the walk ended and no answer
-/// was an error; 1 where one was, where memory was refused, or where the output can't be written; 2 for bad words or a bad
-/// tree, and then nothing is printed. What is wrong is told on `err`, unless the output can't be written.
+/// Walks as the words ask, prints one line for each answer, and answers the status: 0 where the walk ended and no
+/// answer was an error; 1 where one was, where memory was refused, or where the output can't be written; 2 for bad
+/// words or a bad tree, and then nothing is printed. What is wrong is told on `err`, unless the output can't be
+/// written.
 ///
 /// The walk goes over the tree that the input says, if the words ask for that, and over the disk otherwise; the input
 /// isn't read then. Where the words ask for batches or a crew, threads of `rt` read.
@@ -68,11 +74,12 @@ pub fn run<
     ensures status { result ≤ 2 }
     ensures ends { Ends (map string_bytes words.now) (R.remaining input.old) result }
     ensures bad_words { ¬ (AreGood (map string_bytes words.now)) → result ≡ 2 }
-    ensures only_bad { result ≡ 2 → IsBadCall (map string_bytes words.now) (R.remaining input.old) }
     ensures untouched { result ≡ 2 → W.contents out.new ≡ W.contents out.old }
     ensures unread { ¬ (AskForTree (map string_bytes words.now)) → input.new ≡ input.old }
-    ensures printed { result ≡ 0 → PrintsWalk S.FileSystem disk (map string_bytes words.now)
-        (R.remaining input.old) (W.contents out.old) (W.contents out.new) }
+    ensures printed { result ≡ 0 → PrintsWalk T S.FileSystem
+        ⟦<Source<S, A> as FileSystem>⟧ ⟦<NoProcess as ProcessReadDir<((), ()), A>>⟧ ⟦<() as Clone>⟧ ⟦<() as Default>⟧
+        ⟦<Session<T, ((), ()), Source<S, A>, NoProcess, A> as Pool<((), ()), Source<S, A>, NoProcess, A>>⟧
+        disk (map string_bytes words.now) (R.remaining input.old) (W.contents out.old) (W.contents out.new) }
 {
     match try_run(rt, alloc, disk, words, input, out, err) {
         Ok(status) => status,

@@ -15,8 +15,8 @@ use std::io::Write;
 use std::thread::Threads;
 use walk_text::failure::Failure;
 
-/// Prints a line for each answer of a walk, and tells whether none was an error. It asks by the walk's own `next`, which has
-/// threads read a batch; that of an iterator, which a `for` calls, can start none.
+/// Prints a line for each answer of a walk, and tells whether none was an error. It asks by the walk's own `next`,
+/// which has threads read a batch; that of an iterator, which a `for` calls, can start none.
 pub fn print_walked<
     T: Threads + Sync + Drop,
     W: Write,

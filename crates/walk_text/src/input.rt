@@ -23,8 +23,8 @@ fn read_whole<A: Allocator + Copy, R: Read>(alloc: A, input: &mut R) -> Result<V
     }
 }
 
-/// Reads the input whole, and then builds the tree that its lines say. The first bad line is named; its number is 0 where
-/// the input can't be read.
+/// Reads the input whole, and then builds the tree that its lines say. The first bad line is named; its number is 0
+/// where the input can't be read.
 pub fn read_tree<A: Allocator + Copy, R: Read>(
     alloc: A,
     input: &mut R,

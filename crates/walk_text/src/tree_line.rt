@@ -50,8 +50,8 @@ fn parse_link(text: &str) -> Option<TreeLine<'_>>
     Some(TreeLine::Link(target, path_in(path)?))
 }
 
-/// Reads a line: `d PATH`, `f LEN PATH`, `l TARGET<tab>PATH` or `x PATH`, with one space behind the letter and behind the
-/// length, and a path that is the whole rest and isn't empty. None for any other text.
+/// Reads a line: `d PATH`, `f LEN PATH`, `l TARGET<tab>PATH` or `x PATH`, with one space behind the letter and behind
+/// the length, and as the path all that is left, at least one byte. None for any other text.
 pub fn parse_tree_line(text: &str) -> Option<TreeLine<'_>>
     ensures some { IfSome result (Says text.now) }
     ensures none { IfNone result (¬ (IsTreeLine text.now)) }

@@ -197,8 +197,8 @@ where
         (begun(reads, read, why_not), why_not)
     }
 
-    /// The walk that begins with the root's list, whose directories a crew reads; and why it doesn't begin, if so. Where
-    /// no place of the crew is free in time, the error that tells of it stands in the place of each entry with a
+    /// The walk that begins with the root's list, whose directories a crew reads; and why it doesn't begin, if so.
+    /// Where no place of the crew is free in time, the error that tells of it stands in the place of each entry with a
     /// directory. Where memory is refused, what the walk answers is the error that tells of it, and nothing else.
     pub(super) fn from_root_by(
         alloc: A,

@@ -127,9 +127,9 @@ where
         }
     }
 
-    /// The walk begun, as by `try_into_iter`. Where the crew is busy, the walk's answers are those of the root's list: the
-    /// error that tells of it in the place of each entry whose directory would be read. Where memory is refused, its
-    /// only answer is the error that tells of it.
+    /// The walk begun, as by `try_into_iter`. Where the crew is busy, the walk's answers are those of the root's list:
+    /// the error that tells of it in the place of each entry whose directory would be read. Where memory is refused,
+    /// its only answer is the error that tells of it.
     pub fn into_iter(self) -> DirEntryIter<C, S, P, A, T, Session<R, C, S, P, A>>
         requires { P.IsLawful (callback_of self) }
         ensures starts { Starts self result }

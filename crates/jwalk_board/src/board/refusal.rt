@@ -42,8 +42,12 @@ pub enum HandOutRefusal {
 /// A refusal to finish, with what was to be finished.
 #[derive(Debug, Drop)]
 pub struct FinishFault<T, R, A: Allocator + Copy = Global> {
+    /// Why it was refused.
     pub cause: FinishRefusal,
+    /// The address that was to be finished.
     pub address: IndexPath<A>,
+    /// The reading that was to be put there.
     pub reading: R,
+    /// The children that were to be queued, in order.
     pub children: Vec<T, A>,
 }

@@ -26,13 +26,13 @@ pub struct Rehearsal<T, R, A: Allocator + Copy = Global> {
 }
 
 /// Plays the moves of so many workers, one after another, on a new board with these roots. What is taken is read by the
-/// plan. Worker numbers are below `workers`. A take by a worker who holds something, a finish by one who holds nothing,
-/// and a number out of range are skipped, and a step that the board refuses otherwise than for memory changes nothing.
+/// plan. Workers are counted from 0. A move is passed over if its worker doesn't exist, would take with full hands, or
+/// would finish with empty ones, and a step that the board refuses otherwise than for memory changes nothing.
 ///
 /// # Errors
 ///
-/// If memory runs out, and for nothing else, whatever the plan answers: what a worker holds is in hand, and nothing stops
-/// the board.
+/// If memory runs out, and for nothing else, whatever the plan answers: what a worker holds is in hand, and nothing
+/// stops the board.
 pub fn rehearse<P: Plan<A>, A: Allocator + Copy>(
     alloc: A,
     plan: &P,

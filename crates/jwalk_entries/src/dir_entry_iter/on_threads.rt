@@ -104,7 +104,8 @@ where
     /// The next answer, as `Iterator::next` gives it, where threads read the directories that are read together.
     ///
     /// `while let Some(answer) = walk.next()` is the loop that uses several threads. A `for` loop, and an iterator's
-    /// adapters, call `Iterator::next`: the answers and their order are the same there.
+    /// adapters, call `Iterator::next`: the answers and their order are the same there. Over a crew both may wait: for
+    /// a reading, or for a lock.
     pub fn next(&mut self) -> Option<Result<DirEntry<C, A>, Error<A>>>
         requires { P.IsLawful (callback (job_of self.old)) }
         ensures { Answers S.FileSystem P.ProcessReadDir C.ReadDirState.Clone C.DirEntryState.Default L.Pool
@@ -123,11 +124,15 @@ where
         }
     }
 
-    /// Appends answers to `out` until they are `n` or the walk ends, and answers how many. Threads read the directories
-    /// that are read together.
+    /// Puts up to `n` answers behind those in `out`, fewer where the walk ends before that, and tells how many. Threads
+    /// read the directories that are read together.
     ///
-    /// Room is made before each answer is asked for: where that is refused, `out` holds all that was answered, and
-    /// the walk goes on from there. Want of memory within the walk is an answer like any other.
+    /// The walk is asked only once `out` has a free place. Over a crew it may wait: for a reading, or for a lock.
+    ///
+    /// # Errors
+    ///
+    /// If there is no memory for the place. No answer is lost then: `out` has those that were given, and another call
+    /// gives the next ones. Memory that is refused to the walk itself is told by an answer.
     pub fn fill(
         &mut self,
         n: usize,

@@ -113,7 +113,8 @@ fn leads_on<S: FileSystem, A: Allocator + Copy>(
 ) -> Result<Result<(), Error<A>>, AllocError>
     ensures { S.IsFixed fs.now → IfOk result (λ r. MatchResult r
         (λ _. value.leads_on (S.functions fs.now) depth (texts ancestors.now) (text path.now) file_type ≡ Ok tt)
-        (λ e. value.leads_on (S.functions fs.now) depth (texts ancestors.now) (text path.now) file_type ≡ Err (failure e))) }
+        (λ e. value.leads_on (S.functions fs.now) depth (texts ancestors.now) (text path.now) file_type
+        ≡ Err (failure e))) }
 {
     if !file_type.is_dir() {
         return Ok(Ok(()));

@@ -138,8 +138,8 @@ impl<C: ClientState, S: FileSystem, P: ProcessReadDir<C, A>, A: Allocator + Copy
 
     /// The list that a walk begins with: the root's entry, or the error met when it was asked for, after the callback,
     /// which is given no depth, the root's parent path and this state. Where links are followed, a root that is a link
-    /// gives way to what it leads to; else it stays a link, and a directory behind it is read below it. A root that is a
-    /// broken link is an error with its path.
+    /// gives way to what it leads to; else it stays a link, and a directory behind it is read below it. A root that is
+    /// a broken link is an error with its path.
     ///
     /// Fails only for want of memory: of the walk's own, of the file system's or of the callback's.
     pub fn root_list(&self, path: &str, state: C::ReadDirState) -> Result<ReadDir<C, A>, AllocError>

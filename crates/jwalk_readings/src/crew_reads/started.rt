@@ -1,5 +1,5 @@
 //! The start of readings that a crew makes ahead.
-ghost use Rattle.std.specs.Prelude.{◌≡◌, map, OnErr, OnOk};
+ghost use Rattle.std.specs.Prelude.{◌≡◌, map, IfOk, OnErr, OnOk};
 ghost use Rattle.read_parts.specs.Error.{failure};
 ghost use Rattle.read_parts.specs.ReadDirSpec.{spec};
 ghost use Rattle.jwalk_read.specs.Job.{callback};
@@ -12,6 +12,7 @@ use jwalk_crew::crew::{Crew, NotStarted, Place};
 use jwalk_crew::origin::Origin;
 use jwalk_crew::session::Session;
 use jwalk_order::ordered_queue::OrderedMatcher;
+use jwalk_read::job::Job;
 use read_parts::client_state::ClientState;
 use read_parts::error::Error;
 use read_parts::process_read_dir::ProcessReadDir;
@@ -43,8 +44,8 @@ where
     C::ReadDirState: Send + 'static,
     C::DirEntryState: Send + 'static,
 {
-    /// Has a crew read these directories, and those below them. They are given twice: once for the walk, and once for the
-    /// workers. It waits for a place of the crew, no longer than the limit.
+    /// Has a crew read these directories, and those below them. They are given twice: once for the walk, and once for
+    /// the workers. It waits for a place of the crew, no longer than the limit.
     ///
     /// # Errors
     ///
@@ -74,5 +75,26 @@ where
         self.unread = own;
         self.matcher = matcher;
         Ok(())
+    }
+
+    /// Readings of these directories, and of those below them, that a crew makes.
+    pub(crate) fn by_workers(
+        crew: &Arc<Crew<R>, A>,
+        busy_timeout: Option<Duration>,
+        job: Job<C, S, P, A>,
+        roots: Vec<ReadDirSpec<C, A>, A>,
+    ) -> Result<Self, NotStarted>
+        requires { P.IsLawful (callback job) }
+        ensures job { IfOk result (λ reads. job_of reads ≡ job) }
+        ensures to_read { IfOk result (λ reads. to_read reads ≡ map spec roots.items) }
+        ensures begins { IfOk result (BeginsBy (λ session origin addresses.
+            (origin_of session ≡ origin) × (awaited_by session ≡ addresses))) }
+    {
+        let shared = roots.clone()?;
+        let Ok(mut reads) = CrewReads::new(*roots.allocator(), job) else {
+            return Err(NotStarted::Memory);
+        };
+        reads.start(crew, busy_timeout, roots, shared)?;
+        Ok(reads)
     }
 }

@@ -65,7 +65,7 @@ where
     }
 
     /// The next reading; or the error that tells why it won't come, and nothing is left to be read. Threads make the
-    /// readings that are made together.
+    /// readings that are made together. Over a crew it may wait: for a reading, or for a lock.
     pub fn next(&mut self) -> Option<Outcome<C, A>>
         requires { P.IsLawful (callback (job_of self.old)) }
         ensures { Gives S.FileSystem P.ProcessReadDir C.ReadDirState.Clone C.DirEntryState.Default L.Pool false
@@ -78,8 +78,11 @@ where
     }
 
     /// The reading of an entry's directory: the next one, where the entries are those of the readings so far in the
-    /// walk's order. Over a crew it is that of the entry's directory, or the error whose `is_lost` is true. Threads make
-    /// the readings that are made together.
+    /// walk's order. The entry must have `read_children`. `None` says that nothing is left to be read. Threads make the
+    /// readings that are made together.
+    ///
+    /// Over a crew it is that of the entry's directory, or the error whose `is_lost` is true: nothing is left to be
+    /// read after that. The call may wait there: for a reading, or for a lock.
     pub fn next_of(&mut self, found: &DirEntry<C, A>) -> Option<Outcome<C, A>>
         requires lawful { P.IsLawful (callback (job_of self.old)) }
         requires has_directory { IsSome found.now.read_children }

@@ -10,7 +10,7 @@ use crate::crew_reads::CrewReads;
 use crate::crew_reads::started::error_of;
 use crate::parallelism::Parallelism;
 use crate::read_dir_iter::ReadDirIter;
-use jwalk_crew::crew::{Crew, NotStarted};
+use jwalk_crew::crew::Crew;
 use jwalk_crew::pool::Pool;
 use jwalk_crew::session::Session;
 use jwalk_read::job::Job;
@@ -19,46 +19,10 @@ use read_parts::error::Error;
 use read_parts::process_read_dir::ProcessReadDir;
 use read_parts::read_dir_spec::ReadDirSpec;
 use std::alloc::Allocator;
-use std::sync::{Arc, Wait};
+use std::sync::Wait;
 use std::thread::Threads;
-use std::time::{Clock, Duration};
+use std::time::Clock;
 use walk_fs::file_system::FileSystem;
-
-impl<
-    R: Wait + Threads + Clock + Drop + Send + Sync + 'static,
-    C: ClientState + Send + 'static,
-    S: FileSystem + Send + Sync + 'static,
-    P: ProcessReadDir<C, A> + Send + Sync + 'static,
-    A: Allocator + Copy + Send + Sync + 'static,
-> CrewReads<C, S, P, A, Session<R, C, S, P, A>>
-where
-    C::ReadDirState: Send + 'static,
-    C::DirEntryState: Send + 'static,
-{
-    ghost use Rattle.jwalk_crew.specs.Session.{origin_of, awaited_by};
-    ghost use Rattle.jwalk_readings.specs.CrewReads.{job_of, to_read, BeginsBy};
-
-    /// Readings of these directories, and of those below them, that a crew makes.
-    fn by_workers(
-        crew: &Arc<Crew<R>, A>,
-        busy_timeout: Option<Duration>,
-        job: Job<C, S, P, A>,
-        roots: Vec<ReadDirSpec<C, A>, A>,
-    ) -> Result<Self, NotStarted>
-        requires { P.IsLawful (callback job) }
-        ensures job { IfOk result (λ reads. job_of reads ≡ job) }
-        ensures to_read { IfOk result (λ reads. to_read reads ≡ map spec roots.items) }
-        ensures begins { IfOk result (BeginsBy (λ session origin addresses.
-            (origin_of session ≡ origin) × (awaited_by session ≡ addresses))) }
-    {
-        let shared = roots.clone()?;
-        let Ok(mut reads) = CrewReads::new(*roots.allocator(), job) else {
-            return Err(NotStarted::Memory);
-        };
-        reads.start(crew, busy_timeout, roots, shared)?;
-        Ok(reads)
-    }
-}
 
 impl<
     R: Wait + Threads + Clock + Drop + Send + Sync + 'static,

@@ -3,8 +3,8 @@ use Rattle.jwalk.proofs.WholeFacts.{filled_whole, steady_begun}
 use Rattle.proved_walk.proofs.by_crew.walk_by_crew.Goals as goal
 
 -- a vector holds fewer than `usize::MAX`, so all that was to come is filled in
-pub returns : goal.returns
-returns g c = λ given steady none.
+pub returns-clause-answers : goal.returns-clause-answers
+returns-clause-answers g c = λ given steady none.
     let found = c.fill.new.out in
     let begun = c.in_ok-answers.ensures in
     let walk = c.in_ok-answers.answers in

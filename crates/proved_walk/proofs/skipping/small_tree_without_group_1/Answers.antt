@@ -7,8 +7,8 @@ use Rattle.jwalk.specs.WalkDir.{file_system_of, callback_of, options_of, root_of
 use Rattle.proved_walk.proofs.SmallTreeFacts.{group_1_skipped}
 use Rattle.proved_walk.proofs.skipping.small_tree_without_group_1.Goals as goal
 
-pub returns : goal.returns
-returns c = λ none.
+pub returns-clause-answers : goal.returns-clause-answers
+returns-clause-answers c = λ none.
     let walk = c.process_read_dir-walk.result in
     let built = c.process_read_dir-walk.ensures in
     let fs = c.in_ok-small_tree.field-0 in

@@ -8,14 +8,21 @@ use Rattle.jwalk.specs.WalkDir.{file_system_of, callback_of, stateless}
 use Rattle.jwalk.proofs.CleanFacts.{clean_whole}
 use Rattle.jwalk.proofs.WholeFacts.{steady_begun, stateless_of}
 use Rattle.walk_text.specs.Asked.{options_for}
-use Rattle.walk_run.proofs.AskedWalkFacts.{all_entries, same_lines, prints_entries}
+use Rattle.walk_run.proofs.AskedWalkFacts.{all_entries, same_lines}
 use Rattle.walk_run.proofs.asked_walk.print_walk.Goals as goal
 
-pub returns-clause-entries : goal.returns-clause-entries
-returns-clause-entries g c = λ clean.
-    let none_failed = c.status_once.ensures.clean clean in
-    let all = rw none_failed at c.print_walked.ensures.printed in
-    prints_entries stateless (g.W.Write.contents c.args.out.now) (g.W.Write.contents c.print_walked.new.out) all.0 all.2 all.3
+pub returns-clause-walked : goal.returns-clause-walked
+returns-clause-walked g c = λ clean.
+    let built = c.in_ok-walk.ensures in
+    record {
+      walk = c.in_ok-walk.walk;
+      file_system = built.file_system;
+      root_of_it = built.root ∙ c.in_ok-root.ensures.ok;
+      options = built.options;
+      it = c.into_iter-answers.result;
+      starts = c.into_iter-answers.ensures.starts;
+      prints = rw (c.status_once.ensures.clean clean) at c.print_walked.ensures.printed;
+    }
 
 pub returns-clause-printed : goal.returns-clause-printed
 returns-clause-printed g c = λ clean fixed.

@@ -1,7 +1,6 @@
-use Rattle.std.proofs.Common.{map, string_bytes, sym, ◌∙◌}
-use Rattle.walk_run.proofs.RunFacts.{bad_call}
+use Rattle.std.proofs.Common.{sym, ◌∙◌}
+use Rattle.walk_run.proofs.RunFacts.{never_zero}
 use Rattle.walk_run.proofs.run.run.Goals as goal
 
-pub returns-in-Err-clause-only_bad : goal.returns-in-Err-clause-only_bad
-returns-in-Err-clause-only_bad g c = λ two.
-    bad_call (map string_bytes c.args.words.now) (g.R.Read.remaining c.args.input.now) c.in-Err.failure c.in-Err.ensures.told (sym c.report.ensures ∙ two)
+pub returns-in-Err-clause-printed : goal.returns-in-Err-clause-printed
+returns-in-Err-clause-printed g c = λ zero. absurd (never_zero c.in-Err.failure (sym c.report.ensures ∙ zero))

@@ -1,7 +1,8 @@
-use Rattle.std.proofs.Common.{◌≤◌, Some, None, sym, map, string_bytes}
+use Rattle.std.proofs.Common.{◌≤◌, Some, None, refl, sym, map, string_bytes}
 use Rattle.std.proofs.lemmas.Result.{IfOk-weaker}
 use Rattle.memory_fs.specs.MemoryFs.{tree_of}
 use Rattle.walk_run.specs.Run.{BeginsWalk}
+use Rattle.walk_run.specs.declared.source.Source.TheVariants.{Disk, Tree}
 use Rattle.walk_run.proofs.RunFacts.{ok_both}
 use Rattle.walk_run.proofs.run.try_run.Goals as goal
 
@@ -26,9 +27,11 @@ returns-then-request-clause-unread g c = λ unasked.
 pub returns-then-request-clause-printed : goal.returns-then-request-clause-printed
 returns-then-request-clause-printed g c =
     let request = c.in-Some.request in
-    ok_both c.print_walk.result _ _ _ c.print_walk.ensures.entries c.print_walk.ensures.printed (λ status entries prints clean. record {
+    ok_both c.print_walk.result _ _ _ c.print_walk.ensures.walked c.print_walk.ensures.printed (λ status walked prints clean. record {
       walk = record { asked = request.asked; root = request.root.now; ask = c.in-Some.ensures.some; tree = Some (tree_of c.in_ok-tree.tree); wanted = sym c.if-request.true; builds = c.in_ok-tree.ensures.built };
-      entries = entries clean;
+      source = Tree c.in_ok-tree.tree;
+      over = (c.in_ok-tree.tree, refl, refl);
+      begun = walked clean;
       over_tree = prints clean tt;
       over_disk = tt;
     })
@@ -36,9 +39,11 @@ returns-then-request-clause-printed g c =
 pub returns-clause-printed : goal.returns-clause-printed
 returns-clause-printed g c =
     let request = c.in-Some.request in
-    ok_both c.print_walk-2.result _ _ _ c.print_walk-2.ensures.entries c.print_walk-2.ensures.printed (λ status entries prints clean. record {
+    ok_both c.print_walk-2.result _ _ _ c.print_walk-2.ensures.walked c.print_walk-2.ensures.printed (λ status walked prints clean. record {
       walk = record { asked = request.asked; root = request.root.now; ask = c.in-Some.ensures.some; tree = None; wanted = sym c.if-request.false; builds = tt };
-      entries = entries clean;
+      source = Disk c.args.disk;
+      over = refl;
+      begun = walked clean;
       over_tree = tt;
       over_disk = prints clean;
     })

@@ -23,7 +23,7 @@ returns-clause-starts g c =
       sourced = c.from_root.ensures.sourced;
       start = by_flag c.from_root.result.refused c.from_root.ensures.refused c.from_root.ensures.depth;
       width = c.from_root.ensures.width ∙ ap (λ o. width_of o.parallelism) jobs.options;
-      early = c.from_root.ensures.early;
+      ahead = λ alone. c.from_root.ensures.ahead;
     }
 
 pub returns-clause-holds : goal.returns-clause-holds

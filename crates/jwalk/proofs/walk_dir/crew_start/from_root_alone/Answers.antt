@@ -9,16 +9,16 @@ pub returns-then-is_refused-clause-from_root : goal.returns-then-is_refused-clau
 returns-then-is_refused-clause-from_root g c =
     let is = c.from_root-walk.ensures in
     let refusal = is.refused (sym c.if-is_refused.ensures) in
-    alone_from_root g.C.ReadDirState.Clone (option_map reading c.args.read) c.args.job c.from_root-walk.result (Some Memory) is.own (λ no. cc) is.job is.within is.sourced (inl refusal) is.width is.early refusal
+    alone_from_root g.C.ReadDirState.Clone (option_map reading c.args.read) c.args.job c.from_root-walk.result (Some Memory) is.own (λ no. cc) is.job is.within is.sourced (inl refusal) is.width is.ahead refusal
 
 pub returns-clause-from_root : goal.returns-clause-from_root
 returns-clause-from_root g c =
     let is = c.from_root-walk.ensures in
     let started = sym c.if-is_refused.ensures in
-    alone_from_root g.C.ReadDirState.Clone (option_map reading c.args.read) c.args.job c.from_root-walk.result None is.own (λ no. cc) is.job is.within is.sourced (inr (is.depth started)) is.width is.early (λ given counts. held_of given c.args.read c.from_root-walk.result (is.held given counts started))
+    alone_from_root g.C.ReadDirState.Clone (option_map reading c.args.read) c.args.job c.from_root-walk.result None is.own (λ no. cc) is.job is.within is.sourced (inr (is.depth started)) is.width is.ahead (λ given counts. held_of given c.args.read c.from_root-walk.result (is.held given counts started))
 
 pub returns-then-is_refused-clause-steady : goal.returns-then-is_refused-clause-steady
-returns-then-is_refused-clause-steady g c = λ given steady. alone_steady g.S.FileSystem g.P.ProcessReadDir g.C.ReadDirState.Clone g.C.DirEntryState.Default g.L.Pool c.from_root-walk.result given c.from_root-walk.ensures.own steady c.from_root-walk.ensures.early
+returns-then-is_refused-clause-steady g c = λ given steady. alone_steady g.S.FileSystem g.P.ProcessReadDir g.C.ReadDirState.Clone g.C.DirEntryState.Default g.L.Pool c.from_root-walk.result given c.from_root-walk.ensures.own steady c.from_root-walk.ensures.ahead.done
 
 pub returns-clause-steady : goal.returns-clause-steady
-returns-clause-steady g c = λ given steady. alone_steady g.S.FileSystem g.P.ProcessReadDir g.C.ReadDirState.Clone g.C.DirEntryState.Default g.L.Pool c.from_root-walk.result given c.from_root-walk.ensures.own steady c.from_root-walk.ensures.early
+returns-clause-steady g c = λ given steady. alone_steady g.S.FileSystem g.P.ProcessReadDir g.C.ReadDirState.Clone g.C.DirEntryState.Default g.L.Pool c.from_root-walk.result given c.from_root-walk.ensures.own steady c.from_root-walk.ensures.ahead.done

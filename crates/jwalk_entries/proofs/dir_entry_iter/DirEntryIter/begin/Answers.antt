@@ -1,4 +1,5 @@
-use Rattle.std.proofs.Common.{◌∙◌, refl, ap}
+use Rattle.std.proofs.Common.{◌∙◌, refl, sym, ap, subst}
+use Rattle.jwalk_engine.specs.ReadAhead.{BeginsWith}
 use Rattle.jwalk_readings.specs.ReadDirIter as readings
 use Rattle.jwalk_readings.proofs.ResultFacts.{none_on_ok}
 use Rattle.jwalk_entries.proofs.dir_entry_iter.DirEntryIter.begin.Goals as goal
@@ -11,7 +12,7 @@ returns-in_err-read_children_specs g c = record {
   items = none_on_ok _ c.from_residual.result c.from_residual.ensures.0;
   children = none_on_ok _ c.from_residual.result c.from_residual.ensures.0;
   width = refl;
-  early = none_on_ok _ c.from_residual.result c.from_residual.ensures.0;
+  ahead = none_on_ok _ c.from_residual.result c.from_residual.ensures.0;
 }
 
 pub returns-in_err-begin : goal.returns-in_err-begin
@@ -22,7 +23,7 @@ returns-in_err-begin g c = record {
   items = none_on_ok _ c.from_residual-in_err-begin.result c.from_residual-in_err-begin.ensures.0;
   children = none_on_ok _ c.from_residual-in_err-begin.result c.from_residual-in_err-begin.ensures.0;
   width = c.begin.ensures.width;
-  early = none_on_ok _ c.from_residual-in_err-begin.result c.from_residual-in_err-begin.ensures.0;
+  ahead = none_on_ok _ c.from_residual-in_err-begin.result c.from_residual-in_err-begin.ensures.0;
 }
 
 pub returns-in_err-receive : goal.returns-in_err-receive
@@ -35,7 +36,7 @@ returns-in_err-receive g c =
       items = none_on_ok _ c.from_residual-in_err-receive.result c.from_residual-in_err-receive.ensures.0;
       children = none_on_ok _ c.from_residual-in_err-receive.result c.from_residual-in_err-receive.ensures.0;
       width = ap readings.width_of received.reads ∙ c.begin.ensures.width;
-      early = none_on_ok _ c.from_residual-in_err-receive.result c.from_residual-in_err-receive.ensures.0;
+      ahead = none_on_ok _ c.from_residual-in_err-receive.result c.from_residual-in_err-receive.ensures.0;
     }
 
 pub returns-clause-own : goal.returns-clause-own
@@ -52,3 +53,9 @@ returns-clause-items g c = c.in_ok-receive.ensures.items
 
 pub returns-clause-width : goal.returns-clause-width
 returns-clause-width g c = ap readings.width_of c.in_ok-receive.ensures.reads ∙ c.begin.ensures.width
+
+pub returns-clause-ahead : goal.returns-clause-ahead
+returns-clause-ahead g c =
+    let begun = c.in_ok-begin.ensures in
+    subst (λ reads. BeginsWith (readings.to_read reads) (readings.read_ahead reads)) (sym c.in_ok-receive.ensures.reads)
+    (subst (λ specs. BeginsWith specs (readings.read_ahead c.begin.new.self)) (sym begun.to_read) begun.read_ahead)

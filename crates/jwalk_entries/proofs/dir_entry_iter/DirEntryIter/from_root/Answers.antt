@@ -2,6 +2,7 @@ use Rattle.std.proofs.Common.{◌≡◌, ◌∙◌, true, false, refl, sym, ap}
 use Rattle.jwalk_read.specs.ReadDir.{reading}
 use Rattle.jwalk_read.specs.Job.{greatest_depth}
 use Rattle.jwalk_entries.specs.DirEntryIter.{job_of, items_of}
+use Rattle.jwalk_entries.proofs.AheadFacts.{begins_with_none}
 use Rattle.jwalk_entries.proofs.AnswerFacts.{holds_root, at_root, within_root, root_sourced}
 use Rattle.jwalk_entries.proofs.dir_entry_iter.DirEntryIter.from_root.Goals as goal
 
@@ -31,8 +32,8 @@ returns-in_default-clause-depth g c = λ started. absurd (let no : true ≡ fals
 pub returns-in_default-clause-width : goal.returns-in_default-clause-width
 returns-in_default-clause-width g c = c.refused-walk.ensures.width
 
-pub returns-in_default-clause-early : goal.returns-in_default-clause-early
-returns-in_default-clause-early g c = c.refused-walk.ensures.early
+pub returns-in_default-clause-ahead : goal.returns-in_default-clause-ahead
+returns-in_default-clause-ahead g c = c.refused-walk.ensures.ahead
 
 pub returns-in_default-clause-held : goal.returns-in_default-clause-held
 returns-in_default-clause-held g c = λ given counts started. absurd (let no : true ≡ false = sym c.refused-walk.ensures.refused ∙ started in cc)
@@ -52,8 +53,8 @@ returns-in-Ok-clause-depth g c = λ started. at_root (reading c.in-Some.read).li
 pub returns-in-Ok-clause-width : goal.returns-in-Ok-clause-width
 returns-in-Ok-clause-width g c = c.begin.ensures.width ∙ c.refused-walk.ensures.width
 
-pub returns-in-Ok-clause-early : goal.returns-in-Ok-clause-early
-returns-in-Ok-clause-early g c = c.in-Ok.ensures.early
+pub returns-in-Ok-clause-ahead : goal.returns-in-Ok-clause-ahead
+returns-in-Ok-clause-ahead g c = c.in-Ok.ensures.ahead
 
 pub returns-in-Err-clause-own : goal.returns-in-Err-clause-own
 returns-in-Err-clause-own g c = c.stop.ensures.crew ∙ c.begin.ensures.own
@@ -67,8 +68,8 @@ returns-in-Err-clause-depth g c = λ started. absurd (let no : true ≡ false = 
 pub returns-in-Err-clause-width : goal.returns-in-Err-clause-width
 returns-in-Err-clause-width g c = c.stop.ensures.width ∙ c.begin.ensures.width ∙ c.refused-walk.ensures.width
 
-pub returns-in-Err-clause-early : goal.returns-in-Err-clause-early
-returns-in-Err-clause-early g c = ap (λ ahead. ahead.done) c.stop.ensures.read_ahead
+pub returns-in-Err-clause-ahead : goal.returns-in-Err-clause-ahead
+returns-in-Err-clause-ahead g c = begins_with_none _ _ c.stop.ensures.unread c.stop.ensures.read_ahead
 
 pub returns-in-Err-clause-held : goal.returns-in-Err-clause-held
 returns-in-Err-clause-held g c = λ given counts started. absurd (let no : true ≡ false = sym (c.stop.ensures.refused ∙ c.begin.ensures.refused ∙ c.refused-walk.ensures.refused) ∙ started in cc)

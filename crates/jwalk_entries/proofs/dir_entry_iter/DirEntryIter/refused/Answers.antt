@@ -1,6 +1,7 @@
 use Rattle.std.proofs.Common.{◌∙◌, map, reverse, refl, ap}
 use Rattle.read_parts.specs.Entry.{item}
 use Rattle.read_parts.specs.Options.{width_of}
+use Rattle.jwalk_entries.proofs.AheadFacts.{begins_with_none}
 use Rattle.jwalk_entries.proofs.dir_entry_iter.DirEntryIter.refused.Goals as goal
 
 pub returns : goal.returns
@@ -11,5 +12,5 @@ returns g c = record {
   items = ap (λ l. map item (reverse l)) c.new-2.ensures.items;
   unread = c.new.ensures.to_read;
   width = c.new.ensures.width ∙ ap width_of (c.mode-mode.ensures ∙ ap (λ o. o.parallelism) c.options.ensures);
-  early = ap (λ a. a.done) c.new.ensures.read_ahead;
+  ahead = begins_with_none _ _ c.new.ensures.to_read c.new.ensures.read_ahead;
 }

@@ -1,4 +1,3 @@
-use Rattle.std.proofs.Common.{map}
 use Rattle.walk_model.specs.ReadDir.{list_depth}
 use Rattle.read_parts.specs.Entry.{item}
 use Rattle.jwalk_process.proofs.DepthFilters.{all_left, keeps, made_at_depth}

@@ -1,11 +1,6 @@
-use Rattle.std.proofs.Common.{◌≡◌, ◌∙◌, ℕ, Bool, List, Option, None, Some, Result, Ok, Err, cond, true, false, ap, refl}
+use Rattle.std.proofs.Common.{◌≡◌, ◌∙◌, Result, Ok, Err, ap, refl}
 use Rattle.std.specs.Prelude.{MatchResult}
 use Rattle.std.specs.Result.{result_and}
-use Rattle.std.specs.declared.io.ErrorKind.{ErrorKind}
-use Rattle.walk_model.specs.FileType.{is_dir}
-use Rattle.walk_model.specs.Entry.{Entry, path_of}
-use Rattle.walk_model.specs.Error.{io}
-use Rattle.walk_model.specs.Counted.{Worth}
 use Rattle.walk_model.specs.Job as value
 use Rattle.read_parts.specs.Error.{failure}
 use Rattle.read_parts.specs.Entry.{entry, item}

@@ -10,7 +10,7 @@ use Rattle.jwalk.proofs.walk_dir.crew_start.WalkDirGeneric+C+S+P+A+T+Crew+R.from
 pub returns-in_default-clause-from_root : goal.returns-in_default-clause-from_root
 returns-in_default-clause-from_root g c =
     let is = c.refused.ensures in
-    refused_from_root g.C.ReadDirState.Clone (option_map reading c.args.read) c.args.job c.refused.result is.own is.job is.refused is.items is.unread is.width is.early
+    refused_from_root g.C.ReadDirState.Clone (option_map reading c.args.read) c.args.job c.refused.result is.own is.job is.refused is.items is.unread is.width is.ahead
 
 pub returns-in-Ok-clause-from_root : goal.returns-in-Ok-clause-from_root
 returns-in-Ok-clause-from_root g c =
@@ -21,7 +21,7 @@ pub returns-in-Err-clause-from_root : goal.returns-in-Err-clause-from_root
 returns-in-Err-clause-from_root g c =
     let is = c.refused-in-Err.ensures in
     let same = c.in-Err.ensures.made in
-    refused_from_root g.C.ReadDirState.Clone (option_map reading c.args.read) c.args.job c.refused-in-Err.result is.own (is.job ∙ same) is.refused is.items is.unread (is.width ∙ ap (λ j. options.width_of (options_of j).parallelism) same) is.early
+    refused_from_root g.C.ReadDirState.Clone (option_map reading c.args.read) c.args.job c.refused-in-Err.result is.own (is.job ∙ same) is.refused is.items is.unread (is.width ∙ ap (λ j. options.width_of (options_of j).parallelism) same) is.ahead
 
 pub returns-in_default-clause-by : goal.returns-in_default-clause-by
 returns-in_default-clause-by g c = inl refl
@@ -33,7 +33,7 @@ pub returns-in-Err-clause-by : goal.returns-in-Err-clause-by
 returns-in-Err-clause-by g c = inl refl
 
 pub returns-in_default-clause-steady : goal.returns-in_default-clause-steady
-returns-in_default-clause-steady g c = λ given steady. alone_steady g.S.FileSystem g.P.ProcessReadDir g.C.ReadDirState.Clone g.C.DirEntryState.Default _ c.refused.result given c.refused.ensures.own steady c.refused.ensures.early
+returns-in_default-clause-steady g c = λ given steady. alone_steady g.S.FileSystem g.P.ProcessReadDir g.C.ReadDirState.Clone g.C.DirEntryState.Default _ c.refused.result given c.refused.ensures.own steady c.refused.ensures.ahead.done
 
 pub returns-in-Err-clause-steady : goal.returns-in-Err-clause-steady
-returns-in-Err-clause-steady g c = λ given steady. alone_steady g.S.FileSystem g.P.ProcessReadDir g.C.ReadDirState.Clone g.C.DirEntryState.Default _ c.refused-in-Err.result given c.refused-in-Err.ensures.own steady c.refused-in-Err.ensures.early
+returns-in-Err-clause-steady g c = λ given steady. alone_steady g.S.FileSystem g.P.ProcessReadDir g.C.ReadDirState.Clone g.C.DirEntryState.Default _ c.refused-in-Err.result given c.refused-in-Err.ensures.own steady c.refused-in-Err.ensures.ahead.done

@@ -1,7 +1,7 @@
 use Rattle.std.proofs.Common.{◌∙◌}
 use Rattle.jwalk_readings.proofs.AlikeFacts.{alike_copies}
 use Rattle.jwalk_readings.proofs.ResultFacts.{none_ok}
-use Rattle.jwalk_readings.proofs.read_dir_iter.over_crew.CrewReads+C+S+P+A+Session+R+C+S+P+A.by_workers.Goals as goal
+use Rattle.jwalk_readings.proofs.crew_reads.started.CrewReads+C+S+P+A+Session+R+C+S+P+A.by_workers.Goals as goal
 
 pub returns-in_err-shared : goal.returns-in_err-shared
 returns-in_err-shared g c = record { job = none_ok _ c.from_residual.result c.from_residual.ensures.0; to_read = none_ok _ c.from_residual.result c.from_residual.ensures.0; begins = none_ok _ c.from_residual.result c.from_residual.ensures.0 }

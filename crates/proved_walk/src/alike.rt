@@ -1,0 +1,42 @@
+//! Two walks whose directories are read in different ways.
+ghost use Rattle.std.specs.Prelude.{◌≡◌, IfOk};
+ghost use Rattle.jwalk.specs.read_parts.Given.{counted_list};
+ghost use Rattle.jwalk.specs.WalkDir.{stateless};
+ghost use Rattle.jwalk.specs.DirEntryIter.{NoneRefused};
+
+use crate::whole::walk_whole;
+use jwalk::error::Result as Answer;
+use jwalk::file_system::FileSystem;
+use jwalk::read_dir::NoProcess;
+use jwalk::{ClientState, DirEntry, Parallelism, WalkDirGeneric};
+use std::alloc::{AllocError, Allocator};
+
+/// All that a walk answers from a root, and all that one answers which reads so many directories together. Over a file
+/// system that always answers the same, they are the same answers, unless one of them tells of want of memory.
+pub fn walk_both<C: ClientState, S: FileSystem, A: Allocator + Copy>(
+    alloc: A,
+    fs: &S,
+    root: &str,
+    width: usize,
+) -> Result<
+    (
+        Vec<Answer<DirEntry<C, A>, A>, A>,
+        Vec<Answer<DirEntry<C, A>, A>, A>,
+    ),
+    AllocError,
+>
+    ensures { IfOk result (λ both. S.IsFixed fs.now → NoneRefused both.0.items → NoneRefused both.1.items
+        → counted_list stateless both.0.items ≡ counted_list stateless both.1.items) }
+{
+    let one: WalkDirGeneric<C, &S, NoProcess, A> = WalkDirGeneric::new(
+        fs,
+        String::from_str(alloc, root)?,
+    );
+    let other: WalkDirGeneric<C, &S, NoProcess, A> = WalkDirGeneric::new(
+        fs,
+        String::from_str(alloc, root)?,
+    );
+    let found = walk_whole(alloc, one)?;
+    let same = walk_whole(alloc, other.parallelism(Parallelism::RayonNewPool(width)))?;
+    Ok((found, same))
+}
