@@ -34,7 +34,7 @@ struct Meeting<R> {
 }
 
 impl<R: Clock> Meeting<R> {
-    /// Lists nothing once the other is listed too, which is waited for some seconds at most.
+    /// An empty listing, once the other's has begun too, which is waited for some seconds at most.
     fn meet<A: Allocator + Copy>(
         &self,
         alloc: A,
@@ -96,7 +96,7 @@ fn answers_by_two<R: Wait + Threads + Clock + AllocGlobal + Clone + Drop + Send 
     all_of(alloc, walk.parallelism(by_crew).into_iter())
 }
 
-// A crew of one thread (the wrong body `crew_of_one_thread`) answers an error inside each of the two.
+// A crew of one thread (the wrong body `crew_of_one_thread`) answers an error inside the first of the two.
 #[test]
 fn two_workers_read_at_the_same_time(rt: HostRuntime) -> Result<(), AllocError> {
     let fs = Meeting {

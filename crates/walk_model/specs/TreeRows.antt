@@ -1,4 +1,4 @@
--- A small tree, built, and what it small_functions.
+-- A small tree, built, and what it answers.
 use Rattle.std.specs.Prelude.{◌≡◌, ℕ, List, [], ◌∷◌, None, Result, Ok, Err, codes, refl}
 use Rattle.std.specs.declared.io.ErrorKind.TheVariants as kind
 use Rattle.walk_model.specs.declared.file_type.FileType.TheVariants as type

@@ -96,7 +96,8 @@ fn ahead_at_first_group(alloc: Global, walk: Builder<MemoryFs>) -> Result<usize,
     Ok(walk.ahead())
 }
 
-/// The same of two walks that read by clones of one value, one before its greatest depth is set to 1 and one after.
+/// The same of two walks, one read by a clone of a value and one by the value: the first is told it before its greatest
+/// depth is set to 1, and the second after.
 fn ahead_by_clones(alloc: Global) -> Result<(usize, usize), BuildError> {
     let three: Parallelism = Parallelism::RayonNewPool(3);
     let before = over_tree(alloc, GROUPED, "/t")?.parallelism(three.clone()?);

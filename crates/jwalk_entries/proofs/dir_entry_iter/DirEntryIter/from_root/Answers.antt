@@ -1,4 +1,4 @@
-use Rattle.std.proofs.Common.{◌≡◌, ◌∙◌, true, false, refl, sym, ap}
+use Rattle.std.proofs.Common.{◌≡◌, ◌∙◌, true, false, refl, sym}
 use Rattle.jwalk_read.specs.ReadDir.{reading}
 use Rattle.jwalk_read.specs.Job.{greatest_depth}
 use Rattle.jwalk_entries.specs.DirEntryIter.{job_of, items_of}
