@@ -58,8 +58,8 @@ fn next(
     }
 }
 
-/// Adds what comes next: the names in a reading, or that there is an error or a refusal, and how many others are ahead.
-/// None at the end.
+/// Adds what comes next: the names in a reading, or that there is an error or a refusal, and after a colon how many
+/// others are ahead. None at the end.
 fn push_next(
     text: &mut String,
     next: Result<Option<Outcome<States, Global>>, AllocError>,
@@ -71,7 +71,7 @@ fn push_next(
         Ok(None) => return None,
         Err(_refused) => text.push_str("refused").ok()?,
     }
-    write!(text, "{ahead} ").ok()
+    write!(text, ":{ahead} ").ok()
 }
 
 /// Whether this comes of a walk: each reading, and after each how many others are ahead.
@@ -117,9 +117,9 @@ fn both_give(
 #[test]
 fn directories_are_read_in_order_however_many_together(rt: HostRuntime) {
     const ROWS: &[(usize, &str)] = &[
-        (1, "abc0 x0 0 x0 0 x0 0 "),
-        (2, "abc0 x1 2 x1 0 x0 0 "),
-        (8, "abc0 x2 4 x3 2 x1 0 "),
+        (1, "abc:0 x:0 :0 x:0 :0 x:0 :0 "),
+        (2, "abc:0 x:1 :2 x:1 :0 x:0 :0 "),
+        (8, "abc:0 x:2 :4 x:3 :2 x:1 :0 "),
     ];
     for (width, wanted) in ROWS {
         assert!(rt; both_give(&rt, &TWINS, "", *width, wanted));
@@ -128,15 +128,15 @@ fn directories_are_read_in_order_however_many_together(rt: HostRuntime) {
 
 #[test]
 fn threads_read_a_wide_batch_in_order(rt: HostRuntime) {
-    let wanted = "ABCDEFGabcdefghijklmnopqrstuvwxyz0 \
-                  A32 64 B63 62 C61 60 D59 58 E57 56 F55 54 G53 52 a51 50 b49 48 c47 46 d45 44 e43 42 f41 40 g39 \
-                  38 h37 36 i35 34 j33 32 k31 30 l29 28 m27 26 n25 24 o23 22 p21 20 q19 18 r17 16 s15 14 t13 12 \
-                  u11 10 v9 8 w7 6 x5 4 y3 2 z1 0 ";
+    let wanted = "ABCDEFGabcdefghijklmnopqrstuvwxyz:0 \
+                  A:32 :64 B:63 :62 C:61 :60 D:59 :58 E:57 :56 F:55 :54 G:53 :52 a:51 :50 b:49 :48 c:47 :46 d:45 :44 \
+                  e:43 :42 f:41 :40 g:39 :38 h:37 :36 i:35 :34 j:33 :32 k:31 :30 l:29 :28 m:27 :26 n:25 :24 o:23 :22 \
+                  p:21 :20 q:19 :18 r:17 :16 s:15 :14 t:13 :12 u:11 :10 v:9 :8 w:7 :6 x:5 :4 y:3 :2 z:1 :0 ";
     assert!(rt; both_give(&rt, &MANY, "", 64, wanted));
 }
 
 #[test]
 fn a_refusal_in_the_middle_of_a_batch_ends_the_walk(rt: HostRuntime) {
-    let wanted = "ABCDEFGabcdefghijklmnopqrstuvwxyz0 refused0 ";
+    let wanted = "ABCDEFGabcdefghijklmnopqrstuvwxyz:0 refused:0 ";
     assert!(rt; both_give(&rt, &MANY, "/r/e", 64, wanted));
 }

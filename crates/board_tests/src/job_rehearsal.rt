@@ -136,13 +136,14 @@ fn root_reading(job: &TreeJob<'_>, root: &str) -> Option<ReadDir<States>> {
 /// Whether the directories in the reading of a root stand at these addresses below this one.
 fn have_addresses(
     alloc: Global,
-    fs: &MemoryFs,
+    fs: Option<MemoryFs>,
     root: &str,
     above: &[usize],
     wanted: Places,
 ) -> Option<bool> {
+    let fs = fs?;
     let above = address(alloc, above)?;
-    let read = root_reading(&job_of(alloc, fs), root)?;
+    let read = root_reading(&job_of(alloc, &fs), root)?;
     let below = read.ordered_read_children_specs(&above).ok()?;
     Some(stand_at(below.as_slice(), wanted))
 }
@@ -150,19 +151,10 @@ fn have_addresses(
 #[test]
 fn directories_below_a_reading_have_their_addresses(rt: HostRuntime) {
     const FORKED: &[&str] = &["/r", "/r/a", "/r/a/x", "/r/b", "/r/b/x", "/r/c", "/r/c/x"];
+    const BELOW_ROOT: Places = &[(&[0, 0], "/r/a"), (&[0, 1], "/r/b"), (&[0, 2], "/r/c")];
+    const BELOW_OTHER: Places = &[(&[3, 1, 0], "/t/b"), (&[3, 1, 1], "/t/c")];
     let alloc = rt.alloc();
     let forked = given::tree(alloc, FORKED);
-    assert!(rt;
-        matches!(&forked, Some(fs) if have_addresses(alloc, fs, "/r", &[0], &[
-        (&[0, 0], "/r/a"),
-        (&[0, 1], "/r/b"),
-        (&[0, 2], "/r/c"),
-    ]) == Some(true))
-    );
-    assert!(rt;
-        matches!(&tree(alloc), Some(fs) if have_addresses(alloc, fs, "/t", &[3, 1], &[
-        (&[3, 1, 0], "/t/b"),
-        (&[3, 1, 1], "/t/c"),
-    ]) == Some(true))
-    );
+    assert!(rt; have_addresses(alloc, forked, "/r", &[0], BELOW_ROOT) == Some(true));
+    assert!(rt; have_addresses(alloc, tree(alloc), "/t", &[3, 1], BELOW_OTHER) == Some(true));
 }

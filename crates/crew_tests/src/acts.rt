@@ -204,7 +204,8 @@ fn wrong<R: Wait + Threads + Clock + AllocGlobal + Clone + Drop + Send + Sync + 
     None
 }
 
-/// The number of the first act that doesn't come off over the crew and the tree of a scene; 0 where these can't be made.
+/// The number of the first act that doesn't come off over the crew and the tree of a scene; 0 where these can't be
+/// made.
 pub fn first_wrong<R: Wait + Threads + Clock + AllocGlobal + Clone + Drop + Send + Sync + 'static>(
     rt: &R,
     scene: &Scene,

@@ -100,11 +100,12 @@ impl<
         }
     }
 
-    /// Puts these directories in the place of what was to be read, where no crew reads.
+    /// Puts these directories in the place of what was to be read, where no crew reads: they alone are queued, in their
+    /// order, and none is read yet.
     ///
     /// # Errors
     ///
-    /// If memory runs out.
+    /// If memory runs out. Nothing is left to be read then, and nothing is ahead.
     pub fn begin(&mut self, roots: Vec<ReadDirSpec<C, A>, A>) -> Result<(), AllocError>
         requires { by_crew self.old ≡ false }
         ensures own { by_crew self.new ≡ false }
