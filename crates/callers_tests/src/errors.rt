@@ -116,13 +116,18 @@ fn errors_of_a_crew_and_of_memory(rt: HostRuntime) {
     assert!(rt; is_busy && is_memory && is_lost);
 }
 
-/// How many bytes the paths of the looped tree have; the first error ends the walk.
-fn looped_bytes(alloc: Global, follow: bool) -> anyhow::Result<usize> {
+/// How many bytes the paths of a walk have; the first error ends it.
+fn bytes_of<S: FileSystem>(walk: Builder<S>) -> anyhow::Result<usize> {
     let mut bytes: usize = 0;
-    for answer in over_tree(alloc, LOOPED, "/r")?.follow_links(follow) {
+    for answer in walk {
         bytes = bytes.saturating_add(answer?.path()?.len());
     }
     Ok(bytes)
+}
+
+/// How many bytes the paths of the looped tree have.
+fn looped_bytes(alloc: Global, follow: bool) -> anyhow::Result<usize> {
+    bytes_of(over_tree(alloc, LOOPED, "/r")?.follow_links(follow))
 }
 
 /// The text of the error that ends a walk through the loop.

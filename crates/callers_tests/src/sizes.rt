@@ -1,18 +1,18 @@
 //! Walks over trees of size.
 use crate::wide::{FILES, name, scrambled, wide_directory};
-use jwalk::DirEntryIter;
-use jwalk::file_system::{BuildError, MemoryFs};
-use jwalk::read_dir::NoProcess;
+use jwalk::file_system::{BuildError, FileSystem, MemoryFs};
 use std::alloc::{AllocError, Global};
 use walk_fixtures::answers::{Answer, are_lines};
 use walk_fixtures::watched::{Failing, Watched};
-use walk_ways::builders::builder;
-
-/// A walk that is begun.
-type Walk<'a> = DirEntryIter<((), ()), &'a Watched, NoProcess>;
+use walk_ways::builders::{Builder, builder};
 
 /// What comes of so many calls for the next answer.
-fn called(alloc: Global, mut walk: Walk<'_>, calls: usize) -> Result<Vec<Answer>, AllocError> {
+fn called<S: FileSystem>(
+    alloc: Global,
+    walk: Builder<S>,
+    calls: usize,
+) -> Result<Vec<Answer>, AllocError> {
+    let mut walk = walk.into_iter();
     let mut found = Vec::new(alloc);
     for _ in 0..calls {
         if let Some(answer) = walk.next() {
@@ -36,7 +36,7 @@ fn wide_lines(alloc: Global, by_name: bool) -> Result<String, AllocError> {
 fn has_all_files(alloc: Global, by_name: bool) -> Result<bool, BuildError> {
     let fs = Watched::new(wide_directory(alloc)?, Failing::Never);
     let walk = builder(alloc, &fs, "/d")?.sort(by_name);
-    let found = called(alloc, walk.into_iter(), FILES + 3)?;
+    let found = called(alloc, walk, FILES + 3)?;
     let lines = wide_lines(alloc, by_name)?;
     Ok(are_lines(alloc, found.as_slice(), lines.as_str()) && fs.lists() == 1)
 }
@@ -51,18 +51,26 @@ fn many_files_by_name(rt: HostRuntime) {
     assert!(rt; matches!(has_all_files(rt.alloc(), true), Ok(true)));
 }
 
-/// How many answers of the wide directory a call for all gives and a second one, and how many are there then.
-fn filled(alloc: Global) -> Result<(usize, usize, usize), BuildError> {
-    let mut walk = builder(alloc, wide_directory(alloc)?, "/d")?.into_iter();
+/// How many answers of a walk a call for all gives and a second one, and how many are there then.
+fn filled<S: FileSystem>(
+    alloc: Global,
+    walk: Builder<S>,
+) -> Result<(usize, usize, usize), AllocError> {
+    let mut walk = walk.into_iter();
     let mut found = Vec::new(alloc);
     let first = walk.fill(usize::MAX, &mut found)?;
     let second = walk.fill(usize::MAX, &mut found)?;
     Ok((first, second, found.len()))
 }
 
+/// The same of the wide directory.
+fn filled_from_wide(alloc: Global) -> Result<(usize, usize, usize), BuildError> {
+    Ok(filled(alloc, builder(alloc, wide_directory(alloc)?, "/d")?)?)
+}
+
 #[test]
 fn all_answers_by_one_call(rt: HostRuntime) {
-    assert!(rt; matches!(filled(rt.alloc()), Ok((5_001, 0, 5_001))));
+    assert!(rt; matches!(filled_from_wide(rt.alloc()), Ok((5_001, 0, 5_001))));
 }
 
 /// A directory in a directory, and so on, down to a depth of 30 below the first.
@@ -90,7 +98,7 @@ fn go_down(found: &[Answer]) -> bool {
 fn goes_down_once(alloc: Global) -> Result<bool, BuildError> {
     let fs = Watched::new(chain(alloc)?, Failing::Never);
     let walk = builder(alloc, &fs, "/c")?;
-    let found = called(alloc, walk.into_iter(), 34)?;
+    let found = called(alloc, walk, 34)?;
     Ok(found.len() == 31 && go_down(found.as_slice()) && fs.lists() == 31)
 }
 

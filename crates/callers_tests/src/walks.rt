@@ -1,11 +1,11 @@
 //! Walks over trees in memory, and what is asked of them.
-use jwalk::file_system::{BuildError, MemoryFs};
+use jwalk::file_system::{BuildError, FileSystem};
 use jwalk::path_text;
 use std::alloc::{AllocError, Global};
 use std::sync::Arc;
 use walk_fixtures::answers::are_lines;
 use walk_fixtures::trees::{SMALL, tree};
-use walk_ways::builders::{builder, in_a_for_loop, over_tree};
+use walk_ways::builders::{Builder, builder, in_a_for_loop, over_tree};
 use walk_ways::ways::all_of;
 
 /// What the walk answers from the root of the small tree.
@@ -14,10 +14,10 @@ const ALL: &str = "0 d /r; 1 f /r/b; 1 d /r/s; 2 f /r/s/x; 1 f /r/a";
 /// What it answers from the directory in it.
 const BELOW: &str = "0 d /r/s; 1 f /r/s/x";
 
-/// Whether this is what a walk over a shared tree answers.
-fn shared_shows(
+/// Whether this is what a walk over a shared file system answers.
+fn shared_shows<S: FileSystem>(
     alloc: Global,
-    fs: &Arc<MemoryFs>,
+    fs: &Arc<S>,
     root: &str,
     wanted: &str,
 ) -> Result<bool, AllocError> {
@@ -39,17 +39,26 @@ fn a_shared_tree_walked_twice(rt: HostRuntime) {
     assert!(rt; shows_twice(rt.alloc()) == Some(true));
 }
 
-/// Whether a walk over the small tree can be begun, and this is what it answers then.
-fn begun_shows(alloc: Global, wanted: &str) -> Result<bool, BuildError> {
-    match over_tree(alloc, SMALL, "/r")?.try_into_iter() {
+/// Whether a walk can be begun, and this is what it answers then.
+fn begun_shows<S: FileSystem>(
+    alloc: Global,
+    walk: Builder<S>,
+    wanted: &str,
+) -> Result<bool, AllocError> {
+    match walk.try_into_iter() {
         Ok(walk) => Ok(are_lines(alloc, all_of(alloc, walk)?.as_slice(), wanted)),
         Err(_) => Ok(false),
     }
 }
 
+/// Whether a walk over the small tree does so.
+fn small_begun_shows(alloc: Global, wanted: &str) -> Result<bool, BuildError> {
+    Ok(begun_shows(alloc, over_tree(alloc, SMALL, "/r")?, wanted)?)
+}
+
 #[test]
 fn a_walk_that_tells_whether_it_could_begin(rt: HostRuntime) {
-    assert!(rt; matches!(begun_shows(rt.alloc(), ALL), Ok(true)));
+    assert!(rt; matches!(small_begun_shows(rt.alloc(), ALL), Ok(true)));
 }
 
 /// How many answers a walk over the small tree has.

@@ -1,5 +1,5 @@
 //! A whole walk over a crew in one list, by the function of `proved_walk`.
-use jwalk::file_system::MemoryFs;
+use jwalk::file_system::FileSystem;
 use jwalk::{Crew, Parallelism, WalkDirGeneric};
 use proved_walk::by_crew::walk_by_crew;
 use std::alloc::AllocError;
@@ -9,19 +9,17 @@ use std::time::Clock;
 use walk_fixtures::answers::are_lines;
 use walk_fixtures::trees::{SMALL, tree};
 
-/// Whether these are the lines of a whole walk over a tree that two workers read.
-fn shows_by_crew<R: Wait + Threads + Clock + AllocGlobal + Clone + Drop + Send + Sync + 'static>(
-    rt: &R,
-    tree: MemoryFs,
-    wanted: &str,
-) -> Result<bool, AllocError> {
+/// Whether these are the lines of a whole walk over a file system that two workers read.
+fn shows_by_crew<
+    R: Wait + Threads + Clock + AllocGlobal + Clone + Drop + Send + Sync + 'static,
+    S: FileSystem + Send + Sync + 'static,
+>(rt: &R, fs: S, wanted: &str) -> Result<bool, AllocError> {
     let alloc = rt.alloc();
     let pool = Arc::new(alloc, Crew::new(rt.clone()?, 1, 2))?;
     let by_crew = Parallelism::RayonExistingPool {
         pool,
         busy_timeout: None,
     };
-    let fs = Arc::new(alloc, tree)?;
     let walk = WalkDirGeneric::with_crew(fs, String::from_str(alloc, "/r")?);
     match walk_by_crew::<R, ((), ()), _, _, _>(alloc, walk.parallelism(by_crew)) {
         Ok(found) => Ok(are_lines(alloc, found.as_slice(), wanted)),

@@ -127,13 +127,25 @@ fn goes_on<S: FileSystem, L: Pool<States, S, NoProcess, Global>>(
     }
 }
 
+/// A file system that counts its listings.
+pub trait CountsLists: FileSystem {
+    /// How many were asked for so far.
+    fn lists_so_far(&self) -> usize;
+}
+
+impl CountsLists for Watched {
+    fn lists_so_far(&self) -> usize {
+        self.lists()
+    }
+}
+
 /// Whether no directory is listed any more for a while, within some seconds.
-fn rests(clock: &impl Clock, fs: &Watched) -> bool {
-    let mut lists = fs.lists();
+fn rests(clock: &impl Clock, fs: &impl CountsLists) -> bool {
+    let mut lists = fs.lists_so_far();
     let mut still: usize = 0;
     for _ in 0..5_000 {
         thread::sleep(clock, Duration::from_millis(1));
-        let now = fs.lists();
+        let now = fs.lists_so_far();
         still = if now == lists {
             still.saturating_add(1)
         } else {
@@ -163,12 +175,10 @@ fn holds<R: Wait + Threads + Clock + Clone + Drop + Send + Sync + 'static>(
 }
 
 /// Whether an act comes off beside these walks.
-fn comes_off<R: Wait + Threads + Clock + AllocGlobal + Clone + Drop + Send + Sync + 'static>(
-    rt: &R,
-    stand: &Stand<R>,
-    walks: &mut Vec<Walk<R>>,
-    act: &Act<'_>,
-) -> bool {
+fn comes_off<
+    R: Wait + Threads + Clock + AllocGlobal + Clone + Drop + Send + Sync + 'static,
+    S: CountsLists + Send + Sync + 'static,
+>(rt: &R, stand: &Stand<R, S>, walks: &mut Vec<Walk<R, S>>, act: &Act<'_>) -> bool {
     match act {
         Act::Begins(asked) => match stand.tried(asked) {
             Ok(walk) => walks.push(walk).is_ok(),
@@ -190,11 +200,10 @@ fn comes_off<R: Wait + Threads + Clock + AllocGlobal + Clone + Drop + Send + Syn
 }
 
 /// The number of the first act that doesn't come off, where they come one after another.
-fn wrong<R: Wait + Threads + Clock + AllocGlobal + Clone + Drop + Send + Sync + 'static>(
-    rt: &R,
-    stand: &Stand<R>,
-    acts: &[Act<'_>],
-) -> Option<usize> {
+fn wrong<
+    R: Wait + Threads + Clock + AllocGlobal + Clone + Drop + Send + Sync + 'static,
+    S: CountsLists + Send + Sync + 'static,
+>(rt: &R, stand: &Stand<R, S>, acts: &[Act<'_>]) -> Option<usize> {
     let mut walks = Vec::new(stand.alloc);
     for (number, act) in acts.iter().enumerate() {
         if !comes_off(rt, stand, &mut walks, act) {
@@ -214,7 +223,8 @@ pub fn first_wrong<R: Wait + Threads + Clock + AllocGlobal + Clone + Drop + Send
     let Ok(tree) = tree(rt.alloc(), scene.steps) else {
         return Some(0);
     };
-    match Stand::new(rt, tree, scene.failing, scene.places, scene.workers) {
+    let fs = Watched::new(tree, scene.failing);
+    match Stand::new(rt, fs, scene.places, scene.workers) {
         Ok(stand) => wrong(rt, &stand, acts),
         Err(_) => Some(0),
     }
@@ -230,7 +240,7 @@ pub fn shows_by<
     let Ok(tree) = tree(rt.alloc(), steps) else {
         return false;
     };
-    match Stand::new(rt, tree, Failing::Never, 1, 2) {
+    match Stand::new(rt, tree, 1, 2) {
         Ok(stand) => are(stand.alloc, stand.found(asked, process), wanted),
         Err(_) => false,
     }

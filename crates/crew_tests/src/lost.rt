@@ -3,7 +3,7 @@ use crew_parts::arrival::{Arrival, arrive};
 use crew_parts::message::Message;
 use crew_parts::wanted::Wanted;
 use jwalk::board::Board;
-use jwalk::file_system::{FileSystem, MemoryFs};
+use jwalk::file_system::FileSystem;
 use jwalk::ordered::Ordered;
 use jwalk::read_dir::{Job, NoProcess, ReadDirSpec};
 use jwalk::read_dir_iter::ReadDirIter;
@@ -15,29 +15,29 @@ use walk_fixtures::trees::{Step, tree};
 
 type States = ((), ());
 
-type TreeJob<'f> = Job<States, &'f MemoryFs, NoProcess>;
+type TreeJob<'f, S> = Job<States, &'f S, NoProcess>;
 
-type Told<'f> = Message<States, &'f MemoryFs, NoProcess>;
+type Told<'f, S> = Message<States, &'f S, NoProcess>;
 
 /// A pool whose readings are all made before they are asked for.
-struct Prepared<'f> {
-    board: Board<ReadDirSpec<States>, Told<'f>>,
+struct Prepared<'f, S: FileSystem> {
+    board: Board<ReadDirSpec<States>, Told<'f, S>>,
 }
 
-impl<'f> Drop for Prepared<'f> {
+impl<'f, S: FileSystem> Drop for Prepared<'f, S> {
     fn drop(self) {
         let Prepared { board: _ } = self;
     }
 }
 
-impl<'f> Pool<States, &'f MemoryFs, NoProcess, Global> for Prepared<'f> {
+impl<'f, S: FileSystem> Pool<States, &'f S, NoProcess, Global> for Prepared<'f, S> {
     ghost use Rattle.std.specs.Prelude.{[]};
 
     ghost comes_from = { λ _ _. ⊥ };
 
     ghost awaits = { λ _. [] };
 
-    fn next(&mut self, wanted: &Wanted) -> Result<Ordered<Told<'f>>, Missed> {
+    fn next(&mut self, wanted: &Wanted) -> Result<Ordered<Told<'f, S>>, Missed> {
         match arrive(&mut self.board, wanted) {
             Arrival::Entered(item) => Ok(item),
             Arrival::Memory => Err(Missed::Memory),
@@ -53,19 +53,19 @@ impl<'f> Pool<States, &'f MemoryFs, NoProcess, Global> for Prepared<'f> {
 /// Two roots, of which the first has a directory.
 const TWO_ROOTS: &[Step] = &[Step::Dir("/r"), Step::Dir("/r/a"), Step::Dir("/s")];
 
-fn job_over(alloc: Global, fs: &MemoryFs) -> TreeJob<'_> {
+fn job_over<S: FileSystem>(alloc: Global, fs: &S) -> TreeJob<'_, S> {
     Job::new(alloc, fs, NoProcess, true, true, false, usize::MAX)
 }
 
 /// The directory at a root.
-fn roots(job: &TreeJob<'_>, root: &str) -> Option<Vec<ReadDirSpec<States>>> {
+fn roots<S: FileSystem>(job: &TreeJob<'_, S>, root: &str) -> Option<Vec<ReadDirSpec<States>>> {
     job.root_list(root, ()).ok()?.read_children_specs().ok()
 }
 
 /// Reads the directory that is queued, and puts these below it.
-fn read<'f>(
-    board: &mut Board<ReadDirSpec<States>, Told<'f>>,
-    job: Arc<TreeJob<'f>>,
+fn read<'f, S: FileSystem>(
+    board: &mut Board<ReadDirSpec<States>, Told<'f, S>>,
+    job: Arc<TreeJob<'f, S>>,
     below: Vec<ReadDirSpec<States>>,
 ) -> Option<()> {
     let Ordered {
@@ -78,7 +78,12 @@ fn read<'f>(
 }
 
 /// The readings of these two directories, the second below the first.
-fn pool_of<'f>(alloc: Global, fs: &'f MemoryFs, first: &str, second: &str) -> Option<Prepared<'f>> {
+fn pool_of<'f, S: FileSystem>(
+    alloc: Global,
+    fs: &'f S,
+    first: &str,
+    second: &str,
+) -> Option<Prepared<'f, S>> {
     let job = Arc::new(alloc, job_over(alloc, fs)).ok()?;
     let mut board = Board::new(roots(&job, first)?).ok()?;
     read(&mut board, job.clone().ok()?, roots(&job, second)?)?;
@@ -98,10 +103,15 @@ fn word_of<S: FileSystem, L: Pool<States, S, NoProcess, Global>>(
 }
 
 /// Whether this comes of readings from `/r` on, of which these two are there.
-fn comes(alloc: Global, first: &str, second: &str, words: &[&str]) -> Option<bool> {
-    let fs = tree(alloc, TWO_ROOTS).ok()?;
-    let pool = pool_of(alloc, &fs, first, second)?;
-    let own = job_over(alloc, &fs);
+fn comes<S: FileSystem>(
+    alloc: Global,
+    fs: &S,
+    first: &str,
+    second: &str,
+    words: &[&str],
+) -> Option<bool> {
+    let pool = pool_of(alloc, fs, first, second)?;
+    let own = job_over(alloc, fs);
     let from = roots(&own, "/r")?;
     let mut reads = ReadDirIter::over_pool(own, from, pool).ok()?;
     for word in words {
@@ -118,7 +128,10 @@ fn a_reading_of_another_directory_is_lost_and_ends_the_readings(rt: HostRuntime)
         ("/s", "/r/a", &["lost", "none", "none", "none"]),
         ("/r", "/s", &["read", "lost", "none", "none"]),
     ];
+    let fs = tree(rt.alloc(), TWO_ROOTS);
     for (first, second, words) in ROWS {
-        assert!(rt; comes(rt.alloc(), first, second, words) == Some(true));
+        assert!(rt;
+            matches!(&fs, Ok(fs) if comes(rt.alloc(), fs, first, second, words) == Some(true))
+        );
     }
 }

@@ -11,21 +11,20 @@ use std::sync::{Arc, Wait};
 use std::thread::Threads;
 use std::time::{Clock, Duration};
 use walk_fixtures::trees::{FORKED, tree};
-use walk_fixtures::watched::{Failing, Watched};
 use walk_ways::width::Width;
 
 /// Readings over some file system that some pool may give.
 type PoolReads<S, L> = ReadDirIter<States, S, NoProcess, Global, InTurn, L>;
 
 /// Readings that a crew may make.
-type Reads<R> = PoolReads<Arc<Watched>, Session<R, States, Arc<Watched>, NoProcess>>;
+type Reads<R, S> = PoolReads<Arc<S>, Session<R, States, Arc<S>, NoProcess>>;
 
 /// The readings of the root and of all below it, by the crew if a place is free at once, or so many at a time; or why
 /// they don't begin.
-fn tried<R: Wait + Threads + Clock + Drop + Send + Sync + 'static>(
-    stand: &Stand<R>,
-    width: Option<Width>,
-) -> Result<Result<Reads<R>, Error>, AllocError> {
+fn tried<
+    R: Wait + Threads + Clock + Drop + Send + Sync + 'static,
+    S: FileSystem + Send + Sync + 'static,
+>(stand: &Stand<R, S>, width: Option<Width>) -> Result<Result<Reads<R, S>, Error>, AllocError> {
     let fs = stand.fs.clone()?;
     let parallelism = match width {
         Some(width) => width.parallelism(),
@@ -34,7 +33,7 @@ fn tried<R: Wait + Threads + Clock + Drop + Send + Sync + 'static>(
             busy_timeout: Some(Duration::from_millis(0)),
         },
     };
-    let job: Job<States, Arc<Watched>, NoProcess> = Job::new(
+    let job: Job<States, Arc<S>, NoProcess> = Job::new(
         stand.alloc,
         fs,
         NoProcess,
@@ -62,10 +61,10 @@ fn are_seven<S: FileSystem, L: Pool<States, S, NoProcess, Global>>(
 }
 
 /// What comes of readings, in a word.
-fn word_of<R: Wait + Threads + Clock + Drop + Send + Sync + 'static>(
-    stand: &Stand<R>,
-    width: Option<Width>,
-) -> &'static str {
+fn word_of<
+    R: Wait + Threads + Clock + Drop + Send + Sync + 'static,
+    S: FileSystem + Send + Sync + 'static,
+>(stand: &Stand<R, S>, width: Option<Width>) -> &'static str {
     match tried(stand, width) {
         Ok(Ok(mut reads)) => {
             if are_seven(&mut reads) {
@@ -81,9 +80,10 @@ fn word_of<R: Wait + Threads + Clock + Drop + Send + Sync + 'static>(
 
 /// Whether readings by the crew have its place, others come meanwhile where they ask for no crew alone, and the first
 /// ones are all there.
-fn have_the_place<R: Wait + Threads + Clock + Drop + Send + Sync + 'static>(
-    stand: &Stand<R>,
-) -> bool {
+fn have_the_place<
+    R: Wait + Threads + Clock + Drop + Send + Sync + 'static,
+    S: FileSystem + Send + Sync + 'static,
+>(stand: &Stand<R, S>) -> bool {
     let Ok(Ok(mut held)) = tried(stand, None) else {
         return false;
     };
@@ -101,7 +101,7 @@ fn come<R: Wait + Threads + Clock + AllocGlobal + Clone + Drop + Send + Sync + '
     let Ok(tree) = tree(rt.alloc(), FORKED) else {
         return false;
     };
-    match Stand::new(rt, tree, Failing::Never, 1, 2) {
+    match Stand::new(rt, tree, 1, 2) {
         Ok(stand) => have_the_place(&stand) && stand.crew.in_use() == 0,
         Err(_) => false,
     }

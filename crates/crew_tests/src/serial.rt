@@ -1,14 +1,13 @@
 //! Whether walks over a crew answer as serial walks do, item by item.
 use crate::crewed::{Asked, Stand};
 use jwalk::DirEntry;
-use jwalk::file_system::{BuildError, MemoryFs};
+use jwalk::file_system::{BuildError, FileSystem, MemoryFs};
 use jwalk::read_dir::{ByFn, NoProcess, ProcessReadDir};
 use std::alloc::{AllocError, Global};
 use std::sync::Wait;
 use std::thread::Threads;
 use std::time::Clock;
 use walk_fixtures::answers::Answer;
-use walk_fixtures::watched::Failing;
 use walk_ways::ways::{self, Way};
 use walk_ways::width::Width;
 
@@ -24,8 +23,9 @@ fn text_of(alloc: Global, found: Result<Vec<Answer<Counts>>, AllocError>) -> Opt
 /// Whether a walk over the crew with a callback answers what the serial walk does with the same one.
 fn is_serial<
     R: Wait + Threads + Clock + AllocGlobal + Drop + Send + Sync + 'static,
+    S: FileSystem + Send + Sync + 'static,
     P: ProcessReadDir<Counts, Global> + Send + Sync + 'static,
->(rt: &R, stand: &Stand<R>, asked: &Asked<'_>, process: P, same: P) -> bool
+>(rt: &R, stand: &Stand<R, S>, asked: &Asked<'_>, process: P, same: P) -> bool
     requires lawful { P.IsLawful process }
     requires same { P.IsLawful same }
 {
@@ -74,8 +74,16 @@ fn reorder(
     Ok(())
 }
 
-/// Whether walks over a tree, without a callback and with one that reorders lists, answer what serial ones do over a
-/// crew with so many workers for a walk.
+/// Whether both walks over the crew, without a callback and with one that reorders lists, answer what serial ones do.
+fn are_both_serial<
+    R: Wait + Threads + Clock + AllocGlobal + Drop + Send + Sync + 'static,
+    S: FileSystem + Send + Sync + 'static,
+>(rt: &R, stand: &Stand<R, S>, asked: &Asked<'_>) -> bool {
+    is_serial(rt, stand, asked, NoProcess, NoProcess)
+        && is_serial(rt, stand, asked, ByFn::of(reorder), ByFn::of(reorder))
+}
+
+/// Whether walks over a tree do so, over a crew with so many workers for a walk.
 pub fn are_serial<R: Wait + Threads + Clock + AllocGlobal + Clone + Drop + Send + Sync + 'static>(
     rt: &R,
     tree: Result<MemoryFs, BuildError>,
@@ -85,9 +93,8 @@ pub fn are_serial<R: Wait + Threads + Clock + AllocGlobal + Clone + Drop + Send 
     let Ok(tree) = tree else {
         return false;
     };
-    let Ok(stand) = Stand::new(rt, tree, Failing::Never, 1, workers) else {
-        return false;
-    };
-    is_serial(rt, &stand, asked, NoProcess, NoProcess)
-        && is_serial(rt, &stand, asked, ByFn::of(reorder), ByFn::of(reorder))
+    match Stand::new(rt, tree, 1, workers) {
+        Ok(stand) => are_both_serial(rt, &stand, asked),
+        Err(_) => false,
+    }
 }

@@ -1,7 +1,7 @@
 //! Readings of one directory, without a walk.
 ghost use Rattle.jwalk.specs.jwalk_read.Job.{callback};
 
-use jwalk::file_system::{FileSystem, MemoryFs};
+use jwalk::file_system::FileSystem;
 use jwalk::read_dir::{Job, NoProcess, ProcessReadDir, ReadDirSpec};
 use jwalk::{ClientState, DirEntry, Error};
 use std::alloc::{AllocError, Global};
@@ -79,7 +79,7 @@ fn are_groups(specs: &[ReadDirSpec<Noted>]) -> bool {
 }
 
 /// Whether the root is the one that was named, and its directories are the two groups.
-fn has_groups(job: &Job<Noted, MemoryFs, NotesNames>) -> Option<bool> {
+fn has_groups<S: FileSystem>(job: &Job<Noted, S, NotesNames>) -> Option<bool> {
     let root = root_spec(job)?;
     let specs = specs_in(job, &root)?;
     Some(root.path.as_str() == "/t" && are_groups(specs.as_slice()))

@@ -27,7 +27,10 @@ pub fn over_tree(
 }
 
 /// What a `for` loop over a walk that is yet to begin comes by.
-pub fn in_a_for_loop(alloc: Global, walk: Builder<MemoryFs>) -> Result<Vec<Answer>, AllocError> {
+pub fn in_a_for_loop<S: FileSystem>(
+    alloc: Global,
+    walk: Builder<S>,
+) -> Result<Vec<Answer>, AllocError> {
     let mut found = Vec::new(alloc);
     for answer in walk {
         found.push(answer)?;

@@ -1,5 +1,5 @@
 //! Walks with callbacks.
-use jwalk::file_system::BuildError;
+use jwalk::file_system::{BuildError, FileSystem};
 use jwalk::{ClientState, DirEntry};
 use proved_walk::hands_on_names::{Found, HandsOnNames};
 use proved_walk::marked::walk_marked;
@@ -47,10 +47,13 @@ fn hands_on(alloc: Global) -> Result<bool, BuildError> {
 }
 
 /// Whether that is handed on where a walk is read in this way.
-fn hands_on_by(rt: &(impl Threads + AllocGlobal + Sync), way: Way) -> Result<bool, BuildError> {
-    let fs = tree(rt.alloc(), GROUPED)?;
+fn hands_on_by<R: Threads + AllocGlobal + Sync, S: FileSystem + Send + Sync>(
+    rt: &R,
+    fs: &S,
+    way: Way,
+) -> Result<bool, AllocError> {
     let asked = Asked {
-        fs: &fs,
+        fs,
         root: "/t",
         settings: &[Setting::Sort],
     };
@@ -61,8 +64,9 @@ fn hands_on_by(rt: &(impl Threads + AllocGlobal + Sync), way: Way) -> Result<boo
 #[test]
 fn names_handed_on_to_the_directories_below(rt: HostRuntime) {
     assert!(rt; matches!(hands_on(rt.alloc()), Ok(true)));
+    let fs = tree(rt.alloc(), GROUPED);
     for way in WAYS {
-        assert!(rt; matches!(hands_on_by(&rt, *way), Ok(true)));
+        assert!(rt; matches!(&fs, Ok(fs) if hands_on_by(&rt, fs, *way) == Ok(true)));
     }
 }
 

@@ -1,5 +1,6 @@
 //! Walks under way, read one after another and by threads.
 use crate::rows::begun::{Begun, Coming};
+use jwalk::file_system::FileSystem;
 use std::alloc::Global;
 use std::process::Abort;
 use std::thread::Threads;
@@ -30,8 +31,8 @@ pub struct Course {
 
 /// Whether each answer is an entry, and that is how many readings are ahead then, and listings made. At the end no
 /// other listing was made.
-fn goes_on<R: Threads + Sync>(
-    walk: &mut Begun<'_, R>,
+fn goes_on<S: FileSystem + Send + Sync, R: Threads + Sync>(
+    walk: &mut Begun<'_, S, R>,
     fs: &Watched,
     counts: &[(usize, usize)],
 ) -> bool {
@@ -45,7 +46,10 @@ fn goes_on<R: Threads + Sync>(
 }
 
 /// Whether a walk ends with the want of memory after so many entries, and nothing is left of it then.
-fn ends_with_memory<R: Threads + Sync>(walk: &mut Begun<'_, R>, before: usize) -> bool {
+fn ends_with_memory<S: FileSystem + Send + Sync, R: Threads + Sync>(
+    walk: &mut Begun<'_, S, R>,
+    before: usize,
+) -> bool {
     for _ in 0..before {
         if !matches!(walk.next(), (Coming::Entry, _)) {
             return false;
@@ -55,9 +59,9 @@ fn ends_with_memory<R: Threads + Sync>(walk: &mut Begun<'_, R>, before: usize) -
 }
 
 /// Whether each call for answers gives so many, and these are there then.
-fn comes_in_parts<R: Threads + Sync>(
+fn comes_in_parts<S: FileSystem + Send + Sync, R: Threads + Sync>(
     alloc: Global,
-    walk: &mut Begun<'_, R>,
+    walk: &mut Begun<'_, S, R>,
     parts: &[(usize, usize, &str)],
 ) -> bool {
     let mut found = Vec::new(alloc);

@@ -1,5 +1,5 @@
 //! Readings of directories and of all below them, without the answers of a walk.
-use jwalk::file_system::MemoryFs;
+use jwalk::file_system::FileSystem;
 use jwalk::read_dir::{Job, NoProcess, ReadDir};
 use jwalk::read_dir_iter::ReadDirIter;
 use jwalk::threads::{InTurn, OnThreads};
@@ -10,13 +10,13 @@ use walk_fixtures::trees::{FORKED, tree};
 use walk_ways::width::Width;
 
 /// Readings that are made in some way.
-type ReadsBy<'a, T> = ReadDirIter<((), ()), &'a MemoryFs, NoProcess, Global, T>;
+type ReadsBy<'a, S, T> = ReadDirIter<((), ()), &'a S, NoProcess, Global, T>;
 
 /// Readings, made one after another or by threads.
 #[derive(Drop)]
-enum Reads<'a, R> {
-    InTurn(ReadsBy<'a, InTurn>),
-    OnThreads(ReadsBy<'a, OnThreads<&'a R>>),
+enum Reads<'a, S: FileSystem, R> {
+    InTurn(ReadsBy<'a, S, InTurn>),
+    OnThreads(ReadsBy<'a, S, OnThreads<&'a R>>),
 }
 
 /// The widths at which directories are read.
@@ -27,8 +27,8 @@ const WIDTHS: &[Width] = &[
     Width::Batches(8),
 ];
 
-/// What reads the directories of a tree.
-fn job(alloc: Global, fs: &MemoryFs) -> Job<((), ()), &MemoryFs, NoProcess> {
+/// What reads the directories of a file system.
+fn job<S: FileSystem>(alloc: Global, fs: &S) -> Job<((), ()), &S, NoProcess> {
     Job::new(alloc, fs, NoProcess, false, true, false, usize::MAX)
 }
 
@@ -48,15 +48,9 @@ fn is_three(read: &Option<Result<ReadDir<((), ())>, Error>>) -> bool {
     }
 }
 
-impl<'a, R: Threads + Sync> Reads<'a, R> {
+impl<'a, S: FileSystem + Send + Sync, R: Threads + Sync> Reads<'a, S, R> {
     /// The readings of the root and of all below it.
-    fn new(
-        rt: &'a R,
-        alloc: Global,
-        fs: &'a MemoryFs,
-        width: Width,
-        on_threads: bool,
-    ) -> Option<Self> {
+    fn new(rt: &'a R, alloc: Global, fs: &'a S, width: Width, on_threads: bool) -> Option<Self> {
         let job = job(alloc, fs);
         let roots = job.root_list("/r", ()).ok()?.read_children_specs().ok()?;
         let width = width.parallelism();
@@ -99,11 +93,13 @@ const SEVEN: &[Option<bool>] = &[
 ];
 
 /// Whether seven readings come, by threads or not, and then none.
-fn gives_seven<R: Threads + AllocGlobal + Sync>(rt: &R, width: Width, on_threads: bool) -> bool {
-    let Ok(fs) = tree(rt.alloc(), FORKED) else {
-        return false;
-    };
-    let Some(mut reads) = Reads::new(rt, rt.alloc(), &fs, width, on_threads) else {
+fn gives_seven<R: Threads + AllocGlobal + Sync, S: FileSystem + Send + Sync>(
+    rt: &R,
+    fs: &S,
+    width: Width,
+    on_threads: bool,
+) -> bool {
+    let Some(mut reads) = Reads::new(rt, rt.alloc(), fs, width, on_threads) else {
         return false;
     };
     for wanted in SEVEN {
@@ -114,31 +110,22 @@ fn gives_seven<R: Threads + AllocGlobal + Sync>(rt: &R, width: Width, on_threads
     true
 }
 
-#[test]
-fn readings_from_the_directories_of_a_list(rt: HostRuntime) {
-    for width in WIDTHS {
-        assert!(rt; gives_seven(&rt, *width, false) && gives_seven(&rt, *width, true));
-    }
-}
-
 /// The root's entry.
-fn root(alloc: Global, fs: &MemoryFs) -> Option<DirEntry<((), ())>> {
+fn root<S: FileSystem>(alloc: Global, fs: &S) -> Option<DirEntry<((), ())>> {
     let list = job(alloc, fs).root_list("/r", ()).ok()?;
     list.into_results_list().pop()?.ok()
 }
 
 /// Whether the root's entry asks for the reading of the root, by threads or not.
-fn asks_for_its_own<R: Threads + AllocGlobal + Sync>(
+fn asks_for_its_own<R: Threads + AllocGlobal + Sync, S: FileSystem + Send + Sync>(
     rt: &R,
+    fs: &S,
     width: Width,
     on_threads: bool,
 ) -> bool {
-    let Ok(fs) = tree(rt.alloc(), FORKED) else {
-        return false;
-    };
     match (
-        root(rt.alloc(), &fs),
-        Reads::new(rt, rt.alloc(), &fs, width, on_threads),
+        root(rt.alloc(), fs),
+        Reads::new(rt, rt.alloc(), fs, width, on_threads),
     ) {
         (Some(entry), Some(mut reads)) => reads.has_three_in(&entry),
         _ => false,
@@ -146,8 +133,21 @@ fn asks_for_its_own<R: Threads + AllocGlobal + Sync>(
 }
 
 #[test]
-fn the_reading_of_an_entrys_directory(rt: HostRuntime) {
+fn readings_from_the_directories_of_a_list(rt: HostRuntime) {
+    let fs = tree(rt.alloc(), FORKED);
     for width in WIDTHS {
-        assert!(rt; asks_for_its_own(&rt, *width, false) && asks_for_its_own(&rt, *width, true));
+        for on_threads in [false, true] {
+            assert!(rt; matches!(&fs, Ok(fs) if gives_seven(&rt, fs, *width, on_threads)));
+        }
+    }
+}
+
+#[test]
+fn the_reading_of_an_entrys_directory(rt: HostRuntime) {
+    let fs = tree(rt.alloc(), FORKED);
+    for width in WIDTHS {
+        for on_threads in [false, true] {
+            assert!(rt; matches!(&fs, Ok(fs) if asks_for_its_own(&rt, fs, *width, on_threads)));
+        }
     }
 }

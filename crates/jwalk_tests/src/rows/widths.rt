@@ -1,7 +1,7 @@
 //! How many directories are read together, and when.
 use crate::rows::courses::{Course, Seen, all_take};
 use jwalk::Parallelism;
-use jwalk::file_system::{BuildError, MemoryFs};
+use jwalk::file_system::{BuildError, FileSystem};
 use std::alloc::{AllocError, Global};
 use walk_fixtures::trees::{FORKED, GROUPED};
 use walk_fixtures::watched::Failing;
@@ -89,7 +89,10 @@ fn groups_of_files(rt: HostRuntime) {
 }
 
 /// How many readings are ahead of a walk once it has answered the first of the groups.
-fn ahead_at_first_group(alloc: Global, walk: Builder<MemoryFs>) -> Result<usize, AllocError> {
+fn ahead_at_first_group<S: FileSystem>(
+    alloc: Global,
+    walk: Builder<S>,
+) -> Result<usize, AllocError> {
     let mut walk = walk.sort(true).into_iter();
     let mut found = Vec::new(alloc);
     walk.fill(5, &mut found)?;

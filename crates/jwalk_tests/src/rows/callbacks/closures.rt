@@ -1,12 +1,12 @@
 //! Walks whose callbacks are closures.
 use crate::rows::callbacks::rows::{Callback, Row, all_hold};
 use jwalk::DirEntry;
-use jwalk::file_system::BuildError;
-use std::alloc::Global;
+use jwalk::file_system::{BuildError, FileSystem};
+use std::alloc::{AllocError, Global};
 use walk_fixtures::answers::{Answer, are_lines};
 use walk_fixtures::moving::move_directory;
 use walk_fixtures::trees::GROUPED;
-use walk_ways::builders::over_tree;
+use walk_ways::builders::{Builder, over_tree};
 use walk_ways::ways::all_looped;
 
 /// What a closure does with each list.
@@ -90,9 +90,8 @@ fn a_directory_that_was_moved_to_a_file(rt: HostRuntime) {
     all_hold(&rt, ROWS);
 }
 
-/// Whether a `for` loop over the groups comes by these answers where each list is cut after two items.
-fn cuts(alloc: Global, wanted: &str) -> Result<bool, BuildError> {
-    let walk = over_tree(alloc, GROUPED, "/t")?.sort(true);
+/// Whether a `for` loop over a walk comes by these answers where each list is cut after two items.
+fn cuts<S: FileSystem>(alloc: Global, walk: Builder<S>, wanted: &str) -> Result<bool, AllocError> {
     let walk = walk.process_read_dir_by(|_depth, _path, _state, list| {
         list.truncate(2);
         Ok(())
@@ -101,8 +100,14 @@ fn cuts(alloc: Global, wanted: &str) -> Result<bool, BuildError> {
     Ok(are_lines(alloc, found.as_slice(), wanted))
 }
 
+/// Whether that is so of the groups by name.
+fn cuts_groups(alloc: Global, wanted: &str) -> Result<bool, BuildError> {
+    let walk = over_tree(alloc, GROUPED, "/t")?.sort(true);
+    Ok(cuts(alloc, walk, wanted)?)
+}
+
 #[test]
 fn a_walk_with_a_callback_in_a_for_loop(rt: HostRuntime) {
     let wanted = "0 d /t; 1 f /t/a.txt; 1 f /t/b.txt";
-    assert!(rt; matches!(cuts(rt.alloc(), wanted), Ok(true)));
+    assert!(rt; matches!(cuts_groups(rt.alloc(), wanted), Ok(true)));
 }

@@ -2,7 +2,7 @@
 use crate::rows::callbacks::closures::Change;
 use crate::rows::callbacks::ready::skip_three;
 use crate::rows::callbacks::refusals::RefusedAt;
-use jwalk::file_system::MemoryFs;
+use jwalk::file_system::FileSystem;
 use jwalk::read_dir::{ByFn, FilterEntry};
 use std::process::Abort;
 use std::thread::Threads;
@@ -31,10 +31,10 @@ pub struct Row {
 
 impl Row {
     /// Whether these are the answers of the walk that is asked for, read in this way.
-    fn shows<R: Threads + AllocGlobal + Sync>(
+    fn shows<R: Threads + AllocGlobal + Sync, S: FileSystem + Send + Sync>(
         &self,
         rt: &R,
-        asked: &Asked<'_, MemoryFs>,
+        asked: &Asked<'_, S>,
         way: Way,
     ) -> bool {
         match &self.callback {
