@@ -1,4 +1,5 @@
 //! A closure over lists of any allocator.
+use crate::whole::walk_given;
 use jwalk::error::Result as Answer;
 use jwalk::file_system::FileSystem;
 use jwalk::read_dir::ByFn;
@@ -19,7 +20,5 @@ pub fn walk_turned<S: FileSystem, A: Allocator + Copy>(
         Ok(())
     });
     let walk = WalkDirGeneric::<((), ()), _, _, _>::new(fs, root).process_read_dir(turned);
-    let mut found = Vec::new(alloc);
-    walk.into_iter().fill(usize::MAX, &mut found)?;
-    Ok(found)
+    walk_given(alloc, walk)
 }

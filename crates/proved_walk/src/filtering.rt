@@ -7,6 +7,7 @@ ghost use Rattle.jwalk.specs.jwalk_process.FilterEntry.{filtering};
 ghost use Rattle.jwalk.specs.DirEntryIter.{NoneRefused};
 ghost use Rattle.proved_walk.specs.Filtering.{no_target, job_without_target};
 
+use crate::whole::walk_given;
 use jwalk::error::Result as Answer;
 use jwalk::file_system::FileSystem;
 use jwalk::read_dir::FilterEntry;
@@ -28,7 +29,5 @@ pub fn walk_without_target<S: FileSystem>(
     let filter = FilterEntry::new(|_depth, name, file_type| name != "target"
         || !file_type.is_dir());
     let walk = WalkDirGeneric::<((), ()), _, _, _>::new(fs, root).process_read_dir(filter);
-    let mut found = Vec::new(alloc);
-    walk.into_iter().fill(usize::MAX, &mut found)?;
-    Ok(found)
+    walk_given(alloc, walk)
 }

@@ -1,4 +1,5 @@
 //! A walk whose callback is a closure.
+use crate::whole::walk_given;
 use jwalk::error::Result as Answer;
 use jwalk::file_system::FileSystem;
 use jwalk::{DirEntry, WalkDirGeneric};
@@ -39,7 +40,5 @@ pub fn walk_marked<S: FileSystem>(
             }
             Ok(())
         });
-    let mut found = Vec::new(alloc);
-    walk.into_iter().fill(usize::MAX, &mut found)?;
-    Ok(found)
+    walk_given(alloc, walk)
 }

@@ -8,6 +8,7 @@ ghost use Rattle.jwalk.specs.read_parts.Given.{counted_list};
 ghost use Rattle.jwalk.specs.DirEntryIter.{NoneRefused};
 ghost use Rattle.proved_walk.specs.RootAlone.{root_alone, emptied, empties};
 
+use crate::whole::walk_given;
 use jwalk::error::Result as Answer;
 use jwalk::file_system::FileSystem;
 use jwalk::{DirEntry, WalkDirGeneric};
@@ -35,7 +36,5 @@ pub fn walk_root_alone<S: FileSystem>(
             Ok(())
         },
     );
-    let mut found = Vec::new(alloc);
-    walk.into_iter().fill(usize::MAX, &mut found)?;
-    Ok(found)
+    walk_given(alloc, walk)
 }
