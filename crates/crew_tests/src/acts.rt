@@ -1,13 +1,12 @@
 //! What is done with walks over a crew, one act after another.
-use crate::crewed::{Asked, PoolWalk, Stand, States, Taken, Walk};
+use crate::crewed::{Asked, Host, PoolWalk, Stand, States, Taken, Walk};
 use jwalk::file_system::FileSystem;
 use jwalk::read_dir::{NoProcess, ProcessReadDir};
 use jwalk::{Crew, Pool};
 use jwalk_crew::crew::Place;
 use std::alloc::{AllocError, Global};
-use std::sync::{Arc, Wait};
+use std::sync::Arc;
 use std::thread;
-use std::thread::Threads;
 use std::time::{Clock, Duration};
 use walk_fixtures::answers::{Answer, are_lines};
 use walk_fixtures::trees::{Step, tree};
@@ -160,10 +159,7 @@ fn rests(clock: &impl Clock, fs: &impl CountsLists) -> bool {
 }
 
 /// Takes a place, and gives it back a while later on another thread.
-fn holds<R: Wait + Threads + Clock + Clone + Drop + Send + Sync + 'static>(
-    rt: &R,
-    crew: &Arc<Crew<R>>,
-) -> Option<()> {
+fn holds<R: Host>(rt: &R, crew: &Arc<Crew<R>>) -> Option<()> {
     let clock: R = rt.clone().ok()?;
     let place = Place::take(crew, None).ok()?;
     let holder = thread::spawn(rt, move || {
@@ -175,10 +171,12 @@ fn holds<R: Wait + Threads + Clock + Clone + Drop + Send + Sync + 'static>(
 }
 
 /// Whether an act comes off beside these walks.
-fn comes_off<
-    R: Wait + Threads + Clock + AllocGlobal + Clone + Drop + Send + Sync + 'static,
-    S: CountsLists + Send + Sync + 'static,
->(rt: &R, stand: &Stand<R, S>, walks: &mut Vec<Walk<R, S>>, act: &Act<'_>) -> bool {
+fn comes_off<R: Host, S: CountsLists + Send + Sync + 'static>(
+    rt: &R,
+    stand: &Stand<R, S>,
+    walks: &mut Vec<Walk<R, S>>,
+    act: &Act<'_>,
+) -> bool {
     match act {
         Act::Begins(asked) => match stand.tried(asked) {
             Ok(walk) => walks.push(walk).is_ok(),
@@ -200,10 +198,11 @@ fn comes_off<
 }
 
 /// The number of the first act that doesn't come off, where they come one after another.
-fn wrong<
-    R: Wait + Threads + Clock + AllocGlobal + Clone + Drop + Send + Sync + 'static,
-    S: CountsLists + Send + Sync + 'static,
->(rt: &R, stand: &Stand<R, S>, acts: &[Act<'_>]) -> Option<usize> {
+fn wrong<R: Host, S: CountsLists + Send + Sync + 'static>(
+    rt: &R,
+    stand: &Stand<R, S>,
+    acts: &[Act<'_>],
+) -> Option<usize> {
     let mut walks = Vec::new(stand.alloc);
     for (number, act) in acts.iter().enumerate() {
         if !comes_off(rt, stand, &mut walks, act) {
@@ -215,11 +214,7 @@ fn wrong<
 
 /// The number of the first act that doesn't come off over the crew and the tree of a scene; 0 where these can't be
 /// made.
-pub fn first_wrong<R: Wait + Threads + Clock + AllocGlobal + Clone + Drop + Send + Sync + 'static>(
-    rt: &R,
-    scene: &Scene,
-    acts: &[Act<'_>],
-) -> Option<usize> {
+pub fn first_wrong<R: Host>(rt: &R, scene: &Scene, acts: &[Act<'_>]) -> Option<usize> {
     let Ok(tree) = tree(rt.alloc(), scene.steps) else {
         return Some(0);
     };
@@ -231,10 +226,13 @@ pub fn first_wrong<R: Wait + Threads + Clock + AllocGlobal + Clone + Drop + Send
 }
 
 /// Whether a walk with a callback answers this over a tree, whose crew has two workers.
-pub fn shows_by<
-    R: Wait + Threads + Clock + AllocGlobal + Clone + Drop + Send + Sync + 'static,
-    P: ProcessReadDir<States, Global> + Send + Sync + 'static,
->(rt: &R, steps: &[Step], asked: &Asked<'_>, process: P, wanted: &str) -> bool
+pub fn shows_by<R: Host, P: ProcessReadDir<States, Global> + Send + Sync + 'static>(
+    rt: &R,
+    steps: &[Step],
+    asked: &Asked<'_>,
+    process: P,
+    wanted: &str,
+) -> bool
     requires { P.IsLawful process }
 {
     let Ok(tree) = tree(rt.alloc(), steps) else {

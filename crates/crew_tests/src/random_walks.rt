@@ -1,11 +1,8 @@
 //! Walks over trees made at random, with and without a crew.
-use crate::crewed::{Asked, Reader};
+use crate::crewed::{Asked, Host, Reader};
 use crate::dice::Dice;
 use crate::random_trees::random_tree;
 use crate::serial::are_serial;
-use std::sync::Wait;
-use std::thread::Threads;
-use std::time::Clock;
 use walk_ways::ways::Setting;
 
 /// How many trees there are.
@@ -34,9 +31,7 @@ fn settings(seed: usize) -> [Setting; 5] {
 }
 
 /// The first seed whose walks differ with and without a crew of so many workers for a walk, if there is one.
-fn first_that_differs<
-    R: Wait + Threads + Clock + AllocGlobal + Clone + Drop + Send + Sync + 'static,
->(rt: &R, workers: usize) -> Option<usize> {
+fn first_that_differs<R: Host>(rt: &R, workers: usize) -> Option<usize> {
     for seed in 0..TREES {
         let settings = settings(seed);
         let walk = Asked {

@@ -1,5 +1,5 @@
 //! Readings that a crew makes, without the answers of a walk.
-use crate::crewed::{Stand, States};
+use crate::crewed::{Host, Stand, States};
 use jwalk::crew::Session;
 use jwalk::file_system::FileSystem;
 use jwalk::read_dir::{Job, NoProcess};
@@ -7,9 +7,8 @@ use jwalk::read_dir_iter::ReadDirIter;
 use jwalk::threads::InTurn;
 use jwalk::{Error, Parallelism, Pool};
 use std::alloc::{AllocError, Global};
-use std::sync::{Arc, Wait};
-use std::thread::Threads;
-use std::time::{Clock, Duration};
+use std::sync::Arc;
+use std::time::Duration;
 use walk_fixtures::trees::{FORKED, tree};
 use walk_ways::width::Width;
 
@@ -21,10 +20,10 @@ type Reads<R, S> = PoolReads<Arc<S>, Session<R, States, Arc<S>, NoProcess>>;
 
 /// The readings of the root and of all below it, by the crew if a place is free at once, or so many at a time; or why
 /// they don't begin.
-fn tried<
-    R: Wait + Threads + Clock + Drop + Send + Sync + 'static,
-    S: FileSystem + Send + Sync + 'static,
->(stand: &Stand<R, S>, width: Option<Width>) -> Result<Result<Reads<R, S>, Error>, AllocError> {
+fn tried<R: Host, S: FileSystem + Send + Sync + 'static>(
+    stand: &Stand<R, S>,
+    width: Option<Width>,
+) -> Result<Result<Reads<R, S>, Error>, AllocError> {
     let fs = stand.fs.clone()?;
     let parallelism = match width {
         Some(width) => width.parallelism(),
@@ -61,10 +60,10 @@ fn are_seven<S: FileSystem, L: Pool<States, S, NoProcess, Global>>(
 }
 
 /// What comes of readings, in a word.
-fn word_of<
-    R: Wait + Threads + Clock + Drop + Send + Sync + 'static,
-    S: FileSystem + Send + Sync + 'static,
->(stand: &Stand<R, S>, width: Option<Width>) -> &'static str {
+fn word_of<R: Host, S: FileSystem + Send + Sync + 'static>(
+    stand: &Stand<R, S>,
+    width: Option<Width>,
+) -> &'static str {
     match tried(stand, width) {
         Ok(Ok(mut reads)) => {
             if are_seven(&mut reads) {
@@ -80,10 +79,7 @@ fn word_of<
 
 /// Whether readings by the crew have its place, others come meanwhile where they ask for no crew alone, and the first
 /// ones are all there.
-fn have_the_place<
-    R: Wait + Threads + Clock + Drop + Send + Sync + 'static,
-    S: FileSystem + Send + Sync + 'static,
->(stand: &Stand<R, S>) -> bool {
+fn have_the_place<R: Host, S: FileSystem + Send + Sync + 'static>(stand: &Stand<R, S>) -> bool {
     let Ok(Ok(mut held)) = tried(stand, None) else {
         return false;
     };
@@ -95,9 +91,7 @@ fn have_the_place<
 }
 
 /// Whether that is so over a crew of one place, which is free afterwards.
-fn come<R: Wait + Threads + Clock + AllocGlobal + Clone + Drop + Send + Sync + 'static>(
-    rt: &R,
-) -> bool {
+fn come<R: Host>(rt: &R) -> bool {
     let Ok(tree) = tree(rt.alloc(), FORKED) else {
         return false;
     };

@@ -1,13 +1,10 @@
 //! Walks over a crew and their answers, which are those of walks without one.
 use crate::acts::{Act, Scene, first_wrong, shows_by};
-use crate::crewed::{Asked, Reader, Taken};
+use crate::crewed::{Asked, Host, Reader, Taken};
 use crate::serial::are_serial;
 use jwalk::file_system::{BuildError, MemoryFs};
 use jwalk::read_dir::ByFn;
 use std::alloc::{AllocError, Global};
-use std::sync::Wait;
-use std::thread::Threads;
-use std::time::Clock;
 use walk_fixtures::answers::Answer;
 use walk_fixtures::moving::move_directory;
 use walk_fixtures::trees::{DENIED, FORKED, GROUPED, LOOPED, Step, tree};
@@ -23,11 +20,7 @@ type Row = (
 );
 
 /// Whether these are the walk's answers, over a crew with so many workers for a walk and without one.
-fn holds<R: Wait + Threads + Clock + AllocGlobal + Clone + Drop + Send + Sync + 'static>(
-    rt: &R,
-    (steps, root, settings, answers): &Row,
-    workers: usize,
-) -> bool {
+fn holds<R: Host>(rt: &R, (steps, root, settings, answers): &Row, workers: usize) -> bool {
     let scene = Scene {
         steps: *steps,
         failing: Failing::Never,

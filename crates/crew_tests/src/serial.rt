@@ -1,12 +1,9 @@
 //! Whether walks over a crew answer as serial walks do, item by item.
-use crate::crewed::{Asked, Stand};
+use crate::crewed::{Asked, Host, Stand};
 use jwalk::DirEntry;
 use jwalk::file_system::{BuildError, FileSystem, MemoryFs};
 use jwalk::read_dir::{ByFn, NoProcess, ProcessReadDir};
 use std::alloc::{AllocError, Global};
-use std::sync::Wait;
-use std::thread::Threads;
-use std::time::Clock;
 use walk_fixtures::answers::Answer;
 use walk_ways::ways::{self, Way};
 use walk_ways::width::Width;
@@ -22,7 +19,7 @@ fn text_of(alloc: Global, found: Result<Vec<Answer<Counts>>, AllocError>) -> Opt
 
 /// Whether a walk over the crew with a callback answers what the serial walk does with the same one.
 fn is_serial<
-    R: Wait + Threads + Clock + AllocGlobal + Drop + Send + Sync + 'static,
+    R: Host,
     S: FileSystem + Send + Sync + 'static,
     P: ProcessReadDir<Counts, Global> + Send + Sync + 'static,
 >(rt: &R, stand: &Stand<R, S>, asked: &Asked<'_>, process: P, same: P) -> bool
@@ -75,16 +72,17 @@ fn reorder(
 }
 
 /// Whether both walks over the crew, without a callback and with one that reorders lists, answer what serial ones do.
-fn are_both_serial<
-    R: Wait + Threads + Clock + AllocGlobal + Drop + Send + Sync + 'static,
-    S: FileSystem + Send + Sync + 'static,
->(rt: &R, stand: &Stand<R, S>, asked: &Asked<'_>) -> bool {
+fn are_both_serial<R: Host, S: FileSystem + Send + Sync + 'static>(
+    rt: &R,
+    stand: &Stand<R, S>,
+    asked: &Asked<'_>,
+) -> bool {
     is_serial(rt, stand, asked, NoProcess, NoProcess)
         && is_serial(rt, stand, asked, ByFn::of(reorder), ByFn::of(reorder))
 }
 
 /// Whether walks over a tree do so, over a crew with so many workers for a walk.
-pub fn are_serial<R: Wait + Threads + Clock + AllocGlobal + Clone + Drop + Send + Sync + 'static>(
+pub fn are_serial<R: Host>(
     rt: &R,
     tree: Result<MemoryFs, BuildError>,
     asked: &Asked<'_>,

@@ -1,13 +1,13 @@
 //! Two directories that are read at the same time.
 ghost use Rattle.jwalk.specs.walk_model.Tree.{functions_of, only_root};
 
+use crate::crewed::Host;
 use jwalk::file_system::{Fault, FileSystem, FileType, Listed, Metadata};
 use jwalk::{Crew, Parallelism, WalkDirGeneric};
 use std::alloc::{AllocError, Allocator};
 use std::io::ErrorKind;
+use std::sync::Arc;
 use std::sync::atomic::{AtomicBool, Ordering};
-use std::sync::{Arc, Wait};
-use std::thread::Threads;
 use std::time::{Clock, Duration};
 use std::{io, thread};
 use walk_fixtures::answers::{Answer, are_lines};
@@ -83,10 +83,7 @@ impl<R: Clock + Drop> FileSystem for Meeting<R> {
 }
 
 /// All that a walk over the two answers, for which a crew of two workers reads.
-fn answers_by_two<R: Wait + Threads + Clock + AllocGlobal + Clone + Drop + Send + Sync + 'static>(
-    rt: &R,
-    fs: Meeting<R>,
-) -> Result<Vec<Answer>, AllocError> {
+fn answers_by_two<R: Host>(rt: &R, fs: Meeting<R>) -> Result<Vec<Answer>, AllocError> {
     let alloc = rt.alloc();
     let by_crew = Parallelism::RayonExistingPool {
         pool: Arc::new(alloc, Crew::new(rt.clone()?, 1, 2))?,
