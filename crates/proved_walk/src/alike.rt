@@ -1,5 +1,7 @@
 //! Two walks whose directories are read in different ways.
 ghost use Rattle.std.specs.Prelude.{◌≡◌, IfOk};
+ghost use Rattle.jwalk.specs.walk_model.Options.{defaults};
+ghost use Rattle.jwalk.specs.walk_model.Walk.{stateless_walk};
 ghost use Rattle.jwalk.specs.read_parts.Given.{counted_list};
 ghost use Rattle.jwalk.specs.WalkDir.{stateless};
 ghost use Rattle.jwalk.specs.DirEntryIter.{NoneRefused};
@@ -12,7 +14,8 @@ use jwalk::{ClientState, DirEntry, Parallelism, WalkDirGeneric};
 use std::alloc::{AllocError, Allocator};
 
 /// All that a walk answers from a root, and all that one answers which reads so many directories together. Over a file
-/// system that always answers the same, they are the same answers, unless one of them tells of want of memory.
+/// system that always answers the same, each is the whole walk of the definition, unless one of its answers tells of
+/// want of memory; and that walk doesn't rest on how many are read together.
 pub fn walk_both<C: ClientState, S: FileSystem, A: Allocator + Copy>(
     alloc: A,
     fs: &S,
@@ -25,8 +28,10 @@ pub fn walk_both<C: ClientState, S: FileSystem, A: Allocator + Copy>(
     ),
     AllocError,
 >
-    ensures { IfOk result (λ both. S.IsFixed fs.now → NoneRefused both.0.items → NoneRefused both.1.items
-        → counted_list stateless both.0.items ≡ counted_list stateless both.1.items) }
+    ensures one { IfOk result (λ both. S.IsFixed fs.now → NoneRefused both.0.items
+        → counted_list stateless both.0.items ≡ stateless_walk (S.functions fs.now) defaults root.now) }
+    ensures other { IfOk result (λ both. S.IsFixed fs.now → NoneRefused both.1.items
+        → counted_list stateless both.1.items ≡ stateless_walk (S.functions fs.now) defaults root.now) }
 {
     let one: WalkDirGeneric<C, &S, NoProcess, A> = WalkDirGeneric::new(
         fs,

@@ -1,6 +1,8 @@
 //! Walks with callbacks.
 use jwalk::file_system::{BuildError, FileSystem};
 use jwalk::{ClientState, DirEntry};
+use proved_walk::anywhere::walk_turned;
+use proved_walk::filtering::walk_without_target;
 use proved_walk::hands_on_names::{Found, HandsOnNames};
 use proved_walk::marked::walk_marked;
 use proved_walk::root_alone::walk_root_alone;
@@ -9,7 +11,7 @@ use proved_walk::small_tree::names_in_small_tree;
 use std::alloc::{AllocError, Global};
 use std::thread::Threads;
 use walk_fixtures::answers::are_lines;
-use walk_fixtures::trees::{GROUPED, tree};
+use walk_fixtures::trees::{GROUPED, Step, tree};
 use walk_ways::ways::{Asked, Setting, WAYS, Way};
 
 /// Adds the path of an entry with the text of its state to a text.
@@ -93,6 +95,43 @@ fn shows_root(alloc: Global, wanted: &str) -> Result<bool, BuildError> {
 #[test]
 fn a_root_alone(rt: HostRuntime) {
     assert!(rt; matches!(shows_root(rt.alloc(), "0 d /t"), Ok(true)));
+}
+
+/// Whether these are the lines of the grouped tree where each list is turned round.
+fn shows_turned(alloc: Global, wanted: &str) -> Result<bool, BuildError> {
+    let root = String::from_str(alloc, "/t")?;
+    let found = walk_turned(alloc, tree(alloc, GROUPED)?, root)?;
+    Ok(are_lines(alloc, found.as_slice(), wanted))
+}
+
+#[test]
+fn lists_that_are_turned_round(rt: HostRuntime) {
+    let wanted = "0 d /t; 1 f /t/b.txt; 1 d /t/group 1; 2 f /t/group 1/d.txt; 1 d /t/group 2; \
+                  2 f /t/group 2/e.txt; 1 f /t/a.txt; 1 f /t/c.txt";
+    assert!(rt; matches!(shows_turned(rt.alloc(), wanted), Ok(true)));
+}
+
+/// A directory and a file of the name that is left out where it is a directory's, each beside another.
+const TARGETS: &[Step] = &[
+    Step::Dir("/r"),
+    Step::Dir("/r/target"),
+    Step::File(1, "/r/target/x"),
+    Step::Dir("/r/a"),
+    Step::File(1, "/r/a/target"),
+    Step::File(1, "/r/a/b"),
+];
+
+/// Whether these are the lines of that tree where directories of the name are left out.
+fn shows_without_target(alloc: Global, wanted: &str) -> Result<bool, BuildError> {
+    let root = String::from_str(alloc, "/r")?;
+    let found = walk_without_target(alloc, tree(alloc, TARGETS)?, root)?;
+    Ok(are_lines(alloc, found.as_slice(), wanted))
+}
+
+#[test]
+fn directories_of_a_name_that_are_left_out(rt: HostRuntime) {
+    let wanted = "0 d /r; 1 d /r/a; 2 f /r/a/target; 2 f /r/a/b";
+    assert!(rt; matches!(shows_without_target(rt.alloc(), wanted), Ok(true)));
 }
 
 /// Whether these are the marks of a walk: the state of each entry is whether it is marked.

@@ -1,6 +1,7 @@
 //! Whole walks, and walks in batches.
 use crate::wide::wide_directory;
 use jwalk::file_system::BuildError;
+use proved_walk::alike::walk_both;
 use proved_walk::batches::count_in_batches;
 use proved_walk::counted::Counted;
 use proved_walk::whole::walk_whole;
@@ -19,6 +20,21 @@ fn shows_small(alloc: Global, wanted: &str) -> Result<bool, BuildError> {
 fn a_whole_walk_in_one_list(rt: HostRuntime) {
     let wanted = "0 d /r; 1 f /r/b; 1 d /r/s; 2 f /r/s/x; 1 f /r/a";
     assert!(rt; matches!(shows_small(rt.alloc(), wanted), Ok(true)));
+}
+
+/// Whether these are the lines of both walks over the small tree, one of which reads so many directories together.
+fn both_show_small(alloc: Global, width: usize, wanted: &str) -> Result<bool, BuildError> {
+    let fs = tree(alloc, SMALL)?;
+    let (one, other) = walk_both::<((), ()), _, _>(alloc, &fs, "/r", width)?;
+    Ok(are_lines(alloc, one.as_slice(), wanted) && are_lines(alloc, other.as_slice(), wanted))
+}
+
+#[test]
+fn two_walks_that_read_in_different_ways(rt: HostRuntime) {
+    let wanted = "0 d /r; 1 f /r/b; 1 d /r/s; 2 f /r/s/x; 1 f /r/a";
+    for width in [0, 1, 2] {
+        assert!(rt; matches!(both_show_small(rt.alloc(), width, wanted), Ok(true)));
+    }
 }
 
 /// How many answers a walk over the grouped tree has, and how many listings were asked for.
