@@ -1,3 +1,4 @@
 pub mod HandedFacts
 pub mod SmallTreeFacts
 pub mod RootAloneFacts
+pub mod TurnedFacts
