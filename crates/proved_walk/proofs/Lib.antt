@@ -2,3 +2,4 @@ pub mod HandedFacts
 pub mod SmallTreeFacts
 pub mod RootAloneFacts
 pub mod TurnedFacts
+pub mod BothFacts

@@ -3,6 +3,7 @@ pub mod SmallTree
 pub mod Skipping
 pub mod RootAlone
 pub mod Turned
+pub mod Alike
 pub mod Filtering
 pub mod Texts
 pub mod Numbers

@@ -5,13 +5,14 @@ ghost use Rattle.jwalk.specs.walk_model.Walk.{stateless_walk};
 ghost use Rattle.jwalk.specs.read_parts.Given.{counted_list};
 ghost use Rattle.jwalk.specs.WalkDir.{stateless};
 ghost use Rattle.jwalk.specs.DirEntryIter.{NoneRefused};
+ghost use Rattle.proved_walk.specs.Alike.{counted_answer, IsPlain};
 
 use crate::whole::walk_whole;
 use jwalk::error::Result as Answer;
 use jwalk::file_system::FileSystem;
 use jwalk::read_dir::NoProcess;
 use jwalk::{ClientState, DirEntry, Parallelism, WalkDirGeneric};
-use std::alloc::{AllocError, Allocator};
+use std::alloc::{AllocError, Allocator, Global};
 
 /// All that a walk answers from a root, and all that one answers which reads so many directories together. Over a file
 /// system that always answers the same, each is the whole walk of the definition, unless one of its answers tells of
@@ -44,4 +45,39 @@ pub fn walk_both<C: ClientState, S: FileSystem, A: Allocator + Copy>(
     let found = walk_whole(alloc, one)?;
     let same = walk_whole(alloc, other.parallelism(Parallelism::RayonNewPool(width)))?;
     Ok((found, same))
+}
+
+/// The first answers of two such walks. Over a file system that always answers the same they are the same answer, unless
+/// one of them tells of want of memory.
+pub fn first_of_both<S: FileSystem>(
+    alloc: Global,
+    fs: &S,
+    root: &str,
+    width: usize,
+) -> Result<
+    (
+        Option<Answer<DirEntry<((), ())>>>,
+        Option<Answer<DirEntry<((), ())>>>,
+    ),
+    AllocError,
+>
+    ensures { IfOk result (λ both. S.IsFixed fs.now → IsPlain both.0 → IsPlain both.1
+        → counted_answer stateless both.0 ≡ counted_answer stateless both.1) }
+{
+    let one: WalkDirGeneric<((), ()), &S, NoProcess> = WalkDirGeneric::new(
+        fs,
+        String::from_str(alloc, root)?,
+    );
+    let other: WalkDirGeneric<((), ()), &S, NoProcess> = WalkDirGeneric::new(
+        fs,
+        String::from_str(alloc, root)?,
+    );
+    let Ok(mut one) = one.try_into_iter() else {
+        return Err(AllocError);
+    };
+    let other = other.parallelism(Parallelism::RayonNewPool(width));
+    let Ok(mut other) = other.try_into_iter() else {
+        return Err(AllocError);
+    };
+    Ok((one.next(), other.next()))
 }

@@ -1,12 +1,12 @@
 //! Whole walks, and walks in batches.
 use crate::wide::wide_directory;
 use jwalk::file_system::BuildError;
-use proved_walk::alike::walk_both;
+use proved_walk::alike::{first_of_both, walk_both};
 use proved_walk::batches::count_in_batches;
 use proved_walk::counted::Counted;
 use proved_walk::whole::walk_whole;
 use std::alloc::Global;
-use walk_fixtures::answers::are_lines;
+use walk_fixtures::answers::{Answer, are_lines};
 use walk_fixtures::trees::{GROUPED, SMALL, tree};
 use walk_ways::builders::{builder, over_tree};
 
@@ -35,6 +35,23 @@ fn two_walks_that_read_in_different_ways(rt: HostRuntime) {
     for width in [0, 1, 2] {
         assert!(rt; matches!(both_show_small(rt.alloc(), width, wanted), Ok(true)));
     }
+}
+
+/// Whether an answer is the entry of the root `/r`.
+fn is_root(answer: &Option<Answer>) -> bool {
+    matches!(answer, Some(Ok(entry)) if entry.depth() == 0 && entry.file_name() == "r")
+}
+
+/// Whether that is the first answer of both walks over the small tree.
+fn both_begin_small(alloc: Global, width: usize) -> Result<bool, BuildError> {
+    let fs = tree(alloc, SMALL)?;
+    let (one, other) = first_of_both(alloc, &fs, "/r", width)?;
+    Ok(is_root(&one) && is_root(&other))
+}
+
+#[test]
+fn the_first_answers_of_two_walks_that_read_in_different_ways(rt: HostRuntime) {
+    assert!(rt; matches!(both_begin_small(rt.alloc(), 2), Ok(true)));
 }
 
 /// How many answers a walk over the grouped tree has, and how many listings were asked for.
