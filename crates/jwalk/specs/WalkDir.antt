@@ -62,7 +62,7 @@ module _ {C S P A T W R E : Type 0} where
     pub state : state_of new ≡ state_of old
     pub crew : new.crew ≡ old.crew
 
-  -- One that changes how directories are read, alone: the option, and the crew that is to read.
+  -- A call of the builder that changes only how directories are read: the option, and the crew that is to read.
   pub record SetsParallelism (set : Parallelism W A) (old new : WalkDirGeneric C S P A T W R E) : Type 0 where
     pub options : options_of new ≡ with_parallelism (parallelism_value set) (options_of old)
     pub crew : new.crew ≡ crew_of set
@@ -71,7 +71,7 @@ module _ {C S P A T W R E : Type 0} where
     pub root : root_of new ≡ root_of old
     pub state : state_of new ≡ state_of old
 
-  -- One that changes the root's state alone.
+  -- A call of the builder that changes only the root's state.
   pub record SetsState (set : R) (old new : WalkDirGeneric C S P A T W R E) : Type 0 where
     pub state : state_of new ≡ set
     pub options : options_of new ≡ options_of old
@@ -89,7 +89,7 @@ module _ {C S P A T W R E : Type 0} where
     default = given.new_entry;
   }
 
-  -- A walk that begins, whatever its file system answers: it is over the builder's file system, callback and options, holds no entry that is too deep, and what it has to read are the directories of what it holds. It reads as many of them together as the options say; where no crew reads, these alone are queued, in their order, and none is read yet. It holds what tells that its start was refused, or a list of the root's depth.
+  -- A walk that begins, whatever its file system returns. It is over the builder's file system, callback and options, and no entry it holds is too deep. What it has to read are the directories of what it holds, as many together as the options say. Where no crew reads, only these are queued, in order, and none is read yet. It holds a list of the root's depth, or the error that says that memory ran out at the start.
   pub record Starts {L : Type 0} (walk : WalkDirGeneric C S P A T W R E) (it : DirEntryIter C S P A T L R E) : Type 0 where
     pub file_system : file_system (job_of it) ≡ file_system_of walk
     pub callback : callback (job_of it) ≡ callback_of walk
@@ -100,7 +100,7 @@ module _ {C S P A T W R E : Type 0} where
     pub width : iter.width_of it ≡ width_of (options_of walk).parallelism
     pub ahead : iter.by_crew it ≡ false → BeginsWith (iter.unread_of it) (iter.read_ahead it)
 
--- One that puts another callback in the place of the walk's own, and changes nothing else.
+-- A call of the builder that replaces the walk's callback, and changes nothing else.
 pub record SetsCallback {C S P Q A T W R E : Type 0} (process : Q) (old : WalkDirGeneric C S P A T W R E) (new : WalkDirGeneric C S Q A T W R E) : Type 0 where
   pub callback : callback_of new ≡ process
   pub options : options_of new ≡ options_of old
@@ -109,7 +109,7 @@ pub record SetsCallback {C S P Q A T W R E : Type 0} (process : Q) (old : WalkDi
   pub state : state_of new ≡ state_of old
   pub crew : new.crew ≡ old.crew
 
--- One that puts other threads in the place of the walk's own, and changes nothing else.
+-- A call of the builder that replaces the walk's threads, and changes nothing else.
 pub record SetsThreads {C S P A T U W R E : Type 0} (old : WalkDirGeneric C S P A T W R E) (new : WalkDirGeneric C S P A U W R E) : Type 0 where
   pub options : options_of new ≡ options_of old
   pub file_system : file_system_of new ≡ file_system_of old
@@ -124,18 +124,18 @@ module _ {C S P A T W L R E : Type 0} (files : FileSystem.Ghosts S) (process : P
   Holds walk it = (given : Given R E) → IsSteady files process clone defaults (file_system_of walk) (callback_of walk) given
       → held_by given it ≡ paired (root_list (job_for files given walk) (root_of walk) (given.read_dir_state (state_of walk)))
 
-  -- The iterator holds the root's list, where the crew was busy: the error that tells of it stands in the place of each entry with a directory, and nothing is below it.
+  -- The iterator holds the root's list where the crew was busy: in place of each entry with a directory is the error that says so, and nothing is below it.
   abbrev pub HoldsBusy : WalkDirGeneric C S P A T W R E → DirEntryIter C S P A T L R E → Type 0
   HoldsBusy walk it = (given : Given R E) → IsSteady files process clone defaults (file_system_of walk) (callback_of walk) given
       → held_by given it ≡ map busy_pair (root_list (job_for files given walk) (root_of walk) (given.read_dir_state (state_of walk))).list
 
-  -- what it holds, by why its readings didn't begin
+  -- what it holds, by why its readings didn't begin, if they didn't
   abbrev pub HoldsUnless : Option NotStarted → WalkDirGeneric C S P A T W R E → DirEntryIter C S P A T L R E → Type 0
   HoldsUnless None walk it = Holds walk it
   HoldsUnless (Some Busy) walk it = HoldsBusy walk it
   HoldsUnless (Some Memory) walk it = IsRefused it
 
-  -- A walk begins, or doesn't, as is told. Only one that a crew is to read for finds the crew busy, and its crew reads for it, unless memory was refused.
+  -- A walk begins, or doesn't for this reason. Only a walk that a crew is to read for finds the crew busy. Its crew reads for it, unless memory ran out.
   pub record Begins (walk : WalkDirGeneric C S P A T W R E) (why_not : Option NotStarted) (it : DirEntryIter C S P A T L R E) : Type 0 where
     pub holds : HoldsUnless why_not walk it
     pub busy : why_not ≡ Some Busy → (options_of walk).parallelism ≡ crew

@@ -1,4 +1,4 @@
--- A crew as a clause sees it.
+-- A crew as a value.
 use Rattle.std.specs.Prelude.{ℕ}
 use Rattle.jwalk_crew.specs.declared.crew.Crew.{Crew}
 

@@ -16,7 +16,7 @@ use Rattle.jwalk_crew.specs.Origin.{Origin, spec_at}
 use Rattle.crew_parts.specs.Wanted.{IsDirectory}
 
 module _ {C S P A R E : Type 0} (files : FileSystem.Ghosts S) (process : ProcessReadDir.Ghosts P C A R E) (clone : Clone.Ghosts R) (defaults : Default.Ghosts E) where
-  -- The reading that is wanted is the one that comes next: over something that the walk's job is steady over, its directory is the one at the first of the addresses that are awaited, and it is wanted there, by options that read as the job's.
+  -- The wanted reading comes next: over something that the walk's job is steady over, its directory is at the first awaited address. It is wanted there, by options that read as the job's.
   pub record IsDue (origin : Origin C S P A R E) (awaited : List (List ℕ)) (wanted : Wanted A) : Type 0 where
     pub some : awaited ≢ []
     pub next : address wanted.address ≡ next_address awaited

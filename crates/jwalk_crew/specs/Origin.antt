@@ -1,4 +1,4 @@
--- Where the readings of a walk come from, and which directory stands at an address.
+-- Where the readings of a walk come from, and which directory is at an address.
 use Rattle.std.specs.Prelude.{◌≡◌, ℕ, List, [], ◌∷◌, map, length, All, Option, Some, None, slice_get, IfOk, MatchResult}
 use Rattle.std.specs.declared.clone.Clone as Clone
 use Rattle.std.specs.declared.default.Default as Default
@@ -17,24 +17,24 @@ use Rattle.read_parts.specs.ReadDirSpec.{spec}
 use Rattle.jwalk_read.specs.ReadDir.{outcome}
 use Rattle.crew_parts.specs.Message.{Message, IsLawfulMessage}
 
--- What reads for a walk, and the directories that the walk begins with.
+-- The job that reads for a walk, and the directories that the walk begins with.
 pub record Origin (C S P A R E : Type 0) : Type 0 where
   pub job : Job C S P A R E
   pub roots : List (Spec R)
 
 module _ {X : Type 0} (below : X → List X) where
-  -- what is come to from something by the indexes of children
+  -- what is reached from something by the indexes of children
   abbrev pub reached : Option X → List ℕ → Option X
   reached x [] = x
   reached None (i ∷ a) = None
   reached (Some x) (i ∷ a) = reached (slice_get (below x) i) a
 
-  -- what stands at an address, below these roots
+  -- what is at an address, below these roots
   abbrev pub at_address : List X → List ℕ → Option X
   at_address roots [] = None
   at_address roots (i ∷ a) = reached (slice_get roots i) a
 
--- by each view of states in which a clone counts as what it was made of, these directories count as those
+-- These directories count as those, by each view of states that counts a clone as its original.
 abbrev pub CountAlike : {R : Type 0} → Clone.Ghosts R → List (Spec R) → List (Spec R) → Type 0
 CountAlike {R} clone these those = (view : R → Worth) → ((x y : R) → clone.is_clone x y → view y ≡ view x) → map (spec_by view) these ≡ map (spec_by view) those
 
@@ -47,7 +47,7 @@ module _ {C S P A R E : Type 0} (files : FileSystem.Ghosts S) (process : Process
   abbrev pub IsAt : Origin C S P A R E → List ℕ → Spec R → Type 0
   IsAt origin a s = (given : Given R E) → IsSteadyJob files process clone defaults origin.job given → spec_at origin given a ≡ Some (counted_spec given s)
 
-  -- The message is of the walk's own job, and of the directory at its address; it has as many children as directories were found.
+  -- The message is of the walk's own job, and of the directory at its address. Its number of children is that of the directories that were found.
   pub record IsMessageOf (origin : Origin C S P A R E) (item : Addressed (Message C S P A R E)) : Type 0 where
     pub job : item.value.job ≡ origin.job
     pub at : IsAt origin item.at (spec item.value.of)
@@ -58,7 +58,7 @@ module _ {C S P A R E : Type 0} (files : FileSystem.Ghosts S) (process : Process
     pub queued : All (λ x. IsAt origin x.at (spec x.value)) b.queued
     pub ready : All (IsMessageOf origin) b.ready
 
-  -- What a worker made of the directory at an address of the walk, by the walk's own job, with the directories below it.
+  -- What a worker made of the directory at an address of the walk, by the walk's own job, and the directories below it.
   pub record IsMadeAt (origin : Origin C S P A R E) (a : List ℕ) (message : Message C S P A R E) (children : List (ReadDirSpec C A R E)) : Type 0 where
     pub job : message.job ≡ origin.job
     pub at : IsAt origin a (spec message.of)

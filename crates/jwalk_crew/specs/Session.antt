@@ -1,4 +1,4 @@
--- A session as a clause sees it.
+-- A session as a value.
 use Rattle.std.specs.Prelude.{ℕ, List}
 use Rattle.std.specs.Arc.{arc_value}
 use Rattle.keyed_slot.specs.Keyed.{tag_of, key_mark}
@@ -10,6 +10,6 @@ module _ {W C S P A R E : Type 0} where
   abbrev pub origin_of : Session W C S P A R E → Origin C S P A R E
   origin_of session = tag_of (arc_value session.shared).work
 
-  -- the addresses of the readings that it has still to give, the next one first
+  -- the addresses of the readings that it still has to give, the next one first
   abbrev pub awaited_by : Session W C S P A R E → List (List ℕ)
   awaited_by session = key_mark session.key

@@ -6,7 +6,7 @@ use Rattle.jwalk_board.specs.declared.board.refusal.TakeRefusal.TheVariants.{Sto
 use Rattle.jwalk_crew.specs.declared.steps.Turn.{Turn}
 use Rattle.jwalk_crew.specs.declared.steps.Turn.TheVariants as turn
 
--- The next specification is taken; or none is queued, and nothing changes; or the board is done or stopped, or memory is refused, which stops it.
+-- The next specification is taken. Or none is queued, and nothing changes. Or the board is done or stopped. Or memory runs out, which stops it.
 abbrev pub Turns : {T R A : Type 0} → Board T R → Turn T A → Board T R → Type 0
 Turns old (turn.Read item) new = Takes item old new
 Turns old turn.Wait new = RefusesTake old Empty × (new ≡ old)

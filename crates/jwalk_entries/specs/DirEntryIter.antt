@@ -1,4 +1,4 @@
--- What a walk holds, and what one of its answers does.
+-- What a walk holds, and what one call of it does.
 use Rattle.std.specs.Prelude.{◌≡◌, ◌≤◌, ◌<◌, ◌+◌, ◌-◌, ◌*◌, ◌^◌, ◌⊎◌, ℕ, suc, min, Bool, true, false, List, [], ◌∷◌, ◌++◌, length, map, reverse, Option, Some, None, IfSome, IfNone, IfOk, IfErr, IsSomeAnd, MatchBool, option_map, Result, Ok, Err}
 use Rattle.std.specs.declared.clone.Clone as Clone
 use Rattle.std.specs.declared.default.Default as Default
@@ -29,40 +29,40 @@ use Rattle.jwalk_readings.specs.ReadDirIter.{to_read, Tells, IsSteadyReads, Know
 use Rattle.jwalk_entries.specs.Step.{IsAtDirectory, PassesNext, ReadsUpTo}
 use Rattle.jwalk_entries.specs.declared.dir_entry_iter.DirEntryIter.{DirEntryIter}
 
--- the item is the error that tells of want of memory
+-- The item is the error that says that memory ran out.
 abbrev pub TellsMemory : {R E : Type 0} → Item R E → Type 0
 TellsMemory (Ok e) = ⊥
 TellsMemory (Err f) = f ≡ memory
 
--- the directory that is to be read for an item, if there is one, is the one below it
+-- The directory that is to be read for an item, if there is one, is the one below it.
 abbrev pub IsSourceBelow : {R E : Type 0} → Item R E → Source R E → Type 0
 IsSourceBelow x nothing = Unit {0}
 IsSourceBelow x (unread spec) = IsBelow x spec
 IsSourceBelow x (was_read spec outcome) = IsBelow x spec
 
--- it is so of every pair
+-- the same for every pair
 abbrev pub AreBelow : {R E : Type 0} → List (Pair R E) → Type 0
 AreBelow [] = Unit {0}
 AreBelow (p ∷ held) = IsSourceBelow p.item p.source × AreBelow held
 
--- Each directory that is to be read stands with the item that it is below. Where no crew reads, nothing is said.
+-- Each directory that is to be read is paired with the item that it is below. Where no crew reads, nothing is said.
 abbrev pub ArePlaced : {R E : Type 0} → Bool → List (Item R E) → List (Spec R) → Type 0
 ArePlaced false items specs = Unit {0}
 ArePlaced true items specs = AreBelow (pair_up items specs)
 
--- what stands in front of a walk that was refused at its start: the error that tells of it
+-- what is held in front where memory ran out at the start: the error that says so
 abbrev pub refusal : {R E : Type 0} → Bool → List (Pair R E)
 refusal true = record { item = Err memory; source = nothing } ∷ []
 refusal false = []
 
 module _ {C A R E : Type 0} where
-  -- none of the answers tells of want of memory, which alone ends a walk early that is steady
+  -- None of the answers says that memory ran out, which is all that ends a steady walk early.
   abbrev pub NoneRefused : List (Result (DirEntry C A R E) (Error A)) → Type 0
   NoneRefused [] = Unit {0}
   NoneRefused (x ∷ answered) = (¬ TellsMemory (item x)) × NoneRefused answered
 
 module _ {C S P A T L R E : Type 0} where
-  -- what it has read for it
+  -- the readings that it takes its items from
   abbrev pub reads_of : DirEntryIter C S P A T L R E → ReadDirIter C S P A T L R E
   reads_of it = it.reads
 
@@ -70,7 +70,7 @@ module _ {C S P A T L R E : Type 0} where
   abbrev pub by_crew : DirEntryIter C S P A T L R E → Bool
   by_crew it = readings.by_crew it.reads
 
-  -- whether memory was refused at the start, and this wasn't answered yet
+  -- whether memory ran out at the start, and the error that says so wasn't yielded yet
   abbrev pub is_refused : DirEntryIter C S P A T L R E → Bool
   is_refused it = it.refused
 
@@ -105,7 +105,7 @@ module _ {C S P A T L R E : Type 0} where
   abbrev pub held : DirEntryIter C S P A T L R E → List (Pair R E)
   held it = refusal it.refused ++ pair_up (items_of it) (unread_of it)
 
-  -- the same with its states as they count
+  -- the same, with its states as they count
   abbrev pub held_by : Given R E → DirEntryIter C S P A T L R E → List (Pair Worth Worth)
   held_by given it = refusal it.refused ++ pair_up (map (counted_item given) (items_of it)) (map (counted_spec given) (unread_of it))
 
@@ -117,20 +117,20 @@ module _ {C S P A T L R E : Type 0} where
   abbrev pub weight_of : DirEntryIter C S P A T L R E → ℕ
   weight_of it = weight (greatest_depth (job_of it)) (held it)
 
-  -- what is still to come over a fixed file system and what is given
+  -- what is still to come, over a fixed file system and what is given
   abbrev pub to_come : FileSystem.Ghosts S → Given R E → DirEntryIter C S P A T L R E → List (Item Worth Worth)
   to_come files given it = value.to_come (reading (job_by files given (job_of it))) (min_depth_of it) (greatest_depth (job_of it)) (held_by given it)
 
-  -- no entry that is held is below the greatest depth
+  -- No entry that is held is below the greatest depth.
   abbrev pub IsWithin : DirEntryIter C S P A T L R E → Type 0
   IsWithin it = NoDeeper (greatest_depth (job_of it)) (items_of it)
 
-  -- the items that have a directory, and they alone, have a source, and nothing else is unread
+  -- The items that have a directory, and only they, have a source, and nothing else is unread.
   pub record IsSourced (it : DirEntryIter C S P A T L R E) : Type 0 where
     pub each : AreSourced (held it)
     pub unread : unread_of it ≡ sources (held it)
 
-  -- the answer tells why the walk ends early, and nothing is held or unread any more
+  -- The answer says why the walk ends early, and nothing is held or unread any more.
   pub record Stops (crew : Bool) (answer : Item R E) (new : DirEntryIter C S P A T L R E) : Type 0 where
     pub error : Failure
     pub told : answer ≡ Err error
@@ -138,7 +138,7 @@ module _ {C S P A T L R E : Type 0} where
     pub nothing_held : held new ≡ []
     pub nothing_unread : unread_of new ≡ []
 
-  -- a walk whose start was refused: it holds what tells of it, and nothing is unread
+  -- A walk that ran out of memory at its start: it holds the error that says so, and nothing is unread.
   pub record IsRefused (it : DirEntryIter C S P A T L R E) : Type 0 where
     pub tells : held it ≡ record { item = Err memory; source = nothing } ∷ []
     pub nothing_unread : unread_of it ≡ []
@@ -147,12 +147,12 @@ module _ {C S P A T L R E : Type 0} where
   abbrev pub ComesFirst : FileSystem.Ghosts S → Given R E → DirEntryIter C S P A T L R E → List (Item R E) → DirEntryIter C S P A T L R E → Type 0
   ComesFirst files given old answered new = to_come files given old ≡ map (counted_item given) answered ++ to_come files given new
 
-  -- The first of what is to come is answered and the rest is left, or memory was refused and the walk ends; there is no answer where nothing is to come.
+  -- The first of what is to come is yielded and the rest is left, or memory runs out and the walk ends. `None` is returned where nothing is to come.
   abbrev pub AnswersFirst : FileSystem.Ghosts S → Given R E → DirEntryIter C S P A T L R E → Option (Item R E) → DirEntryIter C S P A T L R E → Type 0
   AnswersFirst files given old None new = to_come files given old ≡ []
   AnswersFirst files given old (Some answer) new = Stops false answer new ⊎ ComesFirst files given old (answer ∷ []) new
 
-  -- These answers are a beginning of what was to come, and then the one error that tells of want of memory. Nothing is held then.
+  -- These answers are a beginning of what was to come, followed by the one error that says that memory ran out. Nothing is held then.
   pub record EndsEarly (files : FileSystem.Ghosts S) (given : Given R E) (old : DirEntryIter C S P A T L R E) (answered : List (Item R E)) (new : DirEntryIter C S P A T L R E) : Type 0 where
     pub before : List (Item R E)
     pub missed : List (Item Worth Worth)
@@ -161,19 +161,19 @@ module _ {C S P A T L R E : Type 0} where
     pub nothing_held : held new ≡ []
 
 module _ {C S P A T L R E : Type 0} (files : FileSystem.Ghosts S) (process : ProcessReadDir.Ghosts P C A R E) (clone : Clone.Ghosts R) (defaults : Default.Ghosts E) where
-  -- The next directory is entered, if one is to be read below the first item; else what was read ahead stays as it is.
+  -- The next directory is entered, if one is to be read below the first item. Otherwise what was read ahead stays as it is.
   abbrev pub EntersIfAny : DirEntryIter C S P A T L R E → DirEntryIter C S P A T L R E → Type 0
   EntersIfAny old new =
       (IsAtDirectory (items_of old) (unread_of old) × EntersBy files process clone defaults (by_crew old) (job_of old) (width_of old) (next_address old) (read_ahead old) (read_ahead new))
       ⊎ ((¬ IsAtDirectory (items_of old) (unread_of old)) × (read_ahead new ≡ read_ahead old))
 
 module _ {C S P A T L R E : Type 0} (files : FileSystem.Ghosts S) (process : ProcessReadDir.Ghosts P C A R E) (clone : Clone.Ghosts R) (defaults : Default.Ghosts E) (pool : Pool.Ghosts L C S P A R E) where
-  -- Over what is given a walk is steady: its job is, and what it read ahead, or its crew gives, is as the definition has it; and a crew's readings are those of the directories below its items.
+  -- A walk is steady over what is given: its job is, and what it read ahead, or its crew gives, is what the definition gives. A crew's readings are those of the directories below its items.
   pub record IsSteadyWalk (it : DirEntryIter C S P A T L R E) (given : Given R E) : Type 0 where
     pub reads : IsSteadyReads files process clone defaults pool it.reads given
     pub placed : ArePlaced (by_crew it) (items_of it) (unread_of it)
 
-  -- What is known of the reading at an address, by which an item's directory is entered: a crew's is that of the directory below this item.
+  -- What is known of the reading at an address, by which an item's directory is entered. A crew's reading is that of the directory below this item.
   abbrev pub KnownAt : DirEntryIter C S P A T L R E → List ℕ → Item R E → Spec R → Outcome R E → Type 0
   KnownAt it at x spec outcome = KnownBy files process clone defaults (by_crew it) (IsSteadyReads files process clone defaults pool it.reads) (job_of it) at spec outcome × IsNextBelow (by_crew it) x (spec ∷ [])
 
@@ -181,7 +181,7 @@ module _ {C S P A T L R E : Type 0} (files : FileSystem.Ghosts S) (process : Pro
   abbrev pub Known : DirEntryIter C S P A T L R E → Item R E → Spec R → Outcome R E → Type 0
   Known it x spec outcome = (at : List ℕ) × KnownAt it at x spec outcome
 
-  -- Over all that its job is steady over, it is.
+  -- It is steady over all that its job is steady over.
   abbrev pub StartsSteady : DirEntryIter C S P A T L R E → Type 0
   StartsSteady it = (given : Given R E) → IsSteadyJob files process clone defaults (job_of it) given → IsSteadyWalk it given
 
@@ -193,14 +193,14 @@ module _ {C S P A T L R E : Type 0} (files : FileSystem.Ghosts S) (process : Pro
   abbrev pub StaysSteady : DirEntryIter C S P A T L R E → DirEntryIter C S P A T L R E → Type 0
   StaysSteady old new = (given : Given R E) → IsSteadyWalk old given → IsSteadyWalk new given
 
-  -- Whatever the file system answers: each directory that is passed takes the first of the unread specifications, which alone is read, and puts its children in front; or the walk ends early. A walk that tells that its start was refused reads nothing.
+  -- Whatever the file system returns: each directory passed takes the first unread specification, reads only that, and puts its children in front; or the walk ends early. If memory ran out at the start, nothing is read.
   abbrev pub ReadsItems : DirEntryIter C S P A T L R E → Option (Item R E) → DirEntryIter C S P A T L R E → Type 0
   ReadsItems old answer new =
       MatchBool old.refused
       (unread_of new ≡ unread_of old)
       (IsSomeAnd answer (λ a. Stops (by_crew old) a new) ⊎ ReadsUpTo clone (Known old) (job_of old) (items_of old) (unread_of old) answer (items_of new) (unread_of new))
 
-  -- Items are passed one after another, and so many directories are entered with them, each by the reading at its address.
+  -- Items are passed one after another, and this many directories are entered with them, each by the reading at its address.
   pub data PassesMany (old : DirEntryIter C S P A T L R E) : ℕ → DirEntryIter C S P A T L R E → Type 0 where
     none_passed : PassesMany old 0 old
     one_passed : {entered : ℕ} {mid new : DirEntryIter C S P A T L R E} {passed : Item R E} → PassesMany old entered mid → PassesNext clone (KnownAt old (next_address mid)) (job_of old) (items_of mid) (unread_of mid) passed (items_of new) (unread_of new)
@@ -216,7 +216,7 @@ module _ {C S P A T L R E : Type 0} (files : FileSystem.Ghosts S) (process : Pro
     pub same : read_ahead new ≡ read_ahead last
     pub ahead : length (early_of new) + entered ≤ length (early_of old) + entered * width_of old
 
-  -- What a call does to what was read ahead, whatever the file system answers: directories are entered, or the walk ends early and nothing is left. A walk that tells that its start was refused enters none.
+  -- What a call does to what was read ahead, whatever the file system returns: directories are entered, or the walk ends early and nothing is left. If memory ran out at the start, none is entered.
   abbrev pub GoesAhead : DirEntryIter C S P A T L R E → Option (Item R E) → DirEntryIter C S P A T L R E → Type 0
   GoesAhead old answer new =
       MatchBool old.refused
@@ -238,12 +238,12 @@ module _ {C S P A T L R E : Type 0} (files : FileSystem.Ghosts S) (process : Pro
     pub steady : StaysSteady old new
     pub coming : (given : Given R E) → IsSteadyWalk old given → AnswersFirst files given old (option_map item answer) new
 
-  -- calls of `next` answered these, all n that were asked for, or fewer and the next call answered `None`; or room was refused for one more
+  -- Calls of `next` returned these: all n that were asked for, or fewer, and the next call returned `None`. Or there was no memory for one more.
   abbrev pub FillCalls : ℕ → DirEntryIter C S P A T L R E → List (Result (DirEntry C A R E) (Error A)) → Result ℕ AllocError → DirEntryIter C S P A T L R E → Type 0
   FillCalls n old answered (Ok told) new = ((told ≡ n) × Yields Answers old answered new) ⊎ ((told < n) × YieldsThen Answers old answered None new)
   FillCalls n old answered (Err error) new = Yields Answers old answered new
 
-  -- A call of `fill` for n answers: it appends what calls of `next` answered. Their number is told, and it is n, or nothing is held any more; or room for one more was refused. Each of them makes the walk lighter.
+  -- A call of `fill` for n answers appends what calls of `next` yield and returns their number: n, or fewer if nothing is held any more. Or memory for one more runs out. Each of them makes the walk lighter.
   pub record Fills (n : ℕ) (old : DirEntryIter C S P A T L R E) (before : List (Result (DirEntry C A R E) (Error A))) (told : Result ℕ AllocError) (after : List (Result (DirEntry C A R E) (Error A))) (new : DirEntryIter C S P A T L R E) : Type 0 where
     pub answered : List (Result (DirEntry C A R E) (Error A))
     pub appended : after ≡ before ++ answered
@@ -261,7 +261,7 @@ module _ {C S P A T L R E : Type 0} (files : FileSystem.Ghosts S) (process : Pro
     pub coming : (given : Given R E) → IsSteadyWalk old given
         → ComesFirst files given old (map item answered) new ⊎ EndsEarly files given old (map item answered) new
 
-  -- Calls from here on answer items until `None`, and n is their number, or the greatest `usize` where there are more.
+  -- Calls from here on return items until `None`, and n is their number, or `usize::MAX` if there are more.
   abbrev pub Counts : DirEntryIter C S P A T L R E → ℕ → Type 0
   Counts start n =
       (answered : List (Result (DirEntry C A R E) (Error A))) × Drains Answers start answered × (n ≡ min (length answered) (2 ^ 64 - 1))

@@ -31,7 +31,7 @@ module _ {C S P A L R E : Type 0} where
   abbrev pub job_of : CrewReads C S P A L R E → Job C S P A R E
   job_of it = arc_value it.job
 
-  -- the directories whose readings are still to be given, the next one first; those below them aren't among them
+  -- the directories whose readings are still to be given, the next one first, without those below them
   abbrev pub to_read : CrewReads C S P A L R E → List (Spec R)
   to_read it = map spec (reverse it.unread.items)
 
@@ -39,7 +39,7 @@ module _ {C S P A L R E : Type 0} where
   abbrev pub next_address : CrewReads C S P A L R E → List ℕ
   next_address it = frontier.next_address it.matcher
 
--- The same directory of a walk, whose state may be another.
+-- The same directory of a walk, but its state may be another.
 pub record IsSamePlace {R : Type 0} (these others : Spec R) : Type 0 where
   pub path : these.path ≡ others.path
   pub depth : these.depth ≡ others.depth
@@ -56,7 +56,7 @@ IsNextBelow false x specs = Unit {0}
 IsNextBelow true x [] = Unit {0}
 IsNextBelow true x (spec ∷ specs) = IsBelow x spec
 
--- What a worker told: in the message that stands at this address, a job that reads by the same options made it of the directory at this place.
+-- What a worker reported: the message at this address was made of the directory at this place, by a job that reads by the same options.
 pub record IsTold {C S P A R E : Type 0} (files : FileSystem.Ghosts S) (process : ProcessReadDir.Ghosts P C A R E) (clone : Clone.Ghosts R) (defaults : Default.Ghosts E) (job : Job C S P A R E) (at : List ℕ) (directory : Spec R) (outcome : Outcome R E) : Type 0 where
   pub message : Ordered (Message C S P A R E) A
   pub address : address_of message ≡ at
@@ -65,37 +65,37 @@ pub record IsTold {C S P A R E : Type 0} (files : FileSystem.Ghosts S) (process 
   pub told : IfOk message.value.outcome (λ o. view o ≡ outcome)
   pub reading : IsReadingOf files process clone defaults message.value.job (spec message.value.of) outcome
 
--- why a reading didn't come, as the error that tells of it
+-- why a reading didn't come, as an error
 abbrev pub failure_of : Missed → Failure
 failure_of Memory = memory
 failure_of Lost = lost
 
--- why a walk doesn't begin, as the error that tells of it
+-- why a walk didn't begin, as an error
 abbrev pub start_failure : NotStarted → Failure
 start_failure not_started.Busy = busy
 start_failure not_started.Memory = memory
 
--- why a reading that counts over something didn't come: not that it won't
+-- why a reading didn't come: it is lost only if it counts over nothing
 abbrev pub NotLost : {R E : Type 0} → (Given R E → Type 0) → Missed → Type 0
 NotLost counts Memory = Unit {0}
 NotLost {R} {E} counts Lost = (given : Given R E) → ¬ counts given
 
--- the addresses of the readings that a pool has still to give: none where there is no pool
+-- the addresses of the readings that a pool still has to give: none where there is no pool
 abbrev pub awaited : {L : Type 0} → Option L → List (List ℕ) → List (List ℕ)
 awaited None addresses = []
 awaited (Some pool) addresses = addresses
 
--- a pool is made for a walk, and has the readings at these addresses still to give
+-- A pool is made for a walk, and still has to give the readings at these addresses.
 abbrev pub IsMadeFor : {C S P A L R E : Type 0} → Pool.Ghosts L C S P A R E → L → Origin C S P A R E → List (List ℕ) → Type 0
 IsMadeFor pool p origin addresses = pool.comes_from p origin × (pool.awaits p ≡ addresses)
 
--- Readings begin: at the addresses of roots stand the directories that are to be read, and this is what is told of the pool that gives them.
+-- Readings begin: the directories that are to be read are at the addresses of roots, and this holds of the pool that gives their readings.
 pub record BeginsBy {C S P A L R E : Type 0} (made : L → Origin C S P A R E → List (List ℕ) → Type 0) (it : CrewReads C S P A L R E) : Type 0 where
   pub addresses : it.matcher ≡ frontier.roots (length (to_read it))
   pub pool : IsSomeAnd it.pool (λ p. made p (record { job = job_of it; roots = to_read it }) it.matcher)
 
 module _ {C S P A L R E : Type 0} (files : FileSystem.Ghosts S) (process : ProcessReadDir.Ghosts P C A R E) (clone : Clone.Ghosts R) (defaults : Default.Ghosts E) (pool : Pool.Ghosts L C S P A R E) where
-  -- Over what is given, what a pool gives at these addresses are readings of these directories: the job is steady, the pool's readings are made by it and come at these addresses, and below the directories that the pool began with, these stand there.
+  -- What a pool gives at these addresses are readings of these directories, over what is given. The job is steady and makes the pool's readings, which come at these addresses. These directories are there, below those that the pool began with.
   pub record IsSteadyOver (job : Job C S P A R E) (from : Option L) (addresses : List (List ℕ)) (specs : List (Spec R)) (given : Given R E) : Type 0 where
     pub steady : IsSteadyJob files process clone defaults job given
     pub roots : List (Spec R)
@@ -103,11 +103,11 @@ module _ {C S P A L R E : Type 0} (files : FileSystem.Ghosts S) (process : Proce
     pub awaits : IfSome from (λ p. pool.awaits p ≡ addresses)
     pub at : map (spec_at files process clone defaults (record { job = job; roots = roots }) given) (awaited from addresses) ≡ map (λ s. Some (counted_spec given s)) specs
 
-  -- Over what is given a crew's readings are those of the directories that are to be read.
+  -- Over what is given, a crew's readings are those of the directories that are to be read.
   abbrev pub IsSteadyCrew : CrewReads C S P A L R E → Given R E → Type 0
   IsSteadyCrew it = IsSteadyOver (job_of it) it.pool it.matcher (to_read it)
 
-  -- Over all that their job is steady over, they are.
+  -- They are so over all that their job is steady over.
   abbrev pub StartsSteady : CrewReads C S P A L R E → Type 0
   StartsSteady it = (given : Given R E) → IsSteadyJob files process clone defaults (job_of it) given → IsSteadyCrew it given
 
@@ -115,11 +115,11 @@ module _ {C S P A L R E : Type 0} (files : FileSystem.Ghosts S) (process : Proce
   abbrev pub StaysSteady : CrewReads C S P A L R E → CrewReads C S P A L R E → Type 0
   StaysSteady old new = (given : Given R E) → IsSteadyCrew old given → IsSteadyCrew new given
 
-  -- The same while this directory, which comes next, isn't among those that are kept any more.
+  -- the same while this directory, which comes next, isn't among those that are kept any more
   abbrev pub IsSteadyBefore : CrewReads C S P A L R E → Spec R → Given R E → Type 0
   IsSteadyBefore it first = IsSteadyOver (job_of it) it.pool it.matcher (first ∷ to_read it)
 
-  -- The first directory is read: its reading is the definition's over all over which what was to be read was steady, and what is left, with clones of the directories below it in its place, is steady over that.
+  -- The first directory is read. Its reading is the definition's, over all that the readings were steady over. What is left, with clones of the directories below it in its place, is steady over that too.
   pub record ReadsSteadily (old : CrewReads C S P A L R E) (first : Spec R) (outcome : Outcome R E) (new : CrewReads C S P A L R E) : Type 0 where
     pub value : (rest : List (Spec R)) → IsGivenOver files (IsSteadyOver (job_of old) old.pool old.matcher (first ∷ rest)) (job_of old) first outcome
     pub steady : (rest front : List (Spec R)) → AreClones clone.is_clone (children_of outcome) front

@@ -8,7 +8,7 @@ use Rattle.walk_model.specs.Options.{serial, batches, crew}
 use Rattle.jwalk_readings.specs.declared.parallelism.Parallelism.{Parallelism}
 use Rattle.jwalk_readings.specs.declared.parallelism.Parallelism.TheVariants.{Serial, RayonExistingPool, RayonNewPool}
 
--- a width of 0 stands for 8, and one crew counts as another
+-- how directories are read, as a value: a width of 0 means 8, and one crew counts as another
 abbrev pub parallelism_value : {W A : Type 0} → Parallelism W A → value.Parallelism
 parallelism_value Serial = serial
 parallelism_value (RayonExistingPool pool busy_timeout) = crew
@@ -20,7 +20,7 @@ is_by_crew serial = false
 is_by_crew (batches n) = false
 is_by_crew crew = true
 
--- the crew, where it reads by one, and how long a walk waits for a place there
+-- the crew that reads, if one does, and how long a walk waits for a place there
 abbrev pub crew_of : {W A : Type 0} → Parallelism W A → Option (Arc W A × Option Duration)
 crew_of Serial = None
 crew_of (RayonExistingPool pool busy_timeout) = Some (pool, busy_timeout)

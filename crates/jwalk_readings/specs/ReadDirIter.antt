@@ -1,4 +1,4 @@
--- What an iterator over readings has still to read, and what it gives.
+-- What an iterator over readings still has to read, and what it gives.
 use Rattle.std.specs.Prelude.{◌≡◌, ◌≢◌, ◌≤◌, ◌+◌, ◌⊎◌, ℕ, Bool, true, false, length, List, [], ◌∷◌, map, Option, Some, None, option_map, Result, Err}
 use Rattle.std.specs.declared.clone.Clone as Clone
 use Rattle.std.specs.declared.default.Default as Default
@@ -38,7 +38,7 @@ module _ {C S P A T L R E : Type 0} where
   job_of (ParWalk walk threads) = walk.job
   job_of (CrewWalk reads) = crew.job_of reads
 
-  -- the specifications whose readings are still to be given, the next one first; those below them aren't among them
+  -- the specifications whose readings are still to be given, the next one first, without those below them
   abbrev pub to_read : ReadDirIter C S P A T L R E → List (Spec R)
   to_read (Walk walk) = board.to_read walk
   to_read (ParWalk walk threads) = board.to_read walk
@@ -66,7 +66,7 @@ module _ {C S P A T L R E : Type 0} where
   next_address (ParWalk walk threads) = board.next_of walk
   next_address (CrewWalk reads) = crew.next_address reads
 
--- The error tells why the readings end early: memory was refused, or a crew's reading won't come.
+-- The error says why the readings end early: memory ran out, or a crew's reading won't come.
 abbrev pub Tells : Bool → Failure → Type 0
 Tells false f = f ≡ memory
 Tells true f = (f ≡ memory) ⊎ (f ≡ lost)
@@ -77,18 +77,18 @@ pub record GivesError {R E : Type 0} (by_crew : Bool) (given : Option (Outcome R
   pub told : given ≡ Some (Err error)
   pub tells : Tells by_crew error
 
--- Readings come in preorder: the first of those still to come is given and the rest is left, or an error tells why they end early and nothing is.
+-- Readings come in preorder. The first of those still to come is given and the rest is left, or an error says why they end early and nothing is left.
 abbrev pub GivesPreorder : {R E : Type 0} → Bool → (Spec R → Outcome R E) → ℕ → List (Spec R) → Option (Outcome R E) → List (Spec R) → Type 0
 GivesPreorder may_lose reading max_depth old None new = preorder reading max_depth old ≡ []
 GivesPreorder may_lose reading max_depth old (Some given) new =
     (GivesError may_lose (Some given) × (new ≡ [])) ⊎ (preorder reading max_depth old ≡ given ∷ preorder reading max_depth new)
 
--- The first is read; or an error is given that tells why not, and nothing is left to be read.
+-- The first is read. Or an error that says why not is given, and nothing is left to be read.
 abbrev pub GivesFirst : {R E : Type 0} → Bool → Clone.Ghosts R → (Spec R → Outcome R E → Type 0) → ℕ → List (Spec R) → Option (Outcome R E) → List (Spec R) → Type 0
 GivesFirst by_crew clone known max_depth old given new = (GivesError by_crew given × (old ≢ []) × (new ≡ [])) ⊎ ReadsNextBy clone known max_depth old given new
 
 module _ {C S P A R E : Type 0} (files : FileSystem.Ghosts S) (process : ProcessReadDir.Ghosts P C A R E) (clone : Clone.Ghosts R) (defaults : Default.Ghosts E) where
-  -- What is known of the reading at an address: over all that counts as given it is the definition's; and a crew's worker told it there.
+  -- What is known of the reading at an address: it is the definition's, over all that counts as given. A crew's was reported by a worker there.
   abbrev pub KnownBy : Bool → (Given R E → Type 0) → Job C S P A R E → List ℕ → Spec R → Outcome R E → Type 0
   KnownBy false counts job at = IsGivenOver files counts job
   KnownBy true counts job at = λ spec outcome. IsTold files process clone defaults job at spec outcome × IsGivenOver files counts job spec outcome
@@ -98,25 +98,25 @@ module _ {C S P A R E : Type 0} (files : FileSystem.Ghosts S) (process : Process
   EntersBy false job width at old new = Enters files process clone defaults job width at old new
   EntersBy true job width at old new = (new ≡ old) × (1 ≤ width)
 
-  -- a directory is entered, or nothing was left to be read and all stays as it is
+  -- A directory is entered, or nothing was left to be read and all stays as it is.
   abbrev pub EntersNextBy : {X : Type 0} → Bool → Job C S P A R E → ℕ → List ℕ → ReadAhead R → Option X → ReadAhead R → Type 0
   EntersNextBy by_crew job width at old (Some read) new = EntersBy by_crew job width at old new
   EntersNextBy by_crew job width at old None new = new ≡ old
 
-  -- A directory is entered, or nothing is left to be read; or the readings end early, and nothing is left.
+  -- A directory is entered, or nothing is left to be read. Or the readings end early, and nothing is left.
   abbrev pub EntersFirst : {T L : Type 0} → ReadDirIter C S P A T L R E → Option (Outcome R E) → ReadDirIter C S P A T L R E → Type 0
   EntersFirst old given new =
       (GivesError (by_crew old) given × (read_ahead new ≡ nothing_ahead))
       ⊎ EntersNextBy (by_crew old) (job_of old) (width_of old) (next_address old) (read_ahead old) given (read_ahead new)
 
 module _ {C S P A L R E : Type 0} (files : FileSystem.Ghosts S) (process : ProcessReadDir.Ghosts P C A R E) (clone : Clone.Ghosts R) (defaults : Default.Ghosts E) (pool : Pool.Ghosts L C S P A R E) where
-  -- Over what is given it is steady: its job is, and what it read early, or its crew gives, is as the definition has it.
+  -- It is steady over what is given: its job is, and what it read early, or its crew gives, is what the definition gives.
   abbrev pub IsSteadyReads : {T : Type 0} → ReadDirIter C S P A T L R E → Given R E → Type 0
   IsSteadyReads (Walk walk) given = IsSteadyWalk files process clone defaults walk given
   IsSteadyReads (ParWalk walk threads) given = IsSteadyWalk files process clone defaults walk given
   IsSteadyReads (CrewWalk reads) given = IsSteadyCrew files process clone defaults pool reads given
 
-  -- Over all that its job is steady over, it is.
+  -- It is steady over all that its job is steady over.
   abbrev pub StartsSteady : {T : Type 0} → ReadDirIter C S P A T L R E → Type 0
   StartsSteady it = (value : Given R E) → IsSteadyJob files process clone defaults (job_of it) value → IsSteadyReads it value
 
@@ -128,11 +128,11 @@ module _ {C S P A L R E : Type 0} (files : FileSystem.Ghosts S) (process : Proce
   abbrev pub Known : {T : Type 0} → ReadDirIter C S P A T L R E → Spec R → Outcome R E → Type 0
   Known it = KnownBy files process clone defaults (by_crew it) (IsSteadyReads it) (job_of it) (next_address it)
 
-  -- What is known of the reading by which an item's directory is entered: a crew's, too, is that of the directory below this item.
+  -- What is known of the reading by which an item's directory is entered. A crew's reading is also that of the directory below this item.
   abbrev pub KnownOf : {T : Type 0} → ReadDirIter C S P A T L R E → Item R E → Spec R → Outcome R E → Type 0
   KnownOf it x spec outcome = Known it spec outcome × IsNextBelow (by_crew it) x (spec ∷ [])
 
-  -- One call of an iterator over readings. By value, what it gives comes in preorder; only where it is asked for another directory than the next one may a crew's readings end by one that won't come.
+  -- One call of an iterator over readings. By value, what it gives comes in preorder. A crew's readings may end with one that won't come only if another directory than the next one is asked for.
   pub record Gives {T : Type 0} (may_lose : Bool) (old : ReadDirIter C S P A T L R E) (given : Option (Result (ReadDir C A R E) (Error A))) (new : ReadDirIter C S P A T L R E) : Type 0 where
     pub crew : by_crew new ≡ by_crew old
     pub job : job_of new ≡ job_of old

@@ -1,4 +1,4 @@
--- What reads a walk's batches, seen as a value.
+-- What reads a walk's batches, as a value.
 use Rattle.jwalk_readings.specs.declared.threads.OnThreads.{OnThreads}
 
 -- the runtime whose threads read
