@@ -23,13 +23,13 @@ pub whole_however_read : {R E : Type 0} (p : Parallelism) (job : value.Job R E) 
 unfolding whole_walk
 whole_however_read p job root state = refl
 
--- nor to one with no callback
+-- nor to a walk with no callback
 pub stateless_however_read : (p : Parallelism) (fs : Functions) (options : Options) (root : List ℕ) → stateless_walk fs (with_parallelism p options) root ≡ stateless_walk fs options root
 unfolding whole_walk
 stateless_however_read p fs options root = refl
 
 module _ {C S P A T U V W L M R E : Type 0} (files : FileSystem.Ghosts S) (process : ProcessReadDir.Ghosts P C A R E) (clone : Clone.Ghosts R) (defaults : Default.Ghosts E) (pool : Pool.Ghosts L C S P A R E) (others : Pool.Ghosts M C S P A R E) (given : Given R E) where
-  -- Two walks that begin, over what is steady, with the root's list, and whose builders differ in how directories are read alone, have the same to come: so they answer the same, call by call, as long as neither tells of want of memory (`same_answer`).
+  -- Two walks have the same to come if they begin with the root's list, over what is steady, and their builders differ only in how directories are read. So they yield the same, call by call, as long as neither says that memory ran out (`same_answer`).
   pub same_start : (walk : WalkDirGeneric C S P A T V R E) (it : DirEntryIter C S P A T L R E) (other : WalkDirGeneric C S P A U W R E) (its : DirEntryIter C S P A U M R E) → Starts walk it → Starts other its → Holds files process clone defaults walk it → Holds files process clone defaults other its → IsSteady files process clone defaults (file_system_of walk) (callback_of walk) given
       → file_system_of other ≡ file_system_of walk → callback_of other ≡ callback_of walk → root_of other ≡ root_of walk → state_of other ≡ state_of walk → (p : Parallelism) → options_of other ≡ with_parallelism p (options_of walk) → to_come files given it ≡ to_come files given its
   same_start walk it other its starts begins holds held steady fs by root state p options =

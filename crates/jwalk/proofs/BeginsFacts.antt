@@ -1,4 +1,4 @@
--- How a builder's walk begins where it may be told to read by a crew.
+-- How a builder's walk begins if it may be set to read by a crew.
 use Rattle.std.proofs.Common.{◌≡◌, ◌∙◌, ◌⊎◌, ℕ, true, List, map, Option, Some, None, Result, Ok, Err, IfOk, IfSome, IsSome, IsSomeAnd, inl, inr, refl, sym, ap, subst}
 use Rattle.std.specs.Prelude.{option_map}
 use Rattle.std.specs.Result.{result_ok}
@@ -29,7 +29,7 @@ use Rattle.jwalk.specs.WalkDir.{file_system_of, callback_of, root_of, state_of, 
 use Rattle.jwalk_entries.specs.declared.dir_entry_iter.DirEntryIter.{DirEntryIter}
 use Rattle.jwalk.specs.declared.walk_dir.WalkDirGeneric.{WalkDirGeneric}
 
--- what is held of a view is held of what it is the view of
+-- what is held for a view is held for the value that is viewed
 viewed : {X V H : Type 0} (view : X → V) (of : V → H) (held : H) (v : V) (o : Option X) → IsSomeAnd o (λ x. held ≡ of (view x)) → IfSome o (λ x. v ≡ view x) → held ≡ of v
 viewed view of held v None some is = absurd some
 viewed view of held v (Some x) some is = some ∙ ap of (sym is)
@@ -39,7 +39,7 @@ pub if_some_view : {X F Y : Type 0} (view : X → Y) (P : Y → Type 0) (read : 
 if_some_view view P (Ok x) o is h = rw is h
 if_some_view view P (Err f) o is h = rw is tt
 
--- a walk fails to begin for want of memory, or since the crew that it is to read by is busy
+-- a walk fails to begin because memory ran out, or because the crew that it is to read by is busy
 pub fails_by : (Told : Type 0) (why_not : NotStarted) (f : Failure) → f ≡ start_failure why_not → (◌≡◌ {A = Option NotStarted} (Some why_not) (Some Busy) → Told) → (f ≡ memory) ⊎ ((f ≡ busy) × Told)
 fails_by Told Busy f is told = inr (is, told refl)
 fails_by Told Memory f is told = inl is
@@ -54,12 +54,12 @@ module _ {C S P A T W L R E : Type 0} (files : FileSystem.Ghosts S) (process : P
       ap (λ k. root_list k path (given.read_dir_state (state_of walk))) same
       ∙ ap (λ p. root_list (job_for files given walk) p (given.read_dir_state (state_of walk))) is
 
-  -- the list is that of the walk's root, if it was made
+  -- The list is that of the walk's root, if it was made.
   abbrev pub IsRootList : Option (Reading R E) → Type 0
   IsRootList read = (given : Given R E) → IsSteady files process clone defaults (file_system_of walk) (callback_of walk) given
       → IfSome read (λ r. root_list (job_for files given walk) (root_of walk) (given.read_dir_state (state_of walk)) ≡ counted_reading given r)
 
-  -- the list that such a job makes is
+  -- the list that such a job makes is that of the walk's root
   pub made_root : (made : Job C S P A R E) → file_system made ≡ file_system_of walk → callback made ≡ callback_of walk → job.options_of made ≡ options_of walk → (path : List ℕ) → path ≡ root_of walk → (F : Type 0) → (read : Result (ReadDir C A R E) F) (o : Option (ReadDir C A R E)) → o ≡ result_ok read
       → ((given : Given R E) → IsSteady files process clone defaults (file_system made) (callback made) given → IfOk read (λ r. root_list (job_by files given made) path (given.read_dir_state (state_of walk)) ≡ counted_reading given (reading r)))
       → IsRootList (option_map reading o)

@@ -1,4 +1,4 @@
--- A walk whose answers are all entries answered the whole walk, also where a crew was to read for it.
+-- A walk that yields only entries yields the whole walk, even where a crew was to read for it.
 use Rattle.std.proofs.Common.{◌≡◌, ◌∙◌, ℕ, zero, suc, nat_le, cond, true, false, List, [], ◌∷◌, map, Option, Some, None, Result, Ok, Err, is_ok, inl, inr, refl, sym, ap, ap₂, subst}
 use Rattle.std.specs.Prelude.{is_some, if◌then◌else◌}
 use Rattle.std.specs.Iterator.{Drains}
@@ -52,7 +52,7 @@ module _ {R E : Type 0} (min_depth : ℕ) where
   one_clean state e (Some c) rest is clean = let no : false ≡ true = rw is at clean in absurd cc
   one_clean state e None rest is clean = (rw is refl, rest_clean e rest (subst (λ c. list_all is_ok (answers min_depth ((if is_some c then Err busy else Ok e) ∷ rest)) ≡ true) is clean))
 
-  -- so where all that is answered are entries, none of the items has a directory
+  -- so where only entries are yielded, none of the items has a directory
   all_clean : (state : R) (l : List (Item R E)) → list_all is_ok (answers min_depth (map busied l)) ≡ true → map busy_pair l ≡ map (pair state) l
   all_clean state [] clean = refl
   all_clean state (Err f ∷ l) clean = let no : false ≡ true = clean in absurd cc

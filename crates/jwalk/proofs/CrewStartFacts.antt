@@ -112,7 +112,7 @@ module _ {C S P A T L R E : Type 0} where
     begun_sourced (Some r) (Some Busy) it begun = rest_sourced it begun.0 (ap length begun.2 ∙ sym (none_below r.list) ∙ ap directories (sym begun.1))
     begun_sourced (Some r) (Some Memory) it begun = refusal_sourced it begun.0 begun.1 begun.2
 
-    -- where memory was refused, that is all it tells
+    -- where memory ran out, it holds only the error that says so
     pub begun_refused : (read : Option (Reading R E)) (it : DirEntryIter C S P A T L R E) → IsBegun clone read (Some Memory) it → IsRefused it
     begun_refused None it begun = record { tells = holds_refusal it begun.1 begun.2; nothing_unread = begun.3 }
     begun_refused (Some r) it begun = record { tells = holds_refusal it begun.0 begun.1; nothing_unread = begun.2 }
@@ -122,7 +122,7 @@ module _ {C S P A T L R E : Type 0} where
     begun_holds given None it counts begun = absurd (let no : ◌≡◌ {A = Option NotStarted} None (Some Memory) = begun.0 in cc)
     begun_holds given (Some r) it counts begun = holds_list clone r it given counts begun.0 begun.1 begun.2
 
-    -- and where the crew was busy, the errors that tell of it in the place of entries with directories
+    -- and where the crew was busy, the errors that say so in place of entries with directories
     pub begun_busy : (given : Given R E) (read : Option (Reading R E)) (it : DirEntryIter C S P A T L R E) → IsBegun clone read (Some Busy) it → IsSomeAnd read (λ r. held_by given it ≡ map busy_pair (counted_reading given r).list)
     begun_busy given None it begun = absurd (let no : ◌≡◌ {A = Option NotStarted} (Some Busy) (Some Memory) = begun.0 in cc)
     begun_busy given (Some r) it begun =
@@ -143,7 +143,7 @@ module _ {C S P A T L R E : Type 0} where
   crew_width it by = width_by (reads_of it) by
 
   module _ (clone : Clone.Ghosts R) (read : Option (Reading R E)) (begun : Job C S P A R E) (it : DirEntryIter C S P A T L R E) where
-    -- a start that was refused
+    -- a start at which memory ran out
     pub refused_from_root : by_crew it ≡ false → job_of it ≡ begun → is_refused it ≡ true → items_of it ≡ [] → unread_of it ≡ [] → width_of it ≡ options.width_of (options_of begun).parallelism → BeginsWith (unread_of it) (read_ahead it) → IsFromRoot clone read begun (Some Memory) it
     refused_from_root own job refused none nothing_unread width ahead =
         let refusal : IsRefused it = record { tells = holds_refusal it refused none; nothing_unread = nothing_unread } in
@@ -187,7 +187,7 @@ module _ {C S P A T L R E : Type 0} where
       by = λ is. absurd (let no : false ≡ true = sym own ∙ is in cc);
     }
 
--- what is said of a view is said of what it is a view of
+-- what is said of a view is said of the value that is viewed
 pub if_some_map : {X Y : Type 0} (view : X → Y) (P : Y → Type 0) (o : Option X) → IfSome o (λ x. P (view x)) → IfSome (option_map view o) P
 if_some_map view P None h = h
 if_some_map view P (Some x) h = h
@@ -199,7 +199,7 @@ some_and_map view P (Some x) h = h
 pub held_of : {C S P A T L R E : Type 0} (given : Given R E) (read : Option (ReadDir C A R E)) (it : DirEntryIter C S P A T L R E) → IsSomeAnd read (λ r. held_by given it ≡ paired (counted_reading given (reading r))) → IsSomeAnd (option_map reading read) (λ r. held_by given it ≡ paired (counted_reading given r))
 held_of given read it h = some_and_map reading (λ r. held_by given it ≡ paired (counted_reading given r)) read h
 
--- what is left of a root's list stands with the directories that are to be read
+-- what is left of a root's list is paired with the directories that are to be read
 pub left_placed : {R E : Type 0} (clone : Clone.Ghosts R) (r : Reading R E) (why_not : Option NotStarted) (b : Bool) (items : List (Item R E)) (specs : List (Spec R)) → items ≡ left_of why_not r.list → IsToRead clone r why_not specs → ArePlaced b items specs
 left_placed clone r None b items specs are clones = list_placed clone.is_clone r.state b r.list items specs are clones
 left_placed clone r (Some reason) b items specs are none = unread_placed b items specs none

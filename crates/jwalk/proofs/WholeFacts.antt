@@ -1,4 +1,4 @@
--- What a walk answers from its beginning to its end.
+-- What a walk yields from its beginning to its end.
 use Rattle.std.proofs.Common.{◌≡◌, ◌<◌, ◌⊎◌, ◌∙◌, ℕ, ◌+◌, Bool, true, false, List, [], ◌∷◌, ◌++◌, map, length, append-nil, Result, Ok, Err, is_ok, inl, inr, refl, sym, ap, subst, arith}
 use lib.ListN.{length-append}
 use Rattle.std.specs.Iterator.{Drains}
@@ -36,20 +36,20 @@ use Rattle.jwalk_entries.proofs.AnswerFacts.{held_by_nothing, alone_steady}
 use Rattle.jwalk_entries.proofs.FillFacts.{stays_steady, come}
 
 module _ {C A R E : Type 0} where
-  -- answers that end with the error that tells of want of memory tell of it
+  -- answers that end with the error that says that memory ran out say so
   end_told : (xs : List (Result (DirEntry C A R E) (Error A))) (before : List (Item R E)) → map item xs ≡ before ++ Err memory ∷ [] → NoneRefused xs → ⊥
   end_told [] [] is none = absurd cc
   end_told [] (b ∷ before) is none = absurd cc
   end_told (x ∷ xs) [] is none = let told : Err memory ≡ item x = cc in none.0 (subst TellsMemory told refl)
   end_told (x ∷ xs) (b ∷ before) is none = let rest : map item xs ≡ before ++ Err memory ∷ [] = cc in end_told xs before rest none.1
 
-  -- entries tell of none
+  -- entries don't say so
   pub entries_tell : (xs : List (Result (DirEntry C A R E) (Error A))) → list_all is_ok xs ≡ true → NoneRefused xs
   entries_tell [] all = tt
   entries_tell (Ok e ∷ xs) all = (λ is. is, entries_tell xs all)
   entries_tell (Err f ∷ xs) all = let no : false ≡ true = all in cc
 
-  -- where none of two lists one behind the other tells of it, none of the second does
+  -- where none of two lists, one behind the other, says so, none of the second does
   last_tell : (before xs : List (Result (DirEntry C A R E) (Error A))) → NoneRefused (before ++ xs) → NoneRefused xs
   last_tell [] xs none = none
   last_tell (b ∷ before) xs none = last_tell before xs none.1
@@ -75,20 +75,20 @@ refused_by {R} {E} given false (Err f ∷ []) specs is =
     ap one told
 refused_by given false (Err f ∷ x ∷ items) specs is = absurd cc
 
--- what counts as the one answer that tells of want of memory is that answer
+-- what counts as the one answer that says that memory ran out is that answer
 refusal_among : {C A R E : Type 0} (given : Given R E) (xs : List (Result (DirEntry C A R E) (Error A))) → counted_list given xs ≡ Err memory ∷ [] → NoneRefused xs → ⊥
 refusal_among given [] is none = absurd cc
 refusal_among given (Ok e ∷ xs) is none = absurd cc
 refusal_among given (Err f ∷ xs) is none = let told : failure f ≡ memory = cc in none.0 told
 
 module _ {C S P A T L R E : Type 0} (files : FileSystem.Ghosts S) (process : ProcessReadDir.Ghosts P C A R E) (clone : Clone.Ghosts R) (defaults : Default.Ghosts E) (pool : Pool.Ghosts L C S P A R E) (given : Given R E) where
-  -- a walk whose start was refused has that to tell, and nothing else
+  -- a walk that ran out of memory at its start yields the error that says so, and nothing else
   to_come_refused : (it : DirEntryIter C S P A T L R E) → IsRefused it → to_come files given it ≡ Err memory ∷ []
   to_come_refused it refused =
       ap (held_value.to_come (reading (job_by files given (job_of it))) (min_depth_of it) (greatest_depth (job_of it))) (refused_by given (is_refused it) (items_of it) (unread_of it) refused.tells)
       ∙ ap (answers (min_depth_of it)) (alone (reading (job_by files given (job_of it))) (greatest_depth (job_of it)) (Err memory) [] [] refl)
 
-  -- calls up to `None` answer all that was to come, unless one of them tells of want of memory
+  -- calls up to `None` yield all that was to come, unless one of them says that memory ran out
   pub all_answered : (xs : List (Result (DirEntry C A R E) (Error A))) (it : DirEntryIter C S P A T L R E) → IsSteadyWalk files process clone defaults pool it given → Drains (Answers files process clone defaults pool) it xs → NoneRefused xs → to_come files given it ≡ counted_list given xs
   all_answered xs it steady drains none =
       let last = drains.1.0 in
@@ -100,7 +100,7 @@ module _ {C S P A T L R E : Type 0} (files : FileSystem.Ghosts S) (process : Pro
         | inr ends ↦ absurd (end_told xs ends.before ends.told none)
       ]
 
-  -- After a call of `fill` that told fewer answers than it was asked for, all that was to come stands in the vector, behind what it held before, unless one of them tells of want of memory.
+  -- A call of `fill` that returns less than it was asked for leaves all that was to come in the vector, behind what was there before. Or an answer says that memory ran out.
   pub all_filled : (n k : ℕ) (before after : List (Result (DirEntry C A R E) (Error A))) (it new : DirEntryIter C S P A T L R E) → IsSteadyWalk files process clone defaults pool it given → Fills files process clone defaults pool n it before (Ok k) after new → k < n → NoneRefused after
       → counted_list given after ≡ counted_list given before ++ to_come files given it
   all_filled n k before after it new steady fills fewer none =
@@ -126,7 +126,7 @@ module _ {C S P A T W L R E : Type 0} (files : FileSystem.Ghosts S) (process : P
       ∙ ap (λ options. coming (file_system_of walk) options (held_by given it)) starts.options
       ∙ ap (coming (file_system_of walk) (builder.options_of walk)) holds
 
-  -- A walk that was begun answered the whole walk from its root, where its answers are all that was to come, and none tells of want of memory.
+  -- A walk that was begun yields the whole walk from its root, if its answers are all that was to come and none says that memory ran out.
   answered_whole : (walk : WalkDirGeneric C S P A T W R E) (it : DirEntryIter C S P A T L R E) (xs : List (Result (DirEntry C A R E) (Error A))) → Starts walk it → IsRefused it ⊎ Holds files process clone defaults walk it → IsSteady files process clone defaults (file_system_of walk) (callback_of walk) given → NoneRefused xs → to_come files given it ≡ counted_list given xs
       → counted_list given xs ≡ whole_walk (job_for files given walk) (root_of walk) (given.read_dir_state (state_of walk))
   answered_whole walk it xs starts begun steady none came =
@@ -135,21 +135,21 @@ module _ {C S P A T W L R E : Type 0} (files : FileSystem.Ghosts S) (process : P
         | inr holds ↦ sym came ∙ comes_whole walk it starts (holds given steady)
       ]
 
-  -- a walk that starts steady is steady, if it was begun over what is
+  -- a walk that starts steady is steady, if it was begun over what is steady
   pub steady_begun : (walk : WalkDirGeneric C S P A T W R E) (it : DirEntryIter C S P A T L R E) → StartsSteady files process clone defaults pool it → Starts walk it → IsSteady files process clone defaults (file_system_of walk) (callback_of walk) given → IsSteadyWalk files process clone defaults pool it given
   steady_begun walk it steadily starts steady = steadily given (rw (starts.file_system, starts.callback) steady)
 
-  -- and one that no crew reads for is
+  -- and so is one that no crew reads for
   pub steady_start : (walk : WalkDirGeneric C S P A T W R E) (it : DirEntryIter C S P A T L R E) → by_crew it ≡ false → Starts walk it → IsSteady files process clone defaults (file_system_of walk) (callback_of walk) given → IsSteadyWalk files process clone defaults pool it given
   steady_start walk it own starts steady = steady_begun walk it (λ value steadily. alone_steady files process clone defaults pool it value own steadily (starts.ahead own).done) starts steady
 
-  -- A walk that was begun and asked up to `None`, where no answer tells of want of memory, answered the whole walk from its root.
+  -- A walk that was begun and called up to `None`, where no answer says that memory ran out, yields the whole walk from its root.
   pub whole : (walk : WalkDirGeneric C S P A T W R E) (it : DirEntryIter C S P A T L R E) (xs : List (Result (DirEntry C A R E) (Error A))) → IsSteadyWalk files process clone defaults pool it given → Starts walk it → IsRefused it ⊎ Holds files process clone defaults walk it → IsSteady files process clone defaults (file_system_of walk) (callback_of walk) given → Drains (Answers files process clone defaults pool) it xs → NoneRefused xs
       → counted_list given xs ≡ whole_walk (job_for files given walk) (root_of walk) (given.read_dir_state (state_of walk))
   whole walk it xs steadily starts begun steady drains none =
       answered_whole walk it xs starts begun steady none (all_answered files process clone defaults pool given xs it steadily drains none)
 
-  -- A walk that was begun and filled into an empty vector, which holds fewer answers than were asked for then, answered the whole walk from its root, unless one of them tells of want of memory.
+  -- A walk is begun and filled into an empty vector, with fewer answers than were asked for. It yields the whole walk from its root, unless an answer says that memory ran out.
   pub filled_whole : (walk : WalkDirGeneric C S P A T W R E) (it new : DirEntryIter C S P A T L R E) (n k : ℕ) (before xs : List (Result (DirEntry C A R E) (Error A))) → IsSteadyWalk files process clone defaults pool it given → Starts walk it → IsRefused it ⊎ Holds files process clone defaults walk it → IsSteady files process clone defaults (file_system_of walk) (callback_of walk) given → Fills files process clone defaults pool n it before (Ok k) xs new → before ≡ [] → length xs < n → NoneRefused xs
       → counted_list given xs ≡ whole_walk (job_for files given walk) (root_of walk) (given.read_dir_state (state_of walk))
   filled_whole walk it new n k before xs steadily starts begun steady fills empty fewer none =
@@ -157,13 +157,13 @@ module _ {C S P A T W L R E : Type 0} (files : FileSystem.Ghosts S) (process : P
       let filled = all_filled files process clone defaults pool given n k before xs it new steadily fills (omega (arith, among, fewer, fills.number.0)) none in
       answered_whole walk it xs starts begun steady none (sym (filled ∙ ap (λ l. counted_list given l ++ to_come files given it) empty))
 
-  -- the same of one that no crew reads for
+  -- the same for one that no crew reads for
   pub whole_filled : (walk : WalkDirGeneric C S P A T W R E) (it new : DirEntryIter C S P A T L R E) (n k : ℕ) (before xs : List (Result (DirEntry C A R E) (Error A))) → by_crew it ≡ false → Starts walk it → IsRefused it ⊎ Holds files process clone defaults walk it → IsSteady files process clone defaults (file_system_of walk) (callback_of walk) given → Fills files process clone defaults pool n it before (Ok k) xs new → before ≡ [] → length xs < n → NoneRefused xs
       → counted_list given xs ≡ whole_walk (job_for files given walk) (root_of walk) (given.read_dir_state (state_of walk))
   whole_filled walk it new n k before xs own starts begun steady fills empty fewer none =
       filled_whole walk it new n k before xs (steady_start walk it own starts steady) starts begun steady fills empty fewer none
 
--- what a walk with no callback answers is said by the file system, the options and the root that its builder was given
+-- what a walk with no callback yields depends on the file system, the options and the root that its builder was given
 pub stateless_of : {C S P A T W R E : Type 0} (functions : S → Functions) (walk : WalkDirGeneric C S P A T W R E) (fs : S) (options : Options) (root : List ℕ) → file_system_of walk ≡ fs → builder.options_of walk ≡ options → root_of walk ≡ root
     → stateless_walk (functions (file_system_of walk)) (builder.options_of walk) (root_of walk) ≡ stateless_walk (functions fs) options root
 stateless_of functions walk fs options root fs_is options_are root_is =

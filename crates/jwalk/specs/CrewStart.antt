@@ -16,12 +16,12 @@ use Rattle.jwalk_engine.specs.ReadAhead.{BeginsWith}
 use Rattle.jwalk_entries.specs.DirEntryIter.{is_refused, by_crew, job_of, items_of, unread_of, width_of, read_ahead, held_by, IsWithin, IsSourced, IsRefused}
 use Rattle.jwalk_entries.specs.declared.dir_entry_iter.DirEntryIter.{DirEntryIter}
 
--- what a busy crew leaves of an item: the error that tells of it, where the item has a directory to be read
+-- what a busy crew leaves of an item: the error that says so, if the item has a directory to be read
 abbrev pub busied : {R E : Type 0} → Item R E → Item R E
 busied (Ok e) = if is_some e.read_children then Err busy else Ok e
 busied (Err f) = Err f
 
--- the same with nothing below it
+-- the same, with nothing below it
 abbrev pub busy_pair : {R E : Type 0} → Item R E → Pair R E
 busy_pair x = record { item = busied x; source = nothing }
 
@@ -31,32 +31,32 @@ left_of None list = list
 left_of (Some Busy) list = map busied list
 left_of (Some Memory) list = []
 
--- whether memory was refused
+-- whether memory ran out
 abbrev pub is_refusal : Option NotStarted → Bool
 is_refusal None = false
 is_refusal (Some Busy) = false
 is_refusal (Some Memory) = true
 
--- the directories of the list are to be read, or nothing is where the readings didn't begin
+-- The directories of the list are to be read, or nothing is if the readings didn't begin.
 abbrev pub IsToRead : {R E : Type 0} → Clone.Ghosts R → Reading R E → Option NotStarted → List (Spec R) → Type 0
 IsToRead clone read None specs = AreClones clone.is_clone (children read) specs
 IsToRead clone read (Some why_not) specs = specs ≡ []
 
 module _ {C S P A T L R E : Type 0} (clone : Clone.Ghosts R) (read : Option (Reading R E)) where
-  -- The walk holds what is left of a root's list. Without a list memory was refused.
+  -- The walk holds what is left of a root's list. Without a list, memory ran out.
   abbrev pub IsBegun : Option NotStarted → DirEntryIter C S P A T L R E → Type 0
   IsBegun why_not it =
       MatchOption read
       ((why_not ≡ Some Memory) × (is_refused it ≡ true) × (items_of it ≡ []) × (unread_of it ≡ []))
       (λ r. (is_refused it ≡ is_refusal why_not) × (items_of it ≡ left_of why_not r.list) × IsToRead clone r why_not (unread_of it))
 
-  -- what it holds of the root's list by value, by why its readings didn't begin
+  -- what it holds of the root's list as a value, by why its readings didn't begin, if they didn't
   abbrev pub HoldsList : Option NotStarted → DirEntryIter C S P A T L R E → Type 0
   HoldsList None it = (given : Given R E) → ClonesCount clone given → IsSomeAnd read (λ r. held_by given it ≡ paired (counted_reading given r))
   HoldsList (Some Busy) it = (given : Given R E) → IsSomeAnd read (λ r. held_by given it ≡ map busy_pair (counted_reading given r).list)
   HoldsList (Some Memory) it = IsRefused it
 
-  -- The walk of a job that begins with a root's list: it holds no entry that is too deep, and what it has to read are the directories of what it holds. Where no crew reads, these alone are queued, in their order, and none is read yet. Only one that a crew is to read for finds the crew busy.
+  -- The walk of a job that begins with a root's list. It holds no entry that is too deep, and what it has to read are the directories of what it holds. Where no crew reads, only these are queued, in order, and none is read yet. Only a walk that a crew is to read for finds the crew busy.
   pub record IsFromRoot (begun : Job C S P A R E) (why_not : Option NotStarted) (it : DirEntryIter C S P A T L R E) : Type 0 where
     pub job : job_of it ≡ begun
     pub within : IsWithin it

@@ -1,4 +1,4 @@
--- How many directories an entry has above it: where links are followed at most one more than its depth, and else none.
+-- How many directories an entry has above it: at most one more than its depth where links are followed, and else none.
 use Rattle.std.proofs.Common.{◌≡◌, ℕ, zero, suc, ◌+◌, ◌≤◌, Bool, true, false, cond, ◌&&◌, List, [], ◌∷◌, ◌++◌, length, map, Option, Some, None, Result, Ok, Err, refl, arith}
 use Rattle.std.proofs.lemmas.List.{length-append}
 use Rattle.std.specs.Prelude.{nat_le, filter, flat_map, option_map, if◌then◌else◌}
@@ -19,7 +19,7 @@ use Rattle.walk_model.specs.Job as value
 use Rattle.walk_model.specs.Job.{Job, either}
 use Rattle.walk_model.specs.Walk.{whole_walk, stateless_job, stateless_walk}
 
--- at most how many there are above what stands at a depth
+-- at most how many there are above what is at a depth
 abbrev pub most_above : Bool → ℕ → ℕ
 most_above follow depth = if follow then depth + 1 else 0
 
@@ -28,7 +28,7 @@ module _ {R E : Type 0} (follow : Bool) where
   HasFew (Ok e) = length e.ancestors ≤ most_above follow e.depth
   HasFew (Err f) = Unit {0}
 
-  -- each entry of the list has no more above it
+  -- Each entry of the list has no more above it.
   abbrev pub HaveFew : List (Item R E) → Type 0
   HaveFew [] = Unit {0}
   HaveFew (x ∷ xs) = HasFew x × HaveFew xs
@@ -62,7 +62,7 @@ module _ {R E : Type 0} (follow : Bool) where
   after (Err f) (Ok e) h = h
   after (Err f) (Err g) h = h
 
-  -- a list and what stands below it
+  -- a list and what is below it
   list_below : (reading : Spec R → Outcome R E) (all : Source R E → List (Item R E)) → all nothing ≡ [] → ((s : Spec R) → length s.ancestors ≤ most_above follow s.depth → HaveFew (all (unread s)))
       → (state : R) (l : List (Item R E)) → HaveFew l → HaveFew (flat_map (λ (p : Pair R E). stands reading p.item p.source ∷ all p.source) (map (pair state) l))
   list_below reading all none deeper state [] h = tt
@@ -184,6 +184,6 @@ module _ {R E : Type 0} (job : Job R E) where
         (nothing_below (value.reading job) 0) (λ spec. below_few (levels_of {E = E} job.options.max_depth (unread spec)) spec)
         first.state first.list (keeps None (value.root_parent job path) state (value.root_item job path ∷ []) (root_few path, tt)))
 
--- what a walk with no callback answers has no more above it
+-- what a walk with no callback yields has no more above it
 pub stateless_few : (fs : Functions) (options : Options) (root : List ℕ) → HaveFew options.follow_links (stateless_walk fs options root)
 stateless_few fs options root = walk_few (stateless_job fs options) (λ depth path state list h. h) root blank

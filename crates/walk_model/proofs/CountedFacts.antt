@@ -1,4 +1,4 @@
--- What is counted of lists and outcomes is what lists and outcomes of counted states have.
+-- Lists and outcomes keep their directories, depths and order once their states are counted.
 use Rattle.std.proofs.Common.{◌≡◌, ℕ, List, [], ◌∷◌, ◌++◌, map, Option, Some, None, option_to_list, unwrap_or, is_some, Bool, true, false, cond, Ok, Err, refl, sym, ap, ◌∙◌}
 use Rattle.std.specs.Prelude.{flat_map, option_map}
 use Rattle.std.proofs.lemmas.List.{map-append}
@@ -14,7 +14,7 @@ module _ {R E V W : Type 0} (view : R → V) (mark : E → W) where
   counted-has_directory (Err f) = refl
   counted-has_directory (Ok e) = elim e.read_children as (λ o. is_some (option_map (children_by view) o) ≡ is_some o) [ None ↦ refl | Some c ↦ refl ]
 
-  -- its answer, once the directory was read
+  -- an item once its directory was read
   pub counted-after_reading : (outcome : Outcome R E) (x : Item R E) → after_reading (outcome_by view mark outcome) (item_by view mark x) ≡ item_by view mark (after_reading outcome x)
   counted-after_reading (Ok r) x = refl
   counted-after_reading (Err f) (Err g) = refl
@@ -83,7 +83,7 @@ module _ {R E V W : Type 0} (view : R → V) (mark : E → W) where
   counted-in_order true l = sym (counted-arranged l)
   counted-in_order false l = refl
 
-  -- nor a directory that stands behind a link
+  -- nor does a directory behind a link
   pub counted-with_directory : (e : Entry R E) (dir : Bool) (path : List ℕ) → entry_by view mark (cond dir (record e { read_children = children_at true path }) e) ≡ cond dir (record (entry_by view mark e) { read_children = children_at true path }) (entry_by view mark e)
   counted-with_directory e true path = refl
   counted-with_directory e false path = refl

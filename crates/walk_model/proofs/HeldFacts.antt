@@ -10,7 +10,7 @@ use Rattle.walk_model.specs.Listing.{Pair, nothing, unread, source_of, pair, pai
 use Rattle.walk_model.specs.Held.{first_source, after_first, pair_up, is_plain, bound, source_weight, weight, sources, AreSourced}
 
 module _ {R E : Type 0} where
-  -- a list that was read stands in front of the rest as its pairs
+  -- a list that was read is in front of the rest as its pairs
   front : (state : R) (l xs : List (Item R E)) (ss : List (Spec R)) → pair_up (l ++ xs) (flat_map (λ item. option_to_list (spec_of state item)) l ++ ss) ≡ map (pair state) l ++ pair_up xs ss
   front state [] xs ss = refl
   front state (Err f ∷ l) xs ss = ap (λ t. record { item = Err f; source = nothing } ∷ t) (front state l xs ss)
@@ -21,12 +21,12 @@ module _ {R E : Type 0} where
         | Some c ↦ ap (λ t. record { item = Ok e; source = unread (spec_below state e c) } ∷ t) (front state l xs ss)
       ]
 
-  -- an outcome's list stands in front of the rest as its pairs
+  -- an outcome's list is in front of the rest as its pairs
   pub pair_up-outcome : (outcome : Outcome R E) (xs : List (Item R E)) (ss : List (Spec R)) → pair_up (list_of outcome ++ xs) (children_of outcome ++ ss) ≡ pairs_of outcome ++ pair_up xs ss
   pair_up-outcome (Ok r) xs ss = front r.state r.list xs ss
   pair_up-outcome (Err f) xs ss = refl
 
-  -- the weight of a list depends on the depths of its specifications alone
+  -- the weight of a list depends only on the depths of its specifications
   same_weight : (max_depth : ℕ) (xs : List (Item R E)) (ss ts : List (Spec R)) → depths ss ≡ depths ts → weight max_depth (pair_up xs ss) ≡ weight max_depth (pair_up xs ts)
   same_weight max_depth [] ss ts h = refl
   same_weight max_depth (x ∷ xs) [] [] h = refl
@@ -69,7 +69,7 @@ module _ {R E : Type 0} where
   weight-paired max_depth depth state (Err f ∷ l) a = omega (arith, weight-paired max_depth depth state l a, bound_pos (max_depth - depth))
   weight-paired max_depth depth state (Ok e ∷ l) a = omega (arith, weight-paired max_depth depth state l a.1, one_source max_depth depth state e a.0)
 
-  -- the pairs of an outcome weigh less than the specification that it was read from
+  -- the pairs of an outcome weigh less than its specification
   lighter_at : (max_depth n : ℕ) (s : Spec R) (outcome : Outcome R E) → IsLawfulReading max_depth s outcome → length (list_of outcome) < 2 ^ 64 → max_depth - s.depth ≡ n → weight max_depth (pairs_of outcome) < bound n
   lighter_at max_depth n s (Err f) lawful few levels = bound_pos n
   lighter_at max_depth zero s (Ok r) lawful few levels =
@@ -108,7 +108,7 @@ module _ {R E : Type 0} (reading : Spec R → Outcome R E) where
   pub listing-append : (max_depth : ℕ) (ps qs : List (Pair R E)) → listing reading max_depth (ps ++ qs) ≡ listing reading max_depth ps ++ listing reading max_depth qs
   listing-append max_depth ps qs = flat_map-append (λ (p : Pair R E). stands reading p.item p.source ∷ below reading (levels_of max_depth p.source) p.source) ps qs
 
-  -- a level below a directory, as many levels are left as below any of its entries
+  -- a level below a directory, as many levels are left as below each of its entries
   one_below : (max_depth depth n : ℕ) (state : R) (e : Entry R E) → e.depth ≡ depth → max_depth - depth ≡ n → below reading n (source_of (spec_of {E = E} state (Ok e))) ≡ below reading (levels_of {E = E} max_depth (source_of (spec_of {E = E} state (Ok e)))) (source_of (spec_of {E = E} state (Ok e)))
   one_below max_depth depth n state e h levels =
       elim e.read_children as (λ o. below reading n (source_of (option_map (spec_below state e) o)) ≡ below reading (levels_of {E = E} max_depth (source_of (option_map (spec_below state e) o))) (source_of (option_map (spec_below state e) o))) [
@@ -116,7 +116,7 @@ module _ {R E : Type 0} (reading : Spec R → Outcome R E) where
         | Some c ↦ ap (λ k. below reading k (unread (spec_below state e c))) (sym levels ∙ ap (λ d. max_depth - d) (sym h))
       ]
 
-  -- what stands below a list that was read is its listing
+  -- what is below a list that was read is its listing
   list_below : (max_depth depth n : ℕ) (state : R) (l : List (Item R E)) → AtDepth depth l → max_depth - depth ≡ n → flat_map (λ (p : Pair R E). stands reading p.item p.source ∷ below reading n p.source) (map (pair state) l) ≡ listing reading max_depth (map (pair state) l)
   list_below max_depth depth n state [] a levels = refl
   list_below max_depth depth n state (Err f ∷ l) a levels = rw (below-nothing n, below-nothing 0) (ap (λ t. Err f ∷ t) (list_below max_depth depth n state l a levels))

@@ -1,4 +1,4 @@
--- A text byte by byte: a trailing slash or `.` adds no component, and each other byte adds to their texts.
+-- A text byte by byte: a trailing slash or `.` adds no component, and each other byte adds to the components' texts.
 use Rattle.std.proofs.Common.{◌≡◌, ◌≢◌, ℕ, zero, suc, ◌+◌, ◌-◌, ◌<◌, ◌≤◌, true, false, cond, ◌||◌, ◌&&◌, eqb, ltb, List, [], ◌∷◌, ◌++◌, length, get_or, take, flat_map, bytes_eq, ◌⊎◌, inl, inr, refl, sym, ap, ap₂, subst, ◌∙◌, ⊎_elim, append_assoc, arith, eqb-true, ltb-true, ltb-false, lt-ltb, length-append, length-take, take-take, take_all}
 use Rattle.std.specs.List.{onto_first}
 use Rattle.std.specs.Path.{is_trailing, trimmed_len, trim_trailing}
@@ -224,7 +224,7 @@ trailing-same path n l h =
     ∙ sym (ap components_of (c.is ∙ ap (λ x. c.front ++ x ∷ []) none)))
     (or_cases (eqb b slash) (eqb b 46 && eqb b_before slash) both.1)
 
--- a byte after a slash that does not trail is no `.`
+-- a byte after a slash that doesn't trail is no `.`
 pub no_dot : (path : List ℕ) (n : ℕ) (c : Cut path n) → is_trailing path n ≡ false → 0 < n → c.last ≡ [] → eqb (get_or path n 0) 46 ≡ false
 no_dot path n c h some z =
     by_test (eqb (get_or path n 0) 46) (λ q. absurd (both_ways _ h (and_from _ _ (lt-ltb 0 n some) (or_right _ _ (and_from _ _ q (c.ends some z)))))) (λ q. q)
@@ -256,7 +256,7 @@ byte-grows path n l h =
       after_byte c.front c.last b either,
     ))
 
--- no byte takes from the texts of the components
+-- no byte makes the texts of the components shorter
 size-next : (path : List ℕ) (n : ℕ) → n < length path → size (components (take n path)) ≤ size (components (take (suc n) path))
 size-next path n l =
     by_test (is_trailing path n) (λ e. omega (arith, ap size (trailing-same path n l e))) (λ e. omega (arith, byte-grows path n l e))
@@ -316,7 +316,7 @@ trim_trailing-grows path k lt =
 pub trim_trailing-shortest : (path : List ℕ) → IsShortest (trim_trailing path)
 trim_trailing-shortest path k lt = λ e. omega (arith, trim_trailing-grows path k lt, ap size e)
 
--- a text of one byte with the root is `/`
+-- a text of one byte whose only component is the root is `/`
 one_byte : (a : ℕ) → components (a ∷ []) ≡ root ∷ [] → a ≡ slash
 one_byte a h = by_test (eqb a slash) (λ e. eqb-true a slash e) (λ e. by_test (eqb a 46) (λ d. absurd (is_here e d)) (λ d. absurd (is_plain e d)))
   where
@@ -331,6 +331,6 @@ root_text [] h e = cc
 root_text (a ∷ []) h e = ap (λ b. b ∷ []) (one_byte a e)
 root_text (a ∷ b ∷ rest) h e = absurd (omega (arith, h (omega arith), byte-grows (a ∷ b ∷ rest) 0 (omega arith) refl, ap size e))
 
--- a text with the root alone is `/`, less what trails
+-- a text whose only component is the root is `/`, without what trails
 pub trim_trailing-root : (path : List ℕ) → components (trim_trailing path) ≡ root ∷ [] → trim_trailing path ≡ slash ∷ []
 trim_trailing-root path e = root_text (trim_trailing path) (trim_trailing-grows path 1) e

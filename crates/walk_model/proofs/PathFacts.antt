@@ -167,7 +167,7 @@ first_proper (c ∷ cs) others h g =
     subst (λ l. AreProper (l ++ flat_map component_of others)) (sym (cond-false (bytes_eq (c ∷ cs) dot) (here ∷ []) _ e))
     (steps_are_proper _ (AreSteps-append (component_of (c ∷ cs)) _ (steps_of_part (c ∷ cs) h) g)))
 
--- the root and `.` come only first, and each name is one
+-- the root and `.` come only first, and each name is a plain one
 pub components-proper : (text : List ℕ) → AreProper (components text)
 components-proper text = subst (λ ps. AreProper (components_of ps)) (sym (parts_are text)) (first_proper (first_piece text) (later_pieces text) (no_slash_first_piece text) (steps_of_parts text))
 

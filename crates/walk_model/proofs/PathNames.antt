@@ -1,4 +1,4 @@
--- The file name that `std::path` gives is the last component where that is a plain name.
+-- The file name that `std::path` gives is the last component, if that is a plain name.
 use Rattle.std.proofs.Common.{◌≡◌, ◌≢◌, ℕ, zero, suc, ◌+◌, ◌-◌, ◌<◌, ◌≤◌, false, ◌||◌, eqb, List, [], ◌∷◌, ◌++◌, length, get_or, take, drop, bytes_eq, Option, Some, None, IfSome, option_map, refl, sym, ap, ap₂, ◌∙◌, ⊎_elim, append-nil, arith, eqb-true, take_all, length-take, lt-ltb}
 use Rattle.std.specs.Option.{option_flatten}
 use Rattle.std.specs.Path.{root_dir, cur_dir, is_trailing, trim_trailing, rfind_below, rsplit_once, parent_and_last, normal_name, split_last_component, path_file_name}
@@ -10,7 +10,7 @@ use Rattle.walk_model.proofs.PathFacts.{by_test}
 use Rattle.walk_model.proofs.PathEnds.{onto_last, onto_last-push, parts-slash, parts-byte, part_grows, push-nonempty, take_next, next-byte, cut, no_dot, trailing-same, size, size-first, before, components-after, trim_trailing-components, trim_trailing-grows}
 use Rattle.walk_model.proofs.PathParents.{last_of-push}
 
--- what stands after the slash at r, or all of it
+-- what is after the slash at r, or all of it
 abbrev tail_of : List ℕ → Option ℕ → List ℕ
 tail_of text None = text
 tail_of text (Some i) = drop (i + 1) text

@@ -90,13 +90,13 @@ shortest-nil k lt = absurd (omega arith)
 shortest-root : IsShortest (slash ∷ [])
 shortest-root k lt = λ e. let first : k ≡ 0 = omega arith in let none : components [] ≡ root ∷ [] = ap (λ j. components (take j (slash ∷ []))) (sym first) ∙ e in cc
 
--- ---- the parent of std
+-- ---- the parent that std gives
 
 shortest-parent : (path : List ℕ) (r : Option (List ℕ × List ℕ)) → IsShortest (parent_and_last path r).0
 shortest-parent path None = shortest-nil
 shortest-parent path (Some split) = cond_both (eqb (length split.0) 0) root_dir (trim_trailing split.0) IsShortest (λ _. shortest-root) (λ _. trim_trailing-shortest split.0)
 
--- a text is empty or the root, less what trails, or has a parent that is a shortest beginning
+-- A text is empty or the root, without what trails, or it has a parent that is a shortest beginning.
 abbrev HasParent : List ℕ → Option (List ℕ) → Type 0
 HasParent text r = ((r ≡ None) × ((trim_trailing text ≡ []) ⊎ (trim_trailing text ≡ root_dir)))
     ⊎ ((front : List ℕ) × (r ≡ Some front) × IsShortest front × (trim_trailing text ≢ root_dir))

@@ -1,4 +1,4 @@
--- Two paths are the same just where the components of each begin with those of the other.
+-- Two paths are the same exactly if the components of each begin with those of the other.
 use Rattle.std.proofs.Common.{◌≡◌, ◌↔◌, Bool, true, false, ◌&&◌, ℕ, List, [], ◌∷◌, ◌++◌, map, length, refl, sym, ap, ap₂, ◌∙◌, append-nil, arith}
 use Rattle.std.specs.Prelude.{IsTrue}
 use Rattle.std.specs.Bool.{Decides}
@@ -62,7 +62,7 @@ equal_fronts xs ys xs' [] e f = e ∙ append-nil ys
 equal_fronts xs ys xs' (y ∷ ys') e f =
     absurd (omega (arith, ap length e, ap length f, length-append ys (y ∷ ys'), length-append xs xs'))
 
--- where a begins with b, they are the same just where b begins with a
+-- where a begins with b, they are the same exactly if b begins with a
 same_by_second : (a b : List ℕ) → PathStartsWith a b → Decides (same_path a b) (PathStartsWith b a)
 same_by_second a b first = (
   λ h. ([], sym ((same_components a b).0 h) ∙ sym (append-nil (path_components a))),

@@ -19,7 +19,7 @@ second_false false false h = refl
 second_false false true h = cc
 second_false true b h = cc
 
--- what an element adds to a filter, once x and y stand the other way round
+-- what an element adds to a filter, once x and y are the other way round
 exchanged : {X : Type 0} (x y : X) (us vs : List X) (a b : Bool) → (a ≡ true → b ≡ true → ⊥) → us ≡ cond a (x ∷ vs) vs → cond b (y ∷ us) us ≡ cond a (x ∷ cond b (y ∷ vs) vs) (cond b (y ∷ vs) vs)
 exchanged x y us vs true true h e = absurd (h refl refl)
 exchanged x y us vs true false h e = e
@@ -27,12 +27,12 @@ exchanged x y us vs false true h e = ap (λ l. y ∷ l) e
 exchanged x y us vs false false h e = e
 
 module _ {X : Type 0} (lt : X → X → Bool) where
-  -- no element has to stand before an earlier one
+  -- No element must come before an earlier one.
   abbrev Ascends : List X → Type 0
   Ascends [] = Unit {0}
   Ascends (x ∷ xs) = AllByRecursion (λ y. lt y x ≡ false) xs × Ascends xs
 
-  -- x put before the first element that needn't stand before it
+  -- x put before the first element that needn't come before it
   abbrev pub inserted : X → List X → List X
   inserted x [] = x ∷ []
   inserted x (y ∷ ys) = cond (lt y x) (y ∷ inserted x ys) (x ∷ y ∷ ys)
@@ -139,7 +139,7 @@ module _ {X : Type 0} (lt : X → X → Bool) where
     not_tied_by x y z true p e f = let g = o.chain x z y (first_false (lt x z) (lt z x) p) f in cc
     not_tied_by x y z false p e f = refl
 
-    -- x has to stand before y, and none of zs before y: so none of zs ties with x
+    -- x must come before y, and none of zs before y: so none of zs ties with x
     none_ties : (x y : X) (zs : List X) → lt x y ≡ true → AllByRecursion (λ z. lt z y ≡ false) zs → filter (ties lt x) zs ≡ []
     none_ties x y [] e h = refl
     none_ties x y (z ∷ zs) e h = rw (not_tied_by x y z (ties lt x z) refl e h.0) (none_ties x y zs e h.1)
@@ -215,7 +215,7 @@ module _ {R E : Type 0} where
   pub stands_before-order : IsStrictWeakOrder (stands_before {R = R} {E = E})
   stands_before-order = record { one_way = one_way; chain = chain }
 
-  -- the order of what can be seen as items
+  -- the order of values that can be seen as items
   pub stands_before-through : {T : Type 0} (item : T → Item R E) → IsStrictWeakOrder (λ a b. stands_before (item a) (item b))
   stands_before-through item = IsStrictWeakOrder-through stands_before stands_before-order item
 
@@ -232,7 +232,7 @@ module _ {R E : Type 0} where
   pub orders_are_arranged : OrdersAreArranged R E
   orders_are_arranged l m = (arranged-unique l m, λ e. subst (IsSorted l) (sym e) (IsSorted-arranged l))
 
-  -- for a stable sort of a list of what can be seen as items
+  -- for a stable sort of a list of values that can be seen as items
   pub arranged-map : {T : Type 0} (item : T → Item R E) (l m : List T) → IsSortedBy (λ a b. stands_before (item a) (item b)) m → IsStableBy (λ a b. stands_before (item a) (item b)) l m → map item m ≡ arranged (map item l)
   arranged-map item l m h k =
       ap (map item) (insertion_sorted-unique (λ a b. stands_before (item a) (item b)) (stands_before-through item) l m h k)

@@ -1,4 +1,4 @@
--- Depths of what is held and of what is answered.
+-- Depths of what is held and of what is yielded.
 use Rattle.std.proofs.Common.{◌≡◌, ℕ, ◌+◌, ◌≤◌, true, false, List, [], ◌∷◌, ◌++◌, Ok, Err, inl, inr, arith, sym, ◌∙◌}
 use Rattle.std.proofs.lemmas.Bool.Decides.{leb_tells}
 use Rattle.walk_model.specs.Entry.{Item, AtDepth, NoDeeper, IsBetween}
@@ -39,7 +39,7 @@ module _ {R E : Type 0} where
   first_of greatest (Ok e) l h = ((h.0, tt), h.1)
   first_of greatest (Err f) l h = (tt, h)
 
-  -- what is answered from a least depth on is between the depths
+  -- what is yielded from a least depth on is between the depths
   pub is_between : (min_depth max_depth : ℕ) (x : Item R E) → is_answered min_depth x ≡ true → NoDeeper max_depth (x ∷ []) → IsBetween min_depth max_depth x
   is_between min_depth max_depth (Ok e) kept h = (elim (leb_tells min_depth e.depth) [ inl deep ↦ deep.1 | inr higher ↦ let no : true ≡ false = sym kept ∙ higher.0 in cc ], h.0)
   is_between min_depth max_depth (Err f) kept h = tt

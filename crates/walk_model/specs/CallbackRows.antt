@@ -1,4 +1,4 @@
--- Walks with a callback over a small tree, row by row: what they answer. The root list is the first that a callback is given.
+-- Walks with a callback over a small tree, row by row: what they yield. The root list is the first that a callback is given.
 use Rattle.std.specs.Prelude.{◌≡◌, ℕ, ◌+◌, ◌==◌, Bool, true, false, not, List, [], ◌∷◌, ◌++◌, map, filter, flat_map, Option, Some, None, Ok, Err, if◌then◌else◌, bytes_eq, take, option_map, codes, refl}
 use Rattle.std.specs.Fmt.{digits}
 use Rattle.walk_model.specs.TreeRows.{Step, d, f, l}
@@ -25,7 +25,7 @@ module _ {R E : Type 0} where
   abbrev job : Callback R E → E → List Step → Options → Job R E
   job callback default steps options = record { fs = tree_by steps; options = options; processed = callback; default = default }
 
-  -- a callback that changes the items of a list alone
+  -- a callback that changes only the items of a list
   abbrev by_items : (List (Item R E) → List (Item R E)) → Callback R E
   by_items change depth path state list = record { state = state; list = change list }
 
@@ -72,7 +72,7 @@ directory_moved : map line_of (whole_walk (job moves tt tree_a sorted) (codes "/
 unfolding whole_walk below digits
 directory_moved = refl
 
--- States that are texts, or nothing: only directories stay; an entry is given its list's state, and its own name for its directory.
+-- States that are texts, or nothing. Only directories stay. An entry is given its list's state, and its own name for its directory.
 abbrev Text : Type 0
 Text = Option (List ℕ)
 
@@ -90,7 +90,7 @@ names_handed_on : flat_map state_at (whole_walk (job hands_on_names None tree_a 
 unfolding whole_walk below
 names_handed_on = refl
 
--- A count of lists, and a mark on the first entry of each: entries that aren't hidden stay, by name, and nothing is read below depth 2.
+-- A count of lists, and a mark on the first entry of each. Entries that aren't hidden stay, by name, and nothing is read below depth 2.
 abbrev is_shown : Entry ℕ Bool → Bool
 is_shown e = not (is_hidden e.file_name)
 
@@ -123,7 +123,7 @@ nothing_below_depth_two : map line_of (whole_walk (extended_job (d (codes "/t") 
 unfolding whole_walk below digits
 nothing_below_depth_two = refl
 
--- directories that aren't read, and directories that aren't answered
+-- directories that aren't read, and directories that aren't yielded
 abbrev is_group : Entry Nothing Nothing → Bool
 is_group e = bytes_eq (take 5 e.file_name) (codes "group")
 

@@ -7,7 +7,7 @@ use Rattle.walk_model.specs.FileSystem.{Functions, metadata_at}
 use Rattle.walk_model.specs.Error.{Failure, io, memory}
 use Rattle.walk_model.specs.Paths.{join}
 
--- what an entry holds of the directory to be read below it: its path, the error of its reading, and the state that the reading is to begin with
+-- what an entry holds of the directory to be read below it: its path, the error of its reading, and the state that the reading begins with
 pub record Children (R : Type 0) : Type 0 where
   pub path : List ℕ
   pub error : Option Failure
@@ -28,7 +28,7 @@ pub record Entry (R E : Type 0) : Type 0 where
 abbrev pub Item : Type 0 → Type 0 → Type 0
 Item R E = Result (Entry R E) Failure
 
--- a directory at this path that is to be read, where an entry's type says so
+-- the directory at this path that is to be read, if an entry's type says that it is one
 abbrev pub children_at : {R : Type 0} → Bool → List ℕ → Option (Children R)
 children_at dir path = if dir then Some (record { path = path; error = None; state = None }) else None
 
@@ -46,11 +46,11 @@ module _ {R E : Type 0} where
   abbrev pub path_of : Entry R E → List ℕ
   path_of e = join e.parent_path e.file_name
 
-  -- its metadata, asked for as the entry was made: through a link or not
+  -- its metadata, which is asked for as the entry was made: through a link or not
   abbrev pub metadata_of : Functions → Entry R E → Result Metadata ErrorKind
   metadata_of fs e = metadata_at fs e.through_link (path_of e)
 
-  -- An error that comes of asking for it: want of memory, or one of the file system with the entry's depth and path.
+  -- An error of asking for it: memory ran out, or an error of the file system, with the entry's depth and path.
   abbrev pub IsErrorOf : Entry R E → Failure → Type 0
   IsErrorOf e f = (f ≡ memory) ⊎ ((kind : ErrorKind) × (f ≡ io e.depth (Some (path_of e)) kind))
 
@@ -64,24 +64,24 @@ module _ {R E : Type 0} where
   with_error f (Err e) = Err e
   with_error f (Ok e) = Ok (record e { read_children = option_map (failed f) e.read_children })
 
-  -- every entry of the list is at this depth
+  -- Every entry of the list is at this depth.
   abbrev pub AtDepth : ℕ → List (Item R E) → Type 0
   AtDepth depth [] = Unit {0}
   AtDepth depth (Ok e ∷ items) = (e.depth ≡ depth) × AtDepth depth items
   AtDepth depth (Err f ∷ items) = AtDepth depth items
 
-  -- no entry of the list is deeper than this
+  -- No entry of the list is deeper than this.
   abbrev pub NoDeeper : ℕ → List (Item R E) → Type 0
   NoDeeper depth [] = Unit {0}
   NoDeeper depth (Ok e ∷ items) = (e.depth ≤ depth) × NoDeeper depth items
   NoDeeper depth (Err f ∷ items) = NoDeeper depth items
 
-  -- an entry's depth is from the least to the greatest
+  -- An entry's depth is from the least to the greatest.
   abbrev pub IsBetween : ℕ → ℕ → Item R E → Type 0
   IsBetween least greatest (Ok e) = (least ≤ e.depth) × (e.depth ≤ greatest)
   IsBetween least greatest (Err f) = Unit {0}
 
-  -- every entry's is
+  -- Every entry's depth is.
   abbrev pub AllBetween : ℕ → ℕ → List (Item R E) → Type 0
   AllBetween least greatest [] = Unit {0}
   AllBetween least greatest (x ∷ items) = IsBetween least greatest x × AllBetween least greatest items

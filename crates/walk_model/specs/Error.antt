@@ -2,7 +2,7 @@
 use Rattle.std.specs.Prelude.{ℕ, List, Option}
 use Rattle.std.specs.declared.io.ErrorKind.{ErrorKind}
 
--- An error by its sort. `io` has a depth, perhaps a path, and the kind of the `io::Error`; `looped` a depth, the ancestor that a link leads back to, and the link's path.
+-- An error by its sort. `io` has a depth, perhaps a path, and the kind of the `io::Error`. `looped` has a depth, the ancestor that a link leads back to, and the link's path.
 pub data Failure : Type 0 where
   io : ℕ → Option (List ℕ) → ErrorKind → Failure
   looped : ℕ → List ℕ → List ℕ → Failure

@@ -1,10 +1,10 @@
--- A file system whose answers are four functions of the path.
+-- A file system, as four functions of the path.
 use Rattle.std.specs.Prelude.{ℕ, Bool, List, Result, if◌then◌else◌}
 use Rattle.std.specs.declared.io.ErrorKind.{ErrorKind}
 use Rattle.walk_model.specs.declared.file_type.FileType.{FileType}
 use Rattle.walk_model.specs.declared.metadata.Metadata.{Metadata}
 
--- an item of a listing that has a name: its type, or the kind of the error met in its place
+-- an item of a listing that has a name: its type, or the kind of the error in its place
 pub record Named : Type 0 where
   pub name : List ℕ
   pub file_type : Result FileType ErrorKind
@@ -13,7 +13,7 @@ pub record Named : Type 0 where
 abbrev pub Listed : Type 0
 Listed = Result Named ErrorKind
 
--- what `read_dir`, `metadata`, `symlink_metadata` and `read_link` of `std::fs` answer at each path
+-- what `read_dir`, `metadata`, `symlink_metadata` and `read_link` of `std::fs` return at each path
 pub record Functions : Type 0 where
   pub list_of : List ℕ → Result (List Listed) ErrorKind
   pub meta_of : List ℕ → Result Metadata ErrorKind

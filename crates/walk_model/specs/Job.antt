@@ -17,39 +17,39 @@ use Rattle.walk_model.specs.Sorting.{arranged}
 abbrev pub Processing : Type 0 → Type 0 → Type 0
 Processing R E = Option ℕ → List ℕ → R → List (Item R E) → Reading R E
 
--- it keeps the depths of every list
+-- It keeps the depths of every list.
 abbrev pub KeepsDepthsOf : {R E : Type 0} → Processing R E → Type 0
 KeepsDepthsOf {R} {E} processed = (depth : Option ℕ) (path : List ℕ) (state : R) (list : List (Item R E)) → KeepsDepths depth list (processed depth path state list).list
 
--- What readings are made of: a fixed file system, the options, what the callback makes of a list (of a directory at a depth, or the root's), and the state of a new entry.
+-- What readings are made of: a fixed file system, the options, the callback's function of a list (of a directory at a depth, or the root's), and the state of a new entry.
 pub record Job (R E : Type 0) : Type 0 where
   pub fs : Functions
   pub options : Options
   pub processed : Processing R E
   pub default : E
 
--- one function of an answer, another of its error
+-- one function for a value, another for an error
 abbrev pub either : {X F Y : Type 0} → (X → Y) → (F → Y) → Result X F → Y
 either f g (Ok x) = f x
 either f g (Err e) = g e
 
--- the nearest ancestor, which is the last of the list, that a target is the same path as
+-- the nearest ancestor, which is the last of the list, that is the same path as a target
 abbrev pub looped_to : List ℕ → List (List ℕ) → Option (List ℕ)
 looped_to target ancestors = find (same_path target) (reverse ancestors)
 
--- the name of an entry made from a path, and its parent: where the path has no file name, they are the whole path and nothing
+-- the name of an entry made from a path, and its parent: the whole path and nothing if the path has no file name
 abbrev pub own_name : List ℕ → List ℕ
 own_name path = unwrap_or (file_name path) path
 
 abbrev pub own_parent : List ℕ → List ℕ
 own_parent path = if is_some (file_name path) then unwrap_or (parent path) [] else []
 
--- where a link stands that leads back to a directory above it, its error
+-- the error of a link that leads back to a directory above it, if it does
 abbrev pub unless_above : ℕ → List ℕ → Option (List ℕ) → Result (Unit {0}) Failure
 unless_above depth path None = Ok tt
 unless_above depth path (Some ancestor) = Err (looped depth ancestor path)
 
--- whether a link at a depth and a path, below these ancestors, leads on to what it stands for, of a type: a directory is looked for among the ancestors, by the link's text
+-- whether a link at a depth and a path, below these ancestors, leads on to a target of this type. A directory is looked for among the ancestors, by the link's text.
 abbrev pub leads_on : Functions → ℕ → List (List ℕ) → List ℕ → FileType → Result (Unit {0}) Failure
 leads_on fs depth ancestors path type =
     if is_dir type
@@ -83,14 +83,14 @@ module _ {R E : Type 0} (job : Job R E) where
   abbrev pub reached : Entry R E → Entry R E → Item R E
   reached e x = result_and (leads_on job.fs e.depth e.ancestors (path_of e) x.file_type) (Ok x)
 
-  -- an entry after the link rule: where links are followed, a link gives way to what it leads to
+  -- an entry after the link rule: where links are followed, a link is replaced by what it leads to
   abbrev pub followed : Entry R E → Item R E
   followed e =
       if job.options.follow_links && is_symlink e.file_type
       then either (reached e) Err (made e.depth (path_of e) true e.ancestors)
       else Ok e
 
-  -- the ancestors of what stands in a directory; none are kept where links aren't followed
+  -- the ancestors of what is in a directory: none are kept where links aren't followed
   abbrev pub ancestors_in : Spec R → List (List ℕ)
   ancestors_in spec = if job.options.follow_links then spec.ancestors ++ spec.path ∷ [] else []
 
@@ -112,7 +112,7 @@ module _ {R E : Type 0} (job : Job R E) where
   shown spec name type =
       if job.options.skip_hidden && is_hidden name then [] else followed (entry_in spec name type) ∷ []
 
-  -- what a name gives; where its type is an error, that error with the joined path
+  -- what a name gives: where its type is an error, that error with the joined path
   abbrev pub named : Spec R → Named → List (Item R E)
   named spec n = either (shown spec n.name) (λ kind. Err (io (spec.depth + 1) (Some (join spec.path n.name)) kind) ∷ []) n.file_type
 
@@ -128,7 +128,7 @@ module _ {R E : Type 0} (job : Job R E) where
   abbrev pub ordered : Spec R → List Listed → List (Item R E)
   ordered spec items = if job.options.sort then arranged (raw spec items) else raw spec items
 
-  -- One reading. At the greatest depth nothing is read; a listing that fails is an error with the directory's depth and path.
+  -- One reading. At the greatest depth nothing is read. A listing that fails is an error with the directory's depth and path.
   abbrev pub reading : Spec R → Outcome R E
   reading spec =
       if nat_le job.options.max_depth spec.depth
@@ -156,7 +156,7 @@ module _ {R E : Type 0} (job : Job R E) where
   abbrev pub root_item : List ℕ → Item R E
   root_item path = either (λ e. either with_target Err (followed e)) Err (made 0 path false (root_ancestors path))
 
-  -- the path that the callback is given with the root's item: the root's parent, and nothing where no entry could be made
+  -- the path that the callback is given with the root's item: the root's parent, and nothing if no entry could be made
   abbrev pub root_parent : List ℕ → List ℕ
   root_parent path = either (λ e. e.parent_path) (λ _. []) (made 0 path false (root_ancestors path))
 
@@ -164,6 +164,6 @@ module _ {R E : Type 0} (job : Job R E) where
   abbrev pub root_list : List ℕ → R → Reading R E
   root_list path state = job.processed None (root_parent path) state (root_item path ∷ [])
 
--- whatever the file system answers, readings by a callback that keeps depths are lawful
+-- Whatever the file system returns, readings by a callback that keeps depths are lawful.
 abbrev pub ReadingsAreLawful : Type 0 → Type 0 → Type 0
 ReadingsAreLawful R E = (job : Job R E) → KeepsDepthsOf job.processed → (spec : Spec R) → IsLawfulReading job.options.max_depth spec (reading job spec)

@@ -42,12 +42,12 @@ abbrev pub failure_name : Failure → List ℕ
 failure_name (io depth path kind) = kind_name kind
 failure_name _ = codes "Other"
 
--- what stands for an error at the end of an entry's line
+-- the text of an error at the end of an entry's line
 abbrev error_part : Option Failure → List ℕ
 error_part None = []
 error_part (Some failure) = codes " ! " ++ failure_name failure
 
--- what stands there for the reading of its directory
+-- the text there for the reading of its directory
 abbrev pub reading_part : {R : Type 0} → Option (Children R) → List ℕ
 reading_part None = []
 reading_part (Some children) = error_part children.error

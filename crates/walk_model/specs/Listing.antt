@@ -31,12 +31,12 @@ module _ {R E : Type 0} where
   pairs_of (Ok r) = paired r
   pairs_of (Err f) = []
 
-  -- an item as it is answered once its directory was read: with the error of a reading that failed
+  -- an item as it is yielded once its directory was read: with the error of a reading that failed
   abbrev pub after_reading : Outcome R E → Item R E → Item R E
   after_reading (Ok r) item = item
   after_reading (Err f) item = with_error f item
 
-  -- whether an item is answered from a least depth on: every error is
+  -- whether an item is yielded from a least depth on: every error is
   abbrev pub is_answered : ℕ → Item R E → Bool
   is_answered min_depth (Ok e) = nat_le min_depth e.depth
   is_answered min_depth (Err f) = true
@@ -45,15 +45,15 @@ module _ {R E : Type 0} where
   abbrev pub answers : ℕ → List (Item R E) → List (Item R E)
   answers min_depth = filter (is_answered min_depth)
 
--- how many levels may still come from a source under a greatest depth
+-- how many levels may still come from a source, under a greatest depth
 abbrev pub levels_of : {R E : Type 0} → ℕ → Source R E → ℕ
 levels_of max_depth nothing = 0
 levels_of max_depth (unread spec) = max_depth - spec.depth
 levels_of max_depth (was_read spec outcome) = max_depth - spec.depth
 
--- What a walk lists, by what each reading gives.
+-- What a walk lists, by the outcome of each reading.
 module _ {R E : Type 0} (reading : Spec R → Outcome R E) where
-  -- the item of a pair as it is answered
+  -- the item of a pair as it is yielded
   abbrev pub stands : Item R E → Source R E → Item R E
   stands item nothing = item
   stands item (unread spec) = after_reading (reading spec) item
@@ -65,11 +65,11 @@ module _ {R E : Type 0} (reading : Spec R → Outcome R E) where
   opened (unread spec) = pairs_of (reading spec)
   opened (was_read spec outcome) = pairs_of outcome
 
-  -- all that stands below a source, for so many levels
+  -- all that is below a source, for n levels
   unfoldable pub below : ℕ → Source R E → List (Item R E)
   below zero source = []
   below (suc levels) source = flat_map (λ p. stands p.item p.source ∷ below levels p.source) (opened source)
 
-  -- each item, followed by all that stands below it
+  -- each item, followed by all that is below it
   abbrev pub listing : ℕ → List (Pair R E) → List (Item R E)
   listing max_depth = flat_map (λ p. stands p.item p.source ∷ below (levels_of max_depth p.source) p.source)

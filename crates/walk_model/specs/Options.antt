@@ -39,7 +39,7 @@ with_follow_links on o = record o { follow_links = on }
 abbrev pub with_min_depth : ℕ → Options → Options
 with_min_depth depth o = record o { min_depth = min depth o.max_depth }
 
--- the greatest depth, raised to the least; a walk that reads one directory at most is serial
+-- the greatest depth, raised to the least; a walk that reads at most one directory is serial
 abbrev pub with_max_depth : ℕ → Options → Options
 with_max_depth depth o =
     let raised : ℕ = max depth o.min_depth in
@@ -48,7 +48,7 @@ with_max_depth depth o =
 abbrev pub with_parallelism : Parallelism → Options → Options
 with_parallelism p o = record o { parallelism = p }
 
--- Readings go by the same options: the least depth, and how directories are read, don't count.
+-- Readings by these options are the same: the least depth, and how directories are read, don't count.
 pub record ReadsAs (these others : Options) : Type 0 where
   pub sort : these.sort ≡ others.sort
   pub skip_hidden : these.skip_hidden ≡ others.skip_hidden

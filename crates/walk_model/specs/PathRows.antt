@@ -2,7 +2,7 @@
 use Rattle.std.specs.Prelude.{◌≡◌, ℕ, true, false, List, [], ◌∷◌, Option, Some, None, codes, refl}
 use Rattle.walk_model.specs.Paths.{Component, root, here, up, plain, components, file_name, parent, join, same_path}
 
--- the three answers for a text
+-- the three results for a text
 pub record Row (text : List ℕ) (cs : List Component) (name above : Option (List ℕ)) : Type 0 where
   pub has_components : components text ≡ cs
   pub has_file_name : file_name text ≡ name

@@ -1,4 +1,4 @@
--- Path texts by their components, as `std::path` has them on Unix. A text is the list of its bytes.
+-- Path texts by their components, as in `std::path` on Unix. A text is the list of its bytes.
 use Rattle.std.specs.Prelude.{ℕ, Bool, true, false, ◌||◌, ◌&&◌, List, [], ◌∷◌, ◌++◌, map, find, Option, Some, None, if◌then◌else◌, ◌==◌, bytes_eq, flat_map}
 use Rattle.std.specs.List.{slice_split}
 
@@ -20,11 +20,11 @@ dot = 46 ∷ []
 abbrev pub dots : List ℕ
 dots = 46 ∷ 46 ∷ []
 
--- what stands between the slashes of a text
+-- what is between the slashes of a text
 abbrev pub parts : List ℕ → List (List ℕ)
 parts = slice_split (λ b. b == slash)
 
--- what a part gives behind the first one: nothing where it is empty or `.`
+-- what a part after the first one gives: nothing if it is empty or `.`
 abbrev pub component_of : List ℕ → List Component
 component_of part =
     if bytes_eq part [] || bytes_eq part dot then []
@@ -81,7 +81,7 @@ name_of (Some here) = None
 name_of (Some up) = None
 name_of (Some (plain name)) = Some name
 
--- the last component where that is a plain name (`Path::file_name`)
+-- the last component, if it is a plain name (`Path::file_name`)
 abbrev pub file_name : List ℕ → Option (List ℕ)
 file_name text = name_of (last_of (components text))
 
@@ -94,7 +94,7 @@ beginnings (c ∷ cs) = [] ∷ map (λ rest. c ∷ rest) (beginnings cs)
 abbrev pub shortest_with : List Component → List ℕ → Option (List ℕ)
 shortest_with wanted text = find (λ front. components_eq (components front) wanted) (beginnings text)
 
--- where the last component is the root, or there is none, a path has no parent
+-- a path whose last component is the root, or that has none, has no parent
 abbrev pub parent_before : List ℕ → Option Component → Option (List ℕ)
 parent_before text None = None
 parent_before text (Some root) = None
@@ -108,7 +108,7 @@ abbrev pub starts_with_slash : List ℕ → Bool
 starts_with_slash [] = false
 starts_with_slash (c ∷ cs) = c == slash
 
--- a path that a name may follow: one slash stands at its end, unless it is empty
+-- a path that a name may follow: one slash is at its end, unless it is empty
 abbrev pub with_slash : List ℕ → List ℕ
 with_slash [] = []
 with_slash (c ∷ []) = if c == slash then c ∷ [] else c ∷ slash ∷ []

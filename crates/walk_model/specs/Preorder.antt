@@ -3,7 +3,7 @@ use Rattle.std.specs.Prelude.{ℕ, zero, suc, ◌-◌, List, [], ◌∷◌, flat
 use Rattle.walk_model.specs.ReadDir.{Spec, Outcome, children_of}
 
 module _ {R E : Type 0} (reading : Spec R → Outcome R E) where
-  -- the reading of a specification, followed by those of its children, for so many levels below it
+  -- the reading of a specification, followed by those of its children, for n levels below it
   unfoldable pub readings : ℕ → Spec R → List (Outcome R E)
   readings zero spec = reading spec ∷ []
   readings (suc levels) spec = reading spec ∷ flat_map (readings levels) (children_of (reading spec))

@@ -15,7 +15,7 @@ pub record Reading (R E : Type 0) : Type 0 where
   pub state : R
   pub list : List (Item R E)
 
--- what came of a reading: a list, or the error that stands in its place
+-- the outcome of a reading: a list, or the error in its place
 abbrev pub Outcome : Type 0 → Type 0 → Type 0
 Outcome R E = Result (Reading R E) Failure
 
@@ -47,11 +47,11 @@ module _ {R E : Type 0} where
   list_of (Ok r) = r.list
   list_of (Err f) = []
 
-  -- every entry of the new list has the list's depth, if every one of the old had it
+  -- Every entry of the new list has the list's depth, if every one of the old list has it.
   abbrev pub KeepsDepths : Option ℕ → List (Item R E) → List (Item R E) → Type 0
   KeepsDepths depth old new = AtDepth (list_depth depth) old → AtDepth (list_depth depth) new
 
-  -- What every reading keeps, whatever a file system answers: its entries are one below their directory, at the greatest depth there are none, and only above it a reading fails, never for want of memory.
+  -- What holds of every reading, whatever a file system returns. Its entries are one level below their directory. At the greatest depth there are none. A reading fails only above it, and never because memory ran out.
   abbrev pub IsLawfulReading : ℕ → Spec R → Outcome R E → Type 0
   IsLawfulReading max_depth s (Ok r) = AtDepth (s.depth + 1) r.list × (max_depth ≤ s.depth → r.list ≡ [])
   IsLawfulReading max_depth s (Err f) = (s.depth < max_depth) × (f ≢ memory)
@@ -60,7 +60,7 @@ module _ {R E : Type 0} where
 abbrev pub IsClone : {R : Type 0} → (R → R → Type 0) → Spec R → Spec R → Type 0
 IsClone is_clone asked made = (made.depth ≡ asked.depth) × (made.path ≡ asked.path) × (made.ancestors ≡ asked.ancestors) × is_clone asked.state made.state
 
--- each of the second list is such a clone of the one in its place in the first
+-- Each of the second list is such a clone of the one in its place in the first.
 abbrev pub AreClones : {R : Type 0} → (R → R → Type 0) → List (Spec R) → List (Spec R) → Type 0
 AreClones is_clone [] [] = Unit {0}
 AreClones is_clone (asked ∷ specs) (made ∷ others) = IsClone is_clone asked made × AreClones is_clone specs others

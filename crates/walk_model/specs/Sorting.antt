@@ -1,4 +1,4 @@
--- The stable order of a list: entries by the bytes of their names, then the errors, and what ties as it stood.
+-- The stable order of a list: entries by the bytes of their names, then the errors. What ties keeps its order.
 use Rattle.std.specs.Prelude.{◌≡◌, ◌↔◌, Bool, true, false, List, [], ◌∷◌, Ok, Err, if◌then◌else◌, IsPermutation}
 use Rattle.std.specs.Ordering.{nat_cmp, is_lt}
 use Rattle.std.specs.Cmp.Lexicographic.{slice_cmp}
@@ -6,7 +6,7 @@ use Rattle.std.specs.List.Sorted.{IsSortedBy, IsStableBy}
 use Rattle.walk_model.specs.Entry.{Item}
 
 module _ {R E : Type 0} where
-  -- whether x has to stand before y: an entry before an error, and entries by the bytes of their names
+  -- whether x must come before y: an entry before an error, and entries by the bytes of their names
   abbrev pub stands_before : Item R E → Item R E → Bool
   stands_before (Ok x) (Ok y) = is_lt (slice_cmp nat_cmp x.file_name y.file_name)
   stands_before (Ok x) (Err f) = true
@@ -18,7 +18,7 @@ module _ {R E : Type 0} where
     pub in_order : IsSortedBy stands_before m
     pub ties_kept : IsStableBy stands_before l m
 
-  -- x put before the first item that needn't stand before it
+  -- x put before the first item that needn't come before it
   abbrev pub put : Item R E → List (Item R E) → List (Item R E)
   put x [] = x ∷ []
   put x (y ∷ ys) = if stands_before y x then y ∷ put x ys else x ∷ y ∷ ys

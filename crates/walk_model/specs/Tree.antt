@@ -1,4 +1,4 @@
--- A tree in memory: what stands in it, what a look-up finds, and what building changes.
+-- A tree in memory: what is in it, what a look-up finds, and what building changes.
 use Rattle.std.specs.Prelude.{ℕ, zero, suc, Bool, true, false, ◌&&◌, List, [], ◌∷◌, ◌++◌, map, filter, length, not, Option, Some, None, is_some, Result, Ok, Err, if◌then◌else◌, bytes_eq}
 use Rattle.std.specs.declared.io.ErrorKind.{ErrorKind}
 use Rattle.std.specs.declared.io.ErrorKind.TheVariants as kind
@@ -13,13 +13,13 @@ use Rattle.walk_model.specs.Paths.{Component, root, here, up, plain, components,
 abbrev pub Place : Type 0
 Place = List (List ℕ)
 
--- A directory has its children's names in order of creation, and an error kind where it was denied. A file has its length, a link its target.
+-- A directory has its children's names in order of creation, and an error kind if it was denied. A file has its length, a link its target.
 pub data Node : Type 0 where
   directory : List (List ℕ) → Option ErrorKind → Node
   file : ℕ → Node
   link : List ℕ → Node
 
--- what stands at each place
+-- what is at each place
 abbrev pub Tree : Type 0
 Tree = Place → Option Node
 
@@ -54,11 +54,11 @@ is_directory (Some (directory names denied)) = true
 is_directory (Some (file len)) = false
 is_directory (Some (link target)) = false
 
--- What is found at a place from the components that are left.
+-- What is found at a place by the components that are left.
 abbrev pub LookUp : Type 0
 LookUp = Place → List Component → Result Place ErrorKind
 
--- A link in a directory is followed: its target stands in front of the components that are left. There is no look-up to go on with where no link may be followed any more.
+-- A link in a directory is followed: its target is put in front of the components that are left. No look-up goes on where no more links may be followed.
 abbrev pub through_link : Option LookUp → Place → List ℕ → List Component → Result Place ErrorKind
 through_link None holder target left = Err kind.Other
 through_link (Some look_on) holder [] left = Err kind.NotFound
@@ -80,22 +80,22 @@ module _ (tree : Tree) (follow : Bool) where
   step links go place up left = go (above place)
   step links go place (plain name) left = to_child follow links go place name left (tree (child place name))
 
-  -- the components worked off from the front; one that comes where no directory is can't be
+  -- the components worked off from the front; one that comes at something other than a directory can't be
   abbrev pub along : Option LookUp → LookUp
   along links place [] = Ok place
   along links place (c ∷ left) = if is_directory (tree place) then step links (λ p. along links p left) place c left else Err kind.Other
 
-  -- the same, with so many links that may be followed
+  -- the same, with n links that may be followed
   abbrev pub looked_up : ℕ → LookUp
   looked_up zero = along None
   looked_up (suc links) = along (Some (looked_up links))
 
--- The place that a path leads to. The last component, if it is a link, is followed where that is asked.
+-- The place that a path leads to. If the last component is a link, it is followed if that is asked for.
 abbrev pub look_up : Tree → Bool → List ℕ → Result Place ErrorKind
 look_up tree follow [] = Err kind.NotFound
 look_up tree follow (c ∷ cs) = looked_up tree follow link_limit [] (components (c ∷ cs))
 
--- the type of a node, as a listing tells it
+-- the type of a node, as a listing has it
 abbrev pub type_at : Option Node → FileType
 type_at None = type.Other
 type_at (Some (directory names denied)) = type.Dir
@@ -129,7 +129,7 @@ abbrev pub at_found : {X : Type 0} → (Place → Result X ErrorKind) → Result
 at_found f (Ok place) = f place
 at_found f (Err k) = Err k
 
--- what the tree answers as a file system
+-- the tree as a file system
 abbrev pub functions_of : Tree → Functions
 functions_of tree = record {
   list_of = λ path. at_found (λ place. listing_at tree place (tree place)) (look_up tree true path);
@@ -164,7 +164,7 @@ spot_below tree front (Some here) = None
 spot_below tree front (Some up) = None
 spot_below tree front (Some (plain name)) = spot_in tree name (looked_up tree true link_limit [] front)
 
--- Where a path that is built on leads: its last component has to be a plain name, and the ones before it lead to a directory, from the root and with all links followed.
+-- Where a path that is built on leads: its last component must be a plain name, and the ones before it must lead to a directory, from the root and with all links followed.
 abbrev pub spot_of : Tree → List ℕ → Option Spot
 spot_of tree path = spot_below tree (all_but_last (components path)) (last_of (components path))
 

@@ -1,4 +1,4 @@
--- A small tree, built, and what it answers.
+-- A small tree, built, and what it returns as a file system.
 use Rattle.std.specs.Prelude.{◌≡◌, ℕ, List, [], ◌∷◌, None, Result, Ok, Err, codes, refl}
 use Rattle.std.specs.declared.io.ErrorKind.TheVariants as kind
 use Rattle.walk_model.specs.declared.file_type.FileType.TheVariants as type
@@ -24,7 +24,7 @@ l target path = add (link target) path
 abbrev pub x : List ℕ → Step
 x path = deny kind.PermissionDenied path
 
--- the tree after the steps; one that is refused changes nothing
+-- the tree after the steps, where one that fails changes nothing
 abbrev or_same : Tree → Result Tree Refusal → Tree
 or_same tree (Ok new) = new
 or_same tree (Err refusal) = tree
@@ -109,7 +109,7 @@ link_to_a_link = refl
 target_with_a_slash_at_its_end : (functions_of linked).meta_of (codes "/n") ≡ Ok (metadata type.Dir 0)
 target_with_a_slash_at_its_end = refl
 
--- what is left where the directory that `/q` leads to is taken away
+-- what is left once the directory that `/q` leads to is removed
 abbrev broken : Functions
 broken = functions_of (built linked (remove (codes "/r/s") ∷ []))
 

@@ -8,7 +8,7 @@ use Rattle.walk_model.specs.Job.{Job, reading, root_list}
 use Rattle.walk_model.specs.Listing.{paired}
 use Rattle.walk_model.specs.Held.{to_come}
 
--- all that a walk from this root answers, where its first list is given this state
+-- all that a walk from this root yields, where its first list is given this state
 unfoldable pub whole_walk : {R E : Type 0} → Job R E → List ℕ → R → List (Item R E)
 whole_walk job root state = to_come (reading job) job.options.min_depth job.options.max_depth (paired (root_list job root state))
 
@@ -21,6 +21,6 @@ stateless_job fs options = record {
   default = blank;
 }
 
--- all that a walk with no callback answers, where its states count as nothing
+-- all that a walk with no callback yields, where its states count as nothing
 abbrev pub stateless_walk : Functions → Options → List ℕ → List (Item Worth Worth)
 stateless_walk fs options root = whole_walk (stateless_job fs options) root blank

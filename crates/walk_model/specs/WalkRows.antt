@@ -1,4 +1,4 @@
--- Walks over small trees, row by row: what they answer, a line each.
+-- Walks over small trees, row by row: what they yield, a line each.
 use Rattle.std.specs.Prelude.{◌≡◌, ℕ, zero, suc, length, true, false, List, [], ◌∷◌, ◌++◌, map, flat_map, Some, option_to_list, Ok, Err, codes, refl}
 use Rattle.std.specs.Fmt.{digits}
 use Rattle.std.specs.Option.{option_and_then}
@@ -16,7 +16,7 @@ use Rattle.walk_model.specs.Counted.{Worth}
 use Rattle.walk_model.specs.Listing.{below}
 use Rattle.walk_model.specs.Walk.{whole_walk, stateless_walk}
 
--- the lines of what a walk from this root answers
+-- the lines of what a walk from this root yields
 abbrev walked : Functions → Options → List ℕ → List (List ℕ)
 walked fs o root = map line_of (stateless_walk fs o root)
 
@@ -108,7 +108,7 @@ from_depth_two : over denied (with_min_depth 2 sorted) (codes "/t") ≡ codes "2
 unfolding whole_walk below digits
 from_depth_two = refl
 
--- The option set later gives way. A walk that reads one directory at most is serial, unless its parallelism is set after that.
+-- The option that is set later wins. A walk that reads at most one directory is serial, unless its parallelism is set after that.
 depths_both_five : with_max_depth 2 (with_min_depth 5 sorted) ≡ record sorted { min_depth = 5; max_depth = 5 }
 depths_both_five = refl
 
@@ -180,7 +180,7 @@ broken_root_link : over (l (codes "/nowhere") (codes "/x") ∷ []) defaults (cod
 unfolding whole_walk below digits
 broken_root_link = refl
 
--- a broken root link is reported by its entry's own path, a missing root as it was given
+-- a broken root link is reported by its entry's own path, a missing root by the path that was given
 broken_root_link_with_slash : over (l (codes "/nowhere") (codes "/x") ∷ []) defaults (codes "/x/") ≡ codes "! 0 /x NotFound\n" ∷ []
 unfolding whole_walk below digits
 broken_root_link_with_slash = refl
@@ -212,7 +212,7 @@ root_slash : one_directory (codes "/") ≡ codes "0 d /\n" ∷ codes "1 d /r\n" 
 unfolding whole_walk below digits
 root_slash = refl
 
--- the parents of the entries that are answered
+-- the parents of the entries that are yielded
 abbrev parent_in : Item Worth Worth → List (List ℕ)
 parent_in (Ok e) = e.parent_path ∷ []
 parent_in (Err failure) = []
@@ -249,7 +249,7 @@ nearest_ancestor_named : over (d (codes "/s") ∷ l (codes "/s") (codes "/l") �
 unfolding whole_walk below digits
 nearest_ancestor_named = refl
 
--- the ancestors of the entries that are answered
+-- the ancestors of the entries that are yielded
 abbrev ancestors_of : Item Worth Worth → List (List (List ℕ))
 ancestors_of (Ok e) = e.ancestors ∷ []
 ancestors_of (Err failure) = []

@@ -3,6 +3,6 @@ use Rattle.jwalk_process.proofs.SkipFacts.{IsChangedTo}
 use Rattle.jwalk.specs.CrewStart.{busied}
 use Rattle.jwalk.proofs.walk_dir.crew_start.make_all_busy.Given as goal
 
--- those so far tell that the crew is busy, where they have a directory
+-- those so far say that the crew is busy, if they have a directory
 abbrev pub invariant-loop-found : goal.invariant-loop-found
 invariant-loop-found g l = IsChangedTo item busied l.fn.list.items l.found-index l.found-items
