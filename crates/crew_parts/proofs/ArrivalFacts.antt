@@ -1,4 +1,4 @@
--- What a message that was handed out is, is what becomes of the reading.
+-- What a message that was handed out is, is the outcome for the reading.
 use Rattle.std.proofs.Common.{inr, sym, subst}
 use Rattle.std.specs.Prelude.{IsOk}
 use Rattle.jwalk_order.specs.declared.ordered.Ordered.{Ordered}

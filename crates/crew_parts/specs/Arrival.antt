@@ -1,4 +1,4 @@
--- What becomes of a reading that is waited for.
+-- What happens to a reading that is awaited.
 use Rattle.std.specs.Prelude.{◌≡◌, ◌⊎◌, IsOk, IsErr}
 use Rattle.jwalk_order.specs.declared.ordered.Ordered.{Ordered}
 use Rattle.jwalk_board.specs.Board.{Board, HandsOut}
@@ -13,25 +13,25 @@ use Rattle.crew_parts.specs.Message.{Message}
 use Rattle.crew_parts.specs.Wanted.{Fits}
 
 module _ {C S P A R E : Type 0} where
-  -- What a message that was handed out is to who waits: the reading if it fits and was made, want of memory if it fits and memory was refused, and else another.
+  -- What a message that was handed out is to the walk that waits: the reading if it fits and was made, out of memory if it fits and memory ran out, and another otherwise.
   abbrev pub IsChecked : Ordered (Message C S P A R E) A → Wanted A → Arrival C S P A R E → Type 0
   IsChecked item wanted (Entered came) = (came ≡ item) × Fits wanted item × IsOk item.value.outcome
   IsChecked item wanted Memory = Fits wanted item × IsErr item.value.outcome
   IsChecked item wanted Lost = ¬ Fits wanted item
   IsChecked item wanted Wait = ⊥
 
-  -- The board hands out a message, and that is checked.
+  -- The board hands out a message, and this is checked.
   pub record Gives (old : Board (ReadDirSpec C A R E) (Message C S P A R E)) (wanted : Wanted A) (arrival : Arrival C S P A R E) (new : Board (ReadDirSpec C A R E) (Message C S P A R E)) : Type 0 where
     pub item : Ordered (Message C S P A R E) A
     pub hands_out : HandsOut item old new
     pub checked : IsChecked item wanted arrival
 
-  -- The board refuses, and stays as it is.
+  -- The board hands out nothing, for this cause, and stays as it is.
   pub record Refuses (old : Board (ReadDirSpec C A R E) (Message C S P A R E)) (cause : HandOutRefusal) (new : Board (ReadDirSpec C A R E) (Message C S P A R E)) : Type 0 where
     pub refused : RefusesHandOut old cause
     pub unchanged : new ≡ old
 
-  -- One hand-out, and the check of what it gave: the reading, want of memory, none or another, or none yet.
+  -- One hand-out, and the check of what it gave: the reading, out of memory, none or another, or none yet.
   abbrev pub Arrives : Board (ReadDirSpec C A R E) (Message C S P A R E) → Wanted A → Arrival C S P A R E → Board (ReadDirSpec C A R E) (Message C S P A R E) → Type 0
   Arrives old wanted (Entered item) new = HandsOut item old new × Fits wanted item × IsOk item.value.outcome
   Arrives old wanted Memory new = Refuses old refused.Stopped new ⊎ (Refuses old refused.Memory new ⊎ Gives old wanted Memory new)

@@ -1,4 +1,4 @@
--- A reading by a worker as a value, and what it keeps.
+-- A reading by a worker as a value, and what holds of it.
 use Rattle.std.specs.Prelude.{Result, IfOk}
 use Rattle.std.specs.declared.alloc.AllocError.{AllocError}
 use Rattle.std.specs.declared.clone.Clone as Clone
@@ -13,13 +13,13 @@ use Rattle.read_parts.specs.ReadDirSpec.{spec}
 use Rattle.jwalk_read.specs.ReadDir.{outcome}
 use Rattle.jwalk_read.specs.Job.{IsReadingOf}
 
--- the job that read, the directory that was read, and what came of it, or that memory was refused
+-- the job that read, the directory that was read, and the outcome, or that memory ran out
 pub record Message (C S P A R E : Type 0) : Type 0 where
   pub job : Job C S P A R E
   pub of : ReadDirSpec C A R E
   pub outcome : Result (Result (ReadDir C A R E) (Error A)) AllocError
 
 module _ {C S P A R E : Type 0} (files : FileSystem.Ghosts S) (process : ProcessReadDir.Ghosts P C A R E) (clone : Clone.Ghosts R) (defaults : Default.Ghosts E) where
-  -- The outcome is the job's reading of the directory, unless memory was refused.
+  -- The outcome is the job's reading of the directory, unless memory ran out.
   abbrev pub IsLawfulMessage : Message C S P A R E → Type 0
   IsLawfulMessage m = IfOk m.outcome (λ o. IsReadingOf files process clone defaults m.job (spec m.of) (outcome o))

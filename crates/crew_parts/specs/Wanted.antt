@@ -1,4 +1,4 @@
--- The reading that is waited for.
+-- The awaited reading.
 use Rattle.std.specs.Prelude.{◌≡◌, ℕ, List}
 use Rattle.walk_model.specs.Options.{Options, ReadsAs}
 use Rattle.walk_model.specs.ReadDir.{Spec}
@@ -13,19 +13,19 @@ use Rattle.jwalk_read.specs.Job.{options_of}
 use Rattle.crew_parts.specs.declared.wanted.Wanted.{Wanted}
 use Rattle.crew_parts.specs.Message.{Message}
 
--- It is the directory that is waited for.
+-- It is the awaited directory.
 pub record IsDirectory {A R : Type 0} (wanted : Wanted A) (of : Spec R) : Type 0 where
   pub path : of.path ≡ text wanted.path
   pub depth : of.depth ≡ wanted.depth
   pub ancestors : of.ancestors ≡ texts wanted.ancestors
 
--- It is the reading of this directory, at this address and by these options, that is waited for.
+-- The awaited reading is that of this directory, at this address and by these options.
 pub record IsFor {A R : Type 0} (where_at : List ℕ) (directory : Spec R) (by : Options) (wanted : Wanted A) : Type 0 where
   pub at : address wanted.address ≡ where_at
   pub of : IsDirectory wanted directory
   pub options : options_value wanted.options ≡ by
 
--- The message is the reading that is waited for: at its address, of its directory, by its options.
+-- The message is the awaited reading: at its address, of its directory, by its options.
 pub record Fits {C S P A R E : Type 0} (wanted : Wanted A) (item : Ordered (Message C S P A R E) A) : Type 0 where
   pub at : address_of item ≡ address wanted.address
   pub of : IsDirectory wanted (spec item.value.of)

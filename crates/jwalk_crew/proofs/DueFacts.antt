@@ -1,4 +1,4 @@
--- What a walk is answered: a reading that is due isn't lost.
+-- What a walk is given: a reading that is due isn't lost.
 use Rattle.std.proofs.Common.{◌≡◌, ◌∙◌, inl, inr, sym, ap, subst, Result, Err, Some, List, ℕ}
 use Rattle.std.specs.declared.clone.Clone as Clone
 use Rattle.std.specs.declared.default.Default as Default

@@ -1,4 +1,4 @@
--- What the steps on a board keep of where its readings come from.
+-- Where a board's readings come from stays the same at each step.
 use Rattle.std.proofs.Common.{◌≡◌, ◌∙◌, ℕ, suc, ◌+◌, List, [], ◌∷◌, ◌++◌, map, length, All, Option, Some, None, option_map, slice_get, Result, Ok, Err, IfOk, MatchResult, true, refl, sym, ap, subst, arith}
 use Rattle.std.specs.declared.alloc.AllocError.{AllocError}
 use Rattle.std.specs.declared.clone.Clone as Clone
@@ -34,7 +34,7 @@ module _ {X : Type 0} (below : X → List X) where
   one_further None (j ∷ a) i y is = absurd (none-some y is)
   one_further (Some x) (j ∷ a) i y is = one_further (slice_get (below x) j) a i y is
 
-  -- at a child of an address stands the child of what stands there
+  -- at a child of an address is the child of what is at that address
   pub at_child : (roots : List X) (a : List ℕ) (i : ℕ) (y : X) → at_address below roots a ≡ Some y → at_address below roots (a ++ i ∷ []) ≡ slice_get (below y) i
   at_child roots [] i y is = absurd (none-some y is)
   at_child roots (j ∷ a) i y is = one_further (slice_get roots j) a i y is
@@ -58,7 +58,7 @@ module _ {C S P A R E : Type 0} (files : FileSystem.Ghosts S) (process : Process
   abbrev Ready : Addressed (Message C S P A R E) → Type 0
   Ready = IsMessageOf files process clone defaults origin
 
-  -- below a directory that the walk's own job read stand the directories that were found
+  -- below a directory that the walk's own job read are the directories that were found
   pub below_read : (job : Job C S P A R E) (s : Spec R) (o : Outcome R E) (front : List (Spec R)) → job ≡ origin.job → IsReadingOf files process clone defaults job s o → AreClones clone.is_clone (children_of o) front
       → (given : Given R E) → IsSteadyJob files process clone defaults origin.job given → children_of (reading (job_by files given origin.job) (counted_spec given s)) ≡ map (counted_spec given) front
   below_read job s o front own read clones given steady =
@@ -68,7 +68,7 @@ module _ {C S P A R E : Type 0} (files : FileSystem.Ghosts S) (process : Process
       ∙ counted-children_of given.read_dir_state given.dir_entry_state o
       ∙ sym (counted_clones clone.is_clone given.read_dir_state steady.clones (children_of o) front clones)
 
-  -- so each of them stands at its child's address
+  -- so each of them is at its child's address
   pub child_at : (a : List ℕ) (s : Spec R) (front : List (Spec R)) (i : ℕ) (c : Spec R) → IsAt files process clone defaults origin a s
       → ((given : Given R E) → IsSteadyJob files process clone defaults origin.job given → children_of (reading (job_by files given origin.job) (counted_spec given s)) ≡ map (counted_spec given) front)
       → slice_get front i ≡ Some c → IsAt files process clone defaults origin (a ++ i ∷ []) c

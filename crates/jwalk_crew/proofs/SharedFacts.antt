@@ -1,4 +1,4 @@
--- A board that comes from where a walk began stays so by each step on it, and only a hand-out changes what it has still to hand out.
+-- A board that comes from where a walk began stays so at each step on it. Only a hand-out changes what it still has to hand out.
 use Rattle.std.proofs.Common.{◌≡◌, true, inl, inr, sym, ap, subst, Result, Ok, Err, OnOk, OnErr, List, ℕ}
 use Rattle.std.specs.declared.clone.Clone as Clone
 use Rattle.std.specs.declared.default.Default as Default

@@ -62,7 +62,7 @@ module _ {C S P A R E : Type 0} (files : FileSystem.Ghosts S) (process : Process
   least_join old new reads =
       omega (arith, length_permutation (addresses_of reads.batch ++ reads.left.done) new.done reads.join.done, length-append (addresses_of reads.batch) reads.left.done, length-map reads.batch (λ x. x.at), ap length reads.leave.done, reads.number, min-le_left width (length old.queue))
 
-  -- A directory that is entered leaves those that are done, and no more than the width join them.
+  -- A directory that is entered leaves those that are done, and at most the width of others join them.
   pub enters_fewer : (b : Bool) (at : List ℕ) (old new : ReadAhead R) → EntersBy files process clone defaults b job width at old new → length new.done + 1 ≤ length old.done + width
   enters_fewer true at old new enters = omega (arith, ap (λ a. length a.done) enters.0, enters.1)
   enters_fewer false at old new enters = elim enters [
@@ -85,7 +85,7 @@ module _ {C S P A T L R E : Type 0} (files : FileSystem.Ghosts S) (process : Pro
       omega (arith, grows many, enters_fewer files process clone defaults (job_of old) (width_of old) (by_crew old) (next_address mid) (read_ahead mid) (read_ahead new) enters)
 
 module _ {C S P A T L R E : Type 0} (files : FileSystem.Ghosts S) (process : ProcessReadDir.Ghosts P C A R E) (clone : Clone.Ghosts R) (defaults : Default.Ghosts E) (pool : Pool.Ghosts L C S P A R E) (old new : DirEntryIter C S P A T L R E) where
-  -- a directory's entry is passed, where this came of its reading
+  -- a directory's entry is passed, if this is the outcome of its reading
   pub entered_if_any : (x : Item R E) (rest : List (Item R E)) (read : Option (Outcome R E)) (left : List (Spec R)) (mid : ReadAhead R) → items_of old ≡ x ∷ rest → has_directory x ≡ true
       → ReadsNextBy clone (KnownAt files process clone defaults pool old (next_address old) x) (greatest_depth (job_of old)) (unread_of old) read left
       → EntersNextBy files process clone defaults (by_crew old) (job_of old) (width_of old) (next_address old) (read_ahead old) read mid → read_ahead new ≡ mid
@@ -101,7 +101,7 @@ module _ {C S P A T L R E : Type 0} (files : FileSystem.Ghosts S) (process : Pro
   ]
 
 module _ {C S P A T L R E : Type 0} (files : FileSystem.Ghosts S) (process : ProcessReadDir.Ghosts P C A R E) (clone : Clone.Ghosts R) (defaults : Default.Ghosts E) (pool : Pool.Ghosts L C S P A R E) (old mid new : DirEntryIter C S P A T L R E) where
-  -- one item more is passed
+  -- one more item is passed
   pub one_more : (entered : ℕ) (passed : Item R E) → PassesMany files process clone defaults pool old entered mid → by_crew mid ≡ by_crew old → job_of mid ≡ job_of old → width_of mid ≡ width_of old
       → PassesNext clone (KnownAt files process clone defaults pool old (next_address mid)) (job_of old) (items_of mid) (unread_of mid) passed (items_of new) (unread_of new) → EntersIfAny files process clone defaults mid new
       → (n : ℕ) × PassesMany files process clone defaults pool old n new

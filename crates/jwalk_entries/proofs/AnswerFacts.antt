@@ -36,7 +36,7 @@ use Rattle.jwalk_entries.proofs.ItemFacts.{items_known}
 use Rattle.jwalk_entries.proofs.PlacedFacts.{answered_placed, unread_placed}
 use Rattle.jwalk_entries.proofs.StepFacts.{next_within, next_lighter, next_count, next_plain, next_listed, left_within, left_lighter, left_count, left_plain, left_to_come}
 
--- at a directory nothing is said of the answer but what its reading tells
+-- at a directory, the answer depends only on its reading
 plainly_any : {R E : Type 0} (min_depth : ℕ) (items : List (Item R E)) (specs : List (Spec R)) (answer : Option (Item R E)) (new : List (Pair R E)) → IsAtDirectory items specs → AnswersPlainly min_depth (pair_up items specs) answer new
 plainly_any min_depth [] specs answer new h = absurd h
 plainly_any min_depth (x ∷ items) [] answer new h = absurd (h.1 refl)
@@ -93,16 +93,16 @@ module _ {C S P A T L R E : Type 0} (files : FileSystem.Ghosts S) (process : Pro
       ap (λ (j : Job C S P A R E). value.to_come (reading (job_by files given j)) (options_of j).min_depth (greatest_depth j) (held_by given new)) job
       ∙ ap (value.to_come (reading (job_by files given (job_of old))) (min_depth_of old) (greatest_depth (job_of old))) (held_by_rest given new started)
 
-  -- a walk that was not refused at its start enters directories
+  -- a walk that didn't run out of memory at its start enters directories
   goes_ahead : (answer : Option (Item R E)) → old.refused ≡ false → GrowsAhead files process clone defaults pool old new → GoesAhead files process clone defaults pool old answer new
   goes_ahead answer began grown =
       subst (λ b. MatchBool b (read_ahead new ≡ read_ahead old) ((IsSomeAnd answer (λ a. Stops (by_crew old) a new) × (read_ahead new ≡ nothing_ahead)) ⊎ GrowsAhead files process clone defaults pool old new)) (sym began) (inr grown)
 
-  -- a walk stays steady where its readings do, and its directories stay below their items
+  -- a walk stays steady if its readings do, and its directories stay below their items
   stays : by_crew new ≡ by_crew old → ReadsStaySteady files process clone defaults pool old new → (ArePlaced (by_crew old) (items_of old) (unread_of old) → ArePlaced (by_crew old) (items_of new) (unread_of new)) → StaysSteady files process clone defaults pool old new
   stays crew keeps placed = λ given steady. record { reads = keeps given steady.reads; placed = rw crew (placed steady.placed) }
 
-  -- items were left out, and then one is passed that is answered
+  -- items were left out, and then one is passed and yielded
   abbrev Knows : Item R E → Spec R → Outcome R E → Type 0
   Knows = Known files process clone defaults pool old
 
@@ -200,7 +200,7 @@ module _ {C S P A T L R E : Type 0} (files : FileSystem.Ghosts S) (process : Pro
         coming = λ given counted. inl (record { error = failure error; told = refl; tells = steadily given counted; nothing_held = after; nothing_unread = no_unread });
       }
 
-  -- a walk that was refused at its start tells of it
+  -- a walk that ran out of memory at its start yields the error that says so
   pub answers_refusal : (error : Error A) → failure error ≡ memory → old.refused ≡ true → new.refused ≡ false → by_crew new ≡ by_crew old → job_of new ≡ job_of old → items_of new ≡ items_of old → unread_of new ≡ unread_of old → width_of new ≡ width_of old → ReadsStaySteady files process clone defaults pool old new → read_ahead new ≡ read_ahead old → Answers files process clone defaults pool old (Some (Err error)) new
   answers_refusal error told refused started crew job items unread width keeps same_ahead =
       let front = held_refused old refused in
@@ -224,12 +224,12 @@ module _ {C S P A T L R E : Type 0} (files : FileSystem.Ghosts S) (process : Pro
             ∙ ap (λ l. Err (failure error) ∷ l) (ap (λ l. answers (min_depth_of old) (Listing given l (unread_of old))) (sym items) ∙ ap (λ l. answers (min_depth_of old) (Listing given (items_of new) l)) (sym unread) ∙ sym (come_new given started job)));
       }
 
--- a walk that no crew reads for is steady over a steady job, where nothing was read early
+-- a walk that no crew reads for is steady over a steady job, if nothing was read early
 pub alone_steady : {C S P A T L R E : Type 0} (files : FileSystem.Ghosts S) (process : ProcessReadDir.Ghosts P C A R E) (clone : Clone.Ghosts R) (defaults : Default.Ghosts E) (pool : Pool.Ghosts L C S P A R E) (it : DirEntryIter C S P A T L R E) (given : Given R E) → by_crew it ≡ false → IsSteadyJob files process clone defaults (job_of it) given → (read_ahead it).done ≡ [] → IsSteadyWalk files process clone defaults pool it given
 alone_steady files process clone defaults pool it given own steady none = record { reads = steady_at_rest files process clone defaults pool it.reads given own steady none; placed = rw own tt }
 
 module _ {C S P A T L R E : Type 0} (clone : Clone.Ghosts R) (r : Reading R E) (it : DirEntryIter C S P A T L R E) where
-  -- a walk that has a list alone, with its directories, holds the pairs of that list
+  -- a walk that has only a list, with its directories, holds the pairs of that list
   pub holds_list : (given : Given R E) → ClonesCount clone given → it.refused ≡ false → items_of it ≡ r.list → AreClones clone.is_clone (children r) (unread_of it) → held_by given it ≡ paired (counted_reading given r)
   holds_list given counts started all clones =
       let directories_too : map (counted_spec given) (unread_of it) ≡ children_of (Ok (counted_reading given r))
@@ -242,7 +242,7 @@ module _ {C S P A T L R E : Type 0} (clone : Clone.Ghosts R) (r : Reading R E) (
       ∙ pair_up-outcome (Ok (counted_reading given r)) [] []
       ∙ append-nil (paired (counted_reading given r))
 
-  -- and these alone are to be read
+  -- and only these are to be read
   pub list_sourced : it.refused ≡ false → items_of it ≡ r.list → AreClones clone.is_clone (children r) (unread_of it) → IsSourced it
   list_sourced started all clones = rest_sourced it started (same_length clone.is_clone (children r) (unread_of it) clones ∙ as_many_of (Ok r) ∙ ap directories (sym all))
 
@@ -251,14 +251,14 @@ pub holds_root : {C S P A T L R E : Type 0} (clone : Clone.Ghosts R) (given : Gi
 holds_root clone given r before after begun counts started same_items same_unread no_items items clones =
     holds_list clone r begun given counts started (same_items ∙ items ∙ ap (λ l. r.list ++ l) no_items ∙ append-nil r.list) (subst (AreClones clone.is_clone (children r)) (sym same_unread) clones)
 
--- a walk that holds its root's list alone holds nothing too deep
+-- a walk that holds only its root's list holds nothing too deep
 pub at_root : {R E : Type 0} (l items before : List (Item R E)) → items ≡ l ++ before → before ≡ [] → AtDepth 0 l → AtDepth 0 items
 at_root l items before all none depth = rw (all, none, append-nil l) depth
 
 pub within_root : {R E : Type 0} (greatest : ℕ) (items : List (Item R E)) → AtDepth 0 items → NoDeeper greatest items
 within_root greatest items depth = at_depth 0 greatest items (omega arith) depth
 
--- and its directories alone are to be read
+-- and only its directories are to be read
 pub root_sourced : {C S P A T L R E : Type 0} (clone : Clone.Ghosts R) (r : Reading R E) (before after begun : DirEntryIter C S P A T L R E) → begun.refused ≡ false → items_of begun ≡ items_of after → unread_of begun ≡ unread_of after → items_of before ≡ [] → items_of after ≡ r.list ++ items_of before → AreClones clone.is_clone (children r) (unread_of after) → IsSourced begun
 root_sourced clone r before after begun started same_items same_unread no_items items clones =
     list_sourced clone r begun started (same_items ∙ items ∙ ap (λ l. r.list ++ l) no_items ∙ append-nil r.list) (subst (AreClones clone.is_clone (children r)) (sym same_unread) clones)

@@ -1,4 +1,4 @@
--- What calls of a walk's `next` answer, one after another.
+-- What calls of a walk's `next` return, one after another.
 use Rattle.std.proofs.Common.{◌≡◌, ◌≢◌, ◌≤◌, ◌<◌, ◌⊎◌, ◌∙◌, true, false, ℕ, ◌+◌, List, [], ◌∷◌, ◌++◌, map, length, append-nil, append_assoc, Option, Some, None, Result, Ok, Err, inl, inr, refl, sym, ap, subst, arith}
 use lib.ListN.{length-append}
 use Rattle.std.specs.Prelude.{IsErr}
@@ -23,7 +23,7 @@ use Rattle.jwalk_entries.specs.declared.dir_entry_iter.DirEntryIter.{DirEntryIte
 use Rattle.jwalk_entries.specs.DirEntryIter.{by_crew, job_of, min_depth_of, width_of, held, weight_of, to_come, IsWithin, IsSourced, Stops, IsSteadyWalk, Answers, ComesFirst, EndsEarly, FillCalls, Fills}
 use Rattle.jwalk_entries.proofs.AnswerFacts.{held_by_nothing}
 
--- where nothing is held, nothing is answered
+-- where nothing is held, nothing is yielded
 nothing_answered : {R E : Type 0} (min_depth : ℕ) (old : List (Pair R E)) (x : Item R E) (new : List (Pair R E)) → old ≡ [] → AnswersPlainly min_depth old (Some x) new → ⊥
 nothing_answered min_depth old x new none plain = let no = rw none at plain in absurd (let is : Some x ≡ None = no.0 in cc)
 
@@ -69,7 +69,7 @@ module _ {C S P A T L R E : Type 0} (files : FileSystem.Ghosts S) (process : Pro
   lighter [] s t same = rw (sym (ap weight_of same)) (omega arith)
   lighter (x ∷ xs) s t (j, step, rest) = omega (arith, step.lighter, lighter xs j t rest)
 
-  -- where nothing is held, no call answers
+  -- where nothing is held, no call yields an item
   none_after : (xs : List (Result (DirEntry C A R E) (Error A))) (s t : DirEntryIter C S P A T L R E) → held s ≡ [] → Yields Steps s xs t → (xs ≡ []) × (s ≡ t)
   none_after [] s t none same = (refl, same)
   none_after (x ∷ xs) s t none (j, step, rest) = absurd (nothing_answered (min_depth_of s) (held s) (item x) (held j) none step.plain)
@@ -97,7 +97,7 @@ module _ {C S P A T L R E : Type 0} (files : FileSystem.Ghosts S) (process : Pro
     })
   ]
 
-  -- what calls answer is the first of what was to come, or a beginning of it and then the error that tells of want of memory
+  -- what calls yield is the first of what was to come, or a beginning of it, followed by the error that says that memory ran out
   pub come : (given : Given R E) (xs : List (Result (DirEntry C A R E) (Error A))) (s t : DirEntryIter C S P A T L R E) → IsSteadyWalk files process clone defaults pool s given → Yields Steps s xs t → ComesFirst files given s (map item xs) t ⊎ EndsEarly files given s (map item xs) t
   come given [] s t steady same = inl (ap (to_come files given) same)
   come given (x ∷ xs) s t steady (j, step, rest) =
@@ -112,13 +112,13 @@ calls_on steps [] ys s t u same rest = subst (λ k. Yields steps k ys u) (sym sa
 calls_on steps (x ∷ xs) ys s t u (j, first, more) rest = (j, first, calls_on steps xs ys j t u more rest)
 
 module _ {C S P A T L R E : Type 0} (files : FileSystem.Ghosts S) (process : ProcessReadDir.Ghosts P C A R E) (clone : Clone.Ghosts R) (defaults : Default.Ghosts E) (pool : Pool.Ghosts L C S P A R E) (n told : ℕ) (start old new : DirEntryIter C S P A T L R E) (earlier answered : List (Result (DirEntry C A R E) (Error A))) where
-  -- calls of `next`, and then a call of `fill` that told all that it was asked for, are so many calls of `next`
+  -- calls of `next`, and then a call of `fill` that returns all it was asked for, are calls of `next`, one after another
   pub filled_on : Yields (Answers files process clone defaults pool) start earlier old → FillCalls files process clone defaults pool n old answered (Ok told) new → told ≡ n → Yields (Answers files process clone defaults pool) start (earlier ++ answered) new
   filled_on before calls all =
       calls_on (Answers files process clone defaults pool) earlier answered start old new before
       (elim calls [ inl full ↦ full.1 | inr ended ↦ absurd (omega (arith, ended.0, all)) ])
 
-  -- where it told fewer, they are all up to the one that answers `None`
+  -- if it returns fewer, they are all calls up to the one that returns `None`
   pub filled_to_end : Yields (Answers files process clone defaults pool) start earlier old → FillCalls files process clone defaults pool n old answered (Ok told) new → told ≢ n → Drains (Answers files process clone defaults pool) start (earlier ++ answered)
   filled_to_end before calls fewer = elim calls [
     | inl full ↦ absurd (fewer full.0)
@@ -128,7 +128,7 @@ module _ {C S P A T L R E : Type 0} (files : FileSystem.Ghosts S) (process : Pro
   ]
 
 module _ {C S P A T L R E : Type 0} (files : FileSystem.Ghosts S) (process : ProcessReadDir.Ghosts P C A R E) (clone : Clone.Ghosts R) (defaults : Default.Ghosts E) (pool : Pool.Ghosts L C S P A R E) (n : ℕ) (old : DirEntryIter C S P A T L R E) (before : List (Result (DirEntry C A R E) (Error A))) where
-  -- What was filled in so far: as many answers as are counted, n at most, each of a call of `next`.
+  -- What was filled in so far: as many answers as are counted, at most n, each from a call of `next`.
   pub record Filled (filled : ℕ) (now : List (Result (DirEntry C A R E) (Error A))) (new : DirEntryIter C S P A T L R E) : Type 0 where
     pub answered : List (Result (DirEntry C A R E) (Error A))
     pub appended : now ≡ before ++ answered
@@ -167,7 +167,7 @@ module _ {C S P A T L R E : Type 0} (files : FileSystem.Ghosts S) (process : Pro
     coming = λ given steady. come files process clone defaults pool given sofar.answered old new steady sofar.calls;
   }
 
-  -- room for one more was refused
+  -- memory for one more ran out
   pub fills_in_part : (told : Result ℕ AllocError) (filled : ℕ) (now : List (Result (DirEntry C A R E) (Error A))) (new : DirEntryIter C S P A T L R E) → IsErr told → Filled filled now new → filled < n → Fills files process clone defaults pool n old before told now new
   fills_in_part (Ok k) filled now new failed sofar less = let no : false ≡ true = failed in absurd cc
   fills_in_part (Err error) filled now new failed sofar less = record {

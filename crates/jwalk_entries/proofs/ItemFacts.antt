@@ -16,7 +16,7 @@ use Rattle.jwalk_entries.specs.declared.dir_entry_iter.DirEntryIter.{DirEntryIte
 use Rattle.jwalk_entries.specs.DirEntryIter.{by_crew, job_of, ReadsStaySteady, Known, KnownAt}
 
 module _ {C S P A T L R E : Type 0} (files : FileSystem.Ghosts S) (process : ProcessReadDir.Ghosts P C A R E) (clone : Clone.Ghosts R) (defaults : Default.Ghosts E) (pool : Pool.Ghosts L C S P A R E) where
-  -- what is known of the reading of an item's directory is that it is the definition's
+  -- what is known of the reading of an item's directory: it is the definition's
   pub items_known : (it : DirEntryIter C S P A T L R E) (given : Given R E) → IsSteadyReads files process clone defaults pool it.reads given → (x : Item R E) (s : Spec R) (o : Outcome R E) → Known files process clone defaults pool it x s o → IsAsGiven files given (job_of it) s o
   items_known it given steady x s o known = known_anywhere files process clone defaults pool (by_crew it) (IsSteadyReads files process clone defaults pool it.reads) (job_of it) known.0 s o known.1.0 given steady
 

@@ -1,4 +1,4 @@
--- Each directory that is to be read stands with the item that it is below, whatever is passed.
+-- Each directory that is to be read is paired with the item that it is below, whatever is passed.
 use Rattle.std.proofs.Common.{◌≡◌, Bool, true, false, List, [], ◌∷◌, ◌++◌, append-nil, Option, Some, None, option_to_list, Ok, Err, refl, subst}
 use Rattle.std.specs.Prelude.{flat_map, is_some, option_map}
 use Rattle.std.specs.declared.clone.Clone as Clone
@@ -14,13 +14,13 @@ module _ {R E : Type 0} where
   abbrev Placed : Bool → Item R E → List (Item R E) → List (Spec R) → Type 0
   Placed b x items specs = IsSourceBelow x (first_source b specs) × AreBelow (pair_up items (after_first b specs))
 
-  -- behind an item that has no directory the same are to be read
+  -- behind an item that has no directory, the same are to be read
   behind_plain : (b : Bool) (x : Item R E) (items : List (Item R E)) (specs : List (Spec R)) → is_plain (first_source {R = R} {E = E} b specs) ≡ true → Placed b x items specs → AreBelow (pair_up items specs)
   behind_plain false x items specs plain placed = placed.1
   behind_plain true x items [] plain placed = placed.1
   behind_plain true x items (s ∷ specs) plain placed = let no : false ≡ true = plain in absurd cc
 
-  -- behind one that has one all but the first
+  -- behind one that has one, all but the first
   behind_directory : (b : Bool) (x : Item R E) (items : List (Item R E)) (first : Spec R) (rest : List (Spec R)) → b ≡ true → Placed b x items (first ∷ rest) → AreBelow (pair_up items rest)
   behind_directory true x items first rest is placed = placed.1
   behind_directory false x items first rest is placed = absurd cc
@@ -45,7 +45,7 @@ module _ {R E : Type 0} where
     one_received e (Some c) items specs others [] same clones rest = absurd clones
     one_received e (Some c) items specs others (made ∷ front) same clones rest = (clone_below e c made clones.0 (Some c) refl same, rest front clones.1)
 
-    -- a list that was read stands in front, with clones of the directories that were found in it
+    -- a list that was read is put in front, with clones of the directories that were found in it
     received : (l items : List (Item R E)) (specs front : List (Spec R)) → AreClones is_clone (found l) front → AreBelow (pair_up items specs) → AreBelow (pair_up (l ++ items) (front ++ specs))
     received [] items specs [] clones placed = placed
     received [] items specs (made ∷ front) clones placed = absurd clones
@@ -58,7 +58,7 @@ module _ {R E : Type 0} where
   outcome_received is_clone (Err f) items specs [] clones placed = placed
   outcome_received is_clone (Err f) items specs (made ∷ front) clones placed = absurd clones
 
-  -- a list alone, with clones of its directories
+  -- only a list, with clones of its directories
   pub list_placed : (is_clone : R → R → Type 0) (state : R) (b : Bool) (l items : List (Item R E)) (specs : List (Spec R)) → items ≡ l → AreClones is_clone (flat_map (λ x. option_to_list (spec_of state x)) l) specs → ArePlaced b items specs
   list_placed is_clone state false l items specs are clones = tt
   list_placed is_clone state true l items specs are clones =
@@ -99,7 +99,7 @@ module _ {C S P A R E : Type 0} (clone : Clone.Ghosts R) (known : Item R E → S
     left_placed false items' specs' left placed = tt
     left_placed true items' specs' left placed = left_stays left placed
 
-    -- and so does one that is answered behind them
+    -- and so does one that is yielded behind them
     pub answered_placed : (b : Bool) (answer : Option (Item R E)) (items' : List (Item R E)) (specs' : List (Spec R)) → ReadsUpTo clone known job items specs answer items' specs' → ArePlaced b items specs → ArePlaced b items' specs'
     answered_placed false answer items' specs' reads placed = tt
     answered_placed true None items' specs' reads placed = rw (reads.3.1) tt

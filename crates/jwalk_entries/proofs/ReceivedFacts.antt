@@ -11,7 +11,7 @@ use Rattle.jwalk_readings.proofs.ListFacts as lists
 pub popped : {C A R E : Type 0} (stack left : List (Result (DirEntry C A R E) (Error A))) (x : Result (DirEntry C A R E) (Error A)) → stack ≡ left ++ x ∷ [] → map item (reverse stack) ≡ item x ∷ map item (reverse left)
 popped = lists.popped item
 
--- items that were added the last first stand in front
+-- items that were added the last first come first
 pub received : {T F C A R E : Type 0} (r : Result T F) (old added new given : List (Result (DirEntry C A R E) (Error A))) (list : List (Item R E)) → new ≡ (if is_ok r then old ++ added else old) → added ≡ reverse given → map item given ≡ list → OnOk r (map item (reverse new) ≡ list ++ map item (reverse old))
 received (Ok done) old added new given list is turned same =
     ap (λ l. map item (reverse l)) (is ∙ ap (λ l. old ++ l) turned)

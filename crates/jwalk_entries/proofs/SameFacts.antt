@@ -1,4 +1,4 @@
--- Walks that have the same to come answer the same, call by call, however many directories are read together.
+-- Walks that have the same to come yield the same, call by call, however many directories are read together.
 use Rattle.std.proofs.Common.{◌≡◌, ◌∙◌, List, [], ◌∷◌, Option, Some, None, IfSome, Result, inl, inr, refl, sym, ap, subst}
 use Rattle.std.specs.Prelude.{option_map}
 use Rattle.std.specs.declared.clone.Clone as Clone
@@ -20,11 +20,11 @@ use Rattle.jwalk_entries.specs.DirEntryIter.{job_of, min_depth_of, to_come, Tell
 use Rattle.jwalk_entries.proofs.AnswerFacts.{held_by_nothing}
 
 module _ {C S P A R E : Type 0} (files : FileSystem.Ghosts S) (process : ProcessReadDir.Ghosts P C A R E) (clone : Clone.Ghosts R) (defaults : Default.Ghosts E) (given : Given R E) where
-  -- what a call answers, as it counts
+  -- what a call returns, as it counts
   abbrev pub counted_answer : Option (Result (DirEntry C A R E) (Error A)) → Option (Item Worth Worth)
   counted_answer answer = option_map (counted_item given) (option_map item answer)
 
-  -- the answer and the rest make up what was to come, unless the answer tells of want of memory
+  -- the answer and the rest make up what was to come, unless the answer says that memory ran out
   abbrev coming_from : Option (Item Worth Worth) → List (Item Worth Worth) → List (Item Worth Worth)
   coming_from None rest = rest
   coming_from (Some answer) rest = answer ∷ rest
@@ -49,7 +49,7 @@ module _ {C S P A R E : Type 0} (files : FileSystem.Ghosts S) (process : Process
   same_by (Some x) None rest others same ends end = let no : x ∷ rest ≡ [] = same ∙ end refl in cc
   same_by (Some x) (Some y) rest others same ends end = (cc, cc)
 
-  -- Two walks that have the same to come, whatever reads their directories and however many together, answer the same where neither tells of want of memory, and the same is to come then.
+  -- Two walks have the same to come, whatever reads their directories and however many together. They yield the same if neither says that memory ran out, and the same is to come then.
   pub same_answer : {T U L M : Type 0} (pool : Pool.Ghosts L C S P A R E) (its : Pool.Ghosts M C S P A R E) (old new : DirEntryIter C S P A T L R E) (other next : DirEntryIter C S P A U M R E) (answer told : Option (Result (DirEntry C A R E) (Error A)))
       → IsSteadyWalk files process clone defaults pool old given → IsSteadyWalk files process clone defaults its other given → Answers files process clone defaults pool old answer new → Answers files process clone defaults its other told next
       → IfSome (option_map item answer) (λ a. ¬ TellsMemory a) → IfSome (option_map item told) (λ a. ¬ TellsMemory a)

@@ -55,7 +55,7 @@ module _ {C S P A R E : Type 0} (clone : Clone.Ghosts R) (known : Item R E → S
   abbrev Next : List (Item R E) → List (Spec R) → Item R E → List (Item R E) → List (Spec R) → Type 0
   Next = PassesNext clone known job
 
-  -- It is passed so, too, where less is known.
+  -- It is passed in the same way where less is known.
   pub next_over : (less : Item R E → Spec R → Outcome R E → Type 0) → ((x : Item R E) (s : Spec R) (o : Outcome R E) → known x s o → less x s o) → {items : List (Item R E)} {specs : List (Spec R)} {answer : Item R E} {items' : List (Item R E)} {specs' : List (Spec R)} → Next items specs answer items' specs' → PassesNext clone less job items specs answer items' specs'
   next_over less within (passed_plainly plain) = passed_plainly plain
   next_over less within (passed_entering {x} {outcome = outcome} dir reads) =
@@ -66,7 +66,7 @@ module _ {C S P A R E : Type 0} (clone : Clone.Ghosts R) (known : Item R E → S
   next_left : (x : Item R E) (items : List (Item R E)) (old new : List (Spec R)) → has_directory x ≡ true → old ≡ [] → new ≡ [] → Next (x ∷ items) old x items new
   next_left x items old new dir none left = rw (none, left) (passed_plainly {x = x} {specs = []} (rw dir refl))
 
-  -- A directory is passed, where what came of its reading is received.
+  -- A directory is passed, and the outcome of its reading is received.
   pub next_received : (read : Option (Outcome R E)) (x : Item R E) (items : List (Item R E)) (old : List (Spec R)) (answer : Item R E) (items' : List (Item R E)) (new : List (Spec R)) → has_directory x ≡ true → ReadsNextBy clone (known x) (greatest_depth job) old read new → Receives read x items answer items' → Next (x ∷ items) old answer items' new
   next_received None x items old answer items' new dir reads received = rw (received.0, received.1) (next_left x items old new dir reads.0 reads.1)
   next_received (Some outcome) x items old answer items' new dir reads received = rw (received.0, received.1) (passed_entering {outcome = outcome} dir reads)
@@ -103,7 +103,7 @@ module _ {C S P A R E : Type 0} (clone : Clone.Ghosts R) (known : Item R E → S
       let all : length left ≡ length reads.stacks.front + length reads.rest = ap length reads.stacks.left ∙ length-append reads.stacks.front reads.rest in
       omega (arith, one, rest, front, all, directories-append (list_of outcome) items)
 
-  -- ---- what is answered plainly
+  -- ---- what is yielded plainly
 
   pub next_plain_out : {items : List (Item R E)} {specs : List (Spec R)} {passed : Item R E} {items' : List (Item R E)} {specs' : List (Spec R)} (min_depth : ℕ) → Next items specs passed items' specs' → is_answered min_depth passed ≡ false → (answer : Option (Item R E)) (new : List (Pair R E)) → AnswersPlainly min_depth (pair_up items' specs') answer new → AnswersPlainly min_depth (pair_up items specs) answer new
   next_plain_out min_depth (passed_plainly {x} {items} {specs} plain) out answer new h =
@@ -218,14 +218,14 @@ module _ {C S P A T L R E : Type 0} (files : FileSystem.Ghosts S) (process : Pro
   many_on old mid new passed over passes =
       one_more files process clone defaults pool old mid new over.entered (item passed) over.passes over.crew over.job over.width (passes_by old mid new passed over passes) passes.ahead
 
-  -- where the walk was steady, it is so once items were passed over
+  -- if the walk was steady, it still is once items were passed over
   pub over_steady : (old mid : DirEntryIter C S P A T L R E) → PassedOver old mid → (given : Given R E) → IsSteadyWalk files process clone defaults pool old given → IsSteadyWalk files process clone defaults pool mid given
   over_steady old mid over given steady = record {
     reads = over.steady given steady.reads;
     placed = rw over.crew (left_placed clone (Known files process clone defaults pool old) (job_of old) (items_of old) (unread_of old) (by_crew old) (items_of mid) (unread_of mid) over.leaves steady.placed);
   }
 
-  -- the directories that are entered up to the first that is answered
+  -- the directories that are entered up to the first item that is yielded
   pub grows_to_answer : (old mid new : DirEntryIter C S P A T L R E) (passed : Result (DirEntry C A R E) (Error A)) → PassedOver old mid → Passes mid passed new → GrowsAhead files process clone defaults pool old new
   grows_to_answer old mid new passed over passes =
       let more = many_on old mid new passed over passes in
@@ -249,7 +249,7 @@ module _ {C S P A T L R E : Type 0} (files : FileSystem.Ghosts S) (process : Pro
     leaves = one_left_out over.leaves (passes_on old mid new passed over passes) (subst (λ j. is_answered (options_of j).min_depth (item passed) ≡ false) (passes.job ∙ over.job) out);
   }
 
-  -- the first that is answered after what was passed over
+  -- the first item that is yielded after what was passed over
   pub one_answered : (old mid new : DirEntryIter C S P A T L R E) (passed : Result (DirEntry C A R E) (Error A)) → PassedOver old mid → Passes mid passed new → is_answered (min_depth_of new) (item passed) ≡ true → ReadsUpTo clone (Known files process clone defaults pool old) (job_of old) (items_of old) (unread_of old) (Some (item passed)) (items_of new) (unread_of new)
   one_answered old mid new passed over passes kept =
       (items_of mid, unread_of mid, over.leaves, (passes_on old mid new passed over passes, subst (λ j. is_answered (options_of j).min_depth (item passed) ≡ true) (passes.job ∙ over.job) kept))
@@ -257,7 +257,7 @@ module _ {C S P A T L R E : Type 0} (files : FileSystem.Ghosts S) (process : Pro
   pub passes_lighter : (old new : DirEntryIter C S P A T L R E) (passed : Result (DirEntry C A R E) (Error A)) → Passes old passed new → weight (greatest_depth (job_of new)) (pair_up (items_of new) (unread_of new)) < weight (greatest_depth (job_of old)) (pair_up (items_of old) (unread_of old))
   passes_lighter old new passed passes = rw passes.job (next_lighter clone (KnownAt files process clone defaults pool old (next_address old)) (job_of old) passes.next)
 
--- a reading that is missed tells why the walk ends early, by the crew that it had before
+-- a reading that is missed says why the walk ends early, by the crew that it had before
 pub passed_tells : {T : Type 0} (before now : Bool) (missed : Missed) (r : Result T Missed) → IsErrAnd r (λ m. m ≡ missed) → now ≡ before → Tells now (failure_of missed) → IfErr r (λ m. Tells before (failure_of m))
 passed_tells before now missed (Ok x) same crew tells = tt
 passed_tells before now missed (Err m) same crew tells = subst (λ b. Tells b (failure_of m)) crew (subst (λ f. Tells now (failure_of f)) (sym same) tells)

@@ -1,4 +1,4 @@
--- What a crew's message tells of the directory that is waited for.
+-- What a crew's message says of the awaited directory.
 use Rattle.std.proofs.Common.{◌≡◌, ◌∙◌, ◌+◌, ℕ, List, Ok, Err, IfOk, sym, subst, arith}
 use Rattle.std.specs.declared.clone.Clone as Clone
 use Rattle.std.specs.declared.default.Default as Default
@@ -23,7 +23,7 @@ lawful_there max_depth reads_to of s (Ok r) same there lawful = (subst (λ d. At
 lawful_there max_depth reads_to of s (Err f) same there lawful = (omega (arith, same, there, lawful.0), lawful.1)
 
 module _ {C S P A R E : Type 0} (files : FileSystem.Ghosts S) (process : ProcessReadDir.Ghosts P C A R E) (clone : Clone.Ghosts R) (defaults : Default.Ghosts E) (job : Job C S P A R E) (s : Spec R) (o : Outcome R E) where
-  -- a message that fits what is waited for tells of the directory
+  -- a message that fits what is awaited reports the directory's reading
   pub told : (at : List ℕ) (wanted : Wanted A) (item : Ordered (Message C S P A R E) A) → IsFor at s (options_of job) wanted → Fits wanted item → IfOk item.value.outcome (λ read. outcome read ≡ o) → IsReadingOf files process clone defaults item.value.job (spec item.value.of) o → IsTold files process clone defaults job at s o
   told at wanted item is fits came reading = record {
     message = item;
@@ -38,7 +38,7 @@ module _ {C S P A R E : Type 0} (files : FileSystem.Ghosts S) (process : Process
     reading = reading;
   }
 
-  -- what is told of a directory is a reading of it
+  -- what is reported of a directory is a reading of it
   pub told_reading : (at : List ℕ) → IsTold files process clone defaults job at s o → IsReadingBy (IsTold files process clone defaults job at) (greatest_depth job) s o
   told_reading at tells = record {
     lawful = lawful_there (greatest_depth job) (greatest_depth tells.message.value.job) (spec tells.message.value.of) s o tells.options.max_depth tells.place.depth tells.reading.lawful;

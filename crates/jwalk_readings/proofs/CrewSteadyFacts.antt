@@ -34,7 +34,7 @@ use Rattle.jwalk_crew.proofs.OriginFacts.{at_child, below_read}
 use Rattle.jwalk_readings.specs.CrewReads.{job_of, to_read, awaited, BeginsBy, IsMadeFor, IsSteadyOver, IsSteadyCrew, StartsSteady, ReadsSteadily}
 use Rattle.jwalk_readings.specs.declared.crew_reads.CrewReads.{CrewReads}
 
--- at the addresses of children stand these, if at each child's address stands the one of its index
+-- these are at the addresses of children, if each child's address has the one of its index
 placed : {X Y : Type 0} (at : List ℕ → Option Y) (a : List ℕ) (f : X → Y) (from : ℕ) (front : List X) → ((i : ℕ) → at (a ++ (from + i) ∷ []) ≡ slice_get (map f front) i) → map at (children_from from a (length front)) ≡ map (λ x. Some (f x)) front
 placed at a f from [] each = refl
 placed at a f from (x ∷ xs) each =
@@ -51,12 +51,12 @@ some_same x y is = cc
 first_same : {X : Type 0} (x y : X) (l m : List X) → x ∷ l ≡ y ∷ m → x ≡ y
 first_same x y l m is = cc
 
--- what stands first, and what stands behind it
+-- what comes first, and what comes behind it
 first_placed : {X Y : Type 0} (at : List ℕ → Option Y) (f : X → Y) (addresses : List (List ℕ)) (first : X) (rest : List X) → map at addresses ≡ map (λ x. Some (f x)) (first ∷ rest) → at (next_address addresses) ≡ Some (f first)
 first_placed at f [] first rest is = absurd (none-some (Some (f first)) (ap (λ l. slice_get l 0) is))
 first_placed at f (a ∷ more) first rest is = first_same (at a) (Some (f first)) (map at more) (map (λ x. Some (f x)) rest) is
 
--- what stands at addresses isn't nothing
+-- what is at addresses isn't nothing
 some_placed : {X Y : Type 0} (at : List ℕ → Option Y) (f : X → Y) (addresses : List (List ℕ)) (first : X) (rest : List X) → map at addresses ≡ map (λ x. Some (f x)) (first ∷ rest) → addresses ≢ []
 some_placed at f [] first rest is = λ none. none-some (Some (f first)) (ap (λ l. slice_get l 0) is)
 some_placed at f (a ∷ more) first rest is = λ none. cc
@@ -65,7 +65,7 @@ some_placed at f (a ∷ more) first rest is = λ none. cc
 reads_as_same : (these others : Options) → these ≡ others → ReadsAs these others
 reads_as_same these others same = record { sort = ap (λ o. o.sort) same; skip_hidden = ap (λ o. o.skip_hidden) same; follow_links = ap (λ o. o.follow_links) same; max_depth = ap (λ o. o.max_depth) same }
 
--- where the first gives way to its children, these stand in front of the others
+-- where the first is replaced by its children, these come before the others
 passed_placed : {X Y : Type 0} (at : List ℕ → Option Y) (f : X → Y) (addresses : List (List ℕ)) (first : X) (rest front : List X) → map at addresses ≡ map (λ x. Some (f x)) (first ∷ rest) → ((i : ℕ) → at (next_address addresses ++ i ∷ []) ≡ slice_get (map f front) i)
     → map at (passed addresses (length front)) ≡ map (λ x. Some (f x)) (front ++ rest)
 passed_placed at f [] first rest front is each = absurd (none-some (Some (f first)) (ap (λ l. slice_get l 0) is))
@@ -74,7 +74,7 @@ passed_placed at f (a ∷ more) first rest front is each =
     ∙ ap₂ (λ l m. l ++ m) (placed_first at a f front each) (ap (drop 1) is)
     ∙ sym (map-append (λ x. Some (f x)) front rest)
 
--- directories that count alike are as many
+-- directories that count alike are equal in number
 pub alike_length : {R : Type 0} (clone : Clone.Ghosts R) (these those : List (Spec R)) → CountAlike clone these those → length these ≡ length those
 alike_length {R} clone these those alike =
     let nothing : R → Worth = λ x. blank in
@@ -110,7 +110,7 @@ module _ {C S P A L R E : Type 0} (files : FileSystem.Ghosts S) (process : Proce
   some_is p None P is holds = absurd is
   some_is p (Some q) P is holds = subst P (sym is) holds
 
-  -- where the pool is told, it begins by all that this pool is made for
+  -- if the pool is this one, the readings begin with all that it is made for
   pub begins_by : (it : CrewReads C S P A L R E) (p : L) (job : Job C S P A R E) (specs : List (Spec R)) → BeginsBy (λ given origin addresses. given ≡ p) it → job_of it ≡ job → to_read it ≡ specs → IsMadeFor pool p (record { job = job; roots = specs }) (roots (length specs)) → BeginsBy (IsMadeFor pool) it
   begins_by it p job specs begins same are made =
       let here : it.matcher ≡ roots (length specs) = begins.addresses ∙ ap (λ l. roots (length l)) are in
@@ -120,7 +120,7 @@ module _ {C S P A L R E : Type 0} (files : FileSystem.Ghosts S) (process : Proce
             (subst (λ j. pool.comes_from p (record { job = j; roots = to_read it })) (sym same) (subst (λ l. pool.comes_from p (record { job = job; roots = l })) (sym are) made.0), made.1 ∙ sym here);
       }
 
-  -- They stay steady where these directories are put in front of those that are kept.
+  -- They stay steady if these directories are put in front of those that are kept.
   pub front_steady : (old mid new : CrewReads C S P A L R E) (front : List (Spec R)) (given : Given R E) → job_of new ≡ job_of old → new ≡ record mid { unread = new.unread } → to_read new ≡ front ++ to_read old
       → IsSteadyOver files process clone defaults pool (job_of old) mid.pool mid.matcher (front ++ to_read old) given → IsSteadyCrew files process clone defaults pool new given
   front_steady old mid new front given job others left steady =
@@ -128,7 +128,7 @@ module _ {C S P A L R E : Type 0} (files : FileSystem.Ghosts S) (process : Proce
       (subst (λ j. IsSteadyOver files process clone defaults pool j new.pool new.matcher (front ++ to_read old) given) (sym job)
       (subst (λ (it : CrewReads C S P A L R E). IsSteadyOver files process clone defaults pool (job_of old) it.pool it.matcher (front ++ to_read old) given) (sym others) steady))
 
-  -- A pool doesn't lose the reading that comes next over what is steady: that is due.
+  -- A pool doesn't lose the reading that comes next over what is steady: that one is due.
   pub not_lost : (job : Job C S P A R E) (before : L) (addresses : List (List ℕ)) (first : Spec R) (rest : List (Spec R)) (given : Given R E) (wanted : Wanted A) → IsFor (next_address addresses) first (options_of job) wanted
       → ((origin : Origin C S P A R E) → pool.comes_from before origin → ¬ IsDue files process clone defaults origin (pool.awaits before) wanted) → ¬ IsSteadyOver files process clone defaults pool job (Some before) addresses (first ∷ rest) given
   not_lost job before addresses first rest given wanted is never was =

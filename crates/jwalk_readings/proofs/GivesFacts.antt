@@ -72,7 +72,7 @@ pub as_many : {C A R E : Type 0} (b : Option (Board (ReadDirSpec C A R E) (Read 
 as_many None = refl
 as_many (Some b) = length-map b.ready _ ∙ sym (length-map b.ready _)
 
--- so what grows by fewer than a width in the one does in the other
+-- so what grows by less than a width in the one does in the other
 pub fewer_done : {C S P A R E : Type 0} (old new : BoardWalk C S P A R E) (width : ℕ) → length (board.early_of new) + 1 ≤ length (board.early_of old) + width → length (board.read_ahead new).done + 1 ≤ length (board.read_ahead old).done + width
 fewer_done old new width fewer = rw (sym (as_many new.board), sym (as_many old.board)) fewer
 
@@ -94,7 +94,7 @@ module _ {C S P A T L R E : Type 0} (files : FileSystem.Ghosts S) (process : Pro
     preorder = λ given counted. given_in_preorder clone (Known files process clone defaults pool old) (job_of old) (to_read old) (to_read new) files given (clones_if_steady files process clone defaults pool old given counted) (known_if_steady files process clone defaults pool old given counted) may_lose (option_map outcome read) (inr next);
   }
 
-  -- one call after which the readings end early
+  -- one call that ends the readings early
   pub gives_stopped : (may_lose : Bool) (error : Error A) → Tells (by_crew old) (failure error) → ((given : Given R E) → IsSteadyReads files process clone defaults pool old given → Tells may_lose (failure error)) → by_crew new ≡ by_crew old → job_of new ≡ job_of old → width_of new ≡ width_of old → length (early_of new) + 1 ≤ length (early_of old) + width_of old
       → StaysSteady files process clone defaults pool old new → to_read old ≢ [] → to_read new ≡ [] → read_ahead new ≡ nothing_ahead
       → Gives files process clone defaults pool may_lose old (Some (Err error)) new
@@ -119,7 +119,7 @@ none_lost b reading max_depth old new (Some given) gives = elim gives [
   | inr comes ↦ inr comes
 ]
 
--- so what the next reading gives is what any may
+-- so what is given where no reading may be lost may also be given where one may
 pub gives_any : {C S P A T L R E : Type 0} (files : FileSystem.Ghosts S) (process : ProcessReadDir.Ghosts P C A R E) (clone : Clone.Ghosts R) (defaults : Default.Ghosts E) (pool : Pool.Ghosts L C S P A R E) (b : Bool) (old new : ReadDirIter C S P A T L R E) (read : Option (Result (ReadDir C A R E) (Error A))) → Gives files process clone defaults pool false old read new → Gives files process clone defaults pool b old read new
 gives_any files process clone defaults pool b old new read gives = record {
   crew = gives.crew;
@@ -132,7 +132,7 @@ gives_any files process clone defaults pool b old new read gives = record {
   preorder = λ given steady. none_lost b _ _ _ _ _ (gives.preorder given steady);
 }
 
--- what is said of a value, whatever it is, is said of what it is seen as
+-- what is said of any value is said of its view
 pub some_of : {X Y : Type 0} (P : Type 0) (f : X → Y) (o : Option X) → IfSome (option_map f o) (λ _. P) → IfSome o (λ _. P)
 some_of P f None h = tt
 some_of P f (Some x) h = h

@@ -1,4 +1,4 @@
--- What is known of a walk's readings, where no crew makes them, and where one does.
+-- What is known of a walk's readings, where no crew makes them and where one does.
 use Rattle.std.proofs.Common.{◌≡◌, [], ◌∷◌, Bool, true, false, Option, Some, None, Result, Err, Ok, IfErr, IsErrAnd, List, ℕ, inl, inr, ap, subst}
 use Rattle.std.specs.declared.clone.Clone as Clone
 use Rattle.std.specs.declared.default.Default as Default
@@ -20,28 +20,28 @@ use Rattle.jwalk_readings.specs.CrewReads.{failure_of, NotLost, IsNextBelow}
 use Rattle.jwalk_readings.specs.ReadDirIter as readings
 use Rattle.jwalk_readings.specs.ReadDirIter.{Tells, GivesFirst, IsSteadyReads, KnownBy}
 
--- want of memory may end any walk early
+-- any walk may end early because memory ran out
 pub tells_memory : (b : Bool) (f : Failure) → f ≡ memory → Tells b f
 tells_memory false f is = is
 tells_memory true f is = inl is
 
--- so a refusal that is passed on does
+-- so may one that passes on that memory ran out
 pub tells_refusal : {T : Type 0} (b : Bool) (r : Result T Missed) → IsErrAnd r (λ m. m ≡ Memory) → IfErr r (λ m. Tells b (failure_of m))
 tells_refusal b (Ok x) refused = tt
 tells_refusal b (Err m) refused = tells_memory b (failure_of m) (ap failure_of refused)
 
--- over what a reading can't be lost over, what is missed is told as want of memory
+-- over what a reading can't be lost over, what is missed is reported as memory that ran out
 pub told_refused : {R E : Type 0} (counts : Given R E → Type 0) (missed : Missed) (f : Failure) → f ≡ failure_of missed → NotLost counts missed → (given : Given R E) → counts given → Tells false f
 told_refused counts Memory f is never given steady = is
 told_refused counts Lost f is never given steady = absurd (never given steady)
 
--- it speaks of the first alone
+-- it depends only on the first
 first_below : {R E : Type 0} (b : Bool) (x : Item R E) (s : Spec R) (rest : List (Spec R)) → IsNextBelow b x (s ∷ rest) → IsNextBelow b x (s ∷ [])
 first_below false x s rest h = tt
 first_below true x s rest h = h
 
 module _ {C S P A L R E : Type 0} (files : FileSystem.Ghosts S) (process : ProcessReadDir.Ghosts P C A R E) (clone : Clone.Ghosts R) (defaults : Default.Ghosts E) (pool : Pool.Ghosts L C S P A R E) where
-  -- where it is steady, clones count as what they are made of
+  -- where it is steady, clones count as their originals
   pub clones_if_steady : {T : Type 0} (it : ReadDirIter C S P A T L R E) (given : Given R E) → IsSteadyReads files process clone defaults pool it given → ClonesCount clone given
   clones_if_steady (Walk walk) given steady = steady.steady.clones
   clones_if_steady (ParWalk walk threads) given steady = steady.steady.clones
@@ -63,7 +63,7 @@ module _ {C S P A L R E : Type 0} (files : FileSystem.Ghosts S) (process : Proce
   known_by false counts fewer job at within s o known = λ given f. known given (within given f)
   known_by true counts fewer job at within s o known = (known.0, λ given f. known.1 given (within given f))
 
-  -- What is known of the next reading is known of it as that of an item's directory, if the directory that comes next is this one.
+  -- What is known of the next reading is known of it as the reading of an item's directory, if the directory that comes next is that one.
   pub known_of : {T : Type 0} (it : ReadDirIter C S P A T L R E) (max_depth : ℕ) (x : Item R E) (old : List (Spec R)) (read : Option (Outcome R E)) (new : List (Spec R)) → IsNextBelow (readings.by_crew it) x old → ReadsNextBy clone (readings.Known files process clone defaults pool it) max_depth old read new → ReadsNextBy clone (readings.KnownOf files process clone defaults pool it x) max_depth old read new
   known_of it max_depth x old None new below reads = reads
   known_of it max_depth x old (Some o) new below reads =

@@ -1,4 +1,4 @@
--- Facts on lists whose last item comes first, and on options.
+-- Facts about lists whose last item comes first, and about options.
 use Rattle.std.proofs.Common.{◌≡◌, ◌∙◌, ◌-◌, ◌<◌, List, [], ◌∷◌, ◌++◌, map, reverse, length, drop, get_or, slice_get, refl, sym, ap, arith, Option, Some, None, is_some}
 use Rattle.std.specs.Prelude.{option_map}
 use Rattle.std.proofs.lemmas.List.{reverse-append, get_or-reverse, length-reverse}
@@ -8,7 +8,7 @@ use Rattle.std.proofs.lemmas.Option.{none-some, slice_get_within, slice_get-get_
 pub reverse-push : {X : Type 0} (xs : List X) (x : X) → reverse (xs ++ x ∷ []) ≡ x ∷ reverse xs
 reverse-push xs x = reverse-append xs (x ∷ [])
 
--- and what it is seen as is the first of what the list is seen as
+-- and its view is the first of the list's views
 pub popped : {X Y : Type 0} (f : X → Y) (stack left : List X) (x : X) → stack ≡ left ++ x ∷ [] → map f (reverse stack) ≡ f x ∷ map f (reverse left)
 popped f stack left x is = ap (λ l. map f (reverse l)) is ∙ ap (map f) (reverse-push left x)
 

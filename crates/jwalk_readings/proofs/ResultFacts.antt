@@ -13,7 +13,7 @@ use Rattle.jwalk_crew.specs.declared.pool.Missed.TheVariants.{Memory, Lost}
 use Rattle.jwalk_readings.specs.CrewReads.{failure_of, NotLost}
 use Rattle.jwalk_readings.specs.ReadDirIter.{Tells, EntersNextBy}
 
--- what failed is no `Ok`
+-- an error is no `Ok`
 pub none_ok : {T F : Type 0} (P : T → Type 0) (r : Result T F) → IsErr r → IfOk r P
 none_ok P (Ok x) failed = let no : false ≡ true = failed in absurd cc
 none_ok P (Err e) failed = tt
@@ -22,7 +22,7 @@ pub none_on_ok : {T F : Type 0} (P : Type 0) (r : Result T F) → IsErr r → On
 none_on_ok P (Ok x) failed = let no : false ≡ true = failed in absurd cc
 none_on_ok P (Err e) failed = tt
 
--- what is said of a value is said of what an `Ok` tells to be the same
+-- what is said of a value is said of one that an `Ok` shows to be the same
 pub on_ok_as : {T F X : Type 0} (P : X → Type 0) (x y : X) (r : Result T F) → OnOk r (x ≡ y) → P y → OnOk r (P x)
 on_ok_as P x y (Ok t) same holds = subst P (sym same) holds
 on_ok_as P x y (Err e) same holds = tt
@@ -32,18 +32,18 @@ pub on_err : {T F P : Type 0} (r : Result T F) → P → OnErr r P
 on_err (Ok x) holds = tt
 on_err (Err e) holds = holds
 
--- an iterator that gets lighter with each answer may be asked again
+-- an iterator that gets lighter with each answer may be called again
 pub goes_on : {T : Type 0} {may : Type 0} (r : Option T) (fewer : Type 0) → may → IfSome r (λ x. fewer) → OnSome r (may × Unit {0} × fewer)
 goes_on None fewer can less = tt
 goes_on (Some x) fewer can less = (can, tt, less)
 
--- a crew's reading is missed for want of memory, or it is lost
+-- a crew's reading is missed because memory ran out, or it is lost
 pub tells_missed : {T : Type 0} (r : Result T Missed) → IfErr r (λ m. Tells true (failure_of m))
 tells_missed (Ok x) = tt
 tells_missed (Err Memory) = inl refl
 tells_missed (Err Lost) = inr refl
 
--- where memory was refused, nothing is lost
+-- where memory ran out, nothing is lost
 pub refused_not_lost : {T R E : Type 0} (counts : Given R E → Type 0) (r : Result T Missed) → IsErrAnd r (λ m. m ≡ Memory) → IfErr r (NotLost counts)
 refused_not_lost counts (Ok x) refused = tt
 refused_not_lost counts (Err m) refused = rw refused tt
@@ -63,7 +63,7 @@ pub passed_not_lost : {T R E : Type 0} (counts : Given R E → Type 0) (missed :
 passed_not_lost counts missed (Ok x) same never = tt
 passed_not_lost counts missed (Err m) same never = rw same never
 
--- what a crew's readings are entered with stays nothing
+-- what was read ahead by a crew's readings stays nothing
 pub enters_by_crew : {C S P A R E X Y F : Type 0} (files : FileSystem.Ghosts S) (process : ProcessReadDir.Ghosts P C A R E) (clone : Clone.Ghosts R) (defaults : Default.Ghosts E) (job : Job C S P A R E) (at : List ℕ) (view : X → Y) (r : Result (Option X) F)
     → IfOk r (λ o. EntersNextBy files process clone defaults true job 1 at nothing_ahead (option_map view o) nothing_ahead)
 enters_by_crew files process clone defaults job at view (Ok None) = refl
