@@ -50,7 +50,7 @@ reversed Less h k = sym h
 reversed Equal h k = sym k
 reversed Greater h k = refl
 
--- of two addresses one stands before the other
+-- of two addresses one comes before the other
 before_other : (x y : List ℕ) → is_before y x ≡ false → is_same x y ≡ false → is_before x y ≡ true
 before_other x y h k = ap is_lt (nat_list_cmp_total.antisymm x y) ∙ reversed (slice_cmp nat_cmp y x) h k
 
@@ -62,7 +62,7 @@ first_of_others a (y ∷ ys) first none =
       | false ↦ λ e k. All-cons (λ y. is_before a y.at ≡ true) y ys (before_other a y.at (All-head (λ y. is_before y.at a ≡ false) y ys first) e) (first_of_others a ys (All-tail (λ y. is_before y.at a ≡ false) y ys first) (omega (arith, k)))
     ] refl none
 
--- What is taken stands before all that stays.
+-- What is taken comes before all that stays.
 taken_first : {T Q A : Type 0} (b c : Board T Q) (item : Ordered T A) → IsWhole b → Takes item b c → All (λ y. is_before (address_of item) y.at ≡ true) c.queued
 taken_first b c item whole t =
     let a = address_of item in
@@ -130,7 +130,7 @@ module _ {C S P A R E : Type 0} (files : FileSystem.Ghosts S) (process : Process
   abbrev IsOf : Ordered (ReadDirSpec C A R E) A → Made C A R E → Type 0
   IsOf = IsMadeOf files process clone defaults job
 
-  -- what was made stands where it was taken
+  -- what was made is where it was taken
   stood : (taken : List (Ordered (ReadDirSpec C A R E) A)) (made : List (Made C A R E)) → AllZip IsOf taken made → All (λ x. child_count_of x ≡ 0) taken → map seen_taken taken ≡ map unread (map made_at made)
   stood [] [] all fresh = refl
   stood [] (m ∷ made) all fresh = absurd all

@@ -45,7 +45,7 @@ module _ {C A R E : Type 0} (b c : Board (ReadDirSpec C A R E) (Read C A R E)) (
   pub fewer_queued : length b.queued ≡ 1 + length c.queued
   fewer_queued = omega (arith, length_permutation b.queued (addressed item ∷ c.queued) t.queued)
 
--- What holds of each result, where all of them are there, holds of what is in them.
+-- What holds of each result holds of what is in them, if all of them are there.
 pub all_there : {X Y F : Type 0} (Q : X → Result Y F → Type 0) (xs : List X) (ys : List Y) (results : List (Result Y F)) → map Ok ys ≡ results → AllZip Q xs results → AllZip (λ x y. Q x (Ok y)) xs ys
 all_there {X} {Y} Q xs ys results is all = by xs ys (subst (AllZip Q xs) (sym is) all)
   where
@@ -66,7 +66,7 @@ AllZip-push R (a ∷ xs) [] x y all one = absurd all
 AllZip-push R (a ∷ xs) (b ∷ ys) x y all one = (all.0, AllZip-push R xs ys x y all.1 one)
 
 module _ {C A R E : Type 0} (rest : List (Made C A R E)) (m : Made C A R E) where
-  -- where it stands, with what was to be read there
+  -- where it is, with what was to be read there
   abbrev pub taken_of : Addressed (ReadDirSpec C A R E)
   taken_of = record { at = address m.address; value = m.read.of; child_count = 0 }
 
@@ -123,7 +123,7 @@ module _ {C S P A R E : Type 0} (files : FileSystem.Ghosts S) (process : Process
   as_many (x ∷ taken) [] all = absurd all
   as_many (x ∷ taken) (m ∷ made) all = ap suc (as_many taken made all.1)
 
-  -- they stand where those stood
+  -- they are where those were
   same_places : (taken : List (Ordered (ReadDirSpec C A R E) A)) (made : List (Made C A R E)) → AllZip IsOf taken made → All (λ x. child_count_of x ≡ 0) taken
       → map (λ (m : Made C A R E). record { at = address m.address; value = m.read.of; child_count = 0 }) made ≡ map addressed taken
   same_places [] [] all unread = refl

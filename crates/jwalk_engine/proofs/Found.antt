@@ -40,7 +40,7 @@ module _ {X V : Type 0} (v : X → V) where
         | false ↦ λ e k. All-cons (λ y. is_same a y.at ≡ true → v y.value ≡ z) x xs (λ is. let no : true ≡ false = sym is ∙ e in cc) (nowhere xs a z (omega (arith, k)))
       ] refl h
 
-  -- all that stand at an address have the one value that is found there
+  -- all that are at an address have the one value that is found there
   has_value : (xs : List (Addressed X)) (a : List ℕ) (z : V) → found_at v xs a ≡ z ∷ [] → times a (addresses_of xs) ≤ 1 → All (λ y. is_same a y.at ≡ true → v y.value ≡ z) xs
   has_value [] a z h once = All-nil _
   has_value (x ∷ xs) a z h once =
@@ -49,7 +49,7 @@ module _ {X V : Type 0} (v : X → V) where
         | false ↦ λ e k n. All-cons (λ y. is_same a y.at ≡ true → v y.value ≡ z) x xs (λ is. let no : true ≡ false = sym is ∙ e in cc) (has_value xs a z k (omega (arith, n)))
       ] refl h once
 
-  -- where it stands there once and all there have the value, the value is found
+  -- if it is there once, and all there have the value, the value is found
   finds_value : (ys : List (Addressed X)) (a : List ℕ) (z : V) → All (λ y. is_same a y.at ≡ true → v y.value ≡ z) ys → times a (addresses_of ys) ≡ 1 → found_at v ys a ≡ z ∷ []
   finds_value [] a z all h = absurd (omega (arith, h))
   finds_value (y ∷ ys) a z all h =
@@ -66,7 +66,7 @@ module _ {X V : Type 0} (v : X → V) where
         | false ↦ λ k. one_found xs a (omega (arith, k))
       ] h
 
-  -- Where an address stands at most once, the order of a list doesn't matter.
+  -- Where an address is there at most once, the order of a list doesn't matter.
   pub found_at-permutation : (xs ys : List (Addressed X)) (a : List ℕ) → IsPermutation xs ys → times a (addresses_of xs) ≤ 1 → found_at v ys a ≡ found_at v xs a
   found_at-permutation xs ys a p once =
       let as_often = times-addresses_of a xs ys p in
@@ -77,7 +77,7 @@ module _ {X V : Type 0} (v : X → V) where
       finds_value ys a one.0 (All-permutation (λ y. is_same a y.at ≡ true → v y.value ≡ one.0) xs ys p (has_value xs a one.0 one.1 once)) (omega (arith, as_often, some, once)) ∙ sym one.1)
       (eq-zero-or-pos (times a (addresses_of xs)))
 
-  -- where nothing is found, nothing stands
+  -- where nothing is found, nothing is there
   pub nothing_found : (xs : List (Addressed X)) (a : List ℕ) → found_at v xs a ≡ [] → times a (addresses_of xs) ≡ 0
   nothing_found [] a h = refl
   nothing_found (x ∷ xs) a h =

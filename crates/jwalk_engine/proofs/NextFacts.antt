@@ -1,4 +1,4 @@
--- What one call answers, from what a board hands on.
+-- What one call returns, from what a board hands on.
 use Rattle.std.proofs.Common.{◌≡◌, ◌≢◌, ◌<◌, ◌≤◌, ◌+◌, ℕ, zero, suc, true, false, cond, List, [], ◌∷◌, ◌++◌, map, length, refl, sym, ap, ◌∙◌, arith, subst, ⊎_elim, inl, inr}
 use Rattle.std.specs.Prelude.{Option, Some, None, IsSomeAnd, All}
 use Rattle.std.specs.List.Sorted.{IsPermutation}
@@ -38,7 +38,7 @@ some_at : {V : Type 0} (a : List ℕ) (xs : List (Addressed V)) → IsAmong a (a
 some_at a [] there = absurd (omega (arith, there))
 some_at a (x ∷ xs) there = omega arith
 
--- values that are seen otherwise stand where they stood
+-- values that are seen otherwise are where they were
 pub seen_addresses : {T V : Type 0} (v : T → V) (xs : List (Addressed T)) → addresses_of (map (seen v) xs) ≡ addresses_of xs
 seen_addresses v [] = refl
 seen_addresses v (x ∷ xs) = ap (λ l. x.at ∷ l) (seen_addresses v xs)
@@ -47,7 +47,7 @@ unread_addresses : {C A R E : Type 0} (xs : List (Addressed (Read C A R E × Lis
 unread_addresses [] = refl
 unread_addresses (x ∷ xs) = ap (λ l. x.at ∷ l) (unread_addresses xs)
 
--- what stands before all of these stands before each
+-- what comes before all of these comes before each
 before_each : {V : Type 0} (x : List ℕ) (ys : List (Addressed V)) → All (λ y. is_before x y.at ≡ true) ys → (a : List ℕ) → IsAmong a (addresses_of ys) → is_before x a ≡ true
 before_each x [] all a there = absurd (omega (arith, there))
 before_each x (y ∷ ys) all a there =
@@ -124,7 +124,7 @@ module _ {C S P A R E : Type 0} (files : FileSystem.Ghosts S) (process : Process
         ] refl
 
   module _ (old : Board (ReadDirSpec C A R E) (Read C A R E)) (keeps : Keeps clone job old) where
-    -- while something is to be read there is a first
+    -- while something is to be read, there is a first
     pub first_left : IsWhole old → old.frontier ≢ [] → (to_give old []).to_read ≢ []
     first_left whole some = some_to_read spec spec_of old whole keeps.none_in_hand some
 
@@ -148,7 +148,7 @@ module _ {C S P A R E : Type 0} (files : FileSystem.Ghosts S) (process : Process
           enters = enters;
         }
 
-    -- An answer without a new reading goes on.
+    -- A call without a new reading goes on.
     pub answer_goes_on : 1 ≤ width → (new : Board (ReadDirSpec C A R E) (Read C A R E)) (answer : Option (Outcome R E)) → HandsOnIfAny old answer new → GoesOn files process clone defaults job width old answer new
     answer_goes_on wide new None h =
         let nothing : (to_give old []).to_read ≡ [] = rw h.0 refl in

@@ -114,7 +114,7 @@ pub hands_less : {C A R E : Type 0} (old new : ToGive (Read C A R E) (Spec R)) (
 hands_less old new q hands = omega (arith, length_permutation old.made ((q, hands.front) ∷ new.made) hands.leaves)
 
 module _ {C S P A R E : Type 0} (files : FileSystem.Ghosts S) (process : ProcessReadDir.Ghosts P C A R E) (clone : Clone.Ghosts R) (defaults : Default.Ghosts E) (job : Job C S P A R E) (width : ℕ) (old new : ToGive (Read C A R E) (Spec R)) (some : ReadsSome files process clone defaults job width old new) where
-  -- so many more at most are made
+  -- at most this many more are made
   pub some_more : length new.made ≤ width + length old.made
   some_more = omega (arith, some.few, length_permutation (some.readings ++ old.made) new.made some.join, length-append some.readings old.made)
 

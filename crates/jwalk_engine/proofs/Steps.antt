@@ -184,7 +184,7 @@ module _ {T Q V : Type 0} (v : T → V) (w : Q → V) where
       (λ a there. let all = times-append a (children_from 0 y.at y.child_count) (child_addresses ys) in omega (arith, whole.each a, h a, all, there))
       (children_held b whole ys (λ a. let all = times-append a (children_from 0 y.at y.child_count) (child_addresses ys) in omega (arith, h a, all)))
 
-  -- a frontier has no address twice, and nothing that is passed stands among the rest
+  -- a frontier has no address twice, and nothing that is passed is among the rest
   next_apart : (b : Board T Q) → IsWhole b → (a : List ℕ) (left : List (List ℕ)) → b.frontier ≡ a ∷ left → (d : List ℕ) → 0 < times d left → is_same d a ≡ false
   next_apart b whole a left is d there =
       elim (is_same d a) as (λ s. is_same d a ≡ s → s ≡ false) [
@@ -197,7 +197,7 @@ module _ {T Q V : Type 0} (v : T → V) (w : Q → V) where
         | false ↦ λ e. refl
       ] refl
 
-  -- what stands below a reading is the same where each of its children is found as before
+  -- what is below a reading is the same where each of its children is found as before
   below-same : (b c : Board T Q) (hand left : List (Addressed T)) (y : Addressed Q) → ((a : List ℕ) → 0 < times a (children_from 0 y.at y.child_count) → spec_at v w c left a ≡ spec_at v w b hand a) → with_below v w c left y ≡ with_below v w b hand y
   below-same b c hand left y h = ap (λ l. (y.value, l)) (specs_at-same b c hand left (children_from 0 y.at y.child_count) h)
 

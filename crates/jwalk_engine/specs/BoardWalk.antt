@@ -16,13 +16,13 @@ use Rattle.jwalk_engine.specs.ToGive.{ToGive, HandsOn}
 use Rattle.jwalk_engine.specs.Reads.{spec_of, to_give, IsMade, IsSteadyWith, ReadsSome, ReadsNext}
 use Rattle.jwalk_engine.specs.ReadAhead.{ReadAhead, nothing_ahead, ahead_on, HandsOnAt, ReadsLeast, EntersNext}
 
--- What it reads with, how many directories are read together, and its board, which is gone once it was stopped.
+-- What it reads with, how many directories are read together, and its board, which is gone once the walk was stopped.
 pub record BoardWalk (C S P A R E : Type 0) : Type 0 where
   pub job : Job C S P A R E
   pub width : ℕ
   pub board : Option (Board (ReadDirSpec C A R E) (Read C A R E))
 
--- what a walk has still to give: nothing once it was stopped
+-- what a walk still has to give: nothing once it was stopped
 abbrev pub left_on : {C A R E : Type 0} → Option (Board (ReadDirSpec C A R E) (Read C A R E)) → ToGive (Read C A R E) (Spec R)
 left_on None = record { to_read = []; made = [] }
 left_on (Some b) = to_give b []
@@ -53,7 +53,7 @@ module _ {C A R E : Type 0} where
   HandsOnIfAny old None new = (old.frontier ≡ []) × (new ≡ old)
 
 module _ {C S P A R E : Type 0} (w : BoardWalk C S P A R E) where
-  -- the specifications whose readings are still to be given, the next one first; those below them aren't among them
+  -- the specifications whose readings are still to be given, the next one first, without those below them
   abbrev pub to_read : List (Spec R)
   to_read = (left_on w.board).to_read
 
@@ -69,14 +69,14 @@ module _ {C S P A R E : Type 0} (w : BoardWalk C S P A R E) where
   abbrev pub next_of : List ℕ
   next_of = entered_next w.board
 
--- What holds of a board between calls, whatever the file system answers: it is running, nothing is in hand, and what is ready was made so.
+-- What holds of a board between calls, whatever the file system returns: it is running, nothing is in hand, and what is ready was made so.
 pub record Keeps {C S P A R E : Type 0} (clone : Clone.Ghosts R) (job : Job C S P A R E) (b : Board (ReadDirSpec C A R E) (Read C A R E)) : Type 0 where
   pub running : b.stopped ≡ false
   pub none_in_hand : b.in_hand ≡ []
   pub made : All (IsMade clone job) (to_give b []).made
 
 module _ {C S P A R E : Type 0} (files : FileSystem.Ghosts S) (process : ProcessReadDir.Ghosts P C A R E) (clone : Clone.Ghosts R) (defaults : Default.Ghosts E) where
-  -- Some of the least directories are read, so many at most, and nothing is handed on.
+  -- Some of the least directories are read, at most this many, and nothing is handed on.
   pub record ReadsBatch (job : Job C S P A R E) (width : ℕ) (old new : Board (ReadDirSpec C A R E) (Read C A R E)) : Type 0 where
     pub reads : ReadsSome files process clone defaults job width (to_give old []) (to_give new [])
     pub least : ReadsLeast files process clone defaults job width (ahead_on old) (ahead_on new)
@@ -84,11 +84,11 @@ module _ {C S P A R E : Type 0} (files : FileSystem.Ghosts S) (process : Process
     pub none_in_hand : new.in_hand ≡ []
     pub running : new.stopped ≡ false
 
-  -- over what is given a board is steady
+  -- A board is steady over what is given.
   abbrev pub IsSteadyBoard : Job C S P A R E → Board (ReadDirSpec C A R E) (Read C A R E) → Given R E → Type 0
   IsSteadyBoard job b = IsSteadyWith files process clone defaults job (to_give b []).made
 
-  -- Over what is given a walk is steady: its job is, and what it read early is as the definition has it.
+  -- A walk is steady over what is given: its job is, and what it read early is what the definition gives.
   abbrev pub IsSteadyWalk : BoardWalk C S P A R E → Given R E → Type 0
   IsSteadyWalk w = IsSteadyWith files process clone defaults w.job (early_of w)
 
@@ -96,7 +96,7 @@ module _ {C S P A R E : Type 0} (files : FileSystem.Ghosts S) (process : Process
   abbrev pub StaysSteady : BoardWalk C S P A R E → BoardWalk C S P A R E → Type 0
   StaysSteady old new = (given : Given R E) → IsSteadyWalk old given → IsSteadyWalk new given
 
-  -- One call answers and goes on.
+  -- One call returns, and the walk goes on.
   pub record GoesOn (job : Job C S P A R E) (width : ℕ) (old : Board (ReadDirSpec C A R E) (Read C A R E)) (answer : Option (Outcome R E)) (new : Board (ReadDirSpec C A R E) (Read C A R E)) : Type 0 where
     pub keeps : Keeps clone job new
     pub ahead : length (to_give new []).made + 1 ≤ length (to_give old []).made + width

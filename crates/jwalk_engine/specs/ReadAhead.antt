@@ -1,4 +1,4 @@
--- What a walk has read ahead, and what one directory that is entered does to it.
+-- What a walk has read ahead, and what entering one directory does to it.
 use Rattle.std.specs.Prelude.{◌≡◌, ◌⊎◌, ℕ, true, min, List, [], ◌∷◌, ◌++◌, length, map, flat_map, All, Option, Some, None}
 use Rattle.std.specs.List.Sorted.{IsPermutation}
 use Rattle.std.specs.declared.clone.Clone as Clone
@@ -32,7 +32,7 @@ module _ {C A R E : Type 0} where
   abbrev pub ahead_on : Board (ReadDirSpec C A R E) (Read C A R E) → ReadAhead R
   ahead_on b = record { queue = map (seen spec) b.queued; done = addresses_of b.ready }
 
-  -- what was read, as it stood in the queue
+  -- what was read, as it was in the queue
   abbrev pub unread : Addressed (Read C A R E × List (Spec R)) → Addressed (Spec R)
   unread x = record { at = x.at; value = spec_of x.value.0; child_count = 0 }
 
@@ -51,11 +51,11 @@ module _ {R : Type 0} where
     pub queue : IsPermutation (numbered [] 0 roots) new.queue
     pub done : new.done ≡ []
 
-  -- the address of the first stands before all of these
+  -- The address of the first comes before all of these.
   abbrev pub StandsBefore : Addressed (Spec R) → List (Addressed (Spec R)) → Type 0
   StandsBefore x others = All (λ y. is_before x.at y.at ≡ true) others
 
-  -- The least of the queue leave it: each stands before all that stay.
+  -- The least of the queue leave it: each comes before all that stay.
   pub record LeastLeave (taken : List (Addressed (Spec R))) (old new : ReadAhead R) : Type 0 where
     pub queue : IsPermutation old.queue (taken ++ new.queue)
     pub least : All (λ x. StandsBefore x new.queue) taken
@@ -67,7 +67,7 @@ module _ {R : Type 0} where
     pub done : IsPermutation old.done (at ∷ new.done)
 
 module _ {C S P A R E : Type 0} (files : FileSystem.Ghosts S) (process : ProcessReadDir.Ghosts P C A R E) (clone : Clone.Ghosts R) (defaults : Default.Ghosts E) where
-  -- The least of the queue are read, so many or all if there are fewer, and no others.
+  -- The least of the queue are read, this many or all if there are fewer, and no others.
   pub record ReadsLeast (job : Job C S P A R E) (width : ℕ) (old new : ReadAhead R) : Type 0 where
     pub batch : List (Addressed (Read C A R E × List (Spec R)))
     pub left : ReadAhead R
@@ -83,7 +83,7 @@ module _ {C S P A R E : Type 0} (files : FileSystem.Ghosts S) (process : Process
       (IsAmong at old.done × HandsOnAt at old new)
       ⊎ ((¬ IsAmong at old.done) × ((mid : ReadAhead R) × ReadsLeast job width old mid × HandsOnAt at mid new))
 
-  -- a directory is entered, or nothing was left to be read and all stays as it is
+  -- A directory is entered, or nothing was left to be read and all stays as it is.
   abbrev pub EntersNext : {X : Type 0} → Job C S P A R E → ℕ → List ℕ → ReadAhead R → Option X → ReadAhead R → Type 0
   EntersNext job width at old (Some read) new = Enters job width at old new
   EntersNext job width at old None new = new ≡ old

@@ -23,18 +23,18 @@ module _ {C A R E : Type 0} where
   abbrev pub spec_of : Read C A R E → Spec R
   spec_of q = spec q.of
 
-  -- what a board has still to give, while its takers hold these
+  -- what a board still has to give, while its takers hold these
   abbrev pub to_give : Board (ReadDirSpec C A R E) (Read C A R E) → List (Addressed (ReadDirSpec C A R E)) → ToGive (Read C A R E) (Spec R)
   to_give = board.to_give spec spec_of
 
--- the specifications of an outcome's directories, with clones of their states, stand in front of the old ones
+-- The specifications of an outcome's directories, with clones of their states, are put in front of the old ones.
 pub record StacksChildren {R E : Type 0} (clone : Clone.Ghosts R) (old : List (Spec R)) (read : Outcome R E) (new : List (Spec R)) : Type 0 where
   pub front : List (Spec R)
   pub left : new ≡ front ++ old
   pub clones : AreClones clone.is_clone (children_of read) front
 
 module _ {R E : Type 0} (clone : Clone.Ghosts R) (known : Spec R → Outcome R E → Type 0) (max_depth : ℕ) where
-  -- The first of the specifications is read, and gives way to those of the directories in its outcome.
+  -- The first specification is read and replaced by those of the directories in its outcome.
   pub record ReadsFirstBy (old : List (Spec R)) (read : Outcome R E) (new : List (Spec R)) : Type 0 where
     pub first : Spec R
     pub rest : List (Spec R)
@@ -42,45 +42,45 @@ module _ {R E : Type 0} (clone : Clone.Ghosts R) (known : Spec R → Outcome R E
     pub reading : IsReadingBy known max_depth first read
     pub stacks : StacksChildren clone rest read new
 
-  -- the first is read, or nothing was left to be read
+  -- The first is read, or nothing was left to be read.
   abbrev pub ReadsNextBy : List (Spec R) → Option (Outcome R E) → List (Spec R) → Type 0
   ReadsNextBy old None new = (old ≡ []) × (new ≡ [])
   ReadsNextBy old (Some read) new = ReadsFirstBy old read new
 
 module _ {C S P A R E : Type 0} (files : FileSystem.Ghosts S) (clone : Clone.Ghosts R) (counts : Given R E → Type 0) where
-  -- the same, where a job's readings are known over all that counts as given
+  -- the same, for a job whose readings are known over all that counts as given
   abbrev pub ReadsFirst : Job C S P A R E → List (Spec R) → Outcome R E → List (Spec R) → Type 0
   ReadsFirst job = ReadsFirstBy clone (IsGivenOver files counts job) (greatest_depth job)
 
   abbrev pub ReadsNext : Job C S P A R E → List (Spec R) → Option (Outcome R E) → List (Spec R) → Type 0
   ReadsNext job = ReadsNextBy clone (IsGivenOver files counts job) (greatest_depth job)
 
-  -- It is a reading of its directory, and with it stand the directories of its list, with clones of their states.
+  -- It is a reading of its directory, and comes with the directories of its list, with clones of their states.
   pub record IsSoundOver (job : Job C S P A R E) (made : Read C A R E × List (Spec R)) : Type 0 where
     pub reading : IsReadingOver files counts job (spec_of made.0) (outcome made.0.outcome)
     pub clones : AreClones clone.is_clone (children_of (outcome made.0.outcome)) made.1
 
--- Whatever the file system answers: it is a lawful outcome of its directory, its list fits in memory, and with it stand the directories of its list, with clones of their states.
+-- Whatever the file system returns, it is a lawful outcome of its directory, and its list fits in memory. It comes with the directories of its list, with clones of their states.
 pub record IsMade {C S P A R E : Type 0} (clone : Clone.Ghosts R) (job : Job C S P A R E) (made : Read C A R E × List (Spec R)) : Type 0 where
   pub lawful : IsLawfulReading (greatest_depth job) (spec_of made.0) (outcome made.0.outcome)
   pub few : length (list_of (outcome made.0.outcome)) < 2 ^ 64
   pub clones : AreClones clone.is_clone (children_of (outcome made.0.outcome)) made.1
 
--- it is the reading of the definition over what is given
+-- It is the reading of the definition over what is given.
 abbrev pub MadeAsGiven : {C S P A R E : Type 0} → FileSystem.Ghosts S → Given R E → Job C S P A R E → Read C A R E × List (Spec R) → Type 0
 MadeAsGiven files given job made = IsAsGiven files given job (spec_of made.0) (outcome made.0.outcome)
 
 module _ {C S P A R E : Type 0} (files : FileSystem.Ghosts S) (process : ProcessReadDir.Ghosts P C A R E) (clone : Clone.Ghosts R) (defaults : Default.Ghosts E) where
-  -- by value over a steady job
+  -- It is sound, as a value over a steady job.
   abbrev pub IsSound : Job C S P A R E → Read C A R E × List (Spec R) → Type 0
   IsSound job = IsSoundOver files clone (IsSteadyJob files process clone defaults job) job
 
-  -- Over what is given the job is steady, and the readings that were made before are as the definition has them.
+  -- Over what is given the job is steady, and the readings that were made before are what the definition gives.
   pub record IsSteadyWith (job : Job C S P A R E) (made : List (Read C A R E × List (Spec R))) (given : Given R E) : Type 0 where
     pub steady : IsSteadyJob files process clone defaults job given
     pub early : All (MadeAsGiven files given job) made
 
-  -- Some readings are made, so many at most, and what is to be read stays the same.
+  -- Some readings are made, at most this many, and what is to be read stays the same.
   pub record ReadsSome (job : Job C S P A R E) (width : ℕ) (old new : ToGive (Read C A R E) (Spec R)) : Type 0 where
     pub readings : List (Read C A R E × List (Spec R))
     pub few : length readings ≤ width

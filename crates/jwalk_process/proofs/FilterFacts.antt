@@ -45,7 +45,7 @@ module _ {R E : Type 0} (answers : ℕ → Bor (List ℕ) → FileType → Bool 
     by_test (Ok e) b k = is e.depth k.1 e.file_type b k.0 k.3 k.4 ∙ ap (λ n. test e.depth n e.file_type) k.2
     by_test (Err f) b k = k
 
-    -- where every answer is a test's, that filters
+    -- if every answer is that of a test, the list is filtered by it
     pub left-filtered_list : (depth : Option ℕ) (old new : List (Item R E)) → IsLeft answers depth old new → new ≡ filtered_list test depth old
     left-filtered_list None old new h = h
     left-filtered_list (Some depth) old new h = filter_from_retain {P = Unit {0}} (λ _ item b _. IsAnswered answers item b) (stays test) (λ _ x b _ k. by_test x b k) tt old new h

@@ -8,7 +8,7 @@ use Rattle.walk_model.specs.Entry.{Item}
 use Rattle.walk_model.specs.Counted.{entry_by, item_by, reading_by}
 use Rattle.jwalk_process.specs.SkipNames.{is_one_of, skipped_item, skips}
 
--- what holds at every answer holds at an `Ok`
+-- what holds of every result holds of an `Ok`
 pub on_ok : {T F : Type 0} {P : Type 0} (r : Result T F) → P → OnOk r P
 on_ok (Ok x) p = p
 on_ok (Err e) p = tt

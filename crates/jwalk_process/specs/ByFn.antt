@@ -13,12 +13,12 @@ abbrev pub is_at : {R E : Type 0} → ℕ → Item R E → Bool
 is_at depth (Ok e) = e.depth == depth
 is_at depth (Err f) = true
 
--- Of a list that was left, the errors and the entries at a depth are kept: all of it, where every entry is at that depth.
+-- The errors and the entries at a depth are kept of a list that was left: all of it, if every entry is at that depth.
 pub record Keeps {R E X : Type 0} (item : X → Item R E) (depth : ℕ) (left kept : List X) : Type 0 where
   pub at_depth : kept ≡ filter (λ x. is_at depth (item x)) left
   pub all : AtDepth depth (map item left) → kept ≡ left
 
--- What may be called makes of every list what is given, unless memory runs out.
+-- A call makes of every list what is given, unless memory runs out.
 abbrev pub MakesBy : {R E L : Type 0} → (L → List (Item R E)) → (Option ℕ → List ℕ → R → L → Result (Unit {0}) AllocError → R → L → Type 0) → Given R E → Type 0
 MakesBy {R} {E} {L} items gives given =
     (depth : Option ℕ) (path : List ℕ) (state state' : R) (list list' : L) (answer : Result (Unit {0}) AllocError)

@@ -25,7 +25,7 @@ module _ {R E : Type 0} (test : Test) where
   stays (Ok e) = test e.depth e.file_name e.file_type
   stays (Err f) = true
 
-  -- The root's list stays as it is; of every other list, what stays is left.
+  -- The root's list stays as it is. Of every other list, what stays is left.
   abbrev pub filtered_list : Option ℕ → List (Item R E) → List (Item R E)
   filtered_list None list = list
   filtered_list (Some depth) list = filter stays list
@@ -43,12 +43,12 @@ module _ {R E : Type 0} (test : Test) where
   all_left depth (Ok e ∷ l) h = left_at depth e (stays (Ok e)) (filter stays l) h.0 (all_left depth l h.1)
   all_left depth (Err f ∷ l) h = all_left depth l h
 
-  -- an entry keeps its depth
+  -- An entry keeps its depth.
   pub filters-KeepsDepthsOf : KeepsDepthsOf filters
   filters-KeepsDepthsOf None path state list h = h
   filters-KeepsDepthsOf (Some depth) path state list h = all_left (list_depth (Some depth)) list h
 
--- What is given where entries are kept by a test, and states count as nothing.
+-- What is given if entries are kept by a test, and states count as nothing.
 abbrev pub filtering : {R E : Type 0} → Test → Given R E
 filtering test = record {
   read_dir_state = λ _. blank;
@@ -59,26 +59,26 @@ filtering test = record {
 }
 
 module _ (answers : ℕ → Bor (List ℕ) → FileType → Bool → Type 0) where
-  -- every answer, at what a depth and a name may be, is that of a test
+  -- Every answer is that of a test, for each depth and name that there can be.
   abbrev pub IsTest : Test → Type 0
   IsTest test = (depth : ℕ) (name : Bor (List ℕ)) (type : FileType) (answer : Bool) → depth < 2 ^ 64 → IsUtf8 name.now → answers depth name type answer → answer ≡ test depth name.now type
 
-  -- the callback makes of lists what is given: its answers are those of a test, by which what is given filters
+  -- The callback makes of lists what is given: its answers are those of a test, and what is given filters by it.
   abbrev pub FiltersAs : {R E : Type 0} → Given R E → Type 0
   FiltersAs given = (test : Test) × IsTest test
       × ((depth : Option ℕ) (path : List ℕ) (state : _) (list : _) → given.processed depth path state list ≡ filters test depth path state list)
 
   module _ {R E : Type 0} where
-    -- whether an item stays is an answer where it is an entry; an error stays
+    -- An answer says whether an entry stays. An error stays.
     abbrev pub IsAnswered : Item R E → Bool → Type 0
     IsAnswered (Ok e) answer = (e.depth < 2 ^ 64) × (name : Bor (List ℕ)) × (name.now ≡ e.file_name) × IsUtf8 name.now × answers e.depth name e.file_type answer
     IsAnswered (Err f) answer = answer ≡ true
 
-    -- those items are left, in order, that stay by such answers
+    -- Only the items that stay by such answers are left, in order.
     abbrev pub IsFilteredBy : List (Item R E) → List (Item R E) → Type 0
     IsFilteredBy old new = IsFiltered {P = Unit {0}} (λ _ item answer _. IsAnswered item answer) tt old new
 
-    -- The root's list stays as it is; every other is filtered so.
+    -- The root's list stays as it is. Every other one is filtered so.
     abbrev pub IsLeft : Option ℕ → List (Item R E) → List (Item R E) → Type 0
     IsLeft None old new = new ≡ old
     IsLeft (Some depth) old new = IsFilteredBy old new

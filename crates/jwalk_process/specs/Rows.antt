@@ -52,7 +52,7 @@ targets_skipped : skips (codes ".git" ∷ codes "target" ∷ []) (Some 0) (codes
     ≡ left (fault ∷ entry (codes "target") File false ∷ entry (codes "target") Dir false ∷ entry (codes "src") Dir true ∷ [])
 targets_skipped = refl
 
--- a name is no part of a longer one, and letters differ from capitals
+-- a name is no part of a longer one, and upper case differs from lower case
 others_not_skipped : skips (codes "tar" ∷ codes "SRC" ∷ codes "targets" ∷ []) (Some 0) (codes "/r") tt items ≡ left items
 others_not_skipped = refl
 
@@ -92,7 +92,7 @@ walk_that_filters : walk_with (filters no_target) (codes "/r")
 unfolding whole_walk below digits
 walk_that_filters = refl
 
--- a root is entered, and answered, whatever its name
+-- a root is entered, and yielded, whatever its name
 walk_from_a_skipped_name : walk_with (skips (codes "target" ∷ [])) (codes "/r/target") ≡ codes "0 d /r/target\n" ∷ codes "1 f /r/target/o\n" ∷ []
 unfolding whole_walk below digits
 walk_from_a_skipped_name = refl
@@ -101,7 +101,7 @@ walk_from_a_dropped_name : walk_with (filters no_target) (codes "/r/target") ≡
 unfolding whole_walk below digits
 walk_from_a_dropped_name = refl
 
--- A callback that skips makes of lists what `skipping` gives, and one whose answers are a test's what `filtering` gives.
+-- A callback that skips makes of lists what `skipping` gives. One whose answers are those of a test makes what `filtering` gives.
 skipping_is_made : (R E : Type 0) {A : Type 0} (it : SkipNames A) → Skips {R = R} {E = E} it (skipping (names_of it))
 skipping_is_made R E it depth path state list = refl
 

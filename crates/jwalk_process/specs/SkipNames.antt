@@ -1,4 +1,4 @@
--- Directories that are answered and not entered, by their names.
+-- Directories that are yielded and not entered, by their names.
 use Rattle.std.specs.Prelude.{◌≡◌, ℕ, Bool, true, false, List, [], ◌∷◌, map, Option, Some, None, Ok, Err, if◌then◌else◌, cond, bytes_eq, string_bytes, refl}
 use Rattle.std.specs.List.{list_any}
 use Rattle.walk_model.specs.Entry.{Entry, Item, AtDepth}
@@ -26,7 +26,7 @@ module _ {R E : Type 0} (names : List (List ℕ)) where
   skipped_item (Ok e) = Ok (skipped e)
   skipped_item (Err f) = Err f
 
-  -- The root's list stays as it is; of every other list, what has one of these names isn't entered.
+  -- The root's list stays as it is. Of every other list, what has one of these names isn't entered.
   abbrev pub skipped_list : Option ℕ → List (Item R E) → List (Item R E)
   skipped_list None list = list
   skipped_list (Some depth) list = map skipped_item list
@@ -44,12 +44,12 @@ module _ {R E : Type 0} (names : List (List ℕ)) where
   all_kept depth (Ok e ∷ l) h = rw (depth_kept e (is_one_of names e.file_name)) (h.0, all_kept depth l h.1)
   all_kept depth (Err f ∷ l) h = all_kept depth l h
 
-  -- an entry keeps its depth
+  -- An entry keeps its depth.
   pub skips-KeepsDepthsOf : KeepsDepthsOf skips
   skips-KeepsDepthsOf None path state list h = h
   skips-KeepsDepthsOf (Some depth) path state list h = all_kept (list_depth (Some depth)) list h
 
--- What is given where directories of these names aren't entered, and states count as nothing.
+-- What is given if directories of these names aren't entered, and states count as nothing.
 abbrev pub skipping : {R E : Type 0} → List (List ℕ) → Given R E
 skipping names = record {
   read_dir_state = λ _. blank;
@@ -59,6 +59,6 @@ skipping names = record {
   new_entry = blank;
 }
 
--- the callback makes of lists what is given
+-- The callback makes of lists what is given.
 abbrev pub Skips : {A R E : Type 0} → SkipNames A → Given R E → Type 0
 Skips it given = (depth : Option ℕ) (path : List ℕ) (state : _) (list : _) → given.processed depth path state list ≡ skips (names_of it) depth path state list

@@ -1,4 +1,4 @@
--- Facts on lists that are gathered.
+-- Facts about lists that are gathered.
 use Rattle.std.proofs.Common.{◌≡◌, ◌++◌, List, [], ◌∷◌, Result, map, ap, ◌∙◌, append-nil, option_to_list}
 use Rattle.std.proofs.lemmas.Grind.{flat_map-append}
 use Rattle.std.proofs.lemmas.List.{map-append}

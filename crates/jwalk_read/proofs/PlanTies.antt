@@ -10,7 +10,7 @@ use Rattle.read_parts.specs.declared.read_dir_spec.ReadDirSpec.{ReadDirSpec}
 use Rattle.read_parts.specs.ReadDirSpec.{spec}
 use Rattle.read_parts.specs.Given.{Given, counted_spec, counted_outcome, ClonesCount}
 
--- where clones count as what they were made of, clones of an outcome's directories are those of what it counts as
+-- where clones count as their originals, clones of an outcome's directories are those of what it counts as
 pub counted_directories : {C A R E : Type 0} (clone : Clone.Ghosts R) (given : Given R E) (outcome : Outcome R E) (value : Outcome Worth Worth) (specs : List (ReadDirSpec C A R E))
     → ClonesCount clone given → counted_outcome given outcome ≡ value → AreClones clone.is_clone (children_of outcome) (map spec specs) → map (λ s. counted_spec given (spec s)) specs ≡ children_of value
 counted_directories clone given outcome value specs count is clones =

@@ -1,4 +1,4 @@
--- A job seen as a value, and what its readings are.
+-- A job as a value, and what its readings are.
 use Rattle.std.specs.Prelude.{◌≡◌, ◌<◌, ◌^◌, ℕ, length}
 use Rattle.std.specs.declared.clone.Clone as Clone
 use Rattle.std.specs.declared.default.Default as Default
@@ -34,37 +34,37 @@ job_by files given job = record {
   default = given.new_entry;
 }
 
--- Over what is given the outcome is the reading of the definition.
+-- Over what is given, the outcome is the reading of the definition.
 abbrev pub IsAsGiven : {C S P A R E : Type 0} → FileSystem.Ghosts S → Given R E → Job C S P A R E → Spec R → Outcome R E → Type 0
 IsAsGiven files given job spec outcome = counted_outcome given outcome ≡ value.reading (job_by files given job) (counted_spec given spec)
 
--- The outcome is a reading of the directory: lawful whatever the file system answers, a list that fits in memory, and what is known of a reading of this directory.
+-- The outcome is a reading of the directory: lawful whatever the file system returns, with a list that fits in memory, and with what is known of a reading of this directory.
 pub record IsReadingBy {R E : Type 0} (known : Spec R → Outcome R E → Type 0) (max_depth : ℕ) (spec : Spec R) (outcome : Outcome R E) : Type 0 where
   pub lawful : IsLawfulReading max_depth spec outcome
   pub few : length (list_of outcome) < 2 ^ 64
   pub value : known spec outcome
 
 module _ {C S P A R E : Type 0} (files : FileSystem.Ghosts S) (counts : Given R E → Type 0) (job : Job C S P A R E) where
-  -- Over all that counts as given it is the reading of the definition.
+  -- Over all that counts as given, it is the reading of the definition.
   abbrev pub IsGivenOver : Spec R → Outcome R E → Type 0
   IsGivenOver spec outcome = (given : Given R E) → counts given → IsAsGiven files given job spec outcome
 
-  -- A reading of which that is known.
+  -- A reading of which this is known.
   abbrev pub IsReadingOver : Spec R → Outcome R E → Type 0
   IsReadingOver = IsReadingBy IsGivenOver (greatest_depth job)
 
 module _ {C S P A R E : Type 0} (files : FileSystem.Ghosts S) (process : ProcessReadDir.Ghosts P C A R E) (clone : Clone.Ghosts R) (defaults : Default.Ghosts E) where
-  -- What a walk works with is as it is given: its file system is fixed, its callback makes of lists what is said, and clones and defaults count so.
+  -- What a walk works with is as given: its file system is fixed, its callback makes of lists what is given, and clones and defaults count as given.
   pub record IsSteady (fs : S) (it : P) (given : Given R E) : Type 0 where
     pub file_system : files.IsFixed fs
     pub callback : process.Makes it given
     pub clones : ClonesCount clone given
     pub default : DefaultsCount defaults given
 
-  -- that of a job is
+  -- the same of what a job works with
   abbrev pub IsSteadyJob : Job C S P A R E → Given R E → Type 0
   IsSteadyJob job given = IsSteady (file_system job) (callback job) given
 
-  -- A reading of the directory, by value over a steady job.
+  -- A reading of the directory, as a value over a steady job.
   abbrev pub IsReadingOf : Job C S P A R E → Spec R → Outcome R E → Type 0
   IsReadingOf job = IsReadingOver files (IsSteadyJob job) job

@@ -13,7 +13,7 @@ tree_of job = record {
   height = λ spec. job.options.max_depth - spec.depth;
 }
 
--- the readings of jobs' trees, without their addresses, are those that a walk goes over, in its order
+-- The readings of jobs' trees, without their addresses, are those that a walk goes over, in its order.
 abbrev pub TreesAreWalked : Type 0 → Type 0 → Type 0
 TreesAreWalked R E = (job : Job R E) (roots : List (Spec R)) →
     map (λ x. x.value) (readings_in_preorder (tree_of job) roots) ≡ preorder (reading job) job.options.max_depth roots

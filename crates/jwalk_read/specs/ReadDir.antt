@@ -1,4 +1,4 @@
--- Readings seen as values.
+-- Readings as values.
 use Rattle.std.specs.Prelude.{map, Result, Ok, Err}
 use Rattle.walk_model.specs.ReadDir.{Reading, Outcome}
 use Rattle.jwalk_read.specs.declared.read_dir.ReadDir.{ReadDir}

@@ -1,4 +1,4 @@
--- Lists that a callback makes as is given.
+-- Lists that a callback makes as given.
 use Rattle.std.proofs.Common.{◌≡◌, ℕ, List, [], ◌∷◌, Option, Result, Ok, Err, map, ap, sym, ◌∙◌}
 use Rattle.std.specs.Prelude.{OnOk}
 use Rattle.walk_model.specs.Entry.{Item, AtDepth}

@@ -12,7 +12,7 @@ module _ {X : Type 0} (f : X → List ℕ) where
   bytes_pointwise (x ∷ xs) [] = refl
   bytes_pointwise (x ∷ xs) (y ∷ ys) = ap (λ t. pointwise nat_eq (f x) (f y) && t) (bytes_pointwise xs ys)
 
-  -- they are the same exactly where the comparison says so
+  -- they are the same exactly if the comparison says so
   pub same_texts : (l m : List X) (a b : List (List ℕ)) (r : Bool) → r ≡ pointwise (λ x y. pointwise nat_eq (f x) (f y)) l m → map f l ≡ a → map f m ≡ b → Decides r (a ≡ b)
   same_texts l m a b r e p q =
       rw (← p, ← q) (slice_eq-Decides (λ x y. slice_eq-Decides Decides-eqb x y _ refl) (map f l) (map f m) r (e ∙ bytes_pointwise l m))

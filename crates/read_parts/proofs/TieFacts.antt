@@ -1,4 +1,4 @@
--- A stable sort by a number of each name leaves what ties by name as it stood.
+-- A stable sort by a number of each name leaves what ties by name in its order.
 use Rattle.std.proofs.Common.{◌≡◌, ℕ, Bool, true, false, cond, not, ◌&&◌, List, [], ◌∷◌, drop, Ok, Err, refl, sym, ap, ◌∙◌}
 use Rattle.std.specs.List.{filter}
 use Rattle.std.specs.List.Sorted.{IsStableBy, IsStableByKey, ties}

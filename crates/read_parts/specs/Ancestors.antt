@@ -1,4 +1,4 @@
--- The directories above an entry, seen as their paths.
+-- The directories above an entry, as their paths.
 use Rattle.std.specs.Prelude.{ℕ, List, [], map, Option, None, Some, String, Vec}
 use Rattle.std.specs.Arc.{arc_value}
 use Rattle.std.specs.declared.sync.Arc.{Arc}
@@ -9,6 +9,6 @@ abbrev paths_of : {A : Type 0} → Option (Arc (Vec (Arc (String A) A) A) A) →
 paths_of None = []
 paths_of (Some paths) = map text (arc_value paths).items
 
--- the paths, that of the root first: none where there is no list
+-- the paths, that of the root first: none if there is no list
 abbrev pub texts : {A : Type 0} → Ancestors A → List (List ℕ)
 texts ancestors = paths_of ancestors.paths

@@ -1,4 +1,4 @@
--- Entries seen as values.
+-- Entries as values.
 use Rattle.std.specs.Prelude.{option_map, Result, Ok, Err, string_bytes}
 use Rattle.walk_model.specs.Entry as value
 use Rattle.walk_model.specs.Entry.{Children, Item}

@@ -1,4 +1,4 @@
--- Errors seen as values: an `io::Error` counts by its kind alone.
+-- Errors as values: an `io::Error` counts only by its kind.
 use Rattle.std.specs.Prelude.{ℕ, List, [], ◌++◌, Option, Some, None, option_map, unwrap_or, codes}
 use Rattle.std.specs.IoError.{error_kind}
 use Rattle.std.specs.declared.io.ErrorKind.{ErrorKind}
@@ -21,7 +21,7 @@ inner_failure depth Lost = value.lost
 abbrev pub failure : {A : Type 0} → Error A → Failure
 failure e = inner_failure e.depth e.inner
 
--- the depth of an error: 0 where it has none
+-- the depth of an error: 0 if it has none
 abbrev pub depth_of : Failure → ℕ
 depth_of (value.io depth path kind) = depth
 depth_of (value.looped depth ancestor child) = depth
@@ -29,7 +29,7 @@ depth_of value.busy = 0
 depth_of value.memory = 0
 depth_of value.lost = 0
 
--- its path: of a loop that of the link
+-- its path: for a loop, that of the link
 abbrev pub path_of : Failure → Option (List ℕ)
 path_of (value.io depth path kind) = path
 path_of (value.looped depth ancestor child) = Some child
@@ -37,7 +37,7 @@ path_of value.busy = None
 path_of value.memory = None
 path_of value.lost = None
 
--- of a loop, the directory that the link leads back to
+-- for a loop, the directory that the link leads back to
 abbrev pub ancestor_of : Failure → Option (List ℕ)
 ancestor_of (value.io depth path kind) = None
 ancestor_of (value.looped depth ancestor child) = Some ancestor
@@ -53,7 +53,7 @@ kind_of value.busy = None
 kind_of value.memory = None
 kind_of value.lost = None
 
--- that kind, or `Other` where it has none
+-- that kind, or `Other` if it has none
 abbrev pub kind_or_other : Failure → ErrorKind
 kind_or_other f = unwrap_or (kind_of f) Other
 
@@ -61,7 +61,7 @@ kind_or_other f = unwrap_or (kind_of f) Other
 abbrev pub loop_text : List ℕ → List ℕ → List ℕ
 loop_text child ancestor = codes "File system loop found: " ++ child ++ codes " points to an ancestor " ++ ancestor
 
--- the text of an error; that of an `io::Error` ends in its own text, which is given
+-- the text of an error, where that of an `io::Error` ends in its own text, which is given
 abbrev pub text_with : List ℕ → Failure → List ℕ
 text_with own (value.io depth (Some path) kind) = codes "IO error for operation on " ++ path ++ codes ": " ++ own
 text_with own (value.io depth None kind) = own

@@ -1,4 +1,4 @@
--- What a promise on values takes to be given.
+-- What a promise about values takes as given.
 use Rattle.std.specs.Prelude.{◌≡◌, ℕ, List, Option, Result, map}
 use Rattle.std.specs.declared.clone.Clone as Clone
 use Rattle.std.specs.declared.default.Default as Default
@@ -34,17 +34,17 @@ module _ {R E : Type 0} (given : Given R E) where
   abbrev pub counted_outcome : Outcome R E → Outcome Worth Worth
   counted_outcome = outcome_by given.read_dir_state given.dir_entry_state
 
-  -- a call made of a state and a list what the callback makes of them
+  -- A call made of a state and a list what the callback makes of them.
   abbrev pub IsProcessed : Option ℕ → List ℕ → R → List (Item R E) → R → List (Item R E) → Type 0
   IsProcessed depth path state list state' list' =
       given.processed depth path (given.read_dir_state state) (map counted_item list)
       ≡ record { state = given.read_dir_state state'; list = map counted_item list' }
 
--- a clone counts as what it was made of
+-- A clone counts as its original.
 abbrev pub ClonesCount : {R E : Type 0} → Clone.Ghosts R → Given R E → Type 0
 ClonesCount {R} clone given = (x y : R) → clone.is_clone x y → given.read_dir_state y ≡ given.read_dir_state x
 
--- a default counts as the state of a new entry
+-- A default counts as the state of a new entry.
 abbrev pub DefaultsCount : {R E : Type 0} → Default.Ghosts E → Given R E → Type 0
 DefaultsCount {E = E} default given = (x : E) → default.is_default x → given.dir_entry_state x ≡ given.new_entry
 
@@ -52,6 +52,6 @@ DefaultsCount {E = E} default given = (x : E) → default.is_default x → given
 abbrev pub counted_list : {C A R E : Type 0} → Given R E → List (Result (DirEntry C A R E) (Error A)) → List (Item Worth Worth)
 counted_list given l = map (counted_item given) (map item l)
 
--- lists stay as they are, and states too
+-- Lists stay as they are, and states too.
 abbrev pub KeepsLists : {R E : Type 0} → Processing R E → Type 0
 KeepsLists {R} {E} processed = (depth : Option ℕ) (path : List ℕ) (state : R) (list : List (Item R E)) → processed depth path state list ≡ record { state = state; list = list }

@@ -1,4 +1,4 @@
--- The options of a walk seen as a value.
+-- The options of a walk as a value.
 use Rattle.std.specs.Prelude.{ℕ, Bool, ◌==◌, if◌then◌else◌}
 use Rattle.walk_model.specs.Options as value
 use Rattle.walk_model.specs.Options.{serial, batches, crew, defaults}
@@ -6,13 +6,13 @@ use Rattle.read_parts.specs.declared.mode.Mode.{Mode}
 use Rattle.read_parts.specs.declared.mode.Mode.TheVariants.{Serial, Batches, Crew}
 use Rattle.read_parts.specs.declared.options.Options.{Options}
 
--- how directories are read, as a value: a width of 0 stands for 8
+-- how directories are read, as a value: a width of 0 means 8
 abbrev pub mode_value : Mode → value.Parallelism
 mode_value Serial = serial
 mode_value (Batches n) = batches (if n == 0 then 8 else n)
 mode_value Crew = crew
 
--- how many directories are read together: one by a serial walk, and by each worker of a crew
+-- how many directories are read together: one by a serial walk, and one by each worker of a crew
 abbrev pub width_of : value.Parallelism → ℕ
 width_of serial = 1
 width_of (batches n) = n
@@ -28,7 +28,7 @@ options_value it = record {
   parallelism = mode_value it.mode;
 }
 
--- the options that readings go by
+-- the options that readings use
 abbrev pub reads_by : Bool → Bool → Bool → ℕ → value.Options
 reads_by sort skip_hidden follow_links max_depth =
     record defaults { sort = sort; skip_hidden = skip_hidden; follow_links = follow_links; max_depth = max_depth }

@@ -1,4 +1,4 @@
--- A directory to be read, seen as a value.
+-- A directory to be read, as a value.
 use Rattle.walk_model.specs.ReadDir.{Spec}
 use Rattle.read_parts.specs.declared.read_dir_spec.ReadDirSpec.{ReadDirSpec}
 use Rattle.read_parts.specs.Text.{text}

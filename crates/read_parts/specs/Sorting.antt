@@ -3,11 +3,11 @@ use Rattle.std.specs.Prelude.{ℕ, ◌-◌, ◌^◌, List, ◌++◌, length, tak
 use Rattle.std.specs.Int.{from_be_bytes, w64}
 use Rattle.walk_model.specs.Entry.{Item}
 
--- the first eight bytes as a number, the missing ones zero
+-- the first eight bytes as a number, where missing ones are zero
 abbrev pub number : List ℕ → ℕ
 number bytes = from_be_bytes w64 (take 8 bytes ++ replicate (8 - length bytes) 0)
 
--- that of an entry's name from a place on; of an error the greatest number
+-- the number of an entry's name from a place on; the greatest number for an error
 abbrev pub key_of : {R E : Type 0} → ℕ → Item R E → ℕ
 key_of from (Ok e) = number (drop from e.file_name)
 key_of from (Err f) = 2 ^ 64 - 1

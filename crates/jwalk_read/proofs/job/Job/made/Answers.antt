@@ -13,7 +13,7 @@ use Rattle.read_parts.specs.Given.{counted_entry}
 use Rattle.jwalk_read.specs.Job.{job_by}
 use Rattle.jwalk_read.proofs.job.Job.made.Goals as goal
 
--- an entry that is given a directory where it is one
+-- an entry that is given a directory if it is one
 placed : {R E : Type 0} (dir : Bool) (bare : Entry R E) (path : List ℕ) → bare.read_children ≡ None → cond dir (record bare { read_children = children_at true path }) bare ≡ record bare { read_children = children_at dir path }
 placed true bare path none = refl
 placed false bare path none = ap (λ c. record bare { read_children = c }) none

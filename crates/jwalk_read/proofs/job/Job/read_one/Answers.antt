@@ -11,7 +11,7 @@ use Rattle.jwalk_read.specs.Job.{file_system, greatest_depth, IsReadingOf}
 use Rattle.jwalk_read.proofs.ReadingFacts.{not_read, was_listed}
 use Rattle.jwalk_read.proofs.job.Job.read_one.Goals as goal
 
--- a directory that is read stands above the greatest depth
+-- a directory that is read is above the greatest depth
 is_higher : {asked depth : ℕ} {reads : Bool} (greatest : ℕ) → asked ≡ depth → IsTrue reads ↔ (asked < greatest) → reads ≡ true → depth < greatest
 is_higher greatest same test is = subst (λ d. d < greatest) same (test.0 is)
 

@@ -17,7 +17,7 @@ still_refused : {X Y F E : Type 0} (h : X → Y) (view : F → E) (met : Result 
 still_refused h view (Ok x) e is = cc
 still_refused h view (Err k) e is = cc
 
--- the link's entry once what stands behind it is met
+-- the link's entry once what is behind it is met
 met_behind : {R E : Type 0} (view : R → Worth) (mark : E → Worth) (job : Job Worth Worth) (e made : Entry R E) (m : Metadata) (path : List ℕ) → is_symlink e.file_type ≡ true → path ≡ path_of e → job.fs.meta_of (path_of e) ≡ Ok m
     → made ≡ cond (is_dir (type_of m)) (record e { read_children = children_at true path }) e → Ok (entry_by view mark made) ≡ with_target job (entry_by view mark e)
 met_behind view mark job e made m path link at met is =

@@ -7,7 +7,7 @@ use Rattle.walk_model.specs.Job.{looped_to}
 use Rattle.read_parts.specs.Text.{text}
 use Rattle.read_parts.proofs.ancestors.Ancestors.nearest.Goals as goal
 
--- the last of a list, where that is the same path, and else what is found before it
+-- the last of a list, if it is the same path, and else what is found before it
 last_first : {X : Type 0} (f : X → List ℕ) (target : List ℕ) (xs rest : List X) (x : X) → xs ≡ rest ++ x ∷ [] → looped_to target (map f xs) ≡ cond (same_path target (f x)) (Some (f x)) (looped_to target (map f rest))
 last_first f target xs rest x is =
     ap (λ l. looped_to target (map f l)) is
