@@ -36,7 +36,7 @@ or_true false = refl
 parent_address-child : (a : List ℕ) (i : ℕ) → parent_address (a ++ i ∷ []) ≡ a
 parent_address-child a i = take_at a (i ∷ []) (length (a ++ i ∷ []) - 1) (omega (arith, length-append a (i ∷ [])))
 
--- What is among the list is so often.
+-- An address that is in the list at least once is among it.
 is_among-some : (a : List ℕ) (xs : List (List ℕ)) → 0 < times a xs → is_among a xs ≡ true
 is_among-some a xs h = lt-ltb 0 (times a xs) h
 
@@ -53,7 +53,7 @@ module _ (S : Type 0) where
   map_replicate (suc n) = ap (λ z. None ∷ z) (map_replicate n)
 
 module _ {V : Type 0} where
-  -- An address that stands there has a value.
+  -- An address that is there has a value.
   value_there : (a : List ℕ) (xs : List (Addressed V)) → 0 < times a (addresses_of xs) → (x : Addressed V) × Contains xs x × (x.at ≡ a)
   value_there a [] h = absurd (omega arith)
   value_there a (x ∷ xs) h =
@@ -97,7 +97,7 @@ module _ {S R : Type 0} (t : PlanTree S R) where
   trees-numbered a i (s ∷ specs) = ap (λ z. subtree t (a ++ i ∷ []) s ++ z) (trees-numbered a (i + 1) specs)
 
   module _ (falls : Falls t) where
-    -- Each address of a frontier stands in its subtrees.
+    -- Each address of a frontier is in its subtrees.
     frontier_there : (a : List ℕ) (left : List (Addressed S)) → 0 < times a (addresses_of left) → 0 < times a (addresses_of (trees t left))
     frontier_there a [] h = absurd (omega arith)
     frontier_there a (x ∷ xs) h =
@@ -452,7 +452,7 @@ module _ {S R : Type 0} (t : PlanTree S R) where
             made = record { handed_out = st.made.handed_out ++ y ∷ []; taken = st.made.taken; board = m };
           })) (sym run) result
 
-      -- ---- what is answered
+      -- ---- what is returned
 
       pub matches_run : MatchesRun t roots r st.made
       matches_run =

@@ -89,7 +89,7 @@ find_none p [] h = refl
 find_none p (x ∷ xs) h =
     ap (λ b. cond b (Some x) (find p xs)) (h x (omega (arith, times-itself x xs))) ∙ find_none p xs (λ y n. h y (omega arith))
 
--- how often an address stands among those that pass
+-- how often an address is among those that pass
 pub times-filter : (p : List ℕ → Bool) (a : List ℕ) (xs : List (List ℕ)) → times a (filter p xs) ≡ cond (p a) (times a xs) 0
 times-filter p a [] = elim (p a) as (λ b. times a [] ≡ cond b (times a []) 0) [ true ↦ refl | false ↦ refl ]
 times-filter p a (x ∷ xs) =

@@ -14,7 +14,7 @@ use Rattle.jwalk_order.proofs.Sets.{among_cases}
 eqb-itself : (x : ℕ) → eqb x x ≡ true
 eqb-itself x = search arith
 
--- What lies below the two stands as they do.
+-- If one address is left of another, so is what lies below them.
 pub left-below : (a b s t : List ℕ) → is_left a b ≡ true → is_left (a ++ s) (b ++ t) ≡ true
 left-below [] b s t h = absurd (false≢true h)
 left-below (x ∷ a) [] s t h = absurd (false≢true h)
@@ -75,7 +75,7 @@ left_of-child a i [] h = tt
 left_of-child a i (y ∷ ys) h =
     (subst (λ z. is_left (a ++ i ∷ []) z ≡ true) (append-nil y) (left-below a y (i ∷ []) [] h.0), left_of-child a i ys h.1)
 
--- The children of an address may stand in its stead.
+-- The children of an address may take its place.
 pub apart_passed : (a : List ℕ) (i n : ℕ) (rest : List (List ℕ)) → IsLeftOf a rest → IsApart rest → IsApart (children_from i a n ++ rest)
 apart_passed a i zero rest h k = k
 apart_passed a i (suc n) rest h k = (

@@ -44,7 +44,7 @@ set_same [] k x e = refl
 set_same (y ∷ ys) zero x e = let d : y ≡ x = cc in ap (λ z. z ∷ ys) (sym d)
 set_same (y ∷ ys) (suc k) x e = ap (λ z. y ∷ z) (set_same ys k x e)
 
--- What an option holds where it holds something.
+-- What an option holds, if it holds something.
 pub some_is : {X : Type 0} (h : Option X) → is_some h ≡ true → (x : X) × (h ≡ Some x)
 some_is None e = absurd (false≢true e)
 some_is (Some x) e = (x, refl)

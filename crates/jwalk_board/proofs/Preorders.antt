@@ -1,4 +1,4 @@
--- What stands in a preorder.
+-- What is in a preorder.
 use Rattle.std.proofs.Common.{◌≡◌, ℕ, zero, suc, ◌+◌, ◌<◌, ◌≤◌, true, false, cond, List, [], ◌∷◌, ◌++◌, length, refl, sym, ap, ◌∙◌, arith, subst, ⊎_elim, ◌⊎◌, inl, inr, Contains, All, get_or, append_assoc, eqb, ltb, Less, Equal}
 use Rattle.std.proofs.lemmas.Bool.{false≢true, eqb-true, ltb-true}
 use Rattle.std.proofs.lemmas.List.{append-nil, map-append}
@@ -36,7 +36,7 @@ above-is_before (x ∷ a) i s =
 pub not_before-itself : (a : List ℕ) → is_before a a ≡ false
 not_before-itself a = ap (λ z. is_before z a) (sym (append-nil a)) ∙ not_before-below a []
 
--- The addresses stand in their order.
+-- The addresses are in order.
 abbrev pub IsAscending : List (List ℕ) → Type 0
 IsAscending [] = Unit {0}
 IsAscending (x ∷ xs) = ((y : List ℕ) → 0 < times y xs → is_before x y ≡ true) × IsAscending xs
@@ -283,7 +283,7 @@ module _ {S R : Type 0} (t : PlanTree S R) where
         forest_closed (subtree t) [] 0 roots
         (λ j d less b y there w inner. within_closed (suc (t.height (get_or roots j d))) b (get_or roots j d) (omega arith) y there w inner) x m z k
 
-    -- The children of an address stand in its forest.
+    -- The children of an address are in its forest.
     pub children_there : (a : List ℕ) (i : ℕ) (specs : List S) → All (λ z. Contains (forest (subtree t) a i specs) (node t z.at z.value)) (numbered a i specs)
     children_there a i [] = All-nil (λ z. Contains (forest (subtree t) a i []) (node t z.at z.value))
     children_there a i (s ∷ specs) =

@@ -1,4 +1,4 @@
--- What each step of a board answers and leaves.
+-- What each step of a board returns and leaves.
 use Rattle.std.proofs.Common.{◌≡◌, ◌≢◌, ℕ, ◌<◌, false, List, [], ◌∷◌, get_or, length, refl, sym, ap, ◌∙◌, arith, subst, ⊎_elim, ◌⊎◌, inl, inr}
 use Rattle.std.proofs.Math.Nat.{eq-zero-or-pos}
 use Rattle.std.proofs.lemmas.List.Elements.{All-head, All-tail}
@@ -86,7 +86,7 @@ module _ {T R : Type 0} where
         let f = front b.frontier h.some in
         whole_handed_out b (addressed item) ready frontier f.0 w (f.1 ∙ ap (λ z. z ∷ f.0) (sym h.next)) (ap (λ z. z.frontier) h.others) h.ready
 
-  -- The next address is on the board, so where it is not ready it is queued or in hand.
+  -- The next address is on the board, so if it is not ready it is queued or in hand.
   pub waits : (b : Board T R) → IsWhole b → b.frontier ≢ [] → times (next_address b.frontier) (addresses_of b.ready) ≡ 0
       → (0 < times (next_address b.frontier) (addresses_of b.queued)) ⊎ (0 < times (next_address b.frontier) b.in_hand)
   waits b w some none =

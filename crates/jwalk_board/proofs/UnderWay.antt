@@ -50,7 +50,7 @@ module _ {T R A : Type 0} where
           omega (arith, fewer, held, same, h.in_hand a);
     }
 
-  -- What a worker holds is refused for want of memory alone.
+  -- Finishing what a worker holds fails only because memory runs out.
   pub only_memory : (hands : List (Option (Ordered T A))) (b : Board T R) → IsUnderWay hands b → (k : ℕ) (item : Ordered T A) → slice_get hands k ≡ Some (Some item)
       → (cause : FinishRefusal) → RefusesFinish b (address_of item) cause → cause ≡ finishing.Memory
   only_memory hands b h k item holds finishing.Stopped refused = absurd (false≢true (sym h.running ∙ refused))

@@ -31,7 +31,7 @@ module _ {T R : Type 0} where
   abbrev pub on_board : Board T R → List (List ℕ)
   on_board b = addresses_of b.queued ++ (b.in_hand ++ addresses_of b.ready)
 
-  -- What holds of every board. What it holds is its frontier, and the children of what is ready.
+  -- What holds of every board. On it are its frontier, and the children of what is ready.
   pub record IsWhole (b : Board T R) : Type 0 where
     pub each : (a : List ℕ) → times a (on_board b) ≡ times a b.frontier + times a (child_addresses b.ready)
     pub once : (a : List ℕ) → times a (on_board b) ≤ 1
@@ -40,7 +40,7 @@ module _ {T R : Type 0} where
 
   -- What a caller may know of every board.
   pub record HoldsOpen (b : Board T R) : Type 0 where
-    -- No address stands twice: queued, in hand and ready are disjoint.
+    -- No address is there twice: queued, in hand and ready are disjoint.
     pub once : (a : List ℕ) → times a (on_board b) ≤ 1
     -- They are together the open addresses.
     pub open_addresses : (a : List ℕ) → IsAmong a (on_board b) ↔ IsOpen b.frontier b.ready a
@@ -70,7 +70,7 @@ module _ {T R : Type 0} where
       pub in_hand : IsPermutation (address_of item ∷ old.in_hand) new.in_hand
       pub others : new ≡ record old { queued = new.queued; in_hand = new.in_hand }
 
-    -- The item, that of the first address of the frontier, is no longer ready, the frontier passes it, and nothing else
+    -- The item of the first address of the frontier is no longer ready, the frontier passes it, and nothing else
     -- changes.
     pub record HandsOut (item : Ordered R A) (old new : Board T R) : Type 0 where
       pub running : old.stopped ≡ false
@@ -79,7 +79,7 @@ module _ {T R : Type 0} where
       pub ready : IsPermutation old.ready (addressed item ∷ new.ready)
       pub others : new ≡ record old { ready = new.ready; frontier = passed old.frontier (child_count_of item) }
 
-  -- The address goes from in hand to ready, with its reading and the count of its children, which are queued. Nothing
+  -- The address goes from in hand to ready, with its reading and the count of its children. These are queued. Nothing
   -- else changes.
   pub record Finishes (a : List ℕ) (reading : R) (children : List T) (old new : Board T R) : Type 0 where
     pub running : old.stopped ≡ false

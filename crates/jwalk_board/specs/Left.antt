@@ -1,4 +1,4 @@
--- Addresses that stand beside one another, none below the other.
+-- Addresses that lie beside one another, none below the other.
 use Rattle.std.specs.Prelude.{◌≡◌, ℕ, Bool, true, false, cond, ◌==◌, nat_lt, List, [], ◌∷◌}
 
 -- Where the two part, the first has the smaller index.

@@ -2,7 +2,7 @@
 use Rattle.std.specs.Prelude.{ℕ, zero, suc, ◌+◌, ◌<◌, List, [], ◌∷◌, ◌++◌, length, map, All}
 use Rattle.jwalk_order.specs.Addressed.{Addressed}
 
--- What a fixed plan answers.
+-- What a fixed plan returns for each specification.
 pub record PlanTree (S R : Type 0) : Type 0 where
   pub reading : S → R
   pub children : S → List S

@@ -1,4 +1,4 @@
--- What a list of moves does, over the addresses of a preorder alone.
+-- What a list of moves does, over only the addresses of a preorder.
 use Rattle.std.specs.Prelude.{ℕ, ◌+◌, Bool, cond, not, nat_lt, ◌&&◌, ◌||◌, ◌==◌, List, [], ◌∷◌, ◌++◌, length, slice_get, slice_set, replicate, Option, Some, None}
 use Rattle.std.specs.List.{find}
 use Rattle.jwalk_order.specs.Addresses.{times}
@@ -18,7 +18,7 @@ pub record Run : Type 0 where
 abbrev pub is_among : List ℕ → List (List ℕ) → Bool
 is_among a xs = nat_lt 0 (times a xs)
 
--- Nobody took it so far, and it stands at the top or right below a finished address.
+-- Nobody took it so far, and it is at the top or right below a finished address.
 abbrev pub is_queued : Run → List ℕ → Bool
 is_queued r a = not (is_among a r.taken) && ((length a == 1) || is_among (parent_address a) r.finished)
 

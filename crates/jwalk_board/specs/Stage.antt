@@ -19,7 +19,7 @@ module _ {T R S Q A : Type 0} (spec : T → S) (reading : R → Q) where
   abbrev pub stage_of : Stage T R A → State S Q
   stage_of stage = record { hands = map (option_map (seen_item spec)) stage.hands.items; made = rehearsed stage.done }
 
--- where what each worker holds stands
+-- the addresses of what each worker holds
 abbrev pub hands_of : {T A : Type 0} → List (Option (Ordered T A)) → List (Option (List ℕ))
 hands_of = map (option_map address_of)
 

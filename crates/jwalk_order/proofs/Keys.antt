@@ -38,7 +38,7 @@ remove_key-permutation f test a found (x ∷ xs) h =
           (IsPermutation-middle (f x ∷ []) a (map f (remove_key test xs)))
     ] refl h
 
--- A key passes the test exactly if its address stands in the list.
+-- A key passes the test exactly if its address is in the list.
 pub list_any-times : {K : Type 0} (f : K → List ℕ) (a : List ℕ) (ks : List K) → list_any (λ k. is_same a (f k)) ks ≡ true → 0 < times a (map f ks)
 list_any-times f a [] h = absurd (false≢true h)
 list_any-times f a (x ∷ xs) h =

@@ -1,4 +1,4 @@
--- How often an address stands in a list.
+-- How often an address is in a list.
 use Rattle.std.proofs.Common.{◌≡◌, ℕ, ◌+◌, ◌<◌, true, false, cond, List, [], ◌∷◌, ◌++◌, refl, sym, ap, ◌∙◌, arith, ◌⊎◌, inl, inr}
 use Rattle.std.specs.Cmp.{Equal-is}
 use Rattle.std.specs.Cmp.Lexicographic.{nat_list_cmp_total}
@@ -31,7 +31,7 @@ times-permutation a xs ys p = sym (by_sum a ys) ∙ sum_by-IsPermutation (λ x. 
 pub times-itself : (a : List ℕ) (xs : List (List ℕ)) → times a (a ∷ xs) ≡ 1 + times a xs
 times-itself a xs = ap (λ b. cond b 1 0 + times a xs) (is_same-itself a)
 
--- What stands in front, or else later.
+-- What is in front, or else later.
 pub among_cases : (a x : List ℕ) (xs : List (List ℕ)) → 0 < times a (x ∷ xs) → (x ≡ a) ⊎ (0 < times a xs)
 among_cases a x xs h =
     elim (is_same a x) as (λ b. is_same a x ≡ b → 0 < cond b 1 0 + times a xs → (x ≡ a) ⊎ (0 < times a xs)) [

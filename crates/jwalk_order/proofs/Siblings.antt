@@ -36,7 +36,7 @@ parent-child a i =
 pub last-child : (a : List ℕ) (i : ℕ) → last_index (a ++ i ∷ []) ≡ i
 last-child a i = get_or_push a i 0 (length (a ++ i ∷ []) - 1) (omega (arith, length_push a i))
 
--- What does not come before an address, has siblings behind it that don't either.
+-- What does not come before an address has siblings behind it that don't either.
 first_index : (i x : ℕ) (xs : List ℕ) → is_lt (ordering_then (nat_cmp i x) (slice_cmp nat_cmp [] xs)) ≡ false → is_lt (ordering_then (nat_cmp (i + 1) x) (slice_cmp nat_cmp [] xs)) ≡ false
 first_index i x xs h =
     ⊎_elim
@@ -105,7 +105,7 @@ module _ {X V : Type 0} (values : X → List V) where
       IsPermutation-keeps xs (λ zs. IsPermutation (all_siblings values xs) (all_siblings values zs)) (IsPermutation-refl _)
       (λ zs i j h k q. IsPermutation-trans _ _ _ q (moved zs i j h k)) ys p
 
-  -- Nothing stands before an address that no entry stands before.
+  -- Nothing comes before an address that no entry comes before.
   pub first-all_siblings : (b : List ℕ) (xs : List (Addressed X)) → All (AreSiblings values) xs → IsFirst b xs → IsFirst b (all_siblings values xs)
   first-all_siblings b [] are first = All-nil (λ y. is_before y.at b ≡ false)
   first-all_siblings b (x ∷ xs) are first =
@@ -116,21 +116,21 @@ module _ {X V : Type 0} (values : X → List V) where
       (first-numbered (parent_address x.at) (last_index x.at) b (values x.value) not_before)
       (first-all_siblings b xs (All-tail (AreSiblings values) x xs are) (All-tail (λ (y : Addressed X). is_before y.at b ≡ false) x xs first))
 
-  -- The first of an entry's values stands at its address.
+  -- The first of an entry's values is at its address.
   first_of-entry : (x : Addressed X) (v : V) (rest : List V) → AreSiblings values x → values x.value ≡ v ∷ rest
       → siblings values x ≡ record { at = x.at; value = v; child_count = 0 } ∷ numbered (parent_address x.at) (last_index x.at + 1) rest
   first_of-entry x v rest mine is =
       ap (numbered (parent_address x.at) (last_index x.at)) is
       ∙ ap (λ a. record { at = a; value = v; child_count = 0 } ∷ numbered (parent_address x.at) (last_index x.at + 1) rest) (parent_and_last x.at mine.below)
 
-  -- The others stand at the address of the next sibling.
+  -- The others are at the address of the next sibling.
   next-entry : (a : List ℕ) (y : X) (count : ℕ) → 0 < length a
       → siblings values (record { at = set a (length a - 1) (last_index a + 1); value = y; child_count = count }) ≡ numbered (parent_address a) (last_index a + 1) (values y)
   next-entry a y count some =
       ap (λ p. numbered p (last_index (set a (length a - 1) (last_index a + 1))) (values y)) (parent-set_last a (last_index a + 1))
       ∙ ap (λ i. numbered (parent_address a) i (values y)) (last-set_last a (last_index a + 1) some)
 
-  -- The first entry stands at the address of the first value.
+  -- The first entry is at the address of the first value.
   pub first_value : (x : Addressed X) (xs : List (Addressed X)) → AreSiblings values x → (v : V) × (rest : List (Addressed V)) × (all_siblings values (x ∷ xs) ≡ record { at = x.at; value = v; child_count = 0 } ∷ rest)
   first_value x xs mine = from (values x.value) refl mine.some
     where

@@ -1,4 +1,4 @@
--- What stands at the top of a heap by address.
+-- What is at the top of a heap by address.
 use Rattle.std.proofs.Common.{◌≡◌, ℕ, ◌-◌, ◌<◌, ◌≤◌, true, false, List, [], ◌∷◌, ◌++◌, map, get_or, length, length-append, refl, sym, ap, ◌∙◌, arith, subst, Less, Equal, Greater, Option, Some, None}
 use Rattle.std.proofs.lemmas.Bool.{false≢true}
 use Rattle.std.proofs.lemmas.Cmp.{tied_itself}
@@ -42,7 +42,7 @@ module _ {V A : Type 0} where
       → addressed item ≡ record { at = address path; value = value; child_count = count }
   addressed-is item path value count v p n = λ i. record { at = address (p i); value = v i; child_count = n i }
 
--- An address that does not come before another one does not come before one that the other does not come before.
+-- If b does not come before a, and c does not come before b, then c does not come before a.
 pub not_before-trans : (a b c : List ℕ) → is_before b a ≡ false → is_before c b ≡ false → is_before c a ≡ false
 not_before-trans a b c h k = go (slice_cmp nat_cmp c a) refl (slice_cmp nat_cmp b a) refl
   where
@@ -68,7 +68,7 @@ not_before-back a b h = go (slice_cmp nat_cmp a b) refl
 pub not_before-itself : (a : List ℕ) → is_before a a ≡ false
 not_before-itself a = ap is_lt (tied_itself nat_list_cmp_total a)
 
--- Items of which one, where it is there, stands in front of a list of others.
+-- Items of which one, if it is there, is in front of a list of others.
 module _ {V A : Type 0} where
   abbrev IsInFront : Option (Ordered V A) → List (Ordered V A) → Type 0
   IsInFront front others = IfSome front (λ x. IsFirst (address_of x) (map addressed others))

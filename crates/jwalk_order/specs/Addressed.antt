@@ -1,4 +1,4 @@
--- A value at an address, as a clause sees an `Ordered`.
+-- A value at an address, as contracts see an `Ordered`.
 use Rattle.std.specs.Prelude.{◌≡◌, ℕ, ◌+◌, false, List, [], ◌∷◌, ◌++◌, map, All}
 use Rattle.jwalk_order.specs.Frontier.{children_from}
 use Rattle.jwalk_order.specs.IndexPath.{is_before}
@@ -16,7 +16,7 @@ module _ {V A : Type 0} where
   addressed item = record { at = address_of item; value = item.value; child_count = child_count_of item }
 
 module _ {V : Type 0} where
-  -- where they stand
+  -- their addresses
   abbrev pub addresses_of : List (Addressed V) → List (List ℕ)
   addresses_of = map (λ x. x.at)
 
@@ -25,7 +25,7 @@ module _ {V : Type 0} where
   child_addresses [] = []
   child_addresses (x ∷ xs) = children_from 0 x.at x.child_count ++ child_addresses xs
 
-  -- Nothing stands before the address.
+  -- Nothing comes before the address.
   abbrev pub IsFirst : List ℕ → List (Addressed V) → Type 0
   IsFirst a items = All (λ y. is_before y.at a ≡ false) items
 

@@ -10,7 +10,7 @@ module _ {A : Type 0} where
   abbrev pub address : IndexPath A → List ℕ
   address path = path.indices.items
 
-  -- The order of `IndexPath`: the lexicographic one, the other way round.
+  -- The order of `IndexPath`: the lexicographic one, reversed.
   abbrev pub reversed_cmp : IndexPath A → IndexPath A → Ordering
   reversed_cmp = flip_args (on address (slice_cmp nat_cmp))
 

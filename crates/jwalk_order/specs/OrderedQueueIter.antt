@@ -1,4 +1,4 @@
--- What a clause sees of an `OrderedQueueIter`: the queue behind its reference.
+-- What contracts see of an `OrderedQueueIter`: the queue behind its reference.
 use Rattle.std.specs.Prelude.{◌≡◌}
 use Rattle.std.specs.Borrow.{MutBor}
 use Rattle.jwalk_order.specs.OrderedQueue.{Queue}

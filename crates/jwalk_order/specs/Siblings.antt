@@ -1,4 +1,4 @@
--- Siblings as one entry of a queue, which stands at the address of the first of them.
+-- Siblings as one entry of a queue, which is at the address of the first of them.
 use Rattle.std.specs.Prelude.{ℕ, ◌+◌, ◌-◌, ◌<◌, ◌^◌, List, [], ◌∷◌, ◌++◌, length, slice_index, take}
 use Rattle.jwalk_order.specs.Addressed.{Addressed, numbered}
 

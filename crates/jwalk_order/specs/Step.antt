@@ -1,4 +1,4 @@
--- What a step answers.
+-- What a step returns.
 use Rattle.std.specs.Prelude.{◌≡◌, ◌≢◌, ℕ, ◌<◌, ◌⊎◌, false, true, List, [], Option, Some, None, Contains}
 use Rattle.jwalk_order.specs.Frontier.{next_address, passed}
 use Rattle.jwalk_order.specs.Ordered.{address_of, child_count_of, IsLeast}
@@ -14,7 +14,7 @@ abbrev pub IsInTurn : Ordering → List (List ℕ) → List ℕ → Type 0
 IsInTurn Relaxed frontier a = Unit {0}
 IsInTurn Strict frontier a = (frontier ≢ []) × (a ≡ next_address frontier)
 
--- the frontier when an item with so many children has come
+-- the frontier when an item with n children has come
 abbrev pub frontier_behind : Ordering → List (List ℕ) → ℕ → List (List ℕ)
 frontier_behind Relaxed frontier count = frontier
 frontier_behind Strict frontier count = passed frontier count
@@ -43,7 +43,7 @@ module _ {T A : Type 0} where
   abbrev pub IsWaiting : Queue T A → Type 0
   IsWaiting q = (q.stopped ≡ false) × IsOutstanding q.ordering q
 
-  -- what a step answers, and what it leaves
+  -- what a step returns, and what it leaves
   abbrev pub StepGives : Queue T A → Step T A → Queue T A → Type 0
   StepGives old (Item x) new = IsDue old x × Removes x (frontier_behind old.ordering old.frontier (child_count_of x)) old new
   StepGives old Empty new = IsWaiting old × IsUnchanged old new
@@ -53,7 +53,7 @@ module _ {T A : Type 0} where
   abbrev pub MayRefuse : Queue T A → Type 0
   MayRefuse q = (q.ordering ≡ Strict) × ((x : Ordered T A) × IsDue q x × (0 < child_count_of x))
 
-  -- What `next` answers: the item of a step, or nothing where there is none or memory runs out.
+  -- What `next` returns: the item of a step, or `None` where there is none or memory runs out.
   abbrev pub NextGives : Queue T A → Option (Ordered T A) → Queue T A → Type 0
   NextGives old (Some x) new = StepGives old (Item x) new
   NextGives old None new = (IsWaiting old ⊎ (IsDone old ⊎ MayRefuse old)) × IsUnchanged old new
