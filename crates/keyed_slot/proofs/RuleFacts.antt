@@ -10,7 +10,7 @@ use Rattle.keyed_slot.specs.declared.rule.Known.{Known}
 use Rattle.keyed_slot.specs.Keyed.{Carries}
 use Rattle.keyed_slot.specs.Rule.{with_key, without_key, IsSo, IsKept, Takes, TakesWith, PutsWith}
 
--- what stands in a longer list stood there before, or is the last
+-- what is in a longer list was in it before, or is the last
 at_end : {A : Type 0} (l : List A) (a b : A) (j : ℕ) → get_elem? (l ++ a ∷ []) j ≡ some b → (get_elem? l j ≡ some b) ⊎ ((j ≡ length l) × (a ≡ b))
 at_end [] a b zero is = inr (refl, some-injective a b is)
 at_end [] a b (suc j) is = absurd (some-ne-none b (sym is))
@@ -25,7 +25,7 @@ abbrev carried : {X : Type 0} → X → List (ℕ × Option X) → X
 carried x ((k, Some y) ∷ more) = y
 carried x l = x
 
--- who carries one value carries no other
+-- a seat that carries one value carries no other
 carried_alike : {X : Type 0} (x y : X) → ◌≡◌ {A = List (ℕ × Option X)} ((0, Some x) ∷ []) ((0, Some y) ∷ []) → x ≡ y
 carried_alike x y same = ap (carried x) same
 

@@ -1,4 +1,4 @@
--- A slot, its key and a loan as a clause sees them.
+-- A slot, its key and a loan as contracts see them.
 use Rattle.std.specs.Prelude.{◌≡◌, ℕ, Bool, true, cond, List, [], ◌∷◌, map, Option}
 use Rattle.keyed_slot.specs.declared.slot.KeyedSlot.{KeyedSlot}
 use Rattle.keyed_slot.specs.declared.slot.Key.{Key}

@@ -1,4 +1,4 @@
--- What holds of a slot's table between any two steps, and what each step tells.
+-- What holds of a slot's table between any two steps, and what each step does.
 use Rattle.std.specs.Prelude.{◌≡◌, ◌≢◌, ℕ, Bool, true, false, List, [], ◌∷◌, length, slice_index, Option, Some}
 use mathlib.Core.Option as core
 use lib.ListN.{get_elem?}
@@ -41,11 +41,11 @@ module _ {X T M : Type 0} (fits : T → X → Type 0) (mark_of : X → M) where
     pub fit : fits tag value
     pub is : m ≡ (record { has_key = has_key; holds = true; tag = tag; mark = mark_of value }, (0, Some value) ∷ [])
 
-  -- Where the value was at home, a new seat has taken it.
+  -- If the value was at home, a new seat has taken it.
   abbrev pub Takes : Me (Option X) (Known T M) → ℕ → Me (Option X) (Known T M) → Type 0
   Takes before found after = found ≡ 0 → HasTaken false before.0.tag after
 
-  -- Where the value was at home, the key's seat has taken it, and it has the mark that this seat knew. Else nothing changed.
+  -- If the value was at home, the key's seat has taken it, with the mark that this seat knew. Otherwise nothing changed.
   abbrev pub TakesWith : Me (Option X) (Known T M) → ℕ → Me (Option X) (Known T M) → Type 0
   TakesWith before found after = (found ≡ 0 → HasTaken true before.0.tag after × (after.0.mark ≡ before.0.mark)) × (found ≢ 0 → after ≡ before)
 

@@ -25,7 +25,7 @@ pub record IsSpot (table : List Branch) (answer : Result Tree Refusal) (node : N
   pub free : child_named (children_at table holder) name ≡ None
   pub answer_is : answer ≡ Ok (with_node node (record { holder = place; name = name }) (tree_of_table table))
 
--- both are refused alike, or both found the same spot
+-- Both fail alike, or both found the same spot.
 abbrev pub AddsAlike : List Branch → Result Tree Refusal → Node → Result (ℕ × List ℕ) BuildError → Type 0
 AddsAlike table answer node (Ok spot) = IsSpot table answer node spot.0 spot.1
 AddsAlike table answer node (Err NotFound) = answer ≡ Err not_found
@@ -96,7 +96,7 @@ module _ (table : List Branch) (sound : IsSound table) (node : Node) (path : Lis
   pub found-spot : (holder : ℕ) (name : List ℕ) → free_spot table (components path) ≡ Ok (holder, name) → IsSpot table (add node path (tree_of_table table)) node holder name
   found-spot holder name is = subst (AddsAlike table (add node path (tree_of_table table)) node) is (add_alike table node sound path)
 
-  -- where the spot was refused
+  -- where there is no such spot
   pub refused-spot : (e : BuildError) (result : Result (Unit {0}) BuildError) → free_spot table (components path) ≡ Err e → result ≡ Err e → IsAddition node path (tree_of_table table) result (tree_of_table table)
   refused-spot e result is was =
       let told = told-refusal table (add node path (tree_of_table table)) node e (subst (AddsAlike table (add node path (tree_of_table table)) node) is (add_alike table node sound path)) in
@@ -104,7 +104,7 @@ module _ (table : List Branch) (sound : IsSound table) (node : Node) (path : Lis
       (record { added = tt; not_found = told.not_found; already_exists = told.already_exists; err = λ place. refl })
 
   module _ (holder : ℕ) (name : List ℕ) (is : free_spot table (components path) ≡ Ok (holder, name)) where
-    -- where memory was refused
+    -- where memory ran out
     pub refused-memory : (result : Result (Unit {0}) BuildError) (new : List Branch) → result ≡ Err Memory → new ≡ table → IsAddition node path (tree_of_table table) result (tree_of_table new)
     refused-memory result new was same =
         let told = told-memory table (add node path (tree_of_table table)) node holder name (found-spot holder name is) in

@@ -1,4 +1,4 @@
--- What the tree answers as a file system, by what the table finds.
+-- What the tree returns as a file system, by what the table finds.
 use Rattle.std.proofs.Common.{◌≡◌, ℕ, Bool, List, [], ◌∷◌, map, Option, None, Some, Result, Ok, Err, refl, sym, ap, subst, ◌∙◌}
 use Rattle.std.specs.Prelude.{option_and_then}
 use Rattle.std.specs.Option.{option_map}
@@ -13,7 +13,7 @@ use Rattle.memory_fs.specs.Branch.{Branch, branch_at, children_at, denied_at, ch
 use Rattle.memory_fs.proofs.TableLemmas.{at_end-append}
 use Rattle.memory_fs.proofs.LookUpLemmas.{IsAt, Agrees, look_up_agrees}
 
--- a hit as what stands at its place
+-- a hit, as what is at its place
 abbrev child_hit : Hit → Child
 child_hit (on_dir i) = Dir i
 child_hit (on_file len) = File len
@@ -32,7 +32,7 @@ module _ {X : Type 0} (table : List Branch) (sound : IsSound table) (follow : Bo
   by_agreement (Err k) (Ok h) e x at err = absurd e
   by_agreement (Err k) (Err l) e x at err = ap (λ (m : ErrorKind). Err m) e ∙ err l refl
 
-  -- the answer is that of the place that was found
+  -- the result is that of the place that was found
   pub answer-found : (h : Hit) → found table follow path ≡ Ok h → (x : Result X ErrorKind) → ((place : Place) → at_end table (Dir 0) place ≡ Some (child_hit h) → f place ≡ x)
       → at_found f (look_up (tree_of_table table) follow path) ≡ x
   answer-found h is x at =
@@ -113,7 +113,7 @@ module _ (table : List Branch) (sound : IsSound table) (follow : Bool) (path : L
       ∙ ap (λ (d : Option ErrorKind). listing_at (tree_of_table table) place (Some (directory (names_of (children_at table i)) d))) undenied
       ∙ ap (λ (ls : List Listed). Ok ls) (listed-names place i e (children_at table i) named))
 
-  -- the answer is the listing of the directory that was found
+  -- the result is the listing of the directory that was found
   pub listing-found : (i : ℕ) → found table follow path ≡ Ok (on_dir i) → (b : Branch) → b ≡ branch_at table i → b.denied ≡ None → AreFound b.children b.children
       → at_found (λ place. listing_at (tree_of_table table) place (tree_of_table table place)) (look_up (tree_of_table table) follow path) ≡ Ok (listing_of b.children)
   listing-found i is b at undenied named =

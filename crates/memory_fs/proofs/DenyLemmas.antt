@@ -26,7 +26,7 @@ module _ (old new : List Branch) (children : (i : ℕ) → children_at new i ≡
   child_same (File len) name = refl
   child_same (Link target) name = refl
 
-  -- the same stands everywhere
+  -- the same is everywhere
   at_end-same : (c : Child) (names : Place) → at_end new c names ≡ at_end old c names
   at_end-same c [] = refl
   at_end-same c (name ∷ names) =
@@ -90,14 +90,14 @@ module _ (table : List Branch) (index : ℕ) (k : ErrorKind) (lt : index < lengt
             elsewhere q ne (at_end table (Dir 0) q) refl
             ∙ sym (ap (λ (b : Bool). if b then Some (directory (names_of (children_at table index)) (Some k)) else tree_of_table table q) (same_place-false q at ne))
 
--- ---- what the definition answers
+-- ---- what the definition returns
 -- the tree with the directory of the table denied
 pub record IsDenied (table : List Branch) (answer : Result Tree Refusal) (k : ErrorKind) (index : ℕ) : Type 0 where
   pub at : Place
   pub stands : at_end table (Dir 0) at ≡ Some (Dir index)
   pub answer_is : answer ≡ Ok (λ q. if same_place q at then Some (directory (names_of (children_at table index)) (Some k)) else tree_of_table table q)
 
--- both are refused, or both found the same directory
+-- Both fail, or both found the same directory.
 abbrev pub DeniesAlike : List Branch → Result Tree Refusal → ErrorKind → Option ℕ → Type 0
 DeniesAlike table answer k None = answer ≡ Err not_found
 DeniesAlike table answer k (Some index) = IsDenied table answer k index

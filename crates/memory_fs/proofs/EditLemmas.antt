@@ -50,7 +50,7 @@ module _ {A : Type 0} (root : Branch) (items : List (Directory A)) where
   suc_there : (i : ℕ) (old : Directory A) → i < length items → old ≡ get_or items i old → branch_at (root ∷ map branch items) (suc i) ≡ branch old
   suc_there i old lt stood = get_or-map branch items i old (empty_branch 0) lt ∙ ap branch (sym stood)
 
-  -- where a directory behind the root stands
+  -- where a directory behind the root is
   pub branch_there : (index : ℕ) (old : Directory A) → index ≢ 0 → index < length (root ∷ map branch items) → old ≡ get_or items (index - 1) old → branch_at (root ∷ map branch items) index ≡ branch old
   branch_there index old ne lt stood =
       let e : suc (index - 1) ≡ index = omega arith in

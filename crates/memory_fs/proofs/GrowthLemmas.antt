@@ -28,7 +28,7 @@ child_named-append (e ∷ es) name other new =
     elim (bytes_eq other e.0) as (λ b. cond b (Some e.1) (child_named (es ++ (name, new) ∷ []) other) ≡ or_last (cond b (Some e.1) (child_named es other)) (if bytes_eq other name then Some new else None))
     [ true ↦ refl | false ↦ child_named-append es name other new ]
 
--- the new table has the new child behind the others, under a name that was free, nothing stands below it, and no directory is denied that wasn't
+-- The new table has the new child behind the others, under a name that was free, and nothing is below it. No directory is denied that wasn't.
 pub record Grows (old new : List Branch) (holder : ℕ) (name : List ℕ) (child : Child) : Type 0 where
   pub free : child_named (children_at old holder) name ≡ None
   pub here : children_at new holder ≡ children_at old holder ++ (name, child) ∷ []
@@ -36,14 +36,14 @@ pub record Grows (old new : List Branch) (holder : ℕ) (name : List ℕ) (child
   pub denials : (index : ℕ) → denied_at new index ≡ denied_at old index
   pub leaf : (other : List ℕ) → child_of new child other ≡ None
 
--- the place of a new directory, for which no name stood
+-- The place of a new directory, which no name referred to.
 pub record IsNewPlace (old new : List Branch) (holder index : ℕ) : Type 0 where
   pub below_root : 0 < index
   pub within : index < length new
   pub parent : parent_at new index ≡ holder
   pub unnamed : (other : ℕ) (name : List ℕ) → child_named (children_at old other) name ≢ Some (Dir index)
 
--- no directory has gone or moved, and the new child, if it is one, has a place of its own
+-- No directory has gone or moved, and the new child, if it is one, has a place of its own.
 pub record Extends (old new : List Branch) (holder : ℕ) (child : Child) : Type 0 where
   pub within : holder < length old
   pub longer : length old ≤ length new
@@ -126,7 +126,7 @@ module _ (old new : List Branch) (holder : ℕ) (name : List ℕ) (child : Child
             elsewhere front last (child_named (children_at new k) last) (aside front last (λ h. ne (same_dir k holder (sym e ∙ h))))
             (ap (λ (es : List (List ℕ × Child)). child_named es last) (grows.others k ne) ∙ sym (ap (option_and_then (λ x. child_of old x last)) e))
 
-    -- the new child stands at its place, and all else where it stood
+    -- the new child is at its place, and all else where it was
     pub at_end-grown : (q : Place) → at_end new (Dir 0) q ≡ (if same_place q (place ++ name ∷ []) then Some child else at_end old (Dir 0) q)
     at_end-grown = by_last Claim first more
       where
@@ -178,7 +178,7 @@ module _ (old new : List Branch) (holder : ℕ) (name : List ℕ) (child : Child
         by true = ap (λ (n : Node). Some n) is
         by false = kept_node (at_end old (Dir 0) q) refl
 
-  -- a name that stands for a directory is an old one, or the new one
+  -- a name that refers to a directory is an old one, or the new one
   edge_cases : (i : ℕ) (n : List ℕ) (j : ℕ) → child_named (children_at new i) n ≡ Some (Dir j)
       → (child_named (children_at old i) n ≡ Some (Dir j)) ⊎ ((i ≡ holder) × (n ≡ name) × (child ≡ Dir j))
   edge_cases i n j e = by (cases_eq i holder) (name_cases n name)

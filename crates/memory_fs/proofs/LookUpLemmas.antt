@@ -18,14 +18,14 @@ IsAt table place (on_dir index) = at_end table (Dir 0) place ≡ Some (Dir index
 IsAt table place (on_file len) = at_end table (Dir 0) place ≡ Some (File len)
 IsAt table place (on_link holder target) = (at_end table (Dir 0) place ≡ Some (Link target)) × (at_end table (Dir 0) (above place) ≡ Some (Dir holder))
 
--- both found the same, or failed alike
+-- Both found the same, or failed alike.
 abbrev pub Agrees : List Branch → Result Place ErrorKind → Result Hit ErrorKind → Type 0
 Agrees table (Ok place) (Ok hit) = IsAt table place hit
 Agrees table (Ok place) (Err k) = ⊥
 Agrees table (Err k) (Ok hit) = ⊥
 Agrees table (Err k) (Err l) = k ≡ l
 
--- behind a link both go on alike from the directory that holds it, or neither may
+-- Behind a link, both go on alike from the directory that holds it, or neither may.
 abbrev WaysAgree : List Branch → Option LookUp → Option Way → Type 0
 WaysAgree table None None = Unit {0}
 WaysAgree table None (Some way) = ⊥
@@ -56,7 +56,7 @@ module _ (table : List Branch) (follow : Bool) (links : Option LookUp) (ways : O
   file_agrees place len [] e = e
   file_agrees place len (c ∷ cs) e = subst (λ r. Agrees table r (Err kind.Other)) (sym (along_file place len c cs e)) refl
 
-  -- a link at the end is followed where that is asked, and each other one
+  -- a link at the end is followed if that is asked for, and each other one always
   link_agrees : (place : Place) (i : ℕ) (name target : List ℕ) (cs : List Component) → at_end table (Dir 0) place ≡ Some (Dir i) → at_end table (Dir 0) (child place name) ≡ Some (Link target)
       → Agrees table (to_child follow links (go cs) place name cs (option_map (node_of table) (Some (Link target)))) (along table follow ways (on_link i target) cs)
   link_agrees place i name target [] at e =
@@ -91,7 +91,7 @@ module _ (table : List Branch) (follow : Bool) (links : Option LookUp) (ways : O
   along_agrees sound (c ∷ cs) place i e =
       subst (λ r. Agrees table r (along table follow ways (on_dir i) (c ∷ cs))) (sym (along_dir place i c cs e)) (step_agrees sound place i c cs (along_agrees sound cs) e)
 
--- the look-up from a directory, with so many links that may be followed
+-- the look-up from a directory, with n links that may be followed
 reached_agrees : (table : List Branch) (follow : Bool) → IsSound table → (links : ℕ) (place : Place) (i : ℕ) (cs : List Component) → at_end table (Dir 0) place ≡ Some (Dir i)
     → Agrees table (looked_up (tree_of_table table) follow links place cs) (reached table follow links (on_dir i) cs)
 reached_agrees table follow sound zero place i cs e = along_agrees table follow None None tt sound cs place i e

@@ -5,7 +5,7 @@ use Rattle.std.specs.Str.{bytes_eq}
 use Rattle.std.proofs.lemmas.Slice.Eq.{bytes_eq-Decides}
 use Rattle.walk_model.specs.Tree.{Place, above, same_place}
 
--- what holds of the root, and of a child where it holds of its holder, holds of each place
+-- what holds of the root, and of a child if it holds of its holder, holds of each place
 pub by_last : (P : Place → Type 0) → P [] → ((front : Place) (name : List ℕ) → P front → P (front ++ name ∷ [])) → (place : Place) → P place
 by_last P none more place = go [] place none
   where

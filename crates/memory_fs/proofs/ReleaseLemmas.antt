@@ -1,4 +1,4 @@
--- Directories that no name stands for are emptied one child after another, and their places come free.
+-- Directories that no name refers to are emptied one child after another, and their places become free.
 use Rattle.std.proofs.Common.{◌≡◌, ◌≢◌, ℕ, zero, suc, ◌+◌, ◌-◌, ◌<◌, ◌≤◌, Bool, List, [], ◌∷◌, ◌++◌, length, Option, None, Some, refl, sym, ap, subst, ◌∙◌, String, string_bytes, arith}
 use Rattle.std.specs.Prelude.{MatchOption, slice_set, if◌then◌else◌}
 use Rattle.std.specs.Str.{bytes_eq}
@@ -50,7 +50,7 @@ module _ (start now : List Branch) (free : List ℕ) (next : ℕ) (so_far : IsRe
         ∙ ap (λ o. or_last o (if bytes_eq name name then Some child else None)) pops.1
         ∙ ap (λ (t : Bool). if t then Some child else None) ((bytes_eq-Decides name name).1 refl)
 
-    -- a directory's place comes free
+    -- a directory's place becomes free
     pub popped-directory : (j : ℕ) → child ≡ Dir j → IsReleasing start (slice_set now d b) (free ++ j ∷ []) next
     popped-directory j is = record {
       sound = popped-leaf.sound;
@@ -100,7 +100,7 @@ size-popped : (old : Branch) (name : List ℕ) (child : Child) (new : Branch) �
 size-popped old name child new pops = ap (λ (x : Branch). length x.children) pops.0 ∙ length-append new.children ((name, child) ∷ [])
 
 -- ---- the first one
--- a directory whose name is gone is one that no name stands for
+-- a directory whose name is gone is one that no name refers to
 pub loose-removed : (table : List Branch) → IsSound table → (holder : ℕ) (name : List ℕ) → holder < length table → (index : ℕ) → child_named (children_at table holder) name ≡ Some (Dir index) → IsLoose (without_named table holder name) index
 loose-removed table sound holder name lt index is = record {
   below_root = held.below_root;
@@ -135,7 +135,7 @@ pub spare-removed : (table : List Branch) (free : List ℕ) → AreSpare table f
 spare-removed table free spare holder name lt aside =
     spare-put table holder (without_name name (branch_at table holder)) lt (narrows-without name (children_at table holder)) free (length free) spare aside
 
--- the first place comes free
+-- the first place becomes free
 pub first-releasing : (table : List Branch) (free : List ℕ) (index : ℕ) → IsSound table → AreSpare table free (length free) → IsLoose table index → ((k : ℕ) → k < length free → place_at free k ≢ index)
     → IsReleasing table table (free ++ index ∷ []) (length free)
 first-releasing table free index sound spare loose once = record {

@@ -19,7 +19,7 @@ use Rattle.memory_fs.proofs.GrowthLemmas.{same_branches}
 use Rattle.memory_fs.proofs.SpareLemmas.{not_loose, at_put, at_others}
 use Rattle.memory_fs.proofs.SpotLemmas.{SpotsAgree, spots_agree}
 
--- ---- children without one of a name
+-- ---- children without the one of a name
 abbrev unless : Bool → List ℕ × Child → List (List ℕ × Child) → List (List ℕ × Child)
 unless b e es = if not b then e ∷ es else es
 
@@ -151,7 +151,7 @@ module _ (table : List Branch) (sound : IsSound table) (holder : ℕ) (name : Li
           kept front last (child_named (children_at new k) last) no_front (aside front last (λ h. ne (same_dir k holder (sym e ∙ h))))
           (ap (λ (b : Branch). child_named b.children last) (at_other k ne) ∙ sym (ap (option_and_then (λ x. child_of table x last)) e))
 
-  -- nothing stands at its place or below, and all else where it stood
+  -- nothing is at its place or below, and all else is where it was
   at_end-removed : (q : Place) → at_end new (Dir 0) q ≡ (if is_within at q then None else at_end table (Dir 0) q)
   at_end-removed = by_last (λ q. at_end new (Dir 0) q ≡ (if is_within at q then None else at_end table (Dir 0) q)) (first place) more
     where
@@ -201,14 +201,14 @@ module _ (table : List Branch) (sound : IsSound table) (holder : ℕ) (name : Li
       by true = refl
       by false = kept_node (at_end table (Dir 0) q) refl
 
--- ---- what the definition answers
+-- ---- what the definition returns
 -- the tree without the child of the table
 pub record IsTaken (table : List Branch) (answer : Result Tree Refusal) (holder : ℕ) (name : List ℕ) : Type 0 where
   pub place : Place
   pub stands : at_end table (Dir 0) place ≡ Some (Dir holder)
   pub answer_is : answer ≡ Ok (without_child (record { holder = place; name = name }) (tree_of_table table))
 
--- both are refused, or both found the same child
+-- Both fail, or both found the same child.
 abbrev pub RemovesAlike : List Branch → Result Tree Refusal → Option (ℕ × List ℕ) → Type 0
 RemovesAlike table answer None = answer ≡ Err not_found
 RemovesAlike table answer (Some t) = IsTaken table answer t.0 t.1

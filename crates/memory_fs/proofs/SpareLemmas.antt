@@ -1,4 +1,4 @@
--- What is done to a directory that no name stands for isn't seen in the tree.
+-- What is done to a directory that no name refers to isn't seen in the tree.
 use Rattle.std.proofs.Common.{◌≡◌, ◌≢◌, ℕ, zero, suc, ◌+◌, ◌-◌, ◌<◌, ◌≤◌, List, [], ◌∷◌, ◌++◌, length, take, slice_index_or, Option, None, Some, refl, sym, ap, subst, ◌∙◌, ◌⊎◌, inl, inr, arith}
 use Rattle.std.specs.Prelude.{option_and_then, slice_set}
 use Rattle.std.specs.Option.{option_map}
@@ -12,7 +12,7 @@ use Rattle.memory_fs.specs.Branch.{Branch, child_named, branch_at, children_at, 
 use Rattle.memory_fs.proofs.PlaceLemmas.{by_last}
 use Rattle.memory_fs.proofs.TableLemmas.{at_end-append, last_step, same_dir}
 
--- no place leads to a directory that no name stands for
+-- no place leads to a directory that no name refers to
 pub not_loose : (table : List Branch) (place : Place) (i : ℕ) → at_end table (Dir 0) place ≡ Some (Dir i) → IsLoose table i → ⊥
 not_loose table = by_last (λ place. (i : ℕ) → at_end table (Dir 0) place ≡ Some (Dir i) → IsLoose table i → ⊥)
     (λ i e loose. let r = loose.below_root in let z = same_dir 0 i e in omega arith)
@@ -33,7 +33,7 @@ module _ (table : List Branch) (d : ℕ) (b : Branch) (lt : d < length table) wh
   length-put = length-set table d b
 
   module _ (narrows : (name : List ℕ) (c : Child) → child_named b.children name ≡ Some c → child_named (children_at table d) name ≡ Some c) where
-    -- each name stood for the same before
+    -- each name referred to the same before
     pub named_before : (i : ℕ) (name : List ℕ) (c : Child) → child_named (children_at put i) name ≡ Some c → child_named (children_at table i) name ≡ Some c
     named_before i name c e = by (cases_eq i d)
       where
@@ -156,7 +156,7 @@ spare-emptied table free done spare empty = record { apart = spare.apart; loose 
     by k h (inl lt) = spare.emptied k lt
     by k h (inr ge) = let e : done ≡ k = omega arith in subst (λ i. IsEmptied (branch_at table (place_at free i))) e empty
 
--- the first of them alone
+-- only the first of them
 pub spare-taken : (table : List Branch) (free : List ℕ) (done n : ℕ) → AreSpare table free done → n ≤ length free → n ≤ done → AreSpare table (take n free) (length (take n free))
 spare-taken table free done n spare le le' =
     let fewer : length (take n free) ≡ n = length-take-le n free le in

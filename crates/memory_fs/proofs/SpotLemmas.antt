@@ -42,7 +42,7 @@ named_spot-split table cs before after r name h e is =
     ap (λ (front : List Component). named_below table front (name_of (last_of cs))) both.1
     ∙ ap (named_below table (map component_read after)) (ap name_of both.0 ∙ sym is)
 
--- both are nothing, or the same name in the same directory
+-- Both are nothing, or the same name in the same directory.
 abbrev pub SpotsAgree : List Branch → Option Spot → Option (ℕ × List ℕ) → Type 0
 SpotsAgree table None None = Unit {0}
 SpotsAgree table None (Some t) = ⊥

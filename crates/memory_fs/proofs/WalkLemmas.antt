@@ -44,7 +44,7 @@ module _ (table : List Branch) where
       followed-link table follow n holder (c ∷ target) left followed ∙ ap (λ (ds : List Component). reached table follow n (on_dir holder) (ds ++ left)) (sym is)
       ∙ ap (λ k. reached table follow k (on_dir holder) (cs ++ left)) (sym less) ∙ leads follow left
 
-  -- before a component, the look-up goes on from what is no link just as from the hit
+  -- Before a component, the look-up goes on from what is no link as it does from the hit.
   pub record IsReady (left : ℕ) (hit : Hit) (fewer : ℕ) (ready : Hit) : Type 0 where
     pub settled : IsSettled ready
     pub less : fewer ≤ left

@@ -1,4 +1,4 @@
--- The table of directories as a list of values: what its names stand for, what a look-up finds in it, and the tree that it is.
+-- The table of directories as a list of values: what its names refer to, what a look-up finds in it, and the tree that it is.
 use Rattle.std.specs.Prelude.{◌≡◌, ◌≢◌, ℕ, zero, suc, ◌<◌, Bool, true, false, List, [], ◌∷◌, ◌++◌, map, filter, not, length, slice_index_or, slice_get, slice_set, take, MatchOption, ◌-◌, Option, Some, None, is_some, Result, Ok, Err, if◌then◌else◌, bytes_eq, option_and_then}
 use Rattle.std.specs.Option.{option_map}
 use Rattle.std.specs.Map.{lookup}
@@ -13,7 +13,7 @@ use Rattle.memory_fs.specs.declared.hit.Hit.{Hit as CodeHit}
 use Rattle.memory_fs.specs.declared.build_error.BuildError.{BuildError}
 use Rattle.memory_fs.specs.declared.build_error.BuildError.TheVariants.{NotFound, AlreadyExists}
 
--- a directory: where the one that holds it stands, its children by name, in order of creation, and the kind that reading it fails with, if it was denied
+-- a directory: the index of the one that holds it, its children by name in order of creation, and the error kind of reading it, if it was denied
 pub record Branch : Type 0 where
   pub parent : ℕ
   pub children : List (List ℕ × Child)
@@ -27,7 +27,7 @@ child_named children name = lookup (λ other. bytes_eq name other) children
 abbrev pub with_child : List ℕ → Child → Branch → Branch
 with_child name child b = record { parent = b.parent; children = b.children ++ (name, child) ∷ []; denied = b.denied }
 
--- the directory denied
+-- the directory, denied
 abbrev pub with_denied : ErrorKind → Branch → Branch
 with_denied k b = record { parent = b.parent; children = b.children; denied = Some k }
 
@@ -35,7 +35,7 @@ with_denied k b = record { parent = b.parent; children = b.children; denied = So
 abbrev pub with_parent : ℕ → Branch → Branch
 with_parent parent b = record { parent = parent; children = b.children; denied = b.denied }
 
--- the children but the one of this name
+-- the children except the one of this name
 abbrev pub without : List ℕ → List (List ℕ × Child) → List (List ℕ × Child)
 without name children = filter (λ e. not (bytes_eq e.0 name)) children
 
@@ -59,7 +59,7 @@ with_named table holder name child = slice_set table holder (with_child name chi
 abbrev pub with_denial : List Branch → ℕ → ErrorKind → List Branch
 with_denial table index k = slice_set table index (with_denied k (branch_at table index))
 
--- the table in which a directory stands in another one
+-- the table in which a directory is in another one
 abbrev pub with_parent_at : List Branch → ℕ → ℕ → List Branch
 with_parent_at table index parent = slice_set table index (with_parent parent (branch_at table index))
 
@@ -71,7 +71,7 @@ without_named table holder name = slice_set table holder (without_name name (bra
 abbrev pub children_at : List Branch → ℕ → List (List ℕ × Child)
 children_at table index = (branch_at table index).children
 
--- where its own holder stands
+-- the index of the directory that holds it
 abbrev pub parent_at : List Branch → ℕ → ℕ
 parent_at table index = (branch_at table index).parent
 
@@ -79,13 +79,13 @@ parent_at table index = (branch_at table index).parent
 abbrev pub denied_at : List Branch → ℕ → Option ErrorKind
 denied_at table index = (branch_at table index).denied
 
--- the child of this name where a directory stands
+-- the child of this name, in what is a directory
 abbrev pub child_of : List Branch → Child → List ℕ → Option Child
 child_of table (Dir index) name = child_named (children_at table index) name
 child_of table (File len) name = None
 child_of table (Link target) name = None
 
--- what stands at the end of the names
+-- what is at the end of the names
 abbrev pub at_end : List Branch → Child → List (List ℕ) → Option Child
 at_end table child [] = Some child
 at_end table child (name ∷ names) = option_and_then (λ next. at_end table next names) (child_of table child name)
@@ -117,12 +117,12 @@ node_of table (Link target) = link target
 abbrev pub tree_of_table : List Branch → Tree
 tree_of_table table names = option_map (node_of table) (at_end table (Dir 0) names)
 
--- what a look-up comes to by a child that was looked for in a directory
+-- the outcome of a look-up by a child that was looked for in a directory
 abbrev pub hit_or_missing : ℕ → Option Child → Result Hit ErrorKind
 hit_or_missing holder None = Err kind.NotFound
 hit_or_missing holder (Some child) = Ok (hit_of holder child)
 
--- one component worked off, where what the look-up had come to is no link
+-- one component worked off, where what the look-up had reached is no link
 abbrev pub next_hit : List Branch → Hit → Component → Result Hit ErrorKind
 next_hit table (on_file len) c = Err kind.Other
 next_hit table (on_link holder target) c = Err kind.Other
@@ -135,11 +135,11 @@ abbrev pub go_on : {X : Type 0} → (X → Result Hit ErrorKind) → Result X Er
 go_on next (Ok x) = next x
 go_on next (Err k) = Err k
 
--- What a look-up comes to from a hit by the components that are left.
+-- What a look-up reaches from a hit by the components that are left.
 abbrev pub Way : Type 0
 Way = Hit → List Component → Result Hit ErrorKind
 
--- A link is followed: its target stands in front of the components that are left. There is no way on where no link may be followed any more.
+-- A link is followed: its target is put in front of the components that are left. There is no way on where no more links may be followed.
 abbrev pub through : Option Way → ℕ → List ℕ → List Component → Result Hit ErrorKind
 through None holder target left = Err kind.Other
 through (Some way) holder [] left = Err kind.NotFound
@@ -155,7 +155,7 @@ module _ (table : List Branch) (follow : Bool) where
   along links (on_file len) [] = Ok (on_file len)
   along links (on_file len) (c ∷ cs) = Err kind.Other
 
-  -- the same, with so many links that may be followed
+  -- the same, with n links that may be followed
   abbrev pub reached : ℕ → Way
   reached zero = along None
   reached (suc links) = along (Some (reached links))
@@ -169,23 +169,23 @@ abbrev pub found : List Branch → Bool → List ℕ → Result Hit ErrorKind
 found table follow [] = Err kind.NotFound
 found table follow (c ∷ cs) = from_root table follow (components (c ∷ cs))
 
--- it is no link
+-- It is no link.
 abbrev pub IsSettled : Hit → Type 0
 IsSettled (on_dir index) = Unit {0}
 IsSettled (on_file len) = Unit {0}
 IsSettled (on_link holder target) = ⊥
 
--- a link is followed before these components, or at the end where that is asked
+-- A link is followed before these components, or at the end if that is asked for.
 abbrev pub IsFollowed : Bool → List Component → Type 0
 IsFollowed follow [] = follow ≡ true
 IsFollowed follow (c ∷ cs) = Unit {0}
 
--- What components lead to from a hit, and how many links may be followed from there: whatever is left behind them, the look-up goes on just so.
+-- What components lead to from a hit, and how many links may be followed from there: whatever is left behind them, the look-up goes on in the same way.
 abbrev pub LeadsOn : List Branch → ℕ → Hit → List Component → Result (CodeHit × ℕ) ErrorKind → Type 0
 LeadsOn table links from cs result =
     (follow : Bool) (left : List Component) → reached table follow links from (cs ++ left) ≡ go_on (λ r. reached table follow r.1 (hit_seen r.0) left) result
 
--- The same for a link that is followed.
+-- the same for a link that is followed
 abbrev pub LinkLeadsOn : List Branch → ℕ → ℕ → List ℕ → Result (CodeHit × ℕ) ErrorKind → Type 0
 LinkLeadsOn table links holder target result =
     (follow : Bool) (left : List Component) → IsFollowed follow left
@@ -207,7 +207,7 @@ named_below table front (Some name) = option_map (λ holder. (holder, name)) (ho
 abbrev pub named_spot : List Branch → List Component → Option (ℕ × List ℕ)
 named_spot table cs = named_below table (all_but_last cs) (name_of (last_of cs))
 
--- the name is there and isn't taken
+-- the name, if it is there and isn't taken
 abbrev pub if_free : List Branch → Option (ℕ × List ℕ) → Result (ℕ × List ℕ) BuildError
 if_free table None = Err NotFound
 if_free table (Some s) = if is_some (child_named (children_at table s.0) s.1) then Err AlreadyExists else Ok s
@@ -216,7 +216,7 @@ if_free table (Some s) = if is_some (child_named (children_at table s.0) s.1) th
 abbrev pub free_spot : List Branch → List Component → Result (ℕ × List ℕ) BuildError
 free_spot table cs = if_free table (named_spot table cs)
 
--- the name stands for a child
+-- the name, if it refers to a child
 abbrev pub if_taken : List Branch → Option (ℕ × List ℕ) → Option (ℕ × List ℕ)
 if_taken table None = None
 if_taken table (Some s) = if is_some (child_named (children_at table s.0) s.1) then Some s else None
@@ -236,54 +236,54 @@ index_of_child (Some (Link target)) = None
 abbrev pub directory_spot : List Branch → List Component → Option ℕ
 directory_spot table cs = option_and_then (λ s. index_of_child (child_named (children_at table s.0) s.1)) (named_spot table cs)
 
--- the directory that was come to, or that holds the link, is in the table
+-- The directory that was reached, or that holds the link, is in the table.
 abbrev pub IsWithin : List Branch → Hit → Type 0
 IsWithin table (on_dir index) = index < length table
 IsWithin table (on_file len) = Unit {0}
 IsWithin table (on_link holder target) = holder < length table
 
--- a directory that a name stands for is in the table and isn't the root, and that name in that directory is the only one that stands for it
+-- A directory that a name refers to is in the table and isn't the root, and only that name in that directory refers to it.
 pub record IsHeld (table : List Branch) (holder : ℕ) (name : List ℕ) (index : ℕ) : Type 0 where
   pub within : index < length table
   pub below_root : 0 < index
   pub parent : parent_at table index ≡ holder
   pub only_name : (other : List ℕ) → child_named (children_at table holder) other ≡ Some (Dir index) → other ≡ name
 
--- the root is there and holds itself, each directory's parent is there, and each directory that a name stands for is held by it alone
+-- The root is there and holds itself, and each directory's parent is there. Each directory that a name refers to is held by it alone.
 pub record IsSound (table : List Branch) : Type 0 where
   pub rooted : 0 < length table
   pub own_parent : parent_at table 0 ≡ 0
   pub parents : (index : ℕ) → index < length table → parent_at table index < length table
   pub held : (holder : ℕ) (name : List ℕ) (index : ℕ) → child_named (children_at table holder) name ≡ Some (Dir index) → IsHeld table holder name index
 
--- no name stands for the directory
+-- No name refers to the directory.
 pub record IsLoose (table : List Branch) (index : ℕ) : Type 0 where
   pub below_root : 0 < index
   pub within : index < length table
   pub unnamed : (holder : ℕ) (name : List ℕ) → child_named (children_at table holder) name ≢ Some (Dir index)
 
--- there is nothing in it, and it may be read
+-- There is nothing in it, and it may be read.
 abbrev pub IsEmptied : Branch → Type 0
 IsEmptied b = (length b.children ≡ 0) × (is_some b.denied ≡ false)
 
--- the directory had one more child, the last, whose name is gone
+-- The directory had one more child, the last, whose name is gone.
 abbrev pub PopsLast : Branch → List ℕ → Child → Branch → Type 0
 PopsLast old name child new = (old ≡ with_child name child new) × (child_named new.children name ≡ None)
 
--- The places that are free: no name stands for any of them, none is twice among them, and so many from the front are empty.
+-- The places that are free: no name refers to any of them, none is twice among them, and this many from the front are empty.
 pub record AreSpare (table : List Branch) (free : List ℕ) (done : ℕ) : Type 0 where
   pub apart : (k l : ℕ) → k < l → l < length free → slice_index_or free k 0 ≢ slice_index_or free l 0
   pub loose : (k : ℕ) → k < length free → IsLoose table (slice_index_or free k 0)
   pub emptied : (k : ℕ) → k < done → IsEmptied (branch_at table (slice_index_or free k 0))
 
--- A new directory is the last child of its holder. It stands at the last of the free places, which is free no more, or behind the others.
+-- A new directory is the last child of its holder. It is at the last of the free places, which is free no more, or behind the others.
 abbrev pub IsDirectoryAdded : List Branch → List ℕ → ℕ → List ℕ → List Branch → List ℕ → Type 0
 IsDirectoryAdded old free holder name new left =
     MatchOption (slice_get free (length free - 1))
     ((new ≡ with_named old holder name (Dir (length old)) ++ empty_branch holder ∷ []) × (left ≡ free))
     (λ place. (new ≡ with_parent_at (with_named old holder name (Dir place)) place holder) × (left ≡ take (length free - 1) free))
 
--- A child is gone, and what it held stands nowhere; the places that came free are among the free ones.
+-- A child is gone, and what it held is nowhere. The places that became free are among the free ones.
 pub record IsRemoved (old : List Branch) (holder : ℕ) (name : List ℕ) (new : List Branch) (free : List ℕ) : Type 0 where
   pub sound : IsSound new
   pub spare : AreSpare new free (length free)

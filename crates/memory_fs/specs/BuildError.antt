@@ -3,7 +3,7 @@ use Rattle.std.specs.Prelude.{ℕ, List, codes}
 use Rattle.memory_fs.specs.declared.build_error.BuildError.{BuildError}
 use Rattle.memory_fs.specs.declared.build_error.BuildError.TheVariants.{NotFound, AlreadyExists, Memory}
 
--- the text that tells of it
+-- the text of the error
 abbrev pub text_of : BuildError → List ℕ
 text_of NotFound = codes "no such file or directory"
 text_of AlreadyExists = codes "the name is taken"

@@ -1,4 +1,4 @@
--- What a clause sees of a child, and the type that a file system tells of it.
+-- What contracts see of a child, and the type that a file system returns for it.
 use Rattle.std.specs.Prelude.{ℕ, List, string_bytes}
 use Rattle.walk_model.specs.declared.file_type.FileType.{FileType}
 use Rattle.walk_model.specs.declared.file_type.FileType.TheVariants as type

@@ -1,4 +1,4 @@
--- What a clause sees of a directory.
+-- What contracts see of a directory.
 use Rattle.std.specs.Prelude.{map, string_bytes}
 use Rattle.memory_fs.specs.declared.directory.Directory.{Directory}
 use Rattle.memory_fs.specs.Child.{child_seen}

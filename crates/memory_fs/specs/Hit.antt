@@ -1,4 +1,4 @@
--- What a look-up comes to, and what a file system tells of it.
+-- What a look-up reaches, and what a file system returns for it.
 use Rattle.std.specs.Prelude.{ℕ, List, length, Result, Ok, Err}
 use Rattle.std.specs.declared.io.ErrorKind.{ErrorKind}
 use Rattle.walk_model.specs.declared.file_type.FileType.TheVariants as type
@@ -19,12 +19,12 @@ hit_seen (code.Dir index) = on_dir index
 hit_seen (code.File len) = on_file len
 hit_seen (code.Link holder target) = on_link holder target.now
 
--- what a look-up answers
+-- what a look-up returns
 abbrev pub answer_seen : Result CodeHit ErrorKind → Result Hit ErrorKind
 answer_seen (Ok hit) = Ok (hit_seen hit)
 answer_seen (Err k) = Err k
 
--- what a look-up comes to where a child stands in a directory
+-- what a look-up reaches where a child is in a directory
 abbrev pub hit_of : ℕ → Child → Hit
 hit_of holder (Dir index) = on_dir index
 hit_of holder (File len) = on_file len

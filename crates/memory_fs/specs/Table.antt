@@ -1,4 +1,4 @@
--- What a clause sees of a table, and what is known while directories of it are being emptied.
+-- What contracts see of a table, and what is known while directories of it are being emptied.
 use Rattle.std.specs.Prelude.{◌≡◌, ℕ, ◌+◌, ◌-◌, ◌<◌, ◌≤◌, List, [], ◌∷◌, length, map}
 use Rattle.memory_fs.specs.declared.table.Table.{Table}
 use Rattle.memory_fs.specs.Branch.{Branch, tree_of_table, IsSound, AreSpare}
@@ -17,7 +17,7 @@ abbrev pub size : List Branch → ℕ
 size [] = 0
 size (b ∷ bs) = length b.children + size bs
 
--- Directories that no name stands for are being emptied: the tree is the same, and so many of the free places are empty.
+-- Directories that no name refers to are being emptied: the tree is the same, and this many of the free places are empty.
 pub record IsReleasing (start now : List Branch) (free : List ℕ) (done : ℕ) : Type 0 where
   pub sound : IsSound now
   pub spare : AreSpare now free done

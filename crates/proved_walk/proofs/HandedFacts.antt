@@ -9,7 +9,7 @@ use Rattle.jwalk.specs.read_parts.Entry.{item}
 use Rattle.jwalk.specs.read_parts.Given.{Given, counted_list, IsProcessed}
 use Rattle.proved_walk.specs.HandsOnNames.{worth_of, handed, names_handed_on}
 
--- lists that are as long as each other, of which each item of one is seen as that of the other changed
+-- lists of equal length, where each item of one is seen as that of the other, changed
 pub all_changed : {X Y V : Type 0} (item : X → Y) (view : Y → V) (change : V → V) (old new : List X) → length new ≡ length old → ((k : ℕ) (d : X) → k < length new → view (item (get_or new k d)) ≡ change (view (item (get_or old k d)))) → map view (map item new) ≡ map change (map view (map item old))
 all_changed item view change [] [] long each = refl
 all_changed item view change [] (y ∷ new) long each = absurd (omega arith)
@@ -45,7 +45,7 @@ made_by depth path (Ok done) state list kept new is made =
     let directories = ap (counted_list names_handed_on) is ∙ kept_counted worth_of worth_of item list in
     ap (λ l. record { state = worth_of state; list = l }) (sym (made ∙ ap (map (handed (worth_of state))) directories))
 
--- the same of all that is to be said as this is
+-- the same for anything that is to be said in this way
 pub made_for : {R E F : Type 0} (told : Given R E) (depth : Option ℕ) (path : List ℕ) (answer : Result (Unit {0}) F) (state state' : R) (list list' : List (Item R E))
     → OnOk answer (IsProcessed told depth path state list state' list') → (given : Given R E) → given ≡ told → OnOk answer (IsProcessed given depth path state list state' list')
 made_for told depth path answer state state' list list' made given is = subst (λ g. OnOk answer (IsProcessed g depth path state list state' list')) (sym is) made

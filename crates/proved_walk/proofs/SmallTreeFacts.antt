@@ -54,7 +54,7 @@ goes_at start (line ∷ lines) zero d within go = (both_of (is_ok (step_of line 
 goes_at start (line ∷ lines) (suc i) d within go =
     goes_at (built start (step_of line ∷ [])) lines i d (omega (arith, within)) (both_of (is_ok (step_of line start)) _ go).1
 
--- where no line is refused, this one isn't
+-- if no line fails, this one doesn't
 pub line_goes : (lines : List (Bor (List ℕ) × Option ℕ)) (i : ℕ) (d : Bor (List ℕ) × Option ℕ) (old : Tree) → i < length lines → IsBuiltBy (map step_of (take i lines)) old → all_go only_root (map step_of lines) ≡ true → IsOk (step_of (get_or lines i d) old)
 unfolding IsBuiltBy
 line_goes lines i d old within is go = subst (λ t. IsOk (step_of (get_or lines i d) t)) (sym is) (goes_at only_root lines i d within go)
@@ -64,7 +64,7 @@ names_over_tree_a : map path_and_state (whole_walk (job_handing_on (tree_by tree
 unfolding whole_walk below
 names_over_tree_a = refl
 
--- what the walk that hands names on answers over the tree that the steps build
+-- what the walk that hands names on yields over the tree that the steps build
 pub names_walked : (tree : Tree) → IsBuiltBy tree_a tree → map path_and_state (whole_walk (job_handing_on (functions_of tree)) (codes "/t") blank)
     ≡ Some (codes "/t", blank) ∷ Some (codes "/t/group 1", bytes (codes "t")) ∷ Some (codes "/t/group 2", bytes (codes "t")) ∷ []
 unfolding IsBuiltBy
@@ -78,7 +78,7 @@ skipped_over_tree_a : map line_of (whole_walk (job_skipping (codes "group 1" ∷
 unfolding whole_walk below digits
 skipped_over_tree_a = refl
 
--- what the walk that doesn't enter `group 1` answers over the tree that the steps build
+-- what the walk that doesn't enter `group 1` yields over the tree that the steps build
 pub group_1_skipped : (tree : Tree) → IsBuiltBy tree_a tree → map line_of (whole_walk (job_skipping (codes "group 1" ∷ []) (functions_of tree) (with_sort true defaults)) (codes "/t") blank) ≡ without_group_1
 unfolding IsBuiltBy
 group_1_skipped tree is = ap (λ t. map line_of (whole_walk (job_skipping (codes "group 1" ∷ []) (functions_of t) (with_sort true defaults)) (codes "/t") blank)) is ∙ skipped_over_tree_a

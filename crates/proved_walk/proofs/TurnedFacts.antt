@@ -1,4 +1,4 @@
--- Lists that are turned round.
+-- Lists that are reversed.
 use Rattle.std.proofs.Common.{◌≡◌, ◌∙◌, ℕ, List, [], ◌∷◌, ◌++◌, Option, Result, Ok, Err, map, reverse, refl, sym, ap}
 use Rattle.std.proofs.lemmas.List.{map-append}
 use mathlib.Core.List.{reverse-cons}
@@ -16,7 +16,7 @@ map-reverse f (x ∷ xs) =
     ∙ ap (λ l. l ++ f x ∷ []) (map-reverse f xs)
     ∙ sym (reverse-cons (f x) (map f xs))
 
--- such a list is what is given, states counting as nothing
+-- such a list is what is given, where states count as nothing
 pub made_turned : {R E F X : Type 0} (item : X → Item R E) (depth : Option ℕ) (path : List ℕ) (answer : Result (Unit {0}) F) (state state' : R) (old new : List X) → new ≡ reverse old → OnOk answer (IsProcessed turned depth path state (map item old) state' (map item new))
 made_turned item depth path (Ok done) state state' old new is =
     ap (λ l. record { state = blank; list = l })

@@ -1,4 +1,4 @@
--- What two walks answer.
+-- What two walks yield.
 use Rattle.std.specs.Prelude.{Option, Result, IfSome, option_map}
 use Rattle.jwalk.specs.walk_model.Entry.{Item}
 use Rattle.jwalk.specs.walk_model.Counted.{Worth}
@@ -13,6 +13,6 @@ module _ {C A R E : Type 0} where
   abbrev pub counted_answer : Given R E → Option (Result (DirEntry C A R E) (Error A)) → Option (Item Worth Worth)
   counted_answer given answer = option_map (counted_item given) (option_map item answer)
 
-  -- It doesn't tell of want of memory.
+  -- It doesn't say that memory ran out.
   abbrev pub IsPlain : Option (Result (DirEntry C A R E) (Error A)) → Type 0
   IsPlain answer = IfSome (option_map item answer) (λ a. ¬ TellsMemory a)

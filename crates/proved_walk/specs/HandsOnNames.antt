@@ -8,7 +8,7 @@ use Rattle.jwalk.specs.walk_model.FileSystem.{Functions}
 use Rattle.jwalk.specs.walk_model.Options.{defaults, with_sort}
 use Rattle.jwalk.specs.read_parts.Given.{Given}
 
--- a text counts by its bytes, and where there is none, as nothing
+-- a text counts by its bytes, and as nothing if there is none
 abbrev pub worth_of : {A : Type 0} → Option (String A) → Worth
 worth_of None = blank
 worth_of (Some text) = bytes (string_bytes text)
@@ -30,11 +30,11 @@ handed state (Err f) = Err f
 abbrev pub directories_handed : Worth → List (Item Worth Worth) → List (Item Worth Worth)
 directories_handed state list = map (handed state) (filter has_directory list)
 
--- what the callback makes of a list; it leaves the list's state as it is
+-- what the callback makes of a list, whose state it leaves as it is
 abbrev pub handed_on : Processing Worth Worth
 handed_on depth path state list = record { state = state; list = directories_handed state list }
 
--- it keeps depths
+-- It keeps depths.
 pub keeps_depth : (depth : ℕ) (state : Worth) (list : List (Item Worth Worth)) → AtDepth depth list → AtDepth depth (directories_handed state list)
 keeps_depth depth state [] h = tt
 keeps_depth depth state (Err f ∷ list) h = keeps_depth depth state list h

@@ -6,7 +6,7 @@ use Rattle.jwalk.specs.walk_model.Job.{Processing, KeepsDepthsOf}
 use Rattle.jwalk.specs.read_parts.Given.{Given}
 
 module _ {R E : Type 0} where
-  -- the root's list stays, and of every other nothing
+  -- the root's list stays, and nothing of every other list
   abbrev pub emptied : Option ℕ → List (Item R E) → List (Item R E)
   emptied None list = list
   emptied (Some depth) list = []

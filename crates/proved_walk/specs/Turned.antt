@@ -1,4 +1,4 @@
--- Walks whose callback turns every list round.
+-- Walks whose callback reverses every list.
 use Rattle.std.specs.Prelude.{ℕ, List, [], ◌∷◌, ◌++◌, reverse, Ok, Err}
 use Rattle.std.proofs.Common.{sym, subst}
 use mathlib.Core.List.{reverse-cons}

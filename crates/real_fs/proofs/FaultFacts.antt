@@ -1,4 +1,4 @@
--- What a fault says of its error, and what the exit of a `?` leaves to prove.
+-- What a fault says of its error, and what is left to prove at the exit of a `?`.
 use Rattle.std.proofs.Common.{◌≡◌, ◌≢◌}
 use Rattle.std.specs.IoError.{error_kind}
 use Rattle.std.specs.Prelude.{Result, Ok, Err, IfOk, IsErrAnd, OnOk}

@@ -18,7 +18,7 @@ use Rattle.real_fs.specs.Texts.{is_child, is_nul, children}
 use Rattle.real_fs.specs.Listing.{name_in, told, names_of, Adds}
 use Rattle.real_fs.specs.declared.listing.Listing.{Listing}
 
--- a name that is UTF-8 stands for itself
+-- a name that is UTF-8 is itself
 pub told_is : (name : List ℕ) → IsUtf8 name → told name ≡ Ok name
 told_is name h = simp (is_utf8-from_IsUtf8 name h)
 
@@ -26,18 +26,18 @@ by_test : (b : Bool) (name : List ℕ) → is_utf8 name ≡ b → ¬ (IsUtf8 nam
 by_test true name e isnt = absurd (isnt (IsUtf8-from_is_utf8 name e))
 by_test false name e isnt = simp e
 
--- for one that isn't, an error stands
+-- one that isn't is an error
 pub told_not : (name : List ℕ) → ¬ (IsUtf8 name) → told name ≡ Err InvalidFilename
 told_not name isnt = by_test (is_utf8 name) name refl isnt
 
--- one item more, which stands for a name
+-- one more item, for a name
 pub adds_one : {A : Type 0} (name : List ℕ) (old new : Listing A) (item : Result (Listed A) Error) → name_in (listed item) ≡ told name → new.items.items ≡ old.items.items ++ item ∷ [] → Adds (name ∷ []) old new
 adds_one name old new item is more =
     ap (map (λ i. name_in (listed i))) more
     ∙ map-append (λ i. name_in (listed i)) old.items.items (item ∷ [])
     ∙ ap (λ n. names_of old ++ n ∷ []) is
 
--- the same where it may be refused
+-- the same where it may fail
 pub adds_one_if : {A T : Type 0} (r : Result T Fault) (name : List ℕ) (old new : Listing A) (item : Result (Listed A) Error) → name_in (listed item) ≡ told name → OnOk r (new.items.items ≡ old.items.items ++ item ∷ []) → OnOk r (Adds (name ∷ []) old new)
 adds_one_if (Ok _) name old new item is more = adds_one name old new item is more
 adds_one_if (Err _) name old new item is more = tt

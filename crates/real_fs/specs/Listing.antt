@@ -10,16 +10,16 @@ use Rattle.walk_fs.specs.Views.{listed}
 use Rattle.real_fs.specs.Texts.{children}
 use Rattle.real_fs.specs.declared.listing.Listing.{Listing}
 
--- the name of an item, or the kind of the error that stands in its place
+-- the name of an item, or the kind of the error in its place
 abbrev pub name_in : value.Listed → Result (List ℕ) ErrorKind
 name_in (Ok item) = Ok item.name
 name_in (Err kind) = Err kind
 
--- the names of the items so far, in order, with the errors that stand in their places
+-- the names of the items so far, in order, with the errors in their places
 abbrev pub names_of : {A : Type 0} → Listing A → List (Result (List ℕ) ErrorKind)
 names_of listing = map (λ item. name_in (listed item)) listing.items.items
 
--- what stands for a name: itself, or an error where it isn't UTF-8
+-- what a name is listed as: itself, or an error if it isn't UTF-8
 abbrev pub told : List ℕ → Result (List ℕ) ErrorKind
 told name = if is_utf8 name then Ok name else Err InvalidFilename
 
@@ -27,7 +27,7 @@ told name = if is_utf8 name then Ok name else Err InvalidFilename
 abbrev pub Adds : {A : Type 0} → List (List ℕ) → Listing A → Listing A → Type 0
 Adds names old new = names_of new ≡ names_of old ++ map told names
 
--- An error adds nothing where a read was interrupted, and then there may be more; else it is the last item.
+-- An error adds nothing if a read was interrupted, and then there may be more. Otherwise it is the last item.
 pub record AddsError {A : Type 0} (e : Error) (more : Bool) (old new : Listing A) : Type 0 where
   pub interrupted : error_kind e ≡ Interrupted → (more ≡ true) × (names_of new ≡ names_of old)
   pub ended : error_kind e ≢ Interrupted → (more ≡ false) × (new.items.items ≡ old.items.items ++ Err e ∷ [])

@@ -1,4 +1,4 @@
--- What the standard library answers, as a walk sees it.
+-- What the standard library returns, as a walk sees it.
 use Rattle.std.specs.Prelude.{◌≡◌, ◌≢◌, ◌==◌, Result, Ok, Err, if◌then◌else◌}
 use Rattle.std.specs.Fs as fs
 use Rattle.std.specs.IoError.{error_kind}
@@ -12,7 +12,7 @@ use Rattle.walk_model.specs.declared.metadata.Metadata.{Metadata}
 use Rattle.walk_fs.specs.declared.fault.Fault.{Fault}
 use Rattle.walk_fs.specs.declared.fault.Fault.TheVariants.{Io, Memory}
 
--- the type that is found: whatever is no directory, no file and no link is something else
+-- the type that is found: what is no directory, no file and no link is something else
 abbrev pub type_seen : found.Metadata → FileType
 type_seen m =
     if (fs.file_type m).bits == 0o040000 then Dir
@@ -20,7 +20,7 @@ type_seen m =
     else if (fs.file_type m).bits == 0o120000 then Symlink
     else Other
 
--- An error of the system is a fault: want of memory where it is that, and else itself.
+-- An error of the system as a fault: that memory ran out if it says so, and otherwise the error itself.
 pub record IsFault (e : Error) (f : Fault) : Type 0 where
   pub memory : error_kind e ≡ OutOfMemory → f ≡ Memory
   pub system : error_kind e ≢ OutOfMemory → f ≡ Io e

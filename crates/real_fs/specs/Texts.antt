@@ -7,7 +7,7 @@ use Rattle.std.specs.Str.{bytes_eq, byte}
 abbrev pub slash_ended : List ℕ → List ℕ
 slash_ended path = if length path == 0 || ends_with nat_eq path (byte "/" ∷ []) then path else path ++ byte "/" ∷ []
 
--- the name isn't empty, and neither `.` nor `..`
+-- The name isn't empty, and neither `.` nor `..`.
 abbrev pub is_child : List ℕ → Bool
 is_child name = not (bytes_eq name [] || bytes_eq name (byte "." ∷ []) || bytes_eq name (byte "." ∷ byte "." ∷ []))
 

@@ -1,4 +1,4 @@
--- The answers of a file system seen as values: an `io::Error` counts by its kind alone.
+-- What a file system returns, as values: an `io::Error` counts only by its kind.
 use Rattle.std.specs.Prelude.{◌≡◌, Result, Ok, Err, string_bytes}
 use Rattle.std.specs.IoError.{error_kind}
 use Rattle.std.specs.declared.io.ErrorKind.{ErrorKind}
@@ -20,7 +20,7 @@ named item = record { name = string_bytes item.name; file_type = by_kind (λ t. 
 abbrev pub listed : {A : Type 0} → Result (Listed A) Error → value.Listed
 listed item = by_kind named item
 
--- The answer is the value, or that memory ran out.
+-- The result is the value, or memory ran out.
 abbrev pub AnswersValue : {X Y : Type 0} → (X → Y) → Result X Fault → Result Y ErrorKind → Type 0
 AnswersValue view (Ok x) value = value ≡ Ok (view x)
 AnswersValue view (Err (Io e)) value = value ≡ Err (error_kind e)

@@ -9,7 +9,7 @@ use Rattle.read_parts.specs.Entry.{item}
 use Rattle.read_parts.specs.Given.{Given, counted_item}
 
 module _ {R E : Type 0} (given : Given R E) where
-  -- a line doesn't tell states
+  -- a line doesn't depend on states
   same_line : (x : Item R E) → line_of (counted_item given x) ≡ line_of x
   same_line (Err f) = refl
   same_line (Ok e) = elim e.read_children as (λ o. line_of (counted_item given (Ok (record e { read_children = o }))) ≡ line_of {R = R} {E = E} (Ok (record e { read_children = o }))) [ None ↦ refl | Some c ↦ refl ]
@@ -18,7 +18,7 @@ module _ {R E : Type 0} (given : Given R E) where
   same_lines [] = refl
   same_lines (x ∷ xs) = ap (λ l. l ++ lines_of (map (counted_item given) xs)) (same_line x) ∙ ap (λ l. line_of x ++ l) (same_lines xs)
 
-  -- answers are entries where their values are
+  -- an answer is an entry if its value is one
   pub all_entries : {C A : Type 0} (xs : List (Result (DirEntry C A R E) (Error A))) → list_all is_ok (map (counted_item given) (map item xs)) ≡ list_all is_ok xs
   all_entries [] = refl
   all_entries (Ok e ∷ xs) = all_entries xs

@@ -1,4 +1,4 @@
--- The lines of what calls answer, one call after another.
+-- The lines of what calls yield, one call after another.
 use Rattle.std.proofs.Common.{◌≡◌, ℕ, Bool, true, ◌&&◌, List, [], ◌∷◌, ◌++◌, Option, Some, None, Result, map, is_ok, refl}
 use Rattle.std.specs.Iterator.{Yields}
 use Rattle.std.specs.List.{list_all}
@@ -12,18 +12,18 @@ use Rattle.walk_run.specs.Answers.{PrintsAll}
 use Rattle.walk_run.proofs.LineFacts.{nothing_gathered, rest_written, all_after, line_after}
 
 module _ {S C A R E : Type 0} (steps : S → Option (Result (DirEntry C A R E) (Error A)) → S → Type 0) (start : S) where
-  -- Calls answered these so far, the line of each is written, and it is told whether none is an error.
+  -- Calls yielded these so far, the line of each is written, and it is known whether none is an error.
   pub record PrintsSoFar (now : S) (old new : Option (List ℕ)) (clean : Bool) : Type 0 where
     pub answered : List (Result (DirEntry C A R E) (Error A))
     pub calls : Yields steps start answered now
     pub lines : Appends old new (lines_of (map item answered))
     pub all : clean ≡ list_all is_ok answered
 
-  -- nothing was asked yet
+  -- nothing was yielded yet
   pub nothing_printed : (old : Option (List ℕ)) (gathered : List ℕ) → gathered ≡ [] → PrintsSoFar start old (append_known old gathered) true
   nothing_printed old gathered none = record { answered = []; calls = refl; lines = nothing_gathered old gathered none; all = refl }
 
-  -- one call more
+  -- one more call
   pub one_printed : (now next : S) (old mid new : Option (List ℕ)) (clean is_entry : Bool) (answer : Result (DirEntry C A R E) (Error A)) → PrintsSoFar now old mid clean → steps now (Some answer) next → Appends mid new (line_of (item answer)) → is_entry ≡ is_ok answer → PrintsSoFar next old new (clean && is_entry)
   one_printed now next old mid new clean is_entry answer so_far step line entry = record {
     answered = so_far.answered ++ answer ∷ [];

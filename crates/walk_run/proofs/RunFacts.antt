@@ -4,14 +4,14 @@ use Rattle.walk_text.specs.declared.failure.Failure.{Failure}
 use Rattle.walk_text.specs.declared.failure.Failure.TheVariants.{BadWords, BadTree, Memory, Output}
 use Rattle.walk_text.specs.Failure.{status_of}
 
--- what stands in the way of a walk never ends with 0
+-- no failure ends with 0
 pub never_zero : (failure : Failure) → status_of failure ≡ 0 → ⊥
 never_zero BadWords is = absurd cc
 never_zero (BadTree number) is = absurd cc
 never_zero Memory is = absurd cc
 never_zero Output is = absurd cc
 
--- two facts of what was answered make a third
+-- two facts about a result make a third
 pub ok_both : {X Y : Type 0} (r : Result X Y) (P Q T : X → Type 0) → IfOk r P → IfOk r Q → ((x : X) → P x → Q x → T x) → IfOk r T
 ok_both (Ok x) P Q T first second make = make x first second
 ok_both (Err e) P Q T first second make = tt

@@ -9,7 +9,7 @@ use Rattle.read_parts.specs.Entry.{item}
 use Rattle.walk_model.specs.Lines.{lines_of}
 
 module _ {S C A R E : Type 0} (steps : S → Option (Result (DirEntry C A R E) (Error A)) → S → Type 0) (answers : S) where
-  -- the iterator was asked until it ended, the line of each answer was written, and it is told whether none was an error
+  -- The iterator was called until it ended, the line of each answer was written, and the result says whether none was an error.
   abbrev pub PrintsAll : Option (List ℕ) → Option (List ℕ) → Bool → Type 0
   PrintsAll old new clean =
       (answered : List (Result (DirEntry C A R E) (Error A))) × Drains steps answers answered × (clean ≡ list_all is_ok answered) × Appends old new (lines_of (map item answered))

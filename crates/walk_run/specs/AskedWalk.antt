@@ -23,7 +23,7 @@ use Rattle.walk_text.specs.declared.asked.Asked.{Asked}
 use Rattle.walk_text.specs.Asked.{options_for}
 use Rattle.walk_run.specs.Answers.{PrintsAll}
 
--- all that a walk from a root answers, as is asked for, over a file system that always answers the same
+-- all that a walk from a root yields, as is asked for, over a file system that always returns the same
 abbrev pub answers_over : Functions → Asked → List ℕ → List (Item Worth Worth)
 answers_over fs asked root = stateless_walk fs (options_for asked) root
 
@@ -32,7 +32,7 @@ pub record PrintsOver (fs : Functions) (asked : Asked) (root : List ℕ) (old ne
   pub prints : Appends old new (lines_of (answers_over fs asked root))
   pub clean : list_all is_ok (answers_over fs asked root) ≡ true
 
--- A walk with threads of a runtime, over a file system and from a root, began as is asked for. It was asked until it ended, the line of each answer was written, and no answer was an error.
+-- A walk with threads of a runtime, over a file system and from a root, began as is asked for. It was called until it ended, the line of each answer was written, and no answer was an error.
 pub record PrintsBegun (T : Type 0) {C S P A L R E : Type 0} (files : FileSystem.Ghosts S) (process : ProcessReadDir.Ghosts P C A R E) (clone : Clone.Ghosts R) (defaults : Default.Ghosts E) (pool : Pool.Ghosts L C S P A R E) (fs : S) (asked : Asked) (root : List ℕ) (old new : Option (List ℕ)) : Type 0 where
   pub walk : WalkDirGeneric C S P A (OnThreads (Bor T)) (Crew T) R E
   pub file_system : file_system_of walk ≡ fs

@@ -20,7 +20,7 @@ use Rattle.walk_run.specs.AskedWalk.{PrintsBegun, PrintsOver}
 use Rattle.walk_run.specs.declared.source.Source.{Source}
 use Rattle.walk_run.specs.declared.source.Source.TheVariants.{Disk, Tree}
 
--- The words ask for a walk; where that is to go over a tree, there is one, and the bytes to come build it.
+-- The words ask for a walk. If it is to go over a tree, there is one, and the bytes to come build it.
 pub record BeginsWalk (words : List (List ℕ)) (to_come : Option (List ℕ)) : Type 0 where
   pub asked : Asked
   pub root : List ℕ
@@ -34,7 +34,7 @@ abbrev pub IsSource : {S A : Type 0} → S → Option tree.Tree → Source S A �
 IsSource disk None source = source ≡ Disk disk
 IsSource {S} {A} disk (Some t) source = (tree : MemoryFs A) × (source ≡ Tree tree) × (tree_of tree ≡ t)
 
--- The walk that begins so was printed to its end, and no answer is an error. Its answers are the whole walk: over its tree or, where it has none, over the disk, if that always answers the same.
+-- The walk that begins so was printed to its end, and no answer is an error. Its answers are the whole walk over its tree. Without a tree, they are that over the disk, if it always returns the same.
 pub record PrintsWalk (T : Type 0) {C S P A L R E : Type 0} (files : FileSystem.Ghosts S) (sources : FileSystem.Ghosts (Source S A)) (process : ProcessReadDir.Ghosts P C A R E) (clone : Clone.Ghosts R) (defaults : Default.Ghosts E) (pool : Pool.Ghosts L C (Source S A) P A R E) (disk : S) (words : List (List ℕ)) (to_come old new : Option (List ℕ)) : Type 0 where
   pub walk : BeginsWalk words to_come
   pub source : Source S A
@@ -43,14 +43,14 @@ pub record PrintsWalk (T : Type 0) {C S P A L R E : Type 0} (files : FileSystem.
   pub over_tree : IfSome walk.tree (λ t. PrintsOver (functions_of t) walk.asked walk.root old new)
   pub over_disk : IfNone walk.tree (files.IsFixed disk → PrintsOver (files.functions disk) walk.asked walk.root old new)
 
--- why a call begins no walk: its words ask for none, or the bytes to come build no tree where one is asked for, or memory was refused
+-- Why a call begins no walk: its words ask for none, or the bytes to come build no tree where one is asked for, or memory ran out.
 abbrev pub TellsOfCall : List (List ℕ) → Option (List ℕ) → Failure → Type 0
 TellsOfCall words to_come BadWords = ¬ (AreGood words)
 TellsOfCall words to_come (BadTree number) = AskForTree words × TellsOfInput to_come (BadTree number)
 TellsOfCall words to_come Memory = Unit {0}
 TellsOfCall words to_come Output = ⊥
 
--- a call ends with the status of what stands in the way of its walk, or with 0 or 1 once the walk has begun
+-- A call ends with the status of the failure that keeps its walk from beginning, or with 0 or 1 once the walk has begun.
 abbrev pub Ends : List (List ℕ) → Option (List ℕ) → ℕ → Type 0
 Ends words to_come status =
     ((failure : Failure) × TellsOfCall words to_come failure × (status ≡ status_of failure)) ⊎ (BeginsWalk words to_come × (status ≤ 1))

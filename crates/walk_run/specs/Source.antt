@@ -5,12 +5,12 @@ use Rattle.memory_fs.specs.MemoryFs.{tree_of}
 use Rattle.walk_run.specs.declared.source.Source.{Source}
 use Rattle.walk_run.specs.declared.source.Source.TheVariants.{Disk, Tree}
 
--- a tree always answers the same; the disk does where that is said of it
+-- A tree always returns the same. The disk does, if that is said of it.
 abbrev pub IsFixedSource : {S A : Type 0} → (S → Type 0) → Source S A → Type 0
 IsFixedSource fixed (Disk disk) = fixed disk
 IsFixedSource fixed (Tree tree) = Unit {0}
 
--- what it then answers
+-- what it then returns
 abbrev pub source_functions : {S A : Type 0} → (S → Functions) → Source S A → Functions
 source_functions functions (Disk disk) = functions disk
 source_functions functions (Tree tree) = functions_of (tree_of tree)

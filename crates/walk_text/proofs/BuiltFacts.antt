@@ -19,7 +19,7 @@ pub adds_nothing : (line : List ℕ) (tree : Tree) → (length line == 0) ≡ tr
 adds_nothing [] tree empty = refl
 adds_nothing (c ∷ cs) tree empty = absurd (omega (arith, eqb-true (length (c ∷ cs)) 0 empty))
 
--- another adds what it says
+-- another one adds what it says
 pub adds_said : (line : List ℕ) (old new : Tree) (said : TreeLine) → (length line == 0) ≡ false → Says line said → IsBuilt (added said old) new → Adds line old new
 adds_said [] old new said some says built = cc
 adds_said (c ∷ cs) old new said some says built = (said, says, built)
@@ -41,7 +41,7 @@ unnumbered : (lines : List (List ℕ)) (n : ℕ) → map (λ (p : ℕ × List �
 unnumbered [] n = refl
 unnumbered (line ∷ lines) n = ap (λ l. line ∷ l) (unnumbered lines (n + 1))
 
--- all lines, when the last was passed
+-- all lines, once the last was passed
 pub builds : (text : List ℕ) (xs : List (ℕ × Bor (List ℕ))) (start tree : Tree) → map numbered xs ≡ numbered_from 1 text → IsSameTree only_root start → AddsAll (map text_of xs) start tree → Builds (text_lines text) tree
 builds text xs start tree all same adds =
     let lines : map text_of xs ≡ text_lines text = texts_of xs ∙ (ap (map (λ (p : ℕ × List ℕ). p.1)) all ∙ unnumbered (text_lines text) 1) in
@@ -76,7 +76,7 @@ names_first text xs x start tree failure before within here same adds bad = by_f
         let counted : number ≡ x.0 = cc (is.0) in
         record { before = map text_of xs; line = text_of x; after = place.0; tree = tree; parts = place.1; counted = counted ∙ place.2; built = (start, same, adds); bad = is.1 }
 
--- an input that can't be read, or whose reading was refused memory
+-- an input that can't be read, or whose reading ran out of memory
 pub unread : (to_come : Option (List ℕ)) (failure : Failure) → (failure ≡ Memory) ⊎ (failure ≡ BadTree 0) → TellsOfInput to_come failure
 unread to_come failure (inl e) = subst (TellsOfInput to_come) (sym e) tt
 unread to_come failure (inr e) = subst (TellsOfInput to_come) (sym e) (inl refl)

@@ -2,7 +2,7 @@
 use Rattle.std.proofs.Common.{◌≡◌, ◌≢◌, ℕ, List, [], ◌∷◌, ◌++◌, inl, inr, drop, codes, sym, ap, subst, ◌∙◌, arith}
 use Rattle.walk_text.specs.TreeLine.{HasSizedPath, HasLinkedPath, IsTreeLine}
 
--- a text begins with one letter alone
+-- a text begins with only one letter
 one_letter : (text : List ℕ) (a b : ℕ) (xs ys : List ℕ) → text ≡ a ∷ xs → text ≡ b ∷ ys → a ≡ b
 one_letter text a b xs ys first second = cc
 

@@ -17,7 +17,7 @@ split_as choice others = Some (choice, others)
 abbrev batch : ℕ → Choice
 batch width = Read (Batch width)
 
--- directories are read by a crew of so many workers
+-- directories are read by a crew of n workers
 abbrev crew : ℕ → Choice
 crew workers = Read (Crew workers)
 
@@ -65,7 +65,7 @@ same_parts a b xs ys same =
     let e : (a, xs) ≡ (b, ys) = ap (λ (o : Option P). unwrap_or o (a, xs)) same in
     (ap (λ (p : P). p.0) e, ap (λ (p : P). p.1) e)
 
--- words begin with one option alone
+-- words begin with only one option
 pub one_option : (words : List (List ℕ)) (a b : Choice) (xs ys : List (List ℕ)) → Begin words a xs → Begin words b ys → (a ≡ b) × (xs ≡ ys)
 one_option words a b xs ys first second = same_parts a b xs ys (sym (split_is words a xs first) ∙ split_is words b ys second)
 
@@ -87,11 +87,11 @@ fewer_behind words (Max n) others begin = two_words (codes "--max") words n othe
 fewer_behind words (Read (Batch n)) others begin = two_words (codes "--batch") words n others begin
 fewer_behind words (Read (Crew n)) others begin = two_words (codes "--crew") words n others begin
 
--- no words begin with no number
+-- an empty list of words begins with no number
 pub no_first_word : (words : List (List ℕ)) → length words ≡ 0 → (n : ℕ) (others : List (List ℕ)) → ¬ (BeginWithNumber words n others)
 no_first_word words none n others (digits, is, number, value) = absurd (omega (arith, none, ap length is))
 
--- nor do words whose first is none
+-- nor do words whose first is no number
 pub no_number : (words : List (List ℕ)) (first : List ℕ) (behind : List (List ℕ)) → words ≡ first ∷ behind → ¬ (IsNumber first) → (n : ℕ) (others : List (List ℕ)) → ¬ (BeginWithNumber words n others)
 no_number words first behind is none n others (digits, begins, number, value) =
     let e : digits ≡ first = cc in
@@ -101,7 +101,7 @@ no_number words first behind is none n others (digits, begins, number, value) =
 fewer_behind_number : (words : List (List ℕ)) (n : ℕ) (others : List (List ℕ)) → BeginWithNumber words n others → length others < length words
 fewer_behind_number words n others (digits, is, number, value) = omega (arith, ap length is)
 
--- what stands behind a name in front of a number
+-- what is behind a name in front of a number
 behind_name : (name : List ℕ) (words : List (List ℕ)) (option : List ℕ) (n : ℕ) (others : List (List ℕ)) → BeginWithNamedNumber option (name ∷ words) n others → (name ≡ option) × BeginWithNumber words n others
 behind_name name words option n others (behind, is, number) =
     let same : words ≡ behind = cc in
@@ -141,7 +141,7 @@ no_numbered_option name not_min not_max not_batch not_crew n words others number
     refuted (Read (Batch k)) b = not_batch (behind_name name words (codes "--batch") k others b).0
     refuted (Read (Crew k)) b = not_crew (behind_name name words (codes "--crew") k others b).0
 
--- words begin with no option where their first is none of one word, and none with a number that stands behind it
+-- words begin with no option if their first is none of one word, and none with a number that comes behind it
 pub no_option : (words : List (List ℕ)) (name : List ℕ) (behind : List (List ℕ)) → words ≡ name ∷ behind → ((choice : Choice) (others : List (List ℕ)) → ¬ (Begin (name ∷ others) choice others)) → ((n : ℕ) (others : List (List ℕ)) → BeginWithNumber behind n others → (choice : Choice) → ¬ (Begin (name ∷ behind) choice others)) → (choice : Choice) (others : List (List ℕ)) → ¬ (Begin words choice others)
 no_option words name behind is plain numbered choice others begin = refuted choice (subst (λ ws. Begin ws choice others) is begin)
   where
@@ -158,7 +158,7 @@ no_option words name behind is plain numbered choice others begin = refuted choi
     refuted (Read (Batch n)) b = by_number (codes "--batch") n (batch n) b b
     refuted (Read (Crew n)) b = by_number (codes "--crew") n (crew n) b b
 
--- no words begin with no option
+-- an empty list of words begins with no option
 none_begins : (choice : Choice) (others : List (List ℕ)) → ¬ (Begin [] choice others)
 unfolding split
 none_begins choice others begin = absurd (differ (split_is [] choice others begin))
@@ -166,7 +166,7 @@ none_begins choice others begin = absurd (differ (split_is [] choice others begi
     differ : None ≡ split_as choice others → ⊥
     differ e = subst (λ o. MatchOption o (Unit {0}) (λ _. ⊥)) e tt
 
--- what options add when one more stands in front of them
+-- what options add when one more comes before them
 add_front : (words others : List (List ℕ)) (choice : Choice) (old mid new : Asked) → Begin words choice others → also choice old ≡ Some mid → Add others mid new → Add words old new
 add_front words others choice old mid new begin more (choices, add) = (choice ∷ choices, (others, mid, begin, more, add))
 
@@ -188,7 +188,7 @@ pub record AsksAlike (old : Asked) (words : List (List ℕ)) (mid : Asked) (left
 pub alike_at_first : (old : Asked) (words : List (List ℕ)) (mid : Asked) → mid ≡ old → AsksAlike old words mid words
 alike_at_first old words mid is = subst (λ asked. AsksAlike old words asked words) (sym is) (record { forth = λ new add. add; back = λ new add. add })
 
--- one option more
+-- one more option
 pub alike_behind : (old : Asked) (words : List (List ℕ)) (asked mid : Asked) (left others : List (List ℕ)) (choice : Choice) → AsksAlike old words asked left → left ≢ [] → Begin left choice others → also choice asked ≡ Some mid → AsksAlike old words mid others
 alike_behind old words asked mid left others choice alike some begin more = record {
   forth = λ new add. alike.forth new (add_front left others choice asked mid new begin more add);
@@ -228,7 +228,7 @@ asks_by_last words options last is asked root (front, front_is, add) =
     let same : (front ≡ options) × (root ≡ last) = same_from_push front options root last (sym front_is ∙ is) in
     (same.1, subst (λ ws. Add ws nothing asked) same.0 add)
 
--- no words are no good ones
+-- an empty list of words asks for no walk
 pub no_root : (words : List (List ℕ)) → length words ≡ 0 → ¬ (AreGood words)
 no_root words none (asked, root, (options, is, add)) = absurd (omega (arith, none, ap length is, length-append options (root ∷ [])))
 

@@ -23,17 +23,17 @@ also (Min depth) asked = if is_some asked.min then None else Some (record asked 
 also (Max depth) asked = if is_some asked.max then None else Some (record asked { max = Some depth })
 also (Read by) asked = if is_some asked.read_by then None else Some (record asked { read_by = Some by })
 
--- a step of the builder, where what it takes was named
+-- a step of the builder, if its value was named
 abbrev pub where_named : {X : Type 0} → (X → Options → Options) → Option X → Options → Options
 where_named step None options = options
 where_named step (Some x) options = step x options
 
--- directories are read in batches of a width, where 0 stands for 8, or by a crew
+-- directories are read in batches of a width, where 0 means 8, or by a crew
 abbrev pub parallelism_by : ReadBy → Parallelism
 parallelism_by (Batch width) = mode_value (Batches width)
 parallelism_by (Crew workers) = crew
 
--- the step that says what directories are read by
+-- the step that sets how directories are read
 abbrev pub with_read_by : ReadBy → Options → Options
 with_read_by by = with_parallelism (parallelism_by by)
 

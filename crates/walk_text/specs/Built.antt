@@ -17,21 +17,21 @@ added (File len path) tree = add (file len) path.now tree
 added (Link target path) tree = add (link target.now) path.now tree
 added (Deny path) tree = deny PermissionDenied path.now tree
 
--- the line makes the second tree of the first; an empty line changes nothing
+-- The line makes the second tree of the first. An empty line changes nothing.
 abbrev pub Adds : List ℕ → Tree → Tree → Type 0
 Adds [] old new = new ≡ old
 Adds (c ∷ cs) old new = (line : TreeLine) × Says (c ∷ cs) line × IsBuilt (added line old) new
 
--- the lines do, one after another
+-- The lines do so, one after another.
 abbrev pub AddsAll : List (List ℕ) → Tree → Tree → Type 0
 AddsAll [] old new = new ≡ old
 AddsAll (line ∷ others) old new = (mid : Tree) × Adds line old mid × AddsAll others mid new
 
--- the line isn't text, or no line of a tree, or says what can't be added
+-- The line isn't text, or no line of a tree, or says what can't be added.
 abbrev pub CannotAdd : List ℕ → Tree → Type 0
 CannotAdd text tree = ¬ (IsUtf8 text) ⊎ ¬ (IsTreeLine text) ⊎ ((line : TreeLine) × Says text line × IsErr (added line tree))
 
--- the lines build the tree
+-- The lines build the tree.
 abbrev pub Builds : List (List ℕ) → Tree → Type 0
 Builds lines tree = (start : Tree) × IsSameTree only_root start × AddsAll lines start tree
 
@@ -46,14 +46,14 @@ pub record IsFirstBad (lines : List (List ℕ)) (number : ℕ) : Type 0 where
   pub built : Builds before tree
   pub bad : CannotAdd line tree
 
--- why the lines build no tree: the first bad one, or memory that was refused
+-- Why the lines build no tree: the first bad one, or memory ran out.
 abbrev pub TellsOf : List (List ℕ) → Failure → Type 0
 TellsOf lines (BadTree number) = IsFirstBad lines number
 TellsOf lines Memory = Unit {0}
 TellsOf lines BadWords = ⊥
 TellsOf lines Output = ⊥
 
--- why the bytes to come build no tree: they can't be read, and the number is 0; or the first bad line; or memory that was refused
+-- Why the bytes to come build no tree: they can't be read, and the number is 0. Or the first bad line. Or memory ran out.
 abbrev pub TellsOfInput : Option (List ℕ) → Failure → Type 0
 TellsOfInput to_come (BadTree number) = (number ≡ 0) ⊎ IfSome to_come (λ bytes. IsFirstBad (text_lines bytes) number)
 TellsOfInput to_come Memory = Unit {0}

@@ -1,4 +1,4 @@
--- What stands in the way of a walk.
+-- Failures of the program.
 use Rattle.std.specs.Prelude.{ℕ, List, ◌++◌, codes, decimal}
 use Rattle.walk_text.specs.declared.failure.Failure.{Failure}
 use Rattle.walk_text.specs.declared.failure.Failure.TheVariants.{BadWords, BadTree, Memory, Output}
@@ -10,7 +10,7 @@ status_of (BadTree line) = 2
 status_of Memory = 1
 status_of Output = 1
 
--- the text that tells of it
+-- the text of the failure
 abbrev pub text_of : Failure → List ℕ
 text_of BadWords = codes "bad words"
 text_of (BadTree line) = codes "bad tree, line " ++ decimal line

@@ -2,7 +2,7 @@
 use Rattle.std.specs.Prelude.{ℕ, ◌^◌, ◌<◌, ◌≤◌, List, length}
 use Rattle.std.specs.Str.Parse.{AllDigits, digits_value}
 
--- the number that decimal digits stand for
+-- the number that is written with these decimal digits
 abbrev pub value_of : List ℕ → ℕ
 value_of = digits_value 10
 

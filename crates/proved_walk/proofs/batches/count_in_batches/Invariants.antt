@@ -3,7 +3,7 @@ use Rattle.std.specs.Iterator.{Yields}
 use Rattle.jwalk.specs.DirEntryIter.{job_of, weight_of, Answers}
 use Rattle.proved_walk.proofs.batches.count_in_batches.Given as goal
 
--- so many calls of `next` answered before this batch
+-- this many calls of `next` yielded an item before this batch
 abbrev pub invariant-loop-found : goal.invariant-loop-found
 invariant-loop-found g l =
     (answered : List _)

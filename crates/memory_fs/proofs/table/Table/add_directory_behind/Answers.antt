@@ -6,7 +6,7 @@ use Rattle.memory_fs.specs.Directory.{branch}
 use Rattle.memory_fs.proofs.EditLemmas.{length-others}
 use Rattle.memory_fs.proofs.table.Table.add_directory_behind.Goals as goal
 
--- whatever is answered
+-- whatever is returned
 on_err_always : {X E : Type 0} (r : Result X E) {P : Type 0} → P → OnErr r P
 on_err_always (Ok x) p = tt
 on_err_always (Err e) p = p
