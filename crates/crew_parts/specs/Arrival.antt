@@ -13,7 +13,7 @@ use Rattle.crew_parts.specs.Message.{Message}
 use Rattle.crew_parts.specs.Wanted.{Fits}
 
 module _ {C S P A R E : Type 0} where
-  -- What a message that was handed out is to the walk that waits: the reading if it fits and was made, out of memory if it fits and memory ran out, and another otherwise.
+  -- What a message that was handed out is to the walk that waits. If it fits, it is the reading if that was made, and out of memory if memory ran out. Otherwise it is another reading.
   abbrev pub IsChecked : Ordered (Message C S P A R E) A → Wanted A → Arrival C S P A R E → Type 0
   IsChecked item wanted (Entered came) = (came ≡ item) × Fits wanted item × IsOk item.value.outcome
   IsChecked item wanted Memory = Fits wanted item × IsErr item.value.outcome

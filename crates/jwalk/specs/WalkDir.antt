@@ -53,7 +53,7 @@ module _ {C S P A T W R E : Type 0} where
   abbrev pub options_of : WalkDirGeneric C S P A T W R E → Options
   options_of walk = options_value walk.options
 
-  -- One call of the builder: it changes the options alone.
+  -- One call of the builder: it changes only the options.
   pub record Sets (set : Options) (old new : WalkDirGeneric C S P A T W R E) : Type 0 where
     pub options : options_of new ≡ set
     pub file_system : file_system_of new ≡ file_system_of old
@@ -135,7 +135,7 @@ module _ {C S P A T W L R E : Type 0} (files : FileSystem.Ghosts S) (process : P
   HoldsUnless (Some Busy) walk it = HoldsBusy walk it
   HoldsUnless (Some Memory) walk it = IsRefused it
 
-  -- A walk begins, or doesn't for this reason. Only a walk that a crew is to read for finds the crew busy. Its crew reads for it, unless memory ran out.
+  -- A walk begins, or fails to for this reason. Only a walk that a crew is to read for finds the crew busy. Its crew reads for it, unless memory ran out.
   pub record Begins (walk : WalkDirGeneric C S P A T W R E) (why_not : Option NotStarted) (it : DirEntryIter C S P A T L R E) : Type 0 where
     pub holds : HoldsUnless why_not walk it
     pub busy : why_not ≡ Some Busy → (options_of walk).parallelism ≡ crew

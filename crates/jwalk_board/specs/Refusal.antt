@@ -1,4 +1,4 @@
--- When a board refuses.
+-- When a call of a board fails.
 use Rattle.std.specs.Prelude.{◌≡◌, ◌≢◌, ℕ, true, false, List, [], ◌⊎◌}
 use Rattle.jwalk_order.specs.Frontier.{next_address}
 use Rattle.jwalk_order.specs.Addresses.{IsAmong}

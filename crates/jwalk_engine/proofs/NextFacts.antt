@@ -76,7 +76,7 @@ module _ {C A R E : Type 0} where
         running = ap (λ z. z.stopped) h.others ∙ h.running;
       }
 
-  -- what has still to be read is not done
+  -- what still has to be read is not done
   pub not_done : (b : Board (ReadDirSpec C A R E) (Read C A R E)) → IsWhole b → b.in_hand ≡ [] → RefusesHandOut b NotReady → ¬ IsAmong (next_address b.frontier) (ahead_on b).done
   not_done b whole none refused there =
       let a = next_address b.frontier in

@@ -23,7 +23,7 @@ module _ {X Y : Type 0} (view : X → Y) (change : Y → Y) (xs : List X) where
   abbrev pub IsChangedTo : ℕ → List X → Type 0
   IsChangedTo i ys = map view ys ≡ map change (take i (map view xs)) ++ drop i (map view xs)
 
-  -- one item more
+  -- one more item
   pub changed_more : (ys : List X) (i : ℕ) (x d : X) → length ys ≡ length xs → i < length xs → view x ≡ change (view (get_or ys i d)) → IsChangedTo i ys → IsChangedTo (i + 1) (set ys i x)
   changed_more ys i x d same below is h =
       let long = length-map xs view in

@@ -29,6 +29,6 @@ MakesBy {R} {E} {L} items gives given =
 abbrev pub call_of : {K : Type 0} → ByFn K → K
 call_of it = it.call
 
--- the closure that it is
+-- the closure that it calls
 abbrev pub closure_of : {F : Type 0} → ByFn (Closure F) → F
 closure_of it = it.call.f

@@ -17,7 +17,7 @@ abbrev pub names_of : {A : Type 0} → SkipNames A → List (List ℕ)
 names_of it = map string_bytes it.names.items
 
 module _ {R E : Type 0} (names : List (List ℕ)) where
-  -- an entry of one of these names has nothing to be read below it
+  -- an entry, with nothing to be read below it if it has one of these names
   abbrev pub skipped : Entry R E → Entry R E
   skipped e = if is_one_of names e.file_name then record e { read_children = None } else e
 

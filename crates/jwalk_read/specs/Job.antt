@@ -38,7 +38,7 @@ job_by files given job = record {
 abbrev pub IsAsGiven : {C S P A R E : Type 0} → FileSystem.Ghosts S → Given R E → Job C S P A R E → Spec R → Outcome R E → Type 0
 IsAsGiven files given job spec outcome = counted_outcome given outcome ≡ value.reading (job_by files given job) (counted_spec given spec)
 
--- The outcome is a reading of the directory: lawful whatever the file system returns, with a list that fits in memory, and with what is known of a reading of this directory.
+-- The outcome is a reading of the directory. It is lawful whatever the file system returns, and its list fits in memory. What is known of a reading of this directory holds of it.
 pub record IsReadingBy {R E : Type 0} (known : Spec R → Outcome R E → Type 0) (max_depth : ℕ) (spec : Spec R) (outcome : Outcome R E) : Type 0 where
   pub lawful : IsLawfulReading max_depth spec outcome
   pub few : length (list_of outcome) < 2 ^ 64

@@ -63,8 +63,8 @@ built-grown table sound holder name answer node spot child new more is grows of 
     subst (λ (t : List Branch). IsBuilt answer (tree_of_table t)) (sym is)
     (subst (λ (a : Result Tree Refusal). IsBuilt a (tree_of_table more)) (sym spot.answer_is) (tree-grown table more holder name child grows sound spot.place spot.stands node of))
 
--- ---- refusals
--- what a refusal says of the tree, and that no other does
+-- ---- failures
+-- what a failure says of the tree, and that no other one does
 pub record IsToldApart (answer : Result Tree Refusal) (result : Result (Unit {0}) BuildError) : Type 0 where
   pub not_found : (result ≡ Err NotFound) ↔ (answer ≡ Err not_found)
   pub already_exists : (result ≡ Err AlreadyExists) ↔ (answer ≡ Err already_exists)
@@ -181,7 +181,7 @@ AddedBy table free holder name new left o =
     MatchOption o ((new ≡ with_named table holder name (Dir (length table)) ++ empty_branch holder ∷ []) × (left ≡ free))
     (λ place. (new ≡ with_parent_at (with_named table holder name (Dir place)) place holder) × (left ≡ take (length free - 1) free))
 
--- what is added is added to the tree, and all stays as it has to be
+-- what is added is added to the tree, and all stays as it must be
 module _ (table : List Branch) (free : List ℕ) (holds : Holds table free) (holder : ℕ) (name : List ℕ) (lt : holder < length table)
     (answer : Result Tree Refusal) (spot : IsSpot table answer (directory [] None) holder name) (new : List Branch) (left : List ℕ) where
   pub directory-added : IsDirectoryAdded table free holder name new left → Holds new left × IsBuilt answer (tree_of_table new)

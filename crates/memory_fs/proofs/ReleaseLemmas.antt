@@ -121,7 +121,7 @@ loose-removed table sound holder name lt index is = record {
         ∙ ap (λ i. child_named (children_at (without_named table holder name) i) name) (sym same) ∙ ap (child_named (children_at (without_named table holder name) other)) (sym name_same) ∙ e in
         cc
 
--- a table without a name is as it has to be
+-- a table without a name is as it must be
 pub sound-removed : (table : List Branch) → IsSound table → (holder : ℕ) (name : List ℕ) → holder < length table → IsSound (without_named table holder name)
 sound-removed table sound holder name lt =
     sound-put table holder (without_name name (branch_at table holder)) lt (narrows-without name (children_at table holder)) sound (kept-parent 0 ∙ sound.own_parent) (sound.parents holder lt)

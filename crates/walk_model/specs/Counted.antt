@@ -3,7 +3,7 @@ use Rattle.std.specs.Prelude.{ℕ, List, map, Ok, Err, option_map}
 use Rattle.walk_model.specs.Entry.{Children, Entry, Item}
 use Rattle.walk_model.specs.ReadDir.{Spec, Reading, Outcome}
 
--- What a state counts as, for a reader who tells states apart: nothing, a number, a text by its bytes, or two of these.
+-- What a state counts as when states are distinguished: nothing, a number, a text by its bytes, or two of these.
 pub data Worth : Type 0 where
   blank : Worth
   number : ℕ → Worth

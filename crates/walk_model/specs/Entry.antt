@@ -81,7 +81,7 @@ module _ {R E : Type 0} where
   IsBetween least greatest (Ok e) = (least ≤ e.depth) × (e.depth ≤ greatest)
   IsBetween least greatest (Err f) = Unit {0}
 
-  -- Every entry's depth is.
+  -- Every entry's depth is from the least to the greatest.
   abbrev pub AllBetween : ℕ → ℕ → List (Item R E) → Type 0
   AllBetween least greatest [] = Unit {0}
   AllBetween least greatest (x ∷ items) = IsBetween least greatest x × AllBetween least greatest items

@@ -43,7 +43,7 @@ AnswersPlainly min_depth (p ∷ rest) answer held =
     (MatchBool (is_answered min_depth p.item) ((answer ≡ Some p.item) × (held ≡ rest)) (AnswersPlainly min_depth rest answer held))
     (Unit {0})
 
--- At most how many answers come from a pair that is n levels above the greatest depth: itself, and as many as a list can have, each with what is below it.
+-- At most how many answers come from a pair that is n levels above the greatest depth. These are itself, and as many as a list can have, each with what is below it.
 unfoldable pub bound : ℕ → ℕ
 bound zero = 1
 bound (suc levels) = 1 + 2 ^ 64 * bound levels

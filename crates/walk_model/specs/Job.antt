@@ -21,7 +21,7 @@ Processing R E = Option ℕ → List ℕ → R → List (Item R E) → Reading R
 abbrev pub KeepsDepthsOf : {R E : Type 0} → Processing R E → Type 0
 KeepsDepthsOf {R} {E} processed = (depth : Option ℕ) (path : List ℕ) (state : R) (list : List (Item R E)) → KeepsDepths depth list (processed depth path state list).list
 
--- What readings are made of: a fixed file system, the options, the callback's function of a list (of a directory at a depth, or the root's), and the state of a new entry.
+-- What readings are made of: a fixed file system, the options, the callback's function, and the state of a new entry. The function is given the list of a directory at a depth, or the root's.
 pub record Job (R E : Type 0) : Type 0 where
   pub fs : Functions
   pub options : Options

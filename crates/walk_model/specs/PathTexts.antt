@@ -28,7 +28,7 @@ component_seen CurDir = here
 component_seen ParentDir = up
 component_seen (Normal name) = plain name.now
 
--- the components that an iterator of `std::path` has still to give
+-- the components that an iterator of `std::path` still has to give
 abbrev pub components_left : Components → List Component
 components_left s = map component_read (components_remaining s)
 
@@ -39,26 +39,26 @@ pub record IsName (name : List ℕ) : Type 0 where
   pub not_dots : name ≢ dots
   pub no_slash : HasNoSlash name
 
--- a component that is a name is a proper one
+-- A component that is a name is a proper one.
 abbrev pub IsProper : Component → Type 0
 IsProper root = Unit {0}
 IsProper here = Unit {0}
 IsProper up = Unit {0}
 IsProper (plain name) = IsName name
 
--- neither the root nor `.`
+-- It is neither the root nor `.`.
 abbrev pub IsStep : Component → Type 0
 IsStep root = ⊥
 IsStep here = ⊥
 IsStep up = Unit {0}
 IsStep (plain name) = IsName name
 
--- `..` and proper names alone
+-- Only `..` and proper names are there.
 abbrev pub AreSteps : List Component → Type 0
 AreSteps [] = Unit {0}
 AreSteps (c ∷ cs) = IsStep c × AreSteps cs
 
--- proper components, of which only the first may be the root or `.`
+-- The components are proper, and only the first may be the root or `.`.
 abbrev pub AreProper : List Component → Type 0
 AreProper [] = Unit {0}
 AreProper (c ∷ cs) = IsProper c × AreSteps cs

@@ -164,7 +164,7 @@ spot_below tree front (Some here) = None
 spot_below tree front (Some up) = None
 spot_below tree front (Some (plain name)) = spot_in tree name (looked_up tree true link_limit [] front)
 
--- Where a path that is built on leads: its last component must be a plain name, and the ones before it must lead to a directory, from the root and with all links followed.
+-- Where a path that is built on leads. Its last component must be a plain name. The ones before it must lead to a directory, from the root and with all links followed.
 abbrev pub spot_of : Tree → List ℕ → Option Spot
 spot_of tree path = spot_below tree (all_but_last (components path)) (last_of (components path))
 
