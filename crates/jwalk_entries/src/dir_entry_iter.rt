@@ -367,8 +367,8 @@ impl<
 
     /// Appends up to `n` answers to `out`, fewer if the walk ends before that, and returns how many.
     ///
-    /// An answer is taken from the walk only once `out` has a free place. Over a crew it may block for a reading or for
-    /// a lock.
+    /// An answer is taken from the walk only once `out` has a free place. Over a crew the call may block for a reading
+    /// or for a lock.
     ///
     /// # Errors
     ///

@@ -127,8 +127,8 @@ where
     /// Appends up to `n` answers to `out`, fewer if the walk ends before that, and returns how many. Threads read the
     /// directories that are read together.
     ///
-    /// An answer is taken from the walk only once `out` has a free place. Over a crew it may block for a reading or for
-    /// a lock.
+    /// An answer is taken from the walk only once `out` has a free place. Over a crew the call may block for a reading
+    /// or for a lock.
     ///
     /// # Errors
     ///
