@@ -170,7 +170,7 @@ impl<
     }
 
     /// Sets whether names that start with a dot are left out. On by default. The root is never left out. A name whose
-    /// type can't be found is yielded as an error, hidden or not.
+    /// type can't be read is yielded as an error, hidden or not.
     pub fn skip_hidden(mut self, skip_hidden: bool) -> Self
         ensures { Sets (with_skip_hidden skip_hidden (options_of self)) self result }
     {

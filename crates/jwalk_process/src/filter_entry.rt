@@ -24,8 +24,8 @@ use walk_model::file_type::FileType;
 /// isn't read. Errors stay. The root is yielded and read without a test. (walkdir's `filter_entry` tests the root too,
 /// that of the crate `ignore` doesn't.)
 ///
-/// The filter takes no memory and never fails. If the test is a function of the depth, the name and the type, the
-/// walk's lists are those that the function filters.
+/// The filter takes no memory and never fails. If the test's results are those of one function of the depth, the name
+/// and the type, the walk's lists are those that the function filters.
 #[derive(Drop)]
 pub struct FilterEntry<F> {
     test: F,

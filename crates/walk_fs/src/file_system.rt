@@ -28,7 +28,7 @@ use walk_model::metadata::Metadata;
 ///     }
 ///
 /// Then no answer of a walk over it is known by value. The walk is safe and ends all the same. Directories are read in
-/// order and each once, and every entry is from the least to the greatest depth.
+/// order and each once, and the depth of every entry is from the least to the greatest.
 pub trait FileSystem: Drop {
     /// It always answers the same: each answer is that of `functions`, unless memory runs out.
     ghost IsFixed: { Self → Type 0 };
@@ -54,7 +54,7 @@ pub trait FileSystem: Drop {
     ///
     /// # Errors
     ///
-    /// `Fault::Io` if they can't be found, `Fault::Memory` if memory runs out.
+    /// `Fault::Io` if they can't be read, `Fault::Memory` if memory runs out.
     fn metadata(&self, path: &str) -> Result<Metadata, Fault>
         ensures { IsFixed self.now → AnswersValue (λ m. m) result ((functions self.now).meta_of path.now) };
 
@@ -62,7 +62,7 @@ pub trait FileSystem: Drop {
     ///
     /// # Errors
     ///
-    /// `Fault::Io` if they can't be found, `Fault::Memory` if memory runs out.
+    /// `Fault::Io` if they can't be read, `Fault::Memory` if memory runs out.
     fn symlink_metadata(&self, path: &str) -> Result<Metadata, Fault>
         ensures { IsFixed self.now → AnswersValue (λ m. m) result ((functions self.now).link_meta_of path.now) };
 

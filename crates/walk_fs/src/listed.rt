@@ -8,6 +8,6 @@ use walk_model::file_type::FileType;
 pub struct Listed<A: Allocator + Copy = Global> {
     /// The name alone, without the directory's path.
     pub name: String<A>,
-    /// The type of what is there, of a link itself and not of what it leads to; or why it can't be found.
+    /// The type of what is there, of a link itself and not of what it leads to; or the error that came instead.
     pub file_type: io::Result<FileType>,
 }
