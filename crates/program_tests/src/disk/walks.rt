@@ -113,7 +113,7 @@ fn found_here(rt: &HostRuntime, root: &str) -> io::Result<String> {
     Ok(lines(rt.alloc(), found.as_slice(), "/t")?)
 }
 
-/// What walks answer from the folder around, each from one directory further down.
+/// What walks yield from the folder around, each from one directory further down.
 fn found_further_down(rt: &HostRuntime, folder: &str) -> io::Result<String> {
     let mut all = String::new(rt.alloc());
     for (below, root) in [("", "."), ("/r", ".."), ("/r/s", "../..")] {
