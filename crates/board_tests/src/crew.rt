@@ -79,7 +79,7 @@ fn has(message: Told<'_>, path: &str, comes: Comes) -> bool {
     }
 }
 
-/// Whether a message is of the directory at a path and by the options of the tests, and is refused or not.
+/// Whether a message is of the directory at a path and by the options of the tests, and whether memory ran out for it.
 fn is_of(message: &Told<'_>, path: &str, refused: bool) -> bool {
     message.of().path.as_str() == path
         && message.job().options().reads_as(options())

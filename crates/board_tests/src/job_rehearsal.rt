@@ -37,7 +37,7 @@ fn job_of(alloc: Global, fs: &MemoryFs) -> TreeJob<'_> {
     Job::new(alloc, fs, NoProcess, true, true, false, usize::MAX)
 }
 
-/// What a job's rehearsal promises, in a job's own words: over a steady job, however its workers take turns, the
+/// What a job's rehearsal promises, in a job's own words. Over a steady job, however its workers take turns, the
 /// readings that are handed out are a beginning of those of the tree in preorder.
 fn played<C: ClientState, S: FileSystem, P: ProcessReadDir<C, A>, A: Allocator + Copy>(
     alloc: A,

@@ -1,4 +1,4 @@
-//! Walks over trees in memory, and what is asked of them.
+//! Walks over trees in memory, and what they return.
 use jwalk::file_system::{BuildError, FileSystem};
 use jwalk::path_text;
 use std::alloc::{AllocError, Global};
@@ -14,7 +14,7 @@ const ALL: &str = "0 d /r; 1 f /r/b; 1 d /r/s; 2 f /r/s/x; 1 f /r/a";
 /// What it yields from the directory in it.
 const BELOW: &str = "0 d /r/s; 1 f /r/s/x";
 
-/// Whether this is what a walk over a shared file system answers.
+/// Whether this is what a walk over a shared file system yields.
 fn shared_shows<S: FileSystem>(
     alloc: Global,
     fs: &Arc<S>,

@@ -21,7 +21,7 @@ pub enum Arrival<
 > {
     /// It came.
     Entered(Ordered<Message<C, S, P, A>, A>),
-    /// Memory ran out: the board is stopped, or refuses, or the reading's own message reports it.
+    /// Memory ran out: the board is stopped or fails for it, or the reading's own message reports it.
     Memory,
     /// It won't come: the board is done, or its message is another.
     Lost,

@@ -46,7 +46,7 @@ pub struct WalkDirGeneric<
     options: Options,
     root_read_dir_state: C::ReadDirState,
     threads: T,
-    // The crew that reads ahead, and how long the walk waits for a place of it.
+    // The crew that reads ahead, and how long the walk blocks for a place of it.
     crew: Option<(Arc<W, A>, Option<Duration>)>,
 }
 
@@ -69,8 +69,8 @@ impl<C: ClientState, S: FileSystem, A: Allocator + Copy> WalkDirGeneric<
     ghost use Rattle.walk_model.specs.Options.{defaults};
     ghost use Rattle.jwalk.specs.WalkDir.{file_system_of, root_of, state_of, options_of};
 
-    /// Returns a walk over a file system from a root, whose text is kept unchanged. The walk takes all its memory from
-    /// the root's allocator.
+    /// Returns a walk over a file system from a root, whose text is kept unchanged. All memory that the walk needs
+    /// comes from the root's allocator.
     pub fn new(fs: S, root: String<A>) -> Self
         ensures file_system { file_system_of result ≡ fs }
         ensures root { root_of result ≡ string_bytes root }
@@ -214,7 +214,7 @@ impl<
     /// changes which directories have been read when an entry is yielded, and how fast the walk is.
     ///
     /// Several threads read directories together if the walk was made by `at` or `threads`, and if its answers are
-    /// taken by the walk's own `next` or `fill`, as in `while let Some(answer) = walk.next()`. A `for` loop and
+    /// taken by the walk's own `next` or `fill`. `while let Some(answer) = walk.next()` does so. A `for` loop and
     /// adapters call `Iterator::next`, which reads the same directories one after another.
     pub fn parallelism(mut self, parallelism: Parallelism<W, A>) -> Self
         ensures { SetsParallelism parallelism self result }

@@ -42,7 +42,7 @@ impl<C: ClientState, S: FileSystem, P: ProcessReadDir<C, A>, A: Allocator + Copy
     P,
     A,
 > {
-    /// Finishes it on a board. If the board refuses it, it is given back, and the board is stopped.
+    /// Finishes it on a board. If that fails, it is given back, and the board is stopped.
     pub(crate) fn finish(
         self,
         board: &mut Board<ReadDirSpec<C, A>, Message<C, S, P, A>, A>,

@@ -53,7 +53,7 @@ pub(crate) fn take_turn<T: Drop, R: Drop, A: Allocator + Copy>(
     }
 }
 
-/// Finishes a reading. If the board refuses it, the board is stopped.
+/// Finishes a reading. If that fails, the board is stopped.
 pub(crate) fn finish_or_stop<T: Drop, R: Drop, A: Allocator + Copy>(
     board: &mut Board<T, R, A>,
     address: IndexPath<A>,

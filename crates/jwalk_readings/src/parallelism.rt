@@ -14,7 +14,7 @@ pub enum Parallelism<W = NoPool, A: Allocator + Copy = Global> {
     /// One directory at a time, when its entry is yielded. The default.
     Serial,
     /// Ahead of the walk, by the workers of a crew. If no place of the crew is free, the walk blocks until one is, as
-    /// long as `busy_timeout` says, or without limit. After that it is busy.
+    /// long as `busy_timeout` says, or without limit. After that the crew is busy for it.
     RayonExistingPool {
         /// The crew.
         pool: Arc<W, A>,

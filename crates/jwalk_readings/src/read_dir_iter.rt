@@ -32,9 +32,10 @@ use walk_fs::file_system::FileSystem;
 /// comes next, and then those below it.
 ///
 /// If memory runs out, one error is yielded whose `is_memory` is true, and then `None`. If a crew's reading is lost,
-/// one error is yielded whose `is_lost` is true, and then `None`. No reading is lost if the file system's answers stay
-/// the same and the callback always does the same, unless the iterator is asked for another directory than the next
-/// one.
+/// one error is yielded whose `is_lost` is true, and then `None`.
+///
+/// No reading is lost if three things hold. The file system's answers stay the same, the callback always does the same,
+/// and the iterator is asked for no other directory than the next one.
 ///
 /// Over a crew, calls may block: `next` and `next_of` for a reading, and these, `ahead` and the drop for a lock.
 pub enum ReadDirIter<
@@ -101,8 +102,8 @@ impl<
         }
     }
 
-    /// Replaces what was to be read by these directories, if no crew reads: they alone are queued, in their order, and
-    /// none is read yet.
+    /// Puts these directories in place of what was to be read, if no crew reads. They alone are queued, in their order,
+    /// and none is read yet.
     ///
     /// # Errors
     ///

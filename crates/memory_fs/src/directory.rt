@@ -14,8 +14,8 @@ use std::io;
 use std::io::ErrorKind;
 use walk_fs::listed::Listed;
 
-/// The children by name, in order of creation; the index of the directory that holds this one; and the error kind that
-/// reading this one fails with, if it was denied.
+/// The children by name, in order of creation, and the index of the directory that holds this one. If this one was
+/// denied, also the error kind that reading it fails with.
 pub struct Directory<A: Allocator + Copy> {
     pub(crate) parent: usize,
     pub(crate) children: IndexMap<String<A>, Child<A>, BuildHasherDefault<FoldHasher>, A>,

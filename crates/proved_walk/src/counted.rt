@@ -31,7 +31,7 @@ impl<S: FileSystem> Counted<S> {
 }
 
 impl<S: FileSystem> FileSystem for Counted<S> {
-    // It is fixed if the other is, and answers at each path what that does.
+    // It is fixed if the other is, and returns at each path what that does.
     ghost IsFixed = { λ s. S.IsFixed s.fs };
 
     ghost functions = { λ s. S.functions s.fs };

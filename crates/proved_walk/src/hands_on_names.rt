@@ -1,14 +1,14 @@
 //! A callback of one's own, with its law and its value.
 //!
-//! A callback is a type with the trait `ProcessReadDir`: the method `process`, which is called with each list before
-//! the walk goes on with it, and two ghost lines that say what a proof may rely on.
+//! A callback is a type with the trait `ProcessReadDir`. The trait has the method `process`, which is called with each
+//! list before the walk goes on with it, and two ghost lines that say what a proof may rely on.
 //!
 //! - `IsLawful` says when it may be called. Here that is always, so it is `Unit {0}`, which holds of itself. A callback
 //!   that rests on a fact about its fields has this fact here, and whoever begins a walk with it shows it.
 //! - `Makes` says what it makes of lists, as far as states count. It relates the callback to what is `Given`: how a
-//!   directory's and an entry's state count as a `Worth`, what is made of a list whose states count so, that entries
-//!   keep their depths in it, and what a new entry's state counts as. `HandsOnNames` makes what `names_handed_on`
-//!   gives, which is defined with its parts in `specs/HandsOnNames.antt`.
+//!   directory's and an entry's state count as a `Worth`, and what is made of a list whose states count so. It is also
+//!   given that entries keep their depths in it, and what a new entry's state counts as. `HandsOnNames` makes what
+//!   `names_handed_on` gives, which is defined with its parts in `specs/HandsOnNames.antt`.
 //!
 //! `process` owes the rest, if it succeeds. The entries of the list keep their depth (`depths`). The state and the list
 //! which it leaves count as what is given makes of those it was called with (`made`). Then the walk is known with its
@@ -113,11 +113,11 @@ impl ProcessReadDir<Texts, Global> for HandsOnNames {
 }
 
 /// Returns all that a walk with this callback yields from a root, in the order of names, where the root has no state.
-/// Over a file system that always answers the same, such as a `MemoryFs`, it is the whole walk of the definition, with
-/// its states, unless one of the answers reports that memory ran out.
+/// Over a file system that always answers the same it is the whole walk of the definition, with its states, unless one
+/// of the answers reports that memory ran out. A `MemoryFs` is such a file system.
 ///
-/// Its proof shows what `walk_given` takes as given: besides the file system and the callback, that a clone of a text
-/// counts as that text, and that an entry begins with no text.
+/// Its proof shows what `walk_given` takes as given. Besides the file system and the callback, that is that a clone of
+/// a text counts as that text, and that an entry begins with no text.
 ///
 /// Fails if memory runs out for the answers themselves.
 pub fn walk_handing_on_names<S: FileSystem>(

@@ -6,8 +6,8 @@ use jwalk::{DirEntry, WalkDirGeneric};
 use std::alloc::{AllocError, Global};
 use std::cmp::Ordering;
 
-/// Returns all that a walk yields with a closure as its callback. The closure sorts each list by name, drops hidden
-/// names and errors, leaves unread what is below depth 2, counts lists on the way down, and marks the first entry of
+/// Returns all that a walk yields with a closure as its callback. The closure sorts each list by name, and drops hidden
+/// names and errors. It leaves unread what is below depth 2, counts lists on the way down, and marks the first entry of
 /// each.
 pub fn walk_marked<S: FileSystem>(
     alloc: Global,

@@ -61,8 +61,8 @@ pub fn small_tree(alloc: Global) -> Result<MemoryFs, BuildError>
 }
 
 /// Returns what the walk that hands names on yields over this tree, unless one of the answers reports that memory ran
-/// out: the three directories, where the root has no state and each group the root's name. Fails only if memory runs
-/// out.
+/// out. These are the three directories, where the root has no state and each group the root's name. Fails only if
+/// memory runs out.
 pub fn names_in_small_tree(alloc: Global) -> Result<Vec<Found>, BuildError>
     ensures answers { IfOk result (λ found. NoneRefused found.items
         → map path_and_state (counted_list names_handed_on found.items)

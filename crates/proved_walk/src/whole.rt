@@ -30,8 +30,8 @@ pub fn walk_given<C: ClientState, S: FileSystem, P: ProcessReadDir<C, A>, A: All
     Ok(found)
 }
 
-/// Returns all that a walk without a callback yields. Over a file system that always answers the same, such as a
-/// `MemoryFs`, it is the whole walk of the definition, unless one of the answers reports that memory ran out.
+/// Returns all that a walk without a callback yields. Over a file system that always answers the same it is the whole
+/// walk of the definition, unless one of the answers reports that memory ran out. A `MemoryFs` is such a file system.
 pub fn walk_whole<C: ClientState, S: FileSystem, A: Allocator + Copy>(
     alloc: A,
     walk: WalkDirGeneric<C, S, NoProcess, A>,

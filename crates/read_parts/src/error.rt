@@ -21,8 +21,8 @@ pub(crate) enum ErrorInner<A: Allocator + Copy> {
     Lost,
 }
 
-/// An error met on a walk: an `io::Error` with the depth at which it came and, mostly, a path; a link that was followed
-/// and leads back to a directory above it; memory that ran out; or one of the two errors of a crew.
+/// An error met on a walk. It is an `io::Error` with the depth at which it came and, mostly, a path; or a link that was
+/// followed and leads back to a directory above it. Or memory ran out, or it is one of the two errors of a crew.
 ///
 /// It is printed as one text, such as `IO error for operation on /t/group 2: permission denied`. An `anyhow::Error`
 /// that `?` makes of it keeps at most 120 bytes of that.
@@ -113,7 +113,8 @@ impl<A: Allocator + Copy> Error<A> {
     }
 
     /// Returns the path that the error came with; for a loop it is the path of the link. There is none if an item of a
-    /// listing had no name, if the text of a link could not be read, if memory ran out, or if a crew is the cause.
+    /// listing had no name, or if the text of a link could not be read. There is also none if memory ran out, or if a
+    /// crew is the cause.
     pub fn path(&self) -> Option<&str>
         ensures { option_copied result ≡ path_of (failure self.now) }
     {

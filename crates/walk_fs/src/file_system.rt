@@ -30,10 +30,10 @@ use walk_model::metadata::Metadata;
 /// Then no answer of a walk over it is known by value. The walk is safe and ends all the same. Directories are read in
 /// order and each once, and the depth of every entry is from the least to the greatest.
 pub trait FileSystem: Drop {
-    /// It always answers the same: each answer is that of `functions`, unless memory runs out.
+    /// It always returns the same: each answer is that of `functions`, unless memory runs out.
     ghost IsFixed: { Self → Type 0 };
 
-    /// What it then answers at each path.
+    /// What it then returns at each path.
     ghost functions: { Self → Functions };
 
     /// Returns the items of a directory, in the file system's order, without `.` and `..` (`std::fs::read_dir`). An

@@ -40,8 +40,8 @@ pub fn join_parts<'p>(a: &'p str, b: &'p str) -> (&'p str, &'static str, &'p str
     }
 }
 
-/// Returns the path `b` as seen from `a`, in one string of exactly its length: `b` alone if it starts with `/`, and
-/// else `a` and `b` with one `/` between them. No `/` is added if `a` is empty or ends with one.
+/// Returns the path `b` as seen from `a`, in one string of exactly its length. It is `b` alone if `b` starts with `/`,
+/// and else `a` and `b` with one `/` between them. No `/` is added if `a` is empty or ends with one.
 ///
 /// `a` and `b` give `a/b`, as do `a/` and `b`; an empty path and `b` give `b`; `a` and `/b` give `/b`; `a` and an empty
 /// path give `a/`. The rule is that of `std::path::Path::join` on Unix.

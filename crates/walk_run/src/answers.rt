@@ -12,8 +12,8 @@ use std::io::Write;
 use walk_text::failure::Failure;
 use walk_text::print::print_answer;
 
-/// How many bytes of lines are gathered before they are written. A buffer of twice the length takes the last line too,
-/// and stays below the 64 KiB at which a free makes the C library's allocator put all its small pieces together.
+/// How many bytes of lines are gathered before they are written. A buffer of twice the length takes the last line too.
+/// It stays below 64 KiB, at which a free makes the C library's allocator put all its small pieces together.
 const GATHERED: usize = 16384;
 
 /// Writes the lines that were gathered.

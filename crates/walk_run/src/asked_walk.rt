@@ -72,7 +72,7 @@ fn walk_of<'t, T: Wait + Threads + Clock + Clone + Drop, S: FileSystem, A: Alloc
     Ok(walk)
 }
 
-/// Walks over a file system as is asked for, prints one line for each answer, and returns the status: 0 if the walk
+/// Walks over a file system as is asked for, and prints one line for each answer. Returns the status: 0 if the walk
 /// ended and no answer was an error, and 1 otherwise.
 ///
 /// # Errors

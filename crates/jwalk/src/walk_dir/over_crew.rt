@@ -128,9 +128,9 @@ where
         }
     }
 
-    /// Begins the walk, like `try_into_iter`. If the crew is busy, the walk yields the items of the root's list, with
-    /// an error whose `is_busy` is true in place of each entry whose directory would be read. If memory runs out, it
-    /// yields one error whose `is_memory` is true, and nothing else.
+    /// Begins the walk, like `try_into_iter`. If the crew is busy, the walk yields the items of the root's list. Each
+    /// entry whose directory would be read is then replaced by an error whose `is_busy` is true. If memory runs out,
+    /// the walk yields one error whose `is_memory` is true, and nothing else.
     pub fn into_iter(self) -> DirEntryIter<C, S, P, A, T, Session<R, C, S, P, A>>
         requires { P.IsLawful (callback_of self) }
         ensures starts { Starts self result }

@@ -10,9 +10,9 @@ use crate::ordered::Ordered;
 use std::alloc::{AllocError, Allocator, Global};
 use std::marker::Model;
 
-/// What is still to be passed of a tree whose items say how many children they have: a parent comes first, then its
-/// children in order, each with all that is below it. It keeps the address looked for, and for each index of it how
-/// many siblings come after.
+/// What is still to be passed of a tree whose items say how many children they have. A parent comes first, then its
+/// children in order, each with all that is below it. The matcher keeps the address looked for, and for each index of
+/// it how many siblings come after.
 #[derive(Drop)]
 pub struct OrderedMatcher<A: Allocator + Copy = Global> {
     looking_for: IndexPath<A>,

@@ -33,9 +33,9 @@ impl<'a, T, A: Allocator + Copy> OrderedQueueIter<'a, T, A> {
         OrderedQueueIter { queue }
     }
 
-    /// Returns the next item, if one can come now: in a relaxed queue one at the least address, in a strict one only if
-    /// that is the address that comes next in the tree. If a strict queue gives an item, it looks for its children
-    /// next.
+    /// Returns the next item, if one can come now. In a relaxed queue that is one at the least address. In a strict one
+    /// it comes only if its address is the one that comes next in the tree. If a strict queue gives an item, it looks
+    /// for its children next.
     ///
     /// # Errors
     ///

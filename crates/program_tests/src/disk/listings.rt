@@ -155,8 +155,8 @@ fn a_directory_that_may_not_be_read_is_answered(rt: HostRuntime) -> Result<(), A
     Ok(())
 }
 
-/// Whether a walk over a disk that doesn't fail yields four entries and makes that many calls: for directories that are
-/// opened, for what is at paths, for what they lead to, and for the texts of links.
+/// Whether a walk over a disk that doesn't fail yields four entries and makes that many calls. They are for directories
+/// that are opened, for what is at paths, for what they lead to, and for the texts of links.
 fn makes_calls(
     alloc: Global,
     follow: bool,

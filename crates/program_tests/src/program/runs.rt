@@ -172,8 +172,8 @@ pub fn all_come(
     assert_eq!(rt; first_wrong(rt, INPUT, rows), None);
 }
 
-/// Each row has its outcome over the tree of its lines, whatever its directories are read by: with `--tree` in front of
-/// its words and the lines on the input, and without it over a disk that is the same tree.
+/// Each row has its outcome over the tree of its lines, whatever its directories are read by. It is called with
+/// `--tree` in front of its words and the lines on the input, and without it over a disk that is the same tree.
 pub fn all_come_over_tree(
     rt: &(impl Abort + Wait + Threads + Clock + Clone + Drop + Send + Sync + AllocGlobal + 'static),
     rows: &[Row<'_>],
