@@ -192,7 +192,7 @@ impl<
     }
 
     /// Sets the least depth of the entries that are yielded, 0 by default. It is lowered to the greatest depth if it is
-    /// above that. Directories above the least depth are still read, and errors are yielded whatever their depth.
+    /// above that. Directories nearer to the root are still read, and errors are yielded whatever their depth.
     pub fn min_depth(mut self, depth: usize) -> Self
         ensures { Sets (with_min_depth depth (options_of self)) self result }
     {

@@ -21,8 +21,8 @@ pub struct ByFn<K> {
 impl<F> ByFn<Closure<F>> {
     ghost use Rattle.jwalk_process.specs.ByFn.{closure_of};
 
-    /// Returns the callback that calls this closure. The closure may be written with or without the types of its
-    /// arguments, and so may the list's allocator.
+    /// Returns the callback that calls this closure. The types of the closure's arguments may be written or left out.
+    /// Its list may have any allocator.
     pub fn new<R, L>(f: F) -> Self
     where
         F: Fn(Option<usize>, &str, &mut R, &mut L) -> Result<(), AllocError>,

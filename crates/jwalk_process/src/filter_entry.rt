@@ -1,4 +1,4 @@
-//! Entries that are kept where a test of them is true.
+//! Entries that are kept if a test of them is true.
 ghost use Rattle.std.specs.Prelude.{map};
 ghost use Rattle.read_parts.specs.Entry.{item};
 ghost use Rattle.jwalk_process.specs.FilterEntry.{IsAnswered, IsFilteredBy};

@@ -1,7 +1,7 @@
 //! A callback of one's own, with its law and its value.
 //!
-//! A callback is a type with the trait `ProcessReadDir`. The trait has the method `process`, which is called with each
-//! list before the walk goes on with it, and two ghost lines that say what a proof may rely on.
+//! A callback is a type with the trait `ProcessReadDir`. Its method `process` is called with each list before the walk
+//! goes on with it. Its two ghost lines say what a proof may rely on.
 //!
 //! - `IsLawful` says when it may be called. Here that is always, so it is `Unit {0}`, which holds of itself. A callback
 //!   that rests on a fact about its fields has this fact here, and whoever begins a walk with it shows it.
