@@ -1,13 +1,13 @@
 //! Addresses in their order, as one number.
 
-/// A number that tells, as good as surely, which addresses came and in which order.
+/// A number that shows, as good as surely, which addresses came and in which order.
 #[derive(Drop)]
 pub struct Digest {
     pub value: u64,
 }
 
 impl Digest {
-    /// That of no addresses.
+    /// Returns the digest of no addresses.
     pub fn new() -> Self {
         Digest { value: 0 }
     }

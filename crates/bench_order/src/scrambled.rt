@@ -1,7 +1,7 @@
 //! Addresses in an order that looks random.
 use std::alloc::Global;
 
-/// The address of the node with this number, where the nodes of a tree are numbered from 0, level by level, and each
+/// Returns the address of the node with this number. The nodes of a tree are numbered from 0, level by level, and each
 /// has ten children.
 fn address(alloc: Global, number: usize) -> Option<Vec<usize>> {
     let mut indices = Vec::new(alloc);
@@ -15,7 +15,7 @@ fn address(alloc: Global, number: usize) -> Option<Vec<usize>> {
     Some(indices)
 }
 
-/// The addresses of the first nodes, in an order that looks random and is the same each time.
+/// Returns the addresses of the first nodes, in an order that looks random and is the same each time.
 pub fn scrambled_addresses(alloc: Global, count: usize) -> Option<Vec<Vec<usize>>> {
     let mut addresses = Vec::new(alloc);
     let mut state: u64 = 1;

@@ -9,7 +9,7 @@ pub struct Tree {
     pub child_counts: Vec<usize>,
 }
 
-/// How many directories lie at and below each root of a tree with so many.
+/// Returns how many directories are at and below each root of a tree with that many.
 fn root_sizes(alloc: Global, shape: &str, count: usize) -> Option<Vec<usize>> {
     match shape {
         "wide" | "bushy" => vec![in alloc; count].ok(),
@@ -18,7 +18,7 @@ fn root_sizes(alloc: Global, shape: &str, count: usize) -> Option<Vec<usize>> {
     }
 }
 
-/// Ten shares of so many, as equal as can be, but for those of none.
+/// Returns ten shares of a count, as equal as can be, but for those of none.
 fn ten_shares(alloc: Global, count: usize) -> Option<Vec<usize>> {
     let mut shares = Vec::new(alloc);
     for i in 0..count.min(10) {
@@ -27,9 +27,9 @@ fn ten_shares(alloc: Global, count: usize) -> Option<Vec<usize>> {
     Some(shares)
 }
 
-/// How many lie at and below each child of a directory that has so many below it: in `wide` trees one directory has all
-/// others in it, in `bushy` ones each has ten as long as there are as many, and in `chains` a hundred are in one
-/// another.
+/// Returns how many are at and below each child of a directory that has that many below it. In `wide` trees one
+/// directory has all others in it. In `bushy` ones each has ten as long as there are enough. In `chains` a hundred are
+/// in one another.
 fn child_sizes(alloc: Global, shape: &str, below: usize) -> Option<Vec<usize>> {
     match shape {
         "wide" => vec![in alloc; 1; below].ok(),
@@ -40,7 +40,7 @@ fn child_sizes(alloc: Global, shape: &str, below: usize) -> Option<Vec<usize>> {
 }
 
 impl Tree {
-    /// A tree with so many directories. Of chains there are only full ones.
+    /// Returns a tree with that many directories. Of chains there are only full ones.
     pub fn new(alloc: Global, shape: &str, count: usize) -> Option<Self> {
         let mut sizes = root_sizes(alloc, shape, count)?;
         let roots = sizes.len();

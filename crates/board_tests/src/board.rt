@@ -8,21 +8,21 @@ type Names = Board<&'static str, &'static str>;
 
 type Fault = FinishFault<&'static str, &'static str>;
 
-// One step of a play on a board, with what is to come of it.
+// One step of a play on a board, with its outcome.
 enum Step {
     // The item at this address is taken, or none.
     Takes(Result<&'static [usize], TakeRefusal>),
     // What was taken at this address is finished, with a reading and with children.
     Finishes(&'static [usize], &'static str, &'static [&'static str]),
-    // The root is finished, with so many children.
+    // The root is finished, with that many children.
     FinishesRoot(usize),
     // Nothing at this address is in hand, and all of it is given back.
     FinishesNone(&'static [usize]),
-    // The item at this address is handed out, with so many children, or none.
+    // The item at this address is handed out, with that many children, or none.
     HandsOut(Result<(&'static [usize], usize), HandOutRefusal>),
     // Only children of only children are taken, finished and handed out, on 299 levels.
     GoesDown,
-    // So many are queued, in hand, ready and pending.
+    // That many are queued, in hand, ready and pending.
     Counts([usize; 4]),
     Stops,
 }
@@ -134,7 +134,7 @@ fn wrong(board: &mut Names, alloc: Global, steps: &[Step]) -> Option<usize> {
     None
 }
 
-// The same on a board with so many roots.
+// The same on a board with that many roots.
 fn first_wrong(alloc: Global, root_count: usize, steps: &[Step]) -> Option<usize> {
     let Ok(roots) = vec![in alloc; "r"; root_count] else {
         return Some(0);

@@ -23,13 +23,13 @@ const MANY: [&str; 67] = [
     "/r/x", "/r/x/x", "/r/y", "/r/y/y", "/r/z", "/r/z/z",
 ];
 
-/// These directories and no others, of which the one at this path is refused memory.
+/// These directories and no others. Memory runs out for the one at this path.
 fn tree(alloc: Global, dirs: &[&str], at: &'static str) -> Option<Refusing> {
     let fs = given::tree(alloc, dirs)?;
     Some(Refusing { fs, at })
 }
 
-/// A walk over all that is below the root, with so many directories read together; none without a width.
+/// A walk over all that is below the root, with that many directories read together; none without a width.
 fn walk(alloc: Global, fs: &Refusing, width: usize) -> Option<Walk<'_>> {
     if width == 0 {
         return None;
@@ -58,8 +58,8 @@ fn next(
     }
 }
 
-/// Adds what comes next: the names in a reading, or that there is an error or a refusal, and after a colon how many
-/// others are ahead. None at the end.
+/// Adds what comes next: the names in a reading, or that there is an error or that memory ran out, and after a colon
+/// how many others are ahead. None at the end.
 fn push_next(
     text: &mut String,
     next: Result<Option<Outcome<States, Global>>, AllocError>,
@@ -74,7 +74,7 @@ fn push_next(
     write!(text, ":{ahead} ").ok()
 }
 
-/// Whether this comes of a walk: each reading, and after each how many others are ahead.
+/// Whether a walk gives this: each reading, and after each how many others are ahead.
 fn gives(
     rt: &(impl Threads + Sync),
     alloc: Global,
@@ -96,7 +96,7 @@ fn gives(
     text.as_str() == wanted
 }
 
-/// Whether both ways of reading these directories give this, where the one at a path is refused memory.
+/// Whether both ways of reading these directories give this, if memory runs out for the one at a path.
 fn both_give(
     rt: &(impl Threads + Sync + AllocGlobal),
     dirs: &[&str],

@@ -26,7 +26,7 @@ type Told<'f> = Message<States, &'f Refusing, NoProcess>;
 
 type Reads<'f> = Board<Spec, Told<'f>>;
 
-/// A root with three directories, of which one can't be read, and a file. Memory is refused at one path.
+/// A root with three directories, of which one can't be read, and a file. Memory runs out at one path.
 fn tree(alloc: Global, at: &'static str) -> Option<Refusing> {
     let mut fs = given::tree(alloc, &["/r", "/r/a", "/r/a/x", "/r/b", "/r/c"])?;
     fs.add_file("/r/f", 1).ok()?;
@@ -44,10 +44,10 @@ fn job_by(alloc: Global, fs: &Refusing, options: Options) -> Option<Arc<TreeJob<
 
 // Messages.
 
-/// What comes of a reading.
+/// The outcome of a reading.
 #[derive(Clone, Copy)]
 enum Comes {
-    /// A list of so many items.
+    /// A list of that many items.
     List(usize),
     /// The error of a directory that can't be read.
     Denied,
@@ -70,7 +70,7 @@ fn is_denied(error: &Error, path: &str) -> bool {
         && matches!(error.io_error(), Some(err) if err.kind() == ErrorKind::PermissionDenied)
 }
 
-/// Whether a message has what comes of a reading of the directory at a path.
+/// Whether a message has this outcome of a reading of the directory at a path.
 fn has(message: Told<'_>, path: &str, comes: Comes) -> bool {
     match message.into_outcome() {
         Ok(Ok(list)) => matches!(comes, Comes::List(count) if list.results_list().len() == count),
@@ -79,14 +79,14 @@ fn has(message: Told<'_>, path: &str, comes: Comes) -> bool {
     }
 }
 
-/// Whether a message is of the directory at a path and by the options of the tests, and is refused or not.
+/// Whether a message is of the directory at a path and by the options of the tests, and whether memory ran out for it.
 fn is_of(message: &Told<'_>, path: &str, refused: bool) -> bool {
     message.of().path.as_str() == path
         && message.job().options().reads_as(options())
         && message.is_refused() == refused
 }
 
-/// Whether the message of a directory says what comes of it, and the directories below it stand at these paths.
+/// Whether the message of a directory has this outcome, and the directories below it are at these paths.
 fn tells(alloc: Global, fs: &Refusing, path: &str, below: &[&str], comes: Comes) -> Option<bool> {
     let job = job_by(alloc, fs, options())?;
     let of = roots_of(&job, path)?.pop()?;
@@ -96,7 +96,7 @@ fn tells(alloc: Global, fs: &Refusing, path: &str, below: &[&str], comes: Comes)
     Some(has(message, path, comes) && is_told)
 }
 
-/// Whether it does in a tree where memory is refused at one path.
+/// Whether it does in a tree where memory runs out at one path.
 fn tells_in_tree(alloc: Global, path: &str, below: &[&str], comes: Comes) -> bool {
     match &tree(alloc, "/r/a") {
         Some(fs) => tells(alloc, fs, path, below, comes) == Some(true),
@@ -174,7 +174,7 @@ fn begin<'f>(alloc: Global, job: &TreeJob<'f>, other: Other) -> Option<(Reads<'f
     Some((Board::new(roots).ok()?, wanted))
 }
 
-/// What becomes of the reading that is wanted.
+/// The outcome of the reading that is wanted.
 fn asks(board: &mut Reads<'_>, wanted: &Wanted) -> &'static str {
     match arrive(board, wanted) {
         Arrival::Entered(_) => "entered",
@@ -184,7 +184,7 @@ fn asks(board: &mut Reads<'_>, wanted: &Wanted) -> &'static str {
     }
 }
 
-/// A worker takes the least directory and finishes it. It says what became of the reading that is wanted in between.
+/// A worker takes the least directory and finishes it. Returns the outcome of the reading that is wanted in between.
 fn read_least<'f>(
     board: &mut Reads<'f>,
     job: Arc<TreeJob<'f>>,
@@ -201,8 +201,8 @@ fn read_least<'f>(
     Some(in_hand)
 }
 
-/// What becomes of it in a walk by these options: before the root is taken, while it is in hand, once it was read, and
-/// after that.
+/// Its outcome in a walk by these options: before the root is taken, while it is in hand, once it was read, and after
+/// that.
 fn answers_by(
     alloc: Global,
     fs: &Refusing,
@@ -217,7 +217,7 @@ fn answers_by(
     Some((queued, in_hand, read, asks(&mut board, &wanted)))
 }
 
-/// What becomes of it once the board was stopped.
+/// Its outcome once the board was stopped.
 fn answer_after_stop(alloc: Global, fs: &Refusing) -> Option<&'static str> {
     let job = job_by(alloc, fs, options())?;
     let (mut board, wanted) = begin(alloc, &job, Other::Nothing)?;
@@ -225,7 +225,7 @@ fn answer_after_stop(alloc: Global, fs: &Refusing) -> Option<&'static str> {
     Some(asks(&mut board, &wanted))
 }
 
-/// Whether it is waited for until it comes, where nothing is below the root, and no longer than to a stop.
+/// Whether it is waited for until it comes, if nothing is below the root, and no longer than to a stop.
 fn is_waited_for(alloc: Global) -> Option<bool> {
     let fs = tree(alloc, "")?;
     let own = options().with_max_depth(0);
@@ -240,7 +240,7 @@ fn a_reading_is_waited_for_until_it_comes(rt: HostRuntime) {
     assert!(rt; is_waited_for(rt.alloc()) == Some(true));
 }
 
-/// Whether this becomes of it once the root was read, where memory is refused at one path.
+/// Whether this is its outcome once the root was read, if memory runs out at one path.
 fn answers(alloc: Global, at: &'static str, other: Other, answer: &str) -> bool {
     let Some(fs) = tree(alloc, at) else {
         return false;

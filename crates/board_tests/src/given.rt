@@ -21,12 +21,12 @@ pub(crate) fn address(alloc: Global, indices: &[usize]) -> Option<IndexPath> {
     Some(IndexPath::new(Vec::from_slice(alloc, indices).ok()?))
 }
 
-/// Whether an item stands at this address, with so many children.
+/// Whether an item is at this address, with that many children.
 pub(crate) fn is_at<T>(item: &Ordered<T>, indices: &[usize], child_count: usize) -> bool {
     item.index_path.indices.as_slice() == indices && item.child_count() == child_count
 }
 
-/// Whether items stand at these addresses, each with so many children.
+/// Whether items are at these addresses, each with that many children.
 pub(crate) fn are_at<T>(items: &[Ordered<T>], wanted: &[(&[usize], usize)]) -> bool {
     for (item, (indices, child_count)) in items.iter().zip(wanted) {
         if !is_at(item, indices, *child_count) {
@@ -55,7 +55,7 @@ pub(crate) fn tree(alloc: Global, dirs: &[&str]) -> Option<MemoryFs> {
     Some(fs)
 }
 
-/// A tree in memory that is refused memory when one of its directories is listed.
+/// A tree in memory for which memory runs out when one of its directories is listed.
 #[derive(Drop)]
 pub(crate) struct Refusing {
     pub(crate) fs: MemoryFs,

@@ -85,7 +85,7 @@ fn lead_down(alloc: Global, indices: &[usize]) -> Option<bool> {
     Some(is(&pushed, indices) && added == pushed && has_clone(&pushed))
 }
 
-// Whether both lead down so many indices, the greatest first.
+// Whether both lead down that many indices, the greatest first.
 fn lead_far_down(alloc: Global, count: usize) -> Option<bool> {
     let indices: Vec<usize> = (0..count).rev().collect(alloc).ok()?;
     lead_down(alloc, indices.as_slice())

@@ -37,7 +37,7 @@ fn job_of(alloc: Global, fs: &MemoryFs) -> TreeJob<'_> {
     Job::new(alloc, fs, NoProcess, true, true, false, usize::MAX)
 }
 
-/// What a job's rehearsal promises, in a job's own words: over a steady job, however its workers take turns, the
+/// What a job's rehearsal promises, in a job's own words. Over a steady job, however its workers take turns, the
 /// readings that are handed out are a beginning of those of the tree in preorder.
 fn played<C: ClientState, S: FileSystem, P: ProcessReadDir<C, A>, A: Allocator + Copy>(
     alloc: A,
@@ -72,7 +72,7 @@ const MOVES: &[Move] = &[
     Move::HandOut,
 ];
 
-/// The names in each reading, with a space behind.
+/// The names in each reading, each followed by a space.
 fn names(alloc: Global, items: &[Ordered<Result<ReadDir<States>, Error>>]) -> Option<String> {
     let mut text = String::new(alloc);
     for item in items {
@@ -114,7 +114,7 @@ fn a_job_is_rehearsed_in_preorder(rt: HostRuntime) {
 /// The addresses and the paths of directories.
 type Places = &'static [(&'static [usize], &'static str)];
 
-/// Whether directories stand at these addresses, with no children counted, and have these paths.
+/// Whether directories are at these addresses, with no children counted, and have these paths.
 fn stand_at(items: &[Ordered<ReadDirSpec<States>>], wanted: Places) -> bool {
     for (item, (indices, path)) in items.iter().zip(wanted) {
         if !is_at(item, *indices, 0) || item.value.path.as_str() != *path {
@@ -133,7 +133,7 @@ fn root_reading(job: &TreeJob<'_>, root: &str) -> Option<ReadDir<States>> {
     }
 }
 
-/// Whether the directories in the reading of a root stand at these addresses below this one.
+/// Whether the directories in the reading of a root are at these addresses below this one.
 fn have_addresses(
     alloc: Global,
     fs: Option<MemoryFs>,

@@ -4,7 +4,7 @@ use jwalk_order::ordered::Ordered;
 use jwalk_order::ordered_queue::OrderedMatcher;
 use std::alloc::{AllocError, Global};
 
-// Passes the address looked for, with so many children, if there is one and it is this.
+// Passes the address looked for, with that many children, if there is one and it is this.
 fn passes(
     alloc: Global,
     matcher: &mut OrderedMatcher,

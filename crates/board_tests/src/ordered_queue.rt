@@ -16,9 +16,9 @@ enum Next<'a> {
     End,
 }
 
-// One call on a queue, with what comes of it.
+// One call on a queue, with its outcome.
 enum Turn {
-    // An item at this address, with so many children, is let in.
+    // An item at this address, with that many children, is let in.
     LetsIn(&'static [usize], usize),
     Gives(Next<'static>),
     Pends(usize),
@@ -28,7 +28,7 @@ enum Turn {
     // An iterator has one more.
     HasNext(bool),
     Reserves(usize),
-    // So many children of a root are let in, the last first, and are given in order.
+    // That many children of a root are let in, the last first, and are given in order.
     SortsChildren(usize),
     // Only children of only children are let in, the last first, and are given in order.
     SortsChain,
@@ -96,7 +96,7 @@ fn sorts_children(queue: &mut OrderedQueue<()>, alloc: Global, count: usize) -> 
     true
 }
 
-// Sorts the only children that lie above an address.
+// Sorts the only children that are above an address.
 fn sorts_chain(queue: &mut OrderedQueue<()>, alloc: Global, indices: &[usize]) -> bool {
     for length in (1..indices.len()).rev() {
         if !lets_in(queue, alloc, &indices[..length], 1) {

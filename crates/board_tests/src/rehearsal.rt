@@ -64,7 +64,7 @@ const MOVES: &[Move] = &[
     Move::HandOut,
 ];
 
-// What comes of a rehearsal.
+// The outcome of a rehearsal.
 struct Outcome {
     taken: &'static [&'static [usize]],
     // What is handed out: its address, its value and the number of its children.
@@ -104,7 +104,7 @@ fn are_handed_out(items: &[Ordered<u8>], wanted: &[(&[usize], u8, usize)]) -> bo
     items.len() == wanted.len()
 }
 
-// Whether so many workers come to this outcome by these moves.
+// Whether that many workers reach this outcome by these moves.
 fn comes_to(alloc: Global, roots: &[u8], workers: usize, moves: &[Move], wanted: &Outcome) -> bool {
     match &played(alloc, roots, workers, moves) {
         Ok(made) => {

@@ -3,7 +3,7 @@ use jwalk_board::board::{Move, Plan, Refused, Rehearsal, rehearse};
 use std::alloc::{AllocError, Global};
 use std::cell::Cell;
 
-// Each specification says how many levels lie below it, and has three children as long as there is one. It counts how
+// Each specification says how many levels are below it, and has three children as long as there is one. It counts how
 // often it is read.
 #[derive(Drop)]
 struct Levels {
@@ -69,7 +69,7 @@ fn played(
     rehearse(alloc, plan, vec![in alloc; LEVELS]?, workers, moves)
 }
 
-// Plays so many rounds, and says how many were read, taken and handed out, and how many are left.
+// Plays that many rounds. Returns how many were read, taken and handed out, and how many are left.
 fn totals(alloc: Global, workers: usize, round: &[Move], count: usize) -> Option<[usize; 4]> {
     let plan = Levels {
         reads: Cell::new(0),

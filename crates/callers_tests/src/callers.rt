@@ -1,3 +1,3 @@
-//! What the functions of `proved_walk` answer, by worked examples.
+//! What the functions of `proved_walk` return, by worked examples.
 mod callbacks;
 mod walks;

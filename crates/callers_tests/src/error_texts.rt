@@ -85,7 +85,7 @@ impl FileSystem for Telling {
     }
 }
 
-/// The file system's error that an answer tells of, or that an entry's directory has.
+/// The file system's error that an answer reports, or that an entry's directory has.
 fn io_error_of(answer: &Answer) -> Option<&io::Error> {
     match answer {
         Ok(entry) => entry.read_children.as_ref()?.error()?.io_error(),
@@ -93,7 +93,7 @@ fn io_error_of(answer: &Answer) -> Option<&io::Error> {
     }
 }
 
-/// Whether a walk tells the text of the one error that it meets.
+/// Whether a walk reports the text of the one error that it meets.
 fn is_told(alloc: Global, failing: Failing) -> Result<bool, AllocError> {
     let text = "block 17 can't be read";
     let walk = builder(alloc, Telling { failing, text }, "/d")?;

@@ -1,4 +1,4 @@
-//! What errors tell, and the metadata of entries.
+//! What errors report, and the metadata of entries.
 use jwalk::Error;
 use jwalk::file_system::{FileSystem, FileType, MemoryFs, Metadata};
 use std::alloc::Global;
@@ -14,7 +14,7 @@ fn last<S: FileSystem>(walk: Builder<S>) -> Option<Answer> {
     walk.into_iter().last()
 }
 
-/// Whether an error is told by this kind and this text, and printed as the text.
+/// Whether an error has this kind and this text, and is printed as the text.
 fn tells(alloc: Global, error: &Error, kind: ErrorKind, text: &str) -> bool {
     match (error.kind_and_text(alloc), error.to_string(alloc)) {
         (Ok((found, told)), Ok(printed)) => {
@@ -24,7 +24,7 @@ fn tells(alloc: Global, error: &Error, kind: ErrorKind, text: &str) -> bool {
     }
 }
 
-/// Whether an error of this kind, which a file system answered, is told by this text and then its own.
+/// Whether an error of this kind, which a file system returned, has this text and then its own.
 fn tells_own(alloc: Global, error: &Error, kind: ErrorKind, lead: &str) -> Option<bool> {
     let err = error.io_error()?;
     let text = format!(in alloc; "{lead}{err}").ok()?;
@@ -35,7 +35,7 @@ fn is_at(error: &Error, depth: usize, path: Option<&str>) -> bool {
     error.depth() == depth && error.path() == path
 }
 
-/// The kind of the error that a file system answered.
+/// The kind of the error that a file system returned.
 fn kind_of(error: Error) -> Option<ErrorKind> {
     Some(error.into_io_error()?.kind())
 }
@@ -43,7 +43,7 @@ fn kind_of(error: Error) -> Option<ErrorKind> {
 /// What is said of the loop in the looped tree.
 const LOOP_TEXT: &str = "File system loop found: /r/a/b/c/a-link points to an ancestor /r/a";
 
-/// Whether a walk that follows the link tells of the loop.
+/// Whether a walk that follows the link reports the loop.
 fn tells_of_the_loop(alloc: Global) -> Option<bool> {
     let error = last(over_tree(alloc, LOOPED, "/r").ok()?.follow_links(true))?.err()?;
     Some(tells(alloc, &error, ErrorKind::Other, LOOP_TEXT) && kind_of(error).is_none())
@@ -99,7 +99,7 @@ fn is_bare(alloc: Global, error: &Error, text: &str) -> bool {
         && tells(alloc, error, ErrorKind::Other, text)
 }
 
-/// Whether an error has nothing but its text and its cause: a busy crew, want of memory, or a lost reading.
+/// Whether an error has nothing but its text and its cause: a busy crew, memory that ran out, or a lost reading.
 fn has_cause(alloc: Global, error: Error, text: &str, wanted: (bool, bool, bool)) -> bool {
     is_bare(alloc, &error, text) && (error.is_busy(), error.is_memory(), error.is_lost()) == wanted
 }
@@ -149,7 +149,8 @@ const LINKED_FILE: &[Step] = &[
     Step::Link("f", "/r/l"),
 ];
 
-/// What the entry of the link, or of the file where a walk follows it, says of its metadata over another file system.
+/// What the entry of the link says of its metadata over another file system; or the entry of the file, if a walk
+/// follows the link.
 fn link_metadata(
     alloc: Global,
     follow: bool,
@@ -161,7 +162,7 @@ fn link_metadata(
     Some(entry.metadata(&Watched::new(fs, failing)))
 }
 
-/// The metadata of the link, or of the file where a walk follows it.
+/// The metadata of the link, or of the file if a walk follows it.
 fn metadata(alloc: Global, follow: bool) -> Option<Metadata> {
     link_metadata(
         alloc,
@@ -194,7 +195,7 @@ fn the_metadata_of_what_is_gone(rt: HostRuntime) {
     assert!(rt; is_gone(rt.alloc()) == Some(true));
 }
 
-/// The error of the link's metadata where memory for it is refused.
+/// The error of the link's metadata if memory runs out for it.
 fn refused_metadata(alloc: Global) -> Option<Error> {
     let fs = tree(alloc, LINKED_FILE).ok()?;
     link_metadata(alloc, false, fs, Failing::MetadataForMemory("/r/l"))?.err()

@@ -1,12 +1,12 @@
-//! What each getter of each entry answers.
+//! What each getter of each entry returns.
 use jwalk::file_system::BuildError;
 use std::alloc::{AllocError, Global};
 use walk_fixtures::answers::{Answer, letter};
 use walk_fixtures::trees::{SMALL, Step};
 use walk_ways::builders::{Entry, in_a_for_loop, over_tree};
 
-/// Adds what the getters of an entry answer to a text: depth, name, parent, the letter of its type, and `+` where it
-/// has a directory to be read.
+/// Adds what the getters of an entry return to a text: depth, name, parent, the letter of its type, and `+` if it has a
+/// directory to be read.
 fn push_getters(text: &mut String, entry: &Entry) -> Result<(), AllocError> {
     let depth = entry.depth();
     let name = entry.file_name();
@@ -20,7 +20,7 @@ fn push_getters(text: &mut String, entry: &Entry) -> Result<(), AllocError> {
     write!(text, "{depth} {name} in {parent} {letter}{mark}")
 }
 
-/// Adds the getters of an answer to a text, in which answers are parted by `; `.
+/// Adds the getters of an answer to a text, in which answers are separated by `; `.
 fn push_answer(text: &mut String, answer: &Answer) -> Result<(), AllocError> {
     if !text.is_empty() {
         text.push_str("; ")?;
@@ -31,7 +31,7 @@ fn push_answer(text: &mut String, answer: &Answer) -> Result<(), AllocError> {
     }
 }
 
-/// A walk with the options as they are, and the getters of its entries.
+/// A walk with the default options, and the getters of its entries.
 struct Row {
     steps: &'static [Step],
     root: &'static str,
@@ -56,7 +56,7 @@ fn each_getter_of_each_entry(rt: HostRuntime) {
             root: "/r",
             getters: "0 r in / d+; 1 b in /r f; 1 s in /r d+; 2 x in /r/s f; 1 a in /r f",
         },
-        // Roots without a file name: such a root stands for itself, below an empty path.
+        // Roots without a file name: such a root is its own name, below an empty path.
         Row {
             steps: &[Step::Dir("/r")],
             root: ".",

@@ -6,7 +6,7 @@ use walk_fixtures::answers::{Answer, are_lines};
 use walk_fixtures::watched::{Failing, Watched};
 use walk_ways::builders::{Builder, builder};
 
-/// What comes of so many calls for the next answer.
+/// The outcome of that many calls for the next answer.
 fn called<S: FileSystem>(
     alloc: Global,
     walk: Builder<S>,
@@ -51,7 +51,7 @@ fn many_files_by_name(rt: HostRuntime) {
     assert!(rt; matches!(has_all_files(rt.alloc(), true), Ok(true)));
 }
 
-/// How many answers of a walk a call for all gives and a second one, and how many are there then.
+/// How many answers of a walk a call for all appends and a second one, and how many are there then.
 fn filled<S: FileSystem>(
     alloc: Global,
     walk: Builder<S>,
@@ -63,7 +63,7 @@ fn filled<S: FileSystem>(
     Ok((first, second, found.len()))
 }
 
-/// The same of the wide directory.
+/// The same for the wide directory.
 fn filled_from_wide(alloc: Global) -> Result<(usize, usize, usize), BuildError> {
     Ok(filled(alloc, builder(alloc, wide_directory(alloc)?, "/d")?)?)
 }
@@ -84,7 +84,7 @@ fn chain(alloc: Global) -> Result<MemoryFs, BuildError> {
     Ok(fs)
 }
 
-/// Whether these are entries that lie deeper and deeper.
+/// Whether these are entries that are deeper and deeper.
 fn go_down(found: &[Answer]) -> bool {
     for (depth, answer) in found.iter().enumerate() {
         if !matches!(answer, Ok(entry) if entry.depth() == depth) {

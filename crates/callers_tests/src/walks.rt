@@ -1,4 +1,4 @@
-//! Walks over trees in memory, and what is asked of them.
+//! Walks over trees in memory, and what they return.
 use jwalk::file_system::{BuildError, FileSystem};
 use jwalk::path_text;
 use std::alloc::{AllocError, Global};
@@ -8,13 +8,13 @@ use walk_fixtures::trees::{SMALL, tree};
 use walk_ways::builders::{Builder, builder, in_a_for_loop, over_tree};
 use walk_ways::ways::all_of;
 
-/// What the walk answers from the root of the small tree.
+/// What the walk yields from the root of the small tree.
 const ALL: &str = "0 d /r; 1 f /r/b; 1 d /r/s; 2 f /r/s/x; 1 f /r/a";
 
-/// What it answers from the directory in it.
+/// What it yields from the directory in it.
 const BELOW: &str = "0 d /r/s; 1 f /r/s/x";
 
-/// Whether this is what a walk over a shared file system answers.
+/// Whether this is what a walk over a shared file system yields.
 fn shared_shows<S: FileSystem>(
     alloc: Global,
     fs: &Arc<S>,
@@ -39,7 +39,7 @@ fn a_shared_tree_walked_twice(rt: HostRuntime) {
     assert!(rt; shows_twice(rt.alloc()) == Some(true));
 }
 
-/// Whether a walk can be begun, and this is what it answers then.
+/// Whether a walk can be begun, and this is what it yields then.
 fn begun_shows<S: FileSystem>(
     alloc: Global,
     walk: Builder<S>,
@@ -71,7 +71,7 @@ fn a_walk_counted(rt: HostRuntime) {
     assert!(rt; matches!(count(rt.alloc()), Ok(5)));
 }
 
-/// Whether this is what a `for` loop over the directory in the small tree comes by.
+/// Whether this is what a `for` loop over the directory in the small tree yields.
 fn loop_shows(alloc: Global, wanted: &str) -> Result<bool, BuildError> {
     let found = in_a_for_loop(alloc, over_tree(alloc, SMALL, "/r/s")?)?;
     Ok(are_lines(alloc, found.as_slice(), wanted))

@@ -11,7 +11,7 @@ use read_parts::read_dir_spec::ReadDirSpec;
 use std::alloc::{Allocator, Global};
 use walk_fs::file_system::FileSystem;
 
-/// What becomes of a reading that is waited for.
+/// The outcome of a reading that is waited for.
 #[derive(Drop)]
 pub enum Arrival<
     C: ClientState,
@@ -21,7 +21,7 @@ pub enum Arrival<
 > {
     /// It came.
     Entered(Ordered<Message<C, S, P, A>, A>),
-    /// Want of memory: the board is stopped, or refuses, or the reading's own message tells of it.
+    /// Memory ran out: the board is stopped or fails for it, or the reading's own message reports it.
     Memory,
     /// It won't come: the board is done, or its message is another.
     Lost,
@@ -29,7 +29,7 @@ pub enum Arrival<
     Wait,
 }
 
-/// What a message that was handed out is to who waits.
+/// Returns what a message that was handed out is to whoever waits.
 fn checked<C: ClientState, S: FileSystem, P: ProcessReadDir<C, A>, A: Allocator + Copy>(
     item: Ordered<Message<C, S, P, A>, A>,
     wanted: &Wanted<A>,

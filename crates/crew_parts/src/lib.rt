@@ -1,5 +1,5 @@
-//! What a crew and the walk that it reads for tell each other: a reading by a worker, the reading that is waited for,
-//! what becomes of it, and a crew's places.
+//! What a crew and the walk that it reads for pass to each other: a reading by a worker, the reading that is waited
+//! for, and its outcome. And a crew's places.
 #![tactic(auto)]
 
 pub mod arrival;

@@ -17,8 +17,7 @@ use std::marker::Model;
 use std::sync::Arc;
 use walk_fs::file_system::FileSystem;
 
-/// A reading by a worker: the job that read, the directory that was read, and what came of it, or that memory was
-/// refused.
+/// A reading by a worker: the job that read, the directory that was read, and the outcome, or that memory ran out.
 pub struct Message<
     C: ClientState,
     S: FileSystem,
@@ -54,7 +53,7 @@ impl<C: ClientState, S: FileSystem, P: ProcessReadDir<C, A>, A: Allocator + Copy
         C.DirEntryState.Default (record { job = arc_value m.job; of = m.of; outcome = m.outcome }) };
 }
 
-/// Reads a directory: what came of it, and the directories below it.
+/// Reads a directory: returns the outcome, and the directories below it.
 fn read_with_directories<
     C: ClientState,
     S: FileSystem,
@@ -81,8 +80,8 @@ impl<C: ClientState, S: FileSystem, P: ProcessReadDir<C, A>, A: Allocator + Copy
     P,
     A,
 > {
-    /// Reads a directory: the message, and the directories below it. Where memory was refused, to the reading or to the
-    /// list of these directories, there are none.
+    /// Reads a directory: returns the message, and the directories below it. There are none if memory ran out, for the
+    /// reading or for the list of these directories.
     pub fn read(
         job: Arc<Job<C, S, P, A>, A>,
         of: ReadDirSpec<C, A>,
@@ -119,28 +118,29 @@ impl<C: ClientState, S: FileSystem, P: ProcessReadDir<C, A>, A: Allocator + Copy
         }
     }
 
-    /// The job that read.
+    /// Returns the job that read.
     pub fn job(&self) -> &Job<C, S, P, A>
         ensures { result.now ≡ self.now.job }
     {
         &*self.job
     }
 
-    /// The directory that was read.
+    /// Returns the directory that was read.
     pub fn of(&self) -> &ReadDirSpec<C, A>
         ensures { result.now ≡ self.now.of }
     {
         &self.of
     }
 
-    /// Whether memory was refused.
+    /// Returns whether memory ran out.
     pub fn is_refused(&self) -> bool
         ensures { IsTrue result ↔ IsErr self.now.outcome }
     {
         self.outcome.is_err()
     }
 
-    /// What came of the directory's reading, or that memory was refused. It is the job's reading of the directory.
+    /// Returns the outcome of the directory's reading, or that memory ran out. It is the job's reading of the
+    /// directory.
     pub fn into_outcome(self) -> Result<Outcome<C, A>, AllocError>
         ensures outcome { result ≡ self.outcome }
         ensures lawful { IsLawfulMessage S.FileSystem P.ProcessReadDir C.ReadDirState.Clone

@@ -22,7 +22,7 @@ impl Model for Places {
 }
 
 impl Places {
-    /// So many places, none of them in use. 0 counts as 1.
+    /// Returns that many places, none of them in use. 0 counts as 1.
     pub fn new(places: usize) -> Self
         ensures none_in_use { result.in_use ≡ 0 }
         ensures places { result.places ≡ max 1 places }
@@ -33,7 +33,7 @@ impl Places {
         }
     }
 
-    /// Takes a place, if one is free.
+    /// Takes a place, if one is free, and returns whether it did.
     pub fn take(&mut self) -> bool
         ensures free { IsTrue result ↔ (self.old.in_use < self.old.places) }
         ensures taken { self.new ≡ (if result then record self.old { in_use = self.old.in_use + 1 } else self.old) }
@@ -54,7 +54,7 @@ impl Places {
         self.in_use -= 1;
     }
 
-    /// How many are in use.
+    /// Returns how many are in use.
     pub fn in_use(&self) -> usize
         ensures value { result ≡ self.now.in_use }
         ensures fits { result ≤ self.now.places }
@@ -62,7 +62,7 @@ impl Places {
         self.in_use
     }
 
-    /// How many there are.
+    /// Returns how many there are.
     pub fn places(&self) -> usize
         ensures { result ≡ self.now.places }
     {

@@ -19,13 +19,13 @@ use walk_fs::file_system::FileSystem;
 
 /// Which reading an iterator waits for: that of the directory at an address, by a walk's options.
 pub struct Wanted<A: Allocator + Copy = Global> {
-    /// Where the directory stands in the walk.
+    /// The address of the directory in the walk.
     pub address: IndexPath<A>,
     /// The path of the directory.
     pub path: Arc<String<A>, A>,
     /// The depth of the directory.
     pub depth: usize,
-    /// The directories above it: none where links aren't followed. The root has its own path there.
+    /// The directories above it, empty if links aren't followed. The root has its own path there.
     pub ancestors: Ancestors<A>,
     /// The options that it is to be read by.
     pub options: Options,
@@ -44,7 +44,7 @@ impl<A: Allocator + Copy> Drop for Wanted<A> {
 }
 
 impl<A: Allocator + Copy> Wanted<A> {
-    /// The reading of a directory at this address, by these options.
+    /// Returns what is wanted: the reading of a directory at this address, by these options.
     ///
     /// # Errors
     ///
@@ -65,7 +65,7 @@ impl<A: Allocator + Copy> Wanted<A> {
         })
     }
 
-    /// Whether it is this directory that is waited for.
+    /// Returns whether it is this directory that is waited for.
     fn is_directory<C: ClientState>(&self, of: &ReadDirSpec<C, A>) -> bool
         ensures { IsTrue result ↔ IsDirectory self.now (spec of.now) }
     {
@@ -74,7 +74,7 @@ impl<A: Allocator + Copy> Wanted<A> {
             && of.ancestors().is_same(&self.ancestors)
     }
 
-    /// Whether a message that was handed out is the reading waited for.
+    /// Returns whether a message that was handed out is the reading waited for.
     pub fn fits<C: ClientState, S: FileSystem, P: ProcessReadDir<C, A>>(
         &self,
         item: &Ordered<Message<C, S, P, A>, A>,

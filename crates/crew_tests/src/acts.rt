@@ -13,22 +13,22 @@ use walk_fixtures::trees::{Step, tree};
 use walk_fixtures::watched::{Failing, Watched};
 use walk_ways::ways::all_of;
 
-/// An act, which comes off or not.
+/// An act, which succeeds or not.
 #[derive(Clone, Copy)]
 pub enum Act<'a> {
     /// A walk begins.
     Begins(Asked<'a>),
     /// A walk doesn't begin, since the crew is busy.
     IsRefused(Asked<'a>),
-    /// All that a walk answers is that the crew is busy.
+    /// All that a walk yields is that the crew is busy.
     IsBusy(Asked<'a>),
-    /// A walk whose answers are taken in this way answers this.
+    /// A walk whose answers are taken in this way yields this.
     Answers(Taken, Asked<'a>, &'a str),
     /// The walk that began last goes on so.
     Last(Going<'a>),
     /// A place is taken, and given back a while later on another thread.
     Holds,
-    /// So many places are in use.
+    /// That many places are in use.
     InUse(usize),
     /// Within some seconds no directory is listed any more.
     Rests,
@@ -37,9 +37,9 @@ pub enum Act<'a> {
 /// How a walk under way goes on.
 #[derive(Clone, Copy)]
 pub enum Going<'a> {
-    /// Within some seconds so many readings are ahead.
+    /// Within some seconds that many readings are ahead.
     Ahead(usize),
-    /// So many entries come.
+    /// That many entries come.
     Comes(usize),
     /// This is all that still comes.
     Ends(&'a str),
@@ -56,7 +56,7 @@ pub struct Scene {
     pub workers: usize,
 }
 
-/// Whether this is what a walk answers.
+/// Whether this is what a walk yields.
 fn are(alloc: Global, found: Result<Vec<Answer>, AllocError>, wanted: &str) -> bool {
     match found {
         Ok(found) => are_lines(alloc, found.as_slice(), wanted),
@@ -75,7 +75,7 @@ fn is_busy(found: Result<Vec<Answer>, AllocError>) -> bool {
     }
 }
 
-/// Whether so many entries come of a walk.
+/// Whether a walk yields that many entries.
 fn comes<S: FileSystem, L: Pool<States, S, NoProcess, Global>>(
     walk: &mut PoolWalk<S, L>,
     count: usize,
@@ -88,7 +88,7 @@ fn comes<S: FileSystem, L: Pool<States, S, NoProcess, Global>>(
     true
 }
 
-/// Whether within some seconds so many readings are ahead for a walk.
+/// Whether within some seconds that many readings are ahead for a walk.
 fn come_ahead<S: FileSystem, L: Pool<States, S, NoProcess, Global>>(
     clock: &impl Clock,
     walk: &PoolWalk<S, L>,
@@ -170,7 +170,7 @@ fn holds<R: Host>(rt: &R, crew: &Arc<Crew<R>>) -> Option<()> {
     Some(())
 }
 
-/// Whether an act comes off beside these walks.
+/// Whether an act succeeds beside these walks.
 fn comes_off<R: Host, S: CountsLists + Send + Sync + 'static>(
     rt: &R,
     stand: &Stand<R, S>,
@@ -197,7 +197,7 @@ fn comes_off<R: Host, S: CountsLists + Send + Sync + 'static>(
     }
 }
 
-/// The number of the first act that doesn't come off, where they come one after another.
+/// The number of the first act that doesn't succeed, if they come one after another.
 fn wrong<R: Host, S: CountsLists + Send + Sync + 'static>(
     rt: &R,
     stand: &Stand<R, S>,
@@ -212,8 +212,7 @@ fn wrong<R: Host, S: CountsLists + Send + Sync + 'static>(
     None
 }
 
-/// The number of the first act that doesn't come off over the crew and the tree of a scene; 0 where these can't be
-/// made.
+/// The number of the first act that doesn't succeed over the crew and the tree of a scene; 0 if these can't be made.
 pub fn first_wrong<R: Host>(rt: &R, scene: &Scene, acts: &[Act<'_>]) -> Option<usize> {
     let Ok(tree) = tree(rt.alloc(), scene.steps) else {
         return Some(0);
@@ -225,7 +224,7 @@ pub fn first_wrong<R: Host>(rt: &R, scene: &Scene, acts: &[Act<'_>]) -> Option<u
     }
 }
 
-/// Whether a walk with a callback answers this over a tree, whose crew has two workers.
+/// Whether a walk with a callback yields this over a tree, if its crew has two workers.
 pub fn shows_by<R: Host, P: ProcessReadDir<States, Global> + Send + Sync + 'static>(
     rt: &R,
     steps: &[Step],

@@ -23,7 +23,7 @@ fn failures_of_workers_told_where_they_are_met(rt: HostRuntime) {
             Failing::List("/r/s", ErrorKind::PermissionDenied),
             "0 d /r; 1 f /r/b; 1 d /r/s ! 1 /r/s PermissionDenied; 1 f /r/a",
         ),
-        // Want of memory ends the walk.
+        // Memory that runs out ends the walk.
         (
             GROUPED,
             "/t",

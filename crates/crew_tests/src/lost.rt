@@ -91,7 +91,7 @@ fn pool_of<'f, S: FileSystem>(
     Some(Prepared { board })
 }
 
-/// What comes of a reading, in a word.
+/// The outcome of a reading, in a word.
 fn word_of<S: FileSystem, L: Pool<States, S, NoProcess, Global>>(
     reads: &mut ReadDirIter<States, S, NoProcess, Global, InTurn, L>,
 ) -> &'static str {
@@ -102,7 +102,7 @@ fn word_of<S: FileSystem, L: Pool<States, S, NoProcess, Global>>(
     }
 }
 
-/// Whether this comes of readings from `/r` on, of which these two are there.
+/// Whether this is the outcome of readings from `/r` on, of which these two are there.
 fn comes<S: FileSystem>(
     alloc: Global,
     fs: &S,

@@ -14,10 +14,10 @@ const TWO_WORKERS: Scene = Scene {
     workers: 2,
 };
 
-/// What walks over the forked directories answer.
+/// What walks over the forked directories yield.
 const ALL: &str = "0 d /r; 1 d /r/a; 2 d /r/a/x; 1 d /r/b; 2 d /r/b/x; 1 d /r/c; 2 d /r/c/x";
 
-/// A walk that is told to read by the crew.
+/// A walk that is set to read by the crew.
 const BY_CREW: Asked<'static> = Asked {
     root: "/r",
     settings: &[],
@@ -25,13 +25,13 @@ const BY_CREW: Asked<'static> = Asked {
     then: &[],
 };
 
-/// A walk that is told no crew to read by.
+/// A walk that is set to read by no crew.
 const UNTOLD: Asked<'static> = Asked {
     reader: Reader::Untold,
     ..BY_CREW
 };
 
-/// A walk that is told to read in batches of two.
+/// A walk that is set to read in batches of two.
 const IN_BATCHES: Asked<'static> = Asked {
     settings: &[Setting::By(Width::Batches(2))],
     ..UNTOLD

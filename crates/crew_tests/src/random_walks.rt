@@ -30,7 +30,7 @@ fn settings(seed: usize) -> [Setting; 5] {
     [order, hidden, links, depth, Setting::Min(dice.below(3))]
 }
 
-/// The first seed whose walks differ with and without a crew of so many workers for a walk, if there is one.
+/// The first seed whose walks differ with and without a crew of that many workers for a walk, if there is one.
 fn first_that_differs<R: Host>(rt: &R, workers: usize) -> Option<usize> {
     for seed in 0..TREES {
         let settings = settings(seed);

@@ -18,8 +18,8 @@ type PoolReads<S, L> = ReadDirIter<States, S, NoProcess, Global, InTurn, L>;
 /// Readings that a crew may make.
 type Reads<R, S> = PoolReads<Arc<S>, Session<R, States, Arc<S>, NoProcess>>;
 
-/// The readings of the root and of all below it, by the crew if a place is free at once, or so many at a time; or why
-/// they don't begin.
+/// The readings of the root and of all below it, by the crew if a place is free at once, or that many at a time. Else
+/// why they don't begin.
 fn tried<R: Host, S: FileSystem + Send + Sync + 'static>(
     stand: &Stand<R, S>,
     width: Option<Width>,
@@ -59,7 +59,7 @@ fn are_seven<S: FileSystem, L: Pool<States, S, NoProcess, Global>>(
     ended && ended_for_good
 }
 
-/// What comes of readings, in a word.
+/// The outcome of readings, in a word.
 fn word_of<R: Host, S: FileSystem + Send + Sync + 'static>(
     stand: &Stand<R, S>,
     width: Option<Width>,

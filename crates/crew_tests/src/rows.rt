@@ -19,7 +19,7 @@ type Row = (
     &'static str,
 );
 
-/// Whether these are the walk's answers, over a crew with so many workers for a walk and without one.
+/// Whether these are the walk's answers, over a crew with that many workers for a walk and without one.
 fn holds<R: Host>(rt: &R, (steps, root, settings, answers): &Row, workers: usize) -> bool {
     let scene = Scene {
         steps: *steps,

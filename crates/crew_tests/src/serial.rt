@@ -1,4 +1,4 @@
-//! Whether walks over a crew answer as serial walks do, item by item.
+//! Whether walks over a crew yield what serial walks do, item by item.
 use crate::crewed::{Asked, Host, Stand};
 use jwalk::DirEntry;
 use jwalk::file_system::{BuildError, FileSystem, MemoryFs};
@@ -17,7 +17,7 @@ fn text_of(alloc: Global, found: Result<Vec<Answer<Counts>>, AllocError>) -> Opt
     format!(in alloc; "{:?}", found.as_slice()).ok()
 }
 
-/// Whether a walk over the crew with a callback answers what the serial walk does with the same one.
+/// Whether a walk over the crew with a callback yields what the serial walk does with the same one.
 fn is_serial<
     R: Host,
     S: FileSystem + Send + Sync + 'static,
@@ -39,7 +39,7 @@ fn is_serial<
     }
 }
 
-/// Takes some directories away, and tells some in which state to begin.
+/// Takes some directories away, and sets for some the state in which to begin.
 fn mark(entry: &mut DirEntry<Counts>, place: usize, state: usize) {
     entry.client_state = state.wrapping_add(place);
     if entry.depth > 0 && state.wrapping_add(place) % 6 == 0 {
@@ -71,7 +71,7 @@ fn reorder(
     Ok(())
 }
 
-/// Whether both walks over the crew, without a callback and with one that reorders lists, answer what serial ones do.
+/// Whether both walks over the crew, without a callback and with one that reorders lists, yield what serial ones do.
 fn are_both_serial<R: Host, S: FileSystem + Send + Sync + 'static>(
     rt: &R,
     stand: &Stand<R, S>,
@@ -81,7 +81,7 @@ fn are_both_serial<R: Host, S: FileSystem + Send + Sync + 'static>(
         && is_serial(rt, stand, asked, ByFn::of(reorder), ByFn::of(reorder))
 }
 
-/// Whether walks over a tree do so, over a crew with so many workers for a walk.
+/// Whether walks over a tree do so, over a crew with that many workers for a walk.
 pub fn are_serial<R: Host>(
     rt: &R,
     tree: Result<MemoryFs, BuildError>,

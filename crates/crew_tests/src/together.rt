@@ -25,7 +25,7 @@ const BOTH: ListedDirectory<'static> = ListedDirectory {
     ],
 };
 
-/// That directory, where each of the two waits in its listing until the other's has begun too.
+/// That directory, where each of the two blocks in its listing until the other's has begun too.
 #[derive(Drop)]
 struct Meeting<R> {
     clock: R,
@@ -82,7 +82,7 @@ impl<R: Clock + Drop> FileSystem for Meeting<R> {
     }
 }
 
-/// All that a walk over the two answers, for which a crew of two workers reads.
+/// All that a walk over the two yields, for which a crew of two workers reads.
 fn answers_by_two<R: Host>(rt: &R, fs: Meeting<R>) -> Result<Vec<Answer>, AllocError> {
     let alloc = rt.alloc();
     let by_crew = Parallelism::RayonExistingPool {
@@ -93,7 +93,7 @@ fn answers_by_two<R: Host>(rt: &R, fs: Meeting<R>) -> Result<Vec<Answer>, AllocE
     all_of(alloc, walk.parallelism(by_crew).into_iter())
 }
 
-// A crew of one thread (the wrong body `crew_of_one_thread`) answers an error inside the first of the two.
+// A crew of one thread (the wrong body `crew_of_one_thread`) yields an error inside the first of the two.
 #[test]
 fn two_workers_read_at_the_same_time(rt: HostRuntime) -> Result<(), AllocError> {
     let fs = Meeting {

@@ -1,4 +1,4 @@
-//! A first walk: the path of all that stands below a folder, by name.
+//! A first walk: the path of all that is below a folder, by name.
 #![tactic(auto)]
 
 use jwalk::WalkDir;

@@ -1,4 +1,4 @@
-//! What a walk goes over: the file system as a trait, its types, the disk, and a tree in memory.
+//! What a walk reads from: the file system as a trait, its types, the disk, and a tree in memory.
 pub use memory_fs::build_error::BuildError;
 pub use memory_fs::memory_fs::MemoryFs;
 pub use real_fs::real_fs::RealFs;

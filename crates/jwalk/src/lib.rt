@@ -1,7 +1,7 @@
-//! Directory walks in strict depth-first order: what a directory holds comes right behind it, before its next sibling.
+//! Directory walks in strict depth-first order: what a directory holds comes right after it, before its next sibling.
 //!
-//! A walk takes a file system, a root and options, and gives a stream of entries and errors. Its order is one and the
-//! same however it reads. A directory that could not be read is still answered, with its error inside.
+//! A walk takes a file system, a root and options, and yields entries and errors. The order is the same whichever way
+//! the walk reads. A directory that could not be read is still yielded, with its error inside.
 //!
 //! ```text
 //! for answer in WalkDir::at(&rt, "/usr")?.sort(true) {

@@ -1,4 +1,4 @@
-//! One reading of a directory, and the callbacks that are given its list.
+//! Readings of single directories, and the callbacks that are called with their lists.
 pub use jwalk_process::by_fn::ByFn;
 pub use jwalk_process::calls::{Calls, Closure};
 pub use jwalk_process::filter_entry::FilterEntry;

@@ -25,7 +25,7 @@ use std::sync::Arc;
 use std::time::Duration;
 use walk_fs::file_system::FileSystem;
 
-/// A walk that is yet to begin: a root in a file system, and options.
+/// A walk that has not begun: a root in a file system, and options.
 ///
 /// `C` is the pair of states that a user keeps beside directories and entries, `((), ())` for none. `S` is the file
 /// system, `P` the callback (`NoProcess` for none), and `A` the allocator. `T` is what reads directories that are read
@@ -46,7 +46,7 @@ pub struct WalkDirGeneric<
     options: Options,
     root_read_dir_state: C::ReadDirState,
     threads: T,
-    // What reads ahead for it, and how long the walk waits for a place there.
+    // The crew that reads ahead, and how long the walk blocks for a place of it.
     crew: Option<(Arc<W, A>, Option<Duration>)>,
 }
 
@@ -69,8 +69,8 @@ impl<C: ClientState, S: FileSystem, A: Allocator + Copy> WalkDirGeneric<
     ghost use Rattle.walk_model.specs.Options.{defaults};
     ghost use Rattle.jwalk.specs.WalkDir.{file_system_of, root_of, state_of, options_of};
 
-    /// A walk over a file system from a root, whose text is kept as it stands. All that the walk needs comes from the
-    /// root's allocator.
+    /// Returns a walk over a file system from a root, whose text is kept unchanged. All memory that the walk needs
+    /// comes from the root's allocator.
     pub fn new(fs: S, root: String<A>) -> Self
         ensures file_system { file_system_of result ≡ fs }
         ensures root { root_of result ≡ string_bytes root }
@@ -93,7 +93,7 @@ impl<C: ClientState, S: FileSystem, A: Allocator + Copy, W: Drop> WalkDirGeneric
     ghost use Rattle.walk_model.specs.Options.{defaults};
     ghost use Rattle.jwalk.specs.WalkDir.{file_system_of, root_of, state_of, options_of};
 
-    /// A walk whose crew, if it has one, is named later.
+    /// Returns a walk whose crew, if it has one, is set later.
     fn with_no_options(fs: S, root: String<A>) -> Self
         ensures file_system { file_system_of result ≡ fs }
         ensures root { root_of result ≡ string_bytes root }
@@ -127,9 +127,11 @@ where
     ghost use Rattle.real_fs.specs.RealFs.{runtime_of};
     ghost use Rattle.jwalk.specs.WalkDir.{file_system_of, root_of, options_of};
 
-    /// A walk of the file system that a runtime reaches, from a root: `WalkDir::at(&rt, "/usr")?`.
+    /// Returns a walk of the file system that a runtime reaches, from a root: `WalkDir::at(&rt, "/usr")?`.
     ///
-    /// Fails only for want of memory.
+    /// # Errors
+    ///
+    /// If memory runs out.
     pub fn at(rt: &'a R, root: &str) -> Result<Self, AllocError>
         ensures file_system { IfOk result (λ walk. (runtime_of (file_system_of walk)).now ≡ rt.now) }
         ensures root { IfOk result (λ walk. root_of walk ≡ root.now) }
@@ -151,15 +153,15 @@ impl<
     ghost use Rattle.walk_model.specs.Options.{with_sort, with_skip_hidden, with_follow_links, with_min_depth, with_max_depth};
     ghost use Rattle.jwalk.specs.WalkDir.{root_of, options_of, Sets, SetsParallelism, SetsState, SetsCallback, SetsThreads};
 
-    /// The root's path as it was given.
+    /// Returns the root's path as it was given.
     pub fn root(&self) -> &str
         ensures { result.now ≡ root_of self.now }
     {
         self.root.as_str()
     }
 
-    /// Whether the entries of a directory come by the bytes of their names, with its errors last. Off by default: they
-    /// come in the file system's order then.
+    /// Sets whether the entries of a directory are sorted by the bytes of their names, with its errors last. Off by
+    /// default: then they come in the file system's order.
     pub fn sort(mut self, sort: bool) -> Self
         ensures { Sets (with_sort sort (options_of self)) self result }
     {
@@ -167,8 +169,8 @@ impl<
         self
     }
 
-    /// Whether names that start with a dot are left out. On by default. The root is never left out, and a name whose
-    /// type can't be told is answered as an error, hidden or not.
+    /// Sets whether names that start with a dot are left out. On by default. The root is never left out. A name whose
+    /// type can't be read is yielded as an error, hidden or not.
     pub fn skip_hidden(mut self, skip_hidden: bool) -> Self
         ensures { Sets (with_skip_hidden skip_hidden (options_of self)) self result }
     {
@@ -176,12 +178,12 @@ impl<
         self
     }
 
-    /// Whether a link gives way to what it leads to, under the link's own path. Off by default: links are answered as
-    /// such, and a root that is a link to a directory is read all the same.
+    /// Sets whether links are followed: the entry then has the link's own path, and the type of what the link leads to.
+    /// Off by default: links are yielded as links, and a root that is a link to a directory is still read.
     ///
-    /// A link to a directory whose text has the components of the path of a directory above it is a loop: it is an
-    /// error that names the nearest such directory. A loop that the text doesn't tell, as that of a relative target, is
-    /// gone round until the greatest depth or the file system ends it.
+    /// A link to a directory is a loop if its text has the components of the path of a directory above it. A loop is
+    /// yielded as an error that names the nearest such directory. A loop that the text doesn't show, such as that of a
+    /// relative target, is followed until the greatest depth or the file system ends it.
     pub fn follow_links(mut self, follow_links: bool) -> Self
         ensures { Sets (with_follow_links follow_links (options_of self)) self result }
     {
@@ -189,8 +191,8 @@ impl<
         self
     }
 
-    /// The least depth of the entries that are answered, 0 by default; it is lowered to the greatest depth where it is
-    /// above that. Directories above it are read all the same, and errors are answered whatever their depth.
+    /// Sets the least depth of the entries that are yielded, 0 by default. It is lowered to the greatest depth if it is
+    /// above that. Directories nearer to the root are still read, and errors are yielded whatever their depth.
     pub fn min_depth(mut self, depth: usize) -> Self
         ensures { Sets (with_min_depth depth (options_of self)) self result }
     {
@@ -198,9 +200,9 @@ impl<
         self
     }
 
-    /// The greatest depth of the entries that are answered, the greatest `usize` by default; it is raised to the least
-    /// depth where it is below that. A directory at this depth is answered and not read. Below 2 it makes the walk
-    /// serial; a later `parallelism` overrides that.
+    /// Sets the greatest depth of the entries that are yielded, the greatest `usize` by default. It is raised to the
+    /// least depth if it is below that. A directory at this depth is yielded and not read. A depth below 2 makes the
+    /// walk serial; a later `parallelism` overrides that.
     pub fn max_depth(mut self, depth: usize) -> Self
         ensures { Sets (with_max_depth depth (options_of self)) self result }
     {
@@ -208,12 +210,12 @@ impl<
         self
     }
 
-    /// How directories are read, one at a time by default. It changes neither the answers nor their order, but which
-    /// directories were read when an entry is answered, and how fast that is.
+    /// Sets how directories are read, one at a time by default. It changes neither the answers nor their order. It
+    /// changes which directories have been read when an entry is yielded, and how fast the walk is.
     ///
-    /// Several directories are read together by several threads where the walk was made by `at` or `threads`, and its
-    /// answers are asked for by the walk's own `next` or `fill`, as in `while let Some(answer) = walk.next()`. A
-    /// `for` loop and adapters call `Iterator::next`, which reads the same directories one after another.
+    /// Several threads read directories together if the walk was made by `at` or `threads`, and if its answers are
+    /// taken by the walk's own `next` or `fill`. `while let Some(answer) = walk.next()` does so. A `for` loop and
+    /// adapters call `Iterator::next`, which reads the same directories one after another.
     pub fn parallelism(mut self, parallelism: Parallelism<W, A>) -> Self
         ensures { SetsParallelism parallelism self result }
     {
@@ -222,7 +224,7 @@ impl<
         self
     }
 
-    /// The same walk, where threads of this runtime read the directories that are read together.
+    /// Returns the same walk, with threads of this runtime to read the directories that are read together.
     pub fn threads<R>(self, rt: R) -> WalkDirGeneric<C, S, P, A, OnThreads<R>, W>
         ensures { SetsThreads self result }
     {
@@ -237,8 +239,8 @@ impl<
         }
     }
 
-    /// The state that the root's list is given to begin with, the default one by default. It goes down the tree: each
-    /// directory's reading begins with a clone of the state that the reading of its parent left.
+    /// Sets the state with which the root's list begins, the default state by default. States are handed down the tree:
+    /// each directory's reading begins with a clone of the state that the reading of its parent left.
     pub fn root_read_dir_state(mut self, state: C::ReadDirState) -> Self
         ensures { SetsState state self result }
     {
@@ -246,11 +248,13 @@ impl<
         self
     }
 
-    /// The same walk with this callback in place of its own. It is given each list before the walk goes on with it: the
-    /// root's first, then that of each directory as it is read, in its order and after links gave way. It isn't called
-    /// for a directory that couldn't be listed, nor for one at the greatest depth. Where threads or a crew read, it may
-    /// be called by several of them side by side. Where it is refused memory, the list is dropped, and the walk tells
-    /// of it.
+    /// Returns the same walk with this callback instead of its own.
+    ///
+    /// The callback is called with each list before the walk goes on with it: the root's first, then that of each
+    /// directory as it is read. The list is in its order, and links have been followed. It isn't called for a directory
+    /// that couldn't be listed, nor for one at the greatest depth. Where threads or a crew read, several of them may
+    /// call it at the same time. If the callback runs out of memory, the list is dropped, and the walk yields the error
+    /// that reports it.
     pub fn process_read_dir<Q: ProcessReadDir<C, A>>(
         self,
         process: Q,
@@ -279,7 +283,7 @@ impl<
     ghost use Rattle.jwalk.specs.WalkDir.{callback_of, Starts, Holds};
     ghost use Rattle.jwalk_entries.specs.DirEntryIter.{by_crew, is_refused, IsRefused};
 
-    /// The walk begun, whether memory was refused or not.
+    /// Begins the walk, whether memory runs out or not.
     fn begin(self) -> DirEntryIter<C, S, P, A, T>
         requires { P.IsLawful (callback_of self) }
         ensures own { by_crew result ≡ false }
@@ -303,9 +307,11 @@ impl<
         DirEntryIter::from_root(alloc, threads, job, read.ok())
     }
 
-    /// The walk begun: its root's list is made, and no directory is read yet.
+    /// Begins the walk: makes its root's list, and reads no directory yet.
     ///
-    /// Fails only for want of memory.
+    /// # Errors
+    ///
+    /// An error whose `is_memory` is true, if memory runs out.
     pub fn try_into_iter(self) -> Result<DirEntryIter<C, S, P, A, T>, Error<A>>
         requires { P.IsLawful (callback_of self) }
         ensures own { IfOk result (λ walk. by_crew walk ≡ false) }
@@ -321,9 +327,9 @@ impl<
         Ok(walk)
     }
 
-    /// The walk begun: its root's list is made, and no directory is read yet.
+    /// Begins the walk: makes its root's list, and reads no directory yet.
     ///
-    /// Where memory is refused, the iterator's only answer is the error that tells of it.
+    /// If memory runs out, the iterator yields one error whose `is_memory` is true, and nothing else.
     pub fn into_iter(self) -> DirEntryIter<C, S, P, A, T>
         requires { P.IsLawful (callback_of self) }
         ensures own { by_crew result ≡ false }
@@ -346,10 +352,12 @@ impl<C: ClientState, S: FileSystem, P: ProcessReadDir<C, Global>, T: Drop, W: Dr
     ghost use Rattle.jwalk_process.specs.ByFn.{closure_of};
     ghost use Rattle.jwalk.specs.WalkDir.{callback_of, SetsCallback};
 
-    /// The same walk with a closure as its callback, whose types need not be written. It is called with the depth and
-    /// the path of a directory, the state and the list, and may change the two last; of the root's list the depth is
-    /// `None` and the path the root's parent. An entry whose depth it changes is dropped. It fails for want of memory
-    /// alone, and must be safe to call with whatever the walk finds.
+    /// Returns the same walk with a closure as its callback, whose types need not be written.
+    ///
+    /// The closure is called with the depth and the path of a directory, the state and the list. It may change the
+    /// state and the list. For the root's list the depth is `None` and the path is the root's parent. An entry whose
+    /// depth it changes is dropped. It may fail only if memory runs out, and must be safe to call with whatever the
+    /// walk finds.
     ///
     /// A walk over another allocator than `Global` takes `process_read_dir(ByFn::new(..))`.
     pub fn process_read_dir_by<

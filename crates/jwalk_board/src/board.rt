@@ -26,9 +26,11 @@ pub use plan::{Plan, Refused};
 pub use refusal::{FinishFault, FinishRefusal, HandOutRefusal, TakeRefusal};
 pub use rehearsal::{Rehearsal, rehearse};
 
-/// Specifications to be read, by address, and the readings that were made of them. A specification is queued until it
-/// is taken, then in hand until its reading comes with its children, and the reading is then ready until it is handed
-/// out. Readings are handed out a parent first, then its children in order, each with all that lies below it.
+/// Specifications to be read, by address, and the readings that were made of them.
+///
+/// A specification is queued until it is taken. Then its address is in hand until its reading comes with its children.
+/// The reading is then ready until it is handed out. Readings are handed out a parent first, then its children in
+/// order, each with all that is below it.
 pub struct Board<T, R, A: Allocator + Copy = Global> {
     queued: SiblingQueue<T, A>,
     in_hand: AddressSet<A>,
@@ -72,11 +74,12 @@ impl<T, R, A: Allocator + Copy> Model for Board<T, R, A> {
 }
 
 impl<T: Drop, R: Drop, A: Allocator + Copy> Board<T, R, A> {
-    /// A board on which these are queued as the roots, at `[0]`, `[1]` and so on, and nothing is in hand or ready.
+    /// Returns a board on which these are queued as the roots, at `[0]`, `[1]` and so on, and nothing is in hand or
+    /// ready.
     ///
     /// # Errors
     ///
-    /// If memory runs out. The roots then come back.
+    /// If memory runs out. The roots are then given back.
     pub fn new(roots: Vec<T, A>) -> Result<Self, Vec<T, A>>
         ensures made { IfOk result (IsNew roots.items) }
         ensures handed_back { IfErr result (λ refused. refused ≡ roots) }
@@ -101,7 +104,7 @@ impl<T: Drop, R: Drop, A: Allocator + Copy> Board<T, R, A> {
     /// # Errors
     ///
     /// `Stopped` if the board is stopped. Otherwise `Empty` if nothing is queued and something is in hand, and `Done`
-    /// if there is neither. Otherwise `Memory`, if memory runs out. The board is then unchanged.
+    /// if there is neither. Otherwise `Memory`, if memory runs out. After an error the board is unchanged.
     pub fn take(&mut self) -> Result<Ordered<T, A>, TakeRefusal>
         ensures taken { IfOk result (λ item. Takes item self.old self.new) }
         ensures refused { IfErr result (RefusesTake self.old) }
@@ -135,7 +138,7 @@ impl<T: Drop, R: Drop, A: Allocator + Copy> Board<T, R, A> {
     /// # Errors
     ///
     /// `Stopped` if the board is stopped. Otherwise `NotInHand` if the address is not in hand. Otherwise `Memory`, if
-    /// memory runs out. The board is then unchanged, and the arguments come back.
+    /// memory runs out. After an error the board is unchanged, and the arguments are given back.
     pub fn finish(
         &mut self,
         address: IndexPath<A>,
@@ -190,7 +193,7 @@ impl<T: Drop, R: Drop, A: Allocator + Copy> Board<T, R, A> {
     /// # Errors
     ///
     /// `Stopped` if the board is stopped. Otherwise `Done` if all was handed out, and `NotReady` if the next address is
-    /// queued or in hand. Otherwise `Memory`, if memory runs out. The board is then unchanged.
+    /// queued or in hand. Otherwise `Memory`, if memory runs out. After an error the board is unchanged.
     pub fn hand_out(&mut self) -> Result<Ordered<R, A>, HandOutRefusal>
         ensures handed_out { IfOk result (λ item. HandsOut item self.old self.new) }
         ensures refused { IfErr result (RefusesHandOut self.old) }
@@ -217,8 +220,8 @@ impl<T: Drop, R: Drop, A: Allocator + Copy> Board<T, R, A> {
         }
     }
 
-    /// Whether the reading at the next address is ready. It is handed out next, unless the board is stopped or memory
-    /// runs out.
+    /// Returns whether the reading at the next address is ready. It is handed out next, unless the board is stopped or
+    /// memory runs out.
     pub fn is_next_ready(&self) -> bool
         ensures { IsTrue result ↔ IsNextReady self.now }
     {
@@ -228,42 +231,42 @@ impl<T: Drop, R: Drop, A: Allocator + Copy> Board<T, R, A> {
         !self.matcher.is_none() && least.index_path == *self.matcher.looking_for()
     }
 
-    /// Marks the board as stopped: every later step is refused.
+    /// Stops the board: every later step fails with `Stopped`.
     pub fn stop(&mut self)
         ensures { self.new ≡ record self.old { stopped = true } }
     {
         self.stopped = true;
     }
 
-    /// Whether the board is stopped.
+    /// Returns whether the board is stopped.
     pub fn is_stopped(&self) -> bool
         ensures { result ≡ self.now.stopped }
     {
         self.stopped
     }
 
-    /// How many specifications are queued.
+    /// Returns how many specifications are queued.
     pub fn queued(&self) -> usize
         ensures { result ≡ length self.now.queued }
     {
         self.queued.len()
     }
 
-    /// How many addresses are in hand.
+    /// Returns how many addresses are in hand.
     pub fn in_hand(&self) -> usize
         ensures { result ≡ length self.now.in_hand }
     {
         self.in_hand.len()
     }
 
-    /// How many readings are ready.
+    /// Returns how many readings are ready.
     pub fn ready(&self) -> usize
         ensures { result ≡ length self.now.ready }
     {
         self.ready.len()
     }
 
-    /// How many addresses are queued or in hand.
+    /// Returns how many addresses are queued or in hand.
     pub fn pending(&self) -> usize
         ensures sum { result ≡ length self.now.queued + length self.now.in_hand }
         ensures holds_open { HoldsOpen self.now }

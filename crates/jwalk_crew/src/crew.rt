@@ -11,7 +11,7 @@ use std::time::{Clock, Duration};
 /// The most workers that a walk is given.
 const MOST_WORKERS: usize = 256;
 
-/// Workers that read ahead for walks, as many for each walk, and so many walks at once.
+/// Workers that read ahead for several walks at once. Each walk has the same number of workers of its own.
 pub struct Crew<R> {
     pub(crate) rt: R,
     places: Mutex<Places>,
@@ -31,8 +31,8 @@ impl<R: Drop> Drop for Crew<R> {
 }
 
 impl<R: Wait + Clock> Crew<R> {
-    /// A crew that serves `places` walks at once, each with up to `workers` threads of its own. 0 counts as 1, and more
-    /// than 256 workers count as 256.
+    /// Returns a crew that serves `places` walks at once, each with up to `workers` threads of its own. 0 counts as 1,
+    /// and more than 256 workers count as 256.
     pub fn new(rt: R, places: usize, workers: usize) -> Self
         ensures { workers_of result ≡ max 1 (min workers 256) }
     {
@@ -44,20 +44,20 @@ impl<R: Wait + Clock> Crew<R> {
         }
     }
 
-    /// How many walks it serves now. It may wait for a lock.
+    /// Returns how many walks the crew serves now. It may block for a lock.
     pub fn in_use(&self) -> usize {
         let places = self.places.lock(&self.rt);
         places.in_use()
     }
 
-    /// How many threads a walk is given, unless fewer can be started.
+    /// Returns how many threads a walk is given, unless fewer can be started.
     pub(crate) fn workers(&self) -> usize
         ensures { result ≡ workers_of self.now }
     {
         self.workers
     }
 
-    /// Takes a place as soon as one is free. False where none was within the limit.
+    /// Blocks until a place is free, and takes it. Returns false if none was free within the limit.
     fn take_place(&self, limit: Option<Duration>) -> bool {
         let patience = Patience::from_now(&self.rt, limit);
         for _ in self.rt.forever() {
@@ -114,11 +114,11 @@ impl<R: Wait + Clock + Drop, A: Allocator + Copy> Drop for Place<R, A> {
 }
 
 impl<R: Wait + Clock + Drop, A: Allocator + Copy> Place<R, A> {
-    /// Waits until a place of the crew is free, and takes it. With a limit it waits no longer than that.
+    /// Blocks until a place of the crew is free, and takes it. With a limit it blocks no longer than that.
     ///
     /// # Errors
     ///
-    /// `Busy` where no place was free in time. `Memory` where the crew couldn't be shared.
+    /// `Busy` if no place was free in time. `Memory` if memory ran out for sharing the crew.
     pub fn take(
         crew: &Arc<Crew<R>, A>,
         busy_timeout: Option<Duration>,

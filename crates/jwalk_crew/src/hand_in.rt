@@ -13,7 +13,7 @@ use read_parts::read_dir_spec::ReadDirSpec;
 use std::alloc::Allocator;
 use walk_fs::file_system::FileSystem;
 
-/// A reading that a worker made: where its directory stands in the walk, its message, and the directories below it.
+/// A reading that a worker made: the address of its directory in the walk, its message, and the directories below it.
 pub(crate) struct HandIn<
     C: ClientState,
     S: FileSystem,
@@ -42,7 +42,7 @@ impl<C: ClientState, S: FileSystem, P: ProcessReadDir<C, A>, A: Allocator + Copy
     P,
     A,
 > {
-    /// Finishes it on a board. What is refused comes back, and the board is stopped then.
+    /// Finishes it on a board. If that fails, it is given back, and the board is stopped.
     pub(crate) fn finish(
         self,
         board: &mut Board<ReadDirSpec<C, A>, Message<C, S, P, A>, A>,

@@ -48,21 +48,21 @@ impl<C: ClientState, S: FileSystem, P: ProcessReadDir<C, A>, A: Allocator + Copy
     P,
     A,
 > {
-    /// A walk by this job that begins with these directories.
+    /// Returns the origin of a walk by this job that begins with these directories.
     pub fn new(job: Arc<Job<C, S, P, A>, A>, roots: Vec<ReadDirSpec<C, A>, A>) -> Self
         ensures { result ≡ record { job = arc_value job; roots = map spec roots.items } }
     {
         Origin { job, roots }
     }
 
-    /// The job that reads.
+    /// Returns the job that reads.
     pub fn job(&self) -> &Arc<Job<C, S, P, A>, A>
         ensures { arc_value result.now ≡ self.now.job }
     {
         &self.job
     }
 
-    /// The directories that the walk begins with.
+    /// Returns the directories that the walk begins with.
     pub fn into_roots(self) -> Vec<ReadDirSpec<C, A>, A>
         ensures { map spec result.items ≡ self.roots }
     {

@@ -18,7 +18,7 @@ use walk_fs::file_system::FileSystem;
 /// Why a reading didn't come.
 #[derive(Clone, Copy, Debug, PartialEq, Eq)]
 pub enum Missed {
-    /// Memory was refused.
+    /// Memory ran out.
     Memory,
     /// There is none, or another came in its place.
     Lost,
@@ -43,13 +43,13 @@ pub trait Pool<C: ClientState, S: FileSystem, P: ProcessReadDir<C, A>, A: Alloca
     /// The addresses of the readings that it has still to give, the next one first.
     ghost awaits: { Self → List (List ℕ) };
 
-    /// The reading that is wanted, once it is there: over a crew it may wait, for the reading or for a lock. The
-    /// addresses of the directories below it are then awaited in its stead.
+    /// Returns the reading that is wanted, once it is there. Over a crew it may block for the reading or for a lock.
+    /// The addresses of the directories below it are awaited from then on, in place of its own.
     ///
     /// # Errors
     ///
-    /// `Memory` if memory ran out, the workers' or for the hand-out, and `Lost` if the reading won't come. No reading
-    /// that is due is lost.
+    /// `Memory` if memory ran out, the workers' or for the hand-out. `Lost` if the reading won't come. No reading that
+    /// is due is lost.
     fn next(&mut self, wanted: &Wanted<A>) -> Result<Ordered<Message<C, S, P, A>, A>, Missed>
         ensures fits { IfOk result (Fits wanted.now) }
         ensures made { IfOk result (λ item. IsOk item.value.outcome) }
@@ -61,7 +61,7 @@ pub trait Pool<C: ClientState, S: FileSystem, P: ProcessReadDir<C, A>, A: Alloca
         ensures due { result ≡ Err Missed.Lost → (origin : _) → Self.comes_from self.old origin → ¬ IsDue S.FileSystem
             P.ProcessReadDir C.ReadDirState.Clone C.DirEntryState.Default origin (Self.awaits self.old) wanted.now };
 
-    /// How many readings were made and not handed on. Over a crew it may wait for a lock.
+    /// Returns how many readings were made and not handed on. Over a crew it may block for a lock.
     fn ahead(&self) -> usize;
 }
 

@@ -28,9 +28,10 @@ use std::thread::Threads;
 use std::time::Clock;
 use walk_fs::file_system::FileSystem;
 
-/// The readings of a walk's directories, made by a crew's workers. It has a place of the crew. Dropping it ends the
-/// workers, each after the directory that it is reading, and gives the place back; it waits for none of them, but may
-/// wait for a lock.
+/// The readings of a walk's directories, made by a crew's workers. It has a place of the crew.
+///
+/// Dropping it gives the place back and ends the workers, each after the directory that it is reading. The drop doesn't
+/// block for the workers, but may block for a lock.
 pub struct Session<
     R: Wait + Clock + Drop,
     C: ClientState,
@@ -62,7 +63,7 @@ impl<
     }
 }
 
-/// Waits until the reading that is wanted is there, or it is known why it isn't to come.
+/// Blocks until the reading that is wanted is there, or it is known why it won't come.
 fn wait_for<
     R: Wait + Clock + Drop,
     C: ClientState,
@@ -138,12 +139,12 @@ where
     ghost use Rattle.jwalk_order.specs.Frontier.{roots as root_addresses};
     ghost use Rattle.jwalk_crew.specs.Session.{origin_of, awaited_by};
 
-    /// Starts the workers of a walk that has a place: from here on they read these directories, and those below them.
+    /// Starts the workers of a walk that has a place. From then on they read these directories, and those below them.
     /// The directories are clones of those that the walk begins with.
     ///
     /// # Errors
     ///
-    /// `Memory` where memory runs out. `Busy` where no worker could be started. The place is then given back.
+    /// `Memory` if memory runs out. `Busy` if no worker could be started. After an error the place is given back.
     pub fn start(
         place: Place<R, A>,
         origin: &Origin<C, S, P, A>,

@@ -36,15 +36,14 @@ pub(crate) struct Shared<
 > {
     pub(crate) crew: Arc<Crew<R>, A>,
     pub(crate) job: Arc<Job<C, S, P, A>, A>,
-    /// The lock: whoever works on the board holds it, and shows its guard, whose type doesn't say of which lock it is.
+    /// The lock. Whoever works on the board holds it, and shows its guard, whose type doesn't say of which lock it is.
     pub(crate) sleepers: Mutex<Sleepers>,
-    /// The board, which is taken out and put back while the lock is held, so that nobody finds it out. Whoever takes it
-    /// knows that all that stands on it comes from where the walk began. The walk has the key: it alone hands readings
-    /// out.
+    /// The board. It is taken out and put back while the lock is held, so that nobody finds it out. Whoever takes it
+    /// knows that all that is on it comes from where the walk began. The walk has the key: it alone hands readings out.
     pub(crate) work: KeyedSlot<Work<C, S, P, A>, A>,
-    /// Called where a worker may find something queued, or nothing more will be.
+    /// Notified when a worker may find something queued, or nothing more will be.
     pub(crate) queued: Condvar,
-    /// Called where the walk's next reading is ready, or none will be.
+    /// Notified when the walk's next reading is ready, or none will be.
     pub(crate) arrived: Condvar,
     ghost own: { arc_value job ≡ (tag_of work).job },
 }
@@ -75,7 +74,8 @@ impl<
     P: ProcessReadDir<C, A>,
     A: Allocator + Copy,
 > Shared<R, C, S, P, A> {
-    /// What the workers of a walk are given: the roots of the walk are queued on its board. The key is for the walk.
+    /// Returns what the workers of a walk share, with the roots of the walk queued on its board. The key is for the
+    /// walk.
     pub(crate) fn new(
         crew: &Arc<Crew<R>, A>,
         origin: &Origin<C, S, P, A>,
@@ -117,7 +117,7 @@ impl<
         Some((work.into_board(), loan))
     }
 
-    /// Puts the board back, under the same hold of the lock: the guard witnesses that, and is not read. Nothing was
+    /// Puts the board back, under the same hold of the lock. The guard witnesses that, and is not read. Nothing was
     /// handed out.
     fn put_back(
         &self,
@@ -145,7 +145,7 @@ impl<
         self.put_back(held, board, loan);
     }
 
-    /// A worker's turn at the board: what it does next, and whom that calls.
+    /// Takes a worker's turn at the board: returns what the worker does next, and whom that calls.
     pub(crate) fn turn(
         &self,
         held: &MutexGuard<'_, Sleepers>,
@@ -162,7 +162,8 @@ impl<
         (turn, calls)
     }
 
-    /// Asks the board for the reading that is wanted, by the walk's key. Where the board is out, it isn't ready yet.
+    /// Asks the board for the reading that is wanted, by the walk's key. If the board is out, the reading isn't ready
+    /// yet.
     pub(crate) fn arrival(
         &self,
         _held: &MutexGuard<'_, Sleepers>,
@@ -185,7 +186,7 @@ impl<
         arrival
     }
 
-    /// How many readings are ready.
+    /// Returns how many readings are ready.
     pub(crate) fn ready(&self, held: &MutexGuard<'_, Sleepers>) -> usize {
         let Some((board, loan)) = self.take_out(held) else {
             return 0;
@@ -204,7 +205,7 @@ impl<
         self.put_back(held, board, loan);
     }
 
-    /// Calls those who sleep.
+    /// Notifies those who sleep.
     pub(crate) fn call(&self, calls: Calls) {
         if calls.walk {
             self.arrived.notify_one();

@@ -9,7 +9,7 @@ use jwalk_order::index_path::IndexPath;
 use jwalk_order::ordered::Ordered;
 use std::alloc::{AllocError, Allocator};
 
-/// A board on which these are queued, in a box.
+/// Returns a board on which these are queued, in a box.
 pub(crate) fn new_board<T: Drop, R: Drop, A: Allocator + Copy>(
     roots: Vec<T, A>,
 ) -> Result<Box<Board<T, R, A>, A>, AllocError>
@@ -30,13 +30,13 @@ pub(crate) fn new_board<T: Drop, R: Drop, A: Allocator + Copy>(
 pub(crate) enum Turn<T, A: Allocator + Copy> {
     /// It reads what it took.
     Read(Ordered<T, A>),
-    /// It waits, since others may find more.
+    /// It blocks, since others may find more.
     Wait,
     /// It ends.
     End,
 }
 
-/// Takes the next specification. The board is stopped where memory is refused.
+/// Takes the next specification. If memory runs out, the board is stopped.
 pub(crate) fn take_turn<T: Drop, R: Drop, A: Allocator + Copy>(
     board: &mut Board<T, R, A>,
 ) -> Turn<T, A>
@@ -53,7 +53,7 @@ pub(crate) fn take_turn<T: Drop, R: Drop, A: Allocator + Copy>(
     }
 }
 
-/// Finishes a reading. The board is stopped where that is refused.
+/// Finishes a reading. If that fails, the board is stopped.
 pub(crate) fn finish_or_stop<T: Drop, R: Drop, A: Allocator + Copy>(
     board: &mut Board<T, R, A>,
     address: IndexPath<A>,
@@ -88,8 +88,8 @@ impl Calls {
         }
     }
 
-    /// After a step that left the board at work: a worker for each specification that is queued, and the walk where its
-    /// next reading is ready.
+    /// Returns whom to call after a step that left the board at work: a worker for each specification that is queued,
+    /// and the walk if its next reading is ready.
     pub(crate) fn after<T: Drop, R: Drop, A: Allocator + Copy>(board: &Board<T, R, A>) -> Self
         ensures workers { result.workers ≡ length board.now.queued }
         ensures walk { IsTrue result.walk ↔ IsNextReady board.now }
@@ -100,7 +100,7 @@ impl Calls {
         }
     }
 
-    /// After a worker's turn: everyone where the worker ends, since the others then end too.
+    /// Returns whom to call after a worker's turn: everyone if the worker ends, since the others then end too.
     pub(crate) fn after_turn<T: Drop, R: Drop, A: Allocator + Copy>(
         board: &Board<T, R, A>,
         turn: &Turn<T, A>,
@@ -114,7 +114,7 @@ impl Calls {
         }
     }
 
-    /// Whether nobody is called.
+    /// Returns whether nobody is called.
     pub(crate) fn is_empty(self) -> bool {
         self.workers == 0 && !self.walk
     }

@@ -49,14 +49,14 @@ impl<C: ClientState, S: FileSystem, P: ProcessReadDir<C, A>, A: Allocator + Copy
 }
 
 impl<C: ClientState, S: FileSystem, P: ProcessReadDir<C, A>, A: Allocator + Copy> Work<C, S, P, A> {
-    /// A board that is put back.
+    /// Returns the work of a board that is put back.
     pub(crate) fn new(board: SharedBoard<C, S, P, A>) -> Self
         ensures { result.board ≡ board }
     {
         Work { board }
     }
 
-    /// The board, to be worked on.
+    /// Returns the board, to be worked on.
     pub(crate) fn into_board(self) -> SharedBoard<C, S, P, A>
         ensures { result ≡ self.board }
     {

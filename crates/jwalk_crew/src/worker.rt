@@ -24,7 +24,7 @@ use std::thread::Threads;
 use std::time::Clock;
 use walk_fs::file_system::FileSystem;
 
-/// A thread of a walk: it takes directories, reads them and hands in what came of it.
+/// A thread of a walk: it takes directories, reads them and hands in the outcome.
 pub(crate) struct Worker<
     R: Wait + Clock + Drop,
     C: ClientState,
@@ -54,8 +54,8 @@ impl<
     P: ProcessReadDir<C, A>,
     A: Allocator + Copy,
 > Worker<R, C, S, P, A> {
-    /// Hands in what was read, if anything, and takes a directory as soon as one is queued: none once the board is done
-    /// or stopped.
+    /// Hands in what was read, if anything, and takes a directory as soon as one is queued. Returns none once the board
+    /// is done or stopped.
     fn next(&self, read: Option<HandIn<C, S, P, A>>) -> Option<Ordered<ReadDirSpec<C, A>, A>>
         requires { IfSome read (λ h. IsMadeAt S.FileSystem P.ProcessReadDir C.ReadDirState.Clone
             C.DirEntryState.Default (tag_of (arc_value self.now.shared).work) (indices_of h.address) h.message
@@ -97,7 +97,7 @@ impl<
         unreachable!()
     }
 
-    /// Reads a directory that was taken. None where memory is refused, which stops the board.
+    /// Reads a directory that was taken. Returns none if memory runs out, and the board is stopped then.
     fn read(&self, item: Ordered<ReadDirSpec<C, A>, A>) -> Option<HandIn<C, S, P, A>>
         requires lawful { P.IsLawful (callback (arc_value (arc_value self.now.shared).job)) }
         requires at { IsAt S.FileSystem P.ProcessReadDir C.ReadDirState.Clone C.DirEntryState.Default
@@ -141,7 +141,7 @@ impl<
     }
 }
 
-/// Starts a worker, if a thread can be had for it.
+/// Starts a worker, if a thread can be started for it.
 fn start_worker<
     R: Wait + Threads + Clock + Drop + Send + Sync + 'static,
     C: ClientState + Send + 'static,
@@ -167,7 +167,7 @@ where
     .is_ok()
 }
 
-/// Starts so many workers, or fewer where there are no threads for more. Answers how many.
+/// Starts that many workers, or fewer if no more threads can be started. Returns how many.
 pub(crate) fn start_workers<
     R: Wait + Threads + Clock + Drop + Send + Sync + 'static,
     C: ClientState + Send + 'static,

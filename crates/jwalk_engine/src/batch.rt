@@ -23,8 +23,8 @@ use std::alloc::{AllocError, Allocator};
 use std::thread::Threads;
 use walk_fs::file_system::FileSystem;
 
-/// A directory that was taken and read, and isn't finished yet: where it stands, what came of it, and the directories
-/// below it.
+/// A directory that was taken and read, and isn't finished yet: its address, the outcome of its reading, and the
+/// directories below it.
 #[derive(Drop)]
 pub(crate) struct Made<C: ClientState, A: Allocator + Copy> {
     pub(crate) address: IndexPath<A>,
@@ -32,7 +32,7 @@ pub(crate) struct Made<C: ClientState, A: Allocator + Copy> {
     pub(crate) children: Vec<ReadDirSpec<C, A>, A>,
 }
 
-/// Takes the least specifications that are queued: so many, or all if there are fewer.
+/// Takes the least specifications that are queued: that many, or all if there are fewer.
 pub(crate) fn take_batch<C: ClientState, A: Allocator + Copy>(
     alloc: A,
     board: &mut Board<ReadDirSpec<C, A>, Read<C, A>, A>,
@@ -55,7 +55,7 @@ pub(crate) fn take_batch<C: ClientState, A: Allocator + Copy>(
         match board.take() {
             Ok(item) => taken.push_reserved(item),
             Err(TakeRefusal::Memory) => return Err(AllocError),
-            // So many are queued, and nothing stops the board.
+            // That many are queued, and nothing stops the board.
             Err(TakeRefusal::Empty) => unreachable!(),
             Err(TakeRefusal::Done) => unreachable!(),
             Err(TakeRefusal::Stopped) => unreachable!(),
@@ -110,7 +110,7 @@ pub(crate) fn read_in_turn<
     Ok(made)
 }
 
-/// Reads the directories that were taken, on several threads where there are enough of them.
+/// Reads the directories that were taken, on several threads if there are enough of them.
 pub(crate) fn read_on_threads<
     R: Threads + Sync,
     C: ClientState + Send,
@@ -193,7 +193,7 @@ pub(crate) fn read_batch<
     finish_batch(board, made)
 }
 
-/// The same, with the directories read on several threads where there are enough of them.
+/// Does the same, with the directories read on several threads if there are enough of them.
 pub(crate) fn read_batch_on<
     R: Threads + Sync,
     C: ClientState + Send,
@@ -224,7 +224,7 @@ where
     finish_batch(board, made)
 }
 
-/// Takes the least specification, reads its directory and finishes it. Does nothing where none is queued.
+/// Takes the least specification, reads its directory and finishes it. Does nothing if none is queued.
 pub(crate) fn read_least<
     C: ClientState,
     S: FileSystem,

@@ -59,7 +59,7 @@ fn hand_on_ready<C: ClientState, A: Allocator + Copy>(
     }
 }
 
-/// What a walk answers without a reading that isn't made yet: none of it where such a reading is next.
+/// Returns what a walk yields without a reading that isn't made yet: none of it if such a reading is next.
 fn answer_ready<C: ClientState, A: Allocator + Copy>(
     board: &mut Board<ReadDirSpec<C, A>, Read<C, A>, A>,
 ) -> Option<Result<Option<Outcome<C, A>>, AllocError>>
@@ -81,7 +81,7 @@ fn answer_ready<C: ClientState, A: Allocator + Copy>(
     }
 }
 
-/// The next reading, for which the least directories are read where it isn't there yet.
+/// Returns the next reading. If it isn't there yet, the least directories are read first.
 fn read_next<C: ClientState, S: FileSystem, P: ProcessReadDir<C, A>, A: Allocator + Copy>(
     alloc: A,
     job: &Job<C, S, P, A>,
@@ -103,7 +103,7 @@ fn read_next<C: ClientState, S: FileSystem, P: ProcessReadDir<C, A>, A: Allocato
     hand_on_ready(board)
 }
 
-/// The same, with the directories read on several threads.
+/// Does the same, with the directories read on several threads.
 fn read_next_on<
     R: Threads + Sync,
     C: ClientState + Send,
@@ -135,14 +135,14 @@ where
     hand_on_ready(board)
 }
 
-/// Readings in preorder: a directory's, and then those of all that is below it. So many directories are read together,
-/// when a reading is asked for that isn't there yet.
+/// Readings in preorder: a directory's, and then those of all that is below it. Up to a width of directories are read
+/// together, when a reading is asked for that isn't there yet.
 pub struct BoardWalk<C: ClientState, S, P, A: Allocator + Copy = Global> {
     alloc: A,
     job: Job<C, S, P, A>,
     // How many are read together, 1 at least.
     width: usize,
-    // None once the walk was stopped.
+    // None after the walk was stopped.
     board: Option<Board<ReadDirSpec<C, A>, Read<C, A>, A>>,
 }
 
@@ -176,7 +176,7 @@ impl<C: ClientState, S: FileSystem, P: ProcessReadDir<C, A>, A: Allocator + Copy
 > {
     ghost use Rattle.jwalk_engine.specs.BoardWalk.{to_read, early_of, read_ahead, next_of, IsSteadyWalk, StaysSteady};
 
-    /// A walk with nothing to read yet, which is to read so many directories together.
+    /// Returns a walk with nothing to read yet, which is to read that many directories together.
     pub fn new(alloc: A, job: Job<C, S, P, A>, width: usize) -> Self
         requires { 1 ≤ width }
         ensures job { result.job ≡ job }
@@ -197,7 +197,7 @@ impl<C: ClientState, S: FileSystem, P: ProcessReadDir<C, A>, A: Allocator + Copy
     ///
     /// # Errors
     ///
-    /// If memory runs out. Nothing is left to be read then.
+    /// If memory runs out. Then nothing is left to be read.
     pub fn begin(&mut self, roots: Vec<ReadDirSpec<C, A>, A>) -> Result<(), AllocError>
         ensures job { self.new.job ≡ self.old.job }
         ensures width { self.new.width ≡ self.old.width }
@@ -219,7 +219,7 @@ impl<C: ClientState, S: FileSystem, P: ProcessReadDir<C, A>, A: Allocator + Copy
         }
     }
 
-    /// A walk that is to read these directories and what is below them, so many together.
+    /// Returns a walk that is to read these directories and what is below them, that many together.
     ///
     /// # Errors
     ///
@@ -242,19 +242,19 @@ impl<C: ClientState, S: FileSystem, P: ProcessReadDir<C, A>, A: Allocator + Copy
         Ok(walk)
     }
 
-    /// What it reads with.
+    /// Returns the job that it reads with.
     pub fn job(&self) -> &Job<C, S, P, A>
         ensures { result.now ≡ self.now.job }
     {
         &self.job
     }
 
-    /// The next reading, or none where all was read. Where it isn't made yet, the least of the unread directories are
+    /// Returns the next reading, or none if all was read. If it isn't made yet, the least of the unread directories are
     /// read, as many as are read together, one after another.
     ///
     /// # Errors
     ///
-    /// If any of these readings meets a want of memory. Nothing is left to be read then.
+    /// If memory runs out in any of these readings. Then nothing is left to be read.
     pub fn read_next(&mut self) -> Result<Option<Outcome<C, A>>, AllocError>
         requires { P.IsLawful (callback self.old.job) }
         ensures job { self.new.job ≡ self.old.job }
@@ -284,7 +284,7 @@ impl<C: ClientState, S: FileSystem, P: ProcessReadDir<C, A>, A: Allocator + Copy
         }
     }
 
-    /// How many readings were made and not handed on.
+    /// Returns how many readings were made and not handed on.
     pub fn ahead(&self) -> usize
         ensures early { result ≡ length (early_of self.now) }
         ensures done { result ≡ length (read_ahead self.now).done }
@@ -295,7 +295,7 @@ impl<C: ClientState, S: FileSystem, P: ProcessReadDir<C, A>, A: Allocator + Copy
         }
     }
 
-    /// Forgets what is not read yet, and what was read early.
+    /// Drops what is not read yet, and what was read early.
     pub fn stop(&mut self)
         ensures job { self.new.job ≡ self.old.job }
         ensures width { self.new.width ≡ self.old.width }
@@ -321,12 +321,12 @@ where
 {
     ghost use Rattle.jwalk_engine.specs.BoardWalk.{to_read, early_of, read_ahead, next_of, IsSteadyWalk, StaysSteady};
 
-    /// The same as [`read_next`](BoardWalk::read_next), with the directories read on several threads where there are
+    /// Does the same as [`read_next`](BoardWalk::read_next), with the directories read on several threads if there are
     /// enough of them to be worth it.
     ///
     /// # Errors
     ///
-    /// If any of these readings meets a want of memory. Nothing is left to be read then.
+    /// If memory runs out in any of these readings. Then nothing is left to be read.
     pub fn read_next_on<R: Threads + Sync>(
         &mut self,
         rt: &R,

@@ -10,14 +10,14 @@ use read_parts::client_state::ClientState;
 use read_parts::read_dir_spec::ReadDirSpec;
 use std::alloc::{AllocError, Allocator};
 
-/// What came of a directory's reading, with the directory that was read.
+/// The outcome of a directory's reading, with the directory that was read.
 #[derive(Drop)]
 pub struct Read<C: ClientState, A: Allocator + Copy> {
     pub of: ReadDirSpec<C, A>,
     pub outcome: Outcome<C, A>,
 }
 
-/// Finishes what was taken, unless memory is refused.
+/// Finishes what was taken, unless memory runs out.
 pub(crate) fn finish<T: Drop, R: Drop, A: Allocator + Copy>(
     board: &mut Board<T, R, A>,
     address: IndexPath<A>,

@@ -21,13 +21,14 @@ use walk_fs::file_system::FileSystem;
 
 /// A walk under way: an iterator over its entries and errors, in strict depth-first order.
 ///
-/// A directory's entry is answered when its directory was read. A directory that could not be read is answered with the
-/// error in its `read_children`. Want of memory is answered by one error whose `is_memory` is true, and then by `None`
-/// for good; so is the end of the walk. A walk over a crew ends in the same way, by an error whose `is_lost` is true,
-/// where a reading is lost. Over a file system whose answers stay the same, and with a callback that always does the
-/// same, none is.
+/// A directory's entry is yielded once the directory was read. A directory that could not be read is yielded with the
+/// error in its `read_children`. If memory runs out, one error is yielded whose `is_memory` is true, and then `None`
+/// for good. At the end of the walk, too, `None` is yielded for good.
 ///
-/// Over a crew, calls may wait: `next`, `fill` and `count` for a reading, and these, `ahead` and the drop for a lock.
+/// A walk over a crew ends in the same way if a reading is lost: it yields one error whose `is_lost` is true. No
+/// reading is lost if the file system's answers stay the same and the callback always does the same.
+///
+/// Over a crew, calls may block: `next`, `fill` and `count` for a reading, and these, `ahead` and the drop for a lock.
 pub struct DirEntryIter<
     C: ClientState,
     S: FileSystem,
@@ -37,9 +38,9 @@ pub struct DirEntryIter<
     L = NoPool,
 > {
     reads: ReadDirIter<C, S, P, A, T, L>,
-    // What was received and not passed on, the next one last.
+    // What was received and not yet passed on, the next one last.
     items: Vec<Result<DirEntry<C, A>, Error<A>>, A>,
-    // Memory was refused at the start, and this was not answered yet.
+    // Memory ran out at the start, and the error was not yielded yet.
     refused: bool,
 }
 
@@ -82,8 +83,8 @@ impl<
     ghost use Rattle.jwalk_entries.specs.DirEntryIter.{reads_of, by_crew, is_refused, job_of, min_depth_of, items_of, unread_of, width_of, read_ahead, early_of, held_by, next_address, IsWithin, IsSourced, IsRefused, Known, KnownAt, IsSteadyWalk, ReadsStaySteady, EntersIfAny, GrowsAhead, Answers, Counts};
     ghost use Rattle.jwalk_entries.specs.Step.{IsAtDirectory, Receives, PassesNext, ReadsUpTo, StopsAtDirectory};
 
-    /// A walk whose start was refused, which needs no memory: what it answers is the error that tells of it, and
-    /// nothing else.
+    /// Returns a walk whose start ran out of memory: it yields the error that reports it, and nothing else. The call
+    /// itself needs no memory.
     pub fn refused(alloc: A, threads: T, job: Job<C, S, P, A>) -> Self
         ensures own { by_crew result ≡ false }
         ensures job { job_of result ≡ job }
@@ -101,7 +102,7 @@ impl<
         }
     }
 
-    /// The walk over these readings that holds a root's list, and whose start may have been refused.
+    /// Returns the walk over these readings that holds a root's list, and whose start may have run out of memory.
     pub fn with_list(
         reads: ReadDirIter<C, S, P, A, T, L>,
         list: Vec<Result<DirEntry<C, A>, Error<A>>, A>,
@@ -137,8 +138,8 @@ impl<
         Ok(())
     }
 
-    /// The walk that begins with the root's list. Where memory is refused, what it answers is the error that tells of
-    /// it, and nothing else.
+    /// Returns the walk that begins with the root's list. If memory ran out, it yields the error that reports it, and
+    /// nothing else.
     pub fn from_root(
         alloc: A,
         threads: T,
@@ -183,7 +184,7 @@ impl<
         self.items.append(&mut items)
     }
 
-    /// Forgets all that is still to come.
+    /// Drops all that is still to come.
     fn stop(&mut self)
         ensures crew { by_crew self.new ≡ by_crew self.old }
         ensures job { job_of self.new ≡ job_of self.old }
@@ -199,7 +200,7 @@ impl<
         self.reads.stop();
     }
 
-    /// The entry of a directory once this came of its reading, with the items of the reading received.
+    /// Returns the entry of a directory with the outcome of its reading, and receives the items of the reading.
     fn entered(
         &mut self,
         found: DirEntry<C, A>,
@@ -222,7 +223,7 @@ impl<
         }
     }
 
-    /// The next item, passed on.
+    /// Passes the next item on.
     fn pass(&mut self) -> Result<Option<Result<DirEntry<C, A>, Error<A>>>, Missed>
         requires { P.IsLawful (callback (job_of self.old)) }
         ensures crew { by_crew self.new ≡ by_crew self.old }
@@ -261,7 +262,7 @@ impl<
         }
     }
 
-    /// What was passed, unless the least depth leaves it out.
+    /// Returns what was passed on, unless the least depth leaves it out.
     fn kept(
         &self,
         passed: Result<DirEntry<C, A>, Error<A>>,
@@ -277,7 +278,7 @@ impl<
         }
     }
 
-    /// The next item that is answered.
+    /// Returns the next item that is yielded.
     fn next_kept(&mut self) -> Result<Option<Result<DirEntry<C, A>, Error<A>>>, Missed>
         requires { P.IsLawful (callback (job_of self.old)) }
         ensures crew { by_crew self.new ≡ by_crew self.old }
@@ -307,7 +308,7 @@ impl<
         Ok(None)
     }
 
-    /// The next answer; or the error that tells why it won't come, and nothing is left.
+    /// Returns the next answer; or the error that reports why it won't come, and then nothing is left.
     fn next_answer(&mut self) -> Option<Result<DirEntry<C, A>, Error<A>>>
         requires { P.IsLawful (callback (job_of self.old)) }
         ensures { Answers S.FileSystem P.ProcessReadDir C.ReadDirState.Clone C.DirEntryState.Default L.Pool
@@ -326,23 +327,23 @@ impl<
         }
     }
 
-    /// Whether memory was refused at the start, and the error that tells of it was not answered yet.
+    /// Returns whether memory ran out at the start, and the error that reports it was not yielded yet.
     pub fn is_refused(&self) -> bool
         ensures { result ≡ is_refused self.now }
     {
         self.refused
     }
 
-    /// How many directories were read whose readings are not handed on yet. A serial walk reads none ahead; over a crew
-    /// the number changes while the workers read, and the call may wait for a lock.
+    /// Returns how many directories were read whose readings are not yet handed on. A serial walk reads none ahead.
+    /// Over a crew the number changes while the workers read, and the call may block for a lock.
     pub fn ahead(&self) -> usize
         ensures { by_crew self.now ≡ false → result ≡ length (early_of self.now) }
     {
         self.reads.ahead()
     }
 
-    /// The number of answers that are still to come, or the greatest `usize` where there are more. Unlike
-    /// `Iterator::count`, it asks for no bound of them. Over a crew it may wait: for a reading, or for a lock.
+    /// Returns the number of answers that are still to come, or the greatest `usize` if there are more. Unlike
+    /// `Iterator::count`, it needs no bound of them. Over a crew it may block for a reading or for a lock.
     pub fn count(self) -> usize
         requires { P.IsLawful (callback (job_of self)) }
         ensures { Counts S.FileSystem P.ProcessReadDir C.ReadDirState.Clone C.DirEntryState.Default L.Pool self result }
@@ -364,14 +365,15 @@ impl<
 > DirEntryIter<C, S, P, A, InTurn, L> {
     ghost use Rattle.jwalk_entries.specs.DirEntryIter.{job_of, Fills};
 
-    /// Puts up to `n` answers behind those in `out`, fewer where the walk ends before that, and tells how many.
+    /// Appends up to `n` answers to `out`, fewer if the walk ends before that, and returns how many.
     ///
-    /// The walk is asked only once `out` has a free place. Over a crew it may wait: for a reading, or for a lock.
+    /// An answer is taken from the walk only once `out` has a free place. Over a crew the call may block for a reading
+    /// or for a lock.
     ///
     /// # Errors
     ///
-    /// If there is no memory for the place. No answer is lost then: `out` has those that were given, and another call
-    /// gives the next ones. Memory that is refused to the walk itself is told by an answer.
+    /// If memory runs out for the place. No answer is lost then: `out` has those that were appended, and another call
+    /// appends the next ones. If the walk itself runs out of memory, the error is one of the answers.
     pub fn fill(
         &mut self,
         n: usize,

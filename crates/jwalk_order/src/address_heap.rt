@@ -15,8 +15,8 @@ use std::marker::Model;
 
 /// Values by address, of which the least comes out first.
 ///
-/// The one in front, where there is one, comes before all others and stands outside the heap. What is pushed and is
-/// then the first stands there, so that no sift is made where it comes out at once.
+/// The one in front, if there is one, comes before all others and is kept outside the heap. If what is pushed is then
+/// the first, it is put there, so that no sift is made if it comes out at once.
 #[derive(Drop)]
 pub struct AddressHeap<T, A: Allocator + Copy> {
     front: Option<Ordered<T, A>>,
@@ -43,7 +43,7 @@ impl<T, A: Allocator + Copy> Model for AddressHeap<T, A> {
 }
 
 impl<T, A: Allocator + Copy> AddressHeap<T, A> {
-    /// An empty heap, which takes no memory.
+    /// Returns an empty heap, which takes no memory.
     pub fn new(alloc: A) -> Self
         ensures { result.items ≡ [] }
     {
@@ -53,7 +53,7 @@ impl<T, A: Allocator + Copy> AddressHeap<T, A> {
         }
     }
 
-    /// How many values it holds.
+    /// Returns how many values it holds.
     pub fn len(&self) -> usize
         ensures { result ≡ length self.now.items }
     {
@@ -63,7 +63,7 @@ impl<T, A: Allocator + Copy> AddressHeap<T, A> {
         }
     }
 
-    /// Makes room for one more. Where memory is refused, nothing is changed.
+    /// Makes room for one more. If memory runs out, nothing is changed.
     pub fn reserve_one(&mut self) -> Result<(), AllocError>
         ensures items { self.new.items ≡ self.old.items }
         ensures room { OnOk result (0 < self.new.room) }
@@ -71,7 +71,7 @@ impl<T, A: Allocator + Copy> AddressHeap<T, A> {
         self.others.reserve(2)
     }
 
-    /// Adds a value where there is room for it, which `reserve_one` makes.
+    /// Adds a value, for which `reserve_one` has made room.
     pub fn push_reserved(&mut self, item: Ordered<T, A>)
         requires { 0 < self.old.room }
         ensures { IsPermutation (addressed item ∷ self.old.items) self.new.items }
@@ -97,7 +97,7 @@ impl<T, A: Allocator + Copy> AddressHeap<T, A> {
         }
     }
 
-    /// An item at the least address, if there is one.
+    /// Returns an item at the least address, if there is one.
     pub fn peek(&self) -> Option<&Ordered<T, A>>
         ensures some { IfSome result (λ item. IsAmong (address_of item.now) (addresses_of self.now.items)) }
         ensures top { IfSome result (λ item. addressed item.now
@@ -111,7 +111,7 @@ impl<T, A: Allocator + Copy> AddressHeap<T, A> {
         }
     }
 
-    /// Takes the item that `peek` shows, and leaves room for one more.
+    /// Removes the item that `peek` shows, and leaves room for one more.
     pub fn pop(&mut self) -> Option<Ordered<T, A>>
         ensures items { IfSome result (λ item. IsPermutation self.old.items (addressed item ∷ self.new.items)) }
         ensures top { IfSome result (λ item. addressed item ≡ slice_index_or self.old.items 0 (addressed item)) }
@@ -126,7 +126,7 @@ impl<T, A: Allocator + Copy> AddressHeap<T, A> {
     }
 }
 
-// Pushes an item where there is room for it.
+// Pushes an item, for which there is room.
 fn push_within<T, A: Allocator + Copy>(heap: &mut BinaryHeap<Ordered<T, A>, A>, item: Ordered<T, A>)
     requires room { heap_len heap.old < heap_capacity heap.old }
     requires order { IsHeap ordered_cmp (heap_items heap.old) }

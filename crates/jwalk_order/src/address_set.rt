@@ -28,7 +28,7 @@ impl<A: Allocator + Copy> Model for AddressSet<A> {
 }
 
 impl<A: Allocator + Copy> AddressSet<A> {
-    /// An empty set, which takes no memory.
+    /// Returns an empty set, which takes no memory.
     pub fn new(alloc: A) -> Self
         ensures { result ≡ [] }
     {
@@ -39,7 +39,7 @@ impl<A: Allocator + Copy> AddressSet<A> {
         }
     }
 
-    /// How many addresses are in it.
+    /// Returns how many addresses are in it.
     pub fn len(&self) -> usize
         ensures len { result ≡ length self.now }
         ensures small { result ≤ 2 ^ 63 }
@@ -51,7 +51,7 @@ impl<A: Allocator + Copy> AddressSet<A> {
         }
     }
 
-    /// Whether an address is in it.
+    /// Returns whether an address is in it.
     pub fn contains(&self, path: &IndexPath<A>) -> bool
         ensures { IsTrue result ↔ IsAmong (address path.now) self.now }
     {
@@ -61,7 +61,7 @@ impl<A: Allocator + Copy> AddressSet<A> {
         self.others.contains(path)
     }
 
-    /// Adds an address that isn't in it yet. Where memory is refused, nothing is changed.
+    /// Adds an address that isn't in it yet. If memory runs out, nothing is changed.
     pub fn insert(&mut self, path: &IndexPath<A>) -> Result<(), AllocError>
         requires { times (address path.now) self.old ≡ 0 }
         ensures added { OnOk result (IsPermutation (address path.now ∷ self.old) self.new) }
@@ -79,7 +79,7 @@ impl<A: Allocator + Copy> AddressSet<A> {
         Ok(())
     }
 
-    /// Takes away an address that is in it.
+    /// Removes an address that is in it.
     pub fn remove(&mut self, path: &IndexPath<A>)
         requires { IsAmong (address path.now) self.old }
         ensures { IsPermutation self.old (address path.now ∷ self.new) }

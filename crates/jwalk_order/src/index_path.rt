@@ -19,14 +19,14 @@ pub struct IndexPath<A: Allocator + Copy = Global> {
 }
 
 impl<A: Allocator + Copy> IndexPath<A> {
-    /// The address with these indices.
+    /// Returns the address with these indices.
     pub fn new(indices: Vec<usize, A>) -> Self
         ensures { result.indices ≡ indices }
     {
         Self { indices }
     }
 
-    /// The address of the child at `index`, made with this one's allocator.
+    /// Returns the address of the child at `index`, made with this one's allocator.
     ///
     /// # Errors
     ///
@@ -63,8 +63,8 @@ impl<A: Allocator + Copy> IndexPath<A> {
         self.indices[last] += 1;
     }
 
-    /// Goes to the parent, and answers the index that was last. A root's parent is the empty address. At the empty
-    /// address it answers `None`.
+    /// Goes to the parent, and returns the index that was last. A root's parent is the empty address. At the empty
+    /// address it returns `None`.
     pub fn pop(&mut self) -> Option<usize>
         ensures some { IsSome result ↔ (0 < length (address self.old)) }
         ensures last { address self.old ≡ address self.new ++ option_to_list result }
@@ -72,14 +72,14 @@ impl<A: Allocator + Copy> IndexPath<A> {
         self.indices.pop()
     }
 
-    /// Whether there is no index.
+    /// Returns whether there is no index.
     pub fn is_empty(&self) -> bool
         ensures { IsTrue result ↔ (address self.now ≡ []) }
     {
         self.indices.is_empty()
     }
 
-    /// An equal address, made with this one's allocator.
+    /// Returns an equal address, made with this one's allocator.
     ///
     /// # Errors
     ///
@@ -107,7 +107,7 @@ impl<A: Allocator + Copy> Eq for IndexPath<A> {
 }
 
 /// The reversed lexicographic order, so that a greatest-first heap gives the least address, and a node before all that
-/// lies below it.
+/// is below it.
 impl<A: Allocator + Copy> Ord for IndexPath<A> {
     ghost cmp = { reversed_cmp };
 

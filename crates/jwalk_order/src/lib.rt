@@ -1,4 +1,4 @@
-//! Addresses in a tree, a queue that gives what lies at the least address first, and what a board is made of: queues of
+//! Addresses in a tree, a queue that gives what is at the least address first, and what a board is made of: queues of
 //! siblings, heaps and sets by address.
 #![tactic(auto)]
 

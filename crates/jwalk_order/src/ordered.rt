@@ -16,13 +16,13 @@ use std::cmp::Ordering;
 pub struct Ordered<T, A: Allocator + Copy = Global> {
     /// The value.
     pub value: T,
-    /// Where it stands in the tree.
+    /// Its address in the tree.
     pub index_path: IndexPath<A>,
     child_count: usize,
 }
 
 impl<T, A: Allocator + Copy> Ordered<T, A> {
-    /// The value at this address, with so many children.
+    /// Returns the value at this address, with that many children.
     pub fn new(value: T, index_path: IndexPath<A>, child_count: usize) -> Self
         ensures value { result.value ≡ value }
         ensures index_path { result.index_path ≡ index_path }
@@ -35,7 +35,7 @@ impl<T, A: Allocator + Copy> Ordered<T, A> {
         }
     }
 
-    /// How many children it was made with.
+    /// Returns how many children it was made with.
     pub fn child_count(&self) -> usize
         ensures { result ≡ child_count_of self.now }
     {

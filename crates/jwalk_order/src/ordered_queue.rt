@@ -1,4 +1,4 @@
-//! A queue that gives what lies at the least address first.
+//! A queue that gives what is at the least address first.
 ghost use Rattle.std.specs.Prelude.{◌≡◌, ◌-◌, ◌+◌, ◌<◌, ◌≤◌, ◌^◌, IfErr, IfOk, IsOk, OnErr, OnOk, false, true};
 ghost use Rattle.jwalk_order.specs.OrderedQueue.{IsNew, IsUnchanged, Adds};
 ghost use Rattle.jwalk_order.specs.OrderedQueueIter.{IsOver};
@@ -56,7 +56,7 @@ impl<T, A: Allocator + Copy> Model for OrderedQueue<T, A> {
 }
 
 impl<T, A: Allocator + Copy> OrderedQueue<T, A> {
-    /// An empty queue over a tree with one root.
+    /// Returns an empty queue over a tree with one root.
     ///
     /// # Errors
     ///
@@ -67,7 +67,7 @@ impl<T, A: Allocator + Copy> OrderedQueue<T, A> {
         Self::with_roots(alloc, ordering, 1)
     }
 
-    /// An empty queue over a tree with `count` roots.
+    /// Returns an empty queue over a tree with `count` roots.
     ///
     /// # Errors
     ///
@@ -89,7 +89,7 @@ impl<T, A: Allocator + Copy> OrderedQueue<T, A> {
     ///
     /// # Errors
     ///
-    /// If memory runs out. The queue is then unchanged, and the item comes back.
+    /// If memory runs out. The queue is then unchanged, and the item is given back.
     pub fn push(&mut self, item: Ordered<T, A>) -> Result<(), Ordered<T, A>>
         requires { self.old.pending + 1 < 2 ^ 64 }
         ensures added { OnOk result (Adds item self.old self.new) }
@@ -114,7 +114,7 @@ impl<T, A: Allocator + Copy> OrderedQueue<T, A> {
         self.pending -= 1;
     }
 
-    /// Makes room, so that the next `count` pushes are not refused, whatever steps and completions lie between them.
+    /// Makes room, so that the next `count` pushes don't fail, whatever steps and completions come between them.
     ///
     /// # Errors
     ///
@@ -127,28 +127,28 @@ impl<T, A: Allocator + Copy> OrderedQueue<T, A> {
         self.items.reserve(count)
     }
 
-    /// How many items were pushed and are not completed.
+    /// Returns how many items were pushed and are not completed.
     pub fn pending(&self) -> usize
         ensures { result ≡ self.now.pending }
     {
         self.pending
     }
 
-    /// Marks the queue as stopped: no item comes any more.
+    /// Stops the queue: no item comes any more.
     pub fn stop(&mut self)
         ensures { self.new ≡ record self.old { stopped = true } }
     {
         self.is_stopped = true;
     }
 
-    /// The items, one step at a time.
+    /// Returns the items, one step at a time.
     pub fn iter(&mut self) -> OrderedQueueIter<'_, T, A>
         ensures { IsOver result self.entry }
     {
         OrderedQueueIter::over(self)
     }
 
-    // What `OrderedQueueIter::step` answers.
+    // What `OrderedQueueIter::step` returns.
     fn step(&mut self) -> Result<Step<T, A>, AllocError>
         ensures answered { IfOk result (λ step. StepGives self.old step self.new) }
         ensures unchanged { OnErr result (IsUnchanged self.old self.new) }
@@ -175,7 +175,7 @@ impl<T, A: Allocator + Copy> OrderedQueue<T, A> {
         }
     }
 
-    // The matcher passes the item before it is taken, so that a refusal changes nothing.
+    // The matcher passes the item before it is taken, so that nothing changes if memory runs out.
     fn strict_step(&mut self) -> Result<Step<T, A>, AllocError>
         requires running { self.old.stopped ≡ false }
         requires strict { self.old.ordering ≡ Ordering.Strict }

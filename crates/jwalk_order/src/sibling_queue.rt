@@ -13,7 +13,7 @@ use std::alloc::Allocator;
 use std::marker::Model;
 use std::vec::IntoIter;
 
-/// Values by address, of which the least comes out first. Siblings that came together have one entry, and stand in
+/// Values by address, of which the least comes out first. Siblings that came together have one entry, and are stored in
 /// order at its address and the ones after it.
 #[derive(Drop)]
 pub struct SiblingQueue<T, A: Allocator + Copy> {
@@ -37,7 +37,7 @@ impl<T, A: Allocator + Copy> Model for SiblingQueue<T, A> {
 }
 
 impl<T: Drop, A: Allocator + Copy> SiblingQueue<T, A> {
-    /// An empty queue, which takes no memory.
+    /// Returns an empty queue, which takes no memory.
     pub fn new(alloc: A) -> Self
         ensures { result ≡ [] }
     {
@@ -47,7 +47,7 @@ impl<T: Drop, A: Allocator + Copy> SiblingQueue<T, A> {
         }
     }
 
-    /// How many values it holds.
+    /// Returns how many values it holds.
     pub fn len(&self) -> usize
         ensures len { result ≡ length self.now }
         ensures small { result < 2 ^ 63 }
@@ -55,8 +55,8 @@ impl<T: Drop, A: Allocator + Copy> SiblingQueue<T, A> {
         self.len
     }
 
-    /// Puts values at the children of an address. It refuses for want of memory, or where the count of all would pass
-    /// that of any list: then it hands the values back, and nothing is changed.
+    /// Puts values at the children of an address. It fails if memory runs out, or if the count of all would be above
+    /// that of any list. Then it gives the values back, and nothing is changed.
     pub fn push_children(
         &mut self,
         parent: &IndexPath<A>,
@@ -83,7 +83,7 @@ impl<T: Drop, A: Allocator + Copy> SiblingQueue<T, A> {
         Ok(())
     }
 
-    /// The least address, if there is one.
+    /// Returns the least address, if there is one.
     pub fn least(&self) -> Option<&IndexPath<A>>
         ensures some { IfSome result (λ path. IsAmong (address path.now) (addresses_of self.now)) }
         ensures next { IfSome result (λ path. address path.now ≡ next_address (addresses_of self.now)) }
@@ -94,7 +94,7 @@ impl<T: Drop, A: Allocator + Copy> SiblingQueue<T, A> {
         Some(&entry.index_path)
     }
 
-    /// Takes the value at the address that `least` shows, if there is one.
+    /// Removes the value at the address that `least` shows, if there is one, and returns it.
     pub fn pop(&mut self) -> Option<T>
         ensures some { IfSome result (λ value. IsPermutation self.old
             (record { at = next_address (addresses_of self.old); value = value; child_count = 0 } ∷ self.new)) }

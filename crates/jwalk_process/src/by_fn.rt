@@ -11,8 +11,8 @@ use read_parts::error::Error;
 use read_parts::process_read_dir::ProcessReadDir;
 use std::alloc::{AllocError, Allocator};
 
-/// A closure as a callback: it is called with each list, and an entry whose depth it changed is dropped. Its user owes
-/// that it may always be called, and no more.
+/// A closure as a callback: it is called with each list, and an entry whose depth it changed is dropped. Its user must
+/// ensure that it may always be called, and no more.
 #[derive(Drop)]
 pub struct ByFn<K> {
     call: K,
@@ -21,8 +21,8 @@ pub struct ByFn<K> {
 impl<F> ByFn<Closure<F>> {
     ghost use Rattle.jwalk_process.specs.ByFn.{closure_of};
 
-    /// The callback that calls this closure, which may be made with or without the types of its arguments written, as
-    /// its list's allocator is.
+    /// Returns the callback that calls this closure. The types of the closure's arguments may be written or left out.
+    /// Its list may have any allocator.
     pub fn new<R, L>(f: F) -> Self
     where
         F: Fn(Option<usize>, &str, &mut R, &mut L) -> Result<(), AllocError>,
@@ -31,7 +31,7 @@ impl<F> ByFn<Closure<F>> {
         ByFn::of(f)
     }
 
-    /// The same, where the types of its arguments are known from elsewhere.
+    /// Returns the same callback, if the types of the closure's arguments are known from elsewhere.
     pub fn of(f: F) -> Self
         ensures { closure_of result ≡ f }
     {
@@ -41,7 +41,7 @@ impl<F> ByFn<Closure<F>> {
     }
 }
 
-/// The depth of the entries of a directory of this depth, or of the root.
+/// Returns the depth of the entries of a directory of this depth, or of the root.
 fn depth_below(depth: Option<usize>) -> usize
     requires { list_depth depth < 2 ^ 64 }
     ensures { result ≡ list_depth depth }
@@ -52,7 +52,7 @@ fn depth_below(depth: Option<usize>) -> usize
     }
 }
 
-/// Whether an item is an error or an entry at this depth.
+/// Returns whether an item is an error or an entry at this depth.
 fn stands_at<C: ClientState, A: Allocator + Copy>(
     depth: usize,
     found: &Result<DirEntry<C, A>, Error<A>>,

@@ -4,16 +4,16 @@ ghost use Rattle.std.specs.declared.alloc.AllocError.{AllocError};
 
 use std::alloc::AllocError;
 
-/// What may be called with a directory's depth and path, a state and a list. It is there so that a closure can be a
-/// callback whatever the list's allocator is; `ByFn::new` makes the one there is need of.
+/// What may be called with a directory's depth and path, a state and a list. With it a closure can be a callback
+/// whatever the list's allocator is; `ByFn::new` makes the one that is needed.
 pub trait Calls<R, L>: Drop {
     /// It may always be called.
     ghost IsCallable: { Self → Type 0 };
 
-    /// What a call may answer, and leave of the state and of the list.
+    /// What a call may return, and leave of the state and of the list.
     ghost gives: { Self → Option ℕ → List ℕ → R → L → Result Unit AllocError → R → L → Type 0 };
 
-    /// The call.
+    /// Calls it.
     fn call(
         &self,
         depth: Option<usize>,
@@ -34,7 +34,7 @@ pub struct Closure<F> {
 impl<F> Closure<F> {
     ghost use Rattle.std.specs.Prelude.{◌≡◌};
 
-    /// This closure, kept.
+    /// Returns this closure, kept.
     pub(crate) fn new(f: F) -> Self
         ensures { result.f ≡ f }
     {

@@ -1,4 +1,4 @@
-//! Entries that are kept where a test of them is true.
+//! Entries that are kept if a test of them is true.
 ghost use Rattle.std.specs.Prelude.{map};
 ghost use Rattle.read_parts.specs.Entry.{item};
 ghost use Rattle.jwalk_process.specs.FilterEntry.{IsAnswered, IsFilteredBy};
@@ -19,13 +19,13 @@ use walk_model::file_type::FileType;
 /// }));
 /// ```
 ///
-/// The test is asked of each entry of each directory, in order, as the entry stands after hidden names were left out
-/// and links gave way; a name is the last part of a path. What doesn't pass isn't answered, and a directory among it
-/// isn't read. Errors stay. The root is answered and read without being asked about: walkdir's `filter_entry` asks
-/// about the root too, that of the crate `ignore` doesn't.
+/// The test is called once for each entry of each directory, in order, after hidden names were left out and links were
+/// followed. A name is the last part of a path. An entry that doesn't pass isn't yielded, and if it is a directory, it
+/// isn't read. Errors stay. The root is yielded and read without a test. (walkdir's `filter_entry` tests the root too,
+/// that of the crate `ignore` doesn't.)
 ///
-/// The test is called once for each entry. No memory is taken, and nothing is refused. Where all answers of the test
-/// are those of one function of the depth, the name and the type, the walk's lists are those that the function filters.
+/// The filter takes no memory and never fails. If the test's results are those of one function of the depth, the name
+/// and the type, the walk's lists are those that the function filters.
 #[derive(Drop)]
 pub struct FilterEntry<F> {
     test: F,
@@ -35,8 +35,8 @@ impl<F> FilterEntry<F> {
     ghost use Rattle.std.specs.Prelude.{◌≡◌};
     ghost use Rattle.jwalk_process.specs.FilterEntry.{test_of};
 
-    /// The callback that keeps what passes this test. Its user owes that the test may be called, which a closure that
-    /// can't go wrong gives by itself.
+    /// Returns the callback that keeps what passes this test. Its user must ensure that the test may be called; a
+    /// closure that can't go wrong needs nothing more.
     pub fn new(test: F) -> Self
     where
         F: Fn(usize, &str, FileType) -> bool,
@@ -46,7 +46,7 @@ impl<F> FilterEntry<F> {
     }
 }
 
-/// Whether an item is an error, or an entry that passes.
+/// Returns whether an item is an error, or an entry that passes.
 fn passes<C: ClientState, A: Allocator + Copy, F: Fn(usize, &str, FileType) -> bool>(
     test: &F,
     found: &Result<DirEntry<C, A>, Error<A>>,

@@ -1,4 +1,4 @@
-//! Directories that are answered and not entered, by their names.
+//! Directories that are yielded and not entered, by their names.
 ghost use Rattle.std.specs.Prelude.{◌≡◌, map, string_bytes};
 ghost use Rattle.read_parts.specs.Entry.{item};
 ghost use Rattle.jwalk_process.specs.SkipNames.{is_one_of, skipped_item};
@@ -9,7 +9,7 @@ use read_parts::error::Error;
 use read_parts::process_read_dir::ProcessReadDir;
 use std::alloc::{AllocError, Allocator, Global};
 
-/// A callback by which directories of some names are answered and not entered.
+/// A callback by which directories of some names are yielded and not entered.
 ///
 /// ```text
 /// let mut names = Vec::new(alloc);
@@ -18,14 +18,14 @@ use std::alloc::{AllocError, Allocator, Global};
 /// let walk = walk.process_read_dir(SkipNames::new(names));
 /// ```
 ///
-/// Wherever a directory of one of these names is listed, it is answered, and nothing below it is. Nothing else changes:
-/// files of these names, other directories and errors are answered as without the callback. The root is entered
-/// whatever its name. A link that gave way to a directory counts by the link's name.
+/// Wherever a directory of one of these names is listed, it is yielded, and nothing below it is. Nothing else changes:
+/// files of these names, other directories and errors are yielded as without the callback. The root is entered whatever
+/// its name. For a link that was followed to a directory the link's name counts.
 ///
-/// A name is the whole last part of a path, and is compared byte for byte; there are no patterns. Hidden names are left
-/// out by the walk itself unless it is told otherwise, so `.git` matters after `skip_hidden(false)` alone.
+/// A name is the whole last part of a path, and is compared byte for byte; there are no patterns. The walk itself
+/// leaves hidden names out by default, so `.git` matters only after `skip_hidden(false)`.
 ///
-/// Each entry is compared with each name until one is equal. No memory is taken, and nothing is refused.
+/// Each entry is compared with each name until one is equal. The callback takes no memory and never fails.
 #[derive(Drop)]
 pub struct SkipNames<A: Allocator + Copy = Global> {
     names: Vec<String<A>, A>,
@@ -34,7 +34,7 @@ pub struct SkipNames<A: Allocator + Copy = Global> {
 impl<A: Allocator + Copy> SkipNames<A> {
     ghost use Rattle.jwalk_process.specs.SkipNames.{names_of};
 
-    /// The callback that skips directories of these names. With no names it changes nothing.
+    /// Returns the callback that skips directories of these names. With no names it changes nothing.
     pub fn new(names: Vec<String<A>, A>) -> Self
         ensures { names_of result ≡ map string_bytes names.items }
     {
@@ -42,7 +42,7 @@ impl<A: Allocator + Copy> SkipNames<A> {
     }
 }
 
-/// Whether a name is one of these.
+/// Returns whether a name is one of these.
 fn is_listed<A: Allocator + Copy>(names: &[String<A>], name: &str) -> bool
     ensures { result ≡ is_one_of (map string_bytes names.now) name.now }
 {

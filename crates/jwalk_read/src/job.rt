@@ -38,7 +38,7 @@ use walk_fs::file_system::FileSystem;
 use walk_fs::listed::Listed;
 use walk_model::file_type::FileType;
 
-/// What reads one directory: a file system, a callback, and the options that a reading goes by.
+/// What reads one directory: a file system, a callback, and the options that a reading follows.
 pub struct Job<C: ClientState, S, P, A: Allocator + Copy = Global> {
     fs: S,
     process: P,
@@ -60,7 +60,7 @@ impl<C: ClientState, S: Drop, P: Drop, A: Allocator + Copy> Drop for Job<C, S, P
     }
 }
 
-/// The directory that an entry of this type, with a name in a directory, is to be read from.
+/// Returns the directory that an entry of this type, with a name in a directory, is to be read from.
 fn children_in<C: ClientState, A: Allocator + Copy>(
     alloc: A,
     directory: &str,
@@ -77,9 +77,9 @@ fn children_in<C: ClientState, A: Allocator + Copy>(
 }
 
 impl<C: ClientState, S: FileSystem, P: ProcessReadDir<C, A>, A: Allocator + Copy> Job<C, S, P, A> {
-    /// A job over a file system and a callback. It puts each list in order by name where `sort` says so, leaves out
-    /// hidden names where `skip_hidden` does, lets links give way to what they lead to where `follow_links` does, and
-    /// reads no directory whose depth is `max_depth` or more.
+    /// Returns a job over a file system and a callback. It sorts each list by name if `sort` is true, leaves out hidden
+    /// names if `skip_hidden` is, and follows links if `follow_links` is. It reads no directory whose depth is
+    /// `max_depth` or more.
     pub fn new(
         alloc: A,
         fs: S,
@@ -101,7 +101,7 @@ impl<C: ClientState, S: FileSystem, P: ProcessReadDir<C, A>, A: Allocator + Copy
         )
     }
 
-    /// A job over a file system and a callback, by the options of a walk.
+    /// Returns a job over a file system and a callback, by the options of a walk.
     pub fn with_options(alloc: A, fs: S, process: P, options: Options) -> Self
         ensures file_system { file_system result ≡ fs }
         ensures callback { callback result ≡ process }
@@ -116,14 +116,14 @@ impl<C: ClientState, S: FileSystem, P: ProcessReadDir<C, A>, A: Allocator + Copy
         }
     }
 
-    /// The options that it goes by.
+    /// Returns the options that it follows.
     pub fn options(&self) -> Options
         ensures { options_value result ≡ options_of self.now }
     {
         self.options
     }
 
-    /// The entry of a name in a directory.
+    /// Returns the entry of a name in a directory.
     fn entry_in(
         &self,
         of: &ReadDirSpec<C, A>,
@@ -154,7 +154,7 @@ impl<C: ClientState, S: FileSystem, P: ProcessReadDir<C, A>, A: Allocator + Copy
         ))
     }
 
-    /// What an item of a listing that has a name gives: nothing where it is hidden and skipped.
+    /// Returns what an item of a listing that has a name gives: nothing if it is hidden and skipped.
     fn named(
         &self,
         of: &ReadDirSpec<C, A>,
@@ -185,7 +185,7 @@ impl<C: ClientState, S: FileSystem, P: ProcessReadDir<C, A>, A: Allocator + Copy
         }
     }
 
-    /// What one item of a listing gives.
+    /// Returns what one item of a listing gives.
     fn item_of(
         &self,
         of: &ReadDirSpec<C, A>,
@@ -233,7 +233,7 @@ impl<C: ClientState, S: FileSystem, P: ProcessReadDir<C, A>, A: Allocator + Copy
         }
     }
 
-    /// The items of a listing in its order.
+    /// Returns the items of a listing in its order.
     fn raw(
         &self,
         of: &ReadDirSpec<C, A>,
@@ -255,7 +255,7 @@ impl<C: ClientState, S: FileSystem, P: ProcessReadDir<C, A>, A: Allocator + Copy
         Ok(items)
     }
 
-    /// The list of a directory that could be listed, after the callback.
+    /// Returns the list of a directory that could be listed, after the callback.
     fn processed(
         &self,
         of: &ReadDirSpec<C, A>,
@@ -277,12 +277,13 @@ impl<C: ClientState, S: FileSystem, P: ProcessReadDir<C, A>, A: Allocator + Copy
         Ok(ReadDir::new(made.state, made.items))
     }
 
-    /// Reads one directory: its list, or the error that listing it ended in, which has the directory's depth and path.
-    /// A directory whose depth is the greatest or more isn't read: its list is empty, and neither the file system nor
-    /// the callback is called.
+    /// Reads one directory: returns its list, or the error that listing it ended in, which has the directory's depth
+    /// and path. A directory whose depth is the greatest or more isn't read: its list is empty, and neither the file
+    /// system nor the callback is called.
     ///
-    /// Fails only for want of memory: of the walk's own, of the file system's or of the callback's, or where the clone
-    /// of the state is refused.
+    /// # Errors
+    ///
+    /// If memory runs out: the walk's own, the file system's or the callback's, or for the clone of the state.
     pub fn read_one(
         &self,
         of: &ReadDirSpec<C, A>,

@@ -33,12 +33,14 @@ impl<C: ClientState, A: Allocator + Copy> Drop for ReadDir<C, A> {
     }
 }
 
-/// What came of a directory's reading.
+/// The outcome of a directory's reading.
 pub type Outcome<C, A> = Result<ReadDir<C, A>, Error<A>>;
 
-/// The directories to be read below the entries of what came of a reading, in its order: an error has none.
+/// Returns the directories to be read below the entries of a reading's outcome, in its order: an error has none.
 ///
-/// Fails only for want of memory, met by the list or by the clone of a state.
+/// # Errors
+///
+/// If memory runs out, for the list or for the clone of a state.
 pub fn directories_of<C: ClientState, A: Allocator + Copy>(
     alloc: A,
     read: &Outcome<C, A>,
@@ -71,7 +73,7 @@ fn push_spec<C: ClientState, A: Allocator + Copy>(
     }
 }
 
-/// These values, each at its address: child `i` of the directory at `address`. Each has the child count 0.
+/// Returns these values, each at its address: child `i` of the directory at `address`. Each has the child count 0.
 fn addressed<T: Drop, A: Allocator + Copy>(
     address: &IndexPath<A>,
     values: Vec<T, A>,
@@ -90,7 +92,7 @@ fn addressed<T: Drop, A: Allocator + Copy>(
 }
 
 impl<C: ClientState, A: Allocator + Copy> ReadDir<C, A> {
-    /// The reading that left this state and this list.
+    /// Returns the reading that left this state and this list.
     pub fn new(
         read_dir_state: C::ReadDirState,
         results_list: Vec<Result<DirEntry<C, A>, Error<A>>, A>,
@@ -103,14 +105,14 @@ impl<C: ClientState, A: Allocator + Copy> ReadDir<C, A> {
         }
     }
 
-    /// The list, in its order.
+    /// Returns the list, in its order.
     pub fn results_list(&self) -> &[Result<DirEntry<C, A>, Error<A>>]
         ensures { map item result.now ≡ (reading self.now).list }
     {
         &self.results_list
     }
 
-    /// The list, in its order, taken out of the reading.
+    /// Returns the list, in its order, taken out of the reading.
     pub fn into_results_list(self) -> Vec<Result<DirEntry<C, A>, Error<A>>, A>
         ensures { map item result.items ≡ (reading self).list }
     {
@@ -121,10 +123,12 @@ impl<C: ClientState, A: Allocator + Copy> ReadDir<C, A> {
         results_list
     }
 
-    /// The directories to be read below the entries of the list, in its order: one for each entry that has
-    /// `read_children`, beginning with the state named there or with a clone of the one that this reading left.
+    /// Returns the directories to be read below the entries of the list, in its order: one for each entry that has
+    /// `read_children`. Each begins with the state named there or with a clone of the one that this reading left.
     ///
-    /// Fails only for want of memory, met by the list or by the clone of a state.
+    /// # Errors
+    ///
+    /// If memory runs out, for the list or for the clone of a state.
     pub fn read_children_specs(&self) -> Result<Vec<ReadDirSpec<C, A>, A>, AllocError>
         ensures { IfOk result (λ v. AreClones C.ReadDirState.is_clone
             (children (reading self.now)) (map spec v.items)) }
@@ -136,10 +140,13 @@ impl<C: ClientState, A: Allocator + Copy> ReadDir<C, A> {
         Ok(specs)
     }
 
-    /// The same directories, each at its address: child `i` of the directory at `address`. Their own directories aren't
-    /// known yet, so each has the child count 0. The addresses are made with the allocator of `address`.
+    /// Returns the same directories, each at its address: child `i` of the directory at `address`. Their own
+    /// directories aren't known yet, so each has the child count 0. The addresses are made with the allocator of
+    /// `address`.
     ///
-    /// Fails only for want of memory, met by the lists, by an address or by the clone of a state.
+    /// # Errors
+    ///
+    /// If memory runs out, for the lists, for an address or for the clone of a state.
     pub fn ordered_read_children_specs(
         &self,
         address: &IndexPath<A>,

@@ -26,8 +26,8 @@ use std::alloc::{AllocError, AllocFailed, Allocator, Global};
 use std::sync::Arc;
 use walk_fs::file_system::FileSystem;
 
-/// Readings in preorder, which a crew makes ahead. It keeps which address comes next, and which directory stands there:
-/// only a reading of this directory, made by the same options, is handed on.
+/// Readings in preorder, which a crew makes ahead. It keeps which address comes next, and which directory is there.
+/// Only a reading of this directory, made by the same options, is handed on.
 pub struct CrewReads<
     C: ClientState,
     S: FileSystem,
@@ -39,7 +39,7 @@ pub struct CrewReads<
     matcher: OrderedMatcher<A>,
     // The directories whose readings are still to be handed on, the next one last.
     unread: Vec<ReadDirSpec<C, A>, A>,
-    // None once the walk was stopped.
+    // None after the walk was stopped.
     pool: Option<L>,
 }
 
@@ -55,7 +55,7 @@ impl<C: ClientState, S: FileSystem, P: ProcessReadDir<C, A>, A: Allocator + Copy
     }
 }
 
-/// The error that tells why a reading didn't come.
+/// Returns the error that reports why a reading didn't come.
 pub fn error_of<A: Allocator + Copy>(missed: Missed) -> Error<A>
     ensures { failure result ≡ failure_of missed }
 {
@@ -65,7 +65,7 @@ pub fn error_of<A: Allocator + Copy>(missed: Missed) -> Error<A>
     }
 }
 
-/// Whether a directory is the one below an entry: by its path, its depth, and the directories above it.
+/// Returns whether a directory is the one below an entry: by its path, its depth, and the directories above it.
 fn is_below<C: ClientState, A: Allocator + Copy>(
     of: &ReadDirSpec<C, A>,
     found: &DirEntry<C, A>,
@@ -87,7 +87,7 @@ impl<
     A: Allocator + Copy,
     L: Pool<C, S, P, A>,
 > CrewReads<C, S, P, A, L> {
-    /// Readings of a crew with nothing to read yet. Where memory is refused, the job is given back.
+    /// Returns readings of a crew with nothing to read yet. If memory runs out, the job is given back.
     pub fn new(alloc: A, job: Job<C, S, P, A>) -> Result<Self, Job<C, S, P, A>>
         ensures made { MatchResult result
             (λ reads. (job_of reads ≡ job) × (to_read reads ≡ []))
@@ -109,7 +109,7 @@ impl<
         }
     }
 
-    /// Readings of these directories, and of those below them, as a pool gives them.
+    /// Returns the readings of these directories, and of those below them, as a pool gives them.
     pub(crate) fn over(
         job: Job<C, S, P, A>,
         mut roots: Vec<ReadDirSpec<C, A>, A>,
@@ -131,14 +131,14 @@ impl<
         })
     }
 
-    /// What the workers read with.
+    /// Returns the job that the workers read with.
     pub(crate) fn job(&self) -> &Job<C, S, P, A>
         ensures { result.now ≡ job_of self.now }
     {
         &*self.job
     }
 
-    /// Whether the directory that comes next is the one below an entry, or none is left.
+    /// Returns whether the directory that comes next is the one below an entry, or none is left.
     pub(crate) fn is_next(&self, found: &DirEntry<C, A>) -> bool
         ensures some { result ≡ false → to_read self.now ≢ [] }
         ensures below { result ≡ true → IsNextBelow true (Ok (entry found.now)) (to_read self.now) }
@@ -150,7 +150,7 @@ impl<
         }
     }
 
-    /// The reading of the directory that comes next.
+    /// Reads the directory that comes next.
     fn read(&mut self, of: &ReadDirSpec<C, A>) -> Result<Outcome<C, A>, Missed>
         ensures job { job_of self.new ≡ job_of self.old }
         ensures to_read { to_read self.new ≡ to_read self.old }
@@ -186,7 +186,7 @@ impl<
         Ok(())
     }
 
-    /// The reading of the directory that comes next, with those below it in its place.
+    /// Reads the directory that comes next, and puts those below it in its place.
     fn enter(&mut self, of: ReadDirSpec<C, A>) -> Result<Outcome<C, A>, Missed>
         ensures job { job_of self.new ≡ job_of self.old }
         ensures reading { IfOk result (λ read. IsReadingBy (IsTold S.FileSystem P.ProcessReadDir
@@ -210,12 +210,12 @@ impl<
         Ok(outcome)
     }
 
-    /// The next reading, or none where all was handed on.
+    /// Returns the next reading, or none if all were handed on.
     ///
     /// # Errors
     ///
-    /// If memory runs out, or the reading is lost, which it isn't where the job is steady. Nothing is left to be read
-    /// then.
+    /// If memory runs out, or the reading is lost. No reading is lost if the job is steady. After an error nothing is
+    /// left to be read.
     pub(crate) fn read_next(&mut self) -> Result<Option<Outcome<C, A>>, Missed>
         ensures job { job_of self.new ≡ job_of self.old }
         ensures comes { IfErr result (NotLost (IsSteadyCrew S.FileSystem P.ProcessReadDir C.ReadDirState.Clone
@@ -241,7 +241,7 @@ impl<
         }
     }
 
-    /// How many readings were made and not handed on.
+    /// Returns how many readings were made and not handed on.
     pub(crate) fn ahead(&self) -> usize {
         match &self.pool {
             Some(pool) => pool.ahead(),

@@ -1,4 +1,5 @@
-//! Readings of a walk's directories in preorder, one at a time, in batches or by a crew, and how a walk is told which.
+//! Readings of a walk's directories in preorder: one at a time, in batches or by a crew, and how to choose among these.
+//! these.
 #![tactic(auto)]
 
 pub mod crew_reads;

@@ -9,20 +9,20 @@ use std::alloc::{AllocError, Allocator, Global};
 use std::sync::Arc;
 use std::time::Duration;
 
-/// How a walk reads its directories. One directory at a time or several, the answers and their order are the same.
+/// How a walk reads its directories. The answers and their order are the same for one directory at a time and several.
 pub enum Parallelism<W = NoPool, A: Allocator + Copy = Global> {
-    /// One directory at a time, when its entry is answered. The default.
+    /// One directory at a time, when its entry is yielded. The default.
     Serial,
-    /// Ahead of the walk, by the workers of a crew. A walk that finds none of the crew's places free waits for one, as
-    /// long as `busy_timeout` says, or without limit; then it is busy.
+    /// Ahead of the walk, by the workers of a crew. If no place of the crew is free, the walk blocks until one is, as
+    /// long as `busy_timeout` says, or without limit. After that the crew is busy for it.
     RayonExistingPool {
         /// The crew.
         pool: Arc<W, A>,
-        /// How long a walk waits for a place. `None` sets no limit.
+        /// How long a walk blocks for a place. `None` sets no limit.
         busy_timeout: Option<Duration>,
     },
-    /// So many directories at a time: the one whose entry is answered, and those that come after it. 0 stands for 8.
-    /// Fewer than 32 start no thread.
+    /// That many directories at a time: the one whose entry is yielded, and those that come after it. 0 means 8. Fewer
+    /// than 32 start no thread.
     RayonNewPool(usize),
 }
 
@@ -40,7 +40,7 @@ impl<W: Drop, A: Allocator + Copy> Drop for Parallelism<W, A> {
 }
 
 impl<W: Drop, A: Allocator + Copy> Parallelism<W, A> {
-    /// The same without the crew.
+    /// Returns the same without the crew.
     pub fn mode(&self) -> Mode
         ensures { mode_value result ≡ parallelism_value self.now }
     {
@@ -51,7 +51,7 @@ impl<W: Drop, A: Allocator + Copy> Parallelism<W, A> {
         }
     }
 
-    /// The crew, if it reads by one, and how long a walk waits for a place.
+    /// Returns the crew, if it reads by one, and how long a walk blocks for a place.
     pub fn into_crew(self) -> Option<(Arc<W, A>, Option<Duration>)>
         ensures { result ≡ crew_of self }
     {
@@ -62,7 +62,7 @@ impl<W: Drop, A: Allocator + Copy> Parallelism<W, A> {
     }
 }
 
-/// A clone names the same crew. It is refused only for want of memory.
+/// A clone names the same crew. Cloning fails only if memory runs out.
 impl<W: Drop, A: Allocator + Copy> Clone for Parallelism<W, A> {
     ghost use Rattle.jwalk_readings.specs.Parallelism.{IsCloneOf};
 

@@ -31,11 +31,13 @@ use walk_fs::file_system::FileSystem;
 /// An iterator over readings, each before those of its own directories: the one of the first directory not given yet
 /// comes next, and then those below it.
 ///
-/// Want of memory is answered by one error whose `is_memory` is true, and then by `None`; so is a crew's reading that
-/// is lost, by one whose `is_lost` is true. Over a file system whose answers stay the same, and with a callback that
-/// always does the same, none is, unless the iterator is asked for another directory than the next one.
+/// If memory runs out, one error is yielded whose `is_memory` is true, and then `None`. If a crew's reading is lost,
+/// one error is yielded whose `is_lost` is true, and then `None`.
 ///
-/// Over a crew, calls may wait: `next` and `next_of` for a reading, and these, `ahead` and the drop for a lock.
+/// No reading is lost if three things hold. The file system's answers stay the same, the callback always does the same,
+/// and the iterator is asked for no other directory than the next one.
+///
+/// Over a crew, calls may block: `next` and `next_of` for a reading, and these, `ahead` and the drop for a lock.
 pub enum ReadDirIter<
     C: ClientState,
     S: FileSystem,
@@ -85,7 +87,7 @@ impl<
     ghost use Rattle.jwalk_readings.specs.CrewReads.{failure_of, IsNextBelow, NotLost};
     ghost use Rattle.jwalk_readings.specs.ReadDirIter.{by_crew, job_of, to_read, width_of, read_ahead, early_of, next_address, Tells, IsSteadyReads, StaysSteady, Known, EntersNextBy, Gives};
 
-    /// Readings with nothing to read yet, by no crew.
+    /// Returns readings with nothing to read yet, by no crew.
     pub fn new(alloc: A, threads: T, job: Job<C, S, P, A>, mode: Mode) -> Self
         ensures own { by_crew result ≡ false }
         ensures job { job_of result ≡ job }
@@ -100,12 +102,12 @@ impl<
         }
     }
 
-    /// Puts these directories in the place of what was to be read, where no crew reads: they alone are queued, in their
-    /// order, and none is read yet.
+    /// Puts these directories in place of what was to be read, if no crew reads. They alone are queued, in their order,
+    /// and none is read yet.
     ///
     /// # Errors
     ///
-    /// If memory runs out. Nothing is left to be read then, and nothing is ahead.
+    /// If memory runs out. Then nothing is left to be read, and nothing is ahead.
     pub fn begin(&mut self, roots: Vec<ReadDirSpec<C, A>, A>) -> Result<(), AllocError>
         requires { by_crew self.old ≡ false }
         ensures own { by_crew self.new ≡ false }
@@ -123,7 +125,7 @@ impl<
         }
     }
 
-    /// The readings of these directories and of all that is below them, by no crew.
+    /// Returns the readings of these directories and of all that is below them, by no crew.
     fn alone(
         threads: T,
         job: Job<C, S, P, A>,
@@ -144,7 +146,7 @@ impl<
         }
     }
 
-    /// The next reading.
+    /// Returns the next reading.
     pub fn read_next(&mut self) -> Result<Option<Outcome<C, A>>, Missed>
         requires { P.IsLawful (callback (job_of self.old)) }
         ensures crew { by_crew self.new ≡ by_crew self.old }
@@ -173,8 +175,8 @@ impl<
         }
     }
 
-    /// Whether the directory that comes next is the one below an entry, or none is left. It is asked only where a crew
-    /// reads.
+    /// Returns whether the directory that comes next is the one below an entry, or none is left. It is called only if a
+    /// crew reads.
     pub fn is_next(&self, found: &DirEntry<C, A>) -> bool
         ensures own { result ≡ false → by_crew self.now ≡ true }
         ensures some { result ≡ false → to_read self.now ≢ [] }
@@ -188,7 +190,7 @@ impl<
         }
     }
 
-    /// The next reading; or the error that tells why it won't come, and nothing is left to be read.
+    /// Returns the next reading; or the error that reports why it won't come, and then nothing is left to be read.
     fn next_or_stop(&mut self) -> Option<Outcome<C, A>>
         requires { P.IsLawful (callback (job_of self.old)) }
         ensures { Gives S.FileSystem P.ProcessReadDir C.ReadDirState.Clone C.DirEntryState.Default L.Pool false
@@ -200,7 +202,7 @@ impl<
         }
     }
 
-    /// What it reads with.
+    /// Returns the job that it reads with.
     pub fn job(&self) -> &Job<C, S, P, A>
         ensures { result.now ≡ job_of self.now }
     {
@@ -211,8 +213,8 @@ impl<
         }
     }
 
-    /// How many readings were made and not handed on. Over a crew it changes while the workers read, and the call may
-    /// wait for a lock.
+    /// Returns how many readings were made and not handed on. Over a crew it changes while the workers read, and the
+    /// call may block for a lock.
     pub fn ahead(&self) -> usize
         ensures { by_crew self.now ≡ false → result ≡ length (early_of self.now) }
     {
@@ -223,7 +225,7 @@ impl<
         }
     }
 
-    /// Forgets what is not read yet, and what was read early.
+    /// Drops what is not read yet, and what was read early.
     pub fn stop(&mut self)
         ensures crew { by_crew self.new ≡ by_crew self.old }
         ensures job { job_of self.new ≡ job_of self.old }
@@ -253,9 +255,11 @@ impl<
     ghost use Rattle.jwalk_readings.specs.Parallelism.{parallelism_value};
     ghost use Rattle.jwalk_readings.specs.ReadDirIter.{by_crew, job_of, to_read, width_of, read_ahead};
 
-    /// The readings of these directories and of all that is below them.
+    /// Returns the readings of these directories and of all that is below them.
     ///
-    /// Fails only for want of memory.
+    /// # Errors
+    ///
+    /// If memory runs out.
     pub fn try_new(
         threads: T,
         job: Job<C, S, P, A>,
@@ -284,11 +288,11 @@ impl<
     ghost use Rattle.jwalk_readings.specs.CrewReads.{IsNextBelow};
     ghost use Rattle.jwalk_readings.specs.ReadDirIter.{by_crew, job_of, to_read, KnownOf, GivesFirst, Gives};
 
-    /// The reading of an entry's directory: the next one, where the entries are those of the readings so far in the
-    /// walk's order. The entry must have `read_children`. `None` says that nothing is left to be read.
+    /// Returns the reading of an entry's directory. It is the next one if the entries are those of the readings so far
+    /// in the walk's order. The entry must have `read_children`. `None` means that nothing is left to be read.
     ///
-    /// Over a crew it is that of the entry's directory, or the error whose `is_lost` is true: nothing is left to be
-    /// read after that. The call may wait there: for a reading, or for a lock.
+    /// Over a crew it is the reading of the entry's directory, or the error whose `is_lost` is true: after that nothing
+    /// is left to be read. There the call may block for a reading or for a lock.
     pub fn next_of(&mut self, found: &DirEntry<C, A>) -> Option<Result<ReadDir<C, A>, Error<A>>>
         requires lawful { P.IsLawful (callback (job_of self.old)) }
         requires has_directory { IsSome found.now.read_children }

@@ -6,21 +6,21 @@ ghost use Rattle.jwalk_readings.specs.Threads.{runtime_of};
 #[derive(Drop)]
 pub struct InTurn;
 
-/// Threads of a runtime, which read the directories of a batch side by side.
+/// Threads of a runtime, which read the directories of a batch at the same time.
 #[derive(Drop)]
 pub struct OnThreads<R> {
     rt: R,
 }
 
 impl<R> OnThreads<R> {
-    /// Threads of this runtime.
+    /// Returns threads of this runtime.
     pub fn new(rt: R) -> Self
         ensures { runtime_of result ≡ rt }
     {
         OnThreads { rt }
     }
 
-    /// The runtime.
+    /// Returns the runtime.
     pub fn rt(&self) -> &R
         ensures { result.now ≡ runtime_of self.now }
     {

@@ -1,4 +1,4 @@
-//! What walks and their readings answer, by worked examples.
+//! What walks and their readings yield, by worked examples.
 #![tactic(auto)]
 
 #[cfg(test)]

@@ -147,7 +147,7 @@ fn a_reading_gives_its_list_out(rt: HostRuntime) {
     assert!(rt; root_path(rt.alloc()).as_deref() == Some("/t"));
 }
 
-/// Whether an entry's directory has the error that tells of nothing but the want of memory.
+/// Whether an entry's directory has the error that reports that memory ran out, and nothing else.
 fn holds_memory(entry: &DirEntry<((), ())>) -> Option<bool> {
     let error = entry.read_children.as_ref()?.error()?;
     Some(error.is_memory() && error.depth() == 0 && error.path().is_none())

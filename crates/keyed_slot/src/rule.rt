@@ -16,7 +16,7 @@ pub struct Known<T, M> {
     pub mark: M,
 }
 
-/// With what a slot begins.
+/// What a slot begins with.
 pub struct Begun<T, X> {
     pub tag: Snapshot<T>,
     pub value: Snapshot<X>,

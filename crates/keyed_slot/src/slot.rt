@@ -7,23 +7,23 @@ use atomic_table::{Refused, Seat, Table};
 use std::alloc::{AllocError, Allocator, Global};
 use std::snapshot::Snapshot;
 
-/// A value in a slot that threads share. Who takes it out has to put it back: until then nobody else finds it.
+/// A value in a slot that threads share. Whoever takes it out has to put it back: until then nobody else finds it.
 ///
-/// All that lies in the slot fits what it was made for. The holder of the slot's one key knows the mark of what lies
-/// there: whoever takes the value without the key puts back one with the same mark.
+/// All that is in the slot fits what it was made for. The holder of the slot's one key knows the mark of what is there:
+/// whoever takes the value without the key puts back one with the same mark.
 #[derive(Drop)]
 pub struct KeyedSlot<X: Marked, A: Allocator = Global> {
     table: Table<Option<X>, Known<X::Tag, X::Mark>, Begun<X::Tag, X>, Law<X>, A>,
     ghost sized: { (table.shared.table_id.words ≡ 1) × (table.shared.table_id.slots ≡ 1) },
 }
 
-/// The key of a slot, which knows the mark of what lies there. A slot has one key.
+/// The key of a slot, which knows the mark of what is there. A slot has one key.
 #[derive(Drop)]
 pub struct Key<X: Marked> {
     seat: Seat<Option<X>, Known<X::Tag, X::Mark>>,
 }
 
-/// What is owed to a slot by whoever took its value without the key.
+/// What whoever took a slot's value without the key owes to the slot.
 #[derive(Drop)]
 pub struct Loan<X: Marked> {
     seat: Seat<Option<X>, Known<X::Tag, X::Mark>>,
@@ -33,7 +33,7 @@ impl<X: Marked + Drop, A: Allocator + Copy> KeyedSlot<X, A> {
     ghost use Rattle.std.specs.Prelude.{true, false, IfOk, IfSome};
     ghost use Rattle.keyed_slot.specs.Keyed.{tag_of, key_mark, is_out, loan_mark, Opens, IsOwed};
 
-    /// A slot with this value, and its key.
+    /// Returns a slot with this value, and its key.
     ///
     /// # Errors
     ///

@@ -5,15 +5,15 @@ use std::alloc::AllocError;
 use std::error::Error;
 use std::fmt;
 
-/// Why a step of building was refused. The tree is then as it was.
+/// Why a step of building failed. The tree is then unchanged.
 #[derive(Clone, Copy, Debug, PartialEq, Eq)]
 pub enum BuildError {
-    /// The path's last component is no plain name, or the ones before it lead to no directory; or nothing stands there
-    /// that is to be removed, or no directory that is to be denied.
+    /// The path's last component is no plain name, or the ones before it lead to no directory. Or nothing is there that
+    /// could be removed, or no directory that could be denied.
     NotFound,
     /// The name for a new child is taken.
     AlreadyExists,
-    /// Memory was refused.
+    /// Memory ran out.
     Memory,
 }
 

@@ -1,4 +1,4 @@
-//! What a name in a directory stands for.
+//! What a name in a directory means.
 ghost use Rattle.std.specs.Prelude.{◌≡◌};
 
 use crate::hit::Hit;
@@ -17,7 +17,7 @@ impl<A: Allocator + Copy> Child<A> {
     ghost use Rattle.memory_fs.specs.Child.{child_seen, type_of};
     ghost use Rattle.memory_fs.specs.Hit.{hit_seen, hit_of};
 
-    /// The type, as a listing tells it.
+    /// Returns the type that a listing shows.
     pub(crate) fn file_type(&self) -> FileType
         ensures { result ≡ type_of (child_seen self.now) }
     {
@@ -28,7 +28,7 @@ impl<A: Allocator + Copy> Child<A> {
         }
     }
 
-    /// What a look-up comes to where this child stands in a directory.
+    /// Returns what a look-up reaches if this child is in a directory.
     pub(crate) fn hit(&self, holder: usize) -> Hit<'_>
         ensures { hit_seen result ≡ hit_of holder (child_seen self.now) }
     {

@@ -14,8 +14,8 @@ use std::io;
 use std::io::ErrorKind;
 use walk_fs::listed::Listed;
 
-/// The children by name, in order of creation, where the directory stands that holds this one, and the error kind that
-/// reading this one fails with, if it was denied.
+/// The children by name, in order of creation, and the index of the directory that holds this one. If this one was
+/// denied, also the error kind that reading it fails with.
 pub struct Directory<A: Allocator + Copy> {
     pub(crate) parent: usize,
     pub(crate) children: IndexMap<String<A>, Child<A>, BuildHasherDefault<FoldHasher>, A>,
@@ -33,7 +33,7 @@ impl<A: Allocator + Copy> Drop for Directory<A> {
 }
 
 impl<A: Allocator + Copy> Directory<A> {
-    /// A directory with no children, which may be read.
+    /// Returns a directory with no children, which may be read.
     pub(crate) fn new(alloc: A, parent: usize) -> Self
         ensures { branch result ≡ record { parent = parent; children = []; denied = None } }
     {
@@ -44,14 +44,14 @@ impl<A: Allocator + Copy> Directory<A> {
         }
     }
 
-    /// The child of this name.
+    /// Returns the child of this name.
     pub(crate) fn child(&self, name: &str) -> Option<&Child<A>>
         ensures { option_map (λ c. child_seen c.now) result ≡ child_named (branch self.now).children name.now }
     {
         self.children.get(name)
     }
 
-    /// Puts a new child behind the others. Where memory is refused, nothing changes.
+    /// Appends a new child. If memory runs out, nothing changes.
     pub(crate) fn add(&mut self, name: &str, child: Child<A>) -> Result<(), AllocError>
         requires { child_named (branch self.old).children name.now ≡ None }
         ensures ok { OnOk result (branch self.new ≡ with_child name.now (child_seen child) (branch self.old)) }
@@ -62,7 +62,7 @@ impl<A: Allocator + Copy> Directory<A> {
         Ok(())
     }
 
-    /// Takes the child of this name away; the others keep their order.
+    /// Removes the child of this name; the others keep their order.
     pub(crate) fn remove(&mut self, name: &str) -> Option<Child<A>>
         ensures value { option_map child_seen result ≡ child_named (branch self.old).children name.now }
         ensures others { branch self.new ≡ without_name name.now (branch self.old) }
@@ -70,7 +70,7 @@ impl<A: Allocator + Copy> Directory<A> {
         self.children.shift_remove(name)
     }
 
-    /// Takes the last child away.
+    /// Removes the last child.
     pub(crate) fn pop(&mut self) -> Option<(String<A>, Child<A>)>
         ensures cases { MatchOption result
             (((branch self.old).children ≡ []) × (branch self.new ≡ branch self.old))
@@ -79,21 +79,21 @@ impl<A: Allocator + Copy> Directory<A> {
         self.children.pop()
     }
 
-    /// The directory stands in another one from now on.
+    /// Sets the directory that holds this one.
     pub(crate) fn set_parent(&mut self, parent: usize)
         ensures { branch self.new ≡ with_parent parent (branch self.old) }
     {
         self.parent = parent;
     }
 
-    /// Reading the directory fails with this kind from now on.
+    /// Makes reading the directory fail with this kind from now on.
     pub(crate) fn deny(&mut self, kind: ErrorKind)
         ensures { branch self.new ≡ with_denied kind (branch self.old) }
     {
         self.denied = Some(kind);
     }
 
-    /// The children in order of creation, each with its type. A name stands for one child.
+    /// Returns the children in order of creation, each with its type. Each name is that of one child.
     pub(crate) fn listing<B: Allocator + Copy>(
         &self,
         alloc: B,

@@ -1,4 +1,4 @@
-//! What a look-up comes to.
+//! What a look-up reaches.
 ghost use Rattle.std.specs.Prelude.{◌≡◌};
 
 use walk_model::file_type::FileType;
@@ -15,7 +15,7 @@ pub enum Hit<'a> {
 impl<'a> Hit<'a> {
     ghost use Rattle.memory_fs.specs.Hit.{hit_seen, metadata_of};
 
-    /// Type and length; a directory has length 0, a link as many bytes as its target.
+    /// Returns the type and the length in bytes. A directory has length 0, a link as many bytes as its target.
     pub(crate) fn metadata(self) -> Metadata
         ensures { result ≡ metadata_of (hit_seen self.entry) }
     {

@@ -24,7 +24,7 @@ use walk_model::metadata::Metadata;
 // How many links one look-up may follow.
 const LINK_LIMIT: u32 = 40;
 
-/// A tree of directories, files and links. Its answers never change while it is not built on.
+/// A tree of directories, files and links. Its answers change only when it is built on.
 pub struct MemoryFs<A: Allocator + Copy = Global> {
     table: Table<A>,
     ghost sound: { IsSound (branches table) } by { Prim.hlevel props },
@@ -46,7 +46,7 @@ impl<A: Allocator + Copy> MemoryFs<A> {
     ghost use Rattle.memory_fs.specs.Branch.{next_hit, from_root, found, holder_of, named_spot, free_spot, taken_spot, directory_spot, IsWithin, IsSettled, LeadsOn, LinkLeadsOn};
     ghost use Rattle.memory_fs.specs.MemoryFs.{tree_of, IsSameTree, IsBuilt, IsAddition};
 
-    /// The tree with nothing below its root, which needs no memory. The allocator serves all that is added.
+    /// Returns the tree with nothing below its root, which needs no memory. The allocator serves all that is added.
     pub fn new(alloc: A) -> Self
         ensures { (p : Place) → tree_of result p ≡ only_root p }
     {
@@ -55,9 +55,13 @@ impl<A: Allocator + Copy> MemoryFs<A> {
         }
     }
 
-    /// Adds an empty directory, the last of its holder's children. `NotFound` where the path's last component is no
-    /// plain name or the ones before it lead to no directory, from the root; `AlreadyExists` where the name is taken;
-    /// else `Memory` where memory is refused. After a refusal the tree is as it was.
+    /// Adds an empty directory as the last child of the directory that holds it.
+    ///
+    /// # Errors
+    ///
+    /// `NotFound` if the path's last component is no plain name, or if the ones before it lead to no directory, from
+    /// the root. `AlreadyExists` if the name is taken. Else `Memory` if memory runs out. After an error the tree is
+    /// unchanged.
     pub fn add_dir(&mut self, path: &str) -> Result<(), BuildError>
         ensures { IsAddition (directory [] None) path.now (tree_of self.old) result (tree_of self.new) }
     {
@@ -66,7 +70,7 @@ impl<A: Allocator + Copy> MemoryFs<A> {
         Ok(())
     }
 
-    /// Adds a file of a length in bytes, where `add_dir` would add a directory, with the same refusals.
+    /// Adds a file of a length in bytes, where `add_dir` would add a directory, with the same errors.
     pub fn add_file(&mut self, path: &str, len: u64) -> Result<(), BuildError>
         ensures { IsAddition (file len) path.now (tree_of self.old) result (tree_of self.new) }
     {
@@ -75,8 +79,8 @@ impl<A: Allocator + Copy> MemoryFs<A> {
         Ok(())
     }
 
-    /// Adds a link to a target, which may lead nowhere, where `add_dir` would add a directory, with the same refusals.
-    /// A relative target starts at the directory that holds the link.
+    /// Adds a link to a target, which may lead nowhere, where `add_dir` would add a directory, with the same errors. A
+    /// relative target starts at the directory that holds the link.
     pub fn add_link(&mut self, path: &str, target: &str) -> Result<(), BuildError>
         ensures { IsAddition (link target.now) path.now (tree_of self.old) result (tree_of self.new) }
     {
@@ -85,9 +89,13 @@ impl<A: Allocator + Copy> MemoryFs<A> {
         Ok(())
     }
 
-    /// Reading the directory at the path fails with this kind from now on; a later kind replaces it, and nothing else
-    /// is touched. `NotFound` where `add_dir` answers it, and where no directory has that name. It needs no memory.
-    /// After a refusal the tree is as it was.
+    /// Makes reading the directory at the path fail with this kind from now on. A later kind replaces it, and nothing
+    /// else changes. It needs no memory.
+    ///
+    /// # Errors
+    ///
+    /// `NotFound` where `add_dir` fails with it, and if no directory has that name. After an error the tree is
+    /// unchanged.
     pub fn deny(&mut self, path: &str, kind: ErrorKind) -> Result<(), BuildError>
         ensures denied { OnOk result (IsBuilt (deny kind path.now (tree_of self.old)) (tree_of self.new)) }
         ensures not_found { (result ≡ Err BuildError.NotFound)
@@ -102,9 +110,13 @@ impl<A: Allocator + Copy> MemoryFs<A> {
         Ok(())
     }
 
-    /// Takes away a file, a link, or a directory with all that it holds; the other children of its holder keep their
-    /// order. `NotFound` where `add_dir` answers it, and where nothing has that name; else `Memory` where memory is
-    /// refused. After a refusal the tree is as it was. It costs as much as the holder is wide and what goes is large.
+    /// Removes a file, a link, or a directory with all that it holds. The other children of the directory that holds it
+    /// keep their order. The cost grows with the number of these children and with all that is removed.
+    ///
+    /// # Errors
+    ///
+    /// `NotFound` where `add_dir` fails with it, and if nothing has that name. Else `Memory` if memory runs out. After
+    /// an error the tree is unchanged.
     pub fn remove(&mut self, path: &str) -> Result<(), BuildError>
         ensures removed { OnOk result (IsBuilt (remove path.now (tree_of self.old)) (tree_of self.new)) }
         ensures not_found { (result ≡ Err BuildError.NotFound)
@@ -119,7 +131,7 @@ impl<A: Allocator + Copy> MemoryFs<A> {
         Ok(())
     }
 
-    // One component worked off, from what is no link.
+    // Goes one component on, from what is no link.
     fn step(&self, hit: Hit<'_>, component: Component<'_>) -> Result<Hit<'_>, ErrorKind>
         requires { IsWithin (branches self.now.table) (hit_seen hit) }
         ensures value { answer_seen result
@@ -196,7 +208,7 @@ impl<A: Allocator + Copy> MemoryFs<A> {
         }
     }
 
-    // What the components lead to, from the root. The last, if it is a link, is followed where that is asked.
+    // What the components lead to, from the root. The last, if it is a link, is followed if that is asked for.
     fn reach(&self, components: Components<'_>, follow: bool) -> Result<Hit<'_>, ErrorKind>
         ensures value { answer_seen result
             ≡ from_root (branches self.now.table) follow (components_left components.entry) }
@@ -291,13 +303,13 @@ impl<A: Allocator + Copy> MemoryFs<A> {
     }
 }
 
-/// Only a listing or a link's text takes memory: metadata and every error are answered without.
+/// Only a listing or a link's text takes memory: metadata and every error need none.
 ///
 /// # Errors
 ///
-/// `NotFound` where nothing stands at the path. `InvalidInput` for a listing of what is no directory, and for the text
-/// of what is no link. The kind that `deny` set, for a listing of that directory. `Other` where a look-up would follow
-/// a 41st link, or goes on below what is no directory.
+/// `NotFound` if nothing is at the path. `InvalidInput` for a listing of what is no directory, and for the text of what
+/// is no link. The kind that `deny` set, for a listing of that directory. `Other` if a look-up would follow a 41st
+/// link, or goes on below what is no directory.
 impl<A: Allocator + Copy> FileSystem for MemoryFs<A> {
     ghost use Rattle.std.specs.Prelude.{◌≢◌, IsErr, map, string_bytes};
     ghost use Rattle.walk_fs.specs.Views.{listed, AnswersValue};

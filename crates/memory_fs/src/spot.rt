@@ -1,6 +1,6 @@
 //! What a path that is built on leads to.
 
-/// A name in a directory, which is named by its index in the table. It may stand for a child or be free.
+/// A name in a directory, which is given by its index in the table. It may be that of a child or be free.
 #[derive(Clone, Copy)]
 pub(crate) struct Spot<'p> {
     pub(crate) holder: usize,

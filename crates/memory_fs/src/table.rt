@@ -12,7 +12,7 @@ use crate::directory::Directory;
 use std::alloc::{AllocError, Allocator};
 use std::io::ErrorKind;
 
-/// The root, at index 0, and behind it the others, with the indices of those that were removed and are free again.
+/// The root, at index 0, and after it the others, with the indices of those that were removed and are free again.
 pub struct Table<A: Allocator + Copy> {
     root: Directory<A>,
     others: Vec<Directory<A>, A>,
@@ -30,7 +30,7 @@ impl<A: Allocator + Copy> Drop for Table<A> {
 }
 
 impl<A: Allocator + Copy> Table<A> {
-    /// The root alone, which needs no memory.
+    /// Returns the root alone, which needs no memory.
     pub(crate) fn new(alloc: A) -> Self
         ensures root { branches result ≡ empty_branch 0 ∷ [] }
         ensures free { free_places result ≡ [] }
@@ -48,7 +48,7 @@ impl<A: Allocator + Copy> Table<A> {
         self.others.len() + 1
     }
 
-    /// The directory at an index.
+    /// Returns the directory at an index.
     pub(crate) fn directory(&self, index: usize) -> &Directory<A>
         requires { index < length (branches self.now) }
         ensures { branch result.now ≡ branch_at (branches self.now) index }
@@ -60,7 +60,7 @@ impl<A: Allocator + Copy> Table<A> {
         }
     }
 
-    /// Puts a new child behind the others of a directory. Where memory is refused, nothing changes.
+    /// Appends a new child to a directory. If memory runs out, nothing changes.
     pub(crate) fn add(
         &mut self,
         holder: usize,
@@ -82,7 +82,7 @@ impl<A: Allocator + Copy> Table<A> {
         }
     }
 
-    /// Puts a new link behind the others of a directory. Where memory is refused, nothing changes.
+    /// Appends a new link to a directory. If memory runs out, nothing changes.
     pub(crate) fn add_link(
         &mut self,
         holder: usize,
@@ -101,7 +101,7 @@ impl<A: Allocator + Copy> Table<A> {
         self.add(holder, name, Child::Link(target))
     }
 
-    /// Puts a new directory behind the others of a directory, at a free place if there is one. Where memory is refused,
+    /// Appends a new directory to a directory, at a free place of the table if there is one. If memory runs out,
     /// nothing changes.
     pub(crate) fn add_directory(&mut self, holder: usize, name: &str) -> Result<(), AllocError>
         requires within { holder < length (branches self.old) }
@@ -142,7 +142,7 @@ impl<A: Allocator + Copy> Table<A> {
         Ok(())
     }
 
-    // Puts it behind the others of the table.
+    // Appends it to the table.
     fn add_directory_behind(&mut self, holder: usize, name: &str) -> Result<(), AllocError>
         requires within { holder < length (branches self.old) }
         requires free { child_named (children_at (branches self.old) holder) name.now ≡ None }
@@ -162,8 +162,7 @@ impl<A: Allocator + Copy> Table<A> {
         }
     }
 
-    /// Takes a child away, and what it holds with it; their places are free then. Where memory is refused, nothing
-    /// changes.
+    /// Removes a child, and what it holds with it; their places are free then. If memory runs out, nothing changes.
     pub(crate) fn remove(&mut self, holder: usize, name: &str) -> Result<(), AllocError>
         requires within { holder < length (branches self.old) }
         requires sound { IsSound (branches self.old) }
@@ -199,7 +198,7 @@ impl<A: Allocator + Copy> Table<A> {
         }
     }
 
-    // Empties a directory that no name stands for, and all below it, and frees their places.
+    // Empties a directory that no name is for, and all below it, and frees their places.
     fn release(&mut self, index: usize)
         requires sound { IsSound (branches self.old) }
         requires spare { AreSpare (branches self.old) (free_places self.old) (length (free_places self.old)) }
@@ -268,7 +267,7 @@ impl<A: Allocator + Copy> Table<A> {
         self.others[place - 1] = Directory::new(*self.free.allocator(), 0);
     }
 
-    // Puts a place behind the free ones, for which there is room.
+    // Appends a place to the free ones, for which there is room.
     fn set_free(&mut self, index: usize)
         requires { length (free_places self.old) < vec_capacity self.old.free }
         ensures pushed { free_places self.new ≡ free_places self.old ++ index ∷ [] }
@@ -281,7 +280,7 @@ impl<A: Allocator + Copy> Table<A> {
         }
     }
 
-    /// Reading a directory fails with this kind from now on.
+    /// Makes reading a directory fail with this kind from now on.
     pub(crate) fn deny(&mut self, index: usize, kind: ErrorKind)
         requires { index < length (branches self.old) }
         ensures denied { branches self.new ≡ with_denial (branches self.old) index kind }

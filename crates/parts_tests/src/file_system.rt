@@ -71,7 +71,7 @@ fn is_text(answer: Result<String, Fault>, wanted: &str) -> bool {
     }
 }
 
-// Whether the four calls, made through the trait's bound, answer as they do at first.
+// Whether the four calls, made through the trait's bound, return what they do at first.
 fn answers<S: FileSystem>(alloc: Global, fs: S) -> bool {
     kind(fs.read_dir(alloc, "/f")) == Some(ErrorKind::NotADirectory)
         && fs.metadata("/f").ok() == Some(Metadata::new(FileType::File, 1))

@@ -1,4 +1,4 @@
-//! What the parts do on which a walk stands, by worked examples: path texts, the slot, file systems and the tree in
+//! What the parts do that a walk is built on, by worked examples: path texts, the slot, file systems and the tree in
 //! memory, and the program's texts.
 #![tactic(auto)]
 

@@ -1,4 +1,4 @@
-//! What lies in a slot, taken and put back, without the key and with it.
+//! What is in a slot, taken and put back, without the key and with it.
 ghost use Rattle.std.specs.Prelude.{◌≤◌};
 
 use keyed_slot::marked::Marked;

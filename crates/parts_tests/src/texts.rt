@@ -90,7 +90,7 @@ fn is_no_number(alloc: Global, number: &str) -> bool {
         && are_bad(alloc, &["--crew", number, "--tree", "/t"])
 }
 
-// Whether a number is read as this value, behind the names of options.
+// Whether a number is read as this value, after the names of options.
 fn is_number(alloc: Global, number: &str, value: usize) -> bool {
     let max = Some(value);
     let batch = Asked {

@@ -1,4 +1,4 @@
-//! What trees in memory answer, and how they are built.
+//! What trees in memory return, and how they are built.
 use linked_list_allocator::LocalHeap;
 use memory_fs::build_error::BuildError;
 use memory_fs::memory_fs::MemoryFs;
@@ -25,23 +25,23 @@ enum Change {
 // What is found at a path: a type and a length.
 type Found = Result<(FileType, u64), ErrorKind>;
 
-// A call on a tree, with what it answers.
+// A call on a tree, with what it returns.
 enum Step {
     Does(Change),
     Refuses(BuildError, Change),
     // What a path leads to.
     Leads(&'static str, Found),
-    // What stands at a path, a link as such.
+    // What is at a path, a link as such.
     Is(&'static str, Found),
-    // The names in a directory, each behind a space, and those of directories with a slash.
+    // The names in a directory, each after a space, and those of directories with a slash.
     Lists(&'static str, &'static str),
     ListsNone(&'static str, ErrorKind),
     // The text of a link.
     Reads(&'static str, &'static str),
     ReadsNone(&'static str, ErrorKind),
-    // A directory gets so many files, and lists them.
+    // A directory gets that many files, and lists them.
     ListsMany(u64),
-    // So many directories are made, each in the one before, and listed from the last up.
+    // That many directories are made, each in the one before, and listed from the last up.
     IsDeep(u64),
     // A link is made to each number before this, at the number after it.
     DoesLinks(u64),

@@ -1,4 +1,4 @@
-//! What walks over the real disk answer, and over disks whose answers are written down.
+//! What walks over the real disk yield, and over disks whose answers are written down.
 mod folder;
 pub mod lines;
 mod links;

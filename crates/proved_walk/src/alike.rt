@@ -14,9 +14,9 @@ use jwalk::read_dir::NoProcess;
 use jwalk::{ClientState, DirEntry, Parallelism, WalkDirGeneric};
 use std::alloc::{AllocError, Allocator, Global};
 
-/// All that a walk answers from a root, and all that one answers which reads so many directories together. Over a file
-/// system that always answers the same, each is the whole walk of the definition, unless one of its answers tells of
-/// want of memory; and that walk doesn't rest on how many are read together.
+/// Returns all that a walk yields from a root, and all that one yields which reads that many directories together. Over
+/// a file system that always answers the same, each is the whole walk of the definition, unless one of its answers
+/// reports that memory ran out. That walk doesn't depend on how many are read together.
 pub fn walk_both<C: ClientState, S: FileSystem, A: Allocator + Copy>(
     alloc: A,
     fs: &S,
@@ -47,8 +47,8 @@ pub fn walk_both<C: ClientState, S: FileSystem, A: Allocator + Copy>(
     Ok((found, same))
 }
 
-/// The first answers of two such walks. Over a file system that always answers the same they are the same answer, unless
-/// one of them tells of want of memory.
+/// Returns the first answers of two such walks. Over a file system that always answers the same they are the same
+/// answer, unless one of them reports that memory ran out.
 pub fn first_of_both<S: FileSystem>(
     alloc: Global,
     fs: &S,

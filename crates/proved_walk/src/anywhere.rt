@@ -14,8 +14,8 @@ use jwalk::read_dir::ByFn;
 use jwalk::{DirEntry, WalkDirGeneric};
 use std::alloc::{AllocError, Allocator};
 
-/// All that a walk answers whose lists are turned round. Over a file system that always answers the same it is the
-/// whole walk of the definition, unless one of the answers tells of want of memory.
+/// Returns all that a walk yields whose lists are reversed. Over a file system that always answers the same it is the
+/// whole walk of the definition, unless one of the answers reports that memory ran out.
 pub fn walk_turned<S: FileSystem, A: Allocator + Copy>(
     alloc: A,
     fs: S,

@@ -9,7 +9,7 @@ use jwalk::threads::InTurn;
 use jwalk::{ClientState, DirEntryIter, Pool};
 use std::alloc::{AllocError, Allocator};
 
-/// Counts a walk's answers as `count` does, a hundred at a time. It ends over every file system.
+/// Counts a walk's answers, like `count`, a hundred at a time. It ends over every file system.
 pub fn count_in_batches<
     C: ClientState,
     S: FileSystem,

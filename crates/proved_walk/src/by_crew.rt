@@ -18,14 +18,13 @@ use std::sync::Wait;
 use std::thread::Threads;
 use std::time::Clock;
 
-/// All that a walk answers which a crew may be told to read for, with its states as they count. Over a file system that
-/// always answers the same, where the callback makes what is given, and where clones and defaults of states count so,
-/// it is the whole walk of the definition, however the workers take turns, unless one of the answers tells of want of
-/// memory.
+/// Returns all that a walk yields which a crew may read for, with its states as they count. It is the whole walk of the
+/// definition, however the workers take turns, unless one of the answers reports that memory ran out. This holds if the
+/// file system always answers the same, the callback makes what is given, and clones and defaults of states count so.
 ///
 /// # Errors
 ///
-/// Where the crew is busy, and where memory runs out.
+/// If the crew is busy, or if memory runs out.
 pub fn walk_by_crew<
     R: Wait + Threads + Clock + Drop + Send + Sync + 'static,
     C: ClientState + Send + 'static,

@@ -6,7 +6,7 @@ use std::alloc::Allocator;
 use std::cell::Cell;
 use std::io;
 
-/// A file system that answers what another does, and counts how often a directory is listed.
+/// A file system that returns what another does, and counts how often a directory is listed.
 #[derive(Drop)]
 pub struct Counted<S: FileSystem> {
     fs: S,
@@ -14,7 +14,7 @@ pub struct Counted<S: FileSystem> {
 }
 
 impl<S: FileSystem> Counted<S> {
-    /// The same file system, counted from 0.
+    /// Returns the same file system, counted from 0.
     pub fn new(fs: S) -> Self
         ensures { result.fs ≡ fs }
     {
@@ -24,14 +24,14 @@ impl<S: FileSystem> Counted<S> {
         }
     }
 
-    /// How often a directory was listed, by the calls that were made so far.
+    /// Returns how often a directory was listed, by the calls that were made so far.
     pub fn listings(&self) -> usize {
         self.listings.get()
     }
 }
 
 impl<S: FileSystem> FileSystem for Counted<S> {
-    // It is fixed where the other is, and answers at each path what that does.
+    // It is fixed if the other is, and returns at each path what that does.
     ghost IsFixed = { λ s. S.IsFixed s.fs };
 
     ghost functions = { λ s. S.functions s.fs };

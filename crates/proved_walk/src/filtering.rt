@@ -14,9 +14,9 @@ use jwalk::read_dir::FilterEntry;
 use jwalk::{DirEntry, WalkDirGeneric};
 use std::alloc::{AllocError, Global};
 
-/// All that a walk answers which leaves out directories of the name `target` with all below them. Over a file system
-/// that always answers the same it is the whole walk of the definition, unless one of the answers tells of want of
-/// memory.
+/// Returns all that a walk yields which leaves out directories of the name `target` with all below them. Over a file
+/// system that always answers the same it is the whole walk of the definition, unless one of the answers reports that
+/// memory ran out.
 pub fn walk_without_target<S: FileSystem>(
     alloc: Global,
     fs: S,

@@ -1,21 +1,21 @@
 //! A callback of one's own, with its law and its value.
 //!
-//! A callback is a type with the trait `ProcessReadDir`: the method `process`, which is given each list before the walk
-//! goes on with it, and two ghost lines that tell what a proof may rest on.
+//! A callback is a type with the trait `ProcessReadDir`. Its method `process` is called with each list before the walk
+//! goes on with it. Its two ghost lines say what a proof may rely on.
 //!
 //! - `IsLawful` says when it may be called. Here that is always, so it is `Unit {0}`, which holds of itself. A callback
 //!   that rests on a fact about its fields has this fact here, and whoever begins a walk with it shows it.
 //! - `Makes` says what it makes of lists, as far as states count. It relates the callback to what is `Given`: how a
-//!   directory's and an entry's state count as a `Worth`, what is made of a list whose states count so, that entries
-//!   keep their depths in it, and what a new entry's state counts as. `HandsOnNames` makes what `names_handed_on`
-//!   gives, which stands with its parts in `specs/HandsOnNames.antt`.
+//!   directory's and an entry's state count as a `Worth`, and what is made of a list whose states count so. It is also
+//!   given that entries keep their depths in it, and what a new entry's state counts as. `HandsOnNames` makes what
+//!   `names_handed_on` gives, which is defined with its parts in `specs/HandsOnNames.antt`.
 //!
-//! `process` owes the rest, wherever it succeeds: that the entries of the list keep their depth (`depths`), and that
-//! the state and the list which it leaves count as what is given makes of those it was called with (`made`). Then the
-//! walk is known with its states: see `walk_handing_on_names`.
+//! `process` owes the rest, if it succeeds. The entries of the list keep their depth (`depths`). The state and the list
+//! which it leaves count as what is given makes of those it was called with (`made`). Then the walk is known with its
+//! states: see `walk_handing_on_names`.
 //!
-//! A callback of which nothing is to be said has `ghost Makes = { λ _ _. ⊥ };`. It owes the depths alone, and of its
-//! walk is known what holds with every callback: order, depths, and what is read.
+//! A callback of which nothing is to be said has `ghost Makes = { λ _ _. ⊥ };`. It owes the depths alone. Of its walk
+//! is known what holds with every callback: order, depths, and what is read.
 ghost use Rattle.std.specs.Prelude.{◌≡◌, IfOk, OnOk, map, filter, string_bytes};
 ghost use Rattle.jwalk.specs.walk_model.Entry.{has_directory};
 ghost use Rattle.jwalk.specs.walk_model.Counted.{blank};
@@ -112,14 +112,14 @@ impl ProcessReadDir<Texts, Global> for HandsOnNames {
     }
 }
 
-/// All that a walk with this callback answers from a root, in the order of names, where the root has no state. Over a
-/// file system that always answers the same, as a `MemoryFs` does, it is the whole walk of the definition, with its
-/// states, unless one of the answers tells of want of memory.
+/// Returns all that a walk with this callback yields from a root, in the order of names, where the root has no state.
+/// Over a file system that always answers the same it is the whole walk of the definition, with its states, unless one
+/// of the answers reports that memory ran out. A `MemoryFs` is such a file system.
 ///
-/// Its proof shows what `walk_given` takes as given: besides the file system and the callback, that a clone of a text
-/// counts as that text, and that an entry begins with no text.
+/// Its proof shows what `walk_given` takes as given. Besides the file system and the callback, that is that a clone of
+/// a text counts as that text, and that an entry begins with no text.
 ///
-/// Fails where memory is refused for the answers themselves.
+/// Fails if memory runs out for the answers themselves.
 pub fn walk_handing_on_names<S: FileSystem>(
     alloc: Global,
     fs: S,

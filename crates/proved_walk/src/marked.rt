@@ -6,8 +6,9 @@ use jwalk::{DirEntry, WalkDirGeneric};
 use std::alloc::{AllocError, Global};
 use std::cmp::Ordering;
 
-/// All that a walk answers whose closure puts each list in order by name, drops hidden names and errors, leaves unread
-/// what is below depth 2, counts lists on the way down, and marks the first entry of each.
+/// Returns all that a walk yields with a closure as its callback. The closure sorts each list by name, and drops hidden
+/// names and errors. It leaves unread what is below depth 2, counts lists on the way down, and marks the first entry of
+/// each.
 pub fn walk_marked<S: FileSystem>(
     alloc: Global,
     fs: S,

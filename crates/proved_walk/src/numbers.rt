@@ -9,7 +9,7 @@ use std::alloc::Global;
 /// A number for each directory, and two for each entry.
 pub type Numbers = (usize, (usize, usize));
 
-/// What a promise on values takes as given holds of a walk over a tree in memory whose states are numbers: a clone of a
+/// What a promise on values takes as given holds of a walk over a tree in memory whose states are numbers. A clone of a
 /// number counts as the number does, and an entry begins with two zeros.
 pub fn numbers_are_steady(_fs: &MemoryFs, _process: NoProcess)
     ensures { IsSteady ⟦<MemoryFs as FileSystem>⟧ ⟦<NoProcess as ProcessReadDir<Numbers, Global>>⟧

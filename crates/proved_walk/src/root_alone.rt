@@ -14,7 +14,7 @@ use jwalk::file_system::FileSystem;
 use jwalk::{DirEntry, WalkDirGeneric};
 use std::alloc::{AllocError, Global};
 
-/// The root alone, as a walk whose closure empties every other list answers it.
+/// Returns the root alone, as a walk yields it whose closure empties every other list.
 pub fn walk_root_alone<S: FileSystem>(
     alloc: Global,
     fs: S,

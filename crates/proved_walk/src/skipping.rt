@@ -17,8 +17,8 @@ use jwalk::read_dir::SkipNames;
 use jwalk::{ClientState, DirEntry, WalkDirGeneric};
 use std::alloc::{AllocError, Allocator, Global};
 
-/// All that a walk answers which doesn't enter directories of some names. Over a file system that always answers the
-/// same it is the whole walk of the definition, unless one of the answers tells of want of memory.
+/// Returns all that a walk yields which doesn't enter directories of some names. Over a file system that always answers
+/// the same it is the whole walk of the definition, unless one of the answers reports that memory ran out.
 pub fn walk_skipping<C: ClientState, S: FileSystem, A: Allocator + Copy>(
     alloc: A,
     walk: WalkDirGeneric<C, S, SkipNames<A>, A>,
@@ -31,7 +31,7 @@ pub fn walk_skipping<C: ClientState, S: FileSystem, A: Allocator + Copy>(
     walk_given(alloc, walk)
 }
 
-/// The callback that doesn't enter `group 1`.
+/// Returns the callback that doesn't enter `group 1`.
 fn no_group_1(alloc: Global) -> Result<SkipNames, AllocError>
     ensures { IfOk result (λ it. names_of it ≡ codes "group 1" ∷ []) }
 {
@@ -40,7 +40,7 @@ fn no_group_1(alloc: Global) -> Result<SkipNames, AllocError>
     Ok(SkipNames::new(names))
 }
 
-/// What that walk answers by name over the small tree.
+/// Returns what that walk yields by name over the small tree.
 pub fn small_tree_without_group_1(
     alloc: Global,
 ) -> Result<Vec<Answer<DirEntry<((), ())>>>, BuildError>

@@ -1,4 +1,4 @@
-//! A small tree, and what a walk that hands names on answers over it: the promise of `walk_handing_on_names`, computed.
+//! A small tree, and what a walk that hands names on yields over it: the promise of `walk_handing_on_names`, computed.
 ghost use Rattle.std.specs.Prelude.{◌≡◌, IfOk, IfErr, OnOk, IsOk, map, Some, true, codes, [], ◌∷◌};
 ghost use Rattle.jwalk.specs.walk_model.Counted.{blank, bytes};
 ghost use Rattle.jwalk.specs.walk_model.Tree.{only_root};
@@ -13,10 +13,10 @@ use crate::hands_on_names::{Found, walk_handing_on_names};
 use jwalk::file_system::{BuildError, MemoryFs};
 use std::alloc::Global;
 
-/// A line of a tree: a path, and the length of the file there, or none where it is a directory.
+/// A line of a tree: a path, and the length of the file there, or none if it is a directory.
 type Line<'a> = (&'a str, Option<u64>);
 
-/// Adds what a line says. Where the tree has room for it, only memory can be refused.
+/// Adds what a line says. If the tree has room for it, only memory can run out.
 fn add_line(fs: &mut MemoryFs, path: &str, len: Option<u64>) -> Result<(), BuildError>
     ensures added { OnOk result (IsBuilt (step_at path.now len (tree_of fs.old)) (tree_of fs.new)) }
     ensures refused { IsOk (step_at path.now len (tree_of fs.old))
@@ -28,7 +28,7 @@ fn add_line(fs: &mut MemoryFs, path: &str, len: Option<u64>) -> Result<(), Build
     }
 }
 
-/// The tree that lines build. Where each has its place, only memory can be refused.
+/// Returns the tree that lines build. If each has its place, only memory can run out.
 fn tree_by(alloc: Global, lines: &[Line<'_>]) -> Result<MemoryFs, BuildError>
     ensures built { IfOk result (λ fs. IsBuiltBy (map step_of lines.now) (tree_of fs)) }
     ensures refused { all_go only_root (map step_of lines.now) ≡ true
@@ -41,7 +41,7 @@ fn tree_by(alloc: Global, lines: &[Line<'_>]) -> Result<MemoryFs, BuildError>
     Ok(fs)
 }
 
-/// Files and two groups of files below `/t`. Fails only for want of memory.
+/// Returns files and two groups of files below `/t`. Fails only if memory runs out.
 pub fn small_tree(alloc: Global) -> Result<MemoryFs, BuildError>
     ensures built { IfOk result (λ fs. IsBuiltBy tree_a (tree_of fs)) }
     ensures refused { IfErr result (λ error. error ≡ BuildError.Memory) }
@@ -60,8 +60,9 @@ pub fn small_tree(alloc: Global) -> Result<MemoryFs, BuildError>
     tree_by(alloc, &lines)
 }
 
-/// What the walk that hands names on answers over this tree, unless one of the answers tells of want of memory: the
-/// three directories, where the root has no state and each group the root's name. Fails only for want of memory.
+/// Returns what the walk that hands names on yields over this tree, unless one of the answers reports that memory ran
+/// out. These are the three directories, where the root has no state and each group the root's name. Fails only if
+/// memory runs out.
 pub fn names_in_small_tree(alloc: Global) -> Result<Vec<Found>, BuildError>
     ensures answers { IfOk result (λ found. NoneRefused found.items
         → map path_and_state (counted_list names_handed_on found.items)

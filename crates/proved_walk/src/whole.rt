@@ -12,9 +12,9 @@ use jwalk::read_dir::{NoProcess, ProcessReadDir};
 use jwalk::{ClientState, DirEntry, WalkDirGeneric};
 use std::alloc::{AllocError, Allocator};
 
-/// All that a walk answers, with its states as they count. Over a file system that always answers the same, where the
-/// callback makes what is given, and where clones and defaults of states count so, it is the whole walk of the
-/// definition, unless one of the answers tells of want of memory.
+/// Returns all that a walk yields, with its states as they count. It is the whole walk of the definition, unless one of
+/// the answers reports that memory ran out. This holds if the file system always answers the same, the callback makes
+/// what is given, and clones and defaults of states count so.
 pub fn walk_given<C: ClientState, S: FileSystem, P: ProcessReadDir<C, A>, A: Allocator + Copy>(
     alloc: A,
     walk: WalkDirGeneric<C, S, P, A>,
@@ -30,8 +30,8 @@ pub fn walk_given<C: ClientState, S: FileSystem, P: ProcessReadDir<C, A>, A: All
     Ok(found)
 }
 
-/// All that a walk without a callback answers. Over a file system that always answers the same, as a `MemoryFs` does,
-/// it is the whole walk of the definition, unless one of the answers tells of want of memory.
+/// Returns all that a walk without a callback yields. Over a file system that always answers the same it is the whole
+/// walk of the definition, unless one of the answers reports that memory ran out. A `MemoryFs` is such a file system.
 pub fn walk_whole<C: ClientState, S: FileSystem, A: Allocator + Copy>(
     alloc: A,
     walk: WalkDirGeneric<C, S, NoProcess, A>,

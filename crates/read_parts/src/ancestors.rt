@@ -9,7 +9,7 @@ use std::sync::Arc;
 use walk_paths::path_text;
 
 /// The paths of the directories above an entry, that of the root first: a shared list of shared paths. There is no list
-/// where links aren't followed.
+/// if links aren't followed.
 pub struct Ancestors<A: Allocator + Copy = Global> {
     paths: Option<Arc<Vec<Arc<String<A>, A>, A>, A>>,
 }
@@ -21,14 +21,14 @@ impl<A: Allocator + Copy> Drop for Ancestors<A> {
 }
 
 impl<A: Allocator + Copy> Ancestors<A> {
-    /// No directories.
+    /// Returns no directories.
     pub fn none() -> Self
         ensures { texts result ≡ [] }
     {
         Ancestors { paths: None }
     }
 
-    /// Their paths, that of the root first.
+    /// Returns their paths, that of the root first.
     fn paths(&self) -> &[Arc<String<A>, A>]
         ensures { map text result.now ≡ texts self.now }
     {
@@ -38,9 +38,11 @@ impl<A: Allocator + Copy> Ancestors<A> {
         }
     }
 
-    /// A handle of the same list.
+    /// Returns a handle of the same list.
     ///
-    /// Fails only for want of memory.
+    /// # Errors
+    ///
+    /// If memory runs out.
     pub fn share(&self) -> Result<Self, AllocError>
         ensures { IfOk result (λ same. texts same ≡ texts self.now) }
     {
@@ -52,16 +54,18 @@ impl<A: Allocator + Copy> Ancestors<A> {
         }
     }
 
-    /// Whether they are the same paths, in the same order.
+    /// Returns whether they are the same paths, in the same order.
     pub fn is_same(&self, other: &Self) -> bool
         ensures { IsTrue result ↔ (texts self.now ≡ texts other.now) }
     {
         self.paths() == other.paths()
     }
 
-    /// These directories, and below them the one at a path.
+    /// Returns these directories, and below them the one at a path.
     ///
-    /// Fails only for want of memory.
+    /// # Errors
+    ///
+    /// If memory runs out.
     pub fn with(&self, alloc: A, path: Arc<String<A>, A>) -> Result<Self, AllocError>
         ensures { IfOk result (λ more. texts more ≡ texts self.now ++ text path ∷ []) }
     {
@@ -74,9 +78,11 @@ impl<A: Allocator + Copy> Ancestors<A> {
         })
     }
 
-    /// A handle of the nearest of these paths that a target is the same path as.
+    /// Returns a handle of the nearest of these paths that a target is the same path as.
     ///
-    /// Fails only for want of memory.
+    /// # Errors
+    ///
+    /// If memory runs out.
     pub fn nearest(&self, target: &str) -> Result<Option<Arc<String<A>, A>>, AllocError>
         ensures { IfOk result (λ o. option_map text o ≡ looped_to target.now (texts self.now)) }
     {

@@ -3,14 +3,14 @@ use std::fmt::Debug;
 
 /// What a walk's user keeps beside directories and entries.
 ///
-/// `ReadDirState` begins with the root's and goes down the tree: a directory's reading starts with a clone of what the
-/// reading of its parent left, or of the state that its entry's `read_children` names. `DirEntryState` stands in each
-/// entry and begins with its default.
+/// `ReadDirState` begins with the root's and is handed down the tree. A directory's reading starts with a clone of what
+/// the reading of its parent left, or of the state that its entry's `read_children` names. `DirEntryState` is stored in
+/// each entry and begins with its default.
 ///
-/// A clone may be refused for want of memory; then so is the step that made it. A pair `(B, E)` of two states is a
+/// A clone fails if memory runs out; then the step that made it fails too. A pair `(B, E)` of two states is a
 /// `ClientState`.
 pub trait ClientState: Default + Debug + Drop {
-    /// The state of a directory, which goes down the tree.
+    /// The state of a directory, which is handed down the tree.
     type ReadDirState: Clone + Default + Debug + Drop;
 
     /// The state of an entry, which stays with it.

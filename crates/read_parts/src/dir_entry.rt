@@ -18,28 +18,28 @@ use walk_model::file_type::FileType;
 use walk_model::metadata::Metadata;
 use walk_paths::path_text;
 
-/// A file, a directory, a link or anything else that a walk came to.
+/// A file, a directory, a link or anything else that a walk finds.
 #[derive(Drop)]
 #[derive_where(Debug)]
 pub struct DirEntry<C: ClientState, A: Allocator + Copy = Global> {
     /// The depth below the root, which has depth 0.
     pub depth: usize,
-    /// The last part of the path. A root that has no file name, as `..`, has its whole path here.
+    /// The last part of the path. A root that has no file name, such as `..`, has its whole path here.
     pub file_name: String<A>,
-    /// The type of what stands at the path.
+    /// The type of what is at the path.
     pub file_type: FileType,
     /// What a callback keeps with the entry.
     pub client_state: C::DirEntryState,
     /// The path of the directory that the entry was listed in.
     pub parent_path: Arc<String<A>, A>,
-    /// The directory to be read below the entry: set where it is one, unless a callback took it away.
+    /// The directory to be read below the entry: set if it is a directory, unless a callback took it away.
     pub read_children: Option<ReadChildren<C, A>>,
     pub(crate) through_link: bool,
     #[derive_where(skip)]
     pub(crate) ancestors: Ancestors<A>,
 }
 
-/// What a file system answers of a path, or its error, with this depth and the path.
+/// Returns the result of a file system's call at a path; an error gets this depth and the path.
 fn asked<S: FileSystem, A: Allocator + Copy>(
     fs: &S,
     depth: usize,
@@ -73,7 +73,8 @@ impl<C: ClientState, A: Allocator + Copy> DirEntry<C, A> {
     ghost use Rattle.read_parts.specs.Error.{failure, kind_of};
     ghost use Rattle.read_parts.specs.Entry.{entry, children};
 
-    /// An entry whose state is the default. `through_link` says that its path is that of a link which was followed.
+    /// Returns an entry whose state is the default. `through_link` says that its path is that of a link which was
+    /// followed.
     pub fn new(
         depth: usize,
         file_name: String<A>,
@@ -107,51 +108,53 @@ impl<C: ClientState, A: Allocator + Copy> DirEntry<C, A> {
         }
     }
 
-    /// The depth below the root, which has depth 0.
+    /// Returns the depth below the root, which has depth 0.
     pub fn depth(&self) -> usize
         ensures { result ≡ (entry self.now).depth }
     {
         self.depth
     }
 
-    /// The last part of the path.
+    /// Returns the last part of the path.
     pub fn file_name(&self) -> &str
         ensures { result.now ≡ (entry self.now).file_name }
     {
         self.file_name.as_str()
     }
 
-    /// The type of what stands at the path.
+    /// Returns the type of what is at the path.
     pub fn file_type(&self) -> FileType
         ensures { result ≡ (entry self.now).file_type }
     {
         self.file_type
     }
 
-    /// Whether its path is that of a link: one that stands in the walk as a link, or one that was followed.
+    /// Returns whether its path is that of a link: one that is yielded as a link, or one that was followed.
     pub fn path_is_symlink(&self) -> bool
         ensures { result ≡ (is_symlink (entry self.now).file_type || (entry self.now).through_link) }
     {
         self.file_type.is_symlink() || self.through_link
     }
 
-    /// The path of the directory that the entry was listed in.
+    /// Returns the path of the directory that the entry was listed in.
     pub fn parent_path(&self) -> &str
         ensures { result.now ≡ (entry self.now).parent_path }
     {
         self.parent_path.as_str()
     }
 
-    /// The directories above the entry: none where links aren't followed. The root has its own path there.
+    /// Returns the directories above the entry, empty if links aren't followed. The root has its own path there.
     pub fn ancestors(&self) -> &Ancestors<A>
         ensures { texts result.now ≡ (entry self.now).ancestors }
     {
         &self.ancestors
     }
 
-    /// The path of the entry: its `file_name` below its `parent_path`.
+    /// Returns the path of the entry: its `file_name` below its `parent_path`.
     ///
-    /// Fails only for want of memory.
+    /// # Errors
+    ///
+    /// If memory runs out.
     pub fn path(&self) -> Result<String<A>, AllocError>
         ensures { IfOk result (λ path. string_bytes path ≡ path_of (entry self.now)) }
     {
@@ -159,12 +162,14 @@ impl<C: ClientState, A: Allocator + Copy> DirEntry<C, A> {
         path_text::join(alloc, self.parent_path.as_str(), self.file_name.as_str())
     }
 
-    /// The type and the length of what stands at the entry's path. Where the entry is that of a link which was
-    /// followed, they are those of what the link leads to (`metadata` of the file system, else `symlink_metadata`). The
-    /// file system is asked once, at each call: so the type may be another than the entry's.
+    /// Returns the type and the length in bytes of what is at the entry's path. If the entry is that of a link which
+    /// was followed, they are those of what the link leads to (`metadata` of the file system, else `symlink_metadata`).
+    /// The file system is asked once, at each call: so the type may be another than the entry's.
     ///
-    /// An error of the file system has the entry's depth and path. Want of memory, the file system's or for the path,
-    /// is the error with `is_memory`.
+    /// # Errors
+    ///
+    /// An error of the file system has the entry's depth and path. If memory runs out, the file system's or for the
+    /// path, the error's `is_memory` is true.
     pub fn metadata<S: FileSystem>(&self, fs: &S) -> Result<Metadata, Error<A>>
         ensures value { S.IsFixed fs.now → MatchResult result
             (λ m. metadata_of (S.functions fs.now) (entry self.now) ≡ Ok m)
@@ -181,7 +186,7 @@ impl<C: ClientState, A: Allocator + Copy> DirEntry<C, A> {
         }
     }
 
-    /// The entry of a link, where the directory at its path is to be read, if it leads to one.
+    /// Returns the entry of a link with the directory at its path to be read, if the link leads to one.
     pub fn with_directory(mut self, path: Arc<String<A>, A>, target: Metadata) -> Self
         ensures { entry result
             ≡ (if is_dir (type_of target) then record (entry self) { read_children = children_at true (text path) }
@@ -193,7 +198,7 @@ impl<C: ClientState, A: Allocator + Copy> DirEntry<C, A> {
         self
     }
 
-    /// The entry with the error that reading its directory ended in. One without a directory stays as it is.
+    /// Returns the entry with the error that reading its directory ended in. An entry without a directory is unchanged.
     pub fn with_error(mut self, error: Error<A>) -> Self
         ensures { Ok (entry result) ≡ with_error (failure error) (Ok (entry self)) }
     {

@@ -21,11 +21,11 @@ pub(crate) enum ErrorInner<A: Allocator + Copy> {
     Lost,
 }
 
-/// An error met on a walk: an `io::Error` with the depth at which it came and, mostly, a path; a link that was followed
-/// and leads back to a directory above it; want of memory; or one of the two errors of a crew.
+/// An error met on a walk. It is an `io::Error` with the depth at which it came and, mostly, a path; or a link that was
+/// followed and leads back to a directory above it. Or memory ran out, or it is one of the two errors of a crew.
 ///
-/// Printed it is one text, as `IO error for operation on /t/group 2: permission denied`. An `anyhow::Error` that `?`
-/// makes of it keeps 120 bytes of that at most.
+/// It is printed as one text, such as `IO error for operation on /t/group 2: permission denied`. An `anyhow::Error`
+/// that `?` makes of it keeps at most 120 bytes of that.
 #[derive_where(Debug)]
 pub struct Error<A: Allocator + Copy = Global> {
     depth: usize,
@@ -38,7 +38,7 @@ impl<A: Allocator + Copy> Drop for Error<A> {
     }
 }
 
-/// What a walk answers.
+/// What a walk yields.
 pub type Result<T, A = Global> = std::result::Result<T, Error<A>>;
 
 impl<A: Allocator + Copy> Error<A> {
@@ -49,7 +49,7 @@ impl<A: Allocator + Copy> Error<A> {
     ghost use Rattle.read_parts.specs.Text.{text};
     ghost use Rattle.read_parts.specs.Error.{failure, depth_of, path_of, ancestor_of, kind_of};
 
-    /// An error of the file system at a depth, with the path that it was asked for.
+    /// Returns an error of the file system at a depth, with the path that was asked for.
     pub fn from_path(depth: usize, path: Arc<String<A>, A>, err: io::Error) -> Self
         ensures { failure result ≡ io depth (Some (text path)) (error_kind err) }
     {
@@ -62,7 +62,7 @@ impl<A: Allocator + Copy> Error<A> {
         }
     }
 
-    /// An error of the file system at a depth, with no path.
+    /// Returns an error of the file system at a depth, with no path.
     pub fn from_io(depth: usize, err: io::Error) -> Self
         ensures { failure result ≡ io depth None (error_kind err) }
     {
@@ -72,7 +72,7 @@ impl<A: Allocator + Copy> Error<A> {
         }
     }
 
-    /// The error of a link, the child, at a depth, that leads back to an ancestor.
+    /// Returns the error of a link, the child, at a depth, that leads back to an ancestor.
     pub fn from_loop(depth: usize, ancestor: Arc<String<A>, A>, child: Arc<String<A>, A>) -> Self
         ensures { failure result ≡ looped depth (text ancestor) (text child) }
     {
@@ -82,7 +82,7 @@ impl<A: Allocator + Copy> Error<A> {
         }
     }
 
-    /// The error of a walk that a crew has no place for.
+    /// Returns the error of a walk that a crew has no place for.
     pub fn busy() -> Self
         ensures { failure result ≡ busy }
     {
@@ -92,7 +92,7 @@ impl<A: Allocator + Copy> Error<A> {
         }
     }
 
-    /// The error that tells of want of memory.
+    /// Returns the error that reports that memory ran out.
     pub fn memory() -> Self
         ensures { failure result ≡ memory }
     {
@@ -102,7 +102,7 @@ impl<A: Allocator + Copy> Error<A> {
         }
     }
 
-    /// The error of a walk whose crew gave no reading, or a wrong one, of a directory that was entered.
+    /// Returns the error of a walk whose crew gave no reading, or a wrong one, of a directory that was entered.
     pub fn lost() -> Self
         ensures { failure result ≡ lost }
     {
@@ -112,8 +112,9 @@ impl<A: Allocator + Copy> Error<A> {
         }
     }
 
-    /// The path that the error came with, of a loop that of the link. There is none where an item of a listing had no
-    /// name, where the text of a link could not be read, for want of memory, and where a crew is the cause.
+    /// Returns the path that the error came with; for a loop it is the path of the link. There is none if an item of a
+    /// listing had no name, or if the text of a link could not be read. There is also none if memory ran out, or if a
+    /// crew is the cause.
     pub fn path(&self) -> Option<&str>
         ensures { option_copied result ≡ path_of (failure self.now) }
     {
@@ -127,8 +128,8 @@ impl<A: Allocator + Copy> Error<A> {
         }
     }
 
-    /// The directory that a link leads back to, of a loop alone: the nearest one above the link whose path has the same
-    /// components as the link's text.
+    /// Returns the directory that a link leads back to, for a loop alone: the nearest one above the link whose path has
+    /// the same components as the link's text.
     pub fn loop_ancestor(&self) -> Option<&str>
         ensures { option_copied result ≡ ancestor_of (failure self.now) }
     {
@@ -138,7 +139,7 @@ impl<A: Allocator + Copy> Error<A> {
         }
     }
 
-    /// The depth at which the error came: 0 for the root, for want of memory, and where a crew is the cause.
+    /// Returns the depth at which the error came: 0 for the root, if memory ran out, and if a crew is the cause.
     pub fn depth(&self) -> usize
         ensures { result ≡ depth_of (failure self.now) }
     {
@@ -148,7 +149,7 @@ impl<A: Allocator + Copy> Error<A> {
         }
     }
 
-    /// The `io::Error`, if it is one.
+    /// Returns the `io::Error`, if it is one.
     pub fn io_error(&self) -> Option<&io::Error>
         ensures { option_map error_kind (option_copied result) ≡ kind_of (failure self.now) }
     {
@@ -158,7 +159,7 @@ impl<A: Allocator + Copy> Error<A> {
         }
     }
 
-    /// The same, taken out of the error.
+    /// Returns the same, taken out of the error.
     pub fn into_io_error(self) -> Option<io::Error>
         ensures { option_map error_kind result ≡ kind_of (failure self) }
     {
@@ -169,21 +170,21 @@ impl<A: Allocator + Copy> Error<A> {
         }
     }
 
-    /// Whether a crew had no place for the walk.
+    /// Returns whether a crew had no place for the walk.
     pub fn is_busy(&self) -> bool
         ensures { IsTrue result ↔ (failure self.now ≡ busy) }
     {
         matches!(self.inner, ErrorInner::Busy)
     }
 
-    /// Whether it is want of memory.
+    /// Returns whether memory ran out.
     pub fn is_memory(&self) -> bool
         ensures { IsTrue result ↔ (failure self.now ≡ memory) }
     {
         matches!(self.inner, ErrorInner::Memory)
     }
 
-    /// Whether a crew gave no reading, or a wrong one, of a directory that was entered.
+    /// Returns whether a crew gave no reading, or a wrong one, of a directory that was entered.
     pub fn is_lost(&self) -> bool
         ensures { IsTrue result ↔ (failure self.now ≡ lost) }
     {

@@ -6,7 +6,7 @@ use walk_fs::fault::Fault;
 use walk_fs::file_system::FileSystem;
 use walk_model::metadata::Metadata;
 
-/// What a file system knows of a path: through its last link, or of that link itself.
+/// Returns what a file system knows of a path: through its last link, or of that link itself.
 pub fn metadata_at<S: FileSystem>(fs: &S, path: &str, through_link: bool) -> Result<Metadata, Fault>
     ensures { S.IsFixed fs.now
         → AnswersValue (λ m. m) result (metadata_at (S.functions fs.now) through_link path.now) }

@@ -4,9 +4,9 @@ ghost use Rattle.std.specs.Prelude.{◌≡◌, ◌≤◌};
 /// How a walk reads its directories.
 #[derive(Clone, Copy, Debug, PartialEq, Eq)]
 pub enum Mode {
-    /// One directory at a time, when its entry is answered. The default.
+    /// One directory at a time, when its entry is yielded. The default.
     Serial,
-    /// So many directories at a time: the one whose entry is answered, and those that come after it. 0 stands for 8.
+    /// That many directories at a time: the one whose entry is yielded, and those that come after it. 0 means 8.
     Batches(usize),
     /// Ahead of the walk, by the workers of a crew.
     Crew,
@@ -15,7 +15,7 @@ pub enum Mode {
 impl Mode {
     ghost use Rattle.read_parts.specs.Options.{mode_value, width_of};
 
-    /// How many directories are read together, by the walk or by each worker.
+    /// Returns how many directories are read together, by the walk or by each worker.
     pub fn width(self) -> usize
         ensures width { result ≡ width_of (mode_value self) }
         ensures some { 1 ≤ result }

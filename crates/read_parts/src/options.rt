@@ -8,8 +8,8 @@ use crate::error::Error;
 use crate::mode::Mode;
 use std::alloc::Allocator;
 
-/// What a walk goes by. A new one has the defaults: no order but the file system's, hidden names left out, no
-/// link followed, every depth, one directory read at a time.
+/// The options that a walk follows. A new one has the defaults: no order but the file system's, hidden names left out,
+/// no link followed, every depth, one directory read at a time.
 #[derive(Clone, Copy)]
 pub struct Options {
     pub(crate) sort: bool,
@@ -21,7 +21,7 @@ pub struct Options {
     ghost in_order: { min_depth ≤ max_depth },
 }
 
-/// Whether a name starts with a dot.
+/// Returns whether a name starts with a dot.
 fn is_hidden(name: &str) -> bool
     ensures { result ≡ is_hidden name.now }
 {
@@ -34,7 +34,7 @@ impl Options {
     ghost use Rattle.read_parts.specs.Entry.{item};
     ghost use Rattle.read_parts.specs.Options.{mode_value, options_value, reads_by};
 
-    /// The defaults.
+    /// Returns the defaults.
     pub fn new() -> Self
         ensures { options_value result ≡ defaults }
     {
@@ -48,7 +48,7 @@ impl Options {
         }
     }
 
-    /// Those that readings go by, with the least depth of the defaults.
+    /// Returns the options that readings follow, with the least depth of the defaults.
     pub fn for_readings(sort: bool, skip_hidden: bool, follow_links: bool, max_depth: usize) -> Self
         ensures { options_value result ≡ reads_by sort skip_hidden follow_links max_depth }
     {
@@ -62,7 +62,7 @@ impl Options {
         }
     }
 
-    /// Whether the entries of a directory come by the bytes of their names, with its errors last.
+    /// Sets whether the entries of a directory are sorted by the bytes of their names, with its errors last.
     pub fn with_sort(mut self, sort: bool) -> Self
         ensures { options_value result ≡ with_sort sort (options_value self) }
     {
@@ -70,7 +70,7 @@ impl Options {
         self
     }
 
-    /// Whether names that start with a dot are left out.
+    /// Sets whether names that start with a dot are left out.
     pub fn with_skip_hidden(mut self, skip_hidden: bool) -> Self
         ensures { options_value result ≡ with_skip_hidden skip_hidden (options_value self) }
     {
@@ -78,7 +78,7 @@ impl Options {
         self
     }
 
-    /// Whether a link gives way to what it leads to.
+    /// Sets whether links are followed.
     pub fn with_follow_links(mut self, follow_links: bool) -> Self
         ensures { options_value result ≡ with_follow_links follow_links (options_value self) }
     {
@@ -86,7 +86,7 @@ impl Options {
         self
     }
 
-    /// The least depth of the entries that are answered, lowered to the greatest.
+    /// Sets the least depth of the entries that are yielded, lowered to the greatest.
     pub fn with_min_depth(mut self, depth: usize) -> Self
         ensures { options_value result ≡ with_min_depth depth (options_value self) }
     {
@@ -94,7 +94,7 @@ impl Options {
         self
     }
 
-    /// The greatest depth, raised to the least. A walk that reads one directory at most becomes serial.
+    /// Sets the greatest depth, raised to the least. A walk that reads one directory at most becomes serial.
     pub fn with_max_depth(mut self, depth: usize) -> Self
         ensures { options_value result ≡ with_max_depth depth (options_value self) }
     {
@@ -105,7 +105,7 @@ impl Options {
         self
     }
 
-    /// How directories are read.
+    /// Sets how directories are read.
     pub fn with_mode(mut self, mode: Mode) -> Self
         ensures { options_value result ≡ with_parallelism (mode_value mode) (options_value self) }
     {
@@ -113,7 +113,7 @@ impl Options {
         self
     }
 
-    /// Whether readings go by the same options. The least depth, and how directories are read, don't count.
+    /// Returns whether readings follow the same options. The least depth, and how directories are read, don't count.
     pub fn reads_as(self, other: Options) -> bool
         ensures { IsTrue result ↔ ReadsAs (options_value self) (options_value other) }
     {
@@ -123,7 +123,8 @@ impl Options {
             && self.max_depth == other.max_depth
     }
 
-    /// Whether a directory at this depth is read: one at the greatest depth isn't. The depth below it fits then.
+    /// Returns whether a directory at this depth is read: one at the greatest depth isn't. If it is, the depth below it
+    /// fits in a `usize`.
     pub fn reads(self, depth: usize) -> bool
         ensures above { IsTrue result ↔ (depth < (options_value self).max_depth) }
         ensures fits { IsTrue result → depth + 1 < 2 ^ 64 }
@@ -131,14 +132,14 @@ impl Options {
         depth < self.max_depth
     }
 
-    /// Whether a name is left out.
+    /// Returns whether a name is left out.
     pub fn skips(self, name: &str) -> bool
         ensures { result ≡ ((options_value self).skip_hidden && is_hidden name.now) }
     {
         self.skip_hidden && is_hidden(name)
     }
 
-    /// Whether an item that a walk comes to is answered: an entry from the least depth on, and every error.
+    /// Returns whether an item that a walk reaches is yielded: an entry from the least depth on, and every error.
     pub fn keeps<C: ClientState, A: Allocator + Copy>(
         self,
         passed: &Result<DirEntry<C, A>, Error<A>>,
@@ -151,14 +152,14 @@ impl Options {
         }
     }
 
-    /// Whether a link gives way to what it leads to.
+    /// Returns whether links are followed.
     pub fn follow_links(self) -> bool
         ensures { result ≡ (options_value self).follow_links }
     {
         self.follow_links
     }
 
-    /// The least depth, which is no greater than the greatest.
+    /// Returns the least depth, which is no greater than the greatest.
     pub fn min_depth(self) -> usize
         ensures value { result ≡ (options_value self).min_depth }
         ensures in_order { result ≤ (options_value self).max_depth }
@@ -166,7 +167,7 @@ impl Options {
         self.min_depth
     }
 
-    /// How directories are read.
+    /// Returns how directories are read.
     pub fn mode(self) -> Mode
         ensures { mode_value result ≡ (options_value self).parallelism }
     {

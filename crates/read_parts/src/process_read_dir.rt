@@ -10,7 +10,7 @@ use crate::dir_entry::DirEntry;
 use crate::error::Error;
 use std::alloc::{AllocError, Allocator};
 
-/// A callback that is given each list before the walk goes on with it.
+/// A callback that is called with each list before the walk goes on with it.
 pub trait ProcessReadDir<C: ClientState, A: Allocator + Copy>: Drop {
     /// It may be called.
     ghost IsLawful: { Self → Type 0 };
@@ -19,15 +19,17 @@ pub trait ProcessReadDir<C: ClientState, A: Allocator + Copy>: Drop {
     /// nothing is to be said so has `⊥` here.
     ghost Makes: { Self → Given C.ReadDirState C.DirEntryState → Type 0 };
 
-    /// Works on the list of the directory at `path`, which has this depth, or on the list of the root alone, where
-    /// `depth` is `None` and `path` the root's parent. It may change `state`, which the directories of the list begin
-    /// with, and it may reorder the list, drop items, change their states, and take away or move `read_children`; but
-    /// an entry keeps its depth.
+    /// Works on the list of the directory at `path`, which has this depth. For the list of the root alone, `depth` is
+    /// `None` and `path` is the root's parent. It may change `state`, which the directories of the list begin with. It
+    /// may reorder the list, drop items, change their states, and take away or move `read_children`; but an entry keeps
+    /// its depth.
     ///
     /// It isn't called for a directory that couldn't be listed, nor for one at the greatest depth. Where threads or a
-    /// crew read, several of them may call it side by side, each with a list of its own.
+    /// crew read, several of them may call it at the same time, each with a list of its own.
     ///
-    /// Fails only for want of memory. The list of a call that fails is dropped, with all that its reading gave.
+    /// # Errors
+    ///
+    /// If memory runs out, and for no other cause. After an error the list is dropped, with all that its reading gave.
     fn process(
         &self,
         depth: Option<usize>,

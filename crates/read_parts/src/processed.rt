@@ -25,10 +25,12 @@ pub struct ProcessedList<C: ClientState, A: Allocator + Copy = Global> {
     pub items: Vec<Result<DirEntry<C, A>, Error<A>>, A>,
 }
 
-/// The list of a directory in the order that is asked for, after the callback, which is given a clone of the
-/// directory's state.
+/// Returns the list of a directory in the order that is asked for, after the callback. The callback is called with a
+/// clone of the directory's state.
 ///
-/// Fails only for want of memory: of the sort, of the clone or of the callback.
+/// # Errors
+///
+/// If memory runs out: for the sort, for the clone or in the callback.
 pub fn processed<C: ClientState, P: ProcessReadDir<C, A>, A: Allocator + Copy>(
     process: &P,
     options: Options,

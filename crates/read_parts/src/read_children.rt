@@ -11,8 +11,8 @@ use std::sync::Arc;
 pub struct ReadChildren<C: ClientState, A: Allocator + Copy = Global> {
     pub(crate) path: Arc<String<A>, A>,
     pub(crate) error: Option<Error<A>>,
-    /// The state that the directory's reading is to begin with. Where it is `None`, that is a clone of the state which
-    /// the reading of the entry's own directory left.
+    /// The state that the directory's reading is to begin with. `None` means a clone of the state that the reading of
+    /// the entry's own directory left.
     pub client_read_state: Option<C::ReadDirState>,
 }
 
@@ -34,8 +34,8 @@ impl<C: ClientState, A: Allocator + Copy> ReadChildren<C, A> {
     ghost use Rattle.read_parts.specs.Error.{failure};
     ghost use Rattle.read_parts.specs.Entry.{children};
 
-    /// The directory at a path, not read yet, whose reading begins with the state that its parent's left. The path
-    /// need not be the entry's own.
+    /// Returns the directory at a path, not read yet, whose reading begins with the state that its parent's left. The
+    /// path need not be the entry's own.
     pub fn new(path: Arc<String<A>, A>) -> Self
         ensures { Some (children result) ≡ children_at true (text path) }
     {
@@ -46,14 +46,14 @@ impl<C: ClientState, A: Allocator + Copy> ReadChildren<C, A> {
         }
     }
 
-    /// The path of the directory.
+    /// Returns the path of the directory.
     pub fn path(&self) -> &str
         ensures { result.now ≡ (children self.now).path }
     {
         self.path.as_str()
     }
 
-    /// The error that reading the directory ended in.
+    /// Returns the error that reading the directory ended in.
     pub fn error(&self) -> Option<&Error<A>>
         ensures { option_map failure (option_copied result) ≡ (children self.now).error }
     {

@@ -33,7 +33,7 @@ impl<C: ClientState, A: Allocator + Copy> Drop for ReadDirSpec<C, A> {
     }
 }
 
-/// The state that a directory begins with: its own if it was given one, else that of its parent's reading.
+/// Returns the state that a directory begins with: its own if it was given one, else that of its parent's reading.
 fn first_state<C: ClientState>(
     own: &Option<C::ReadDirState>,
     parent: &C::ReadDirState,
@@ -47,24 +47,26 @@ fn first_state<C: ClientState>(
 }
 
 impl<C: ClientState, A: Allocator + Copy> ReadDirSpec<C, A> {
-    /// The depth of the directory below the root, which has depth 0.
+    /// Returns the depth of the directory below the root, which has depth 0.
     pub fn depth(&self) -> usize
         ensures { result ≡ (spec self.now).depth }
     {
         self.depth
     }
 
-    /// The directories above it: none where links aren't followed. The root has its own path there.
+    /// Returns the directories above it, empty if links aren't followed. The root has its own path there.
     pub fn ancestors(&self) -> &Ancestors<A>
         ensures { texts result.now ≡ (spec self.now).ancestors }
     {
         &self.ancestors
     }
 
-    /// The specification of an item's directory, if it has one, where the reading of its list left `state`; its state
-    /// is a clone.
+    /// Returns the specification of an item's directory, if it has one. `state` is what the reading of its list left;
+    /// the specification's own state is a clone.
     ///
-    /// Fails only for want of memory.
+    /// # Errors
+    ///
+    /// If memory runs out.
     pub fn of_item(
         state: &C::ReadDirState,
         found: &Result<DirEntry<C, A>, Error<A>>,
@@ -87,7 +89,8 @@ impl<C: ClientState, A: Allocator + Copy> ReadDirSpec<C, A> {
     }
 }
 
-/// A clone has a clone of the state and shares the paths. Fails only for want of memory, or where the state's own does.
+/// A clone has a clone of the state and shares the paths. Cloning fails only if memory runs out, or if the state's own
+/// clone fails.
 impl<C: ClientState, A: Allocator + Copy> Clone for ReadDirSpec<C, A> {
     ghost use Rattle.walk_model.specs.ReadDir.{IsClone};
 

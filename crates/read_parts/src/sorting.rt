@@ -15,7 +15,7 @@ use std::cmp::Ordering;
 /// A list of at most this many items is sorted by its names alone.
 const FEW: usize = 20;
 
-/// Entries compare by the bytes of their names, and come before errors.
+/// Compares entries by the bytes of their names, and puts them before errors.
 fn by_name<C: ClientState, A: Allocator + Copy>(
     a: &Result<DirEntry<C, A>, Error<A>>,
     b: &Result<DirEntry<C, A>, Error<A>>,
@@ -30,7 +30,7 @@ fn by_name<C: ClientState, A: Allocator + Copy>(
     }
 }
 
-/// The name of the first entry of a list.
+/// Returns the name of the first entry of a list.
 fn first_name<C: ClientState, A: Allocator + Copy>(
     list: &[Result<DirEntry<C, A>, Error<A>>],
 ) -> Option<&str> {
@@ -42,7 +42,7 @@ fn first_name<C: ClientState, A: Allocator + Copy>(
     None
 }
 
-/// How many bytes two names begin with in common.
+/// Returns how many bytes two names begin with in common.
 fn common_length(a: &str, b: &str) -> usize {
     let a = a.as_bytes();
     let b = b.as_bytes();
@@ -55,7 +55,7 @@ fn common_length(a: &str, b: &str) -> usize {
     shorter
 }
 
-/// How many bytes all names of a list begin with in common.
+/// Returns how many bytes all names of a list begin with in common.
 fn shared_length<C: ClientState, A: Allocator + Copy>(
     list: &[Result<DirEntry<C, A>, Error<A>>],
 ) -> usize {
@@ -71,7 +71,7 @@ fn shared_length<C: ClientState, A: Allocator + Copy>(
     shared
 }
 
-/// The bytes of a name from a place on.
+/// Returns the bytes of a name from a place on.
 fn rest_of(name: &str, from: usize) -> &[u8]
     ensures { result.now ≡ drop from name.now }
 {
@@ -81,7 +81,7 @@ fn rest_of(name: &str, from: usize) -> &[u8]
     }
 }
 
-/// The first eight bytes as a number, which is in the order of the bytes: zeros where there are fewer.
+/// Returns the first eight bytes as a number, which is in the order of the bytes: zeros where there are fewer.
 fn number(bytes: &[u8]) -> u64
     ensures { result ≡ number bytes.now }
 {
@@ -91,7 +91,8 @@ fn number(bytes: &[u8]) -> u64
     u64::from_be_bytes(padded)
 }
 
-/// The number by which an item is first put in order: that of its name from a place on, and the greatest for an error.
+/// Returns the number by which an item is first sorted: that of its name from a place on, and the greatest for an
+/// error.
 fn key_of<C: ClientState, A: Allocator + Copy>(
     found: &Result<DirEntry<C, A>, Error<A>>,
     from: usize,
@@ -104,7 +105,7 @@ fn key_of<C: ClientState, A: Allocator + Copy>(
     }
 }
 
-/// Sorts a long list by eight bytes of each name, the first in which names differ: for speed, since the sort by names
+/// Sorts a long list by eight bytes of each name, the first in which names differ. This is for speed: the sort by names
 /// then finds most of them in order. Entries of equal name, and errors, keep their order.
 fn sort_by_beginnings<C: ClientState, A: Allocator + Copy>(
     list: &mut Vec<Result<DirEntry<C, A>, Error<A>>, A>,
@@ -128,7 +129,7 @@ fn sort_by_name<C: ClientState, A: Allocator + Copy>(
     list.sort_by(by_name)
 }
 
-/// A list in order by name where that is asked for, and else as it is.
+/// Returns a list sorted by name if that is asked for, and else unchanged.
 pub(crate) fn in_order<C: ClientState, A: Allocator + Copy>(
     sort: bool,
     mut list: Vec<Result<DirEntry<C, A>, Error<A>>, A>,

@@ -27,7 +27,8 @@ struct Listing<A: Allocator + Copy> {
     ghost within: { length items.items ≤ 4294967295 },
 }
 
-/// The type of what stands at a path, no link followed. Fails only for want of memory: any other error is the answer.
+/// Returns the type of what is at a path, no link followed. Fails only if memory runs out: any other error is returned
+/// as the answer.
 fn type_at<R: Files>(rt: &R, path: &str) -> Result<io::Result<FileType>, Fault>
     ensures answer { IfOk result (λ found. IfErr found (λ e. error_kind e ≢ ErrorKind.OutOfMemory)) }
     ensures memory { IfErr result (λ f. f ≡ Fault.Memory) }
@@ -53,7 +54,7 @@ impl<A: Allocator + Copy> Listing<A> {
         }
     }
 
-    /// Adds an item. Fails where there are as many as there may be, and for want of memory.
+    /// Adds an item. Fails if there are as many as there may be, or if memory runs out.
     #[inline]
     fn push(&mut self, item: io::Result<Listed<A>>) -> Result<(), Fault>
         ensures { OnOk result (self.new.items.items ≡ self.old.items.items ++ item ∷ []) }
@@ -64,7 +65,7 @@ impl<A: Allocator + Copy> Listing<A> {
         self.items.push(item).map_err(|_| Fault::Memory)
     }
 
-    /// Adds the item of a name in a directory: an error where it isn't UTF-8.
+    /// Adds the item of a name in a directory: an error if the name isn't UTF-8.
     fn add<R: Files>(&mut self, rt: &R, dir: &str, name: &[u8]) -> Result<(), Fault>
         ensures { OnOk result (Adds (name.now ∷ []) self.old self.new) }
     {
@@ -94,7 +95,7 @@ impl<A: Allocator + Copy> Listing<A> {
         Ok(())
     }
 
-    /// Adds an error that ended the reading. Fails where that is want of memory.
+    /// Adds an error that ended the reading. Fails if the error is that memory ran out.
     fn end(&mut self, error: io::Error) -> Result<(), Fault>
         ensures { OnOk result (self.new.items.items ≡ self.old.items.items ++ Err error ∷ []) }
     {
@@ -104,8 +105,8 @@ impl<A: Allocator + Copy> Listing<A> {
         }
     }
 
-    /// Adds what one read of a directory's names gave, and tells whether there may be more. An error ends the reading
-    /// and is its last item, but for a read that was interrupted, which gave nothing.
+    /// Adds what one read of a directory's names gave, and returns whether there may be more. An error ends the reading
+    /// and is its last item. A read that was interrupted gave nothing and doesn't end it.
     fn add_read<R: Files>(
         &mut self,
         rt: &R,
@@ -129,8 +130,8 @@ impl<A: Allocator + Copy> Listing<A> {
         }
     }
 
-    /// Adds the items of all names of an open directory. No read ends inside a name, which the standard library says of
-    /// what `open_dir` opens, so names need not be put together.
+    /// Adds the items of all names of an open directory. No read ends inside a name: the standard library says so of
+    /// what `open_dir` opens. So names need not be put together.
     fn add_rest<R: Files>(&mut self, rt: &R, dir: &str, names: &mut R::Dir) -> Result<(), Fault> {
         let mut buffer = [0; BUFFER];
         for _ in 0..u64::MAX {
@@ -143,7 +144,7 @@ impl<A: Allocator + Copy> Listing<A> {
     }
 }
 
-/// The items of a directory, in the order in which it reads.
+/// Returns the items of a directory, in the order in which it reads.
 pub fn read_dir<R: Files, A: Allocator + Copy>(
     rt: &R,
     alloc: A,

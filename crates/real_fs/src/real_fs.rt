@@ -8,10 +8,10 @@ use walk_fs::file_system::FileSystem;
 use walk_fs::listed::Listed;
 use walk_model::metadata::Metadata;
 
-/// The file system that a runtime reaches: the disk, where that is the host's. It is made with the runtime that `main`
-/// is given, or with a `&` of it.
+/// The file system that a runtime reaches: the disk, if the runtime is the host's. It is made with the runtime that
+/// `main` is given, or with a `&` of it.
 ///
-/// It answers what stands there when it is asked, and nothing is promised of that.
+/// It returns what is there at the time of the call, and nothing is promised of that.
 #[derive(Drop)]
 pub struct RealFs<R: Files + Drop = HostRuntime> {
     rt: R,
@@ -21,7 +21,7 @@ impl<R: Files + Drop> RealFs<R> {
     ghost use Rattle.std.specs.Prelude.{◌≡◌};
     ghost use Rattle.real_fs.specs.RealFs.{runtime_of};
 
-    /// The file system that this runtime reaches. Nothing is asked of it yet.
+    /// Returns the file system that this runtime reaches. It makes no call yet.
     pub fn new(rt: R) -> Self
         ensures { runtime_of result ≡ rt }
     {

@@ -1,4 +1,4 @@
-//! What the standard library answers, as a walk sees it.
+//! What the standard library returns, as a walk sees it.
 ghost use Rattle.std.specs.Prelude.{◌≡◌};
 ghost use Rattle.real_fs.specs.Seen.{type_seen, IsFault, IsSeen};
 
@@ -8,7 +8,7 @@ use walk_fs::fault::Fault;
 use walk_model::file_type::FileType;
 use walk_model::metadata::Metadata;
 
-/// An error of the system as a fault.
+/// Returns an error of the system as a fault.
 pub fn fault(error: io::Error) -> Fault
     ensures { IsFault error result }
 {
@@ -19,7 +19,7 @@ pub fn fault(error: io::Error) -> Fault
     }
 }
 
-/// The type that is found.
+/// Returns the type that was found.
 pub fn file_type(found: &fs::Metadata) -> FileType
     ensures { result ≡ type_seen found.now }
 {
@@ -35,7 +35,7 @@ pub fn file_type(found: &fs::Metadata) -> FileType
     }
 }
 
-/// The type and the length that are found.
+/// Returns the type and the length that were found.
 pub fn metadata(found: io::Result<fs::Metadata>) -> Result<Metadata, Fault>
     ensures { IsSeen found result }
 {

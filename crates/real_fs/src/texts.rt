@@ -6,7 +6,7 @@ ghost use Rattle.real_fs.specs.Texts.{is_nul};
 
 use std::alloc::{AllocError, Allocator};
 
-/// The path of a directory, ended by a slash: then a link that stands there is followed.
+/// Returns the path of a directory, ended by a slash: then a link at that path is followed.
 pub fn slash_ended<A: Allocator + Copy>(alloc: A, path: &str) -> Result<String<A>, AllocError>
     ensures { IfOk result (λ dir. string_bytes dir ≡ texts.slash_ended path.now) }
 {
@@ -17,21 +17,21 @@ pub fn slash_ended<A: Allocator + Copy>(alloc: A, path: &str) -> Result<String<A
     Ok(dir)
 }
 
-/// Whether a name is that of a child: it isn't empty, and neither `.` nor `..`.
+/// Returns whether a name is that of a child: it isn't empty, and neither `.` nor `..`.
 pub fn is_child(name: &[u8]) -> bool
     ensures { result ≡ texts.is_child name.now }
 {
     !matches!(name, [] | [b'.'] | [b'.', b'.'])
 }
 
-/// Where the first of names that were read together ends.
+/// Returns where the first of names that were read together ends.
 fn name_end(names: &[u8]) -> Option<usize>
     ensures { result ≡ position is_nul names.now }
 {
     names.iter().position(|byte| *byte == 0)
 }
 
-/// The first of names that were read together, each ended by a NUL, and the others.
+/// Returns the first of names that were read together, each ended by a NUL, and the others.
 pub fn split_name(names: &[u8]) -> (&[u8], &[u8])
     ensures name { result.0.now ≡ before_first is_nul names.now }
     ensures rest { result.1.now ≡ after_first is_nul names.now }

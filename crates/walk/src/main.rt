@@ -1,6 +1,6 @@
 //! Walks the disk and prints one line for each answer:
 //! `walk [--tree] [--sort] [--hidden] [--follow] [--min N] [--max N] [--batch N | --crew N] ROOT`. With `--tree` it
-//! walks the tree that the lines on standard input say.
+//! walks the tree that the lines on standard input describe.
 #![tactic(auto)]
 
 use jwalk::file_system::RealFs;
@@ -10,7 +10,7 @@ use std::{env, io};
 use walk_run::run::run;
 use walk_text::failure::Failure;
 
-/// The words behind the program's name. Words that aren't text are bad ones.
+/// Returns the words after the program's name. Words that aren't text are bad ones.
 fn words_of(rt: &HostRuntime) -> Result<Vec<String>, Failure> {
     let words = match env::args(rt) {
         Ok(words) => words,
@@ -20,7 +20,7 @@ fn words_of(rt: &HostRuntime) -> Result<Vec<String>, Failure> {
     Ok(words.skip(1).collect(rt.alloc())?)
 }
 
-/// The words, and the disk.
+/// Returns the words, and the disk.
 fn call_of(rt: &HostRuntime) -> Result<(Vec<String>, RealFs), Failure> {
     Ok((words_of(rt)?, RealFs::new(rt.clone()?)))
 }

@@ -1,16 +1,16 @@
-//! Why a file system has no answer.
+//! Why a file system's call fails.
 ghost use Rattle.std.specs.Prelude.{◌≡◌};
 ghost use Rattle.walk_fs.specs.declared.fault.Fault.TheVariants.{Io, Memory};
 
 use std::alloc::AllocError;
 use std::io;
 
-/// An error of the file system, or want of memory.
+/// An error of the file system, or that memory ran out.
 #[derive(Drop)]
 pub enum Fault {
-    /// The file system can't answer, and this says why. A walk tells it in its place and goes on.
+    /// The call failed, and this says why. A walk yields it in its place and goes on.
     Io(io::Error),
-    /// Memory was refused. A walk tells it once and ends.
+    /// Memory ran out. A walk yields that once and ends.
     Memory,
 }
 

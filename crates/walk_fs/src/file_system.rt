@@ -11,11 +11,11 @@ use std::io;
 use std::sync::Arc;
 use walk_model::metadata::Metadata;
 
-/// What a walk asks of a file system. Paths are texts, as `std::path` has them on Unix; relative ones start where the
+/// What a walk needs of a file system. Paths are texts, as `std::path` has them on Unix; relative ones start where the
 /// file system says. Each answer that needs memory is made with the caller's allocator.
 ///
-/// A file system whose answers may change, or that can't promise them, says that it isn't fixed. Then it owes nothing,
-/// and names any functions:
+/// If the answers of a file system may change, or it can't promise them, it says that it isn't fixed. Then it promises
+/// nothing, and names any functions:
 ///
 ///     ghost use Rattle.jwalk.specs.walk_model.Tree.{functions_of, only_root};
 ///
@@ -27,21 +27,21 @@ use walk_model::metadata::Metadata;
 ///         fn read_dir ..
 ///     }
 ///
-/// Of a walk over it no answer is known by value. The walk is safe and ends all the same, directories are read in order
-/// and each once, and every entry stands from the least to the greatest depth.
+/// Then no answer of a walk over it is known by value. The walk is safe and ends all the same. Directories are read in
+/// order and each once, and the depth of every entry is from the least to the greatest.
 pub trait FileSystem: Drop {
-    /// It always answers the same: each answer is that of `functions`, unless memory runs out.
+    /// It always returns the same: each answer is that of `functions`, unless memory runs out.
     ghost IsFixed: { Self → Type 0 };
 
-    /// What it then answers at each path.
+    /// What it then returns at each path.
     ghost functions: { Self → Functions };
 
-    /// The items of a directory, in the file system's order, without `.` and `..` (`std::fs::read_dir`). An item that
-    /// could not be read is an error in its place.
+    /// Returns the items of a directory, in the file system's order, without `.` and `..` (`std::fs::read_dir`). An
+    /// item that could not be read is an error in its place.
     ///
     /// # Errors
     ///
-    /// `Fault::Io` where the directory can't be listed, `Fault::Memory` where memory is refused.
+    /// `Fault::Io` if the directory can't be listed, `Fault::Memory` if memory runs out.
     fn read_dir<A: Allocator + Copy>(
         &self,
         alloc: A,
@@ -50,32 +50,32 @@ pub trait FileSystem: Drop {
         ensures { IsFixed self.now
             → AnswersValue (λ v. map listed v.items) result ((functions self.now).list_of path.now) };
 
-    /// The type of what a path leads to, and its length in bytes, all links followed (`std::fs::metadata`).
+    /// Returns the type of what a path leads to, and its length in bytes, all links followed (`std::fs::metadata`).
     ///
     /// # Errors
     ///
-    /// `Fault::Io` where they can't be told, `Fault::Memory` where memory is refused.
+    /// `Fault::Io` if they can't be read, `Fault::Memory` if memory runs out.
     fn metadata(&self, path: &str) -> Result<Metadata, Fault>
         ensures { IsFixed self.now → AnswersValue (λ m. m) result ((functions self.now).meta_of path.now) };
 
-    /// The same without following the last component (`std::fs::symlink_metadata`).
+    /// Returns the same without following the last component (`std::fs::symlink_metadata`).
     ///
     /// # Errors
     ///
-    /// `Fault::Io` where they can't be told, `Fault::Memory` where memory is refused.
+    /// `Fault::Io` if they can't be read, `Fault::Memory` if memory runs out.
     fn symlink_metadata(&self, path: &str) -> Result<Metadata, Fault>
         ensures { IsFixed self.now → AnswersValue (λ m. m) result ((functions self.now).link_meta_of path.now) };
 
-    /// The target of a symbolic link as its text stands (`std::fs::read_link`).
+    /// Returns the target of a symbolic link, with its text unchanged (`std::fs::read_link`).
     ///
     /// # Errors
     ///
-    /// `Fault::Io` where it can't be told, also of what is no link; `Fault::Memory` where memory is refused.
+    /// `Fault::Io` if it can't be read, also if the path is that of no link. `Fault::Memory` if memory runs out.
     fn read_link<A: Allocator + Copy>(&self, alloc: A, path: &str) -> Result<String<A>, Fault>
         ensures { IsFixed self.now → AnswersValue string_bytes result ((functions self.now).target_of path.now) };
 }
 
-/// A shared file system answers what the one that is shared does.
+/// A shared file system returns what the one that is shared does.
 impl<S: FileSystem, B: Allocator> FileSystem for Arc<S, B> {
     ghost IsFixed = { λ s. S.IsFixed (arc_value s) };
 
@@ -102,7 +102,7 @@ impl<S: FileSystem, B: Allocator> FileSystem for Arc<S, B> {
     }
 }
 
-/// A borrowed file system answers what the one behind it does.
+/// A borrowed file system returns what the one behind it does.
 impl<S: FileSystem> FileSystem for &S {
     ghost IsFixed = { λ s. S.IsFixed s.now };
 

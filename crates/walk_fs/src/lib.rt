@@ -1,4 +1,4 @@
-//! What a walk asks of a file system.
+//! What a walk needs of a file system.
 #![tactic(auto)]
 
 pub mod fault;

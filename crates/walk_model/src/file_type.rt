@@ -1,7 +1,7 @@
 //! What an entry of a directory is.
 ghost use Rattle.std.specs.Prelude.{◌≡◌};
 
-/// The type of an entry, as `std::fs::FileType` tells it.
+/// The type of an entry, like `std::fs::FileType`.
 #[derive(Clone, Copy, Debug, PartialEq, Eq)]
 pub enum FileType {
     Dir,
@@ -14,21 +14,21 @@ pub enum FileType {
 impl FileType {
     ghost use Rattle.walk_model.specs.FileType.{is_dir, is_file, is_symlink};
 
-    /// Whether it is a directory.
+    /// Returns whether it is a directory.
     pub fn is_dir(&self) -> bool
         ensures { result ≡ is_dir self.now }
     {
         matches!(self, FileType::Dir)
     }
 
-    /// Whether it is a regular file.
+    /// Returns whether it is a regular file.
     pub fn is_file(&self) -> bool
         ensures { result ≡ is_file self.now }
     {
         matches!(self, FileType::File)
     }
 
-    /// Whether it is a symbolic link.
+    /// Returns whether it is a symbolic link.
     pub fn is_symlink(&self) -> bool
         ensures { result ≡ is_symlink self.now }
     {

@@ -7,8 +7,8 @@ pub fn one_stable_order<R, E>()
     ensures { OrdersAreArranged R E }
 {}
 
-/// Every reading is lawful: its entries are one below its directory, so that whatever is to be read below it has fewer
-/// levels left; at the greatest depth there are none.
+/// Every reading is lawful. Its entries are one below its directory, so that whatever is to be read below it has fewer
+/// levels left. At the greatest depth there are none.
 pub fn readings_are_lawful<R, E>()
     ensures { ReadingsAreLawful R E }
 {}

@@ -1,4 +1,4 @@
-//! A path is a text; its components stand between its slashes.
+//! Paths as texts, whose components are between their slashes.
 ghost use Rattle.std.specs.Prelude.{◌≡◌, ◌++◌, ◌≤◌, IfOk, length, option_copied, string_bytes};
 ghost use Rattle.walk_model.specs.Paths.{starts_with_slash, with_slash, join, parent, file_name, same_path};
 
@@ -11,7 +11,7 @@ fn is_absolute(path: &str) -> bool
     matches!(path.as_bytes(), [b'/', ..])
 }
 
-/// What stands between a path and a name below it.
+/// Returns what is put between a path and a name below it.
 #[tactic(auto, using(walk_model::proofs::PathJoins::with_slash_kept, walk_model::proofs::PathJoins::with_slash_added))]
 fn separator(path: &str) -> &'static str
     ensures text { path.now ++ result.now ≡ with_slash path.now }
@@ -24,11 +24,11 @@ fn separator(path: &str) -> &'static str
     }
 }
 
-/// What `join` puts together: `a`, what stands between, and `b`. The first two are empty where `b` starts with `/`, and
-/// the one between is a slash or empty.
+/// Returns what `join` puts together: `a`, what is put between, and `b`. The first two are empty if `b` starts with
+/// `/`. The one between is a slash or empty.
 ///
-/// With these a joined path is written without memory. Of `a` and `b` they are `a`, `/` and `b`; of `a/` and `b` they
-/// are `a/`, an empty text and `b`; of `a` and `/b`, two empty texts and `/b`.
+/// With these a joined path is written without memory. Of `a` and `b` they are `a`, `/` and `b`. Of `a/` and `b` they
+/// are `a/`, an empty text and `b`. Of `a` and `/b` they are two empty texts and `/b`.
 pub fn join_parts<'p>(a: &'p str, b: &'p str) -> (&'p str, &'static str, &'p str)
     ensures text { result.0.now ++ (result.1.now ++ result.2.now) ≡ join a.now b.now }
     ensures short { length result.1.now ≤ 1 }
@@ -40,13 +40,15 @@ pub fn join_parts<'p>(a: &'p str, b: &'p str) -> (&'p str, &'static str, &'p str
     }
 }
 
-/// The path `b` as seen from `a`, in one string of exactly its length: `b` alone where it starts with `/`, and else `a`
-/// and `b` with one `/` between them. No `/` is added where `a` is empty or ends with one.
+/// Returns the path `b` as seen from `a`, in one string of exactly its length. It is `b` alone if `b` starts with `/`,
+/// and else `a` and `b` with one `/` between them. No `/` is added if `a` is empty or ends with one.
 ///
 /// `a` and `b` give `a/b`, as do `a/` and `b`; an empty path and `b` give `b`; `a` and `/b` give `/b`; `a` and an empty
 /// path give `a/`. The rule is that of `std::path::Path::join` on Unix.
 ///
-/// Fails only where memory is refused.
+/// # Errors
+///
+/// If memory runs out.
 pub fn join<A: Allocator + Copy>(alloc: A, a: &str, b: &str) -> Result<String<A>, AllocError>
     ensures { IfOk result (λ path. string_bytes path ≡ join a.now b.now) }
 {
@@ -58,11 +60,11 @@ pub fn join<A: Allocator + Copy>(alloc: A, a: &str, b: &str) -> Result<String<A>
     Ok(path)
 }
 
-/// The shortest beginning of a path that has all its components but the last, or `None` where the last is the root or
-/// there is none.
+/// Returns the shortest beginning of a path that has all its components but the last, or `None` if the last is the root
+/// or there is none.
 ///
 /// Of `a/b/` it is `a`, of `a` the empty path, of `/a` it is `/`, and of `./a` it is `.`; `/` and the empty path have
-/// none. What trails, as slashes and `.`, is left out. The rule is that of `std::path::Path::parent` on Unix.
+/// none. Slashes and `.` at its end are left out. The rule is that of `std::path::Path::parent` on Unix.
 #[tactic(auto, using(walk_model::proofs::PathParents::path_parent_is))]
 pub fn parent(path: &str) -> Option<&str>
     ensures { option_copied result ≡ parent path.now }
@@ -70,7 +72,7 @@ pub fn parent(path: &str) -> Option<&str>
     Path::new(path).parent().map(|above| above.as_str())
 }
 
-/// The last component of a path where that is a plain name, and `None` where it is the root, `.` or `..`, or there is
+/// Returns the last component of a path if it is a plain name, and `None` if it is the root, `.` or `..`, or there is
 /// none.
 ///
 /// Of `a/b/`, `a/b/.` and `b` it is `b`; of `a/..`, `/` and the empty path there is none. The rule is that of
@@ -82,7 +84,7 @@ pub fn file_name(path: &str) -> Option<&str>
     Path::new(path).file_name()
 }
 
-/// Whether two paths have the same components, one after the other.
+/// Returns whether two paths have the same components, in the same order.
 ///
 /// `a//b/` and `a/b` are the same path, and so are `/a/./b` and `/a/b`; `./a` and `a` aren't, nor `a/../b` and `b`, nor
 /// the empty path and `.`. The rule is that of `==` on `std::path::Path` on Unix.

@@ -12,8 +12,8 @@ use std::io::Write;
 use walk_text::failure::Failure;
 use walk_text::print::print_answer;
 
-/// How many bytes of lines are gathered before they are written. A buffer of twice the length takes the last line too,
-/// and stays below the 64 KiB at which a free makes the C library's allocator put all its small pieces together.
+/// How many bytes of lines are gathered before they are written. A buffer of twice the length takes the last line too.
+/// It stays below 64 KiB, at which a free makes the C library's allocator put all its small pieces together.
 const GATHERED: usize = 16384;
 
 /// Writes the lines that were gathered.
@@ -51,7 +51,7 @@ fn gather<W: Write, C: ClientState, A: Allocator + Copy>(
     write_gathered(gathered, out)
 }
 
-/// Prints the line of an answer, and tells whether it is an entry.
+/// Prints the line of an answer, and returns whether it is an entry.
 pub fn print_one<W: Write, C: ClientState, A: Allocator + Copy>(
     answer: Answer<DirEntry<C, A>, A>,
     gathered: &mut Vec<u8, A>,
@@ -66,7 +66,7 @@ pub fn print_one<W: Write, C: ClientState, A: Allocator + Copy>(
     Ok(answer.is_ok())
 }
 
-/// Writes the lines that are left, and has the output hold nothing back.
+/// Writes the lines that are left, and flushes the output.
 pub fn write_rest<W: Write, A: Allocator>(
     gathered: &mut Vec<u8, A>,
     out: &mut W,
@@ -81,7 +81,7 @@ pub fn write_rest<W: Write, A: Allocator>(
     Ok(())
 }
 
-/// The room in which lines are gathered.
+/// Returns the room in which lines are gathered.
 pub fn room<A: Allocator>(alloc: A) -> Result<Vec<u8, A>, Failure>
     ensures empty { IfOk result (λ gathered. gathered.items ≡ []) }
     ensures status { IfErr result (λ failure. status_of failure ≡ 1) }
@@ -89,7 +89,7 @@ pub fn room<A: Allocator>(alloc: A) -> Result<Vec<u8, A>, Failure>
     Ok(Vec::with_capacity(alloc, 2 * GATHERED)?)
 }
 
-/// The status once answers were printed, or could not be, which standard error then tells of.
+/// Returns the status after answers were printed, or could not be; standard error then reports that.
 pub fn status_once<E: Write>(printed: Result<bool, Failure>, err: &mut E) -> u8
     requires { IfErr printed (λ failure. status_of failure ≡ 1) }
     ensures status { result ≤ 1 }

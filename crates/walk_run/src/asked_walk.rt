@@ -22,7 +22,7 @@ use walk_text::failure::Failure;
 use walk_text::read_by::ReadBy;
 use walk_text::words::Request;
 
-/// What directories are read by. A crew is there for one walk alone.
+/// Returns what directories are read by. A crew is there for one walk alone.
 fn parallelism_of<T: Wait + Clock + Clone + Drop, A: Allocator + Copy>(
     rt: &T,
     alloc: A,
@@ -42,8 +42,8 @@ fn parallelism_of<T: Wait + Clock + Clone + Drop, A: Allocator + Copy>(
     }
 }
 
-/// The walk that is asked for. Its options are set one after another: the order, hidden names, links, the least depth,
-/// the greatest, and last what directories are read by, which holds whatever the greatest depth is.
+/// Returns the walk that is asked for. Its options are set one after another: the order, hidden names, links, the least
+/// depth, the greatest, and last what directories are read by. The last holds whatever the greatest depth is.
 fn walk_of<'t, T: Wait + Threads + Clock + Clone + Drop, S: FileSystem, A: Allocator + Copy>(
     rt: &'t T,
     fs: S,
@@ -72,10 +72,12 @@ fn walk_of<'t, T: Wait + Threads + Clock + Clone + Drop, S: FileSystem, A: Alloc
     Ok(walk)
 }
 
-/// Walks over a file system as is asked for, prints one line for each answer, and answers the status: 0 where the walk
+/// Walks over a file system as is asked for, and prints one line for each answer. Returns the status: 0 if the walk
 /// ended and no answer was an error, and 1 otherwise.
 ///
-/// Fails for want of memory alone, before anything is printed.
+/// # Errors
+///
+/// If memory runs out before anything is printed, and for no other cause.
 pub fn print_walk<
     T: Wait + Threads + Clock + Clone + Drop + Send + Sync + 'static,
     S: FileSystem + Send + Sync + 'static,

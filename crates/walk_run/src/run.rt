@@ -56,13 +56,14 @@ fn try_run<
     print_walk(rt, alloc, Source::<S, A>::Disk(disk), &request, out, err)
 }
 
-/// Walks as the words ask, prints one line for each answer, and answers the status: 0 where the walk ended and no
-/// answer was an error; 1 where one was, where memory was refused, or where the output can't be written; 2 for bad
-/// words or a bad tree, and then nothing is printed. What is wrong is told on `err`, unless the output can't be
-/// written.
+/// Walks as the words ask, prints one line for each answer, and returns the status.
 ///
-/// The walk goes over the tree that the input says, if the words ask for that, and over the disk otherwise; the input
-/// isn't read then. Where the words ask for batches or a crew, threads of `rt` read.
+/// The status is 0 if the walk ended and no answer was an error. It is 1 if one was, if memory ran out, or if the
+/// output can't be written. It is 2 for bad words or a bad tree, and then nothing is printed. What is wrong is reported
+/// on `err`, unless the output can't be written.
+///
+/// The walk goes over the tree that the input describes, if the words ask for that, and over the disk otherwise; the
+/// input isn't read then. If the words ask for batches or a crew, threads of `rt` read.
 pub fn run<
     T: Wait + Threads + Clock + Clone + Drop + Send + Sync + 'static,
     S: FileSystem + Send + Sync + 'static,

@@ -1,9 +1,9 @@
-//! What a walk goes over.
+//! What a walk reads from.
 use jwalk::file_system::{Fault, FileSystem, Listed, MemoryFs, Metadata};
 use std::alloc::Allocator;
 use std::io;
 
-/// The disk, or a tree that standard input says. Both are walked by one and the same code.
+/// The disk, or a tree that standard input describes. Both are walked by the same code.
 #[derive(Drop)]
 pub enum Source<S: FileSystem, A: Allocator + Copy> {
     Disk(S),

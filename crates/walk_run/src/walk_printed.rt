@@ -1,4 +1,4 @@
-//! A walk's answers, printed, where threads read its directories.
+//! A walk's answers, printed, if threads read its directories.
 ghost use Rattle.std.specs.Prelude.{◌≡◌, IfOk, IfErr};
 ghost use Rattle.jwalk_read.specs.Job.{callback};
 ghost use Rattle.jwalk.specs.DirEntryIter.{job_of, Answers};
@@ -15,7 +15,7 @@ use std::io::Write;
 use std::thread::Threads;
 use walk_text::failure::Failure;
 
-/// Prints a line for each answer of a walk, and tells whether none was an error. It asks by the walk's own `next`,
+/// Prints a line for each answer of a walk, and returns whether none was an error. It calls the walk's own `next`,
 /// which has threads read a batch; that of an iterator, which a `for` calls, can start none.
 pub fn print_walked<
     T: Threads + Sync + Drop,

@@ -6,9 +6,9 @@ use crate::read_by::ReadBy;
 /// One option of a call.
 #[derive(Clone, Copy)]
 pub enum Choice {
-    /// The walk runs over a tree that standard input says.
+    /// The walk runs over a tree that standard input describes.
     Tree,
-    /// The entries of a directory come by name.
+    /// The entries of a directory are sorted by name.
     Sort,
     /// Hidden names come too.
     Hidden,
@@ -25,9 +25,9 @@ pub enum Choice {
 /// What options ask for together.
 #[derive(Clone, Copy)]
 pub struct Asked {
-    /// Whether the walk runs over a tree that standard input says.
+    /// Whether the walk runs over a tree that standard input describes.
     pub tree: bool,
-    /// Whether the entries of a directory come by name.
+    /// Whether the entries of a directory are sorted by name.
     pub sort: bool,
     /// Whether hidden names come too.
     pub hidden: bool,
@@ -44,7 +44,7 @@ pub struct Asked {
 impl Asked {
     ghost use Rattle.walk_text.specs.Asked.{nothing, also};
 
-    /// What no option asks for.
+    /// Returns what no option asks for.
     pub fn nothing() -> Self
         ensures { result ≡ nothing }
     {
@@ -59,7 +59,7 @@ impl Asked {
         }
     }
 
-    /// The same with one more option. None where that was asked for already.
+    /// Returns the same with one more option, or none if that was asked for already.
     pub fn also(self, choice: Choice) -> Option<Self>
         ensures { result ≡ also choice self }
     {

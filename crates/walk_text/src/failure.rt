@@ -1,4 +1,4 @@
-//! What stands in the way of a walk.
+//! What prevents a walk.
 ghost use Rattle.std.specs.Prelude.{◌≡◌};
 
 use std::alloc::AllocError;
@@ -10,9 +10,9 @@ use std::io::Write;
 pub enum Failure {
     /// The words ask for no walk.
     BadWords,
-    /// The line of this number, counted from 1, can't be added to the tree. It is 0 where the lines can't be read.
+    /// The line of this number, counted from 1, can't be added to the tree. It is 0 if the lines can't be read.
     BadTree(usize),
-    /// Memory was refused outside the walk.
+    /// Memory ran out outside the walk.
     Memory,
     /// Standard output can't be written.
     Output,
@@ -21,7 +21,7 @@ pub enum Failure {
 impl Failure {
     ghost use Rattle.walk_text.specs.Failure.{status_of};
 
-    /// The status that the program ends with.
+    /// Returns the status that the program ends with.
     fn status(self) -> u8
         ensures { result ≡ status_of self }
     {
@@ -31,7 +31,7 @@ impl Failure {
         }
     }
 
-    /// Tells of it on standard error, and answers the status. Nothing tells that standard output can't be written.
+    /// Reports it on standard error, and returns the status. It reports nothing if standard output can't be written.
     pub fn report<E: Write>(self, err: &mut E) -> u8
         ensures { result ≡ status_of self }
     {

@@ -1,4 +1,4 @@
-//! The tree that standard input says.
+//! The tree that standard input describes.
 ghost use Rattle.std.specs.Prelude.{◌≡◌, ◌⊎◌, IfOk, IfErr, IfSome};
 ghost use Rattle.memory_fs.specs.MemoryFs.{tree_of};
 ghost use Rattle.walk_text.specs.TextLines.{text_lines};
@@ -23,8 +23,8 @@ fn read_whole<A: Allocator + Copy, R: Read>(alloc: A, input: &mut R) -> Result<V
     }
 }
 
-/// Reads the input whole, and then builds the tree that its lines say. The first bad line is named; its number is 0
-/// where the input can't be read.
+/// Reads the input whole, and then builds the tree that its lines describe. The first bad line is named; its number is
+/// 0 if the input can't be read.
 pub fn read_tree<A: Allocator + Copy, R: Read>(
     alloc: A,
     input: &mut R,

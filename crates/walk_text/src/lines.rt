@@ -11,14 +11,14 @@ pub struct NumberedLines<'a> {
     ghost fits: { passed + length left.now < 2 ^ 64 },
 }
 
-/// Where the first line of a text ends, if a line feed ends it.
+/// Returns where the first line of a text ends, if a line feed ends it.
 fn line_end(text: &[u8]) -> Option<usize>
     ensures { result ≡ position is_line_feed text.now }
 {
     text.iter().position(|b| *b == b'\n')
 }
 
-/// The first line of a text, and what follows its line feed.
+/// Returns the first line of a text, and what follows its line feed.
 fn split_line(text: &[u8]) -> (&[u8], &[u8])
     ensures line { result.0.now ≡ before_first is_line_feed text.now }
     ensures rest { result.1.now ≡ after_first is_line_feed text.now }
@@ -33,7 +33,7 @@ impl<'a> NumberedLines<'a> {
     ghost use Rattle.walk_text.specs.NumberedLines.{lines_left};
     ghost use Rattle.walk_text.specs.TextLines.{numbered_from};
 
-    /// The lines of a text.
+    /// Returns the lines of a text.
     pub fn new(text: &'a [u8]) -> Self
         ensures { lines_left result ≡ numbered_from 1 text.now }
     {

@@ -2,8 +2,8 @@
 ghost use Rattle.std.specs.Prelude.{SomeIff};
 ghost use Rattle.walk_text.specs.Number.{IsNumber, value_of};
 
-/// The number that 1 to 20 decimal digits stand for, leading zeros among them. None where it needs more than 64 bits,
-/// and for any other text, as one with a sign.
+/// Returns the number that is written in 1 to 20 decimal digits, with leading zeros or without. None if it needs more
+/// than 64 bits, and for any other text, such as one with a sign.
 pub fn parse_number(text: &str) -> Option<u64>
     ensures { SomeIff result (IsNumber text.now) (value_of text.now) }
 {

@@ -18,7 +18,7 @@ use std::io::{ErrorKind, Write};
 use walk_model::file_type::FileType;
 use walk_paths::path_text::join_parts;
 
-/// The name that a kind is printed by.
+/// Returns the name that a kind is printed by.
 fn kind_name(kind: ErrorKind) -> &'static str
     ensures { result.now ≡ kind_name kind }
 {
@@ -34,7 +34,7 @@ fn kind_name(kind: ErrorKind) -> &'static str
     }
 }
 
-/// The letter of an entry's type: a capital where the path is that of a link, followed or not.
+/// Returns the letter of an entry's type: a capital if the path is that of a link, followed or not.
 fn letter<C: ClientState, A: Allocator + Copy>(found: &DirEntry<C, A>) -> &'static str
     ensures { result.now ≡ letter_of (entry found.now).through_link (entry found.now).file_type }
 {
@@ -71,7 +71,7 @@ fn write_path<W: Write>(out: &mut W, parent: &str, name: &str) -> io::Result<()>
     out.write_all(name.as_bytes())
 }
 
-/// The kind of an error, and `Other` where it has none.
+/// Returns the kind of an error, and `Other` if it has none.
 fn kind_of<A: Allocator + Copy>(error: &Error<A>) -> ErrorKind
     ensures { kind_name result ≡ failure_name (failure error.now) }
 {
@@ -129,7 +129,7 @@ fn print_loop<W: Write>(out: &mut W, depth: usize, ancestor: &str, child: &str) 
     out.write_all(b"\n")
 }
 
-/// The line of an error that is neither one of the file system nor a loop.
+/// Returns the line of an error that is neither one of the file system nor a loop.
 fn bare_line<A: Allocator + Copy>(error: &Error<A>) -> &'static str
     requires no_kind { kind_of (failure error.now) ≡ None }
     requires no_loop { ancestor_of (failure error.now) ≡ None }

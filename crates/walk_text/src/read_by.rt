@@ -1,10 +1,10 @@
 //! What directories are read by.
 
-/// What reads a walk's directories, where that is asked for.
+/// What reads a walk's directories, if that is asked for.
 #[derive(Clone, Copy, PartialEq, Eq)]
 pub enum ReadBy {
-    /// Batches of so many directories, at most.
+    /// Batches of that many directories, at most.
     Batch(usize),
-    /// A crew of so many workers.
+    /// A crew of that many workers.
     Crew(usize),
 }

@@ -13,7 +13,7 @@ use std::alloc::Allocator;
 use std::io::ErrorKind;
 use std::str;
 
-/// Does to a tree what a line says.
+/// Changes a tree as a line says.
 fn add<A: Allocator + Copy>(fs: &mut MemoryFs<A>, line: TreeLine<'_>) -> Result<(), BuildError>
     ensures ok { OnOk result (IsBuilt (added line.entry (tree_of fs.old)) (tree_of fs.new)) }
     ensures err { IfErr result (λ e. e ≢ BuildError.Memory → IsErr (added line.entry (tree_of fs.old))) }
@@ -26,7 +26,7 @@ fn add<A: Allocator + Copy>(fs: &mut MemoryFs<A>, line: TreeLine<'_>) -> Result<
     }
 }
 
-/// Does to a tree what the line of this number says. An empty line does nothing.
+/// Changes a tree as the line of this number says. An empty line changes nothing.
 fn add_line<A: Allocator + Copy>(
     fs: &mut MemoryFs<A>,
     number: usize,
@@ -52,8 +52,8 @@ fn add_line<A: Allocator + Copy>(
     }
 }
 
-/// Builds the tree that the lines say, one after another. The last may end without a line feed. The first bad line is
-/// named by its number, counted from 1; empty lines count.
+/// Builds the tree that the lines describe, one after another. The last may end without a line feed. The first bad line
+/// is named by its number, counted from 1; empty lines count.
 pub fn build_tree<A: Allocator + Copy>(alloc: A, lines: &[u8]) -> Result<MemoryFs<A>, Failure>
     ensures built { IfOk result (λ fs. Builds (text_lines lines.now) (tree_of fs)) }
     ensures bad { IfErr result (TellsOf (text_lines lines.now)) }

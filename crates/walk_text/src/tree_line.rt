@@ -16,7 +16,7 @@ pub enum TreeLine<'a> {
     Deny(&'a str),
 }
 
-/// What follows a beginning.
+/// Returns what follows a beginning.
 fn rest_after<'a>(text: &'a str, beginning: &str) -> Option<&'a str>
     ensures { MatchOption result ((rest : List ℕ) → text.now ≢ beginning.now ++ rest)
         (λ rest. text.now ≡ beginning.now ++ rest.now) }
@@ -24,7 +24,7 @@ fn rest_after<'a>(text: &'a str, beginning: &str) -> Option<&'a str>
     text.strip_prefix(beginning)
 }
 
-/// A path, unless it is empty.
+/// Returns a path, unless it is empty.
 fn path_in(text: &str) -> Option<&str>
     ensures { MatchOption result (text.now ≡ []) (λ path. (path.now ≡ text.now) × (path.now ≢ [])) }
 {
@@ -50,8 +50,8 @@ fn parse_link(text: &str) -> Option<TreeLine<'_>>
     Some(TreeLine::Link(target, path_in(path)?))
 }
 
-/// Reads a line: `d PATH`, `f LEN PATH`, `l TARGET<tab>PATH` or `x PATH`, with one space behind the letter and behind
-/// the length, and as the path all that is left, at least one byte. None for any other text.
+/// Reads a line: `d PATH`, `f LEN PATH`, `l TARGET<tab>PATH` or `x PATH`. One space comes after the letter and after
+/// the length. The path is all that is left, at least one byte. None for any other text.
 pub fn parse_tree_line(text: &str) -> Option<TreeLine<'_>>
     ensures some { IfSome result (Says text.now) }
     ensures none { IfNone result (¬ (IsTreeLine text.now)) }

@@ -11,13 +11,13 @@ pub type Entry = DirEntry<((), ())>;
 /// A walk yet to begin.
 pub type Builder<S> = WalkDirGeneric<((), ()), S, NoProcess>;
 
-/// A walk that is yet to begin, with the options as they are.
+/// Returns a walk that has not begun, with the default options.
 pub fn builder<S: FileSystem>(alloc: Global, fs: S, root: &str) -> Result<Builder<S>, AllocError> {
     let root = String::from_str(alloc, root)?;
     Ok(WalkDirGeneric::new(fs, root))
 }
 
-/// A walk that is yet to begin over the tree that these steps build.
+/// Returns a walk that has not begun, over the tree that these steps build.
 pub fn over_tree(
     alloc: Global,
     steps: &[Step],
@@ -26,7 +26,7 @@ pub fn over_tree(
     Ok(builder(alloc, tree(alloc, steps)?, root)?)
 }
 
-/// What a `for` loop over a walk that is yet to begin comes by.
+/// Returns what a `for` loop over a walk that has not begun yields.
 pub fn in_a_for_loop<S: FileSystem>(
     alloc: Global,
     walk: Builder<S>,

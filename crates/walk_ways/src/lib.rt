@@ -1,4 +1,4 @@
-//! The ways in which the tests have one and the same walk read.
+//! The ways in which the tests read one and the same walk.
 #![tactic(auto)]
 
 pub mod builders;

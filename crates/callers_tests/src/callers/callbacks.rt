@@ -48,7 +48,7 @@ fn hands_on(alloc: Global) -> Result<bool, BuildError> {
     Ok(text_of(alloc, found.as_slice())?.as_str() == HANDED_ON)
 }
 
-/// Whether that is handed on where a walk is read in this way.
+/// Whether that is handed on if a walk is read in this way.
 fn hands_on_by<R: Threads + AllocGlobal + Sync, S: FileSystem + Send + Sync>(
     rt: &R,
     fs: &S,
@@ -97,7 +97,7 @@ fn a_root_alone(rt: HostRuntime) {
     assert!(rt; matches!(shows_root(rt.alloc(), "0 d /t"), Ok(true)));
 }
 
-/// Whether these are the lines of the grouped tree where each list is turned round.
+/// Whether these are the lines of the grouped tree if each list is reversed.
 fn shows_turned(alloc: Global, wanted: &str) -> Result<bool, BuildError> {
     let root = String::from_str(alloc, "/t")?;
     let found = walk_turned(alloc, tree(alloc, GROUPED)?, root)?;
@@ -111,7 +111,7 @@ fn lists_that_are_turned_round(rt: HostRuntime) {
     assert!(rt; matches!(shows_turned(rt.alloc(), wanted), Ok(true)));
 }
 
-/// A directory and a file of the name that is left out where it is a directory's, each beside another.
+/// A directory and a file of the name that is left out if it is a directory's, each beside another.
 const TARGETS: &[Step] = &[
     Step::Dir("/r"),
     Step::Dir("/r/target"),
@@ -121,7 +121,7 @@ const TARGETS: &[Step] = &[
     Step::File(1, "/r/a/b"),
 ];
 
-/// Whether these are the lines of that tree where directories of the name are left out.
+/// Whether these are the lines of that tree if directories of the name are left out.
 fn shows_without_target(alloc: Global, wanted: &str) -> Result<bool, BuildError> {
     let root = String::from_str(alloc, "/r")?;
     let found = walk_without_target(alloc, tree(alloc, TARGETS)?, root)?;

@@ -22,7 +22,7 @@ fn a_whole_walk_in_one_list(rt: HostRuntime) {
     assert!(rt; matches!(shows_small(rt.alloc(), wanted), Ok(true)));
 }
 
-/// Whether these are the lines of both walks over the small tree, one of which reads so many directories together.
+/// Whether these are the lines of both walks over the small tree, one of which reads that many directories together.
 fn both_show_small(alloc: Global, width: usize, wanted: &str) -> Result<bool, BuildError> {
     let fs = tree(alloc, SMALL)?;
     let (one, other) = walk_both::<((), ()), _, _>(alloc, &fs, "/r", width)?;
@@ -66,7 +66,7 @@ fn a_file_system_of_ones_own_that_counts(rt: HostRuntime) {
     assert!(rt; matches!(answers_and_listings(rt.alloc()), Ok((8, 3))));
 }
 
-/// How many answers a walk over the wide directory gives in batches.
+/// How many answers a walk over the wide directory yields in batches.
 fn count(alloc: Global) -> Result<usize, BuildError> {
     let walk = builder(alloc, wide_directory(alloc)?, "/d")?;
     Ok(count_in_batches(alloc, walk.into_iter())?)

@@ -33,7 +33,7 @@ use walk_fs::file_system::FileSystem;
 /// A walk that a crew may read for.
 pub(super) type CrewWalk<R, C, S, P, A, T> = DirEntryIter<C, S, P, A, T, Session<R, C, S, P, A>>;
 
-/// Puts the error that tells of a busy crew in the place of an entry that has a directory to be read.
+/// Puts the error that reports a busy crew in place of an entry whose directory is to be read.
 fn make_busy<C: ClientState, A: Allocator + Copy>(found: &mut Result<DirEntry<C, A>, Error<A>>)
     ensures { item found.new ≡ busied (item found.old) }
 {
@@ -44,7 +44,7 @@ fn make_busy<C: ClientState, A: Allocator + Copy>(found: &mut Result<DirEntry<C,
     }
 }
 
-/// Puts it in the place of all such entries.
+/// Puts it in place of all such entries.
 fn make_all_busy<C: ClientState, A: Allocator + Copy>(
     list: &mut Vec<Result<DirEntry<C, A>, Error<A>>, A>,
 )
@@ -55,7 +55,7 @@ fn make_all_busy<C: ClientState, A: Allocator + Copy>(
     }
 }
 
-/// What is left of a root's list once its readings began, or didn't.
+/// Returns what is left of a root's list after its readings began, or didn't.
 fn left<C: ClientState, A: Allocator + Copy>(
     mut list: Vec<Result<DirEntry<C, A>, Error<A>>, A>,
     why_not: Option<NotStarted>,
@@ -75,7 +75,7 @@ fn left<C: ClientState, A: Allocator + Copy>(
     }
 }
 
-/// Whether the readings didn't begin since memory was refused.
+/// Returns whether the readings didn't begin because memory ran out.
 fn is_refused(why_not: Option<NotStarted>) -> bool
     ensures { result ≡ is_refusal why_not }
 {
@@ -85,7 +85,7 @@ fn is_refused(why_not: Option<NotStarted>) -> bool
     }
 }
 
-/// The walk that holds what is left of the root's list once its readings began, or didn't.
+/// Returns the walk that holds what is left of the root's list after its readings began, or didn't.
 fn begun<
     C: ClientState,
     S: FileSystem,
@@ -106,7 +106,7 @@ fn begun<
     DirEntryIter::with_list(ReadDirIter::CrewWalk(reads), list, is_refused(why_not))
 }
 
-/// The walk that begins with the root's list and reads by itself; and why it doesn't begin, if so.
+/// Returns the walk that begins with the root's list and reads by itself; and why it doesn't begin, if so.
 pub(super) fn from_root_alone<
     C: ClientState,
     S: FileSystem,
@@ -132,7 +132,7 @@ pub(super) fn from_root_alone<
     (walk, None)
 }
 
-/// Has a crew read the directories of a root's list.
+/// Starts a crew's readings of the directories of a root's list.
 fn start_reads<
     R: Wait + Threads + Clock + Drop + Send + Sync + 'static,
     C: ClientState + Send + 'static,
@@ -176,7 +176,7 @@ where
     ghost use Rattle.jwalk_read.specs.Job.{options_of};
     ghost use Rattle.jwalk.specs.CrewStart.{IsBegun};
 
-    /// The walk whose directories a crew reads, once its readings began, or didn't; and why they didn't.
+    /// Returns the walk whose directories a crew reads, after its readings began, or didn't; and why they didn't.
     fn with_reads(
         mut reads: CrewReads<C, S, P, A, Session<R, C, S, P, A>>,
         read: ReadDir<C, A>,
@@ -197,9 +197,9 @@ where
         (begun(reads, read, why_not), why_not)
     }
 
-    /// The walk that begins with the root's list, whose directories a crew reads; and why it doesn't begin, if so.
-    /// Where no place of the crew is free in time, the error that tells of it stands in the place of each entry with a
-    /// directory. Where memory is refused, what the walk answers is the error that tells of it, and nothing else.
+    /// Returns the walk that begins with the root's list, whose directories a crew reads; and why it doesn't begin, if
+    /// so. If no place of the crew was free in time, each entry with a directory is replaced by the error that reports
+    /// it. If memory ran out, the walk yields the error that reports it, and nothing else.
     pub(super) fn from_root_by(
         alloc: A,
         threads: T,

@@ -35,7 +35,8 @@ impl<C: ClientState, S: FileSystem, A: Allocator + Copy, R: Wait + Clock + Drop>
     ghost use Rattle.walk_model.specs.Options.{defaults};
     ghost use Rattle.jwalk.specs.WalkDir.{file_system_of, root_of, state_of, options_of};
 
-    /// A walk that may be told to read by a crew, with `parallelism`. It is serial until then, as a `new` one.
+    /// Returns a walk that can be set to read by a crew, with `parallelism`. Until then it is serial, like one made by
+    /// `new`.
     pub fn with_crew(fs: S, root: String<A>) -> Self
         ensures file_system { file_system_of result ≡ fs }
         ensures root { root_of result ≡ string_bytes root }
@@ -47,7 +48,7 @@ impl<C: ClientState, S: FileSystem, A: Allocator + Copy, R: Wait + Clock + Drop>
     }
 }
 
-/// The crew, where the walk is to read by it.
+/// Returns the crew, if the walk is to read by it.
 fn crew_to_ask<W: Drop>(mode: Mode, crew: Option<W>) -> Option<W>
     ensures some { IfSome result (λ w. (mode_value mode ≡ parallelism.crew) × (crew ≡ Some w)) }
     ensures none { IfNone result (mode_value mode ≡ parallelism.crew → crew ≡ None) }
@@ -73,7 +74,7 @@ where
     ghost use Rattle.jwalk.specs.WalkDir.{callback_of, options_of, Starts, Begins};
     ghost use Rattle.jwalk_entries.specs.DirEntryIter.{StartsSteady};
 
-    /// The walk begun, and why it doesn't begin, if so.
+    /// Begins the walk, and returns why it doesn't begin, if so.
     fn begin_by(self) -> (CrewWalk<R, C, S, P, A, T>, Option<NotStarted>)
         requires { P.IsLawful (callback_of self) }
         ensures starts { Starts self result.0 }
@@ -102,13 +103,13 @@ where
         }
     }
 
-    /// The walk begun: its root's list is made, and the crew's workers begin to read. The walk waits for a place of its
-    /// crew first, as long as its `busy_timeout` says; a walk that no crew is to read for takes none.
+    /// Begins the walk: makes its root's list, and starts the crew's workers. It first blocks until a place of its crew
+    /// is free, as long as its `busy_timeout` says. A walk that isn't to be read by a crew takes no place.
     ///
     /// # Errors
     ///
-    /// An error whose `is_busy` is true where no place was free in time, or no worker could be started; one whose
-    /// `is_memory` is true where memory runs out. Then no place is taken.
+    /// An error whose `is_busy` is true, if no place was free in time, or no worker could be started. An error whose
+    /// `is_memory` is true, if memory runs out. After an error no place is taken.
     pub fn try_into_iter(
         self,
     ) -> Result<DirEntryIter<C, S, P, A, T, Session<R, C, S, P, A>>, Error<A>>
@@ -127,9 +128,9 @@ where
         }
     }
 
-    /// The walk begun, as by `try_into_iter`. Where the crew is busy, the walk's answers are those of the root's list:
-    /// the error that tells of it in the place of each entry whose directory would be read. Where memory is refused,
-    /// its only answer is the error that tells of it.
+    /// Begins the walk, like `try_into_iter`. If the crew is busy, the walk yields the items of the root's list. Each
+    /// entry whose directory would be read is then replaced by an error whose `is_busy` is true. If memory runs out,
+    /// the walk yields one error whose `is_memory` is true, and nothing else.
     pub fn into_iter(self) -> DirEntryIter<C, S, P, A, T, Session<R, C, S, P, A>>
         requires { P.IsLawful (callback_of self) }
         ensures starts { Starts self result }

@@ -1,7 +1,7 @@
 //! Readings of a tree of specifications.
 use std::alloc::{AllocError, Allocator};
 
-/// Want of memory.
+/// Memory ran out.
 pub type Refused = AllocError;
 
 /// How specifications are read. A reading comes with the specifications of its children.
@@ -13,7 +13,7 @@ pub trait Plan<A: Allocator + Copy> {
 
     type Reading: Drop;
 
-    // What a promise on values takes to be given: nothing, or how states count and what comes of them.
+    // What a promise on values takes to be given: nothing, or how states count and what results from them.
     ghost Given: { Type 0 };
 
     // What a specification and a reading count as.
@@ -28,12 +28,12 @@ pub trait Plan<A: Allocator + Copy> {
     // It may be asked for readings.
     ghost IsLawful: { Self → Type 0 };
 
-    // Whether its answers are those of its tree, wherever it answers, by what is given.
+    // Whether its readings are those of its tree, whenever it returns one, by what is given.
     ghost IsFixed: { Self → Given → Type 0 };
 
     ghost tree: { Self → Given → PlanTree SpecValue ReadingValue };
 
-    /// The reading of a specification, and its children in order.
+    /// Returns the reading of a specification, and its children in order.
     ///
     /// # Errors
     ///

@@ -1,4 +1,4 @@
-//! Why a board refuses.
+//! Why a step of a board fails.
 use jwalk_order::index_path::IndexPath;
 use std::alloc::{Allocator, Global};
 
@@ -39,10 +39,10 @@ pub enum HandOutRefusal {
     Memory,
 }
 
-/// A refusal to finish, with what was to be finished.
+/// A failure to finish, with what was to be finished.
 #[derive(Debug, Drop)]
 pub struct FinishFault<T, R, A: Allocator + Copy = Global> {
-    /// Why it was refused.
+    /// Why it failed.
     pub cause: FinishRefusal,
     /// The address that was to be finished.
     pub address: IndexPath<A>,

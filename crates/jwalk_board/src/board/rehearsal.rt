@@ -25,13 +25,15 @@ pub struct Rehearsal<T, R, A: Allocator + Copy = Global> {
     pub board: Board<T, R, A>,
 }
 
-/// Plays the moves of so many workers, one after another, on a new board with these roots. What is taken is read by the
-/// plan. Workers are counted from 0. A move is passed over if its worker doesn't exist, would take with full hands, or
-/// would finish with empty ones, and a step that the board refuses otherwise than for memory changes nothing.
+/// Plays the moves of that many workers, one after another, on a new board with these roots. The plan reads what is
+/// taken.
+///
+/// Workers are counted from 0. A move is skipped if its worker doesn't exist, would take with full hands, or would
+/// finish with empty ones. A step that fails on the board for another cause than memory changes nothing.
 ///
 /// # Errors
 ///
-/// If memory runs out, and for nothing else, whatever the plan answers: what a worker holds is in hand, and nothing
+/// If memory runs out, and for nothing else, whatever the plan returns: what a worker holds is in hand, and nothing
 /// stops the board.
 pub fn rehearse<P: Plan<A>, A: Allocator + Copy>(
     alloc: A,

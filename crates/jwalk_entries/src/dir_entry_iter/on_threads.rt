@@ -1,4 +1,4 @@
-//! A walk's answers, where threads read the directories that are read together.
+//! A walk's answers, if threads read the directories that are read together.
 ghost use Rattle.std.specs.Prelude.{◌≡◌, [], IfOk, IfErr, IfSome, IfNone, OnOk, OnErr, option_map};
 ghost use Rattle.read_parts.specs.Entry.{item};
 ghost use Rattle.jwalk_read.specs.Job.{callback};
@@ -32,7 +32,7 @@ where
     ghost use Rattle.jwalk_entries.specs.DirEntryIter.{by_crew, job_of, items_of, unread_of, width_of, next_address, Known, KnownAt, IsSteadyWalk, ReadsStaySteady, EntersIfAny, GrowsAhead, Answers, Fills};
     ghost use Rattle.jwalk_entries.specs.Step.{IsAtDirectory, PassesNext, ReadsUpTo, StopsAtDirectory};
 
-    /// The next item, passed on.
+    /// Passes the next item on.
     fn pass_on(&mut self) -> Result<Option<Result<DirEntry<C, A>, Error<A>>>, Missed>
         requires { P.IsLawful (callback (job_of self.old)) }
         ensures crew { by_crew self.new ≡ by_crew self.old }
@@ -71,7 +71,7 @@ where
         }
     }
 
-    /// The next item that is answered.
+    /// Returns the next item that is yielded.
     fn next_kept_on(&mut self) -> Result<Option<Result<DirEntry<C, A>, Error<A>>>, Missed>
         requires { P.IsLawful (callback (job_of self.old)) }
         ensures crew { by_crew self.new ≡ by_crew self.old }
@@ -101,11 +101,11 @@ where
         Ok(None)
     }
 
-    /// The next answer, as `Iterator::next` gives it, where threads read the directories that are read together.
+    /// Returns the next answer, like `Iterator::next`, with threads to read the directories that are read together.
     ///
     /// `while let Some(answer) = walk.next()` is the loop that uses several threads. A `for` loop, and an iterator's
-    /// adapters, call `Iterator::next`: the answers and their order are the same there. Over a crew both may wait: for
-    /// a reading, or for a lock.
+    /// adapters, call `Iterator::next`: the answers and their order are the same there. Over a crew both may block for
+    /// a reading or for a lock.
     pub fn next(&mut self) -> Option<Result<DirEntry<C, A>, Error<A>>>
         requires { P.IsLawful (callback (job_of self.old)) }
         ensures { Answers S.FileSystem P.ProcessReadDir C.ReadDirState.Clone C.DirEntryState.Default L.Pool
@@ -124,15 +124,16 @@ where
         }
     }
 
-    /// Puts up to `n` answers behind those in `out`, fewer where the walk ends before that, and tells how many. Threads
-    /// read the directories that are read together.
+    /// Appends up to `n` answers to `out`, fewer if the walk ends before that, and returns how many. Threads read the
+    /// directories that are read together.
     ///
-    /// The walk is asked only once `out` has a free place. Over a crew it may wait: for a reading, or for a lock.
+    /// An answer is taken from the walk only once `out` has a free place. Over a crew the call may block for a reading
+    /// or for a lock.
     ///
     /// # Errors
     ///
-    /// If there is no memory for the place. No answer is lost then: `out` has those that were given, and another call
-    /// gives the next ones. Memory that is refused to the walk itself is told by an answer.
+    /// If memory runs out for the place. No answer is lost then: `out` has those that were appended, and another call
+    /// appends the next ones. If the walk itself runs out of memory, the error is one of the answers.
     pub fn fill(
         &mut self,
         n: usize,

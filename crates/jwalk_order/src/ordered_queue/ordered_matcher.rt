@@ -10,9 +10,9 @@ use crate::ordered::Ordered;
 use std::alloc::{AllocError, Allocator, Global};
 use std::marker::Model;
 
-/// What is still to be passed of a tree whose items say how many children they have: a parent comes first, then its
-/// children in order, each with all that lies below it. It keeps the address looked for, and for each index of it how
-/// many siblings come after.
+/// What is still to be passed of a tree whose items say how many children they have. A parent comes first, then its
+/// children in order, each with all that is below it. The matcher keeps the address looked for, and for each index of
+/// it how many siblings come after.
 #[derive(Drop)]
 pub struct OrderedMatcher<A: Allocator + Copy = Global> {
     looking_for: IndexPath<A>,
@@ -31,7 +31,7 @@ impl<A: Allocator + Copy> Model for OrderedMatcher<A> {
 }
 
 impl<A: Allocator + Copy> OrderedMatcher<A> {
-    /// That of a tree with one root.
+    /// Returns the matcher of a tree with one root.
     ///
     /// # Errors
     ///
@@ -42,7 +42,7 @@ impl<A: Allocator + Copy> OrderedMatcher<A> {
         Self::with_roots(alloc, 1)
     }
 
-    /// That of a tree with `count` roots.
+    /// Returns the matcher of a tree with `count` roots.
     ///
     /// # Errors
     ///
@@ -62,22 +62,22 @@ impl<A: Allocator + Copy> OrderedMatcher<A> {
         })
     }
 
-    /// The address looked for, the empty one where there is none.
+    /// Returns the address looked for, the empty one if there is none.
     pub fn looking_for(&self) -> &IndexPath<A>
         ensures { address result.now ≡ next_address self.now }
     {
         &self.looking_for
     }
 
-    /// Whether everything is passed.
+    /// Returns whether everything is passed.
     pub fn is_none(&self) -> bool
         ensures { IsTrue result ↔ (self.now ≡ []) }
     {
         self.looking_for.is_empty()
     }
 
-    /// Passes the item at the address looked for: its children are looked for next. It takes memory only where there
-    /// are children.
+    /// Passes the item at the address looked for: its children are looked for next. It takes memory only if there are
+    /// children.
     ///
     /// # Errors
     ///
@@ -122,7 +122,7 @@ impl<A: Allocator + Copy> OrderedMatcher<A> {
     }
 }
 
-// Drops the indices behind which no sibling is left.
+// Drops the indices after which no sibling is left.
 fn leave_finished<A: Allocator + Copy>(indices: &mut Vec<usize, A>, counts: &mut Vec<usize, A>)
     requires { IsPaired indices.old.items counts.old.items }
     ensures paired { IsPaired indices.new.items counts.new.items }

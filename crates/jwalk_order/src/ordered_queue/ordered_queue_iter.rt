@@ -9,7 +9,7 @@ use crate::ordered::Ordered;
 use crate::ordered_queue::OrderedQueue;
 use std::alloc::{AllocError, Allocator, Global};
 
-/// What a step answers.
+/// What a step returns.
 #[derive(Debug, Drop)]
 pub enum Step<T, A: Allocator + Copy = Global> {
     /// The next item.
@@ -33,12 +33,13 @@ impl<'a, T, A: Allocator + Copy> OrderedQueueIter<'a, T, A> {
         OrderedQueueIter { queue }
     }
 
-    /// The next item, if one can come now: in a relaxed queue one at the least address, in a strict one only if that is
-    /// the address that comes next in the tree. Where a strict queue gives an item, it looks for its children next.
+    /// Returns the next item, if one can come now. In a relaxed queue that is one at the least address. In a strict one
+    /// it comes only if its address is the one that comes next in the tree. If a strict queue gives an item, it looks
+    /// for its children next.
     ///
     /// # Errors
     ///
-    /// If memory runs out, which it can only where a strict queue would give an item that has children. The queue is
+    /// If memory runs out, which can happen only if a strict queue would give an item that has children. The queue is
     /// then unchanged.
     pub fn step(&mut self) -> Result<Step<T, A>, AllocError>
         ensures same_queue { IsOverTheSame self.old self.new }
@@ -50,8 +51,8 @@ impl<'a, T, A: Allocator + Copy> OrderedQueueIter<'a, T, A> {
     }
 }
 
-/// The items that can come now. `None` says that none can, or that there was no memory for its children to be looked
-/// for: [`OrderedQueueIter::step`] says which. Items may come again after it.
+/// Yields the items that can come now. `None` means that none can, or that memory ran out when its children were to be
+/// looked for: [`OrderedQueueIter::step`] says which. Items may come again after it.
 impl<'a, T, A: Allocator + Copy> Iterator for OrderedQueueIter<'a, T, A> {
     type Item = Ordered<T, A>;
 

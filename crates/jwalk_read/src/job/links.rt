@@ -1,4 +1,4 @@
-// Entries made from paths, and what a link that is followed gives way to.
+// Entries made from paths, and what is found behind a link that is followed.
 ghost use Rattle.std.specs.Prelude.{◌≡◌, ◌&&◌, ◌++◌, ◌∷◌, [], true, Ok, Err, IfOk, MatchResult, if◌then◌else◌};
 ghost use Rattle.walk_model.specs.Entry.{AtDepth, path_of};
 ghost use Rattle.walk_model.specs.FileType.{is_symlink};
@@ -25,7 +25,7 @@ use walk_fs::file_system::FileSystem;
 use walk_model::file_type::FileType;
 use walk_paths::path_text;
 
-/// The name of an entry made from a path: its file name, or its whole path where it has none.
+/// Returns the name of an entry made from a path: its file name, or its whole path if it has none.
 fn own_name(path: &str) -> &str
     ensures { result.now ≡ value.own_name path.now }
 {
@@ -35,7 +35,7 @@ fn own_name(path: &str) -> &str
     }
 }
 
-/// The parent of an entry made from a path: nothing where it has no file name.
+/// Returns the parent of an entry made from a path: nothing if it has no file name.
 fn own_parent(path: &str) -> &str
     ensures { result.now ≡ value.own_parent path.now }
 {
@@ -48,7 +48,7 @@ fn own_parent(path: &str) -> &str
     }
 }
 
-/// A text that is shared.
+/// Returns a text that is shared.
 pub(super) fn shared<A: Allocator + Copy>(
     alloc: A,
     words: &str,
@@ -58,7 +58,7 @@ pub(super) fn shared<A: Allocator + Copy>(
     Ok(Arc::new(alloc, String::from_str(alloc, words)?)?)
 }
 
-/// The path of a name below a path, shared.
+/// Returns the path of a name below a path, shared.
 pub(super) fn joined<A: Allocator + Copy>(
     alloc: A,
     path: &str,
@@ -69,7 +69,7 @@ pub(super) fn joined<A: Allocator + Copy>(
     Ok(Arc::new(alloc, path_text::join(alloc, path, name)?)?)
 }
 
-/// The ancestors of what stands in a directory below these, one list for all of it: none are kept where links aren't
+/// Returns the ancestors of what is in a directory below these, one list for all of it. None are kept if links aren't
 /// followed.
 pub(super) fn ancestors_below<A: Allocator + Copy>(
     alloc: A,
@@ -86,7 +86,7 @@ pub(super) fn ancestors_below<A: Allocator + Copy>(
     above.with(alloc, path.clone()?)
 }
 
-/// The parent of an entry made from a path: a handle of a text near by, where that is the same text.
+/// Returns the parent of an entry made from a path: a handle of a text near by, if that is the same text.
 fn parent_of<A: Allocator + Copy>(
     alloc: A,
     path: &str,
@@ -101,8 +101,8 @@ fn parent_of<A: Allocator + Copy>(
     shared(alloc, parent)
 }
 
-/// Whether a link at a path leads on to what it stands for, of this type: not if that is a directory above the link, as
-/// the link's text tells, nor if the text of the link to a directory can't be read.
+/// Returns whether a link at a path leads on to its target, which is of this type. It doesn't if that is a directory
+/// above the link, as the link's text shows, nor if the text of the link to a directory can't be read.
 fn leads_on<S: FileSystem, A: Allocator + Copy>(
     alloc: A,
     fs: &S,
@@ -130,7 +130,7 @@ fn leads_on<S: FileSystem, A: Allocator + Copy>(
 }
 
 impl<C: ClientState, S: FileSystem, P: ProcessReadDir<C, A>, A: Allocator + Copy> Job<C, S, P, A> {
-    /// The entry of a path, or the error with its depth and path. A text near by may be that of its parent.
+    /// Returns the entry of a path, or the error with its depth and path. A text near by may be that of its parent.
     pub(super) fn made(
         &self,
         depth: usize,
@@ -167,7 +167,8 @@ impl<C: ClientState, S: FileSystem, P: ProcessReadDir<C, A>, A: Allocator + Copy
         }
     }
 
-    /// The entry that a link at a path led to, unless it is a directory above the link, as the link's text tells.
+    /// Returns the entry that a link at a path led to, unless it is a directory above the link, as the link's text
+    /// shows.
     fn reached(
         &self,
         link: &DirEntry<C, A>,
@@ -194,7 +195,7 @@ impl<C: ClientState, S: FileSystem, P: ProcessReadDir<C, A>, A: Allocator + Copy
         Ok(leads_on.and(Ok(found)))
     }
 
-    /// What a link gives way to.
+    /// Returns the entry that replaces a link that is followed.
     fn behind(&self, link: &DirEntry<C, A>) -> Result<Result<DirEntry<C, A>, Error<A>>, AllocError>
         ensures depth { IfOk result (λ r. AtDepth (entry link.now).depth (item r ∷ [])) }
         ensures value { (g : _) → S.IsFixed (file_system self.now) → DefaultsCount C.DirEntryState.Default g
@@ -210,14 +211,14 @@ impl<C: ClientState, S: FileSystem, P: ProcessReadDir<C, A>, A: Allocator + Copy
         }
     }
 
-    /// Whether an entry of this type gives way to what it leads to.
+    /// Returns whether an entry of this type is a link that is followed.
     fn gives_way(&self, file_type: FileType) -> bool
         ensures { result ≡ ((options_of self.now).follow_links && is_symlink file_type) }
     {
         self.options.follow_links() && file_type.is_symlink()
     }
 
-    /// An entry after the link rule: where links are followed, a link gives way to what it leads to.
+    /// Returns an entry after the link rule: if links are followed, a link is replaced by what it leads to.
     pub(super) fn followed(
         &self,
         found: DirEntry<C, A>,

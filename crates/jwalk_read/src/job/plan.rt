@@ -18,8 +18,8 @@ use read_parts::read_dir_spec::ReadDirSpec;
 use std::alloc::Allocator;
 use walk_fs::file_system::FileSystem;
 
-/// A job reads directories by `read_one`, with its own allocator. A reading is what came of it, a list or an error, and
-/// its children are the directories of the list.
+/// A job reads directories by `read_one`, with its own allocator. A reading is its outcome, a list or an error, and its
+/// children are the directories of the list.
 impl<C: ClientState, S: FileSystem, P: ProcessReadDir<C, A>, A: Allocator + Copy> Plan<A>
     for Job<C, S, P, A> {
     type Spec = ReadDirSpec<C, A>;

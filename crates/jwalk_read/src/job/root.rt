@@ -25,21 +25,21 @@ use walk_fs::fault::Fault;
 use walk_fs::file_system::FileSystem;
 use walk_model::metadata::Metadata;
 
-/// The item of a root before the callback, and the path that the callback is given with it.
+/// The item of a root before the callback, and the path that the callback is called with.
 #[derive(Drop)]
 struct RootItem<C: ClientState, A: Allocator + Copy> {
     item: Result<DirEntry<C, A>, Error<A>>,
     parent_path: Arc<String<A>, A>,
 }
 
-/// What stands behind a root that is a link, and the link's path.
+/// What is behind a root that is a link, and the link's path.
 #[derive(Drop)]
 struct Behind<A: Allocator + Copy> {
     path: Arc<String<A>, A>,
     metadata: Metadata,
 }
 
-/// What stands behind a root that is a link of this name below a path, or the error of one that is broken.
+/// Returns what is behind a root that is a link of this name below a path, or the error of one that is broken.
 fn behind_root<S: FileSystem, A: Allocator + Copy>(
     alloc: A,
     fs: &S,
@@ -61,7 +61,7 @@ fn behind_root<S: FileSystem, A: Allocator + Copy>(
 }
 
 impl<C: ClientState, S: FileSystem, P: ProcessReadDir<C, A>, A: Allocator + Copy> Job<C, S, P, A> {
-    /// A root's entry with what stands behind it, if it is a link: a directory there is to be read.
+    /// Returns a root's entry with what is behind it, if it is a link: a directory there is to be read.
     fn with_target(
         &self,
         found: DirEntry<C, A>,
@@ -83,7 +83,7 @@ impl<C: ClientState, S: FileSystem, P: ProcessReadDir<C, A>, A: Allocator + Copy
         }
     }
 
-    /// A root's entry after the link rule, and with what stands behind it if it is still a link.
+    /// Returns a root's entry after the link rule, and with what is behind it if it is still a link.
     fn root_target(
         &self,
         found: DirEntry<C, A>,
@@ -100,7 +100,7 @@ impl<C: ClientState, S: FileSystem, P: ProcessReadDir<C, A>, A: Allocator + Copy
         }
     }
 
-    /// The root's entry, or the error met when it was asked for.
+    /// Returns the root's entry, or the error met when it was asked for.
     fn root_entry(&self, path: &str) -> Result<Result<DirEntry<C, A>, Error<A>>, AllocError>
         ensures depth { IfOk result (λ r. AtDepth 0 (item r ∷ [])) }
         ensures value { (g : _) → S.IsFixed (file_system self.now) → DefaultsCount C.DirEntryState.Default g
@@ -114,7 +114,7 @@ impl<C: ClientState, S: FileSystem, P: ProcessReadDir<C, A>, A: Allocator + Copy
         self.made(0, &path, &path, false, &ancestors)
     }
 
-    /// The root's item before the callback, with the path that the callback is given beside it.
+    /// Returns the root's item before the callback, with the path that the callback is called with.
     fn root_item(&self, path: &str) -> Result<RootItem<C, A>, AllocError>
         ensures depth { IfOk result (λ r. AtDepth 0 (item r.item ∷ [])) }
         ensures value { (g : _) → S.IsFixed (file_system self.now) → DefaultsCount C.DirEntryState.Default g
@@ -136,12 +136,15 @@ impl<C: ClientState, S: FileSystem, P: ProcessReadDir<C, A>, A: Allocator + Copy
         }
     }
 
-    /// The list that a walk begins with: the root's entry, or the error met when it was asked for, after the callback,
-    /// which is given no depth, the root's parent path and this state. Where links are followed, a root that is a link
-    /// gives way to what it leads to; else it stays a link, and a directory behind it is read below it. A root that is
-    /// a broken link is an error with its path.
+    /// Returns the list that a walk begins with: the root's entry, or the error met when it was asked for, after the
+    /// callback. The callback is called with no depth, the root's parent path and this state.
     ///
-    /// Fails only for want of memory: of the walk's own, of the file system's or of the callback's.
+    /// If links are followed, a root that is a link is replaced by what it leads to. Else it stays a link, and a
+    /// directory behind it is read below it. A root that is a broken link is an error with its path.
+    ///
+    /// # Errors
+    ///
+    /// If memory runs out: the walk's own, the file system's or the callback's.
     pub fn root_list(&self, path: &str, state: C::ReadDirState) -> Result<ReadDir<C, A>, AllocError>
         requires { P.IsLawful (callback self.now) }
         ensures depth { IfOk result (λ r. AtDepth 0 (reading r).list) }

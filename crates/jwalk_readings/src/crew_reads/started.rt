@@ -23,7 +23,7 @@ use std::thread::Threads;
 use std::time::{Clock, Duration};
 use walk_fs::file_system::FileSystem;
 
-/// The error that tells why a crew's readings don't begin.
+/// Returns the error that reports why a crew's readings don't begin.
 pub fn error_of<A: Allocator + Copy>(why_not: NotStarted) -> Error<A>
     ensures { failure result ≡ start_failure why_not }
 {
@@ -44,8 +44,8 @@ where
     C::ReadDirState: Send + 'static,
     C::DirEntryState: Send + 'static,
 {
-    /// Has a crew read these directories, and those below them. They are given twice: once for the walk, and once for
-    /// the workers. It waits for a place of the crew, no longer than the limit.
+    /// Starts a crew's readings of these directories, and of those below them. The directories are given twice: once
+    /// for the walk, and once for the workers. It blocks until a place of the crew is free, no longer than the limit.
     ///
     /// # Errors
     ///
@@ -77,7 +77,7 @@ where
         Ok(())
     }
 
-    /// Readings of these directories, and of those below them, that a crew makes.
+    /// Returns the readings of these directories, and of those below them, that a crew makes.
     pub(crate) fn by_workers(
         crew: &Arc<Crew<R>, A>,
         busy_timeout: Option<Duration>,

@@ -1,4 +1,4 @@
-//! Readings in preorder, where threads make those that are made together.
+//! Readings in preorder, with threads for those that are made together.
 ghost use Rattle.std.specs.Prelude.{◌≡◌, ◌≢◌, ◌≤◌, ◌+◌, false, Ok, [], length, IfOk, IfErr, OnErr, IsSome, option_map};
 ghost use Rattle.read_parts.specs.Entry.{entry};
 ghost use Rattle.jwalk_read.specs.ReadDir.{outcome};
@@ -35,7 +35,7 @@ where
     ghost use Rattle.jwalk_readings.specs.CrewReads.{failure_of, IsNextBelow, NotLost};
     ghost use Rattle.jwalk_readings.specs.ReadDirIter.{by_crew, job_of, to_read, width_of, read_ahead, early_of, next_address, Tells, IsSteadyReads, StaysSteady, Known, KnownOf, EntersNextBy, GivesFirst, Gives};
 
-    /// The next reading.
+    /// Returns the next reading.
     pub fn read_next_on(&mut self) -> Result<Option<Outcome<C, A>>, Missed>
         requires { P.IsLawful (callback (job_of self.old)) }
         ensures crew { by_crew self.new ≡ by_crew self.old }
@@ -64,8 +64,8 @@ where
         }
     }
 
-    /// The next reading; or the error that tells why it won't come, and nothing is left to be read. Threads make the
-    /// readings that are made together. Over a crew it may wait: for a reading, or for a lock.
+    /// Returns the next reading; or the error that reports why it won't come, and then nothing is left to be read.
+    /// Threads make the readings that are made together. Over a crew it may block for a reading or for a lock.
     pub fn next(&mut self) -> Option<Outcome<C, A>>
         requires { P.IsLawful (callback (job_of self.old)) }
         ensures { Gives S.FileSystem P.ProcessReadDir C.ReadDirState.Clone C.DirEntryState.Default L.Pool false
@@ -77,12 +77,12 @@ where
         }
     }
 
-    /// The reading of an entry's directory: the next one, where the entries are those of the readings so far in the
-    /// walk's order. The entry must have `read_children`. `None` says that nothing is left to be read. Threads make the
-    /// readings that are made together.
+    /// Returns the reading of an entry's directory. It is the next one if the entries are those of the readings so far
+    /// in the walk's order. The entry must have `read_children`. `None` means that nothing is left to be read. Threads
+    /// make the readings that are made together.
     ///
-    /// Over a crew it is that of the entry's directory, or the error whose `is_lost` is true: nothing is left to be
-    /// read after that. The call may wait there: for a reading, or for a lock.
+    /// Over a crew it is the reading of the entry's directory, or the error whose `is_lost` is true: after that nothing
+    /// is left to be read. There the call may block for a reading or for a lock.
     pub fn next_of(&mut self, found: &DirEntry<C, A>) -> Option<Outcome<C, A>>
         requires lawful { P.IsLawful (callback (job_of self.old)) }
         requires has_directory { IsSome found.now.read_children }

@@ -41,14 +41,14 @@ where
     ghost use Rattle.jwalk_readings.specs.Parallelism.{parallelism_value, is_by_crew};
     ghost use Rattle.jwalk_readings.specs.ReadDirIter.{by_crew, job_of, to_read, width_of, read_ahead, StartsSteady};
 
-    /// The readings of these directories and of all that is below them, as `try_new` makes them; a crew may be told to
-    /// read, whose workers begin at once. Then a place of the crew is waited for first, as long as its `busy_timeout`
-    /// says.
+    /// Returns the readings of these directories and of all that is below them, like `try_new`, but a crew may read.
+    /// Its workers begin at once. The call first blocks until a place of the crew is free, as long as its
+    /// `busy_timeout` says.
     ///
     /// # Errors
     ///
-    /// An error whose `is_busy` is true where a crew is to read, and no place was free in time or no worker could be
-    /// started; one whose `is_memory` is true where memory runs out. Then no place is taken.
+    /// An error whose `is_busy` is true, if a crew is to read, and no place was free in time or no worker could be
+    /// started. An error whose `is_memory` is true, if memory runs out. After an error no place is taken.
     pub fn try_with_crew(
         threads: T,
         job: Job<C, S, P, A>,

@@ -27,10 +27,12 @@ impl<
     ghost use Rattle.jwalk_readings.specs.CrewReads.{IsMadeFor};
     ghost use Rattle.jwalk_readings.specs.ReadDirIter.{by_crew, job_of, to_read, StartsSteady};
 
-    /// The readings of these directories and of all that is below them, as a pool gives them. Only a reading of the
-    /// directory that comes next, made by this job's options, is handed on.
+    /// Returns the readings of these directories and of all that is below them, as a pool gives them. Only a reading of
+    /// the directory that comes next, made by this job's options, is handed on.
     ///
-    /// Fails only for want of memory.
+    /// # Errors
+    ///
+    /// If memory runs out.
     pub fn over_pool(
         job: Job<C, S, P, A>,
         roots: Vec<ReadDirSpec<C, A>, A>,

@@ -1,4 +1,4 @@
-//! How often a file system is asked.
+//! How often a file system is called.
 use crate::rows::row::{Over, Row, all_hold};
 use walk_fixtures::trees::{GROUPED, Step};
 use walk_fixtures::watched::Calls;

@@ -17,9 +17,9 @@ pub enum Seen {
     /// After each entry, how many readings were made and not handed on, and how many listings were made. Then it is
     /// over.
     Counts(&'static [(usize, usize)]),
-    /// So many entries, and then the want of memory.
+    /// That many entries, and then memory runs out.
     Refused(usize),
-    /// Of each call for answers: for how many, how many it gives, and all that are there then.
+    /// Of each call for answers: for how many, how many it appends, and all that are there then.
     Parts(&'static [(usize, usize, &'static str)]),
 }
 
@@ -45,7 +45,7 @@ fn goes_on<S: FileSystem + Send + Sync, R: Threads + Sync>(
     walk.is_over() && counts.last().map(|(_, lists)| *lists) == Some(fs.lists())
 }
 
-/// Whether a walk ends with the want of memory after so many entries, and nothing is left of it then.
+/// Whether memory runs out for a walk after that many entries, and nothing is left of it then.
 fn ends_with_memory<S: FileSystem + Send + Sync, R: Threads + Sync>(
     walk: &mut Begun<'_, S, R>,
     before: usize,
@@ -58,7 +58,7 @@ fn ends_with_memory<S: FileSystem + Send + Sync, R: Threads + Sync>(
     matches!(walk.next(), (Coming::Memory, 0)) && walk.is_over()
 }
 
-/// Whether each call for answers gives so many, and these are there then.
+/// Whether each call for answers appends that many, and these are there then.
 fn comes_in_parts<S: FileSystem + Send + Sync, R: Threads + Sync>(
     alloc: Global,
     walk: &mut Begun<'_, S, R>,

@@ -42,7 +42,7 @@ fn failures_told_where_they_are_met(rt: HostRuntime) {
             settings: &[],
             answers: "0 d /r; 1 f /r/b; 1 d /r/s ! 1 /r/s PermissionDenied; 1 f /r/a",
         },
-        // Want of memory ends the walk.
+        // Memory that runs out ends the walk.
         Row {
             over: Over::Failing(GROUPED, Failing::ListForMemory("/t/group 2")),
             root: "/t",

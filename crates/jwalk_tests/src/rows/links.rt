@@ -139,7 +139,7 @@ fn roots_that_are_links_followed_or_not(rt: HostRuntime) {
     all_hold(&rt, ROWS);
 }
 
-/// Whether the last of so many answers is an error of this depth, whose path has this length.
+/// Whether there are that many answers and the last is an error of this depth, whose path has this length.
 fn ends(found: &[Answer], count: usize, depth: usize, length: usize) -> bool {
     let is_last = match found.last() {
         Some(Err(error)) => {

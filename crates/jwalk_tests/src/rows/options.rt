@@ -44,7 +44,7 @@ fn depths(rt: HostRuntime) {
             answers: "0 d /t; 1 f /t/c.txt; 1 f /t/a.txt; 1 d /t/group 2; 1 d /t/group 1; \
                       1 f /t/b.txt",
         },
-        // The later depth gives way to the earlier.
+        // The earlier depth wins over the later.
         Row {
             over: Over::Tree(GROUPED),
             root: "/t",

@@ -1,4 +1,4 @@
-//! Walks with the options as they are, from roots of every kind.
+//! Walks with the default options, from roots of every kind.
 use crate::rows::row::{Over, Row, all_hold};
 use jwalk::file_system::FileType;
 use std::io::ErrorKind;

@@ -88,7 +88,7 @@ fn groups_of_files(rt: HostRuntime) {
     all_take(&rt, &(GROUPED, Failing::Never, "/t"), COURSES);
 }
 
-/// How many readings are ahead of a walk once it has answered the first of the groups.
+/// How many readings are ahead of a walk once it has yielded the first of the groups.
 fn ahead_at_first_group<S: FileSystem>(
     alloc: Global,
     walk: Builder<S>,
@@ -99,8 +99,8 @@ fn ahead_at_first_group<S: FileSystem>(
     Ok(walk.ahead())
 }
 
-/// The same of two walks, one read by a clone of a value and one by the value: the first is told it before its greatest
-/// depth is set to 1, and the second after.
+/// The same for two walks, one read by a clone of a value and one by the value. The first is given it before its
+/// greatest depth is set to 1, and the second after.
 fn ahead_by_clones(alloc: Global) -> Result<(usize, usize), BuildError> {
     let three: Parallelism = Parallelism::RayonNewPool(3);
     let before = over_tree(alloc, GROUPED, "/t")?.parallelism(three.clone()?);

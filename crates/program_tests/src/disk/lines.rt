@@ -8,12 +8,12 @@ use walk_text::print::print_answer;
 
 pub type Answer = Result<DirEntry<((), ())>, Error>;
 
-/// A walk yet to begin.
+/// A walk that has not begun.
 pub type Builder<S> = WalkDirGeneric<((), ()), S, NoProcess>;
 
 pub type Walk<S> = DirEntryIter<((), ()), S, NoProcess>;
 
-/// A walk that is yet to begin, with the options as they are.
+/// A walk that has not begun, with the default options.
 pub fn builder<S: FileSystem>(alloc: Global, fs: S, root: &str) -> Result<Builder<S>, AllocError> {
     Ok(WalkDirGeneric::new(fs, String::from_str(alloc, root)?))
 }

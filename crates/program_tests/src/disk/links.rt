@@ -37,7 +37,7 @@ fn a_link_to_a_directory_above_is_a_loop(rt: HostRuntime) {
     assert!(rt; shows(&rt, "loop", STEPS, true, wanted));
 }
 
-/// Whether walks that don't follow links answer as is said from names in a folder.
+/// Whether walks that don't follow links yield these from names in a folder.
 fn show(rt: &HostRuntime, folder: &str, rows: &[(&str, &str)]) -> bool {
     for (below, wanted) in rows {
         if !shows_from(rt, folder, below, false, wanted) {

@@ -22,7 +22,7 @@ fn answers(alloc: Global, told: Told, follow: bool) -> Result<Vec<Answer>, Alloc
     rest(alloc, &mut walk(alloc, disk, follow)?)
 }
 
-/// Whether this is what a walk answers.
+/// Whether this is what a walk yields.
 fn shows(alloc: Global, told: Told, follow: bool, wanted: &str) -> bool {
     let Ok(found) = answers(alloc, told, follow) else {
         return false;
@@ -33,7 +33,7 @@ fn shows(alloc: Global, told: Told, follow: bool, wanted: &str) -> bool {
     }
 }
 
-/// Whether this is what a walk answers over a directory that reads so.
+/// Whether this is what a walk yields over a directory that reads so.
 fn is_read(alloc: Global, readings: Readings, wanted: &str) -> bool {
     let told = Told {
         readings,
@@ -90,7 +90,7 @@ fn names_whose_types_fail_hidden_or_not(rt: HostRuntime) {
     assert!(rt; shows(rt.alloc(), told, false, wanted));
 }
 
-/// Calls that fail, and what a walk then answers that follows links.
+/// Calls that fail, and what a walk then yields that follows links.
 type Row = (&'static [Failing], &'static str);
 
 /// Whether all rows are so, where the calls fail in this way.
@@ -155,8 +155,8 @@ fn a_directory_that_may_not_be_read_is_answered(rt: HostRuntime) -> Result<(), A
     Ok(())
 }
 
-/// Whether a walk over a disk that doesn't fail answers four entries and makes so many calls: for directories that are
-/// opened, for what stands at paths, for what they lead to, and for the texts of links.
+/// Whether a walk over a disk that doesn't fail yields four entries and makes that many calls. They are for directories
+/// that are opened, for what is at paths, for what they lead to, and for the texts of links.
 fn makes_calls(
     alloc: Global,
     follow: bool,

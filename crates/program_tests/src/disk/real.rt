@@ -10,14 +10,14 @@ pub fn by_name(rt: &HostRuntime, root: &str, follow: bool) -> io::Result<Walk<Re
     Ok(walk.sort(true).follow_links(follow).into_iter())
 }
 
-/// What a walk by name from something in a folder answers.
+/// What a walk by name from something in a folder yields.
 pub fn found_from(rt: &HostRuntime, folder: &str, below: &str, follow: bool) -> io::Result<String> {
     let root = path_in(rt, folder, below)?;
     let found = rest(rt.alloc(), &mut by_name(rt, root.as_str(), follow)?)?;
     Ok(lines(rt.alloc(), found.as_slice(), folder)?)
 }
 
-/// Whether this is what a walk by name from something in a folder answers.
+/// Whether this is what a walk by name from something in a folder yields.
 pub fn shows_from(rt: &HostRuntime, folder: &str, below: &str, follow: bool, wanted: &str) -> bool {
     match found_from(rt, folder, below, follow) {
         Ok(found) => found.as_str() == wanted,
@@ -25,7 +25,7 @@ pub fn shows_from(rt: &HostRuntime, folder: &str, below: &str, follow: bool, wan
     }
 }
 
-/// Whether this is what a walk by name answers from a folder for the test of this name, which these steps fill.
+/// Whether this is what a walk by name yields from a folder for the test of this name, which these steps fill.
 pub fn shows(rt: &HostRuntime, name: &str, steps: &[Step], follow: bool, wanted: &str) -> bool {
     let Ok(folder) = make(rt, name, steps) else {
         return false;

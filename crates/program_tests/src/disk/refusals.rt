@@ -8,7 +8,7 @@ use std::test::Fail;
 use std::{fs, io};
 use walk_fixtures::answers::are_lines;
 
-/// The answers of a walk from a folder, one directory of which is removed once the folder is answered.
+/// The answers of a walk from a folder, one directory of which is removed once the folder is yielded.
 fn answers_around_removal(
     rt: &HostRuntime,
     folder: &str,
@@ -22,7 +22,7 @@ fn answers_around_removal(
     Ok(found)
 }
 
-/// Whether the error of the removed directory stands where it would have been read.
+/// Whether the error of the removed directory comes where it would have been read.
 fn shows_removal(rt: &HostRuntime, folder: &str) -> io::Result<bool> {
     let removed = path_in(rt, folder, "/b")?;
     let found = answers_around_removal(rt, folder, removed.as_str())?;
@@ -50,7 +50,7 @@ fn a_directory_that_is_removed_under_way(rt: HostRuntime) -> Result<(), Fail> {
     Ok(())
 }
 
-/// Whether the error of a directory without permissions stands where it would be read, if that is denied to this
+/// Whether the error of a directory without permissions comes where it would be read, if that is denied to this
 /// process: nothing is, to the superuser.
 fn shows_closed(rt: &HostRuntime, folder: &str) -> io::Result<bool> {
     let closed = path_in(rt, folder, "/a")?;

@@ -17,7 +17,7 @@ fn make_file(rt: &HostRuntime, folder: &str, number: usize, lines: &mut String) 
     Ok(())
 }
 
-/// Whether a walk by name answers thousands of files that are made in the wide directory. Their names are longer
+/// Whether a walk by name yields thousands of files that are made in the wide directory. Their names are longer
 /// together than what one reading of it gives.
 fn finds_all_files(rt: &HostRuntime, folder: &str) -> io::Result<bool> {
     let mut lines = String::from_str(rt.alloc(), "0 d /t\n")?;
@@ -36,7 +36,7 @@ fn thousands_of_files_in_one_directory(rt: HostRuntime) -> Result<(), Fail> {
     Ok(())
 }
 
-/// How many directories stand in one another.
+/// How many directories are in one another.
 const DEPTH: usize = 1_000;
 
 /// Makes directories in one another, with names of one letter.
@@ -60,7 +60,7 @@ fn is_at(answer: &Answer, depth: usize) -> bool {
     }
 }
 
-/// Whether a walk from the folder answers it and all directories in one another, each one deeper than the one before.
+/// Whether a walk from the folder yields it and all directories in one another, each one deeper than the one before.
 fn goes_down(rt: &HostRuntime, folder: &str) -> io::Result<bool> {
     make_directories(rt, folder)?;
     let found = rest(rt.alloc(), &mut by_name(rt, folder, false)?)?;

@@ -29,7 +29,7 @@ pub enum Readings {
     FaultAfterThreeNames,
     /// `b`, and then `a`, with interruptions before and between.
     Interrupted,
-    /// `b` and `a`; then want of memory.
+    /// `b` and `a`; then memory runs out.
     NoMemoryAfterTwoNames,
 }
 
@@ -38,7 +38,7 @@ pub enum Readings {
 pub enum Call {
     /// A directory is opened. Its path ends in a slash.
     Open,
-    /// What stands at a path is looked at.
+    /// What is at a path is looked at.
     Look,
     /// What a path leads to is looked at.
     Follow,
@@ -156,7 +156,7 @@ impl Calls {
         counter.set(counter.get().wrapping_add(1));
     }
 
-    /// How often a directory was opened, what stands at a path looked at, what a path leads to, and the text of a link.
+    /// How often a directory was opened, what is at a path looked at, what a path leads to, and the text of a link.
     pub fn counts(&self) -> (usize, usize, usize, usize) {
         (
             self.opens.get(),

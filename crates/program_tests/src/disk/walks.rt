@@ -24,7 +24,7 @@ const GROUPED: &[Step] = &[
     Step::File(6, "/b.txt"),
 ];
 
-/// What walks by name answer over them.
+/// What walks by name yield over them.
 const BY_NAME: &str = "0 d /t\n1 f /t/a.txt\n1 f /t/b.txt\n1 f /t/c.txt\n\
                        1 d /t/group 1\n2 f /t/group 1/d.txt\n1 d /t/group 2\n2 f /t/group 2/e.txt\n";
 
@@ -45,7 +45,7 @@ fn a_run_over_a_folder_of_groups(rt: HostRuntime) -> Result<(), Fail> {
     Ok(())
 }
 
-/// What a walk answers by name whose directories are read several at a time, with `/t` for the folder.
+/// What a walk yields by name whose directories are read several at a time, with `/t` for the folder.
 fn found_in_batches<R: Threads + Drop + Sync, S: FileSystem + Send + Sync>(
     alloc: Global,
     walk: WalkDirGeneric<((), ()), S, NoProcess, Global, OnThreads<R>>,
@@ -70,7 +70,7 @@ fn a_folder_of_groups_in_batches(rt: HostRuntime) -> Result<(), Fail> {
     Ok(())
 }
 
-/// Whether a file in a folder has this length, as what the path leads to and as what stands there.
+/// Whether a file in a folder has this length, as what the path leads to and as what is there.
 fn has_length(rt: &HostRuntime, folder: &str, below: &str, len: u64) -> Result<bool, Fault> {
     let fs = RealFs::new(*rt);
     let path = path_in(rt, folder, below)?;
@@ -106,14 +106,14 @@ fn lengths_of_files(rt: HostRuntime) -> Result<(), Fail> {
 /// Directories in one another, where the process begins in the one around them.
 const NESTED: &[Step] = &[Step::Dir("/r"), Step::Dir("/r/s")];
 
-/// What a walk to the depth 1 answers from a path that begins where the process stands.
+/// What a walk to the depth 1 yields from a path that begins at the current directory of the process.
 fn found_here(rt: &HostRuntime, root: &str) -> io::Result<String> {
     let walk = builder(rt.alloc(), RealFs::new(*rt), root)?;
     let found = rest(rt.alloc(), &mut walk.max_depth(1).into_iter())?;
     Ok(lines(rt.alloc(), found.as_slice(), "/t")?)
 }
 
-/// What walks answer from the folder around, each from one directory further down.
+/// What walks yield from the folder around, each from one directory further down.
 fn found_further_down(rt: &HostRuntime, folder: &str) -> io::Result<String> {
     let mut all = String::new(rt.alloc());
     for (below, root) in [("", "."), ("/r", ".."), ("/r/s", "../..")] {

@@ -10,7 +10,7 @@ use walk_fixtures::watched::{Failing, Watched};
 use walk_text::failure::Failure;
 use walk_text::tree::build_tree;
 
-/// How often a disk was asked, for whatever.
+/// How often a disk was called, by whatever call.
 fn asked(disk: &Watched) -> usize {
     let calls = disk.calls();
     calls
@@ -19,7 +19,7 @@ fn asked(disk: &Watched) -> usize {
         .wrapping_add(calls.follows)
 }
 
-/// Takes some writes, and fails from then on. It notes how often a disk had been asked by then, and counts its
+/// Takes some writes, and fails from then on. It notes how often a disk had been called by then, and counts its
 /// failures.
 #[derive(Drop)]
 struct Closed<'d> {
@@ -45,7 +45,7 @@ impl<'d> Write for Closed<'d> {
     }
 }
 
-/// Lines of so many directories beside one another.
+/// Lines of that many directories beside one another.
 fn dir_lines(alloc: Global, count: u64) -> Result<String, AllocError> {
     let mut lines = String::from_str(alloc, "d /r\n")?;
     for number in 0..count {
@@ -63,13 +63,13 @@ fn watched_over(alloc: Global, lines: &str) -> Result<Arc<Watched>, Failure> {
     Ok(shared(alloc, Watched::new(tree, Failing::Never))?)
 }
 
-/// Whether the disk was asked for nothing since a write failed, long before it was walked to its end.
+/// Whether the disk was not called since a write failed, long before it was walked to its end.
 fn is_left(out: &Closed<'_>, before: usize) -> bool {
     out.calls == asked(out.disk) && out.calls.wrapping_sub(before) < 3000
 }
 
-/// Whether nothing is written once a write has failed; and the disk is asked for nothing then, and isn't walked to its
-/// end, unless workers read ahead.
+/// Whether nothing is written once a write has failed; and the disk isn't called then, and isn't walked to its end,
+/// unless workers read ahead.
 fn stops(
     rt: &(impl Wait + Threads + Clock + Clone + Drop + Send + Sync + AllocGlobal + 'static),
     words: &[&str],

@@ -45,7 +45,7 @@ const SPECIAL: ListedDirectory<'static> = ListedDirectory {
     items: &[Item::Typed("pipe", FileType::Symlink)],
 };
 
-/// A file system of directories: these three, `/wide`, where memory is refused, and others that can't be read.
+/// A file system of directories: these three, `/wide`, where memory runs out, and others that can't be read.
 #[derive(Drop)]
 struct Odd;
 
@@ -94,10 +94,10 @@ impl FileSystem for Odd {
     }
 }
 
-/// The words of a call over that file system, and what comes of it.
+/// The words of a call over that file system, and the outcome.
 type Row = (&'static [&'static str], Want<'static>);
 
-/// The number of the first row that comes otherwise, or whose call reads the input.
+/// The number of the first row whose outcome is another, or whose call reads the input.
 fn first_wrong(
     rt: &(impl Wait + Threads + Clock + Clone + Drop + Send + Sync + AllocGlobal + 'static),
     rows: &[Row],

@@ -108,7 +108,7 @@ fn links_to_files_and_to_nothing(rt: HostRuntime) {
     all_come_over_tree(&rt, ROWS);
 }
 
-/// The lines of the paths that go once through a link, twice and so on, up to the one that is refused.
+/// The lines of the paths that go once through a link, twice and so on, up to the one that fails.
 fn lines_of_links(alloc: Global) -> Result<String, AllocError> {
     let mut path = String::from_str(alloc, "/r/l")?;
     let mut out = String::from_str(alloc, "0 d /r\n")?;

@@ -1,4 +1,4 @@
-//! What comes of a run.
+//! The outcome of a run.
 use jwalk::file_system::{FileSystem, MemoryFs};
 use std::io;
 use std::io::{Read, Write};
@@ -19,10 +19,10 @@ pub type Want<'a> = (&'a str, &'a str, u8);
 
 pub const BAD_WORDS: Want<'static> = ("", "walk: bad words\n", 2);
 
-/// The words of a call, the lines of a tree, and what comes of it.
+/// The words of a call, the lines of a tree, and the outcome.
 pub type Row<'a> = (&'a [&'a str], &'a str, Want<'a>);
 
-/// Whether this comes over this disk of some words and then others.
+/// Whether this is the outcome over this disk of some words and then others.
 pub fn comes<S: FileSystem + Send + Sync + 'static, R: Read>(
     rt: &(impl Wait + Threads + Clock + Clone + Drop + Send + Sync + AllocGlobal + 'static),
     disk: S,
@@ -48,7 +48,7 @@ pub fn comes<S: FileSystem + Send + Sync + 'static, R: Read>(
     out.as_slice() == want.0.as_bytes() && err.as_slice() == want.1.as_bytes() && status == want.2
 }
 
-/// Whether a call over this disk that writes there ends with this status and tells of nothing.
+/// Whether a call over this disk that writes there ends with this status and reports nothing.
 pub fn ends<S: FileSystem + Send + Sync + 'static, W: Write>(
     rt: &(impl Wait + Threads + Clock + Clone + Drop + Send + Sync + AllocGlobal + 'static),
     disk: S,
@@ -86,7 +86,7 @@ impl Read for Unread {
     }
 }
 
-/// Whether this comes over this disk of some words and then others, and the input isn't read.
+/// Whether this is the outcome over this disk of some words and then others, and the input isn't read.
 pub fn comes_unread<S: FileSystem + Send + Sync + 'static>(
     rt: &(impl Wait + Threads + Clock + Clone + Drop + Send + Sync + AllocGlobal + 'static),
     disk: S,
@@ -125,7 +125,7 @@ const WAYS: &[Way] = &[
     (&["--tree", "--crew", "0"], false),
 ];
 
-/// Whether a row comes as is said in one of the ways. Where its tree is the disk, the input isn't read.
+/// Whether a row has its outcome in one of the ways. If its tree is the disk, the input isn't read.
 fn comes_by(
     rt: &(impl Wait + Threads + Clock + Clone + Drop + Send + Sync + AllocGlobal + 'static),
     (front, is_on_disk): &Way,
@@ -148,7 +148,7 @@ fn comes_by(
     }
 }
 
-/// The number of the first row that comes otherwise in one of these ways.
+/// The number of the first row whose outcome is another in one of these ways.
 fn first_wrong(
     rt: &(impl Wait + Threads + Clock + Clone + Drop + Send + Sync + AllocGlobal + 'static),
     ways: &[Way],
@@ -164,7 +164,7 @@ fn first_wrong(
     None
 }
 
-/// Each row comes of its words as is said, where the lines are the input and the disk is empty.
+/// Each row has the outcome of its words, where the lines are the input and the disk is empty.
 pub fn all_come(
     rt: &(impl Abort + Wait + Threads + Clock + Clone + Drop + Send + Sync + AllocGlobal + 'static),
     rows: &[Row<'_>],
@@ -172,8 +172,8 @@ pub fn all_come(
     assert_eq!(rt; first_wrong(rt, INPUT, rows), None);
 }
 
-/// Each row comes as is said over the tree of its lines, whatever its directories are read by: with `--tree` in front
-/// of its words and the lines on the input, and without it over a disk that is the same tree.
+/// Each row has its outcome over the tree of its lines, whatever its directories are read by. It is called with
+/// `--tree` in front of its words and the lines on the input, and without it over a disk that is the same tree.
 pub fn all_come_over_tree(
     rt: &(impl Abort + Wait + Threads + Clock + Clone + Drop + Send + Sync + AllocGlobal + 'static),
     rows: &[Row<'_>],

@@ -25,7 +25,7 @@ impl Write for Broken {
     }
 }
 
-/// The words of a call, the error of its input, and what comes of it.
+/// The words of a call, the error of its input, and the outcome.
 type Row = (&'static [&'static str], ErrorKind, Want<'static>);
 
 #[test]
@@ -116,7 +116,7 @@ impl<'t> Read for Pieces<'t> {
     }
 }
 
-/// Adds the line of a directory to an input, and that of its entry to an output, and those of so many files in it.
+/// Adds the line of a directory to an input, and that of its entry to an output, and those of that many files in it.
 fn push_files(input: &mut String, out: &mut String, count: u64) -> Result<(), AllocError> {
     let alloc = *input.allocator();
     input.push_str("d /r\n")?;

@@ -109,8 +109,8 @@ fn a_denied_directory_is_answered_with_its_error(rt: HostRuntime) {
     all_come_over_tree(&rt, ROWS);
 }
 
-/// Adds the line of a directory to an input, and that of its entry to an output, and those of so many directories with
-/// one file in it.
+/// Adds the line of a directory to an input, and that of its entry to an output, and those of that many directories
+/// with one file in it.
 fn push_dirs(input: &mut String, out: &mut String, count: u64) -> Result<(), AllocError> {
     let alloc = *input.allocator();
     input.push_str("d /r\n")?;

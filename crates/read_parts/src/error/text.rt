@@ -8,10 +8,10 @@ use std::alloc::{AllocError, Allocator};
 use std::fmt::InlineText;
 use std::{error, fmt, io};
 
-/// No `io::Error` has a text of so many bytes: its message takes 256 at most, and its number is that of an `i32`.
+/// No `io::Error` has a text that long in bytes: its message takes 256 at most, and its number is that of an `i32`.
 const OWN_ROOM: usize = 300;
 
-/// An error, and the own text of its `io::Error` if it has one: all that is told of it.
+/// An error, and the own text of its `io::Error` if it has one: all that is reported of it.
 #[derive(Drop)]
 struct Told<'a, A: Allocator + Copy> {
     error: &'a Error<A>,
@@ -73,7 +73,7 @@ impl<A: Allocator + Copy> fmt::Display for Error<A> {
 impl<A: Allocator + Copy> error::Error for Error<A> {}
 
 impl<A: Allocator + Copy> Error<A> {
-    /// The own text of the `io::Error`, if it is one.
+    /// Returns the own text of the `io::Error`, if it is one.
     fn own_text(&self) -> InlineText<{ OWN_ROOM }> {
         match self.io_error() {
             Some(err) => InlineText::of(err),
@@ -81,9 +81,11 @@ impl<A: Allocator + Copy> Error<A> {
         }
     }
 
-    /// The kind of the `io::Error`, or `Other` where it is none, and the text that the error is printed as.
+    /// Returns the kind of the `io::Error`, or `Other` if it is none, and the text that the error is printed as.
     ///
-    /// Fails only for want of memory.
+    /// # Errors
+    ///
+    /// If memory runs out.
     pub fn kind_and_text(&self, alloc: A) -> Result<(io::ErrorKind, String<A>), AllocError>
         ensures kind { IfOk result (λ r. r.0 ≡ kind_or_other (failure self.now)) }
         ensures text { IfOk result (λ r. (own : List ℕ)

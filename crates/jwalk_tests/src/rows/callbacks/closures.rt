@@ -90,7 +90,7 @@ fn a_directory_that_was_moved_to_a_file(rt: HostRuntime) {
     all_hold(&rt, ROWS);
 }
 
-/// Whether a `for` loop over a walk comes by these answers where each list is cut after two items.
+/// Whether a `for` loop over a walk yields these answers if each list is cut after two items.
 fn cuts<S: FileSystem>(alloc: Global, walk: Builder<S>, wanted: &str) -> Result<bool, AllocError> {
     let walk = walk.process_read_dir_by(|_depth, _path, _state, list| {
         list.truncate(2);
@@ -100,7 +100,7 @@ fn cuts<S: FileSystem>(alloc: Global, walk: Builder<S>, wanted: &str) -> Result<
     Ok(are_lines(alloc, found.as_slice(), wanted))
 }
 
-/// Whether that is so of the groups by name.
+/// Whether that is so for the groups by name.
 fn cuts_groups(alloc: Global, wanted: &str) -> Result<bool, BuildError> {
     let walk = over_tree(alloc, GROUPED, "/t")?.sort(true);
     Ok(cuts(alloc, walk, wanted)?)

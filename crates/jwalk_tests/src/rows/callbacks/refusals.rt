@@ -1,4 +1,4 @@
-//! Walks whose callback is refused memory.
+//! Walks whose callback runs out of memory.
 use crate::rows::callbacks::rows::{Callback, Row, all_hold};
 use jwalk::file_system::BuildError;
 use jwalk::read_dir::ProcessReadDir;
@@ -7,7 +7,7 @@ use walk_fixtures::answers::Answer;
 use walk_fixtures::trees::GROUPED;
 use walk_ways::builders::over_tree;
 
-/// A callback that is refused memory for the list of the root, or for those of directories at a depth.
+/// A callback that runs out of memory for the list of the root, or for those of directories at a depth.
 #[derive(Drop)]
 pub struct RefusedAt {
     pub at: Option<usize>,
@@ -55,7 +55,7 @@ fn a_callback_that_is_refused_memory(rt: HostRuntime) {
     all_hold(&rt, ROWS);
 }
 
-/// Whether a walk whose callback is refused memory for the root's list is not begun.
+/// Whether a walk whose callback runs out of memory for the root's list is not begun.
 fn is_not_begun(alloc: Global) -> Result<bool, BuildError> {
     let walk = over_tree(alloc, GROUPED, "/t")?.process_read_dir(RefusedAt { at: None });
     Ok(match walk.try_into_iter() {

@@ -18,7 +18,7 @@ pub enum Callback {
     SkipThree,
     /// The files at depth 1 but for one are kept.
     KeepFiles,
-    /// Memory is refused for the list of the root, or for those of directories at a depth.
+    /// Memory runs out for the list of the root, or for those of directories at a depth.
     RefusedAt(Option<usize>),
 }
 
@@ -76,7 +76,7 @@ impl Row {
     }
 }
 
-/// Each walk answers what its row says, in whatever way it is read.
+/// Each walk yields what its row says, in whatever way it is read.
 pub fn all_hold<R: Abort + Threads + AllocGlobal + Sync>(rt: &R, rows: &[Row]) {
     for row in rows {
         for way in WAYS {
