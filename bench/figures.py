@@ -69,8 +69,8 @@ def height(times):
 def said(rows):
     """All that the picture shows, in words."""
     for tree, times in rows:
-        of = ", ".join(f"{label} {times[column]:.0f} ms" for column, label, _ in BARS if column in times)
-        yield f"{TREES.get(tree, tree)}: {of}."
+        of = "; ".join(f"{label}: {times[column]:.0f} ms" for column, label, _ in BARS if column in times)
+        yield f"{TREES.get(tree, tree)} - {of}."
 
 
 def picture(taken, rows):
