@@ -3,7 +3,7 @@
 
     python3 bench/figures.py [RESULTS [PICTURE]]
 
-RESULTS is bench/figures.tsv where none is given: a file as `python3 bench/real.py --save FILE` writes it. Its first line
+RESULTS is bench/figures.tsv where none is given: a file as `bench/real.py --save FILE` writes it. Its first line
 says where the times were taken, and its rows are the milliseconds of each tree. PICTURE is docs/figures.svg where none
 is given. A program without a column has no bars.
 """
