@@ -9,7 +9,7 @@ none is given). All of a tree's programs take turns, each with its output in a f
 doesn't count. A time is the best of five turns, and its ratio that of two such times; the ratio of processor times is the
 median of the turns' ratios. A peak of memory is that of the last turn, and no less than this script's own. The walk by name
 of /usr takes turns with the walk in the disk's order. In brackets is what the walk is to take at most. Walks in batches of
-each width, and over crews of so many workers, take turns with the serial one and with the other programs. The tree in
+each width, and over crews of 1, 2 and 4 workers, take turns with the serial one and with the other programs. The tree in
 memory is read from the program's input: 10,101 directories, and the time to read it and to build it is in each of its times.
 FILE is given the times of the trees on disk, a row for each tree, from which bench/figures.py draws its picture.
 """
@@ -148,7 +148,7 @@ def by_name(walk, output):
 
 
 def ways():
-    """The words for each way to read: a directory at a time, batches of each width, crews of so many workers."""
+    """The words for each way to read: a directory at a time, batches of each width, crews of each number of workers."""
     yield []
     for width in WIDTHS:
         yield ["--batch", str(width)]
@@ -186,11 +186,11 @@ def save(path, rows):
 
 
 def main():
-    words = argparse.ArgumentParser()
-    words.add_argument("folder", nargs="?")
-    words.add_argument("walk", nargs="?", default=PROGRAM, metavar="program")
-    words.add_argument("--save", metavar="FILE")
-    asked = words.parse_args()
+    parser = argparse.ArgumentParser()
+    parser.add_argument("folder", nargs="?")
+    parser.add_argument("walk", nargs="?", default=PROGRAM, metavar="program")
+    parser.add_argument("--save", metavar="FILE")
+    asked = parser.parse_args()
     folder = asked.folder or tempfile.mkdtemp(prefix="walk-real-")
     walk = asked.walk
     output = os.path.join(folder, "out.txt")
