@@ -11,7 +11,7 @@ median of the turns' ratios. A peak of memory is that of the last turn, and no l
 of /usr takes turns with the walk in the disk's order. In brackets is what the walk is to take at most. Walks in batches of
 each width, and over crews of 1, 2 and 4 workers, take turns with the serial one and with the other programs. The tree in
 memory is read from the program's input: 10,101 directories, and the time to read it and to build it is in each of its times.
-FILE is given the times of the trees on disk, a row for each tree, from which bench/figures.py draws its picture.
+FILE gets the times of the trees on disk, a row for each tree, from which bench/figures.py draws its picture.
 """
 import argparse
 import os
