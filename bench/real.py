@@ -2,17 +2,20 @@
 """Times `walk` on the real disk beside `find`, and beside `fd` and `bfs` where they are installed; and in batches and over
 crews beside the walk that reads a directory at a time, also over a tree in memory.
 
-    python3 bench/real.py [FOLDER [PROGRAM]]
+    python3 bench/real.py [--save FILE] [FOLDER [PROGRAM]]
 
 Build the program first: (cd crates/walk && rt run). FOLDER holds the trees that the script makes (a temporary folder where
 none is given). All of a tree's programs take turns, each with its output in a file, and the tree is warm: the first turn
 doesn't count. A time is the best of five turns, and its ratio that of two such times; the ratio of processor times is the
 median of the turns' ratios. A peak of memory is that of the last turn, and no less than this script's own. The walk by name
 of /usr takes turns with the walk in the disk's order. In brackets is what the walk is to take at most. Walks in batches of
-each width, and over crews of so many workers, take turns with the serial one and with the other programs. The tree in
+each width, and over crews of 1, 2 and 4 workers, take turns with the serial one and with the other programs. The tree in
 memory is read from the program's input: 10,101 directories, and the time to read it and to build it is in each of its times.
+FILE gets the times of the trees on disk, a row for each tree, from which bench/figures.py draws its picture.
 """
+import argparse
 import os
+import platform
 import shutil
 import subprocess
 import sys
@@ -79,7 +82,7 @@ def programs(walk, root):
     yield "find", ["find", root]
     for name in "fd", "fdfind":
         if shutil.which(name):
-            yield name, [name, "-uu", "-j4", ".", root]
+            yield "fd", [name, "-uu", "-j4", ".", root]
             break
     if shutil.which("bfs"):
         yield "bfs", ["bfs", root]
@@ -145,7 +148,7 @@ def by_name(walk, output):
 
 
 def ways():
-    """The words for each way to read: a directory at a time, batches of each width, crews of so many workers."""
+    """The words for each way to read: a directory at a time, batches of each width, crews of each number of workers."""
     yield []
     for width in WIDTHS:
         yield ["--batch", str(width)]
@@ -154,7 +157,8 @@ def ways():
 
 
 def side_by_side(tree, words, output, input_path=os.devnull, others=()):
-    """A walk in each way, by turns, beside the serial one, the best of the batches, and `find` if it is among the others."""
+    """A walk in each way, by turns, beside the serial one, the best of the batches, and `find` if it is among the others.
+    Returns the milliseconds of each way, of the batches those of the best."""
     commands = [(" ".join(way) or "serial", [*words[:-1], *way, words[-1]]) for way in ways()]
     runs, lines = turns([*commands, *others], output, input_path)
     if len({lines[name] for name, _ in commands}) > 1:
@@ -167,11 +171,28 @@ def side_by_side(tree, words, output, input_path=os.devnull, others=()):
             f"{tree:<8}{name:<12}{best(of) * 1e3:>10.1f}{best(of) / best(serial):>9.2f}{best(of) / best(batch):>8.2f}"
             f"{find}{processor_ratio(of, serial):>8.2f}{of[-1][2] / 1024:>8.1f}"
         )
+    singles = {name.replace("--crew", "crew"): of for name, of in runs.items() if not name.startswith("--batch")}
+    return {name: best(of) * 1e3 for name, of in {"serial": serial, "best batch": batch, **singles}.items()}
+
+
+def save(path, rows):
+    """Writes each tree's milliseconds, with a first line that says where they were taken."""
+    columns = list(rows[0][1])
+    with open(path, "w") as file:
+        print(f"# {os.cpu_count()} cores, {platform.system()}; best of {TURNS} turns, in milliseconds", file=file)
+        print("tree", *columns, sep="\t", file=file)
+        for tree, times in rows:
+            print(tree, *(f"{times[column]:.0f}" for column in columns), sep="\t", file=file)
 
 
 def main():
-    folder = sys.argv[1] if len(sys.argv) > 1 else tempfile.mkdtemp(prefix="walk-real-")
-    walk = sys.argv[2] if len(sys.argv) > 2 else PROGRAM
+    parser = argparse.ArgumentParser()
+    parser.add_argument("folder", nargs="?")
+    parser.add_argument("walk", nargs="?", default=PROGRAM, metavar="program")
+    parser.add_argument("--save", metavar="FILE")
+    asked = parser.parse_args()
+    folder = asked.folder or tempfile.mkdtemp(prefix="walk-real-")
+    walk = asked.walk
     output = os.path.join(folder, "out.txt")
     print(f"{os.cpu_count()} cores, best of {TURNS}")
     print(f"{'tree':<6}{'program':<8}{'lines':>9}{'ms':>10}{'x find':>8}{'cpu x':>8}{'MiB':>8}")
@@ -179,11 +200,14 @@ def main():
         compare(tree, root, bound, walk, output)
     by_name(walk, output)
     print(f"{'tree':<8}{'way':<12}{'ms':>10}{'x serial':>9}{'x batch':>8}{'x find':>8}{'cpu x':>8}{'MiB':>8}")
+    rows = []
     for tree, root, _ in trees(folder):
         others = [(name, words) for name, words in programs(walk, root) if name != "walk"]
-        side_by_side(tree, [walk, "--hidden", root], output, others=others)
+        rows.append((tree, side_by_side(tree, [walk, "--hidden", root], output, others=others)))
     side_by_side("memory", [walk, "--tree", "/r"], output, in_memory(folder))
-    if len(sys.argv) < 2:
+    if asked.save:
+        save(asked.save, rows)
+    if not asked.folder:
         subprocess.run(["rm", "-rf", folder], check=True)
 
 
