@@ -1,6 +1,7 @@
 //! A file system of one's own.
 ghost use Rattle.std.specs.Prelude.{◌≡◌};
 
+// begin type
 use jwalk::file_system::{Fault, FileSystem, Listed, Metadata};
 use std::alloc::Allocator;
 use std::cell::Cell;
@@ -12,6 +13,7 @@ pub struct Counted<S: FileSystem> {
     fs: S,
     listings: Cell<usize>,
 }
+// end type
 
 impl<S: FileSystem> Counted<S> {
     /// The same file system, counted from 0.
@@ -30,6 +32,7 @@ impl<S: FileSystem> Counted<S> {
     }
 }
 
+// begin methods
 impl<S: FileSystem> FileSystem for Counted<S> {
     // It is fixed where the other is, and answers at each path what that does.
     ghost IsFixed = { λ s. S.IsFixed s.fs };
@@ -57,3 +60,4 @@ impl<S: FileSystem> FileSystem for Counted<S> {
         self.fs.read_link(alloc, path)
     }
 }
+// end methods
