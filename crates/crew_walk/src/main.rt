@@ -19,9 +19,9 @@ fn main(rt: HostRuntime) -> anyhow::Result<()> {
             pool: crew.clone()?,
             busy_timeout: None,
         });
-    // end walk
     for answer in walk.into_iter() {
         println!(rt; "{}", answer?.path()?)?;
     }
+    // end walk
     Ok(())
 }

@@ -7,7 +7,7 @@ use std::alloc::Allocator;
 use std::cell::Cell;
 use std::io;
 
-/// A file system that answers what another does, and counts how often a directory is listed.
+/// A file system that returns what another does, and counts how often a directory is listed.
 #[derive(Drop)]
 pub struct Counted<S: FileSystem> {
     fs: S,
@@ -34,7 +34,7 @@ impl<S: FileSystem> Counted<S> {
 
 // begin methods
 impl<S: FileSystem> FileSystem for Counted<S> {
-    // It is fixed where the other is, and answers at each path what that does.
+    // It is fixed where the other is, and returns at each path what that does.
     ghost IsFixed = { λ s. S.IsFixed s.fs };
 
     ghost functions = { λ s. S.functions s.fs };
