@@ -63,14 +63,12 @@ pub fn small_tree(alloc: Global) -> Result<MemoryFs, BuildError>
 /// What the walk that hands names on answers over this tree, unless one of the answers tells of want of memory: the
 /// three directories, where the root has no state and each group the root's name. Fails only for want of memory.
 pub fn names_in_small_tree(alloc: Global) -> Result<Vec<Found>, BuildError>
-    // begin names
     ensures answers { IfOk result (λ found. NoneRefused found.items
         → map path_and_state (counted_list names_handed_on found.items)
         ≡ Some (codes "/t", blank)
         ∷ Some (codes "/t/group 1", bytes (codes "t"))
         ∷ Some (codes "/t/group 2", bytes (codes "t"))
         ∷ []) }
-    // end names
     ensures refused { IfErr result (λ error. error ≡ BuildError.Memory) }
 {
     let fs = small_tree(alloc)?;
