@@ -13,8 +13,5 @@ invariant-loop-found g l =
     × (job_of l.walk ≡ job_of l.fn.walk)
 
 -- at most how many answers are to come: each call that fills in a hundred makes them fewer
--- begin measure
 abbrev pub decreases-loop-found : goal.decreases-loop-found
 decreases-loop-found g l = weight_of l.walk
-
--- end measure
