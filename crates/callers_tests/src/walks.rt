@@ -1,6 +1,6 @@
 //! Walks over trees in memory, and what they return.
-use jwalk::file_system::{BuildError, FileSystem};
-use jwalk::path_text;
+use jwalk::file_system::{BuildError, FileSystem, MemoryFs};
+use jwalk::{WalkDirGeneric, path_text};
 use std::alloc::{AllocError, Global};
 use std::sync::Arc;
 use walk_fixtures::answers::are_lines;
@@ -80,6 +80,27 @@ fn loop_shows(alloc: Global, wanted: &str) -> Result<bool, BuildError> {
 #[test]
 fn a_walk_in_a_for_loop(rt: HostRuntime) {
     assert!(rt; matches!(loop_shows(rt.alloc(), BELOW), Ok(true)));
+}
+
+/// The paths of a walk over a tree that is built here, one on each line.
+fn paths_in_memory(alloc: Global) -> anyhow::Result<String> {
+    let mut text = String::new(alloc);
+    // begin tree-in-memory
+    let mut fs = MemoryFs::new(alloc);
+    fs.add_dir("/photos")?;
+    fs.add_file("/photos/sea.jpg", 1200)?;
+    let root = String::from_str(alloc, "/photos")?;
+    for answer in WalkDirGeneric::<((), ()), _, _, _>::new(fs, root) {
+        writeln!(text, "{}", answer?.path()?)?;
+    }
+    // end tree-in-memory
+    Ok(text)
+}
+
+#[test]
+fn a_tree_built_in_memory(rt: HostRuntime) {
+    let paths = paths_in_memory(rt.alloc());
+    assert!(rt; matches!(&paths, Ok(paths) if paths.as_str() == "/photos\n/photos/sea.jpg\n"));
 }
 
 #[test]

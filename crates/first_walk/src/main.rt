@@ -1,10 +1,12 @@
-//! A first walk: the path of all that is below a folder, by name.
+//! A first walk: prints the path of everything below a folder, in the order of names.
 #![tactic(auto)]
 
 use jwalk::WalkDir;
+use std::env;
 
 fn main(rt: HostRuntime) -> anyhow::Result<()> {
-    for answer in WalkDir::at(&rt, "photos")?.sort(true) {
+    let root = env::args(&rt)?.nth(1);
+    for answer in WalkDir::at(&rt, root.as_deref().unwrap_or("."))?.sort(true) {
         println!(rt; "{}", answer?.path()?)?;
     }
     Ok(())

@@ -23,9 +23,11 @@ pub fn count_in_batches<
 {
     let mut found = Vec::new(alloc);
     let mut count: usize = 0;
+    // begin loop
     while walk.fill(100, &mut found)? == 100 {
         count = count.saturating_add(found.len());
         found.clear();
     }
+    // end loop
     Ok(count.saturating_add(found.len()))
 }

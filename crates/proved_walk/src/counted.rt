@@ -1,6 +1,7 @@
 //! A file system of one's own.
 ghost use Rattle.std.specs.Prelude.{◌≡◌};
 
+// begin type
 use jwalk::file_system::{Fault, FileSystem, Listed, Metadata};
 use std::alloc::Allocator;
 use std::cell::Cell;
@@ -12,6 +13,7 @@ pub struct Counted<S: FileSystem> {
     fs: S,
     listings: Cell<usize>,
 }
+// end type
 
 impl<S: FileSystem> Counted<S> {
     /// Returns the same file system, counted from 0.
@@ -30,8 +32,9 @@ impl<S: FileSystem> Counted<S> {
     }
 }
 
+// begin methods
 impl<S: FileSystem> FileSystem for Counted<S> {
-    // It is fixed if the other is, and returns at each path what that does.
+    // It is fixed where the other is, and returns at each path what that does.
     ghost IsFixed = { λ s. S.IsFixed s.fs };
 
     ghost functions = { λ s. S.functions s.fs };
@@ -57,3 +60,4 @@ impl<S: FileSystem> FileSystem for Counted<S> {
         self.fs.read_link(alloc, path)
     }
 }
+// end methods

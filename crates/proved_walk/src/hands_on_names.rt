@@ -95,6 +95,7 @@ fn hand_on_all(list: &mut Vec<Found>, state: &Option<String>) -> Result<(), Allo
     Ok(())
 }
 
+// begin process
 impl ProcessReadDir<Texts, Global> for HandsOnNames {
     ghost IsLawful = { λ _. Unit {0} };
 
@@ -111,6 +112,7 @@ impl ProcessReadDir<Texts, Global> for HandsOnNames {
         hand_on_all(list, state)
     }
 }
+// end process
 
 /// Returns all that a walk with this callback yields from a root, in the order of names, where the root has no state.
 /// Over a file system that always answers the same it is the whole walk of the definition, with its states, unless one

@@ -14,6 +14,7 @@ pub fn walk_marked<S: FileSystem>(
     fs: S,
     root: String,
 ) -> Result<Vec<Answer<DirEntry<(usize, bool)>>>, AllocError> {
+    // begin closure
     let walk = WalkDirGeneric::<(usize, bool), _, _, _>::new(fs, root)
         .skip_hidden(false)
         .root_read_dir_state(0)
@@ -41,5 +42,6 @@ pub fn walk_marked<S: FileSystem>(
             }
             Ok(())
         });
+    // end closure
     walk_given(alloc, walk)
 }

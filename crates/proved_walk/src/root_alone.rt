@@ -25,6 +25,7 @@ pub fn walk_root_alone<S: FileSystem>(
         ≡ whole_walk (record { fs = S.functions fs; options = defaults; processed = empties; default = blank })
         (string_bytes root) blank) }
 {
+    // begin closure-by-value
     let walk = WalkDirGeneric::<((), ()), _, _, _>::new(fs, root).process_read_dir_by(
         |depth, _path, state, list|
             ensures state { state.new ≡ state.old }
@@ -36,5 +37,6 @@ pub fn walk_root_alone<S: FileSystem>(
             Ok(())
         },
     );
+    // end closure-by-value
     walk_given(alloc, walk)
 }

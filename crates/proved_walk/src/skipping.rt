@@ -57,8 +57,10 @@ pub fn small_tree_without_group_1(
     ensures refused { IfErr result (λ error. error ≡ BuildError.Memory) }
 {
     let root = String::from_str(alloc, "/t")?;
+    // begin walk-skipping
     let walk = WalkDirGeneric::<((), ()), _, _, _>::new(small_tree(alloc)?, root)
         .sort(true)
         .process_read_dir(no_group_1(alloc)?);
     Ok(walk_skipping(alloc, walk)?)
+    // end walk-skipping
 }

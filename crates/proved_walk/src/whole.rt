@@ -25,13 +25,16 @@ pub fn walk_given<C: ClientState, S: FileSystem, P: ProcessReadDir<C, A>, A: All
         → NoneRefused found.items → counted_list given found.items
         ≡ whole_walk (job_for S.FileSystem given walk) (root_of walk) (given.read_dir_state (state_of walk))) }
 {
+    // begin fill
     let mut found = Vec::new(alloc);
     walk.into_iter().fill(usize::MAX, &mut found)?;
+    // end fill
     Ok(found)
 }
 
 /// Returns all that a walk without a callback yields. Over a file system that always answers the same it is the whole
 /// walk of the definition, unless one of the answers reports that memory ran out. A `MemoryFs` is such a file system.
+// begin whole
 pub fn walk_whole<C: ClientState, S: FileSystem, A: Allocator + Copy>(
     alloc: A,
     walk: WalkDirGeneric<C, S, NoProcess, A>,
@@ -42,3 +45,4 @@ pub fn walk_whole<C: ClientState, S: FileSystem, A: Allocator + Copy>(
 {
     walk_given(alloc, walk)
 }
+// end whole

@@ -40,9 +40,11 @@ where
 {
     let mut gathered = room(alloc)?;
     let mut clean = true;
+    // begin loop
     while let Some(answer) = walk.next() {
         clean &= print_one(answer, &mut gathered, out)?;
     }
+    // end loop
     write_rest(&mut gathered, out)?;
     Ok(clean)
 }
