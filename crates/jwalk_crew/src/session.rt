@@ -57,7 +57,7 @@ impl<
             shared,
             key: _,
         } = self;
-        shared.stop();
+        let _receipt = shared.stop();
         drop(place);
     }
 }
@@ -118,7 +118,7 @@ impl<
 
     fn ahead(&self) -> usize {
         let sleepers = self.shared.sleepers.lock(&self.shared.crew.rt);
-        let ready = self.shared.ready(&sleepers);
+        let (ready, _receipt) = self.shared.ready(&sleepers);
         drop(sleepers);
         ready
     }

@@ -21,12 +21,12 @@ impl Marked for Small {
 
 /// Whether the value in a slot is taken once, and once more after it was put back.
 fn is_taken_and_put_back(slot: &KeyedSlot<Small>) -> bool {
-    let Some((value, loan)) = slot.take() else {
+    let Ok((value, loan)) = slot.take() else {
         return false;
     };
-    let was_there = value == Small(3) && slot.take().is_none();
+    let was_there = value == Small(3) && slot.take().is_err();
     slot.put_back(value, loan);
-    was_there && slot.take().is_some()
+    was_there && slot.take().is_ok()
 }
 
 #[test]
@@ -44,7 +44,7 @@ fn changes_its_mark(alloc: Global) -> bool {
         return false;
     };
     prove!(value == Small(3));
-    let was_there = slot.take().is_none();
+    let was_there = slot.take().is_err();
     slot.put_back_with(Small(5), &mut key);
     was_there && slot.take_with(&mut key) == Some(Small(5))
 }
