@@ -8,11 +8,12 @@ use Rattle.jwalk_order.specs.IndexPath.{address}
 use Rattle.jwalk_board.specs.Board.{Board, Finishes, IsNextReady}
 use Rattle.read_parts.specs.declared.read_dir_spec.ReadDirSpec.{ReadDirSpec}
 use Rattle.crew_parts.specs.declared.arrival.Arrival.{Arrival}
-use Rattle.crew_parts.specs.declared.arrival.Arrival.TheVariants.{Wait}
+use Rattle.crew_parts.specs.declared.arrival.Arrival.TheVariants.{Memory}
 use Rattle.crew_parts.specs.declared.wanted.Wanted.{Wanted}
 use Rattle.crew_parts.specs.Arrival.{Arrives}
 use Rattle.crew_parts.specs.Message.{Message}
 use Rattle.jwalk_crew.specs.declared.hand_in.HandIn.{HandIn}
+use Rattle.jwalk_crew.specs.declared.sleepers.Sleepers.{Sleepers}
 use Rattle.jwalk_crew.specs.declared.steps.Calls.{Calls}
 use Rattle.jwalk_crew.specs.declared.steps.Turn.{Turn}
 use Rattle.jwalk_crew.specs.declared.work.Work.{Work}
@@ -50,18 +51,23 @@ module _ {C S P A R E : Type 0} where
     pub put : board_in works.1 ≡ Some new
     pub steps : step old new
 
-  -- What the walk finds is what came of the board, which was taken and put back by the key. Or the board is out: the walk waits, and the key did nothing.
+  -- What the walk finds is what came of the board, which was taken and put back by the key. Or the board is out: the walk ends, and the key did nothing.
   abbrev pub ArrivesOrIsOut : Wanted A → Arrival C S P A R E → Option (Work C S P A R E) × Option (Work C S P A R E) → Option (Work C S P A R E) × Option (Work C S P A R E) → Type 0
-  ArrivesOrIsOut wanted arrival before after = IsHandled (λ old new. Arrives old wanted arrival new) after ⊎ ((arrival ≡ Wait) × (after ≡ before))
+  ArrivesOrIsOut wanted arrival before after = IsHandled (λ old new. Arrives old wanted arrival new) after ⊎ ((arrival ≡ Memory) × (after ≡ before))
 
   -- The receipt is for the board of this slot, which was taken and put back after this step on it.
   pub record IsReceiptFor {T M : Type 0} (slot : KeyedSlot (Work C S P A R E) A T M) (step : Board (ReadDirSpec C A R E) (Message C S P A R E) → Board (ReadDirSpec C A R E) (Message C S P A R E) → Type 0) (receipt : Receipt (Work C S P A R E) T M) : Type 0 where
     pub in_slot : IsReceiptOf receipt slot
     pub handled : IsHandled step (receipt_of receipt)
 
-  -- What was read, if anything, was handed in: the receipt is for a board on which it is finished, or which is stopped. Or there was no board.
-  abbrev pub IsHandedIn : {T M : Type 0} → KeyedSlot (Work C S P A R E) A T M → Option (HandIn C S P A R E) → Option (Result (Receipt (Work C S P A R E) T M) (Absence (Work C S P A R E) T M)) → Type 0
-  IsHandedIn slot None handed = Unit {0}
-  IsHandedIn slot (Some read) None = ⊥
-  IsHandedIn slot (Some read) (Some (Ok receipt)) = IsReceiptFor slot (FinishesOrStops (address read.address) read.message read.children.items) receipt
-  IsHandedIn slot (Some read) (Some (Err absence)) = IsAbsenceOf absence slot
+  -- The board wasn't in this slot, and that stands under the lock from now on.
+  pub record IsMissed {T M : Type 0} (slot : KeyedSlot (Work C S P A R E) A T M) (sleepers : Sleepers) (absence : Absence (Work C S P A R E) T M) : Type 0 where
+    pub absent : IsAbsenceOf absence slot
+    pub noted : sleepers.board_missed ≡ true
+
+  -- What was read, if anything, was handed in: the receipt is for a board on which it is finished, or which is stopped. Or the board was missed.
+  abbrev pub IsHandedIn : {T M : Type 0} → KeyedSlot (Work C S P A R E) A T M → (Absence (Work C S P A R E) T M → Type 0) → Option (HandIn C S P A R E) → Option (Result (Receipt (Work C S P A R E) T M) (Absence (Work C S P A R E) T M)) → Type 0
+  IsHandedIn slot missed None handed = Unit {0}
+  IsHandedIn slot missed (Some read) None = ⊥
+  IsHandedIn slot missed (Some read) (Some (Ok receipt)) = IsReceiptFor slot (FinishesOrStops (address read.address) read.message read.children.items) receipt
+  IsHandedIn slot missed (Some read) (Some (Err absence)) = missed absence

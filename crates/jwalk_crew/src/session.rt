@@ -117,8 +117,8 @@ impl<
     }
 
     fn ahead(&self) -> usize {
-        let sleepers = self.shared.sleepers.lock(&self.shared.crew.rt);
-        let (ready, _receipt) = self.shared.ready(&sleepers);
+        let mut sleepers = self.shared.sleepers.lock(&self.shared.crew.rt);
+        let (ready, _receipt) = self.shared.ready(&mut sleepers);
         drop(sleepers);
         ready
     }

@@ -1,6 +1,7 @@
 //! What a walk and its workers share, and their steps on its board.
-ghost use Rattle.std.specs.Prelude.{◌≡◌, false, IfOk, IfErr, box_value, length, map};
+ghost use Rattle.std.specs.Prelude.{◌≡◌, true, false, IfOk, IfErr, box_value, length, map};
 ghost use Rattle.std.specs.Arc.{arc_value};
+ghost use Rattle.std.specs.Sync.Mutex.{mutex_guard_value};
 ghost use Rattle.keyed_slot.specs.Keyed.{
   tag_of,
   key_mark,
@@ -22,6 +23,7 @@ ghost use Rattle.jwalk_crew.specs.Handled.{
   ArrivesOrIsOut,
   Counts,
   FinishesOrStops,
+  IsMissed,
   IsReceiptFor,
   Stops,
   TurnsAndCalls,
@@ -124,18 +126,22 @@ impl<
         Ok((shared, key))
     }
 
-    /// Takes the board out: it is there, since the caller holds the lock. The guard witnesses that, and is not read.
-    fn take_out(&self, _held: &MutexGuard<'_, Sleepers>) -> TakenOut<C, S, P, A>
+    /// Takes the board out: it is there, since the caller holds the lock, which the guard shows. No clause says so: a
+    /// board that is missed is noted under the lock, and then the walk ends.
+    fn take_out(&self, held: &mut MutexGuard<'_, Sleepers>) -> TakenOut<C, S, P, A>
         ensures board { IfOk result (λ taken. IsBoardOf S.FileSystem P.ProcessReadDir C.ReadDirState.Clone
             C.DirEntryState.Default (tag_of self.now.work) (box_value taken.0)) }
         ensures mark { IfOk result (λ taken. loan_mark taken.1 ≡ (box_value taken.0).frontier) }
         ensures owed { IfOk result (λ taken. IsOwed taken.1 self.now.work) }
         ensures lent { IfOk result (λ taken. board_in (lent taken.1) ≡ Some (box_value taken.0)) }
-        ensures absent { IfErr result (λ absence. IsAbsenceOf absence self.now.work) }
+        ensures absent { IfErr result (IsMissed self.now.work (mutex_guard_value held.new)) }
     {
         match self.work.take() {
             Ok((work, loan)) => Ok((work.into_board(), loan)),
-            Err(absence) => Err(absence),
+            Err(absence) => {
+                held.set_board_missed();
+                Err(absence)
+            }
         }
     }
 
@@ -161,14 +167,14 @@ impl<
     /// Hands in what a worker read. The receipt is for a board on which it is finished, or which is stopped.
     pub(crate) fn hand_in(
         &self,
-        held: &MutexGuard<'_, Sleepers>,
+        held: &mut MutexGuard<'_, Sleepers>,
         read: HandIn<C, S, P, A>,
     ) -> Handled<C, S, P, A>
         requires { IsMadeAt S.FileSystem P.ProcessReadDir C.ReadDirState.Clone C.DirEntryState.Default
             (tag_of self.now.work) (indices_of read.address) read.message read.children.items }
         ensures handed_in { IfOk result (IsReceiptFor self.now.work (FinishesOrStops (indices_of read.address)
             read.message read.children.items)) }
-        ensures absent { IfErr result (λ absence. IsAbsenceOf absence self.now.work) }
+        ensures absent { IfErr result (IsMissed self.now.work (mutex_guard_value held.new)) }
     {
         let (mut board, loan) = self.take_out(held)?;
         let _refused = read.finish(&mut *board);
@@ -178,12 +184,12 @@ impl<
     /// A worker's turn at the board: what it does next, and whom that calls. The receipt is for the board after that.
     pub(crate) fn turn(
         &self,
-        held: &MutexGuard<'_, Sleepers>,
+        held: &mut MutexGuard<'_, Sleepers>,
     ) -> (Turn<ReadDirSpec<C, A>, A>, Calls, Handled<C, S, P, A>)
         ensures turn { IsTurnOf S.FileSystem P.ProcessReadDir C.ReadDirState.Clone C.DirEntryState.Default
             (tag_of self.now.work) result.0 }
         ensures handled { IfOk result.2 (IsReceiptFor self.now.work (TurnsAndCalls result.0 result.1)) }
-        ensures absent { IfErr result.2 (λ absence. IsAbsenceOf absence self.now.work) }
+        ensures absent { IfErr result.2 (IsMissed self.now.work (mutex_guard_value held.new)) }
     {
         let (mut board, loan) = match self.take_out(held) {
             Ok(taken) => taken,
@@ -194,10 +200,9 @@ impl<
         (turn, calls, Ok(self.put_back(held, board, loan)))
     }
 
-    /// Asks the board for the reading that is wanted, by the walk's key. Where the board is out, it isn't ready yet.
-    pub(crate) fn arrival(
+    /// Asks the board for the reading that is wanted, by the walk's key. Where the board is out, the walk ends.
+    fn arrival_on_board(
         &self,
-        _held: &MutexGuard<'_, Sleepers>,
         key: &mut Key<Work<C, S, P, A>>,
         wanted: &Wanted<A>,
     ) -> Arrival<C, S, P, A>
@@ -210,7 +215,7 @@ impl<
         ensures handled { ArrivesOrIsOut wanted.now result (handled key.old) (handled key.new) }
     {
         let Some(work) = self.work.take_with(key) else {
-            return Arrival::Wait;
+            return Arrival::Memory;
         };
         let mut board = work.into_board();
         let arrival = arrive(&mut *board, wanted);
@@ -218,10 +223,32 @@ impl<
         arrival
     }
 
+    /// Asks the board for the reading that is wanted, by the walk's key. Once the board was missed the walk doesn't
+    /// wait: it ends as where the board is stopped.
+    pub(crate) fn arrival(
+        &self,
+        held: &MutexGuard<'_, Sleepers>,
+        key: &mut Key<Work<C, S, P, A>>,
+        wanted: &Wanted<A>,
+    ) -> Arrival<C, S, P, A>
+        requires opens { Opens key.old self.now.work }
+        requires home { is_out key.old ≡ false }
+        ensures opens { Opens key.new self.now.work }
+        ensures home { is_out key.new ≡ false }
+        ensures arrival { IsArrivalOf S.FileSystem P.ProcessReadDir C.ReadDirState.Clone C.DirEntryState.Default
+            (tag_of self.now.work) (key_mark key.old) wanted.now result (key_mark key.new) }
+        ensures missed { (mutex_guard_value held.now).board_missed ≡ true → ¬ (result ≡ Arrival.Wait) }
+    {
+        match self.arrival_on_board(key, wanted) {
+            Arrival::Wait if held.board_missed() => Arrival::Memory,
+            arrival => arrival,
+        }
+    }
+
     /// How many readings are ready. The receipt is for the board as it was.
-    pub(crate) fn ready(&self, held: &MutexGuard<'_, Sleepers>) -> (usize, Handled<C, S, P, A>)
+    pub(crate) fn ready(&self, held: &mut MutexGuard<'_, Sleepers>) -> (usize, Handled<C, S, P, A>)
         ensures handled { IfOk result.1 (IsReceiptFor self.now.work (Counts result.0)) }
-        ensures absent { IfErr result.1 (λ absence. IsAbsenceOf absence self.now.work) }
+        ensures absent { IfErr result.1 (IsMissed self.now.work (mutex_guard_value held.new)) }
     {
         let (board, loan) = match self.take_out(held) {
             Ok(taken) => taken,
@@ -232,9 +259,9 @@ impl<
     }
 
     /// Stops the board. The receipt is for a board that is stopped.
-    fn stop_board(&self, held: &MutexGuard<'_, Sleepers>) -> Handled<C, S, P, A>
+    fn stop_board(&self, held: &mut MutexGuard<'_, Sleepers>) -> Handled<C, S, P, A>
         ensures stopped { IfOk result (IsReceiptFor self.now.work Stops) }
-        ensures absent { IfErr result (λ absence. IsAbsenceOf absence self.now.work) }
+        ensures absent { IfErr result (IsMissed self.now.work (mutex_guard_value held.new)) }
     {
         let (mut board, loan) = self.take_out(held)?;
         board.stop();
@@ -257,7 +284,7 @@ impl<
         ensures absent { IfErr result (λ absence. IsAbsenceOf absence self.now.work) }
     {
         let mut sleepers = self.sleepers.lock(&self.crew.rt);
-        let receipt = self.stop_board(&sleepers);
+        let receipt = self.stop_board(&mut sleepers);
         let calls = sleepers.called_by(Calls::all());
         drop(sleepers);
         self.call(calls);

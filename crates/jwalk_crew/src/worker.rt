@@ -1,12 +1,13 @@
 //! The threads that read for a walk.
 ghost use Rattle.std.specs.Prelude.{◌≤◌, IfSome};
 ghost use Rattle.std.specs.Arc.{arc_value};
-ghost use Rattle.keyed_slot.specs.Keyed.{tag_of};
+ghost use Rattle.std.specs.Sync.Mutex.{mutex_guard_value};
+ghost use Rattle.keyed_slot.specs.Keyed.{tag_of, IsAbsenceOf};
 ghost use Rattle.jwalk_order.specs.IndexPath.{address as indices_of};
 ghost use Rattle.jwalk_order.specs.Ordered.{address_of};
 ghost use Rattle.jwalk_read.specs.Job.{callback};
 ghost use Rattle.read_parts.specs.ReadDirSpec.{spec};
-ghost use Rattle.jwalk_crew.specs.Handled.{IsHandedIn};
+ghost use Rattle.jwalk_crew.specs.Handled.{IsHandedIn, IsMissed};
 ghost use Rattle.jwalk_crew.specs.Origin.{IsAt, IsMadeAt};
 
 use crate::hand_in::HandIn;
@@ -60,13 +61,14 @@ impl<
     /// Hands in what was read, if anything.
     fn hand_in(
         &self,
-        held: &MutexGuard<'_, Sleepers>,
+        held: &mut MutexGuard<'_, Sleepers>,
         read: Option<HandIn<C, S, P, A>>,
     ) -> Option<Handled<C, S, P, A>>
         requires { IfSome read (λ h. IsMadeAt S.FileSystem P.ProcessReadDir C.ReadDirState.Clone
             C.DirEntryState.Default (tag_of (arc_value self.now.shared).work) (indices_of h.address) h.message
             h.children.items) }
-        ensures { IsHandedIn (arc_value self.now.shared).work read result }
+        ensures { IsHandedIn (arc_value self.now.shared).work (IsMissed (arc_value self.now.shared).work
+            (mutex_guard_value held.new)) read result }
     {
         match read {
             Some(read) => Some(self.shared.hand_in(held, read)),
@@ -88,13 +90,14 @@ impl<
             h.children.items) }
         ensures taken { IfSome result.0 (λ item. IsAt S.FileSystem P.ProcessReadDir C.ReadDirState.Clone
             C.DirEntryState.Default (tag_of (arc_value self.now.shared).work) (address_of item) (spec item.value)) }
-        ensures handed_in { IsHandedIn (arc_value self.now.shared).work read result.1 }
+        ensures handed_in { IsHandedIn (arc_value self.now.shared).work (λ absence. IsAbsenceOf absence
+            (arc_value self.now.shared).work) read result.1 }
     {
         let rt = &self.shared.crew.rt;
         let mut sleepers = self.shared.sleepers.lock(rt);
-        let receipt = self.hand_in(&sleepers, read);
+        let receipt = self.hand_in(&mut sleepers, read);
         for _ in rt.forever() {
-            let (turn, wanted, _receipt) = self.shared.turn(&sleepers);
+            let (turn, wanted, _receipt) = self.shared.turn(&mut sleepers);
             let calls = sleepers.called_by(wanted);
             match turn {
                 Turn::Wait if calls.is_empty() => {

@@ -3,7 +3,7 @@ use Rattle.keyed_slot.specs.Keyed.{tag_of, key_mark}
 use Rattle.jwalk_crew.specs.Shared.{IsArrivalOf}
 use Rattle.jwalk_crew.proofs.HandledFacts.{arrives_on}
 use Rattle.jwalk_crew.proofs.SharedFacts.{same_of, arrived_board, arrived_of}
-use Rattle.jwalk_crew.proofs.shared.Shared.arrival.Goals as goal
+use Rattle.jwalk_crew.proofs.shared.Shared.arrival_on_board.Goals as goal
 
 pub put_back_with-requires-clause-fits : goal.put_back_with-requires-clause-fits
 put_back_with-requires-clause-fits g c =
