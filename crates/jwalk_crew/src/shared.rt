@@ -176,9 +176,16 @@ impl<
             read.message read.children.items)) }
         ensures absent { IfErr result (IsMissed self.now.work (mutex_guard_value held.new)) }
     {
-        let (mut board, loan) = self.take_out(held)?;
-        let _refused = read.finish(&mut *board);
-        Ok(self.put_back(held, board, loan))
+        match self.take_out(held) {
+            Ok((mut board, loan)) => {
+                let _refused = read.finish(&mut *board);
+                Ok(self.put_back(held, board, loan))
+            }
+            Err(absence) => {
+                read.give_up();
+                Err(absence)
+            }
+        }
     }
 
     /// A worker's turn at the board: what it does next, and whom that calls. The receipt is for the board after that.

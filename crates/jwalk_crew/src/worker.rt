@@ -142,11 +142,7 @@ impl<
         match self.shared.job.clone() {
             Ok(job) => {
                 let (message, children) = Message::read(job, of);
-                Some(HandIn {
-                    address,
-                    message,
-                    children,
-                })
+                Some(HandIn::new(address, message, children))
             }
             Err(_) => {
                 let _receipt = self.shared.stop();
@@ -159,11 +155,14 @@ impl<
     fn work(&self)
         requires { P.IsLawful (callback (arc_value (arc_value self.now.shared).job)) }
     {
-        let mut read = None;
+        let (mut taken, _none) = self.next(None);
         for _ in self.shared.crew.rt.forever() {
-            let (item, _receipt) = self.next(read);
-            match item {
-                Some(item) => read = self.read(item),
+            match taken {
+                Some(item) => {
+                    let read = self.read(item);
+                    let (item, _receipt) = self.next(read);
+                    taken = item;
+                }
                 None => return,
             }
         }
