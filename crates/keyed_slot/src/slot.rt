@@ -23,8 +23,8 @@ pub struct Key<X: Marked> {
     seat: Seat<Option<X>, Known<X::Tag, X::Mark, X>>,
 }
 
-/// What is owed to a slot by whoever took its value without the key.
-#[derive(Drop)]
+/// What is owed to a slot by whoever took its value without the key. It isn't `Drop`: nobody can let it go but by
+/// `put_back`.
 pub struct Loan<X: Marked> {
     seat: Seat<Option<X>, Known<X::Tag, X::Mark, X>>,
 }
