@@ -1,3 +1,4 @@
 mod DueFacts
 pub mod OriginFacts
+mod HandledFacts
 mod SharedFacts

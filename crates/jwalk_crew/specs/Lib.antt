@@ -4,3 +4,4 @@ pub mod Due
 pub mod Steps
 pub mod Crew
 pub mod Session
+pub mod Handled

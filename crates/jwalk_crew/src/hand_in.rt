@@ -13,27 +13,18 @@ use read_parts::read_dir_spec::ReadDirSpec;
 use std::alloc::Allocator;
 use walk_fs::file_system::FileSystem;
 
-/// A reading that a worker made: the address of its directory in the walk, its message, and the directories below it.
+/// A reading that a worker made: where its directory stands in the walk, its message, and the directories below it.
+///
+/// It isn't `Drop`, and its fields are this module's, so nobody can let it go but by `finish` and `give_up`.
 pub(crate) struct HandIn<
     C: ClientState,
     S: FileSystem,
     P: ProcessReadDir<C, A>,
     A: Allocator + Copy,
 > {
-    pub(crate) address: IndexPath<A>,
-    pub(crate) message: Message<C, S, P, A>,
-    pub(crate) children: Vec<ReadDirSpec<C, A>, A>,
-}
-
-impl<C: ClientState, S: FileSystem, P: ProcessReadDir<C, A>, A: Allocator + Copy> Drop
-    for HandIn<C, S, P, A> {
-    fn drop(self) {
-        let HandIn {
-            address: _,
-            message: _,
-            children: _,
-        } = self;
-    }
+    address: IndexPath<A>,
+    message: Message<C, S, P, A>,
+    children: Vec<ReadDirSpec<C, A>, A>,
 }
 
 impl<C: ClientState, S: FileSystem, P: ProcessReadDir<C, A>, A: Allocator + Copy> HandIn<
@@ -42,7 +33,24 @@ impl<C: ClientState, S: FileSystem, P: ProcessReadDir<C, A>, A: Allocator + Copy
     P,
     A,
 > {
-    /// Finishes it on a board. If that fails, it is given back, and the board is stopped.
+    /// What a worker made of the directory at an address: a message, and the directories below it.
+    pub(crate) fn new(
+        address: IndexPath<A>,
+        message: Message<C, S, P, A>,
+        children: Vec<ReadDirSpec<C, A>, A>,
+    ) -> Self
+        ensures address { result.address ≡ address }
+        ensures message { result.message ≡ message }
+        ensures children { result.children ≡ children }
+    {
+        HandIn {
+            address,
+            message,
+            children,
+        }
+    }
+
+    /// Finishes it on a board. What is refused comes back, and the board is stopped then.
     pub(crate) fn finish(
         self,
         board: &mut Board<ReadDirSpec<C, A>, Message<C, S, P, A>, A>,
@@ -57,5 +65,14 @@ impl<C: ClientState, S: FileSystem, P: ProcessReadDir<C, A>, A: Allocator + Copy
             children,
         } = self;
         finish_or_stop(board, address, message, children)
+    }
+
+    /// Lets it go, where there is no board to finish it on.
+    pub(crate) fn give_up(self) {
+        let HandIn {
+            address: _,
+            message: _,
+            children: _,
+        } = self;
     }
 }

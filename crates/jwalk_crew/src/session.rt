@@ -58,7 +58,7 @@ impl<
             shared,
             key: _,
         } = self;
-        shared.stop();
+        let _receipt = shared.stop();
         drop(place);
     }
 }
@@ -118,8 +118,8 @@ impl<
     }
 
     fn ahead(&self) -> usize {
-        let sleepers = self.shared.sleepers.lock(&self.shared.crew.rt);
-        let ready = self.shared.ready(&sleepers);
+        let mut sleepers = self.shared.sleepers.lock(&self.shared.crew.rt);
+        let (ready, _receipt) = self.shared.ready(&mut sleepers);
         drop(sleepers);
         ready
     }

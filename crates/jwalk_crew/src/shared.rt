@@ -1,10 +1,33 @@
 //! What a walk and its workers share, and their steps on its board.
-ghost use Rattle.std.specs.Prelude.{◌≡◌, false, IfOk, IfSome, box_value, length, map};
+ghost use Rattle.std.specs.Prelude.{◌≡◌, true, false, IfOk, IfErr, box_value, length, map};
 ghost use Rattle.std.specs.Arc.{arc_value};
-ghost use Rattle.keyed_slot.specs.Keyed.{tag_of, key_mark, is_out, loan_mark, Opens, IsOwed};
+ghost use Rattle.std.specs.Sync.Mutex.{mutex_guard_value};
+ghost use Rattle.keyed_slot.specs.Keyed.{
+  tag_of,
+  key_mark,
+  is_out,
+  loan_mark,
+  lent,
+  receipt_of,
+  handled,
+  Opens,
+  IsOwed,
+  IsReceiptOf,
+  IsAbsenceOf,
+};
 ghost use Rattle.jwalk_order.specs.Frontier.{roots as root_addresses};
 ghost use Rattle.jwalk_order.specs.IndexPath.{address as indices_of};
 ghost use Rattle.read_parts.specs.ReadDirSpec.{spec};
+ghost use Rattle.jwalk_crew.specs.Handled.{
+  board_in,
+  ArrivesOrIsOut,
+  Counts,
+  FinishesOrStops,
+  IsMissed,
+  IsReceiptFor,
+  Stops,
+  TurnsAndCalls,
+};
 ghost use Rattle.jwalk_crew.specs.Origin.{CountAlike, IsBoardOf, IsMadeAt};
 ghost use Rattle.jwalk_crew.specs.Shared.{IsArrivalOf, IsTurnOf};
 
@@ -13,11 +36,11 @@ use crate::hand_in::HandIn;
 use crate::origin::Origin;
 use crate::sleepers::Sleepers;
 use crate::steps::{Calls, Turn, new_board, take_turn};
-use crate::work::{SharedBoard, Work};
+use crate::work::{Handled, SharedBoard, TakenOut, Work};
 use crew_parts::arrival::{Arrival, arrive};
 use crew_parts::wanted::Wanted;
 use jwalk_read::job::Job;
-use keyed_slot::slot::{Key, KeyedSlot, Loan};
+use keyed_slot::slot::{Key, KeyedSlot, Loan, Receipt};
 use read_parts::client_state::ClientState;
 use read_parts::process_read_dir::ProcessReadDir;
 use read_parts::read_dir_spec::ReadDirSpec;
@@ -103,18 +126,23 @@ impl<
         Ok((shared, key))
     }
 
-    /// Takes the board out: it is there, since the caller holds the lock. The guard witnesses that, and is not read.
-    fn take_out(
-        &self,
-        _held: &MutexGuard<'_, Sleepers>,
-    ) -> Option<(SharedBoard<C, S, P, A>, Loan<Work<C, S, P, A>>)>
-        ensures board { IfSome result (λ taken. IsBoardOf S.FileSystem P.ProcessReadDir C.ReadDirState.Clone
+    /// Takes the board out: it is there, since the caller holds the lock, which the guard shows. No clause says so: a
+    /// board that is missed is noted under the lock, and then the walk ends.
+    fn take_out(&self, held: &mut MutexGuard<'_, Sleepers>) -> TakenOut<C, S, P, A>
+        ensures board { IfOk result (λ taken. IsBoardOf S.FileSystem P.ProcessReadDir C.ReadDirState.Clone
             C.DirEntryState.Default (tag_of self.now.work) (box_value taken.0)) }
-        ensures mark { IfSome result (λ taken. loan_mark taken.1 ≡ (box_value taken.0).frontier) }
-        ensures owed { IfSome result (λ taken. IsOwed taken.1 self.now.work) }
+        ensures mark { IfOk result (λ taken. loan_mark taken.1 ≡ (box_value taken.0).frontier) }
+        ensures owed { IfOk result (λ taken. IsOwed taken.1 self.now.work) }
+        ensures lent { IfOk result (λ taken. board_in (lent taken.1) ≡ Some (box_value taken.0)) }
+        ensures absent { IfErr result (IsMissed self.now.work (mutex_guard_value held.new)) }
     {
-        let (work, loan) = self.work.take()?;
-        Some((work.into_board(), loan))
+        match self.work.take() {
+            Ok((work, loan)) => Ok((work.into_board(), loan)),
+            Err(absence) => {
+                held.set_board_missed();
+                Err(absence)
+            }
+        }
     }
 
     /// Puts the board back, under the same hold of the lock. The guard witnesses that, and is not read. Nothing was
@@ -124,49 +152,64 @@ impl<
         _held: &MutexGuard<'_, Sleepers>,
         board: SharedBoard<C, S, P, A>,
         loan: Loan<Work<C, S, P, A>>,
-    )
+    ) -> Receipt<Work<C, S, P, A>>
         requires board { IsBoardOf S.FileSystem P.ProcessReadDir C.ReadDirState.Clone C.DirEntryState.Default
             (tag_of self.now.work) (box_value board) }
         requires mark { (box_value board).frontier ≡ loan_mark loan }
         requires owed { IsOwed loan self.now.work }
+        ensures slot { IsReceiptOf result self.now.work }
+        ensures taken { (receipt_of result).0 ≡ lent loan }
+        ensures put { board_in (receipt_of result).1 ≡ Some (box_value board) }
     {
-        self.work.put_back(Work::new(board), loan);
+        self.work.put_back(Work::new(board), loan)
     }
 
-    /// Hands in what a worker read.
-    pub(crate) fn hand_in(&self, held: &MutexGuard<'_, Sleepers>, read: HandIn<C, S, P, A>)
+    /// Hands in what a worker read. The receipt is for a board on which it is finished, or which is stopped.
+    pub(crate) fn hand_in(
+        &self,
+        held: &mut MutexGuard<'_, Sleepers>,
+        read: HandIn<C, S, P, A>,
+    ) -> Handled<C, S, P, A>
         requires { IsMadeAt S.FileSystem P.ProcessReadDir C.ReadDirState.Clone C.DirEntryState.Default
             (tag_of self.now.work) (indices_of read.address) read.message read.children.items }
+        ensures handed_in { IfOk result (IsReceiptFor self.now.work (FinishesOrStops (indices_of read.address)
+            read.message read.children.items)) }
+        ensures absent { IfErr result (IsMissed self.now.work (mutex_guard_value held.new)) }
     {
-        let Some((mut board, loan)) = self.take_out(held) else {
-            return;
-        };
-        let _refused = read.finish(&mut *board);
-        self.put_back(held, board, loan);
+        match self.take_out(held) {
+            Ok((mut board, loan)) => {
+                let _refused = read.finish(&mut *board);
+                Ok(self.put_back(held, board, loan))
+            }
+            Err(absence) => {
+                read.give_up();
+                Err(absence)
+            }
+        }
     }
 
-    /// Takes a worker's turn at the board: returns what the worker does next, and whom that calls.
+    /// A worker's turn at the board: what it does next, and whom that calls. The receipt is for the board after that.
     pub(crate) fn turn(
         &self,
-        held: &MutexGuard<'_, Sleepers>,
-    ) -> (Turn<ReadDirSpec<C, A>, A>, Calls)
-        ensures { IsTurnOf S.FileSystem P.ProcessReadDir C.ReadDirState.Clone C.DirEntryState.Default
+        held: &mut MutexGuard<'_, Sleepers>,
+    ) -> (Turn<ReadDirSpec<C, A>, A>, Calls, Handled<C, S, P, A>)
+        ensures turn { IsTurnOf S.FileSystem P.ProcessReadDir C.ReadDirState.Clone C.DirEntryState.Default
             (tag_of self.now.work) result.0 }
+        ensures handled { IfOk result.2 (IsReceiptFor self.now.work (TurnsAndCalls result.0 result.1)) }
+        ensures absent { IfErr result.2 (IsMissed self.now.work (mutex_guard_value held.new)) }
     {
-        let Some((mut board, loan)) = self.take_out(held) else {
-            return (Turn::End, Calls::all());
+        let (mut board, loan) = match self.take_out(held) {
+            Ok(taken) => taken,
+            Err(absence) => return (Turn::End, Calls::all(), Err(absence)),
         };
         let turn = take_turn(&mut *board);
         let calls = Calls::after_turn(&*board, &turn);
-        self.put_back(held, board, loan);
-        (turn, calls)
+        (turn, calls, Ok(self.put_back(held, board, loan)))
     }
 
-    /// Asks the board for the reading that is wanted, by the walk's key. If the board is out, the reading isn't ready
-    /// yet.
-    pub(crate) fn arrival(
+    /// Asks the board for the reading that is wanted, by the walk's key. Where the board is out, the walk ends.
+    fn arrival_on_board(
         &self,
-        _held: &MutexGuard<'_, Sleepers>,
         key: &mut Key<Work<C, S, P, A>>,
         wanted: &Wanted<A>,
     ) -> Arrival<C, S, P, A>
@@ -176,9 +219,10 @@ impl<
         ensures home { is_out key.new ≡ false }
         ensures arrival { IsArrivalOf S.FileSystem P.ProcessReadDir C.ReadDirState.Clone C.DirEntryState.Default
             (tag_of self.now.work) (key_mark key.old) wanted.now result (key_mark key.new) }
+        ensures handled { ArrivesOrIsOut wanted.now result (handled key.old) (handled key.new) }
     {
         let Some(work) = self.work.take_with(key) else {
-            return Arrival::Wait;
+            return Arrival::Memory;
         };
         let mut board = work.into_board();
         let arrival = arrive(&mut *board, wanted);
@@ -186,23 +230,49 @@ impl<
         arrival
     }
 
-    /// Returns how many readings are ready.
-    pub(crate) fn ready(&self, held: &MutexGuard<'_, Sleepers>) -> usize {
-        let Some((board, loan)) = self.take_out(held) else {
-            return 0;
-        };
-        let ready = board.ready();
-        self.put_back(held, board, loan);
-        ready
+    /// Asks the board for the reading that is wanted, by the walk's key. Once the board was missed the walk doesn't
+    /// wait: it ends as where the board is stopped.
+    pub(crate) fn arrival(
+        &self,
+        held: &MutexGuard<'_, Sleepers>,
+        key: &mut Key<Work<C, S, P, A>>,
+        wanted: &Wanted<A>,
+    ) -> Arrival<C, S, P, A>
+        requires opens { Opens key.old self.now.work }
+        requires home { is_out key.old ≡ false }
+        ensures opens { Opens key.new self.now.work }
+        ensures home { is_out key.new ≡ false }
+        ensures arrival { IsArrivalOf S.FileSystem P.ProcessReadDir C.ReadDirState.Clone C.DirEntryState.Default
+            (tag_of self.now.work) (key_mark key.old) wanted.now result (key_mark key.new) }
+        ensures missed { (mutex_guard_value held.now).board_missed ≡ true → ¬ (result ≡ Arrival.Wait) }
+    {
+        match self.arrival_on_board(key, wanted) {
+            Arrival::Wait if held.board_missed() => Arrival::Memory,
+            arrival => arrival,
+        }
     }
 
-    /// Stops the board.
-    fn stop_board(&self, held: &MutexGuard<'_, Sleepers>) {
-        let Some((mut board, loan)) = self.take_out(held) else {
-            return;
+    /// How many readings are ready. The receipt is for the board as it was.
+    pub(crate) fn ready(&self, held: &mut MutexGuard<'_, Sleepers>) -> (usize, Handled<C, S, P, A>)
+        ensures handled { IfOk result.1 (IsReceiptFor self.now.work (Counts result.0)) }
+        ensures absent { IfErr result.1 (IsMissed self.now.work (mutex_guard_value held.new)) }
+    {
+        let (board, loan) = match self.take_out(held) {
+            Ok(taken) => taken,
+            Err(absence) => return (0, Err(absence)),
         };
+        let ready = board.ready();
+        (ready, Ok(self.put_back(held, board, loan)))
+    }
+
+    /// Stops the board. The receipt is for a board that is stopped.
+    fn stop_board(&self, held: &mut MutexGuard<'_, Sleepers>) -> Handled<C, S, P, A>
+        ensures stopped { IfOk result (IsReceiptFor self.now.work Stops) }
+        ensures absent { IfErr result (IsMissed self.now.work (mutex_guard_value held.new)) }
+    {
+        let (mut board, loan) = self.take_out(held)?;
         board.stop();
-        self.put_back(held, board, loan);
+        Ok(self.put_back(held, board, loan))
     }
 
     /// Notifies those who sleep.
@@ -215,12 +285,16 @@ impl<
         }
     }
 
-    /// Stops the board, and with it the workers and the walk.
-    pub(crate) fn stop(&self) {
+    /// Stops the board, and with it the workers and the walk. The receipt is for a board that is stopped.
+    pub(crate) fn stop(&self) -> Handled<C, S, P, A>
+        ensures stopped { IfOk result (IsReceiptFor self.now.work Stops) }
+        ensures absent { IfErr result (λ absence. IsAbsenceOf absence self.now.work) }
+    {
         let mut sleepers = self.sleepers.lock(&self.crew.rt);
-        self.stop_board(&sleepers);
+        let receipt = self.stop_board(&mut sleepers);
         let calls = sleepers.called_by(Calls::all());
         drop(sleepers);
         self.call(calls);
+        receipt
     }
 }

@@ -6,6 +6,7 @@ use crew_parts::message::Message;
 use jwalk_board::board::Board;
 use jwalk_order::ordered_queue::OrderedMatcher;
 use keyed_slot::marked::Marked;
+use keyed_slot::slot::{Absence, Loan, Receipt};
 use read_parts::client_state::ClientState;
 use read_parts::process_read_dir::ProcessReadDir;
 use read_parts::read_dir_spec::ReadDirSpec;
@@ -25,6 +26,15 @@ pub(crate) struct Work<
 > {
     board: SharedBoard<C, S, P, A>,
 }
+
+/// A board that was taken, and what is owed for it; or that there was none.
+pub(crate) type TakenOut<C, S, P, A> = Result<
+    (SharedBoard<C, S, P, A>, Loan<Work<C, S, P, A>>),
+    Absence<Work<C, S, P, A>>,
+>;
+
+/// A receipt for a board that was taken and put back; or that there was none.
+pub(crate) type Handled<C, S, P, A> = Result<Receipt<Work<C, S, P, A>>, Absence<Work<C, S, P, A>>>;
 
 impl<C: ClientState, S: FileSystem, P: ProcessReadDir<C, A>, A: Allocator + Copy> Drop
     for Work<C, S, P, A> {

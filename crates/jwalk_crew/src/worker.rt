@@ -1,24 +1,28 @@
 //! The threads that read for a walk.
 ghost use Rattle.std.specs.Prelude.{◌≤◌, IfSome};
 ghost use Rattle.std.specs.Arc.{arc_value};
-ghost use Rattle.keyed_slot.specs.Keyed.{tag_of};
+ghost use Rattle.std.specs.Sync.Mutex.{mutex_guard_value};
+ghost use Rattle.keyed_slot.specs.Keyed.{tag_of, IsAbsenceOf};
 ghost use Rattle.jwalk_order.specs.IndexPath.{address as indices_of};
 ghost use Rattle.jwalk_order.specs.Ordered.{address_of};
 ghost use Rattle.jwalk_read.specs.Job.{callback};
 ghost use Rattle.read_parts.specs.ReadDirSpec.{spec};
+ghost use Rattle.jwalk_crew.specs.Handled.{IsHandedIn, IsMissed};
 ghost use Rattle.jwalk_crew.specs.Origin.{IsAt, IsMadeAt};
 
 use crate::hand_in::HandIn;
 use crate::shared::Shared;
+use crate::sleepers::Sleepers;
 use crate::steps::Turn;
 use crate::waiting::wait_a_turn;
+use crate::work::Handled;
 use crew_parts::message::Message;
 use jwalk_order::ordered::Ordered;
 use read_parts::client_state::ClientState;
 use read_parts::process_read_dir::ProcessReadDir;
 use read_parts::read_dir_spec::ReadDirSpec;
 use std::alloc::Allocator;
-use std::sync::{Arc, Wait};
+use std::sync::{Arc, MutexGuard, Wait};
 use std::thread;
 use std::thread::Threads;
 use std::time::Clock;
@@ -54,22 +58,46 @@ impl<
     P: ProcessReadDir<C, A>,
     A: Allocator + Copy,
 > Worker<R, C, S, P, A> {
-    /// Hands in what was read, if anything, and takes a directory as soon as one is queued. Returns none once the board
-    /// is done or stopped.
-    fn next(&self, read: Option<HandIn<C, S, P, A>>) -> Option<Ordered<ReadDirSpec<C, A>, A>>
+    /// Hands in what was read, if anything.
+    fn hand_in(
+        &self,
+        held: &mut MutexGuard<'_, Sleepers>,
+        read: Option<HandIn<C, S, P, A>>,
+    ) -> Option<Handled<C, S, P, A>>
         requires { IfSome read (λ h. IsMadeAt S.FileSystem P.ProcessReadDir C.ReadDirState.Clone
             C.DirEntryState.Default (tag_of (arc_value self.now.shared).work) (indices_of h.address) h.message
             h.children.items) }
-        ensures { IfSome result (λ item. IsAt S.FileSystem P.ProcessReadDir C.ReadDirState.Clone
+        ensures { IsHandedIn (arc_value self.now.shared).work (IsMissed (arc_value self.now.shared).work
+            (mutex_guard_value held.new)) read result }
+    {
+        match read {
+            Some(read) => Some(self.shared.hand_in(held, read)),
+            None => None,
+        }
+    }
+
+    /// Hands in what was read, if anything, and takes a directory as soon as one is queued: none once the board is done
+    /// or stopped. There is a receipt for what was handed in.
+    fn next(
+        &self,
+        read: Option<HandIn<C, S, P, A>>,
+    ) -> (
+        Option<Ordered<ReadDirSpec<C, A>, A>>,
+        Option<Handled<C, S, P, A>>,
+    )
+        requires { IfSome read (λ h. IsMadeAt S.FileSystem P.ProcessReadDir C.ReadDirState.Clone
+            C.DirEntryState.Default (tag_of (arc_value self.now.shared).work) (indices_of h.address) h.message
+            h.children.items) }
+        ensures taken { IfSome result.0 (λ item. IsAt S.FileSystem P.ProcessReadDir C.ReadDirState.Clone
             C.DirEntryState.Default (tag_of (arc_value self.now.shared).work) (address_of item) (spec item.value)) }
+        ensures handed_in { IsHandedIn (arc_value self.now.shared).work (λ absence. IsAbsenceOf absence
+            (arc_value self.now.shared).work) read result.1 }
     {
         let rt = &self.shared.crew.rt;
         let mut sleepers = self.shared.sleepers.lock(rt);
-        if let Some(read) = read {
-            self.shared.hand_in(&sleepers, read);
-        }
+        let receipt = self.hand_in(&mut sleepers, read);
         for _ in rt.forever() {
-            let (turn, wanted) = self.shared.turn(&sleepers);
+            let (turn, wanted, _receipt) = self.shared.turn(&mut sleepers);
             let calls = sleepers.called_by(wanted);
             match turn {
                 Turn::Wait if calls.is_empty() => {
@@ -85,12 +113,12 @@ impl<
                 Turn::Read(item) => {
                     drop(sleepers);
                     self.shared.call(calls);
-                    return Some(item);
+                    return (Some(item), receipt);
                 }
                 Turn::End => {
                     drop(sleepers);
                     self.shared.call(calls);
-                    return None;
+                    return (None, receipt);
                 }
             }
         }
@@ -114,14 +142,10 @@ impl<
         match self.shared.job.clone() {
             Ok(job) => {
                 let (message, children) = Message::read(job, of);
-                Some(HandIn {
-                    address,
-                    message,
-                    children,
-                })
+                Some(HandIn::new(address, message, children))
             }
             Err(_) => {
-                self.shared.stop();
+                let _receipt = self.shared.stop();
                 None
             }
         }
@@ -131,10 +155,14 @@ impl<
     fn work(&self)
         requires { P.IsLawful (callback (arc_value (arc_value self.now.shared).job)) }
     {
-        let mut read = None;
+        let (mut taken, _none) = self.next(None);
         for _ in self.shared.crew.rt.forever() {
-            match self.next(read) {
-                Some(item) => read = self.read(item),
+            match taken {
+                Some(item) => {
+                    let read = self.read(item);
+                    let (item, _receipt) = self.next(read);
+                    taken = item;
+                }
                 None => return,
             }
         }

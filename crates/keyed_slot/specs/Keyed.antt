@@ -1,8 +1,10 @@
--- A slot, its key and a loan as contracts see them.
-use Rattle.std.specs.Prelude.{◌≡◌, ℕ, Bool, true, cond, List, [], ◌∷◌, map, Option}
+-- A slot, its key and a loan as a clause sees them.
+use Rattle.std.specs.Prelude.{◌≡◌, ℕ, Bool, true, cond, List, [], ◌∷◌, map, Option, None}
 use Rattle.keyed_slot.specs.declared.slot.KeyedSlot.{KeyedSlot}
 use Rattle.keyed_slot.specs.declared.slot.Key.{Key}
 use Rattle.keyed_slot.specs.declared.slot.Loan.{Loan}
+use Rattle.keyed_slot.specs.declared.slot.Receipt.{Receipt}
+use Rattle.keyed_slot.specs.declared.slot.Absence.{Absence}
 
 -- A seat that has the value out carries the slot's one place, and another carries none.
 abbrev pub Carries : {X : Type 0} → Bool → List (ℕ × Option X) → Type 0
@@ -21,6 +23,18 @@ module _ {X T M : Type 0} where
   abbrev pub loan_mark : Loan X T M → M
   loan_mark loan = loan.seat.me.0.mark
 
+  -- the value that was lent
+  abbrev pub lent : Loan X T M → Option X
+  lent loan = loan.seat.me.0.took
+
+  -- what the receipt says was lent, and what was put back for it
+  abbrev pub receipt_of : Receipt X T M → Option X × Option X
+  receipt_of receipt = (receipt.seat.me.0.took, receipt.seat.me.0.put)
+
+  -- what was last taken by the key, and what was put back for it
+  abbrev pub handled : Key X T M → Option X × Option X
+  handled key = (key.seat.me.0.took, key.seat.me.0.put)
+
   module _ {A : Type 0} where
     -- what the slot is made for
     abbrev pub tag_of : KeyedSlot X A T M → T
@@ -32,6 +46,15 @@ module _ {X T M : Type 0} where
       pub has_key : key.seat.me.0.has_key ≡ true
       pub tag : key.seat.me.0.tag ≡ tag_of slot
       pub carries : Carries (is_out key) key.seat.me.1
+
+    -- The receipt is for what was put back into the slot.
+    abbrev pub IsReceiptOf : Receipt X T M → KeyedSlot X A T M → Type 0
+    IsReceiptOf receipt slot = receipt.seat.table_id ≡ slot.table.shared.table_id
+
+    -- The value wasn't in this slot.
+    pub record IsAbsenceOf (absence : Absence X T M) (slot : KeyedSlot X A T M) : Type 0 where
+      pub table : absence.seat.table_id ≡ slot.table.shared.table_id
+      pub none : absence.seat.me.0.took ≡ None
 
     -- The value is owed to the slot.
     pub record IsOwed (loan : Loan X T M) (slot : KeyedSlot X A T M) : Type 0 where

@@ -13,25 +13,49 @@ use std::snapshot::Snapshot;
 /// whoever takes the value without the key puts back one with the same mark.
 #[derive(Drop)]
 pub struct KeyedSlot<X: Marked, A: Allocator = Global> {
-    table: Table<Option<X>, Known<X::Tag, X::Mark>, Begun<X::Tag, X>, Law<X>, A>,
+    table: Table<Option<X>, Known<X::Tag, X::Mark, X>, Begun<X::Tag, X>, Law<X>, A>,
     ghost sized: { (table.shared.table_id.words ≡ 1) × (table.shared.table_id.slots ≡ 1) },
 }
 
 /// The key of a slot, which knows the mark of what is there. A slot has one key.
 #[derive(Drop)]
 pub struct Key<X: Marked> {
-    seat: Seat<Option<X>, Known<X::Tag, X::Mark>>,
+    seat: Seat<Option<X>, Known<X::Tag, X::Mark, X>>,
 }
 
-/// What whoever took a slot's value without the key owes to the slot.
-#[derive(Drop)]
+/// What is owed to a slot by whoever took its value without the key. It isn't `Drop`: nobody can let it go but by
+/// `put_back`.
 pub struct Loan<X: Marked> {
-    seat: Seat<Option<X>, Known<X::Tag, X::Mark>>,
+    seat: Seat<Option<X>, Known<X::Tag, X::Mark, X>>,
+}
+
+/// That a value was put back: into which slot, which one, and for which one. `put_back` alone makes a receipt.
+#[derive(Drop)]
+pub struct Receipt<X: Marked> {
+    seat: Seat<Option<X>, Known<X::Tag, X::Mark, X>>,
+}
+
+/// That a slot's value wasn't there. `take` alone makes one of these.
+#[derive(Drop)]
+pub struct Absence<X: Marked> {
+    seat: Seat<Option<X>, Known<X::Tag, X::Mark, X>>,
 }
 
 impl<X: Marked + Drop, A: Allocator + Copy> KeyedSlot<X, A> {
-    ghost use Rattle.std.specs.Prelude.{true, false, IfOk, IfSome};
-    ghost use Rattle.keyed_slot.specs.Keyed.{tag_of, key_mark, is_out, loan_mark, Opens, IsOwed};
+    ghost use Rattle.std.specs.Prelude.{true, false, IfOk, IfErr, IfSome};
+    ghost use Rattle.keyed_slot.specs.Keyed.{
+      tag_of,
+      key_mark,
+      is_out,
+      loan_mark,
+      lent,
+      receipt_of,
+      handled,
+      Opens,
+      IsOwed,
+      IsReceiptOf,
+      IsAbsenceOf,
+    };
 
     /// Returns a slot with this value, and its key.
     ///
@@ -58,32 +82,41 @@ impl<X: Marked + Drop, A: Allocator + Copy> KeyedSlot<X, A> {
     }
 
     /// Takes the value out, if it is there.
-    pub fn take(&self) -> Option<(X, Loan<X>)>
-        ensures fits { IfSome result (λ taken. X.fits (tag_of self.now) taken.0) }
-        ensures mark { IfSome result (λ taken. loan_mark taken.1 ≡ X.mark taken.0) }
-        ensures owed { IfSome result (λ taken. IsOwed taken.1 self.now) }
+    ///
+    /// # Errors
+    ///
+    /// If it isn't.
+    pub fn take(&self) -> Result<(X, Loan<X>), Absence<X>>
+        ensures fits { IfOk result (λ taken. X.fits (tag_of self.now) taken.0) }
+        ensures mark { IfOk result (λ taken. loan_mark taken.1 ≡ X.mark taken.0) }
+        ensures owed { IfOk result (λ taken. IsOwed taken.1 self.now) }
+        ensures lent { IfOk result (λ taken. lent taken.1 ≡ Some taken.0) }
+        ensures absent { IfErr result (λ absence. IsAbsenceOf absence self.now) }
     {
         let shared = &self.table.shared;
         let (found, mut seat) = shared.swap_new_seat::<Take<X>>(0, 1);
         if found != 0 {
-            return None;
+            return Err(Absence { seat });
         }
         match shared.exchange(&mut seat, 0, None) {
-            Some(value) => Some((value, Loan { seat })),
+            Some(value) => Ok((value, Loan { seat })),
             None => unreachable!(),
         }
     }
 
     /// Puts a value back whose mark is that of the one that was taken.
-    pub fn put_back(&self, value: X, loan: Loan<X>)
+    pub fn put_back(&self, value: X, loan: Loan<X>) -> Receipt<X>
         requires fits { X.fits (tag_of self.now) value }
         requires mark { X.mark value ≡ loan_mark loan }
         requires owed { IsOwed loan self.now }
+        ensures slot { IsReceiptOf result self.now }
+        ensures values { receipt_of result ≡ (lent loan, Some value) }
     {
         let Loan { mut seat } = loan;
         let shared = &self.table.shared;
         drop(shared.exchange(&mut seat, 0, Some(value)));
-        shared.store::<Put>(&mut seat, 0, 0);
+        shared.store::<Put<X>>(&mut seat, 0, 0);
+        Receipt { seat }
     }
 
     /// Takes the value out by the key, if it is there. It has the mark that the key knows.
@@ -96,6 +129,8 @@ impl<X: Marked + Drop, A: Allocator + Copy> KeyedSlot<X, A> {
         ensures home { result ≡ None → is_out key.new ≡ false }
         ensures fits { IfSome result (X.fits (tag_of self.now)) }
         ensures mark { IfSome result (λ value. X.mark value ≡ key_mark key.old) }
+        ensures taken { IfSome result (λ value. handled key.new ≡ (Some value, None)) }
+        ensures same { result ≡ None → handled key.new ≡ handled key.old }
     {
         let shared = &self.table.shared;
         if shared.swap::<TakeWith<X>>(&mut key.seat, 0, 1) != 0 {
@@ -115,6 +150,7 @@ impl<X: Marked + Drop, A: Allocator + Copy> KeyedSlot<X, A> {
         ensures opens { Opens key.new self.now }
         ensures home { is_out key.new ≡ false }
         ensures mark { key_mark key.new ≡ X.mark value }
+        ensures put { handled key.new ≡ ((handled key.old).0, Some value) }
     {
         let shared = &self.table.shared;
         drop(shared.exchange(&mut key.seat, 0, Some(value)));

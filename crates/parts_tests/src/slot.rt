@@ -19,14 +19,25 @@ impl Marked for Small {
     ghost mark = { λ x. x.0 };
 }
 
+/// Whether the value is in a slot. It is put back at once.
+fn is_there(slot: &KeyedSlot<Small>) -> bool {
+    match slot.take() {
+        Ok((value, loan)) => {
+            slot.put_back(value, loan);
+            true
+        }
+        Err(_) => false,
+    }
+}
+
 /// Whether the value in a slot is taken once, and once more after it was put back.
 fn is_taken_and_put_back(slot: &KeyedSlot<Small>) -> bool {
-    let Some((value, loan)) = slot.take() else {
+    let Ok((value, loan)) = slot.take() else {
         return false;
     };
-    let was_there = value == Small(3) && slot.take().is_none();
+    let was_there = value == Small(3) && !is_there(slot);
     slot.put_back(value, loan);
-    was_there && slot.take().is_some()
+    was_there && is_there(slot)
 }
 
 #[test]
@@ -44,7 +55,7 @@ fn changes_its_mark(alloc: Global) -> bool {
         return false;
     };
     prove!(value == Small(3));
-    let was_there = slot.take().is_none();
+    let was_there = !is_there(&slot);
     slot.put_back_with(Small(5), &mut key);
     was_there && slot.take_with(&mut key) == Some(Small(5))
 }

@@ -1,12 +1,13 @@
 use Rattle.std.proofs.Common.{IfSome}
 use Rattle.std.specs.Arc.{arc_value}
 use Rattle.keyed_slot.specs.Keyed.{tag_of}
-use Rattle.jwalk_order.specs.IndexPath.{address as indices_of}
-use Rattle.jwalk_crew.specs.Origin.{IsMadeAt}
+use Rattle.jwalk_order.specs.Ordered.{address_of}
+use Rattle.read_parts.specs.ReadDirSpec.{spec}
+use Rattle.jwalk_crew.specs.Origin.{IsAt}
 use Rattle.jwalk_crew.proofs.worker.Worker.work.Given as goal
 
--- What was read and not handed in is of a directory of the walk.
+-- What was taken and not read is a directory of the walk.
 abbrev pub invariant-loop : goal.invariant-loop
 invariant-loop g l =
     ((goal.iterator-loop g).can_next l.iterator' × (goal.iterator-loop g).is_finite l.iterator')
-    × IfSome l.read (λ h. IsMadeAt g.S.FileSystem g.P.ProcessReadDir g.C.ReadDirState.Clone g.C.DirEntryState.Default (tag_of (arc_value l.self.shared).work) (indices_of h.address) h.message h.children.items)
+    × IfSome l.taken (λ item. IsAt g.S.FileSystem g.P.ProcessReadDir g.C.ReadDirState.Clone g.C.DirEntryState.Default (tag_of (arc_value l.self.shared).work) (address_of item) (spec item.value))

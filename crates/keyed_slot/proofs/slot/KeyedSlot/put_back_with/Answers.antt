@@ -1,4 +1,4 @@
-use Rattle.std.proofs.Common.{rules, ◌∙◌, sym, ap, subst, refl}
+use Rattle.std.proofs.Common.{Some, rules, ◌∙◌, sym, ap, subst, refl}
 use Rattle.atomic_table.specs.Table.{Allows}
 use Rattle.keyed_slot.specs.Rule.{IsKept, PutsWith}
 use Rattle.keyed_slot.proofs.RuleFacts.{carries_place, carries_new, puts_value_with}
@@ -42,3 +42,9 @@ returns-clause-mark g c =
     let key = c.args.key.now.seat in
     let is = carries_new _ key.me c.exchange.new.seat.me c.args.value c.requires.out c.requires.opens.carries c.exchange.ensures.3 in
     ap (λ m. m.0.mark) (c.store.ensures.2 c.args.value (ap (λ m. m.1) is))
+
+pub returns-clause-put : goal.returns-clause-put
+returns-clause-put g c =
+    let key = c.args.key.now.seat in
+    let is = carries_new _ key.me c.exchange.new.seat.me c.args.value c.requires.out c.requires.opens.carries c.exchange.ensures.3 in
+    ap (λ m. (m.0.took, m.0.put)) (c.store.ensures.2 c.args.value (ap (λ m. m.1) is)) ∙ ap (λ m. (m.0.took, Some c.args.value)) is

@@ -9,5 +9,5 @@ swap_new_seat-found-requires g c =
 
 pub exchange-requires : goal.exchange-requires
 exchange-requires g c =
-    let taken = c.swap_new_seat-found.ensures.1 c.if-found-ne0.false in
+    let taken = c.swap_new_seat-found.ensures.1.0 c.if-found-ne0.false in
     (c.swap_new_seat-found.ensures.0, (Some taken.value, rw taken.is refl))

@@ -1,8 +1,9 @@
 use Rattle.std.proofs.Common.{◌∙◌, sym, ap, subst, box_value}
 use Rattle.keyed_slot.specs.Keyed.{tag_of, key_mark}
 use Rattle.jwalk_crew.specs.Shared.{IsArrivalOf}
+use Rattle.jwalk_crew.proofs.HandledFacts.{arrives_on}
 use Rattle.jwalk_crew.proofs.SharedFacts.{same_of, arrived_board, arrived_of}
-use Rattle.jwalk_crew.proofs.shared.Shared.arrival.Goals as goal
+use Rattle.jwalk_crew.proofs.shared.Shared.arrival_on_board.Goals as goal
 
 pub put_back_with-requires-clause-fits : goal.put_back_with-requires-clause-fits
 put_back_with-requires-clause-fits g c =
@@ -20,3 +21,8 @@ returns-clause-arrival g c =
     subst (λ m. Arrived m c.args.wanted.now c.arrive-arrival.result (key_mark c.put_back_with.new.key)) before
     (subst (λ m. Arrived c.deref_mut.result.now.frontier c.args.wanted.now c.arrive-arrival.result m) after
     (arrived_of _ _ _ _ _ _ _ own _ _ c.arrive-arrival.ensures))
+
+pub returns-clause-handled : goal.returns-clause-handled
+returns-clause-handled g c =
+    arrives_on c.args.wanted.now c.arrive-arrival.result _ _ _ _ _ _ _ c.in-Some.ensures.taken c.put_back_with.ensures.put
+    (c.deref_mut.ensures.value ∙ ap box_value c.into_board-board.ensures) (ap box_value c.new.ensures) c.arrive-arrival.ensures
