@@ -25,13 +25,13 @@ use Rattle.read_parts.specs.Entry.{item}
 use Rattle.read_parts.specs.Given.{Given, counted_entry, counted_item, counted_spec, counted_outcome, ClonesCount}
 use Rattle.jwalk_read.specs.Job.{options_of, greatest_depth, job_by, IsAsGiven}
 use Rattle.jwalk_order.specs.Frontier.{next_address}
-use Rattle.jwalk_engine.specs.Reads.{ReadsFirstBy, ReadsNextBy}
+use Rattle.jwalk_engine.specs.Reads.{ReadsFirstBy}
 use Rattle.jwalk_crew.specs.declared.pool.Pool as Pool
 use Rattle.jwalk_crew.specs.declared.pool.Missed.{Missed}
 use Rattle.jwalk_readings.specs.CrewReads.{failure_of}
 use Rattle.jwalk_readings.specs.ReadDirIter.{Tells}
 use Rattle.jwalk_entries.specs.declared.dir_entry_iter.DirEntryIter.{DirEntryIter}
-use Rattle.jwalk_entries.specs.Step.{IsAtDirectory, Receives, PassesNext, passed_plainly, passed_entering, LeavesOut, none_left_out, one_left_out, ReadsUpTo}
+use Rattle.jwalk_entries.specs.Step.{IsAtDirectory, PassesNext, passed_plainly, passed_entering, LeavesOut, none_left_out, one_left_out, ReadsUpTo}
 use Rattle.jwalk_entries.specs.DirEntryIter.{Position, by_crew, job_of, min_depth_of, items_of, unread_of, width_of, frontier_of, position_of, Known, KnownAt, IsSteadyWalk, ReadsStaySteady, PassesOne, PassesMany, none_passed, GrowsAhead}
 use Rattle.jwalk_entries.proofs.PlacedFacts.{left_placed}
 use Rattle.jwalk_entries.proofs.AheadFacts.{grows, one_more, passed_before}
@@ -62,19 +62,6 @@ module _ {C S P A R E : Type 0} (clone : Clone.Ghosts R) (known : Item R E → S
   next_over less within (passed_entering {x} {outcome = outcome} dir reads) =
       let reading = reads.reading in
       passed_entering dir (record { first = reads.first; rest = reads.rest; took = reads.took; reading = record { lawful = reading.lawful; few = reading.few; value = within x reads.first outcome reading.value }; stacks = reads.stacks })
-
-  -- an entry where nothing is left to be read
-  next_left : (x : Item R E) (items : List (Item R E)) (old new : List (Spec R)) → has_directory x ≡ true → old ≡ [] → new ≡ [] → Next (x ∷ items) old x items new
-  next_left x items old new dir none left = rw (none, left) (passed_plainly {x = x} {specs = []} (rw dir refl))
-
-  -- A directory is passed, where what came of its reading is received.
-  pub next_received : (read : Option (Outcome R E)) (x : Item R E) (items : List (Item R E)) (old : List (Spec R)) (answer : Item R E) (items' : List (Item R E)) (new : List (Spec R)) → has_directory x ≡ true → ReadsNextBy clone (known x) (greatest_depth job) old read new → Receives read x items answer items' → Next (x ∷ items) old answer items' new
-  next_received None x items old answer items' new dir reads received = rw (received.0, received.1) (next_left x items old new dir reads.0 reads.1)
-  next_received (Some outcome) x items old answer items' new dir reads received = rw (received.0, received.1) (passed_entering {outcome = outcome} dir reads)
-
-  -- an item without a directory
-  pub next_alone : (x : Item R E) (items : List (Item R E)) (specs : List (Spec R)) → has_directory x ≡ false → Next (x ∷ items) specs x items specs
-  next_alone x items specs none = passed_plainly {x = x} {specs = specs} (rw none refl)
 
   -- ---- depths
 
