@@ -20,7 +20,7 @@ module _ {X V : Type 0} (v : X → V) where
         | false ↦ found_at-append xs ys a
       ]
 
-  -- as many are found as stand there
+  -- the number of values that are found is how often the address is there
   pub found_at-length : (xs : List (Addressed X)) (a : List ℕ) → length (found_at v xs a) ≡ times a (addresses_of xs)
   found_at-length [] a = refl
   found_at-length (x ∷ xs) a =

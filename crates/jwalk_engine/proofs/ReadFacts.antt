@@ -104,7 +104,7 @@ module _ {C S P A R E : Type 0} (files : FileSystem.Ghosts S) (clone : Clone.Gho
     pub hands_sound : All Sound new.made
     hands_sound = All-tail Sound (q, hands.front) new.made all_of
 
-    -- as many specifications take its place as it has directories
+    -- one specification takes its place for each directory in it
     pub hands_count : length hands.front ≡ length (children_of (outcome q.outcome))
     hands_count = same_length clone.is_clone (children_of (outcome q.outcome)) hands.front (All-head Sound (q, hands.front) new.made all_of).clones
 

@@ -228,14 +228,14 @@ module _ {T Q V : Type 0} (v : T → V) (w : Q → V) where
         joins = subst (λ l. IsPermutation l (map now c.ready)) (ap₂ (λ p l. p ∷ l) own stay) (IsPermutation-map now (one ∷ b.ready) c.ready f.ready);
       }
 
-  -- one is found at an address that stands on the board, if its takers hold what is in hand
+  -- one is found at an address that is on the board, if its takers hold what is in hand
   spec_at-once : (b : Board T Q) (hand : List (Addressed T)) (a : List ℕ) → IsHeld b hand → times a (on_board b) ≡ 1 → length (spec_at v w b hand a) ≡ 1
   spec_at-once b hand a mine once =
       let parts = length-append (found_at v b.queued a) (found_at v hand a ++ found_at w b.ready a) in
       let more = length-append (found_at v hand a) (found_at w b.ready a) in
       omega (arith, parts, more, found_at-length v b.queued a, found_at-length v hand a, found_at-length w b.ready a, mine a, times-on_board a b, once)
 
-  -- and so as many as these addresses
+  -- and so one for each of these addresses
   specs_at-length : (b : Board T Q) (hand : List (Addressed T)) → IsHeld b hand → (ds : List (List ℕ)) → ((a : List ℕ) → 0 < times a ds → times a (on_board b) ≡ 1) → length (specs_at v w b hand ds) ≡ length ds
   specs_at-length b hand mine [] h = refl
   specs_at-length b hand mine (a ∷ ds) h =
@@ -275,14 +275,14 @@ module _ {T Q V : Type 0} (v : T → V) (w : Q → V) where
           | d ∷ left ↦ λ some is. (left, ap (λ z. z ∷ left) (sym is))
         ] h.some h.next
 
-    -- each of its children stands on the board
+    -- each of its children is on the board
     own_there : (a : List ℕ) → 0 < times a own → times a (on_board b) ≡ 1
     own_there a among = omega (arith, children a, times-append a own (child_addresses c.ready), among, whole.each a, whole.once a)
 
     own_count : length own ≡ child_count_of item
     own_count = length-map (range_with_len 0 (child_count_of item)) _ ∙ length-range_with_len 0 (child_count_of item)
 
-    -- What is handed out is handed on, and its children are as many as it says.
+    -- What is handed out is handed on, with as many specifications as it counts children.
     pub gives-handed_out : IsHeld b hand → (gives : HandsOn w (to_give v w b hand) item.value (to_give v w c hand)) × (length gives.front ≡ child_count_of item)
     gives-handed_out mine =
         let left = frontier_is.0 in

@@ -219,7 +219,7 @@ module _ {C S P A T L R E : Type 0} (files : FileSystem.Ghosts S) (process : Pro
       (unread_of new ≡ unread_of old)
       (IsSomeAnd answer (λ a. Stops (by_crew old) a new) ⊎ ReadsUpTo clone (Known old) (job_of old) (items_of old) (unread_of old) answer (items_of new) (unread_of new))
 
-  -- The directory below the first item is entered, at the first address of the frontier: its items, its directories and their addresses take the place of the first ones, and the directories that are read with it join what was read ahead.
+  -- The directory below the first item is entered, by the reading at the first address of the frontier. Its items, its directories and their addresses take the place of the first ones.
   pub record EntersDirectory (it : DirEntryIter C S P A T L R E) (from : Position R E) (passed : Item R E) (to : Position R E) : Type 0 where
     pub entry : Item R E
     pub rest : List (Item R E)
@@ -236,13 +236,13 @@ module _ {C S P A T L R E : Type 0} (files : FileSystem.Ghosts S) (process : Pro
   abbrev pub PassesOne : DirEntryIter C S P A T L R E → Position R E → Item R E → Position R E → Type 0
   PassesOne it from passed to = PassesPlainly from passed to ⊎ EntersDirectory it from passed to
 
-  -- These items are passed one after another, and with them as many directories are entered as the number says.
+  -- These items are passed one after another, and this many directories are entered with them.
   pub data PassesMany (it : DirEntryIter C S P A T L R E) : Position R E → List (Item R E) → ℕ → Position R E → Type 0 where
     none_passed : {at : Position R E} → PassesMany it at [] 0 at
     one_passed : {from mid to : Position R E} {x : Item R E} {passed : List (Item R E)} {entered : ℕ} → PassesPlainly from x mid → PassesMany it mid passed entered to → PassesMany it from (x ∷ passed) entered to
     one_entered : {from mid to : Position R E} {x : Item R E} {passed : List (Item R E)} {entered : ℕ} → EntersDirectory it from x mid → PassesMany it mid passed entered to → PassesMany it from (x ∷ passed) (suc entered) to
 
-  -- Items are passed up to the answer: those that the least depth leaves out, and the answer, if there is one. With each directory that is entered what was read ahead grows by less than the width.
+  -- The items that the least depth leaves out are passed, and then the answer, if there is one. With each directory that is entered what was read ahead grows by less than the width.
   pub record GrowsAhead (old : DirEntryIter C S P A T L R E) (answer : Option (Item R E)) (new : DirEntryIter C S P A T L R E) : Type 0 where
     pub left_out : List (Item R E)
     pub too_high : All (λ x. is_answered (min_depth_of old) x ≡ false) left_out

@@ -81,7 +81,7 @@ alike_length {R} clone these those alike =
     let nothing : R → Worth = λ x. blank in
     sym (length-map these (spec_by nothing)) ∙ ap length (alike nothing (λ x y is. refl)) ∙ length-map those (spec_by nothing)
 
--- as many are found as directories are in a reading
+-- the directories that are found in a reading are as many as its children
 pub as_many_found : {C A R E : Type 0} (clone : Clone.Ghosts R) (o : Outcome R E) (found : List (ReadDirSpec C A R E)) (n : ℕ) → n ≡ length found → AreClones clone.is_clone (children_of o) (map spec found) → n ≡ length (children_of o)
 as_many_found clone o found n as_many clones = as_many ∙ sym (length-map found spec) ∙ same_length clone.is_clone (children_of o) (map spec found) clones
 

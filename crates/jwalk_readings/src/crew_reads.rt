@@ -192,7 +192,7 @@ impl<
     }
 
     /// The reading of the directory that comes next, with those below it in its place: it is lost where its message
-    /// counts others than those that are in it.
+    /// has another count than the number of directories in it.
     fn enter(&mut self, of: ReadDirSpec<C, A>) -> Result<Outcome<C, A>, Missed>
         ensures job { job_of self.new ≡ job_of self.old }
         ensures reading { IfOk result (λ read. IsReadingBy (IsTold S.FileSystem P.ProcessReadDir
