@@ -1,5 +1,5 @@
 -- What is found at an address.
-use Rattle.std.proofs.Common.{◌≡◌, ℕ, ◌+◌, ◌<◌, ◌≤◌, true, false, cond, List, [], ◌∷◌, ◌++◌, refl, sym, ap, ◌∙◌, arith, ⊎_elim}
+use Rattle.std.proofs.Common.{◌≡◌, ℕ, ◌+◌, ◌<◌, ◌≤◌, true, false, cond, List, [], ◌∷◌, ◌++◌, length, refl, sym, ap, ◌∙◌, arith, ⊎_elim}
 use Rattle.std.proofs.Math.Nat.{eq-zero-or-pos}
 use Rattle.std.specs.Prelude.{All}
 use Rattle.std.specs.List.Sorted.{IsPermutation}
@@ -18,6 +18,15 @@ module _ {X V : Type 0} (v : X → V) where
       elim (is_same a x.at) as (λ b. cond b (v x.value ∷ found_at v (xs ++ ys) a) (found_at v (xs ++ ys) a) ≡ cond b (v x.value ∷ found_at v xs a) (found_at v xs a) ++ found_at v ys a) [
         | true ↦ ap (λ l. v x.value ∷ l) (found_at-append xs ys a)
         | false ↦ found_at-append xs ys a
+      ]
+
+  -- the number of values that are found is how often the address is there
+  pub found_at-length : (xs : List (Addressed X)) (a : List ℕ) → length (found_at v xs a) ≡ times a (addresses_of xs)
+  found_at-length [] a = refl
+  found_at-length (x ∷ xs) a =
+      elim (is_same a x.at) as (λ b. length (cond b (v x.value ∷ found_at v xs a) (found_at v xs a)) ≡ cond b 1 0 + times a (addresses_of xs)) [
+        | true ↦ omega (arith, found_at-length xs a)
+        | false ↦ omega (arith, found_at-length xs a)
       ]
 
   pub found_at-none : (xs : List (Addressed X)) (a : List ℕ) → times a (addresses_of xs) ≡ 0 → found_at v xs a ≡ []

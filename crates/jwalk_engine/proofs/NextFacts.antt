@@ -7,9 +7,9 @@ use Rattle.std.proofs.lemmas.List.Elements.{All-head, All-tail}
 use Rattle.std.proofs.lemmas.List.Sorted.{IsPermutation-map}
 use Rattle.std.specs.declared.clone.Clone as Clone
 use Rattle.std.specs.declared.default.Default as Default
-use Rattle.walk_model.specs.ReadDir.{Spec, Outcome}
+use Rattle.walk_model.specs.ReadDir.{Spec, Outcome, children_of}
 use Rattle.walk_fs.specs.declared.file_system.FileSystem as FileSystem
-use Rattle.jwalk_order.specs.Frontier.{next_address}
+use Rattle.jwalk_order.specs.Frontier.{passed, next_address}
 use Rattle.jwalk_order.specs.IndexPath.{is_before}
 use Rattle.jwalk_order.specs.Addresses.{is_same, times, IsAmong}
 use Rattle.jwalk_order.specs.declared.ordered.Ordered.{Ordered}
@@ -31,7 +31,7 @@ use Rattle.jwalk_engine.specs.Reads.{spec_of, to_give, IsSoundOver, ReadsFirst}
 use Rattle.jwalk_engine.specs.ReadAhead.{ReadAhead, ahead_on, unread, StandsBefore, ReadsLeast, HandsOnAt, EntersNext}
 use Rattle.jwalk_engine.specs.BoardWalk.{Keeps, ReadsBatch, HandsOnNext, HandsOnIfAny, IsSteadyBoard, GoesOn}
 use Rattle.jwalk_engine.proofs.Steps.{some_to_read, gives-handed_out}
-use Rattle.jwalk_engine.proofs.ReadFacts.{all_sound_over, all_made, all_as_given, hands_sound, hands_first, some_sound, hands_less, some_more}
+use Rattle.jwalk_engine.proofs.ReadFacts.{all_sound_over, all_made, all_as_given, hands_sound, hands_first, hands_count, some_sound, hands_less, some_more}
 
 -- where an address is, there is something
 some_at : {V : Type 0} (a : List ℕ) (xs : List (Addressed V)) → IsAmong a (addresses_of xs) → 1 ≤ length xs
@@ -64,10 +64,12 @@ module _ {C A R E : Type 0} where
   -- What a board hands out is handed on.
   pub handed_on : (old new : Board (ReadDirSpec C A R E) (Read C A R E)) (item : Ordered (Read C A R E) A) → IsWhole old → old.in_hand ≡ [] → HandsOut item old new → HandsOnNext old (outcome item.value.outcome) new
   handed_on old new item whole none h =
+      let gives = gives-handed_out spec spec_of old new [] item whole h (λ a. ap (times a) none) in
       record {
         read = item.value;
         of = refl;
-        hands_on = gives-handed_out spec spec_of old new [] item whole h (λ a. ap (times a) none);
+        hands_on = gives.0;
+        passes = ap (λ z. z.frontier) h.others ∙ ap (passed old.frontier) (sym gives.1);
         at = record {
           queue = ap (λ z. map (seen spec) z.queued) h.others;
           done = subst (λ a. IsPermutation (addresses_of old.ready) (a ∷ addresses_of new.ready)) h.next (IsPermutation-map (λ (x : Addressed (Read C A R E)). x.at) old.ready (addressed item ∷ new.ready) h.ready);
@@ -135,9 +137,9 @@ module _ {C S P A R E : Type 0} (files : FileSystem.Ghosts S) (process : Process
     was_sound = all_sound_over files clone Counts job (to_give old []).made keeps.made (λ given steady. steady.early)
 
     -- What is handed on of sound readings goes on.
-    goes_on : (mid new : Board (ReadDirSpec C A R E) (Read C A R E)) (given : Outcome R E) → (to_give mid []).to_read ≡ (to_give old []).to_read → All (IsSoundOver files clone Counts job) (to_give mid []).made → HandsOnNext mid given new
+    goes_on : (mid new : Board (ReadDirSpec C A R E) (Read C A R E)) (given : Outcome R E) → mid.frontier ≡ old.frontier → (to_give mid []).to_read ≡ (to_give old []).to_read → All (IsSoundOver files clone Counts job) (to_give mid []).made → HandsOnNext mid given new
         → length (to_give mid []).made ≤ length (to_give old []).made + width → EntersNext files process clone defaults job width (next_address old.frontier) (ahead_on old) (Some given) (ahead_on new) → GoesOn files process clone defaults job width old (Some given) new
-    goes_on mid new given same sound h few enters =
+    goes_on mid new given stays same sound h few enters =
         let left = hands_sound files clone Counts job (to_give mid []) (to_give new []) h.read h.hands_on sound in
         let first = hands_first files clone Counts job (to_give mid []) (to_give new []) h.read h.hands_on sound in
         record {
@@ -146,6 +148,7 @@ module _ {C S P A R E : Type 0} (files : FileSystem.Ghosts S) (process : Process
           steady = λ over steady. record { steady = steady.steady; early = all_as_given files clone Counts job (to_give new []).made left over steady };
           next = subst (λ o. ReadsFirst files clone Counts job (to_give old []).to_read o (to_give new []).to_read) h.of (subst (λ l. ReadsFirst files clone Counts job l (outcome h.read.outcome) (to_give new []).to_read) same first);
           enters = enters;
+          passes = h.passes ∙ ap (passed mid.frontier) (hands_count files clone Counts job (to_give mid []) (to_give new []) h.read h.hands_on sound ∙ ap (λ o. length (children_of o)) h.of) ∙ ap (λ l. passed l (length (children_of given))) stays;
         }
 
     -- A call without a new reading goes on.
@@ -153,9 +156,9 @@ module _ {C S P A R E : Type 0} (files : FileSystem.Ghosts S) (process : Process
     answer_goes_on wide new None h =
         let nothing : (to_give old []).to_read ≡ [] = rw h.0 refl in
         subst (GoesOn files process clone defaults job width old None) (sym h.1)
-        (record { keeps = keeps; ahead = omega (arith, wide); steady = λ over steady. steady; next = (nothing, nothing); enters = refl })
+        (record { keeps = keeps; ahead = omega (arith, wide); steady = λ over steady. steady; next = (nothing, nothing); enters = refl; passes = refl })
     answer_goes_on wide new (Some given) h =
-        goes_on old new given refl was_sound h (omega arith) (inl (was_done (next_address old.frontier) (ahead_on old) (ahead_on new) h.at, h.at))
+        goes_on old new given refl refl was_sound h (omega arith) (inl (was_done (next_address old.frontier) (ahead_on old) (ahead_on new) h.at, h.at))
 
     -- What is handed on after some were read goes on.
     pub made_goes_on : IsWhole old → RefusesHandOut old NotReady → (mid new : Board (ReadDirSpec C A R E) (Read C A R E)) (answer : Option (Outcome R E)) → ReadsBatch files process clone defaults job width old mid
@@ -163,7 +166,7 @@ module _ {C S P A R E : Type 0} (files : FileSystem.Ghosts S) (process : Process
     made_goes_on whole refused mid new None reads h = absurd h
     made_goes_on whole refused mid new (Some given) reads h =
         let more = some_more files process clone defaults job width (to_give old []) (to_give mid []) reads.reads in
-        goes_on mid new given reads.reads.same
+        goes_on mid new given reads.frontier reads.reads.same
         (some_sound files process clone defaults job width (to_give old []) (to_give mid []) reads.reads Counts (λ over steady. steady.steady) was_sound)
         h (omega (arith, more))
         (inr (not_done old whole keeps.none_in_hand refused, (ahead_on mid, reads.least, subst (λ l. HandsOnAt (next_address l) (ahead_on mid) (ahead_on new)) reads.frontier h.at)))

@@ -9,6 +9,7 @@ use lib.ListN.{length-append}
 use Rattle.std.proofs.lemmas.List.{nil_from_length}
 use Rattle.std.proofs.lemmas.List.Sorted.{IsPermutation-refl, length_permutation, All-permutation}
 use Rattle.walk_model.specs.ReadDir.{Spec, children_of, AreClones}
+use Rattle.walk_model.proofs.CloneFacts.{same_length}
 use Rattle.walk_fs.specs.declared.file_system.FileSystem as FileSystem
 use Rattle.jwalk_order.specs.Ordered.{address_of}
 use Rattle.jwalk_order.specs.declared.ordered.Ordered.{Ordered}
@@ -102,6 +103,10 @@ module _ {C S P A R E : Type 0} (files : FileSystem.Ghosts S) (clone : Clone.Gho
 
     pub hands_sound : All Sound new.made
     hands_sound = All-tail Sound (q, hands.front) new.made all_of
+
+    -- one specification takes its place for each directory in it
+    pub hands_count : length hands.front ≡ length (children_of (outcome q.outcome))
+    hands_count = same_length clone.is_clone (children_of (outcome q.outcome)) hands.front (All-head Sound (q, hands.front) new.made all_of).clones
 
     -- what is handed on is a reading of the first
     pub hands_first : ReadsFirst files clone counts job old.to_read (outcome q.outcome) new.to_read

@@ -1,6 +1,9 @@
 -- What the steps of a board leave to be read.
 use Rattle.std.proofs.Common.{◌≡◌, ◌≢◌, ℕ, ◌+◌, ◌<◌, ◌≤◌, true, false, cond, List, [], ◌∷◌, ◌++◌, length, map, refl, sym, ap, ap₂, ◌∙◌, arith, subst, append_assoc}
-use Rattle.std.proofs.lemmas.List.{append-nil, map-append}
+use Rattle.std.proofs.lemmas.List.{append-nil, map-append, length-map}
+use Rattle.std.proofs.lemmas.List.FromFn.{length-range_with_len}
+use Rattle.std.specs.List.{range_with_len}
+use lib.ListN.{length-append}
 use Rattle.std.proofs.lemmas.Grind.{flat_map-append}
 use Rattle.std.specs.Prelude.{flat_map, All}
 use Rattle.std.specs.List.Sorted.{IsPermutation}
@@ -16,7 +19,7 @@ use Rattle.jwalk_order.proofs.Children.{addresses_of-numbered, children-once, ch
 use Rattle.jwalk_board.proofs.Opens.{whole_new, times-addresses_of, times-on_board, times_finished, next_there}
 use Rattle.jwalk_order.proofs.Sets.{same, times-append, times-itself}
 use Rattle.jwalk_engine.specs.ToGive.{found_at, IsHeld, spec_at, specs_at, with_below, to_give, Makes, HandsOn}
-use Rattle.jwalk_engine.proofs.Found.{found_at-append, found_at-none, found_at-first, found_at-permutation, nothing_found}
+use Rattle.jwalk_engine.proofs.Found.{found_at-append, found_at-length, found_at-none, found_at-first, found_at-permutation, nothing_found}
 
 nil_append-left : {X : Type 0} (xs ys : List X) → xs ++ ys ≡ [] → xs ≡ []
 nil_append-left [] ys h = refl
@@ -225,6 +228,19 @@ module _ {T Q V : Type 0} (v : T → V) (w : Q → V) where
         joins = subst (λ l. IsPermutation l (map now c.ready)) (ap₂ (λ p l. p ∷ l) own stay) (IsPermutation-map now (one ∷ b.ready) c.ready f.ready);
       }
 
+  -- one is found at an address that is on the board, if its takers hold what is in hand
+  spec_at-once : (b : Board T Q) (hand : List (Addressed T)) (a : List ℕ) → IsHeld b hand → times a (on_board b) ≡ 1 → length (spec_at v w b hand a) ≡ 1
+  spec_at-once b hand a mine once =
+      let parts = length-append (found_at v b.queued a) (found_at v hand a ++ found_at w b.ready a) in
+      let more = length-append (found_at v hand a) (found_at w b.ready a) in
+      omega (arith, parts, more, found_at-length v b.queued a, found_at-length v hand a, found_at-length w b.ready a, mine a, times-on_board a b, once)
+
+  -- and so one for each of these addresses
+  specs_at-length : (b : Board T Q) (hand : List (Addressed T)) → IsHeld b hand → (ds : List (List ℕ)) → ((a : List ℕ) → 0 < times a ds → times a (on_board b) ≡ 1) → length (specs_at v w b hand ds) ≡ length ds
+  specs_at-length b hand mine [] h = refl
+  specs_at-length b hand mine (a ∷ ds) h =
+      omega (arith, length-append (spec_at v w b hand a) (specs_at v w b hand ds), spec_at-once b hand a mine (h a (omega (arith, times-itself a ds))), specs_at-length b hand mine ds (λ d there. h d (omega (arith, there))))
+
   module _ {A : Type 0} (b c : Board T Q) (hand : List (Addressed T)) (item : Ordered Q A) (whole : IsWhole b) (h : HandsOut item b c) where
     abbrev own : List (List ℕ)
     own = children_from 0 (address_of item) (child_count_of item)
@@ -259,8 +275,15 @@ module _ {T Q V : Type 0} (v : T → V) (w : Q → V) where
           | d ∷ left ↦ λ some is. (left, ap (λ z. z ∷ left) (sym is))
         ] h.some h.next
 
-    -- What is handed out is handed on.
-    pub gives-handed_out : IsHeld b hand → HandsOn w (to_give v w b hand) item.value (to_give v w c hand)
+    -- each of its children is on the board
+    own_there : (a : List ℕ) → 0 < times a own → times a (on_board b) ≡ 1
+    own_there a among = omega (arith, children a, times-append a own (child_addresses c.ready), among, whole.each a, whole.once a)
+
+    own_count : length own ≡ child_count_of item
+    own_count = length-map (range_with_len 0 (child_count_of item)) _ ∙ length-range_with_len 0 (child_count_of item)
+
+    -- What is handed out is handed on, with as many specifications as it counts children.
+    pub gives-handed_out : IsHeld b hand → (gives : HandsOn w (to_give v w b hand) item.value (to_give v w c hand)) × (length gives.front ≡ child_count_of item)
     gives-handed_out mine =
         let left = frontier_is.0 in
         let was : b.frontier ≡ address_of item ∷ left = frontier_is.1 in
@@ -269,7 +292,7 @@ module _ {T Q V : Type 0} (v : T → V) (w : Q → V) where
         specs_at-same b c hand hand own (λ a among. as_before a (no_child_of a (omega (arith, children a, times-append a own (child_addresses c.ready), among)))) in
         let others : specs_at v w c hand left ≡ specs_at v w b hand left =
         specs_at-same b c hand hand left (λ a among. as_before a (next_apart b whole (address_of item) left was a among)) in
-        record {
+        let gives : HandsOn w (to_give v w b hand) item.value (to_give v w c hand) = record {
           rest = specs_at v w b hand left;
           front = specs_at v w b hand own;
           took = ap (specs_at v w b hand) was ∙ ap (λ l. l ++ specs_at v w b hand left) (spec_at-next b c hand item whole mine h);
@@ -280,7 +303,8 @@ module _ {T Q V : Type 0} (v : T → V) (w : Q → V) where
           leaves = subst (λ l. IsPermutation (map (with_below v w b hand) b.ready) (with_below v w b hand (addressed item) ∷ l))
               (sym (stays c.ready (λ a. omega (arith, children a, times-append a own (child_addresses c.ready)))))
               (IsPermutation-map (with_below v w b hand) b.ready (addressed item ∷ c.ready) h.ready);
-        }
+        } in
+        (gives, specs_at-length b hand mine own own_there ∙ own_count)
 
   -- While nothing is in hand, there is something to be read where the frontier has an address.
   pub some_to_read : (b : Board T Q) → IsWhole b → b.in_hand ≡ [] → b.frontier ≢ [] → specs_at v w b [] b.frontier ≢ []

@@ -2,9 +2,9 @@
 use Rattle.std.specs.Prelude.{◌≡◌, ◌≤◌, ◌+◌, ℕ, false, Option, None, Some, List, [], length, All}
 use Rattle.std.specs.declared.clone.Clone as Clone
 use Rattle.std.specs.declared.default.Default as Default
-use Rattle.walk_model.specs.ReadDir.{Spec, Outcome}
+use Rattle.walk_model.specs.ReadDir.{Spec, Outcome, children_of}
 use Rattle.walk_fs.specs.declared.file_system.FileSystem as FileSystem
-use Rattle.jwalk_order.specs.Frontier.{next_address}
+use Rattle.jwalk_order.specs.Frontier.{passed, next_address}
 use Rattle.jwalk_board.specs.Board.{Board}
 use Rattle.read_parts.specs.declared.process_read_dir.ProcessReadDir as ProcessReadDir
 use Rattle.read_parts.specs.declared.read_dir_spec.ReadDirSpec.{ReadDirSpec}
@@ -32,10 +32,15 @@ abbrev pub ahead_of : {C A R E : Type 0} → Option (Board (ReadDirSpec C A R E)
 ahead_of None = nothing_ahead
 ahead_of (Some b) = ahead_on b
 
--- the address that it enters next, the empty one where there is none
-abbrev pub entered_next : {C A R E : Type 0} → Option (Board (ReadDirSpec C A R E) (Read C A R E)) → List ℕ
-entered_next None = []
-entered_next (Some b) = next_address b.frontier
+-- the addresses of the directories that are still to be entered, the next one first: none once it was stopped
+abbrev pub frontier_on : {C A R E : Type 0} → Option (Board (ReadDirSpec C A R E) (Read C A R E)) → List (List ℕ)
+frontier_on None = []
+frontier_on (Some b) = b.frontier
+
+-- A reading is handed on, and the addresses of the directories in it take the place of the first; or nothing was left to be read and all stay.
+abbrev pub PassesAddress : {R E : Type 0} → List (List ℕ) → Option (Outcome R E) → List (List ℕ) → Type 0
+PassesAddress old (Some read) new = new ≡ passed old (length (children_of read))
+PassesAddress old None new = new ≡ old
 
 module _ {C A R E : Type 0} where
   -- The reading at the next address is handed on.
@@ -44,6 +49,7 @@ module _ {C A R E : Type 0} where
     pub of : outcome read.outcome ≡ given
     pub hands_on : HandsOn spec_of (to_give old []) read (to_give new [])
     pub at : HandsOnAt (next_address old.frontier) (ahead_on old) (ahead_on new)
+    pub passes : new.frontier ≡ passed old.frontier (length hands_on.front)
     pub none_in_hand : new.in_hand ≡ []
     pub running : new.stopped ≡ false
 
@@ -65,9 +71,13 @@ module _ {C S P A R E : Type 0} (w : BoardWalk C S P A R E) where
   abbrev pub read_ahead : ReadAhead R
   read_ahead = ahead_of w.board
 
+  -- the addresses of the directories that are still to be entered, the next one first
+  abbrev pub frontier_of : List (List ℕ)
+  frontier_of = frontier_on w.board
+
   -- the address of the next reading
   abbrev pub next_of : List ℕ
-  next_of = entered_next w.board
+  next_of = next_address frontier_of
 
 -- What holds of a board between calls, whatever the file system returns: it is running, nothing is in hand, and what is ready was made so.
 pub record Keeps {C S P A R E : Type 0} (clone : Clone.Ghosts R) (job : Job C S P A R E) (b : Board (ReadDirSpec C A R E) (Read C A R E)) : Type 0 where
@@ -103,3 +113,4 @@ module _ {C S P A R E : Type 0} (files : FileSystem.Ghosts S) (process : Process
     pub steady : (given : Given R E) → IsSteadyBoard job old given → IsSteadyBoard job new given
     pub next : ReadsNext files clone (IsSteadyBoard job old) job (to_give old []).to_read answer (to_give new []).to_read
     pub enters : EntersNext files process clone defaults job width (next_address old.frontier) (ahead_on old) answer (ahead_on new)
+    pub passes : PassesAddress old.frontier answer new.frontier

@@ -174,7 +174,7 @@ impl<C: ClientState, S: FileSystem, P: ProcessReadDir<C, A>, A: Allocator + Copy
     P,
     A,
 > {
-    ghost use Rattle.jwalk_engine.specs.BoardWalk.{to_read, early_of, read_ahead, next_of, IsSteadyWalk, StaysSteady};
+    ghost use Rattle.jwalk_engine.specs.BoardWalk.{to_read, early_of, read_ahead, frontier_of, next_of, PassesAddress, IsSteadyWalk, StaysSteady};
 
     /// Returns a walk with nothing to read yet, which is to read that many directories together.
     pub fn new(alloc: A, job: Job<C, S, P, A>, width: usize) -> Self
@@ -271,6 +271,8 @@ impl<C: ClientState, S: FileSystem, P: ProcessReadDir<C, A>, A: Allocator + Copy
         ensures enters { IfOk result (λ o. EntersNext S.FileSystem P.ProcessReadDir C.ReadDirState.Clone
             C.DirEntryState.Default self.old.job self.old.width (next_of self.old) (read_ahead self.old)
             (option_map outcome o) (read_ahead self.new)) }
+        ensures passes { IfOk result (λ o. PassesAddress (frontier_of self.old) (option_map outcome o)
+            (frontier_of self.new)) }
     {
         let Some(board) = &mut self.board else {
             return Ok(None);
@@ -319,7 +321,7 @@ where
     C::ReadDirState: Send,
     C::DirEntryState: Send,
 {
-    ghost use Rattle.jwalk_engine.specs.BoardWalk.{to_read, early_of, read_ahead, next_of, IsSteadyWalk, StaysSteady};
+    ghost use Rattle.jwalk_engine.specs.BoardWalk.{to_read, early_of, read_ahead, frontier_of, next_of, PassesAddress, IsSteadyWalk, StaysSteady};
 
     /// Does the same as [`read_next`](BoardWalk::read_next), with the directories read on several threads if there are
     /// enough of them to be worth it.
@@ -346,6 +348,8 @@ where
         ensures enters { IfOk result (λ o. EntersNext S.FileSystem P.ProcessReadDir C.ReadDirState.Clone
             C.DirEntryState.Default self.old.job self.old.width (next_of self.old) (read_ahead self.old)
             (option_map outcome o) (read_ahead self.new)) }
+        ensures passes { IfOk result (λ o. PassesAddress (frontier_of self.old) (option_map outcome o)
+            (frontier_of self.new)) }
     {
         let Some(board) = &mut self.board else {
             return Ok(None);

@@ -8,26 +8,26 @@ use lib.ListN.{length-append}
 use Rattle.std.specs.declared.clone.Clone as Clone
 use Rattle.std.specs.declared.default.Default as Default
 use Rattle.walk_model.specs.Entry.{Item, has_directory}
-use Rattle.walk_model.specs.ReadDir.{Spec, Outcome}
+use Rattle.walk_model.specs.ReadDir.{Spec, Outcome, IsLawfulReading}
 use Rattle.walk_fs.specs.declared.file_system.FileSystem as FileSystem
 use Rattle.jwalk_order.specs.Addressed.{addresses_of}
+use Rattle.jwalk_order.specs.Frontier.{next_address}
 use Rattle.read_parts.specs.declared.process_read_dir.ProcessReadDir as ProcessReadDir
 use Rattle.jwalk_read.specs.declared.job.Job.{Job}
 use Rattle.jwalk_read.specs.Job.{greatest_depth}
-use Rattle.jwalk_engine.specs.Reads.{ReadsNextBy}
+use Rattle.jwalk_engine.specs.Reads.{ReadsFirstBy, ReadsNextBy}
 use Rattle.jwalk_engine.specs.ReadAhead.{ReadAhead, nothing_ahead, BeginsWith, HandsOnAt, ReadsLeast}
+use Rattle.jwalk_engine.specs.BoardWalk.{PassesAddress}
 use Rattle.jwalk_crew.specs.declared.pool.Pool as Pool
 use Rattle.jwalk_entries.specs.declared.dir_entry_iter.DirEntryIter.{DirEntryIter}
+use Rattle.jwalk_readings.specs.declared.read_dir_iter.ReadDirIter.{ReadDirIter}
+use Rattle.jwalk_readings.specs.ReadDirIter as readings
 use Rattle.jwalk_readings.specs.ReadDirIter.{EntersBy, EntersNextBy}
-use Rattle.jwalk_entries.specs.Step.{IsAtDirectory, PassesNext}
-use Rattle.jwalk_entries.specs.DirEntryIter.{by_crew, job_of, items_of, unread_of, width_of, next_address, read_ahead, early_of, KnownAt, EntersIfAny, PassesMany, none_passed, one_passed, one_entered}
+use Rattle.jwalk_entries.specs.Step.{IsAtDirectory, Receives}
+use Rattle.jwalk_entries.specs.DirEntryIter.{Position, by_crew, job_of, items_of, unread_of, width_of, frontier_of, read_ahead, position_of, KnownAt, ReadsStaySteady, PassesOne, PassesMany, none_passed, one_passed, one_entered}
+use Rattle.jwalk_entries.proofs.ItemFacts.{known_before}
 
--- no directory is to be read where nothing is held
-pub nothing_at : {R E : Type 0} (items : List (Item R E)) (specs : List (Spec R)) → items ≡ [] → ¬ IsAtDirectory items specs
-nothing_at [] specs none = λ at. at
-nothing_at (x ∷ items) specs none = absurd cc
-
--- nor below an item that has none
+-- no directory is to be read below an item that has none
 pub alone_at : {R E : Type 0} (items rest : List (Item R E)) (x : Item R E) (specs : List (Spec R)) → items ≡ x ∷ rest → has_directory x ≡ false → ¬ IsAtDirectory items specs
 alone_at [] rest x specs is none = absurd cc
 alone_at (y ∷ items) rest x specs is none = λ at. let no : false ≡ true = sym none ∙ ap has_directory (let same : x ≡ y = cc in same) ∙ at.0 in cc
@@ -70,46 +70,93 @@ module _ {C S P A R E : Type 0} (files : FileSystem.Ghosts S) (process : Process
     | inr reads ↦ omega (arith, least_join old reads.1.0 reads.1.1, one_leaves at reads.1.0 new reads.1.2)
   ]
 
-module _ {C S P A T L R E : Type 0} (files : FileSystem.Ghosts S) (process : ProcessReadDir.Ghosts P C A R E) (clone : Clone.Ghosts R) (defaults : Default.Ghosts E) (pool : Pool.Ghosts L C S P A R E) (old : DirEntryIter C S P A T L R E) where
-  -- nothing more is read where what was read ahead stays as it is
-  pub grows_no_more : (entered : ℕ) (mid new : DirEntryIter C S P A T L R E) → read_ahead new ≡ read_ahead mid → length (early_of mid) + entered ≤ length (early_of old) + entered * width_of old → length (early_of new) + entered ≤ length (early_of old) + entered * width_of old
-  grows_no_more entered mid new same grown =
-      let as_many : length (early_of new) ≡ length (early_of mid) = ap (λ a. length a.done) same in
-      subst (λ n. n + entered ≤ length (early_of old) + entered * width_of old) (sym as_many) grown
+-- positions are the same where their parts are
+pub same_position : {R E : Type 0} {items others : List (Item R E)} {unread left : List (Spec R)} {frontier addresses : List (List ℕ)} {ahead then : ReadAhead R} → items ≡ others → unread ≡ left → frontier ≡ addresses → ahead ≡ then
+    → ◌≡◌ {A = Position R E} (record { items = items; unread = unread; frontier = frontier; ahead = ahead }) (record { items = others; unread = left; frontier = addresses; ahead = then })
+same_position these those addresses ahead = cc
 
-  -- what is read ahead grows by less than the width with each directory that is entered
-  pub grows : {entered : ℕ} {new : DirEntryIter C S P A T L R E} → PassesMany files process clone defaults pool old entered new → length (early_of new) + entered ≤ length (early_of old) + entered * width_of old
-  grows none_passed = omega arith
-  grows (one_passed {entered} {mid} {new} many next alone same) = grows_no_more entered mid new same (grows many)
-  grows (one_entered {mid} {new} many next at enters) =
-      omega (arith, grows many, enters_fewer files process clone defaults (job_of old) (width_of old) (by_crew old) (next_address mid) (read_ahead mid) (read_ahead new) enters)
+module _ {C S P A T L R E : Type 0} (files : FileSystem.Ghosts S) (process : ProcessReadDir.Ghosts P C A R E) (clone : Clone.Ghosts R) (defaults : Default.Ghosts E) (pool : Pool.Ghosts L C S P A R E) where
+  module _ (it : DirEntryIter C S P A T L R E) where
+    abbrev Many : Position R E → List (Item R E) → ℕ → Position R E → Type 0
+    Many = PassesMany files process clone defaults pool it
 
-module _ {C S P A T L R E : Type 0} (files : FileSystem.Ghosts S) (process : ProcessReadDir.Ghosts P C A R E) (clone : Clone.Ghosts R) (defaults : Default.Ghosts E) (pool : Pool.Ghosts L C S P A R E) (old new : DirEntryIter C S P A T L R E) where
-  -- a directory's entry is passed, if this is the outcome of its reading
-  pub entered_if_any : (x : Item R E) (rest : List (Item R E)) (read : Option (Outcome R E)) (left : List (Spec R)) (mid : ReadAhead R) → items_of old ≡ x ∷ rest → has_directory x ≡ true
-      → ReadsNextBy clone (KnownAt files process clone defaults pool old (next_address old) x) (greatest_depth (job_of old)) (unread_of old) read left
-      → EntersNextBy files process clone defaults (by_crew old) (job_of old) (width_of old) (next_address old) (read_ahead old) read mid → read_ahead new ≡ mid
-      → EntersIfAny files process clone defaults old new
-  entered_if_any x rest None left mid items dir reads enters same = inr (at_nothing (items_of old) (unread_of old) reads.0, same ∙ enters)
-  entered_if_any x rest (Some read) left mid items dir reads enters same = inl (at_first (items_of old) rest x (unread_of old) reads.rest reads.first items dir reads.took, rw same enters)
+    -- what is read ahead grows by less than the width with each directory that is entered
+    pub grows : {from to : Position R E} {passed : List (Item R E)} {entered : ℕ} → Many from passed entered to → length to.ahead.done + entered ≤ length from.ahead.done + entered * width_of it
+    grows none_passed = omega arith
+    grows (one_passed {from} {mid} plain rest) =
+        let same : length mid.ahead.done ≡ length from.ahead.done = ap (λ p. length p.ahead.done) plain.others in
+        omega (arith, same, grows rest)
+    grows (one_entered {from} {mid} enters rest) =
+        omega (arith, grows rest, enters_fewer files process clone defaults (job_of it) (width_of it) (by_crew it) (next_address from.frontier) from.ahead mid.ahead enters.ahead)
 
-  -- where nothing is held, what was read ahead stays as it is
-  pub nothing_more : items_of old ≡ [] → EntersIfAny files process clone defaults old new → read_ahead new ≡ read_ahead old
-  nothing_more none any = elim any [
-    | inl at ↦ absurd (nothing_at (items_of old) (unread_of old) none at.0)
-    | inr alone ↦ alone.1
-  ]
+    -- one item more is passed
+    pub one_more : {from mid to : Position R E} {passed : List (Item R E)} {entered : ℕ} {x : Item R E} → Many from passed entered mid → PassesOne files process clone defaults pool it mid x to → (n : ℕ) × Many from (passed ++ x ∷ []) n to
+    one_more none_passed one = elim one [
+      | inl plain ↦ (0, one_passed plain none_passed)
+      | inr enters ↦ (1, one_entered enters none_passed)
+    ]
+    one_more (one_passed plain rest) one = let more = one_more rest one in (more.0, one_passed plain more.1)
+    one_more (one_entered enters rest) one = let more = one_more rest one in (suc more.0, one_entered enters more.1)
 
-module _ {C S P A T L R E : Type 0} (files : FileSystem.Ghosts S) (process : ProcessReadDir.Ghosts P C A R E) (clone : Clone.Ghosts R) (defaults : Default.Ghosts E) (pool : Pool.Ghosts L C S P A R E) (old mid new : DirEntryIter C S P A T L R E) where
-  -- one more item is passed
-  pub one_more : (entered : ℕ) (passed : Item R E) → PassesMany files process clone defaults pool old entered mid → by_crew mid ≡ by_crew old → job_of mid ≡ job_of old → width_of mid ≡ width_of old
-      → PassesNext clone (KnownAt files process clone defaults pool old (next_address mid)) (job_of old) (items_of mid) (unread_of mid) passed (items_of new) (unread_of new) → EntersIfAny files process clone defaults mid new
-      → (n : ℕ) × PassesMany files process clone defaults pool old n new
-  one_more entered passed many crew job width next any = elim any [
-    | inl at ↦
-        let EntersOver : Bool → Job C S P A R E → ℕ → Type 0 = λ b j w. EntersBy files process clone defaults b j w (next_address mid) (read_ahead mid) (read_ahead new) in
-        let here : EntersOver (by_crew old) (job_of mid) (width_of mid) = subst (λ b. EntersOver b (job_of mid) (width_of mid)) crew at.1 in
+  -- what is passed later is so by the walk as it was before
+  pub passed_before : (old mid : DirEntryIter C S P A T L R E) → by_crew mid ≡ by_crew old → job_of mid ≡ job_of old → width_of mid ≡ width_of old → ReadsStaySteady files process clone defaults pool old mid
+      → {from to : Position R E} {x : Item R E} → PassesOne files process clone defaults pool mid from x to → PassesOne files process clone defaults pool old from x to
+  passed_before old mid crew job width steady {from} {to} one = elim one [
+    | inl plain ↦ inl plain
+    | inr enters ↦
+        let at = next_address from.frontier in
+        let EntersOver : Bool → Job C S P A R E → ℕ → Type 0 = λ b j w. EntersBy files process clone defaults b j w at from.ahead to.ahead in
+        let here : EntersOver (by_crew old) (job_of mid) (width_of mid) = subst (λ b. EntersOver b (job_of mid) (width_of mid)) crew enters.ahead in
         let with_job : EntersOver (by_crew old) (job_of old) (width_of mid) = subst (λ j. EntersOver (by_crew old) j (width_of mid)) job here in
-        (suc entered, one_entered many next at.0 (subst (EntersOver (by_crew old) (job_of old)) width with_job))
-    | inr alone ↦ (entered, one_passed many next alone.0 alone.1)
+        let reads = enters.reads in
+        let Lawful : Job C S P A R E → Type 0 = λ j. IsLawfulReading (greatest_depth j) reads.first enters.outcome in
+        let lawful : Lawful (job_of old) = subst Lawful job reads.reading.lawful in
+        inr (record {
+          entry = enters.entry;
+          rest = enters.rest;
+          first = enters.first;
+          has = enters.has;
+          outcome = enters.outcome;
+          reads = record {
+            first = reads.first;
+            rest = reads.rest;
+            took = reads.took;
+            reading = record { lawful = lawful; few = reads.reading.few; value = known_before files process clone defaults pool old mid crew job steady at enters.entry reads.first enters.outcome reads.reading.value };
+            stacks = reads.stacks;
+          };
+          told = enters.told;
+          items = enters.items;
+          frontier = enters.frontier;
+          ahead = subst (EntersOver (by_crew old) (job_of old)) width with_job;
+        })
   ]
+
+  -- a directory's entry is passed, where this came of its reading
+  pub passed_by_reading : (old new : DirEntryIter C S P A T L R E) (x : Item R E) (rest : List (Item R E)) (read : Option (Outcome R E)) (answer : Item R E) (mid : ReadDirIter C S P A T L R E) → items_of old ≡ x ∷ rest → has_directory x ≡ true → new.reads ≡ mid
+      → ReadsNextBy clone (KnownAt files process clone defaults pool old (next_address (frontier_of old)) x) (greatest_depth (job_of old)) (unread_of old) read (readings.to_read mid)
+      → EntersNextBy files process clone defaults (by_crew old) (job_of old) (width_of old) (next_address (frontier_of old)) (read_ahead old) read (readings.read_ahead mid)
+      → PassesAddress (frontier_of old) read (readings.frontier_of mid)
+      → Receives read x rest answer (items_of new)
+      → PassesOne files process clone defaults pool old (position_of old) answer (position_of new)
+  passed_by_reading old new x rest None answer mid items dir same reads enters passes received = inl (record {
+    rest = rest;
+    first = items ∙ ap (λ a. a ∷ rest) (sym received.0);
+    none_below = at_nothing (items_of old) (unread_of old) reads.0;
+    others = same_position received.1 (ap readings.to_read same ∙ reads.1 ∙ sym reads.0) (ap readings.frontier_of same ∙ passes) (ap readings.read_ahead same ∙ enters);
+  })
+  passed_by_reading old new x rest (Some outcome) answer mid items dir same reads enters passes received = inr (record {
+    entry = x;
+    rest = rest;
+    first = items;
+    has = dir;
+    outcome = outcome;
+    reads = subst (λ (r : ReadDirIter C S P A T L R E). ReadsFirstBy clone (KnownAt files process clone defaults pool old (next_address (frontier_of old)) x) (greatest_depth (job_of old)) (unread_of old) outcome (readings.to_read r)) (sym same) reads;
+    told = received.0;
+    items = received.1;
+    frontier = ap readings.frontier_of same ∙ passes;
+    ahead = subst (λ (r : ReadDirIter C S P A T L R E). EntersBy files process clone defaults (by_crew old) (job_of old) (width_of old) (next_address (frontier_of old)) (read_ahead old) (readings.read_ahead r)) (sym same) enters;
+  })
+
+  -- an item without a directory is passed
+  pub passed_alone : (old : DirEntryIter C S P A T L R E) (from : Position R E) (x : Item R E) (rest : List (Item R E)) → from.items ≡ x ∷ rest → has_directory x ≡ false → PassesOne files process clone defaults pool old from x (record from { items = rest })
+  passed_alone old from x rest items none = inl (record { rest = rest; first = items; none_below = alone_at from.items rest x from.unread items none; others = refl })

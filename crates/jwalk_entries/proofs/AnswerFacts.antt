@@ -1,6 +1,6 @@
 -- One call of a walk's `next`, case by case.
-use Rattle.std.proofs.Common.{◌≡◌, ◌∙◌, ◌<◌, ℕ, Bool, true, false, List, [], ◌∷◌, ◌++◌, map, length, append-nil, Option, Some, None, Result, Ok, Err, IsSomeAnd, ◌⊎◌, subst, inl, inr, refl, sym, ap, arith}
-use Rattle.std.specs.Prelude.{MatchBool, option_map}
+use Rattle.std.proofs.Common.{◌≡◌, ◌∙◌, ◌<◌, ℕ, Bool, true, false, List, [], ◌∷◌, ◌++◌, map, length, append-nil, Option, Some, None, Result, Ok, Err, subst, inl, inr, refl, sym, ap, arith}
+use Rattle.std.specs.Prelude.{option_map}
 use Rattle.std.specs.declared.clone.Clone as Clone
 use Rattle.std.specs.declared.default.Default as Default
 use Rattle.walk_model.specs.Error.{memory}
@@ -29,7 +29,7 @@ use Rattle.jwalk_entries.specs.declared.dir_entry_iter.DirEntryIter.{DirEntryIte
 use Rattle.jwalk_entries.specs.Step.{ReadsUpTo, IsAtDirectory, StopsAtDirectory}
 use Rattle.jwalk_engine.specs.ReadAhead.{nothing_ahead}
 use Rattle.jwalk_readings.specs.ReadDirIter.{Tells}
-use Rattle.jwalk_entries.specs.DirEntryIter.{by_crew, job_of, min_depth_of, items_of, unread_of, width_of, read_ahead, GoesAhead, GrowsAhead, held, held_by, refusal, to_come, IsSourced, Stops, ArePlaced, IsSteadyWalk, Known, StaysSteady, ReadsStaySteady, Answers}
+use Rattle.jwalk_entries.specs.DirEntryIter.{by_crew, job_of, min_depth_of, items_of, unread_of, width_of, read_ahead, GrowsAhead, held, held_by, refusal, to_come, IsSourced, Stops, ArePlaced, IsSteadyWalk, Known, StaysSteady, ReadsStaySteady, Answers}
 use Rattle.jwalk_readings.proofs.GivesFacts.{steady_at_rest}
 use Rattle.jwalk_readings.proofs.KnownFacts.{clones_if_steady}
 use Rattle.jwalk_entries.proofs.ItemFacts.{items_known}
@@ -93,12 +93,7 @@ module _ {C S P A T L R E : Type 0} (files : FileSystem.Ghosts S) (process : Pro
       ap (λ (j : Job C S P A R E). value.to_come (reading (job_by files given j)) (options_of j).min_depth (greatest_depth j) (held_by given new)) job
       ∙ ap (value.to_come (reading (job_by files given (job_of old))) (min_depth_of old) (greatest_depth (job_of old))) (held_by_rest given new started)
 
-  -- a walk that didn't run out of memory at its start enters directories
-  goes_ahead : (answer : Option (Item R E)) → old.refused ≡ false → GrowsAhead files process clone defaults pool old new → GoesAhead files process clone defaults pool old answer new
-  goes_ahead answer began grown =
-      subst (λ b. MatchBool b (read_ahead new ≡ read_ahead old) ((IsSomeAnd answer (λ a. Stops (by_crew old) a new) × (read_ahead new ≡ nothing_ahead)) ⊎ GrowsAhead files process clone defaults pool old new)) (sym began) (inr grown)
-
-  -- a walk stays steady if its readings do, and its directories stay below their items
+  -- a walk stays steady where its readings do, and its directories stay below their items
   stays : by_crew new ≡ by_crew old → ReadsStaySteady files process clone defaults pool old new → (ArePlaced (by_crew old) (items_of old) (unread_of old) → ArePlaced (by_crew old) (items_of new) (unread_of new)) → StaysSteady files process clone defaults pool old new
   stays crew keeps placed = λ given steady. record { reads = keeps given steady.reads; placed = rw crew (placed steady.placed) }
 
@@ -107,7 +102,7 @@ module _ {C S P A T L R E : Type 0} (files : FileSystem.Ghosts S) (process : Pro
   Knows = Known files process clone defaults pool old
 
   answers_some : (x : Result (DirEntry C A R E) (Error A)) → old.refused ≡ false → new.refused ≡ false → by_crew new ≡ by_crew old → job_of new ≡ job_of old
-      → ReadsUpTo clone Knows (job_of old) (items_of old) (unread_of old) (Some (item x)) (items_of new) (unread_of new) → width_of new ≡ width_of old → ReadsStaySteady files process clone defaults pool old new → GrowsAhead files process clone defaults pool old new → Answers files process clone defaults pool old (Some x) new
+      → ReadsUpTo clone Knows (job_of old) (items_of old) (unread_of old) (Some (item x)) (items_of new) (unread_of new) → width_of new ≡ width_of old → ReadsStaySteady files process clone defaults pool old new → GrowsAhead files process clone defaults pool old (Some (item x)) new → Answers files process clone defaults pool old (Some x) new
   answers_some x began started crew job reads width keeps grown =
       let j = job_of old in
       let left = reads.2 in
@@ -130,7 +125,8 @@ module _ {C S P A T L R E : Type 0} (files : FileSystem.Ghosts S) (process : Pro
         reads = rw began (inr reads);
         width = width;
         steady = stays crew keeps (answered_placed clone Knows j (items_of old) (unread_of old) (by_crew old) (Some (item x)) (items_of new) (unread_of new) reads);
-        ahead = goes_ahead (Some (item x)) began grown;
+        ahead = λ never goes_on. grown;
+        kept = λ refused. absurd cc;
         coming = λ given counted. inr (
             come_old given began
             ∙ left_to_come clone Knows j (items_of old) (unread_of old) files given (clones_if_steady files process clone defaults pool old.reads given counted.reads) (items_known files process clone defaults pool old given counted.reads) left
@@ -140,7 +136,7 @@ module _ {C S P A T L R E : Type 0} (files : FileSystem.Ghosts S) (process : Pro
 
   -- all that was held is left out
   answers_none : old.refused ≡ false → new.refused ≡ false → by_crew new ≡ by_crew old → job_of new ≡ job_of old
-      → ReadsUpTo clone Knows (job_of old) (items_of old) (unread_of old) None (items_of new) (unread_of new) → width_of new ≡ width_of old → ReadsStaySteady files process clone defaults pool old new → GrowsAhead files process clone defaults pool old new → Answers files process clone defaults pool old None new
+      → ReadsUpTo clone Knows (job_of old) (items_of old) (unread_of old) None (items_of new) (unread_of new) → width_of new ≡ width_of old → ReadsStaySteady files process clone defaults pool old new → GrowsAhead files process clone defaults pool old None new → Answers files process clone defaults pool old None new
   answers_none began started crew job reads width keeps grown =
       let j = job_of old in
       let left = reads.2 in
@@ -163,7 +159,8 @@ module _ {C S P A T L R E : Type 0} (files : FileSystem.Ghosts S) (process : Pro
         reads = rw began (inr reads);
         width = width;
         steady = stays crew keeps (answered_placed clone Knows j (items_of old) (unread_of old) (by_crew old) None (items_of new) (unread_of new) reads);
-        ahead = goes_ahead None began grown;
+        ahead = λ never goes_on. grown;
+        kept = λ refused. absurd cc;
         coming = λ given counted.
             come_old given began
             ∙ left_to_come clone Knows j (items_of old) (unread_of old) files given (clones_if_steady files process clone defaults pool old.reads given counted.reads) (items_known files process clone defaults pool old given counted.reads) left
@@ -171,7 +168,7 @@ module _ {C S P A T L R E : Type 0} (files : FileSystem.Ghosts S) (process : Pro
       }
 
   pub answers_reads : (answer : Option (Result (DirEntry C A R E) (Error A))) → old.refused ≡ false → new.refused ≡ false → by_crew new ≡ by_crew old → job_of new ≡ job_of old
-      → ReadsUpTo clone Knows (job_of old) (items_of old) (unread_of old) (option_map item answer) (items_of new) (unread_of new) → width_of new ≡ width_of old → ReadsStaySteady files process clone defaults pool old new → GrowsAhead files process clone defaults pool old new → Answers files process clone defaults pool old answer new
+      → ReadsUpTo clone Knows (job_of old) (items_of old) (unread_of old) (option_map item answer) (items_of new) (unread_of new) → width_of new ≡ width_of old → ReadsStaySteady files process clone defaults pool old new → GrowsAhead files process clone defaults pool old (option_map item answer) new → Answers files process clone defaults pool old answer new
   answers_reads None began started crew job reads width keeps grown = answers_none began started crew job reads width keeps grown
   answers_reads (Some x) began started crew job reads width keeps grown = answers_some x began started crew job reads width keeps grown
 
@@ -184,7 +181,7 @@ module _ {C S P A T L R E : Type 0} (files : FileSystem.Ghosts S) (process : Pro
       let at = stops.3 in
       let before = held_rest old began in
       let after = held_nothing new started none in
-      let stopped : Stops (by_crew old) (Err (failure error)) new = record { error = failure error; told = refl; tells = tells; nothing_held = after; nothing_unread = no_unread } in
+      let stopped : Stops (by_crew old) (Err (failure error)) new = record { error = failure error; told = refl; tells = tells; nothing_held = after; nothing_unread = no_unread; nothing_ahead = nothing_left } in
       record {
         crew = crew;
         job = job;
@@ -196,8 +193,9 @@ module _ {C S P A T L R E : Type 0} (files : FileSystem.Ghosts S) (process : Pro
         reads = rw began (inl stopped);
         width = width;
         steady = stays crew keeps (λ placed. unread_placed (by_crew old) (items_of new) (unread_of new) no_unread);
-        ahead = rw began (inl (stopped, nothing_left));
-        coming = λ given counted. inl (record { error = failure error; told = refl; tells = steadily given counted; nothing_held = after; nothing_unread = no_unread });
+        ahead = λ never goes_on. absurd (goes_on stopped);
+        kept = λ refused. absurd cc;
+        coming = λ given counted. inl (record { error = failure error; told = refl; tells = steadily given counted; nothing_held = after; nothing_unread = no_unread; nothing_ahead = nothing_left });
       }
 
   -- a walk that ran out of memory at its start yields the error that says so
@@ -216,7 +214,8 @@ module _ {C S P A T L R E : Type 0} (files : FileSystem.Ghosts S) (process : Pro
         reads = rw refused unread;
         width = width;
         steady = stays crew keeps (λ placed. rw (items, unread) placed);
-        ahead = rw refused same_ahead;
+        ahead = λ began. absurd cc;
+        kept = λ was. same_ahead;
         coming = λ given counted. inr (
             ap (value.to_come (reading (job_by files given (job_of old))) (min_depth_of old) (greatest_depth (job_of old))) (held_by_refused given old refused)
             ∙ ap (answers (min_depth_of old)) (alone (reading (job_by files given (job_of old))) (greatest_depth (job_of old)) (Err memory) (map (counted_item given) (items_of old)) (map (counted_spec given) (unread_of old)) refl)

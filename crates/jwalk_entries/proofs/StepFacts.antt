@@ -1,6 +1,7 @@
 -- One item is passed, and items are passed one after another.
-use Rattle.std.proofs.Common.{◌≡◌, ℕ, ◌+◌, ◌<◌, ◌≤◌, Bool, true, false, List, [], ◌∷◌, ◌++◌, map, length, Option, Some, None, Result, Ok, Err, IfErr, IsErrAnd, refl, sym, ap, ◌∙◌, subst, arith}
-use Rattle.std.specs.Prelude.{if◌then◌else◌}
+use Rattle.std.proofs.Common.{◌≡◌, ◌≢◌, ℕ, ◌+◌, ◌<◌, ◌≤◌, Bool, true, false, List, [], ◌∷◌, ◌++◌, map, length, append-nil, Option, Some, None, Result, Ok, Err, IfErr, IsErrAnd, inl, inr, refl, sym, ap, ◌∙◌, subst, arith}
+use Rattle.std.specs.Prelude.{if◌then◌else◌, All}
+use Rattle.std.proofs.lemmas.List.Elements.{All-nil, All-cons, All-append}
 use Rattle.std.proofs.lemmas.List.{map-append}
 use lib.ListN.{length-append}
 use Rattle.std.specs.declared.clone.Clone as Clone
@@ -23,17 +24,17 @@ use Rattle.read_parts.specs.declared.dir_entry.DirEntry.{DirEntry}
 use Rattle.read_parts.specs.Entry.{item}
 use Rattle.read_parts.specs.Given.{Given, counted_entry, counted_item, counted_spec, counted_outcome, ClonesCount}
 use Rattle.jwalk_read.specs.Job.{options_of, greatest_depth, job_by, IsAsGiven}
-use Rattle.jwalk_engine.specs.Reads.{ReadsFirstBy, ReadsNextBy}
+use Rattle.jwalk_order.specs.Frontier.{next_address}
+use Rattle.jwalk_engine.specs.Reads.{ReadsFirstBy}
 use Rattle.jwalk_crew.specs.declared.pool.Pool as Pool
 use Rattle.jwalk_crew.specs.declared.pool.Missed.{Missed}
 use Rattle.jwalk_readings.specs.CrewReads.{failure_of}
 use Rattle.jwalk_readings.specs.ReadDirIter.{Tells}
 use Rattle.jwalk_entries.specs.declared.dir_entry_iter.DirEntryIter.{DirEntryIter}
-use Rattle.jwalk_entries.specs.Step.{Receives, PassesNext, passed_plainly, passed_entering, LeavesOut, none_left_out, one_left_out, ReadsUpTo}
-use Rattle.jwalk_entries.specs.DirEntryIter.{by_crew, job_of, min_depth_of, items_of, unread_of, width_of, next_address, Known, KnownAt, IsSteadyWalk, ReadsStaySteady, EntersIfAny, PassesMany, none_passed, GrowsAhead}
-use Rattle.jwalk_entries.proofs.ItemFacts.{known_before}
+use Rattle.jwalk_entries.specs.Step.{IsAtDirectory, PassesNext, passed_plainly, passed_entering, LeavesOut, none_left_out, one_left_out, ReadsUpTo}
+use Rattle.jwalk_entries.specs.DirEntryIter.{Position, by_crew, job_of, min_depth_of, items_of, unread_of, width_of, frontier_of, position_of, Known, KnownAt, IsSteadyWalk, ReadsStaySteady, PassesOne, PassesMany, none_passed, GrowsAhead}
 use Rattle.jwalk_entries.proofs.PlacedFacts.{left_placed}
-use Rattle.jwalk_entries.proofs.AheadFacts.{grows, grows_no_more, one_more, nothing_more}
+use Rattle.jwalk_entries.proofs.AheadFacts.{grows, one_more, passed_before}
 
 -- a source that gives nothing takes no specification
 plain_keeps : {R : Type 0} (E : Type 0) (b : Bool) (ss : List (Spec R)) → is_plain (first_source {R = R} {E = E} b ss) ≡ true → after_first b ss ≡ ss
@@ -61,19 +62,6 @@ module _ {C S P A R E : Type 0} (clone : Clone.Ghosts R) (known : Item R E → S
   next_over less within (passed_entering {x} {outcome = outcome} dir reads) =
       let reading = reads.reading in
       passed_entering dir (record { first = reads.first; rest = reads.rest; took = reads.took; reading = record { lawful = reading.lawful; few = reading.few; value = within x reads.first outcome reading.value }; stacks = reads.stacks })
-
-  -- an entry where nothing is left to be read
-  next_left : (x : Item R E) (items : List (Item R E)) (old new : List (Spec R)) → has_directory x ≡ true → old ≡ [] → new ≡ [] → Next (x ∷ items) old x items new
-  next_left x items old new dir none left = rw (none, left) (passed_plainly {x = x} {specs = []} (rw dir refl))
-
-  -- A directory is passed, and the outcome of its reading is received.
-  pub next_received : (read : Option (Outcome R E)) (x : Item R E) (items : List (Item R E)) (old : List (Spec R)) (answer : Item R E) (items' : List (Item R E)) (new : List (Spec R)) → has_directory x ≡ true → ReadsNextBy clone (known x) (greatest_depth job) old read new → Receives read x items answer items' → Next (x ∷ items) old answer items' new
-  next_received None x items old answer items' new dir reads received = rw (received.0, received.1) (next_left x items old new dir reads.0 reads.1)
-  next_received (Some outcome) x items old answer items' new dir reads received = rw (received.0, received.1) (passed_entering {outcome = outcome} dir reads)
-
-  -- an item without a directory
-  pub next_alone : (x : Item R E) (items : List (Item R E)) (specs : List (Spec R)) → has_directory x ≡ false → Next (x ∷ items) specs x items specs
-  next_alone x items specs none = passed_plainly {x = x} {specs = specs} (rw none refl)
 
   -- ---- depths
 
@@ -180,7 +168,23 @@ module _ {C S P A R E : Type 0} (clone : Clone.Ghosts R) (known : Item R E → S
         ∙ ap (answers (options_of job).min_depth) (next_listed files given cloned as_given next)
         ∙ rw (counted-is_answered given.read_dir_state given.dir_entry_state (options_of job).min_depth passed, out) refl
 
+-- what stands first gives nothing, where no directory is to be read below it
+plain_if : {R : Type 0} (E : Type 0) (b : Bool) (specs : List (Spec R)) → ¬ ((b ≡ true) × (specs ≢ [])) → is_plain (first_source {R = R} {E = E} b specs) ≡ true
+plain_if E false specs none = refl
+plain_if E true [] none = refl
+plain_if E true (s ∷ specs) none = absurd (none (refl, λ is. cc))
+
 module _ {C S P A T L R E : Type 0} (files : FileSystem.Ghosts S) (process : ProcessReadDir.Ghosts P C A R E) (clone : Clone.Ghosts R) (defaults : Default.Ghosts E) (pool : Pool.Ghosts L C S P A R E) where
+  -- one item that is passed, by what is held
+  next_of : (it : DirEntryIter C S P A T L R E) {from to : Position R E} {x : Item R E} → PassesOne files process clone defaults pool it from x to → PassesNext clone (KnownAt files process clone defaults pool it (next_address from.frontier)) (job_of it) from.items from.unread x to.items to.unread
+  next_of it {from} {to} {x} one = elim one [
+    | inl plain ↦
+        let Next : List (Item R E) → Position R E → Type 0 = λ items after. PassesNext clone (KnownAt files process clone defaults pool it (next_address from.frontier)) (job_of it) items from.unread x after.items after.unread in
+        let here : Next (x ∷ plain.rest) (record from { items = plain.rest }) = passed_plainly (plain_if E (has_directory x) from.unread (subst (λ l. ¬ IsAtDirectory l from.unread) plain.first plain.none_below)) in
+        subst (λ l. Next l to) (sym plain.first) (subst (Next (x ∷ plain.rest)) (sym plain.others) here)
+    | inr enters ↦ rw (enters.first, enters.told, enters.items) (passed_entering {outcome = enters.outcome} enters.has enters.reads)
+  ]
+
   -- What was passed over so far is left out.
   pub record PassedOver (old new : DirEntryIter C S P A T L R E) : Type 0 where
     pub crew : by_crew new ≡ by_crew old
@@ -189,8 +193,10 @@ module _ {C S P A T L R E : Type 0} (files : FileSystem.Ghosts S) (process : Pro
     pub width : width_of new ≡ width_of old
     pub steady : ReadsStaySteady files process clone defaults pool old new
     pub leaves : LeavesOut clone (Known files process clone defaults pool old) (job_of old) (items_of old) (unread_of old) (items_of new) (unread_of new)
+    pub left_out : List (Item R E)
+    pub too_high : All (λ x. is_answered (min_depth_of old) x ≡ false) left_out
     pub entered : ℕ
-    pub passes : PassesMany files process clone defaults pool old entered new
+    pub passes : PassesMany files process clone defaults pool old (position_of old) left_out entered (position_of new)
 
   -- One call of a walk's `pass`.
   pub record Passes (old : DirEntryIter C S P A T L R E) (passed : Result (DirEntry C A R E) (Error A)) (new : DirEntryIter C S P A T L R E) : Type 0 where
@@ -198,25 +204,22 @@ module _ {C S P A T L R E : Type 0} (files : FileSystem.Ghosts S) (process : Pro
     pub job : job_of new ≡ job_of old
     pub refused : new.refused ≡ old.refused
     pub steady : ReadsStaySteady files process clone defaults pool old new
-    pub next : PassesNext clone (KnownAt files process clone defaults pool old (next_address old)) (job_of old) (items_of old) (unread_of old) (item passed) (items_of new) (unread_of new)
+    pub next : PassesOne files process clone defaults pool old (position_of old) (item passed) (position_of new)
     pub width : width_of new ≡ width_of old
-    pub ahead : EntersIfAny files process clone defaults old new
 
   pub none_passed_over : (it : DirEntryIter C S P A T L R E) → PassedOver it it
-  none_passed_over it = record { crew = refl; job = refl; refused = refl; width = refl; steady = λ given steady. steady; leaves = none_left_out; entered = 0; passes = none_passed }
+  none_passed_over it = record { crew = refl; job = refl; refused = refl; width = refl; steady = λ given steady. steady; leaves = none_left_out; left_out = []; too_high = All-nil _; entered = 0; passes = none_passed }
 
-  passes_by : (old mid new : DirEntryIter C S P A T L R E) (passed : Result (DirEntry C A R E) (Error A)) → PassedOver old mid → Passes mid passed new → PassesNext clone (KnownAt files process clone defaults pool old (next_address mid)) (job_of old) (items_of mid) (unread_of mid) (item passed) (items_of new) (unread_of new)
-  passes_by old mid new passed over passes =
-      subst (λ j. PassesNext clone (KnownAt files process clone defaults pool old (next_address mid)) j (items_of mid) (unread_of mid) (item passed) (items_of new) (unread_of new)) over.job
-      (next_over clone (KnownAt files process clone defaults pool mid (next_address mid)) (job_of mid) (KnownAt files process clone defaults pool old (next_address mid)) (known_before files process clone defaults pool old mid over.crew over.job over.steady (next_address mid)) passes.next)
+  passes_by : (old mid new : DirEntryIter C S P A T L R E) (passed : Result (DirEntry C A R E) (Error A)) → PassedOver old mid → Passes mid passed new → PassesOne files process clone defaults pool old (position_of mid) (item passed) (position_of new)
+  passes_by old mid new passed over passes = passed_before files process clone defaults pool old mid over.crew over.job over.width over.steady passes.next
 
   passes_on : (old mid new : DirEntryIter C S P A T L R E) (passed : Result (DirEntry C A R E) (Error A)) → PassedOver old mid → Passes mid passed new → PassesNext clone (Known files process clone defaults pool old) (job_of old) (items_of mid) (unread_of mid) (item passed) (items_of new) (unread_of new)
   passes_on old mid new passed over passes =
-      next_over clone (KnownAt files process clone defaults pool old (next_address mid)) (job_of old) (Known files process clone defaults pool old) (λ x s o known. (next_address mid, known)) (passes_by old mid new passed over passes)
+      let at = next_address (frontier_of mid) in
+      next_over clone (KnownAt files process clone defaults pool old at) (job_of old) (Known files process clone defaults pool old) (λ x s o known. (at, known)) (next_of old (passes_by old mid new passed over passes))
 
-  many_on : (old mid new : DirEntryIter C S P A T L R E) (passed : Result (DirEntry C A R E) (Error A)) → PassedOver old mid → Passes mid passed new → (n : ℕ) × PassesMany files process clone defaults pool old n new
-  many_on old mid new passed over passes =
-      one_more files process clone defaults pool old mid new over.entered (item passed) over.passes over.crew over.job over.width (passes_by old mid new passed over passes) passes.ahead
+  many_on : (old mid new : DirEntryIter C S P A T L R E) (passed : Result (DirEntry C A R E) (Error A)) (over : PassedOver old mid) → Passes mid passed new → (n : ℕ) × PassesMany files process clone defaults pool old (position_of old) (over.left_out ++ item passed ∷ []) n (position_of new)
+  many_on old mid new passed over passes = one_more files process clone defaults pool old over.passes (passes_by old mid new passed over passes)
 
   -- if the walk was steady, it still is once items were passed over
   pub over_steady : (old mid : DirEntryIter C S P A T L R E) → PassedOver old mid → (given : Given R E) → IsSteadyWalk files process clone defaults pool old given → IsSteadyWalk files process clone defaults pool mid given
@@ -225,37 +228,53 @@ module _ {C S P A T L R E : Type 0} (files : FileSystem.Ghosts S) (process : Pro
     placed = rw over.crew (left_placed clone (Known files process clone defaults pool old) (job_of old) (items_of old) (unread_of old) (by_crew old) (items_of mid) (unread_of mid) over.leaves steady.placed);
   }
 
-  -- the directories that are entered up to the first item that is yielded
-  pub grows_to_answer : (old mid new : DirEntryIter C S P A T L R E) (passed : Result (DirEntry C A R E) (Error A)) → PassedOver old mid → Passes mid passed new → GrowsAhead files process clone defaults pool old new
+  -- the directories that are entered up to the first that is answered
+  pub grows_to_answer : (old mid new : DirEntryIter C S P A T L R E) (passed : Result (DirEntry C A R E) (Error A)) → PassedOver old mid → Passes mid passed new → GrowsAhead files process clone defaults pool old (Some (item passed)) new
   grows_to_answer old mid new passed over passes =
       let more = many_on old mid new passed over passes in
-      record { entered = more.0; last = new; passes = more.1; same = refl; ahead = grows files process clone defaults pool old more.1 }
+      record { left_out = over.left_out; too_high = over.too_high; entered = more.0; passes = more.1; ahead = grows files process clone defaults pool old more.1 }
 
   -- and up to the end
-  pub grows_to_end : (old mid new : DirEntryIter C S P A T L R E) → PassedOver old mid → items_of mid ≡ [] → EntersIfAny files process clone defaults mid new → GrowsAhead files process clone defaults pool old new
-  grows_to_end old mid new over none any =
-      let same = nothing_more files process clone defaults pool mid new none any in
-      record { entered = over.entered; last = mid; passes = over.passes; same = same; ahead = grows_no_more files process clone defaults pool old over.entered mid new same (grows files process clone defaults pool old over.passes) }
+  pub grows_to_end : (old mid new : DirEntryIter C S P A T L R E) → PassedOver old mid → position_of new ≡ position_of mid → GrowsAhead files process clone defaults pool old None new
+  grows_to_end old mid new over same =
+      let all = subst (λ p. PassesMany files process clone defaults pool old (position_of old) over.left_out over.entered p) (sym same) over.passes in
+      record {
+        left_out = over.left_out;
+        too_high = over.too_high;
+        entered = over.entered;
+        passes = subst (λ l. PassesMany files process clone defaults pool old (position_of old) l over.entered (position_of new)) (sym (append-nil over.left_out)) all;
+        ahead = grows files process clone defaults pool old all;
+      }
 
   pub one_passed_over : (old mid new : DirEntryIter C S P A T L R E) (passed : Result (DirEntry C A R E) (Error A)) → PassedOver old mid → Passes mid passed new → is_answered (min_depth_of new) (item passed) ≡ false → PassedOver old new
-  one_passed_over old mid new passed over passes out = let more = many_on old mid new passed over passes in record {
-    crew = passes.crew ∙ over.crew;
-    job = passes.job ∙ over.job;
-    refused = passes.refused ∙ over.refused;
-    width = passes.width ∙ over.width;
-    steady = λ given steady. passes.steady given (over.steady given steady);
-    entered = more.0;
-    passes = more.1;
-    leaves = one_left_out over.leaves (passes_on old mid new passed over passes) (subst (λ j. is_answered (options_of j).min_depth (item passed) ≡ false) (passes.job ∙ over.job) out);
-  }
+  one_passed_over old mid new passed over passes out =
+      let more = many_on old mid new passed over passes in
+      let Out : Item R E → Type 0 = λ x. is_answered (min_depth_of old) x ≡ false in
+      let left_out : Out (item passed) = subst (λ j. is_answered (options_of j).min_depth (item passed) ≡ false) (passes.job ∙ over.job) out in
+      record {
+        crew = passes.crew ∙ over.crew;
+        job = passes.job ∙ over.job;
+        refused = passes.refused ∙ over.refused;
+        width = passes.width ∙ over.width;
+        steady = λ given steady. passes.steady given (over.steady given steady);
+        left_out = over.left_out ++ item passed ∷ [];
+        too_high = All-append Out over.left_out (item passed ∷ []) over.too_high (All-cons Out (item passed) [] left_out (All-nil Out));
+        entered = more.0;
+        passes = more.1;
+        leaves = one_left_out over.leaves (passes_on old mid new passed over passes) left_out;
+      }
 
   -- the first item that is yielded after what was passed over
   pub one_answered : (old mid new : DirEntryIter C S P A T L R E) (passed : Result (DirEntry C A R E) (Error A)) → PassedOver old mid → Passes mid passed new → is_answered (min_depth_of new) (item passed) ≡ true → ReadsUpTo clone (Known files process clone defaults pool old) (job_of old) (items_of old) (unread_of old) (Some (item passed)) (items_of new) (unread_of new)
   one_answered old mid new passed over passes kept =
       (items_of mid, unread_of mid, over.leaves, (passes_on old mid new passed over passes, subst (λ j. is_answered (options_of j).min_depth (item passed) ≡ true) (passes.job ∙ over.job) kept))
 
+  -- and where nothing is held then
+  pub none_answered : (old mid new : DirEntryIter C S P A T L R E) → PassedOver old mid → items_of mid ≡ [] → position_of new ≡ position_of mid → ReadsUpTo clone (Known files process clone defaults pool old) (job_of old) (items_of old) (unread_of old) None (items_of new) (unread_of new)
+  none_answered old mid new over none same = (items_of mid, unread_of mid, over.leaves, (none, ap (λ p. p.items) same ∙ none, ap (λ p. p.unread) same))
+
   pub passes_lighter : (old new : DirEntryIter C S P A T L R E) (passed : Result (DirEntry C A R E) (Error A)) → Passes old passed new → weight (greatest_depth (job_of new)) (pair_up (items_of new) (unread_of new)) < weight (greatest_depth (job_of old)) (pair_up (items_of old) (unread_of old))
-  passes_lighter old new passed passes = rw passes.job (next_lighter clone (KnownAt files process clone defaults pool old (next_address old)) (job_of old) passes.next)
+  passes_lighter old new passed passes = rw passes.job (next_lighter clone (KnownAt files process clone defaults pool old (next_address (frontier_of old))) (job_of old) (next_of old passes.next))
 
 -- a reading that is missed says why the walk ends early, by the crew that it had before
 pub passed_tells : {T : Type 0} (before now : Bool) (missed : Missed) (r : Result T Missed) → IsErrAnd r (λ m. m ≡ missed) → now ≡ before → Tells now (failure_of missed) → IfErr r (λ m. Tells before (failure_of m))

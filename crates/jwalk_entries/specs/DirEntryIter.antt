@@ -1,15 +1,15 @@
--- What a walk holds, and what one call of it does.
-use Rattle.std.specs.Prelude.{◌≡◌, ◌≤◌, ◌<◌, ◌+◌, ◌-◌, ◌*◌, ◌^◌, ◌⊎◌, ℕ, suc, min, Bool, true, false, List, [], ◌∷◌, ◌++◌, length, map, reverse, Option, Some, None, IfSome, IfNone, IfOk, IfErr, IsSomeAnd, MatchBool, option_map, Result, Ok, Err}
+-- What a walk holds, and what one of its answers does.
+use Rattle.std.specs.Prelude.{◌≡◌, ◌≤◌, ◌<◌, ◌+◌, ◌-◌, ◌*◌, ◌^◌, ◌⊎◌, ℕ, suc, min, Bool, true, false, List, [], ◌∷◌, ◌++◌, length, map, reverse, Option, Some, None, option_to_list, All, IfSome, IfNone, IfOk, IfErr, IsSomeAnd, MatchBool, option_map, Result, Ok, Err}
 use Rattle.std.specs.declared.clone.Clone as Clone
 use Rattle.std.specs.declared.default.Default as Default
 use Rattle.std.specs.declared.alloc.AllocError.{AllocError}
 use Rattle.std.specs.Iterator.{Drains, Yields, YieldsThen}
 use Rattle.walk_model.specs.Error.{Failure, memory}
-use Rattle.walk_model.specs.Entry.{Item, NoDeeper, IsBetween, AllBetween}
-use Rattle.walk_model.specs.ReadDir.{Spec, Outcome}
+use Rattle.walk_model.specs.Entry.{Item, has_directory, NoDeeper, IsBetween, AllBetween}
+use Rattle.walk_model.specs.ReadDir.{Spec, Outcome, list_of, children_of}
 use Rattle.walk_model.specs.Counted.{Worth}
 use Rattle.walk_model.specs.Job.{reading}
-use Rattle.walk_model.specs.Listing.{Pair, Source, nothing, unread, was_read}
+use Rattle.walk_model.specs.Listing.{Pair, Source, nothing, unread, was_read, after_reading, is_answered}
 use Rattle.walk_model.specs.Held as value
 use Rattle.walk_model.specs.Held.{pair_up, weight, sources, AnswersPlainly, AreSourced}
 use Rattle.walk_fs.specs.declared.file_system.FileSystem as FileSystem
@@ -20,13 +20,17 @@ use Rattle.jwalk_read.specs.declared.job.Job.{Job}
 use Rattle.read_parts.specs.Entry.{item}
 use Rattle.read_parts.specs.Given.{Given, counted_item, counted_spec}
 use Rattle.jwalk_read.specs.Job.{options_of, greatest_depth, job_by, IsSteadyJob}
-use Rattle.jwalk_engine.specs.ReadAhead.{ReadAhead, nothing_ahead}
+use Rattle.jwalk_order.specs.Frontier as frontier
+use Rattle.jwalk_order.specs.Frontier.{next_address}
+use Rattle.jwalk_engine.specs.Reads.{ReadsFirstBy}
+use Rattle.jwalk_engine.specs.ReadAhead.{ReadAhead}
+use Rattle.jwalk_engine.specs.ReadAhead as ahead
 use Rattle.jwalk_crew.specs.declared.pool.Pool as Pool
 use Rattle.jwalk_readings.specs.ReadDirIter as readings
 use Rattle.jwalk_readings.specs.CrewReads.{IsBelow, IsNextBelow}
 use Rattle.jwalk_readings.specs.declared.read_dir_iter.ReadDirIter.{ReadDirIter}
 use Rattle.jwalk_readings.specs.ReadDirIter.{to_read, Tells, IsSteadyReads, KnownBy, EntersBy}
-use Rattle.jwalk_entries.specs.Step.{IsAtDirectory, PassesNext, ReadsUpTo}
+use Rattle.jwalk_entries.specs.Step.{IsAtDirectory, ReadsUpTo}
 use Rattle.jwalk_entries.specs.declared.dir_entry_iter.DirEntryIter.{DirEntryIter}
 
 -- The item is the error that says that memory ran out.
@@ -50,7 +54,25 @@ abbrev pub ArePlaced : {R E : Type 0} → Bool → List (Item R E) → List (Spe
 ArePlaced false items specs = Unit {0}
 ArePlaced true items specs = AreBelow (pair_up items specs)
 
--- what is held in front where memory ran out at the start: the error that says so
+-- Where a walk is.
+pub record Position (R E : Type 0) : Type 0 where
+  -- the items that were received and not passed on, the next one first
+  pub items : List (Item R E)
+  -- the directories that aren't read yet
+  pub unread : List (Spec R)
+  -- the addresses of the directories that are still to be entered, the next one first
+  pub frontier : List (List ℕ)
+  -- what isn't read yet, and what was read and not handed on, by address
+  pub ahead : ReadAhead R
+
+-- An item is passed below which no directory is to be read: nothing else changes.
+pub record PassesPlainly {R E : Type 0} (from : Position R E) (passed : Item R E) (to : Position R E) : Type 0 where
+  pub rest : List (Item R E)
+  pub first : from.items ≡ passed ∷ rest
+  pub none_below : ¬ IsAtDirectory from.items from.unread
+  pub others : to ≡ record from { items = rest }
+
+-- what stands in front of a walk that was refused at its start: the error that tells of it
 abbrev pub refusal : {R E : Type 0} → Bool → List (Pair R E)
 refusal true = record { item = Err memory; source = nothing } ∷ []
 refusal false = []
@@ -89,9 +111,9 @@ module _ {C S P A T L R E : Type 0} where
   abbrev pub read_ahead : DirEntryIter C S P A T L R E → ReadAhead R
   read_ahead it = readings.read_ahead it.reads
 
-  -- the address of the directory that is entered next
-  abbrev pub next_address : DirEntryIter C S P A T L R E → List ℕ
-  next_address it = readings.next_address it.reads
+  -- the addresses of the directories that are still to be entered, the next one first
+  abbrev pub frontier_of : DirEntryIter C S P A T L R E → List (List ℕ)
+  frontier_of it = readings.frontier_of it.reads
 
   -- the addresses of the readings that were made and not handed on
   abbrev pub early_of : DirEntryIter C S P A T L R E → List (List ℕ)
@@ -100,6 +122,9 @@ module _ {C S P A T L R E : Type 0} where
   -- the items that were received and not passed on, the next one first
   abbrev pub items_of : DirEntryIter C S P A T L R E → List (Item R E)
   items_of it = map item (reverse it.items.items)
+
+  abbrev pub position_of : DirEntryIter C S P A T L R E → Position R E
+  position_of it = record { items = items_of it; unread = unread_of it; frontier = frontier_of it; ahead = read_ahead it }
 
   -- the items that were received and not passed on, each with the directory below it
   abbrev pub held : DirEntryIter C S P A T L R E → List (Pair R E)
@@ -130,13 +155,14 @@ module _ {C S P A T L R E : Type 0} where
     pub each : AreSourced (held it)
     pub unread : unread_of it ≡ sources (held it)
 
-  -- The answer says why the walk ends early, and nothing is held or unread any more.
+  -- the answer tells why the walk ends early, and nothing is held, unread or read ahead any more
   pub record Stops (crew : Bool) (answer : Item R E) (new : DirEntryIter C S P A T L R E) : Type 0 where
     pub error : Failure
     pub told : answer ≡ Err error
     pub tells : Tells crew error
     pub nothing_held : held new ≡ []
     pub nothing_unread : unread_of new ≡ []
+    pub nothing_ahead : read_ahead new ≡ ahead.nothing_ahead
 
   -- A walk that ran out of memory at its start: it holds the error that says so, and nothing is unread.
   pub record IsRefused (it : DirEntryIter C S P A T L R E) : Type 0 where
@@ -159,13 +185,6 @@ module _ {C S P A T L R E : Type 0} where
     pub beginning : to_come files given old ≡ map (counted_item given) before ++ missed
     pub told : answered ≡ before ++ Err memory ∷ []
     pub nothing_held : held new ≡ []
-
-module _ {C S P A T L R E : Type 0} (files : FileSystem.Ghosts S) (process : ProcessReadDir.Ghosts P C A R E) (clone : Clone.Ghosts R) (defaults : Default.Ghosts E) where
-  -- The next directory is entered, if one is to be read below the first item. Otherwise what was read ahead stays as it is.
-  abbrev pub EntersIfAny : DirEntryIter C S P A T L R E → DirEntryIter C S P A T L R E → Type 0
-  EntersIfAny old new =
-      (IsAtDirectory (items_of old) (unread_of old) × EntersBy files process clone defaults (by_crew old) (job_of old) (width_of old) (next_address old) (read_ahead old) (read_ahead new))
-      ⊎ ((¬ IsAtDirectory (items_of old) (unread_of old)) × (read_ahead new ≡ read_ahead old))
 
 module _ {C S P A T L R E : Type 0} (files : FileSystem.Ghosts S) (process : ProcessReadDir.Ghosts P C A R E) (clone : Clone.Ghosts R) (defaults : Default.Ghosts E) (pool : Pool.Ghosts L C S P A R E) where
   -- A walk is steady over what is given: its job is, and what it read ahead, or its crew gives, is what the definition gives. A crew's readings are those of the directories below its items.
@@ -200,28 +219,36 @@ module _ {C S P A T L R E : Type 0} (files : FileSystem.Ghosts S) (process : Pro
       (unread_of new ≡ unread_of old)
       (IsSomeAnd answer (λ a. Stops (by_crew old) a new) ⊎ ReadsUpTo clone (Known old) (job_of old) (items_of old) (unread_of old) answer (items_of new) (unread_of new))
 
-  -- Items are passed one after another, and this many directories are entered with them, each by the reading at its address.
-  pub data PassesMany (old : DirEntryIter C S P A T L R E) : ℕ → DirEntryIter C S P A T L R E → Type 0 where
-    none_passed : PassesMany old 0 old
-    one_passed : {entered : ℕ} {mid new : DirEntryIter C S P A T L R E} {passed : Item R E} → PassesMany old entered mid → PassesNext clone (KnownAt old (next_address mid)) (job_of old) (items_of mid) (unread_of mid) passed (items_of new) (unread_of new)
-        → ¬ IsAtDirectory (items_of mid) (unread_of mid) → read_ahead new ≡ read_ahead mid → PassesMany old entered new
-    one_entered : {entered : ℕ} {mid new : DirEntryIter C S P A T L R E} {passed : Item R E} → PassesMany old entered mid → PassesNext clone (KnownAt old (next_address mid)) (job_of old) (items_of mid) (unread_of mid) passed (items_of new) (unread_of new)
-        → IsAtDirectory (items_of mid) (unread_of mid) → EntersBy files process clone defaults (by_crew old) (job_of old) (width_of old) (next_address mid) (read_ahead mid) (read_ahead new) → PassesMany old (suc entered) new
+  -- The directory below the first item is entered, by the reading at the first address of the frontier. Its items, its directories and their addresses take the place of the first ones.
+  pub record EntersDirectory (it : DirEntryIter C S P A T L R E) (from : Position R E) (passed : Item R E) (to : Position R E) : Type 0 where
+    pub entry : Item R E
+    pub rest : List (Item R E)
+    pub first : from.items ≡ entry ∷ rest
+    pub has : has_directory entry ≡ true
+    pub outcome : Outcome R E
+    pub reads : ReadsFirstBy clone (KnownAt it (next_address from.frontier) entry) (greatest_depth (job_of it)) from.unread outcome to.unread
+    pub told : passed ≡ after_reading outcome entry
+    pub items : to.items ≡ list_of outcome ++ rest
+    pub frontier : to.frontier ≡ frontier.passed from.frontier (length (children_of outcome))
+    pub ahead : EntersBy files process clone defaults (by_crew it) (job_of it) (width_of it) (next_address from.frontier) from.ahead to.ahead
 
-  -- Directories are entered, and with each of them what was read ahead grows by less than the width.
-  pub record GrowsAhead (old new : DirEntryIter C S P A T L R E) : Type 0 where
+  -- the next item is passed
+  abbrev pub PassesOne : DirEntryIter C S P A T L R E → Position R E → Item R E → Position R E → Type 0
+  PassesOne it from passed to = PassesPlainly from passed to ⊎ EntersDirectory it from passed to
+
+  -- These items are passed one after another, and this many directories are entered with them.
+  pub data PassesMany (it : DirEntryIter C S P A T L R E) : Position R E → List (Item R E) → ℕ → Position R E → Type 0 where
+    none_passed : {at : Position R E} → PassesMany it at [] 0 at
+    one_passed : {from mid to : Position R E} {x : Item R E} {passed : List (Item R E)} {entered : ℕ} → PassesPlainly from x mid → PassesMany it mid passed entered to → PassesMany it from (x ∷ passed) entered to
+    one_entered : {from mid to : Position R E} {x : Item R E} {passed : List (Item R E)} {entered : ℕ} → EntersDirectory it from x mid → PassesMany it mid passed entered to → PassesMany it from (x ∷ passed) (suc entered) to
+
+  -- The items that the least depth leaves out are passed, and then the answer, if there is one. With each directory that is entered what was read ahead grows by less than the width.
+  pub record GrowsAhead (old : DirEntryIter C S P A T L R E) (answer : Option (Item R E)) (new : DirEntryIter C S P A T L R E) : Type 0 where
+    pub left_out : List (Item R E)
+    pub too_high : All (λ x. is_answered (min_depth_of old) x ≡ false) left_out
     pub entered : ℕ
-    pub last : DirEntryIter C S P A T L R E
-    pub passes : PassesMany old entered last
-    pub same : read_ahead new ≡ read_ahead last
+    pub passes : PassesMany old (position_of old) (left_out ++ option_to_list answer) entered (position_of new)
     pub ahead : length (early_of new) + entered ≤ length (early_of old) + entered * width_of old
-
-  -- What a call does to what was read ahead, whatever the file system returns: directories are entered, or the walk ends early and nothing is left. If memory ran out at the start, none is entered.
-  abbrev pub GoesAhead : DirEntryIter C S P A T L R E → Option (Item R E) → DirEntryIter C S P A T L R E → Type 0
-  GoesAhead old answer new =
-      MatchBool old.refused
-      (read_ahead new ≡ read_ahead old)
-      ((IsSomeAnd answer (λ a. Stops (by_crew old) a new) × (read_ahead new ≡ nothing_ahead)) ⊎ GrowsAhead old new)
 
   -- One call of a walk's `next`.
   pub record Answers (old : DirEntryIter C S P A T L R E) (answer : Option (Result (DirEntry C A R E) (Error A))) (new : DirEntryIter C S P A T L R E) : Type 0 where
@@ -234,7 +261,8 @@ module _ {C S P A T L R E : Type 0} (files : FileSystem.Ghosts S) (process : Pro
     pub lighter : IfSome answer (λ _. weight_of new < weight_of old)
     pub reads : ReadsItems old (option_map item answer) new
     pub width : width_of new ≡ width_of old
-    pub ahead : GoesAhead old (option_map item answer) new
+    pub ahead : old.refused ≡ false → ¬ IsSomeAnd (option_map item answer) (λ a. Stops (by_crew old) a new) → GrowsAhead old (option_map item answer) new
+    pub kept : old.refused ≡ true → read_ahead new ≡ read_ahead old
     pub steady : StaysSteady old new
     pub coming : (given : Given R E) → IsSteadyWalk old given → AnswersFirst files given old (option_map item answer) new
 

@@ -80,8 +80,8 @@ impl<
     ghost use Rattle.jwalk_engine.specs.ReadAhead.{nothing_ahead, BeginsWith};
     ghost use Rattle.jwalk_readings.specs.CrewReads.{failure_of, NotLost};
     ghost use Rattle.jwalk_readings.specs.ReadDirIter.{Tells};
-    ghost use Rattle.jwalk_entries.specs.DirEntryIter.{reads_of, by_crew, is_refused, job_of, min_depth_of, items_of, unread_of, width_of, read_ahead, early_of, held_by, next_address, IsWithin, IsSourced, IsRefused, Known, KnownAt, IsSteadyWalk, ReadsStaySteady, EntersIfAny, GrowsAhead, Answers, Counts};
-    ghost use Rattle.jwalk_entries.specs.Step.{IsAtDirectory, Receives, PassesNext, ReadsUpTo, StopsAtDirectory};
+    ghost use Rattle.jwalk_entries.specs.DirEntryIter.{reads_of, by_crew, is_refused, job_of, min_depth_of, items_of, unread_of, width_of, read_ahead, early_of, position_of, held_by, IsWithin, IsSourced, IsRefused, Known, IsSteadyWalk, ReadsStaySteady, PassesOne, GrowsAhead, Answers, Counts};
+    ghost use Rattle.jwalk_entries.specs.Step.{IsAtDirectory, Receives, ReadsUpTo, StopsAtDirectory};
 
     /// Returns a walk whose start ran out of memory: it yields the error that reports it, and nothing else. The call
     /// itself needs no memory.
@@ -230,17 +230,13 @@ impl<
         ensures job { job_of self.new ≡ job_of self.old }
         ensures refused { self.new.refused ≡ self.old.refused }
         ensures end { IfOk result (λ o. IfNone o
-            ((items_of self.old ≡ []) × (items_of self.new ≡ []) × (unread_of self.new ≡ unread_of self.old))) }
+            ((items_of self.old ≡ []) × (position_of self.new ≡ position_of self.old))) }
         ensures steady { ReadsStaySteady S.FileSystem P.ProcessReadDir C.ReadDirState.Clone C.DirEntryState.Default
             L.Pool self.old self.new }
-        ensures passed { IfOk result (λ o. IfSome o (λ passed. PassesNext C.ReadDirState.Clone
-            (KnownAt S.FileSystem P.ProcessReadDir C.ReadDirState.Clone C.DirEntryState.Default L.Pool self.old
-            (next_address self.old))
-            (job_of self.old) (items_of self.old) (unread_of self.old)
-            (item passed) (items_of self.new) (unread_of self.new))) }
+        ensures passed { IfOk result (λ o. IfSome o (λ passed. PassesOne S.FileSystem P.ProcessReadDir
+            C.ReadDirState.Clone C.DirEntryState.Default L.Pool self.old (position_of self.old) (item passed)
+            (position_of self.new))) }
         ensures width { width_of self.new ≡ width_of self.old }
-        ensures ahead { OnOk result (EntersIfAny S.FileSystem P.ProcessReadDir C.ReadDirState.Clone
-            C.DirEntryState.Default self.old self.new) }
         ensures tells { IfErr result (λ missed. Tells (by_crew self.old) (failure_of missed)) }
         ensures comes { IfErr result (NotLost (IsSteadyWalk S.FileSystem P.ProcessReadDir C.ReadDirState.Clone
             C.DirEntryState.Default L.Pool self.old)) }
@@ -291,8 +287,8 @@ impl<
             (job_of self.old) (items_of self.old) (unread_of self.old)
             (option_map item answer) (items_of self.new) (unread_of self.new)) }
         ensures width { width_of self.new ≡ width_of self.old }
-        ensures ahead { OnOk result (GrowsAhead S.FileSystem P.ProcessReadDir C.ReadDirState.Clone
-            C.DirEntryState.Default L.Pool self.old self.new) }
+        ensures ahead { IfOk result (λ answer. GrowsAhead S.FileSystem P.ProcessReadDir C.ReadDirState.Clone
+            C.DirEntryState.Default L.Pool self.old (option_map item answer) self.new) }
         ensures tells { IfErr result (λ missed. Tells (by_crew self.old) (failure_of missed)) }
         ensures comes { IfErr result (NotLost (IsSteadyWalk S.FileSystem P.ProcessReadDir C.ReadDirState.Clone
             C.DirEntryState.Default L.Pool self.old)) }

@@ -22,6 +22,7 @@ use Rattle.jwalk_read.specs.declared.read_dir.ReadDir.{ReadDir}
 use Rattle.read_parts.specs.Given.{Given, counted_spec}
 use Rattle.read_parts.specs.Options.{options_value}
 use Rattle.jwalk_read.specs.Job.{options_of, job_by, IsSteadyJob, IsReadingOf, IsAsGiven}
+use Rattle.read_parts.specs.declared.read_dir_spec.ReadDirSpec.{ReadDirSpec}
 use Rattle.read_parts.specs.ReadDirSpec.{spec}
 use Rattle.jwalk_read.specs.ReadDir.{outcome}
 use Rattle.crew_parts.specs.declared.wanted.Wanted.{Wanted}
@@ -79,6 +80,10 @@ pub alike_length : {R : Type 0} (clone : Clone.Ghosts R) (these those : List (Sp
 alike_length {R} clone these those alike =
     let nothing : R → Worth = λ x. blank in
     sym (length-map these (spec_by nothing)) ∙ ap length (alike nothing (λ x y is. refl)) ∙ length-map those (spec_by nothing)
+
+-- the directories that are found in a reading are as many as its children
+pub as_many_found : {C A R E : Type 0} (clone : Clone.Ghosts R) (o : Outcome R E) (found : List (ReadDirSpec C A R E)) (n : ℕ) → n ≡ length found → AreClones clone.is_clone (children_of o) (map spec found) → n ≡ length (children_of o)
+as_many_found clone o found n as_many clones = as_many ∙ sym (length-map found spec) ∙ same_length clone.is_clone (children_of o) (map spec found) clones
 
 -- where job and roots are the same, readings come from the same
 pub origin_same : {C S P A R E : Type 0} (job made : Job C S P A R E) (specs others : List (Spec R)) → job ≡ made → specs ≡ others → ◌≡◌ {A = Origin C S P A R E} (record { job = job; roots = specs }) (record { job = made; roots = others })
@@ -195,18 +200,24 @@ module _ {C S P A L R E : Type 0} (files : FileSystem.Ghosts S) (process : Proce
       (here : address_of item ≡ next_address old.matcher) (further : new.matcher ≡ passed old.matcher (child_count_of item))
       (of : (origin : Origin C S P A R E) → pool.comes_from before origin → IsMessageOf files process clone defaults origin (addressed item)) (same : (origin : Origin C S P A R E) → pool.comes_from before origin → pool.comes_from after origin) (goes_on : pool.awaits after ≡ passed (pool.awaits before) (child_count_of item))
       (came : item.value.outcome ≡ Ok read) (reading : IsReadingOf files process clone defaults item.value.job (spec item.value.of) (outcome read)) where
-    -- as many directories were found as the message says
-    counted : (origin : Origin C S P A R E) → IsMessageOf files process clone defaults origin (addressed item) → (front : List (Spec R)) → AreClones clone.is_clone (children_of (outcome read)) front → child_count_of item ≡ length front
-    counted origin message front clones =
+    -- the message says how many directories are in it
+    message_count : (origin : Origin C S P A R E) → IsMessageOf files process clone defaults origin (addressed item) → child_count_of item ≡ length (children_of (outcome read))
+    message_count origin message =
         let count : IfOk {E = AllocError} (Ok read) (λ r. child_count_of item ≡ length (children_of (outcome r))) = rw came at message.count in
-        count ∙ sym (same_length clone.is_clone (children_of (outcome read)) front clones)
+        count
+
+    counted : (origin : Origin C S P A R E) → IsMessageOf files process clone defaults origin (addressed item) → (front : List (Spec R)) → AreClones clone.is_clone (children_of (outcome read)) front → child_count_of item ≡ length front
+    counted origin message front clones = message_count origin message ∙ sym (same_length clone.is_clone (children_of (outcome read)) front clones)
 
     was_over : (rest : List (Spec R)) (given : Given R E) → IsSteadyOver files process clone defaults pool (job_of old) old.pool old.matcher (first ∷ rest) given → IsSteadyOver files process clone defaults pool (job_of old) (Some before) old.matcher (first ∷ rest) given
     was_over rest given was = subst (λ q. IsSteadyOver files process clone defaults pool (job_of old) q old.matcher (first ∷ rest) given) had was
 
     -- a pool's message is the reading of the directory that comes next
-    pub reads_steadily : ReadsSteadily files process clone defaults pool old first (outcome read) new
-    reads_steadily = record {
+    pub reads_steadily : (count : ℕ) → count ≡ child_count_of item → ReadsSteadily files process clone defaults pool old first (outcome read) count new
+    reads_steadily count counts = record {
+      count_is = λ rest given was.
+          let over = was_over rest given was in
+          counts ∙ message_count (record { job = job_of old; roots = over.roots }) (of (record { job = job_of old; roots = over.roots }) over.comes);
       value = λ rest given was. value_of (job_of old) before after old.matcher first (outcome read) item here of reading rest given (was_over rest given was);
       steady = λ rest front clones given was.
           let over = was_over rest given was in

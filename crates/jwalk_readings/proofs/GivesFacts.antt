@@ -27,11 +27,11 @@ use Rattle.jwalk_engine.specs.declared.read.Read.{Read}
 use Rattle.jwalk_engine.specs.Reads.{MadeAsGiven, ReadsFirstBy, ReadsNextBy}
 use Rattle.jwalk_engine.specs.ReadAhead.{nothing_ahead, BeginsWith}
 use Rattle.jwalk_engine.specs.BoardWalk as board
-use Rattle.jwalk_engine.specs.BoardWalk.{BoardWalk, IsSteadyWalk}
+use Rattle.jwalk_engine.specs.BoardWalk.{BoardWalk, PassesAddress, IsSteadyWalk}
 use Rattle.jwalk_crew.specs.declared.pool.Pool as Pool
 use Rattle.jwalk_readings.specs.declared.read_dir_iter.ReadDirIter.{ReadDirIter}
 use Rattle.jwalk_readings.specs.declared.read_dir_iter.ReadDirIter.TheVariants.{Walk, ParWalk, CrewWalk}
-use Rattle.jwalk_readings.specs.ReadDirIter.{by_crew, job_of, to_read, width_of, read_ahead, early_of, next_address, Tells, GivesError, GivesFirst, GivesPreorder, Known, EntersNextBy, IsSteadyReads, StartsSteady, StaysSteady, Gives}
+use Rattle.jwalk_readings.specs.ReadDirIter.{by_crew, job_of, to_read, width_of, read_ahead, early_of, frontier_of, next_address, Tells, GivesError, GivesFirst, GivesPreorder, Known, EntersNextBy, IsSteadyReads, StartsSteady, StaysSteady, Gives}
 use Rattle.jwalk_readings.proofs.KnownFacts.{tells_memory, clones_if_steady, known_if_steady}
 
 module _ {C S P A R E : Type 0} (clone : Clone.Ghosts R) (known : Spec R → Outcome R E → Type 0) (job : Job C S P A R E) (old new : List (Spec R)) where
@@ -82,12 +82,14 @@ module _ {C S P A T L R E : Type 0} (files : FileSystem.Ghosts S) (process : Pro
       → StaysSteady files process clone defaults pool old new
       → ReadsNextBy clone (Known files process clone defaults pool old) (greatest_depth (job_of old)) (to_read old) (option_map outcome read) (to_read new)
       → EntersNextBy files process clone defaults (by_crew old) (job_of old) (width_of old) (next_address old) (read_ahead old) (option_map outcome read) (read_ahead new)
+      → PassesAddress (frontier_of old) (option_map outcome read) (frontier_of new)
       → Gives files process clone defaults pool may_lose old read new
-  gives_read may_lose read crew job width ahead steady next enters = record {
+  gives_read may_lose read crew job width ahead steady next enters passes = record {
     crew = crew;
     job = job;
     width = width;
     enters = inr enters;
+    passes = inr passes;
     ahead = ahead;
     steady = steady;
     first = inr next;
@@ -105,6 +107,7 @@ module _ {C S P A T L R E : Type 0} (files : FileSystem.Ghosts S) (process : Pro
         job = job;
         width = width;
         enters = inl (told, nothing);
+        passes = inl told;
         ahead = ahead;
         steady = steady;
         first = inl (told, some, none);
@@ -126,6 +129,7 @@ gives_any files process clone defaults pool b old new read gives = record {
   job = gives.job;
   width = gives.width;
   enters = gives.enters;
+  passes = gives.passes;
   ahead = gives.ahead;
   steady = gives.steady;
   first = gives.first;

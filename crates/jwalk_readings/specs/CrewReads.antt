@@ -35,9 +35,13 @@ module _ {C S P A L R E : Type 0} where
   abbrev pub to_read : CrewReads C S P A L R E → List (Spec R)
   to_read it = map spec (reverse it.unread.items)
 
+  -- the addresses of the directories that are still to be entered, the next one first
+  abbrev pub frontier_of : CrewReads C S P A L R E → List (List ℕ)
+  frontier_of it = it.matcher
+
   -- the address of the directory that is entered next
   abbrev pub next_address : CrewReads C S P A L R E → List ℕ
-  next_address it = frontier.next_address it.matcher
+  next_address it = frontier.next_address (frontier_of it)
 
 -- The same directory of a walk, but its state may be another.
 pub record IsSamePlace {R : Type 0} (these others : Spec R) : Type 0 where
@@ -119,8 +123,9 @@ module _ {C S P A L R E : Type 0} (files : FileSystem.Ghosts S) (process : Proce
   abbrev pub IsSteadyBefore : CrewReads C S P A L R E → Spec R → Given R E → Type 0
   IsSteadyBefore it first = IsSteadyOver (job_of it) it.pool it.matcher (first ∷ to_read it)
 
-  -- The first directory is read. Its reading is the definition's, over all that the readings were steady over. What is left, with clones of the directories below it in its place, is steady over that too.
-  pub record ReadsSteadily (old : CrewReads C S P A L R E) (first : Spec R) (outcome : Outcome R E) (new : CrewReads C S P A L R E) : Type 0 where
+  -- The first directory is read, by a message with this count of the directories in it: over all over which what was to be read was steady the count is right and the reading is the definition's; and what is left, with clones of the directories below it in its place, is steady over that.
+  pub record ReadsSteadily (old : CrewReads C S P A L R E) (first : Spec R) (outcome : Outcome R E) (count : ℕ) (new : CrewReads C S P A L R E) : Type 0 where
+    pub count_is : (rest : List (Spec R)) (given : Given R E) → IsSteadyOver (job_of old) old.pool old.matcher (first ∷ rest) given → count ≡ length (children_of outcome)
     pub value : (rest : List (Spec R)) → IsGivenOver files (IsSteadyOver (job_of old) old.pool old.matcher (first ∷ rest)) (job_of old) first outcome
     pub steady : (rest front : List (Spec R)) → AreClones clone.is_clone (children_of outcome) front
         → (given : Given R E) → IsSteadyOver (job_of old) old.pool old.matcher (first ∷ rest) given → IsSteadyOver (job_of old) new.pool new.matcher (front ++ rest) given

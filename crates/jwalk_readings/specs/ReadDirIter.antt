@@ -8,6 +8,7 @@ use Rattle.walk_model.specs.ReadDir.{Spec, Outcome}
 use Rattle.walk_model.specs.Preorder.{preorder}
 use Rattle.walk_model.specs.Job.{reading}
 use Rattle.walk_fs.specs.declared.file_system.FileSystem as FileSystem
+use Rattle.jwalk_order.specs.Frontier as frontier
 use Rattle.read_parts.specs.declared.process_read_dir.ProcessReadDir as ProcessReadDir
 use Rattle.read_parts.specs.declared.error.Error.{Error}
 use Rattle.jwalk_read.specs.declared.read_dir.ReadDir.{ReadDir}
@@ -17,7 +18,7 @@ use Rattle.read_parts.specs.Given.{Given, counted_spec, counted_outcome}
 use Rattle.jwalk_read.specs.Job.{greatest_depth, job_by, IsSteadyJob, IsGivenOver}
 use Rattle.jwalk_engine.specs.ReadAhead.{ReadAhead, nothing_ahead, Enters}
 use Rattle.jwalk_engine.specs.BoardWalk as board
-use Rattle.jwalk_engine.specs.BoardWalk.{IsSteadyWalk}
+use Rattle.jwalk_engine.specs.BoardWalk.{PassesAddress, IsSteadyWalk}
 use Rattle.jwalk_engine.specs.Reads.{ReadsNextBy}
 use Rattle.jwalk_readings.specs.declared.read_dir_iter.ReadDirIter.{ReadDirIter}
 use Rattle.jwalk_readings.specs.declared.read_dir_iter.ReadDirIter.TheVariants.{Walk, ParWalk, CrewWalk}
@@ -60,11 +61,15 @@ module _ {C S P A T L R E : Type 0} where
   abbrev pub early_of : ReadDirIter C S P A T L R E → List (List ℕ)
   early_of it = (read_ahead it).done
 
+  -- the addresses of the directories that are still to be entered, the next one first
+  abbrev pub frontier_of : ReadDirIter C S P A T L R E → List (List ℕ)
+  frontier_of (Walk walk) = board.frontier_of walk
+  frontier_of (ParWalk walk threads) = board.frontier_of walk
+  frontier_of (CrewWalk reads) = crew.frontier_of reads
+
   -- the address of the directory that is entered next
   abbrev pub next_address : ReadDirIter C S P A T L R E → List ℕ
-  next_address (Walk walk) = board.next_of walk
-  next_address (ParWalk walk threads) = board.next_of walk
-  next_address (CrewWalk reads) = crew.next_address reads
+  next_address it = frontier.next_address (frontier_of it)
 
 -- The error says why the readings end early: memory ran out, or a crew's reading won't come.
 abbrev pub Tells : Bool → Failure → Type 0
@@ -86,6 +91,10 @@ GivesPreorder may_lose reading max_depth old (Some given) new =
 -- The first is read. Or an error that says why not is given, and nothing is left to be read.
 abbrev pub GivesFirst : {R E : Type 0} → Bool → Clone.Ghosts R → (Spec R → Outcome R E → Type 0) → ℕ → List (Spec R) → Option (Outcome R E) → List (Spec R) → Type 0
 GivesFirst by_crew clone known max_depth old given new = (GivesError by_crew given × (old ≢ []) × (new ≡ [])) ⊎ ReadsNextBy clone known max_depth old given new
+
+-- The addresses of the directories in what is given take the place of the first, or all stay where nothing is left to be read; or the readings end early.
+abbrev pub PassesFirst : {R E : Type 0} → Bool → List (List ℕ) → Option (Outcome R E) → List (List ℕ) → Type 0
+PassesFirst by_crew old given new = GivesError by_crew given ⊎ PassesAddress old given new
 
 module _ {C S P A R E : Type 0} (files : FileSystem.Ghosts S) (process : ProcessReadDir.Ghosts P C A R E) (clone : Clone.Ghosts R) (defaults : Default.Ghosts E) where
   -- What is known of the reading at an address: it is the definition's, over all that counts as given. A crew's was reported by a worker there.
@@ -138,6 +147,7 @@ module _ {C S P A L R E : Type 0} (files : FileSystem.Ghosts S) (process : Proce
     pub job : job_of new ≡ job_of old
     pub width : width_of new ≡ width_of old
     pub enters : EntersFirst files process clone defaults old (option_map outcome given) new
+    pub passes : PassesFirst (by_crew old) (frontier_of old) (option_map outcome given) (frontier_of new)
     pub ahead : length (early_of new) + 1 ≤ length (early_of old) + width_of old
     pub steady : StaysSteady old new
     pub first : GivesFirst (by_crew old) clone (Known old) (greatest_depth (job_of old)) (to_read old) (option_map outcome given) (to_read new)

@@ -1,12 +1,15 @@
 //! Readings that a crew makes ahead.
-ghost use Rattle.std.specs.Prelude.{◌≡◌, ◌≢◌, ◌↔◌, ◌∷◌, ◌++◌, true, false, IsTrue, Ok, [], map, IfOk, IfErr, MatchResult, OnErr, OnOk, option_map};
+ghost use Rattle.std.specs.Prelude.{◌≡◌, ◌≢◌, ◌↔◌, ◌∷◌, ◌++◌, true, false, IsTrue, Ok, [], length, map, IfOk, IfErr, MatchResult, OnErr, OnOk, option_map};
+ghost use Rattle.walk_model.specs.ReadDir.{children_of};
+ghost use Rattle.jwalk_order.specs.Frontier.{passed};
 ghost use Rattle.read_parts.specs.Error.{failure};
 ghost use Rattle.read_parts.specs.Entry.{entry};
 ghost use Rattle.read_parts.specs.ReadDirSpec.{spec};
 ghost use Rattle.jwalk_read.specs.ReadDir.{outcome};
 ghost use Rattle.jwalk_read.specs.Job.{greatest_depth, IsReadingBy, IsGivenOver};
 ghost use Rattle.jwalk_engine.specs.Reads.{StacksChildren, ReadsNextBy};
-ghost use Rattle.jwalk_readings.specs.CrewReads.{job_of, to_read, next_address, IsBelow, IsNextBelow, IsTold, BeginsBy, NotLost, IsSteadyOver, IsSteadyBefore, IsSteadyCrew, StartsSteady, StaysSteady, ReadsSteadily, failure_of};
+ghost use Rattle.jwalk_engine.specs.BoardWalk.{PassesAddress};
+ghost use Rattle.jwalk_readings.specs.CrewReads.{job_of, to_read, frontier_of, next_address, IsBelow, IsNextBelow, IsTold, BeginsBy, NotLost, IsSteadyOver, IsSteadyBefore, IsSteadyCrew, StartsSteady, StaysSteady, ReadsSteadily, failure_of};
 ghost use Rattle.jwalk_readings.specs.ReadDirIter.{KnownBy};
 
 pub mod started;
@@ -150,14 +153,15 @@ impl<
         }
     }
 
-    /// Reads the directory that comes next.
-    fn read(&mut self, of: &ReadDirSpec<C, A>) -> Result<Outcome<C, A>, Missed>
+    /// The reading of the directory that comes next, and how many directories are in it by its message.
+    fn read(&mut self, of: &ReadDirSpec<C, A>) -> Result<(Outcome<C, A>, usize), Missed>
         ensures job { job_of self.new ≡ job_of self.old }
         ensures to_read { to_read self.new ≡ to_read self.old }
         ensures told { IfOk result (λ read. IsTold S.FileSystem P.ProcessReadDir C.ReadDirState.Clone
-            C.DirEntryState.Default (job_of self.old) (next_address self.old) (spec of.now) (outcome read)) }
+            C.DirEntryState.Default (job_of self.old) (next_address self.old) (spec of.now) (outcome read.0)) }
+        ensures passed { IfOk result (λ read. frontier_of self.new ≡ passed (frontier_of self.old) read.1) }
         ensures steadily { IfOk result (λ read. ReadsSteadily S.FileSystem P.ProcessReadDir C.ReadDirState.Clone
-            C.DirEntryState.Default L.Pool self.old (spec of.now) (outcome read) self.new) }
+            C.DirEntryState.Default L.Pool self.old (spec of.now) (outcome read.0) read.1 self.new) }
         ensures comes { (rest : _) → IfErr result (NotLost (IsSteadyOver S.FileSystem P.ProcessReadDir
             C.ReadDirState.Clone C.DirEntryState.Default L.Pool (job_of self.old) self.old.pool self.old.matcher
             (spec of.now ∷ rest))) }
@@ -172,8 +176,9 @@ impl<
         let wanted = Wanted::of(address, of, self.job.options())?;
         let item = pool.next(&wanted)?;
         self.matcher.advance_past(&item)?;
+        let count = item.child_count();
         let Ordered { value: message, .. } = item;
-        Ok(message.into_outcome()?)
+        Ok((message.into_outcome()?, count))
     }
 
     /// Puts directories in front of those that are still to be read.
@@ -186,7 +191,8 @@ impl<
         Ok(())
     }
 
-    /// Reads the directory that comes next, and puts those below it in its place.
+    /// The reading of the directory that comes next, with those below it in its place: it is lost where its message
+    /// has another count than the number of directories in it.
     fn enter(&mut self, of: ReadDirSpec<C, A>) -> Result<Outcome<C, A>, Missed>
         ensures job { job_of self.new ≡ job_of self.old }
         ensures reading { IfOk result (λ read. IsReadingBy (IsTold S.FileSystem P.ProcessReadDir
@@ -194,6 +200,8 @@ impl<
             (greatest_depth (job_of self.old)) (spec of) (outcome read)) }
         ensures stacks { IfOk result (λ read. StacksChildren C.ReadDirState.Clone (to_read self.old)
             (outcome read) (to_read self.new)) }
+        ensures passes { IfOk result (λ read. frontier_of self.new
+            ≡ passed (frontier_of self.old) (length (children_of (outcome read)))) }
         ensures value { IfOk result (λ read. IsGivenOver S.FileSystem (IsSteadyBefore S.FileSystem
             P.ProcessReadDir C.ReadDirState.Clone C.DirEntryState.Default L.Pool self.old (spec of))
             (job_of self.old) (spec of) (outcome read)) }
@@ -204,8 +212,11 @@ impl<
         ensures comes { IfErr result (NotLost (IsSteadyBefore S.FileSystem P.ProcessReadDir C.ReadDirState.Clone
             C.DirEntryState.Default L.Pool self.old (spec of))) }
     {
-        let outcome = self.read(&of)?;
+        let (outcome, count) = self.read(&of)?;
         let below = directories_of(*of.path.allocator(), &outcome)?;
+        if below.len() != count {
+            return Err(Missed::Lost);
+        }
         self.put_in_front(below)?;
         Ok(outcome)
     }
@@ -228,6 +239,8 @@ impl<
             C.ReadDirState.Clone C.DirEntryState.Default true (IsSteadyCrew S.FileSystem P.ProcessReadDir
             C.ReadDirState.Clone C.DirEntryState.Default L.Pool self.old) (job_of self.old) (next_address self.old))
             (greatest_depth (job_of self.old)) (to_read self.old) (option_map outcome o) (to_read self.new)) }
+        ensures passes { IfOk result (λ o. PassesAddress (frontier_of self.old) (option_map outcome o)
+            (frontier_of self.new)) }
     {
         let Some(of) = self.unread.pop() else {
             return Ok(None);

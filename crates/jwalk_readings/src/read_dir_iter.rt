@@ -84,8 +84,9 @@ impl<
     ghost use Rattle.jwalk_read.specs.Job.{greatest_depth};
     ghost use Rattle.jwalk_engine.specs.Reads.{ReadsNextBy};
     ghost use Rattle.jwalk_engine.specs.ReadAhead.{nothing_ahead, BeginsWith};
+    ghost use Rattle.jwalk_engine.specs.BoardWalk.{PassesAddress};
     ghost use Rattle.jwalk_readings.specs.CrewReads.{failure_of, IsNextBelow, NotLost};
-    ghost use Rattle.jwalk_readings.specs.ReadDirIter.{by_crew, job_of, to_read, width_of, read_ahead, early_of, next_address, Tells, IsSteadyReads, StaysSteady, Known, EntersNextBy, Gives};
+    ghost use Rattle.jwalk_readings.specs.ReadDirIter.{by_crew, job_of, to_read, width_of, read_ahead, early_of, frontier_of, next_address, Tells, IsSteadyReads, StaysSteady, Known, EntersNextBy, Gives};
 
     /// Returns readings with nothing to read yet, by no crew.
     pub fn new(alloc: A, threads: T, job: Job<C, S, P, A>, mode: Mode) -> Self
@@ -165,6 +166,8 @@ impl<
         ensures enters { IfOk result (λ o. EntersNextBy S.FileSystem P.ProcessReadDir C.ReadDirState.Clone
             C.DirEntryState.Default (by_crew self.old) (job_of self.old) (width_of self.old)
             (next_address self.old) (read_ahead self.old) (option_map outcome o) (read_ahead self.new)) }
+        ensures passes { IfOk result (λ o. PassesAddress (frontier_of self.old) (option_map outcome o)
+            (frontier_of self.new)) }
         ensures comes { IfErr result (NotLost (IsSteadyReads S.FileSystem P.ProcessReadDir C.ReadDirState.Clone
             C.DirEntryState.Default L.Pool self.old)) }
     {

@@ -1,6 +1,7 @@
 //! Functions over walks, callbacks and a file system, with contracts of their own.
 #![tactic(auto)]
 
+pub mod ahead;
 pub mod alike;
 pub mod anywhere;
 pub mod batches;

@@ -1,6 +1,8 @@
 //! Whole walks, and walks in batches.
 use crate::wide::wide_directory;
-use jwalk::file_system::BuildError;
+use jwalk::Parallelism;
+use jwalk::file_system::{BuildError, MemoryFs};
+use proved_walk::ahead::next_and_ahead;
 use proved_walk::alike::{first_of_both, walk_both};
 use proved_walk::batches::count_in_batches;
 use proved_walk::counted::Counted;
@@ -75,4 +77,38 @@ fn count(alloc: Global) -> Result<usize, BuildError> {
 #[test]
 fn answers_counted_a_hundred_at_a_time(rt: HostRuntime) {
     assert!(rt; matches!(count(rt.alloc()), Ok(5_001)));
+}
+
+/// A directory with twenty empty directories.
+fn twenty_directories(alloc: Global) -> Result<MemoryFs, BuildError> {
+    let mut fs = MemoryFs::new(alloc);
+    fs.add_dir("/d")?;
+    for number in 10..30usize {
+        fs.add_dir(format!(in alloc; "/d/{number}")?.as_str())?;
+    }
+    Ok(fs)
+}
+
+/// How many readings are ahead before and after each of the first three answers, with eight directories read together.
+fn ahead_of_three(alloc: Global, min_depth: usize) -> Result<[(usize, usize); 3], BuildError> {
+    let walk = builder(alloc, twenty_directories(alloc)?, "/d")?.min_depth(min_depth);
+    let mut walk = walk.parallelism(Parallelism::RayonNewPool(8)).into_iter();
+    let (before, _, after) = next_and_ahead(&mut walk);
+    let one = (before, after);
+    let (before, _, after) = next_and_ahead(&mut walk);
+    let two = (before, after);
+    let (before, _, after) = next_and_ahead(&mut walk);
+    Ok([one, two, (before, after)])
+}
+
+#[test]
+fn what_one_answer_reads_ahead(rt: HostRuntime) {
+    // The root alone is read for its own answer; the first eight directories in it for the next one.
+    assert!(rt; matches!(ahead_of_three(rt.alloc(), 0), Ok([(0, 0), (0, 7), (7, 6)])));
+}
+
+#[test]
+fn what_one_answer_reads_ahead_below_a_least_depth(rt: HostRuntime) {
+    // The root and the first directory in it are entered by one call.
+    assert!(rt; matches!(ahead_of_three(rt.alloc(), 1), Ok([(0, 7), (7, 6), (6, 5)])));
 }

@@ -1,5 +1,5 @@
-//! A walk's answers, if threads read the directories that are read together.
-ghost use Rattle.std.specs.Prelude.{◌≡◌, [], IfOk, IfErr, IfSome, IfNone, OnOk, OnErr, option_map};
+//! A walk's answers, where threads read the directories that are read together.
+ghost use Rattle.std.specs.Prelude.{◌≡◌, [], IfOk, IfErr, IfSome, IfNone, OnErr, option_map};
 ghost use Rattle.read_parts.specs.Entry.{item};
 ghost use Rattle.jwalk_read.specs.Job.{callback};
 
@@ -29,8 +29,8 @@ where
 {
     ghost use Rattle.jwalk_readings.specs.CrewReads.{failure_of, NotLost};
     ghost use Rattle.jwalk_readings.specs.ReadDirIter.{Tells};
-    ghost use Rattle.jwalk_entries.specs.DirEntryIter.{by_crew, job_of, items_of, unread_of, width_of, next_address, Known, KnownAt, IsSteadyWalk, ReadsStaySteady, EntersIfAny, GrowsAhead, Answers, Fills};
-    ghost use Rattle.jwalk_entries.specs.Step.{IsAtDirectory, PassesNext, ReadsUpTo, StopsAtDirectory};
+    ghost use Rattle.jwalk_entries.specs.DirEntryIter.{by_crew, job_of, items_of, unread_of, width_of, position_of, Known, IsSteadyWalk, ReadsStaySteady, PassesOne, GrowsAhead, Answers, Fills};
+    ghost use Rattle.jwalk_entries.specs.Step.{IsAtDirectory, ReadsUpTo, StopsAtDirectory};
 
     /// Passes the next item on.
     fn pass_on(&mut self) -> Result<Option<Result<DirEntry<C, A>, Error<A>>>, Missed>
@@ -39,17 +39,13 @@ where
         ensures job { job_of self.new ≡ job_of self.old }
         ensures refused { self.new.refused ≡ self.old.refused }
         ensures end { IfOk result (λ o. IfNone o
-            ((items_of self.old ≡ []) × (items_of self.new ≡ []) × (unread_of self.new ≡ unread_of self.old))) }
+            ((items_of self.old ≡ []) × (position_of self.new ≡ position_of self.old))) }
         ensures steady { ReadsStaySteady S.FileSystem P.ProcessReadDir C.ReadDirState.Clone C.DirEntryState.Default
             L.Pool self.old self.new }
-        ensures passed { IfOk result (λ o. IfSome o (λ passed. PassesNext C.ReadDirState.Clone
-            (KnownAt S.FileSystem P.ProcessReadDir C.ReadDirState.Clone C.DirEntryState.Default L.Pool self.old
-            (next_address self.old))
-            (job_of self.old) (items_of self.old) (unread_of self.old)
-            (item passed) (items_of self.new) (unread_of self.new))) }
+        ensures passed { IfOk result (λ o. IfSome o (λ passed. PassesOne S.FileSystem P.ProcessReadDir
+            C.ReadDirState.Clone C.DirEntryState.Default L.Pool self.old (position_of self.old) (item passed)
+            (position_of self.new))) }
         ensures width { width_of self.new ≡ width_of self.old }
-        ensures ahead { OnOk result (EntersIfAny S.FileSystem P.ProcessReadDir C.ReadDirState.Clone
-            C.DirEntryState.Default self.old self.new) }
         ensures tells { IfErr result (λ missed. Tells (by_crew self.old) (failure_of missed)) }
         ensures comes { IfErr result (NotLost (IsSteadyWalk S.FileSystem P.ProcessReadDir C.ReadDirState.Clone
             C.DirEntryState.Default L.Pool self.old)) }
@@ -84,8 +80,8 @@ where
             (job_of self.old) (items_of self.old) (unread_of self.old)
             (option_map item answer) (items_of self.new) (unread_of self.new)) }
         ensures width { width_of self.new ≡ width_of self.old }
-        ensures ahead { OnOk result (GrowsAhead S.FileSystem P.ProcessReadDir C.ReadDirState.Clone
-            C.DirEntryState.Default L.Pool self.old self.new) }
+        ensures ahead { IfOk result (λ answer. GrowsAhead S.FileSystem P.ProcessReadDir C.ReadDirState.Clone
+            C.DirEntryState.Default L.Pool self.old (option_map item answer) self.new) }
         ensures tells { IfErr result (λ missed. Tells (by_crew self.old) (failure_of missed)) }
         ensures comes { IfErr result (NotLost (IsSteadyWalk S.FileSystem P.ProcessReadDir C.ReadDirState.Clone
             C.DirEntryState.Default L.Pool self.old)) }

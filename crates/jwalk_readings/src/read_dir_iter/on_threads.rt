@@ -32,8 +32,9 @@ where
     ghost use Rattle.jwalk_read.specs.Job.{greatest_depth};
     ghost use Rattle.jwalk_engine.specs.Reads.{ReadsNextBy};
     ghost use Rattle.jwalk_engine.specs.ReadAhead.{nothing_ahead};
+    ghost use Rattle.jwalk_engine.specs.BoardWalk.{PassesAddress};
     ghost use Rattle.jwalk_readings.specs.CrewReads.{failure_of, IsNextBelow, NotLost};
-    ghost use Rattle.jwalk_readings.specs.ReadDirIter.{by_crew, job_of, to_read, width_of, read_ahead, early_of, next_address, Tells, IsSteadyReads, StaysSteady, Known, KnownOf, EntersNextBy, GivesFirst, Gives};
+    ghost use Rattle.jwalk_readings.specs.ReadDirIter.{by_crew, job_of, to_read, width_of, read_ahead, early_of, frontier_of, next_address, Tells, IsSteadyReads, StaysSteady, Known, KnownOf, EntersNextBy, GivesFirst, Gives};
 
     /// Returns the next reading.
     pub fn read_next_on(&mut self) -> Result<Option<Outcome<C, A>>, Missed>
@@ -54,6 +55,8 @@ where
         ensures enters { IfOk result (λ o. EntersNextBy S.FileSystem P.ProcessReadDir C.ReadDirState.Clone
             C.DirEntryState.Default (by_crew self.old) (job_of self.old) (width_of self.old)
             (next_address self.old) (read_ahead self.old) (option_map outcome o) (read_ahead self.new)) }
+        ensures passes { IfOk result (λ o. PassesAddress (frontier_of self.old) (option_map outcome o)
+            (frontier_of self.new)) }
         ensures comes { IfErr result (NotLost (IsSteadyReads S.FileSystem P.ProcessReadDir C.ReadDirState.Clone
             C.DirEntryState.Default L.Pool self.old)) }
     {

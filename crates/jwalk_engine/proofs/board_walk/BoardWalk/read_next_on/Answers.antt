@@ -23,6 +23,9 @@ returns-in_default-clause-next g c = rw (← c.self.view_is, c.in_default.is) (r
 pub returns-in_default-clause-enters : goal.returns-in_default-clause-enters
 returns-in_default-clause-enters g c = rw (← c.self.view_is) refl
 
+pub returns-in_default-clause-passes : goal.returns-in_default-clause-passes
+returns-in_default-clause-passes g c = rw (← c.self.view_is) refl
+
 pub returns-in-Ok-clause-ahead : goal.returns-in-Ok-clause-ahead
 returns-in-Ok-clause-ahead g c = rw (← c.self.view_is, c.in-Some.is) c.in-Ok.ensures.goes_on.ahead
 
@@ -34,6 +37,9 @@ returns-in-Ok-clause-next g c = rw (← c.self.view_is, c.in-Some.is) c.in-Ok.en
 
 pub returns-in-Ok-clause-enters : goal.returns-in-Ok-clause-enters
 returns-in-Ok-clause-enters g c = rw (← c.self.view_is, c.in-Some.is) c.in-Ok.ensures.goes_on.enters
+
+pub returns-in-Ok-clause-passes : goal.returns-in-Ok-clause-passes
+returns-in-Ok-clause-passes g c = rw (← c.self.view_is, c.in-Some.is) c.in-Ok.ensures.goes_on.passes
 
 pub returns-in-Err-clause-ahead : goal.returns-in-Err-clause-ahead
 returns-in-Err-clause-ahead g c = rw (← c.self.view_is) (omega (arith, c.self.invariant.0))

@@ -1,7 +1,7 @@
 use Rattle.std.proofs.Common.{◌∙◌}
 use Rattle.jwalk_entries.specs.DirEntryIter.{by_crew, items_of, unread_of}
-use Rattle.jwalk_entries.proofs.StepFacts.{none_passed_over, over_steady, one_passed_over, one_answered, grows_to_answer, grows_to_end, passes_lighter, passed_tells}
-use Rattle.jwalk_readings.proofs.ResultFacts.{none_ok, none_on_ok, on_err, fewer_not_lost, passed_not_lost}
+use Rattle.jwalk_entries.proofs.StepFacts.{none_passed_over, over_steady, one_passed_over, one_answered, none_answered, grows_to_answer, grows_to_end, passes_lighter, passed_tells}
+use Rattle.jwalk_readings.proofs.ResultFacts.{none_ok, on_err, fewer_not_lost, passed_not_lost}
 use Rattle.jwalk_entries.proofs.dir_entry_iter.DirEntryIter.next_kept.Goals as goal
 
 pub loop-passed-init : goal.loop-passed-init
@@ -12,22 +12,24 @@ returns-in-Some-kept-clause-reads g c =
     let told = c.in-Some-kept.ensures.some in
     rw told.0
     (one_answered g.S.FileSystem g.P.ProcessReadDir g.C.ReadDirState.Clone g.C.DirEntryState.Default g.L.Pool c.args.self.now c.loop-passed.self c.pass.new.self c.in-Some.passed c.loop-passed.invariant
-    (record { crew = c.pass.ensures.crew; job = c.pass.ensures.job; refused = c.pass.ensures.refused; width = c.pass.ensures.width; steady = c.pass.ensures.steady; ahead = c.in_ok-passed.ensures.ahead; next = rw c.in-Some.is at c.in_ok-passed.ensures.passed }) told.1)
+    (record { crew = c.pass.ensures.crew; job = c.pass.ensures.job; refused = c.pass.ensures.refused; width = c.pass.ensures.width; steady = c.pass.ensures.steady; next = rw c.in-Some.is at c.in_ok-passed.ensures.passed }) told.1)
 
 pub loop-passed-smaller : goal.loop-passed-smaller
 loop-passed-smaller g c =
     passes_lighter g.S.FileSystem g.P.ProcessReadDir g.C.ReadDirState.Clone g.C.DirEntryState.Default g.L.Pool c.loop-passed.self c.pass.new.self c.in-Some.passed
-    (record { crew = c.pass.ensures.crew; job = c.pass.ensures.job; refused = c.pass.ensures.refused; width = c.pass.ensures.width; steady = c.pass.ensures.steady; ahead = c.in_ok-passed.ensures.ahead; next = rw c.in-Some.is at c.in_ok-passed.ensures.passed })
+    (record { crew = c.pass.ensures.crew; job = c.pass.ensures.job; refused = c.pass.ensures.refused; width = c.pass.ensures.width; steady = c.pass.ensures.steady; next = rw c.in-Some.is at c.in_ok-passed.ensures.passed })
 
 pub loop-passed-preserved : goal.loop-passed-preserved
 loop-passed-preserved g c =
     one_passed_over g.S.FileSystem g.P.ProcessReadDir g.C.ReadDirState.Clone g.C.DirEntryState.Default g.L.Pool c.args.self.now c.loop-passed.self c.pass.new.self c.in-Some.passed c.loop-passed.invariant
-    (record { crew = c.pass.ensures.crew; job = c.pass.ensures.job; refused = c.pass.ensures.refused; width = c.pass.ensures.width; steady = c.pass.ensures.steady; ahead = c.in_ok-passed.ensures.ahead; next = rw c.in-Some.is at c.in_ok-passed.ensures.passed }) c.in_default-kept.ensures.none
+    (record { crew = c.pass.ensures.crew; job = c.pass.ensures.job; refused = c.pass.ensures.refused; width = c.pass.ensures.width; steady = c.pass.ensures.steady; next = rw c.in-Some.is at c.in_ok-passed.ensures.passed }) c.in_default-kept.ensures.none
 
 pub returns-in-Some-kept-clause-ahead : goal.returns-in-Some-kept-clause-ahead
 returns-in-Some-kept-clause-ahead g c =
-    grows_to_answer g.S.FileSystem g.P.ProcessReadDir g.C.ReadDirState.Clone g.C.DirEntryState.Default g.L.Pool c.args.self.now c.loop-passed.self c.pass.new.self c.in-Some.passed c.loop-passed.invariant
-    (record { crew = c.pass.ensures.crew; job = c.pass.ensures.job; refused = c.pass.ensures.refused; width = c.pass.ensures.width; steady = c.pass.ensures.steady; ahead = c.in_ok-passed.ensures.ahead; next = rw c.in-Some.is at c.in_ok-passed.ensures.passed })
+    let told = c.in-Some-kept.ensures.some in
+    rw told.0
+    (grows_to_answer g.S.FileSystem g.P.ProcessReadDir g.C.ReadDirState.Clone g.C.DirEntryState.Default g.L.Pool c.args.self.now c.loop-passed.self c.pass.new.self c.in-Some.passed c.loop-passed.invariant
+    (record { crew = c.pass.ensures.crew; job = c.pass.ensures.job; refused = c.pass.ensures.refused; width = c.pass.ensures.width; steady = c.pass.ensures.steady; next = rw c.in-Some.is at c.in_ok-passed.ensures.passed }))
 
 pub returns-in-Some-kept-clause-width : goal.returns-in-Some-kept-clause-width
 returns-in-Some-kept-clause-width g c = c.pass.ensures.width ∙ c.loop-passed.invariant.width
@@ -35,7 +37,7 @@ returns-in-Some-kept-clause-width g c = c.pass.ensures.width ∙ c.loop-passed.i
 pub returns-clause-ahead : goal.returns-clause-ahead
 returns-clause-ahead g c =
     let over = rw c.in_default.is at c.in_ok-passed.ensures.end in
-    grows_to_end g.S.FileSystem g.P.ProcessReadDir g.C.ReadDirState.Clone g.C.DirEntryState.Default g.L.Pool c.args.self.now c.loop-passed.self c.pass.new.self c.loop-passed.invariant over.0 c.in_ok-passed.ensures.ahead
+    grows_to_end g.S.FileSystem g.P.ProcessReadDir g.C.ReadDirState.Clone g.C.DirEntryState.Default g.L.Pool c.args.self.now c.loop-passed.self c.pass.new.self c.loop-passed.invariant over.1
 
 pub returns-in_err-passed-clause-crew : goal.returns-in_err-passed-clause-crew
 returns-in_err-passed-clause-crew g c = c.pass.ensures.crew ∙ c.loop-passed.invariant.crew
@@ -83,7 +85,7 @@ pub returns-in_err-passed-clause-reads : goal.returns-in_err-passed-clause-reads
 returns-in_err-passed-clause-reads g c = none_ok _ c.from_residual.result c.from_residual.ensures.0
 
 pub returns-in_err-passed-clause-ahead : goal.returns-in_err-passed-clause-ahead
-returns-in_err-passed-clause-ahead g c = none_on_ok _ c.from_residual.result c.from_residual.ensures.0
+returns-in_err-passed-clause-ahead g c = none_ok _ c.from_residual.result c.from_residual.ensures.0
 
 pub returns-in_err-passed-clause-comes : goal.returns-in_err-passed-clause-comes
 returns-in_err-passed-clause-comes g c =
@@ -97,4 +99,6 @@ pub returns-in_err-passed-clause-stopped : goal.returns-in_err-passed-clause-sto
 returns-in_err-passed-clause-stopped g c = on_err c.from_residual.result (items_of c.loop-passed.self, unread_of c.loop-passed.self, c.loop-passed.invariant.leaves, c.in_err-passed.ensures.stopped)
 
 pub returns-clause-reads : goal.returns-clause-reads
-returns-clause-reads g c = (items_of c.loop-passed.self, unread_of c.loop-passed.self, c.loop-passed.invariant.leaves, (rw c.in_default.is at c.in_ok-passed.ensures.end))
+returns-clause-reads g c =
+    let over = rw c.in_default.is at c.in_ok-passed.ensures.end in
+    none_answered g.S.FileSystem g.P.ProcessReadDir g.C.ReadDirState.Clone g.C.DirEntryState.Default g.L.Pool c.args.self.now c.loop-passed.self c.pass.new.self c.loop-passed.invariant over.0 over.1

@@ -5,16 +5,15 @@ use Rattle.read_parts.specs.Error.{failure}
 use Rattle.read_parts.specs.Entry.{entry, item, children}
 use Rattle.jwalk_read.specs.ReadDir.{outcome}
 use Rattle.jwalk_read.specs.Job.{greatest_depth}
-use Rattle.jwalk_entries.specs.DirEntryIter.{by_crew, job_of, items_of, unread_of, next_address, KnownAt}
+use Rattle.jwalk_entries.specs.DirEntryIter.{by_crew, job_of, items_of, unread_of, position_of}
 use Rattle.jwalk_readings.specs.ReadDirIter as readings
 use Rattle.jwalk_readings.specs.ReadDirIter.{to_read}
 use Rattle.jwalk_readings.proofs.ListFacts.{is_some-map}
 use Rattle.jwalk_entries.proofs.ReceivedFacts.{popped}
-use Rattle.jwalk_entries.proofs.AheadFacts.{nothing_at, alone_at, at_read, entered_if_any}
+use Rattle.jwalk_entries.proofs.AheadFacts.{same_position, at_read, passed_alone, passed_by_reading}
 use Rattle.jwalk_readings.proofs.KnownFacts.{tells_refusal, known_of}
-use Rattle.jwalk_readings.proofs.ResultFacts.{none_ok, none_on_ok, on_err, refused_not_lost, fewer_not_lost, passed_not_lost}
+use Rattle.jwalk_readings.proofs.ResultFacts.{none_ok, on_err, refused_not_lost, fewer_not_lost, passed_not_lost}
 use Rattle.jwalk_entries.proofs.PlacedFacts.{placed_next}
-use Rattle.jwalk_entries.proofs.StepFacts.{next_alone, next_received}
 use Rattle.jwalk_entries.proofs.dir_entry_iter.DirEntryIter.pass.Goals as goal
 
 pub returns-in-Some-Err : goal.returns-in-Some-Err
@@ -27,9 +26,8 @@ returns-in-Some-Err g c =
       refused = refl;
       end = tt;
       steady = λ given steady. steady;
-      passed = rw items (next_alone g.C.ReadDirState.Clone (KnownAt g.S.FileSystem g.P.ProcessReadDir g.C.ReadDirState.Clone g.C.DirEntryState.Default g.L.Pool old (next_address old)) (job_of old) (Err (failure c.in-Some-Err.error)) (map item (reverse c.pop.new.self.items)) (unread_of old) refl);
+      passed = passed_alone g.S.FileSystem g.P.ProcessReadDir g.C.ReadDirState.Clone g.C.DirEntryState.Default g.L.Pool old (position_of old) (Err (failure c.in-Some-Err.error)) (map item (reverse c.pop.new.self.items)) items refl;
       width = refl;
-      ahead = inr (alone_at (items_of old) (map item (reverse c.pop.new.self.items)) (Err (failure c.in-Some-Err.error)) (unread_of old) items refl, refl);
       tells = tt;
       comes = tt;
       stopped = tt;
@@ -45,9 +43,8 @@ returns-then-is_none g c =
       refused = refl;
       end = tt;
       steady = λ given steady. steady;
-      passed = rw items (next_alone g.C.ReadDirState.Clone (KnownAt g.S.FileSystem g.P.ProcessReadDir g.C.ReadDirState.Clone g.C.DirEntryState.Default g.L.Pool old (next_address old)) (job_of old) (Ok (entry c.in-Some-Ok.found)) (map item (reverse c.pop.new.self.items)) (unread_of old) (is_some-map children c.in-Some-Ok.found.read_children ∙ c.if-is_none.ensures));
+      passed = passed_alone g.S.FileSystem g.P.ProcessReadDir g.C.ReadDirState.Clone g.C.DirEntryState.Default g.L.Pool old (position_of old) (Ok (entry c.in-Some-Ok.found)) (map item (reverse c.pop.new.self.items)) items (is_some-map children c.in-Some-Ok.found.read_children ∙ c.if-is_none.ensures);
       width = refl;
-      ahead = inr (alone_at (items_of old) (map item (reverse c.pop.new.self.items)) (Ok (entry c.in-Some-Ok.found)) (unread_of old) items (is_some-map children c.in-Some-Ok.found.read_children ∙ c.if-is_none.ensures), refl);
       tells = tt;
       comes = tt;
       stopped = tt;
@@ -66,12 +63,9 @@ returns-in_ok-entered-in-Some-Ok g c =
       refused = entered.refused;
       end = tt;
       steady = rw entered.reads read.ensures.steady;
-      passed = rw (items, ap to_read entered.reads)
-          (next_received g.C.ReadDirState.Clone (KnownAt g.S.FileSystem g.P.ProcessReadDir g.C.ReadDirState.Clone g.C.DirEntryState.Default g.L.Pool old (next_address old)) (job_of old) (option_map outcome c.in_ok-read-in-Some-Ok.read) (Ok (entry c.in-Some-Ok.found)) (map item (reverse c.pop.new.self.items)) (unread_of old) _ (items_of c.entered.new.self) _
-          (is_some-map children c.in-Some-Ok.found.read_children ∙ c.if-is_none.ensures) next entered.received);
+      passed = passed_by_reading g.S.FileSystem g.P.ProcessReadDir g.C.ReadDirState.Clone g.C.DirEntryState.Default g.L.Pool old c.entered.new.self (Ok (entry c.in-Some-Ok.found)) (map item (reverse c.pop.new.self.items)) (option_map outcome c.in_ok-read-in-Some-Ok.read) _ read.new.self
+          items (is_some-map children c.in-Some-Ok.found.read_children ∙ c.if-is_none.ensures) entered.reads next c.in_ok-read-in-Some-Ok.ensures.enters c.in_ok-read-in-Some-Ok.ensures.passes entered.received;
       width = ap readings.width_of entered.reads ∙ read.ensures.width;
-      ahead = entered_if_any g.S.FileSystem g.P.ProcessReadDir g.C.ReadDirState.Clone g.C.DirEntryState.Default g.L.Pool old c.entered.new.self (Ok (entry c.in-Some-Ok.found)) (map item (reverse c.pop.new.self.items)) (option_map outcome c.in_ok-read-in-Some-Ok.read) (to_read read.new.self) (readings.read_ahead read.new.self)
-          items (is_some-map children c.in-Some-Ok.found.read_children ∙ c.if-is_none.ensures) next c.in_ok-read-in-Some-Ok.ensures.enters (ap readings.read_ahead entered.reads);
       tells = tt;
       comes = tt;
       stopped = tt;
@@ -92,7 +86,6 @@ returns-in_err-entered-in-Some-Ok g c =
       steady = rw entered.reads read.ensures.steady;
       passed = none_ok _ told.result told.ensures.0;
       width = ap readings.width_of entered.reads ∙ read.ensures.width;
-      ahead = none_on_ok _ told.result told.ensures.0;
       tells = tells_refusal (by_crew old) told.result told.ensures.1;
       comes = refused_not_lost _ told.result told.ensures.1;
       stopped = at_read g.C.ReadDirState.Clone (readings.Known g.S.FileSystem g.P.ProcessReadDir g.C.ReadDirState.Clone g.C.DirEntryState.Default g.L.Pool old.reads) (greatest_depth (job_of old)) outcome c.in_ok-read-in-Some-Ok.read told.result
@@ -109,11 +102,10 @@ returns-in-None g c =
       crew = refl;
       job = refl;
       refused = refl;
-      end = (nothing, ap (λ l. map item (reverse l)) (nil_from_length left.items (sym left.ok.0 ∙ c.in-None.ensures.cases.1)), refl);
+      end = (nothing, same_position (ap (λ l. map item (reverse l)) (nil_from_length left.items (sym left.ok.0 ∙ c.in-None.ensures.cases.1)) ∙ sym nothing) refl refl refl);
       steady = λ given steady. steady;
       passed = tt;
       width = refl;
-      ahead = inr (nothing_at (items_of old) (unread_of old) nothing, refl);
       tells = tt;
       comes = tt;
       stopped = tt;
@@ -131,7 +123,6 @@ returns-then-not-is_next g c =
       steady = λ given steady. steady;
       passed = tt;
       width = refl;
-      ahead = tt;
       tells = rw (c.if-not-is_next.ensures.own refl) (inr refl);
       comes = λ given steady. c.if-not-is_next.ensures.other refl (placed_next (by_crew old) (Ok (entry c.in-Some-Ok.found)) (map item (reverse c.pop.new.self.items)) (unread_of old) (is_some-map children c.in-Some-Ok.found.read_children ∙ c.if-is_none.ensures) (rw items at steady.placed));
       stopped = rw items ((is_some-map children c.in-Some-Ok.found.read_children ∙ c.if-is_none.ensures), c.if-not-is_next.ensures.some refl);
@@ -151,7 +142,6 @@ returns-in_err-read-in-Some-Ok g c =
       steady = read.steady;
       passed = none_ok _ told.result told.ensures.0;
       width = read.width;
-      ahead = none_on_ok _ told.result told.ensures.0;
       tells = search rules;
       comes = passed_not_lost _ c.in_err-read-in-Some-Ok.field-0.0 told.result told.ensures.1 (fewer_not_lost _ _ c.in_err-read-in-Some-Ok.field-0.0 (λ given steady. steady.reads) c.in_err-read-in-Some-Ok.ensures.comes);
       stopped = on_err told.result (rw items ((is_some-map children c.in-Some-Ok.found.read_children ∙ c.if-is_none.ensures), c.in_err-read-in-Some-Ok.ensures.some));

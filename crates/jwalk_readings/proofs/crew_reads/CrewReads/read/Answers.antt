@@ -25,18 +25,18 @@ returns-clause-told g c =
 pub returns-in_default : goal.returns-in_default
 returns-in_default g c =
     let old = c.args.self.now in
-    record { job = refl; to_read = refl; told = tt; steadily = tt; comes = λ rest given. none_waits g.S.FileSystem g.P.ProcessReadDir g.C.ReadDirState.Clone g.C.DirEntryState.Default g.L.Pool (job_of old) old.pool old.matcher (spec c.args.of.now) rest given (ap (λ p. awaited p old.matcher) c.in_default.is) }
+    record { job = refl; to_read = refl; told = tt; passed = tt; steadily = tt; comes = λ rest given. none_waits g.S.FileSystem g.P.ProcessReadDir g.C.ReadDirState.Clone g.C.DirEntryState.Default g.L.Pool (job_of old) old.pool old.matcher (spec c.args.of.now) rest given (ap (λ p. awaited p old.matcher) c.in_default.is) }
 
 pub returns-then-is_none : goal.returns-then-is_none
 returns-then-is_none g c =
     let old = c.args.self.now in
-    record { job = refl; to_read = refl; told = tt; steadily = tt; comes = λ rest given. none_waits g.S.FileSystem g.P.ProcessReadDir g.C.ReadDirState.Clone g.C.DirEntryState.Default g.L.Pool (job_of old) old.pool old.matcher (spec c.args.of.now) rest given (none_awaited g.S.FileSystem g.P.ProcessReadDir g.C.ReadDirState.Clone g.C.DirEntryState.Default g.L.Pool old.pool old.matcher (c.is_none.ensures.0 c.if-is_none.true)) }
+    record { job = refl; to_read = refl; told = tt; passed = tt; steadily = tt; comes = λ rest given. none_waits g.S.FileSystem g.P.ProcessReadDir g.C.ReadDirState.Clone g.C.DirEntryState.Default g.L.Pool (job_of old) old.pool old.matcher (spec c.args.of.now) rest given (none_awaited g.S.FileSystem g.P.ProcessReadDir g.C.ReadDirState.Clone g.C.DirEntryState.Default g.L.Pool old.pool old.matcher (c.is_none.ensures.0 c.if-is_none.true)) }
 
 pub returns-in_err-address : goal.returns-in_err-address
-returns-in_err-address g c = record { job = refl; to_read = refl; told = none_ok _ c.from_residual.result c.from_residual.ensures.0; steadily = none_ok _ c.from_residual.result c.from_residual.ensures.0; comes = λ rest. refused_not_lost _ c.from_residual.result c.from_residual.ensures.1 }
+returns-in_err-address g c = record { job = refl; to_read = refl; told = none_ok _ c.from_residual.result c.from_residual.ensures.0; passed = none_ok _ c.from_residual.result c.from_residual.ensures.0; steadily = none_ok _ c.from_residual.result c.from_residual.ensures.0; comes = λ rest. refused_not_lost _ c.from_residual.result c.from_residual.ensures.1 }
 
 pub returns-in_err-wanted : goal.returns-in_err-wanted
-returns-in_err-wanted g c = record { job = refl; to_read = refl; told = none_ok _ c.from_residual-in_err-wanted.result c.from_residual-in_err-wanted.ensures.0; steadily = none_ok _ c.from_residual-in_err-wanted.result c.from_residual-in_err-wanted.ensures.0; comes = λ rest. refused_not_lost _ c.from_residual-in_err-wanted.result c.from_residual-in_err-wanted.ensures.1 }
+returns-in_err-wanted g c = record { job = refl; to_read = refl; told = none_ok _ c.from_residual-in_err-wanted.result c.from_residual-in_err-wanted.ensures.0; passed = none_ok _ c.from_residual-in_err-wanted.result c.from_residual-in_err-wanted.ensures.0; steadily = none_ok _ c.from_residual-in_err-wanted.result c.from_residual-in_err-wanted.ensures.0; comes = λ rest. refused_not_lost _ c.from_residual-in_err-wanted.result c.from_residual-in_err-wanted.ensures.1 }
 
 pub returns-in_err-item : goal.returns-in_err-item
 returns-in_err-item g c =
@@ -49,6 +49,7 @@ returns-in_err-item g c =
       job = refl;
       to_read = refl;
       told = none_ok _ c.from_residual-in_err-item.result c.from_residual-in_err-item.ensures.0;
+      passed = none_ok _ c.from_residual-in_err-item.result c.from_residual-in_err-item.ensures.0;
       steadily = none_ok _ c.from_residual-in_err-item.result c.from_residual-in_err-item.ensures.0;
       comes = λ rest. passed_not_lost (over rest) c.in_err-item.field-0.0 c.from_residual-in_err-item.result c.from_residual-in_err-item.ensures.1
           (not_lost_if (over rest) c.in_err-item.field-0.0 (λ lost given was. not_lost g.S.FileSystem g.P.ProcessReadDir g.C.ReadDirState.Clone g.C.DirEntryState.Default g.L.Pool (job_of old) c.in-Some.pool old.matcher (spec c.args.of.now) rest given c.in_ok-wanted.wanted wanted
@@ -56,10 +57,10 @@ returns-in_err-item g c =
     }
 
 pub returns-in_err-advance_past : goal.returns-in_err-advance_past
-returns-in_err-advance_past g c = record { job = refl; to_read = refl; told = none_ok _ c.from_residual-in_err-advance_past.result c.from_residual-in_err-advance_past.ensures.0; steadily = none_ok _ c.from_residual-in_err-advance_past.result c.from_residual-in_err-advance_past.ensures.0; comes = λ rest. refused_not_lost _ c.from_residual-in_err-advance_past.result c.from_residual-in_err-advance_past.ensures.1 }
+returns-in_err-advance_past g c = record { job = refl; to_read = refl; told = none_ok _ c.from_residual-in_err-advance_past.result c.from_residual-in_err-advance_past.ensures.0; passed = none_ok _ c.from_residual-in_err-advance_past.result c.from_residual-in_err-advance_past.ensures.0; steadily = none_ok _ c.from_residual-in_err-advance_past.result c.from_residual-in_err-advance_past.ensures.0; comes = λ rest. refused_not_lost _ c.from_residual-in_err-advance_past.result c.from_residual-in_err-advance_past.ensures.1 }
 
 pub returns-in_err-into_outcome : goal.returns-in_err-into_outcome
-returns-in_err-into_outcome g c = record { job = refl; to_read = refl; told = none_ok _ c.from_residual-in_err-into_outcome.result c.from_residual-in_err-into_outcome.ensures.0; steadily = none_ok _ c.from_residual-in_err-into_outcome.result c.from_residual-in_err-into_outcome.ensures.0; comes = λ rest. refused_not_lost _ c.from_residual-in_err-into_outcome.result c.from_residual-in_err-into_outcome.ensures.1 }
+returns-in_err-into_outcome g c = record { job = refl; to_read = refl; told = none_ok _ c.from_residual-in_err-into_outcome.result c.from_residual-in_err-into_outcome.ensures.0; passed = none_ok _ c.from_residual-in_err-into_outcome.result c.from_residual-in_err-into_outcome.ensures.0; steadily = none_ok _ c.from_residual-in_err-into_outcome.result c.from_residual-in_err-into_outcome.ensures.0; comes = λ rest. refused_not_lost _ c.from_residual-in_err-into_outcome.result c.from_residual-in_err-into_outcome.ensures.1 }
 
 pub returns-clause-job : goal.returns-clause-job
 returns-clause-job g c = refl
@@ -77,6 +78,7 @@ returns-clause-steadily g c =
     c.in_ok-item.ensures.further
     (sym c.in_ok-into_outcome.ensures.outcome)
     (rw (sym c.in_ok-into_outcome.ensures.outcome) at c.into_outcome.ensures.lawful)
+    _ c.child_count-count.ensures
 
 pub returns-clause-comes : goal.returns-clause-comes
 returns-clause-comes g c = λ rest. tt

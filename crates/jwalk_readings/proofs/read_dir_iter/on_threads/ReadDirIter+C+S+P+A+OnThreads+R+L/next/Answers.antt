@@ -6,7 +6,7 @@ use Rattle.jwalk_readings.proofs.read_dir_iter.on_threads.ReadDirIter+C+S+P+A+On
 
 pub returns-in-Ok : goal.returns-in-Ok
 returns-in-Ok g c =
-    gives_read g.S.FileSystem g.P.ProcessReadDir g.C.ReadDirState.Clone g.C.DirEntryState.Default g.L.Pool c.args.self.now c.read_next_on.new.self false c.in-Ok.read c.read_next_on.ensures.crew c.read_next_on.ensures.job c.read_next_on.ensures.width c.read_next_on.ensures.ahead c.read_next_on.ensures.steady c.in-Ok.ensures.next c.in-Ok.ensures.enters
+    gives_read g.S.FileSystem g.P.ProcessReadDir g.C.ReadDirState.Clone g.C.DirEntryState.Default g.L.Pool c.args.self.now c.read_next_on.new.self false c.in-Ok.read c.read_next_on.ensures.crew c.read_next_on.ensures.job c.read_next_on.ensures.width c.read_next_on.ensures.ahead c.read_next_on.ensures.steady c.in-Ok.ensures.next c.in-Ok.ensures.enters c.in-Ok.ensures.passes
 
 pub returns-in-Err : goal.returns-in-Err
 returns-in-Err g c =

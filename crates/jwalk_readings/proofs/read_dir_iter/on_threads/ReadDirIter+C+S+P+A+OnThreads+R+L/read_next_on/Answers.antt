@@ -25,6 +25,7 @@ returns-in_err-read_next-in-Walk g c =
       steady = read.ensures.steady;
       next = none_ok _ told.result told.ensures.0;
       enters = none_ok _ told.result told.ensures.0;
+      passes = none_ok _ told.result told.ensures.0;
       comes = refused_not_lost _ told.result told.ensures.1;
     })
 
@@ -46,6 +47,7 @@ returns-in_ok-read_next-in-Walk g c =
       steady = read.ensures.steady;
       next = came.next;
       enters = came.enters;
+      passes = came.passes;
       comes = tt;
     })
 
@@ -68,6 +70,7 @@ returns-in_err-read_next_on-in-ParWalk g c =
       steady = read.ensures.steady;
       next = none_ok _ told.result told.ensures.0;
       enters = none_ok _ told.result told.ensures.0;
+      passes = none_ok _ told.result told.ensures.0;
       comes = refused_not_lost _ told.result told.ensures.1;
     })
 
@@ -89,6 +92,7 @@ returns-in_ok-read_next_on-in-ParWalk g c =
       steady = read.ensures.steady;
       next = came.next;
       enters = came.enters;
+      passes = came.passes;
       comes = tt;
     })
 
@@ -109,5 +113,6 @@ returns-in-CrewWalk g c =
       steady = read.ensures.steady;
       next = read.ensures.next;
       enters = enters_by_crew g.S.FileSystem g.P.ProcessReadDir g.C.ReadDirState.Clone g.C.DirEntryState.Default (crew.job_of reads) (crew.next_address reads) outcome read.result;
+      passes = read.ensures.passes;
       comes = read.ensures.comes;
     })
