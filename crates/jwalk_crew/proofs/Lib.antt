@@ -1,3 +1,3 @@
-mod DueFacts
+pub mod DueFacts
 pub mod OriginFacts
 mod SharedFacts

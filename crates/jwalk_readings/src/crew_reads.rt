@@ -1,5 +1,6 @@
 //! Readings that a crew makes ahead.
 ghost use Rattle.std.specs.Prelude.{◌≡◌, ◌≢◌, ◌↔◌, ◌∷◌, ◌++◌, true, false, IsTrue, Ok, [], map, IfOk, IfErr, MatchResult, OnErr, OnOk, option_map};
+ghost use Rattle.std.specs.Arc.{arc_value};
 ghost use Rattle.read_parts.specs.Error.{failure};
 ghost use Rattle.read_parts.specs.Entry.{entry};
 ghost use Rattle.read_parts.specs.ReadDirSpec.{spec};
@@ -111,17 +112,15 @@ impl<
 
     /// Readings of these directories, and of those below them, as a pool gives them.
     pub(crate) fn over(
-        job: Job<C, S, P, A>,
+        job: Arc<Job<C, S, P, A>, A>,
         mut roots: Vec<ReadDirSpec<C, A>, A>,
         pool: L,
     ) -> Result<Self, AllocError>
-        ensures job { IfOk result (λ reads. job_of reads ≡ job) }
+        ensures job { IfOk result (λ reads. job_of reads ≡ arc_value job) }
         ensures to_read { IfOk result (λ reads. to_read reads ≡ map spec roots.items) }
         ensures begins { IfOk result (BeginsBy (λ given origin addresses. given ≡ pool)) }
     {
-        let alloc = *roots.allocator();
-        let matcher = OrderedMatcher::with_roots(alloc, roots.len())?;
-        let job = Arc::new(alloc, job)?;
+        let matcher = OrderedMatcher::with_roots(*roots.allocator(), roots.len())?;
         roots.reverse();
         Ok(CrewReads {
             job,
