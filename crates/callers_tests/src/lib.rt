@@ -11,6 +11,10 @@ mod errors;
 #[cfg(test)]
 mod getters;
 #[cfg(test)]
+mod in_memory;
+#[cfg(test)]
+mod own_pool;
+#[cfg(test)]
 mod sizes;
 #[cfg(test)]
 mod walks;

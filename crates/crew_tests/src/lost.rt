@@ -111,7 +111,7 @@ fn comes<S: FileSystem>(
     words: &[&str],
 ) -> Option<bool> {
     let pool = pool_of(alloc, fs, first, second)?;
-    let own = job_over(alloc, fs);
+    let own = Arc::new(alloc, job_over(alloc, fs)).ok()?;
     let from = roots(&own, "/r")?;
     let mut reads = ReadDirIter::over_pool(own, from, pool).ok()?;
     for word in words {

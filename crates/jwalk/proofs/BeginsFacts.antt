@@ -1,5 +1,5 @@
--- How a builder's walk begins if it may be set to read by a crew.
-use Rattle.std.proofs.Common.{◌≡◌, ◌∙◌, ◌⊎◌, ℕ, true, List, map, Option, Some, None, Result, Ok, Err, IfOk, IfSome, IsSome, IsSomeAnd, inl, inr, refl, sym, ap, subst}
+-- How a builder's walk begins where it may be told to read by a crew.
+use Rattle.std.proofs.Common.{◌≡◌, ◌∙◌, ◌⊎◌, ℕ, true, List, Option, Some, None, Result, Ok, Err, IfOk, IfSome, IsSome, IsSomeAnd, inl, inr, refl, sym, ap, subst}
 use Rattle.std.specs.Prelude.{option_map}
 use Rattle.std.specs.Result.{result_ok}
 use Rattle.std.specs.declared.clone.Clone as Clone
@@ -24,8 +24,8 @@ use Rattle.jwalk_crew.specs.declared.crew.NotStarted.{NotStarted}
 use Rattle.jwalk_crew.specs.declared.crew.NotStarted.TheVariants.{Busy, Memory}
 use Rattle.jwalk_entries.specs.DirEntryIter.{by_crew, held_by}
 use Rattle.jwalk_readings.specs.CrewReads.{start_failure}
-use Rattle.jwalk.specs.CrewStart.{busy_pair, HoldsList, IsFromRoot}
-use Rattle.jwalk.specs.WalkDir.{file_system_of, callback_of, root_of, state_of, options_of, job_for, Starts, HoldsUnless, Begins}
+use Rattle.jwalk.specs.CrewStart.{HoldsList, IsFromRoot}
+use Rattle.jwalk.specs.WalkDir.{file_system_of, callback_of, root_of, state_of, options_of, job_for, Starts, HoldsBusy, HoldsUnless, Begins}
 use Rattle.jwalk_entries.specs.declared.dir_entry_iter.DirEntryIter.{DirEntryIter}
 use Rattle.jwalk.specs.declared.walk_dir.WalkDirGeneric.{WalkDirGeneric}
 
@@ -68,9 +68,14 @@ module _ {C S P A T W L R E : Type 0} (files : FileSystem.Ghosts S) (process : P
       let told = value given (rw (fs, by) steady) in
       if_some_view reading (λ r. list ≡ counted_reading given r) read o ok (subst (λ v. IfOk read (λ r. v ≡ counted_reading given (reading r))) (same_root made fs options given path is) told)
 
+  -- a busy crew's list is the root's, if it was made
+  busy_from_root : (read : Option (Reading R E)) → IsRootList read → HoldsList clone read (Some Busy) it → HoldsBusy files process clone defaults walk it
+  busy_from_root None root holds = absurd holds
+  busy_from_root (Some r) root holds = record { list = r.list; depth = holds.0; holds = holds.1; value = λ given steady. sym (ap (λ k. k.list) (root given steady)) }
+
   holds_from_root : (read : Option (Reading R E)) (why_not : Option NotStarted) → IsRootList read → HoldsList clone read why_not it → HoldsUnless files process clone defaults why_not walk it
   holds_from_root read None root holds = λ given steady. viewed (counted_reading given) paired (held_by given it) (root_list (job_for files given walk) (root_of walk) (given.read_dir_state (state_of walk))) read (holds given steady.clones) (root given steady)
-  holds_from_root read (Some Busy) root holds = λ given steady. viewed (counted_reading given) (λ r. map busy_pair r.list) (held_by given it) (root_list (job_for files given walk) (root_of walk) (given.read_dir_state (state_of walk))) read (holds given) (root given steady)
+  holds_from_root read (Some Busy) root holds = busy_from_root read root holds
   holds_from_root read (Some Memory) root holds = holds
 
   module _ (begun : Job C S P A R E) (fs : file_system begun ≡ file_system_of walk) (by : callback begun ≡ callback_of walk) (options : job.options_of begun ≡ options_of walk) (read : Option (Reading R E)) (why_not : Option NotStarted) (is : IsFromRoot clone read begun why_not it) where

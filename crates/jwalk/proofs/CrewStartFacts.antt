@@ -10,13 +10,12 @@ use Rattle.walk_model.specs.Options.{crew}
 use Rattle.walk_model.specs.ReadDir.{Spec, Reading, children, AreClones}
 use Rattle.jwalk_read.specs.declared.read_dir.ReadDir.{ReadDir}
 use Rattle.jwalk_read.specs.ReadDir.{reading}
-use Rattle.walk_model.specs.Counted.{Worth, entry_by, children_by}
 use Rattle.walk_model.specs.Listing.{Pair, nothing, paired}
 use Rattle.walk_model.specs.Held.{pair_up, sources, first_source, after_first}
 use Rattle.walk_model.proofs.HeldFacts.{directories}
 use Rattle.walk_fs.specs.declared.file_system.FileSystem as FileSystem
 use Rattle.read_parts.specs.declared.process_read_dir.ProcessReadDir as ProcessReadDir
-use Rattle.read_parts.specs.Given.{Given, counted_item, counted_spec, counted_reading, ClonesCount}
+use Rattle.read_parts.specs.Given.{Given, counted_reading, ClonesCount}
 use Rattle.jwalk_read.specs.declared.job.Job.{Job}
 use Rattle.read_parts.specs.Options as options
 use Rattle.jwalk_read.specs.Job.{options_of, greatest_depth}
@@ -34,7 +33,7 @@ use Rattle.jwalk_readings.specs.declared.read_dir_iter.ReadDirIter.TheVariants.{
 use Rattle.jwalk_entries.specs.declared.dir_entry_iter.DirEntryIter.{DirEntryIter}
 use Rattle.jwalk_readings.proofs.CrewSteadyFacts.{starts_steady}
 use Rattle.jwalk_entries.proofs.PlacedFacts.{list_placed, unread_placed}
-use Rattle.jwalk_entries.proofs.AnswerFacts.{held_by_rest, held_refused, rest_sourced, list_sourced, holds_list, within_root}
+use Rattle.jwalk_entries.proofs.AnswerFacts.{held_refused, rest_sourced, list_sourced, holds_list, within_root}
 
 module _ {R E : Type 0} where
   -- errors have no depth
@@ -71,19 +70,9 @@ module _ {R E : Type 0} where
         | false ↦ ap (λ t. record { item = x; source = nothing } ∷ t) (unread_pairs l)
       ]
 
-  counted_busied : (given : Given R E) (x : Item R E) → counted_item given (busied x) ≡ busied (counted_item given x)
-  counted_busied given (Err f) = refl
-  counted_busied given (Ok e) =
-      elim e.read_children as (λ o. counted_item given (if is_some o then Err busy else Ok e) ≡ (if is_some (option_map (children_by given.read_dir_state) o) then Err busy else Ok (entry_by given.read_dir_state given.dir_entry_state e))) [
-        | None ↦ refl
-        | Some c ↦ refl
-      ]
-
-  busy_pairs : (given : Given R E) (l : List (Item R E)) → ◌≡◌ {A = List (Pair Worth Worth)} (map (λ x. record { item = x; source = nothing }) (map (counted_item given) (map busied l))) (map busy_pair (map (counted_item given) l))
-  busy_pairs given [] = refl
-  busy_pairs given (x ∷ l) =
-      ap (λ y. record { item = y; source = nothing } ∷ map (λ x. record { item = x; source = nothing }) (map (counted_item given) (map busied l))) (counted_busied given x)
-      ∙ ap (λ t. busy_pair (counted_item given x) ∷ t) (busy_pairs given l)
+  busy_pairs : (l : List (Item R E)) → ◌≡◌ {A = List (Pair R E)} (map (λ x. record { item = x; source = nothing }) (map busied l)) (map busy_pair l)
+  busy_pairs [] = refl
+  busy_pairs (x ∷ l) = ap (λ t. busy_pair x ∷ t) (busy_pairs l)
 
 width_by : {C S P A T L R E : Type 0} (reads : ReadDirIter C S P A T L R E) → readings.by_crew reads ≡ true → readings.width_of reads ≡ 1
 width_by (Walk walk) by = absurd cc
@@ -91,6 +80,9 @@ width_by (ParWalk walk threads) by = absurd cc
 width_by (CrewWalk reads) by = refl
 
 module _ {C S P A T L R E : Type 0} where
+  holds_started : (it : DirEntryIter C S P A T L R E) → is_refused it ≡ false → held it ≡ pair_up (items_of it) (unread_of it)
+  holds_started it started = rw started refl
+
   holds_refusal : (it : DirEntryIter C S P A T L R E) → is_refused it ≡ true → items_of it ≡ [] → held it ≡ record { item = Err memory; source = nothing } ∷ []
   holds_refusal it refused none = held_refused it refused ∙ ap (λ l. record { item = Err memory; source = nothing } ∷ pair_up l (unread_of it)) none
 
@@ -122,21 +114,23 @@ module _ {C S P A T L R E : Type 0} where
     begun_holds given None it counts begun = absurd (let no : ◌≡◌ {A = Option NotStarted} None (Some Memory) = begun.0 in cc)
     begun_holds given (Some r) it counts begun = holds_list clone r it given counts begun.0 begun.1 begun.2
 
-    -- and where the crew was busy, the errors that say so in place of entries with directories
-    pub begun_busy : (given : Given R E) (read : Option (Reading R E)) (it : DirEntryIter C S P A T L R E) → IsBegun clone read (Some Busy) it → IsSomeAnd read (λ r. held_by given it ≡ map busy_pair (counted_reading given r).list)
-    begun_busy given None it begun = absurd (let no : ◌≡◌ {A = Option NotStarted} (Some Busy) (Some Memory) = begun.0 in cc)
-    begun_busy given (Some r) it begun =
-        held_by_rest given it begun.0
-        ∙ ap (λ l. pair_up (map (counted_item given) l) (map (counted_spec given) (unread_of it))) begun.1
-        ∙ ap (λ l. pair_up (map (counted_item given) (map busied r.list)) (map (counted_spec given) l)) begun.2
-        ∙ unread_pairs (map (counted_item given) (map busied r.list))
-        ∙ busy_pairs given r.list
+    -- and where the crew was busy, the errors that report it in the place of entries with directories
+    pub begun_busy : (read : Option (Reading R E)) (it : DirEntryIter C S P A T L R E) → IfSome read (λ r. AtDepth 0 r.list) → IsBegun clone read (Some Busy) it → IsSomeAnd read (λ r. AtDepth 0 r.list × (held it ≡ map busy_pair r.list))
+    begun_busy None it depth begun = absurd (let no : ◌≡◌ {A = Option NotStarted} (Some Busy) (Some Memory) = begun.0 in cc)
+    begun_busy (Some r) it depth begun = (
+      depth,
+      holds_started it begun.0
+          ∙ ap (λ l. pair_up l (unread_of it)) begun.1
+          ∙ ap (pair_up (map busied r.list)) begun.2
+          ∙ unread_pairs (map busied r.list)
+          ∙ busy_pairs r.list,
+    )
 
     -- so it holds what it is to, by why its readings didn't begin
-    pub begun_list : (read : Option (Reading R E)) (why_not : Option NotStarted) (it : DirEntryIter C S P A T L R E) → IsBegun clone read why_not it → HoldsList clone read why_not it
-    begun_list read None it begun = λ given counts. begun_holds given read it counts begun
-    begun_list read (Some Busy) it begun = λ given. begun_busy given read it begun
-    begun_list read (Some Memory) it begun = begun_refused read it begun
+    pub begun_list : (read : Option (Reading R E)) (why_not : Option NotStarted) (it : DirEntryIter C S P A T L R E) → IfSome read (λ r. AtDepth 0 r.list) → IsBegun clone read why_not it → HoldsList clone read why_not it
+    begun_list read None it depth begun = λ given counts. begun_holds given read it counts begun
+    begun_list read (Some Busy) it depth begun = begun_busy read it depth begun
+    begun_list read (Some Memory) it depth begun = begun_refused read it begun
 
   -- a crew's width is one
   crew_width : (it : DirEntryIter C S P A T L R E) → by_crew it ≡ true → width_of it ≡ 1
@@ -168,7 +162,7 @@ module _ {C S P A T L R E : Type 0} where
       start = inr (begun_depth clone read why_not it depth is);
       width = crew_width it by ∙ sym (ap options.width_of mode);
       ahead = λ alone. absurd (let no : false ≡ true = sym alone ∙ by in cc);
-      holds = begun_list clone read why_not it is;
+      holds = begun_list clone read why_not it depth is;
       busy = λ busy. mode;
       by = λ by. mode;
     }

@@ -10,3 +10,7 @@ pub use Rattle.jwalk_entries.proofs.FillFacts as FillFacts
 pub use Rattle.jwalk_entries.proofs.SameFacts as SameFacts
 -- what callers cite of a callback's lists
 pub use Rattle.read_parts.proofs.GivenFacts as GivenFacts
+-- what callers cite of readings by a pool of their own
+pub use Rattle.jwalk_crew.proofs.OriginFacts as OriginFacts
+pub use Rattle.jwalk_crew.proofs.DueFacts as DueFacts
+pub use Rattle.jwalk_readings.proofs.AlikeFacts as CopyFacts

@@ -115,6 +115,13 @@ module _ {C S P A T L R E : Type 0} (files : FileSystem.Ghosts S) (process : Pro
       ∙ counted_append given before fills.answered
       ∙ ap (λ l. counted_list given before ++ l) (sym came)
 
+  -- What a call of `fill` put into an empty vector, fewer items than were asked for, is all that was to come, unless one of them reports that memory ran out.
+  pub filled_came : (it new : DirEntryIter C S P A T L R E) (n k : ℕ) (before xs : List (Result (DirEntry C A R E) (Error A))) → IsSteadyWalk files process clone defaults pool it given → Fills files process clone defaults pool n it before (Ok k) xs new → before ≡ [] → length xs < n → NoneRefused xs → to_come files given it ≡ counted_list given xs
+  filled_came it new n k before xs steadily fills empty fewer none =
+      let among : length xs ≡ length before + length fills.answered = ap length fills.appended ∙ length-append before fills.answered in
+      let filled = all_filled n k before xs it new steadily fills (omega (arith, among, fewer, fills.number.0)) none in
+      sym (filled ∙ ap (λ l. counted_list given l ++ to_come files given it) empty)
+
 module _ {C S P A T W L R E : Type 0} (files : FileSystem.Ghosts S) (process : ProcessReadDir.Ghosts P C A R E) (clone : Clone.Ghosts R) (defaults : Default.Ghosts E) (pool : Pool.Ghosts L C S P A R E) (given : Given R E) where
   -- where the root's list is held, the whole walk is to come
   pub comes_whole : (walk : WalkDirGeneric C S P A T W R E) (it : DirEntryIter C S P A T L R E) → Starts walk it → held_by given it ≡ paired (root_list (job_for files given walk) (root_of walk) (given.read_dir_state (state_of walk))) → to_come files given it ≡ whole_walk (job_for files given walk) (root_of walk) (given.read_dir_state (state_of walk))
@@ -126,8 +133,8 @@ module _ {C S P A T W L R E : Type 0} (files : FileSystem.Ghosts S) (process : P
       ∙ ap (λ options. coming (file_system_of walk) options (held_by given it)) starts.options
       ∙ ap (coming (file_system_of walk) (builder.options_of walk)) holds
 
-  -- A walk that was begun yields the whole walk from its root, if its answers are all that was to come and none says that memory ran out.
-  answered_whole : (walk : WalkDirGeneric C S P A T W R E) (it : DirEntryIter C S P A T L R E) (xs : List (Result (DirEntry C A R E) (Error A))) → Starts walk it → IsRefused it ⊎ Holds files process clone defaults walk it → IsSteady files process clone defaults (file_system_of walk) (callback_of walk) given → NoneRefused xs → to_come files given it ≡ counted_list given xs
+  -- A walk that was begun answered the whole walk from its root, where its answers are all that was to come, and none tells of want of memory.
+  pub answered_whole : (walk : WalkDirGeneric C S P A T W R E) (it : DirEntryIter C S P A T L R E) (xs : List (Result (DirEntry C A R E) (Error A))) → Starts walk it → IsRefused it ⊎ Holds files process clone defaults walk it → IsSteady files process clone defaults (file_system_of walk) (callback_of walk) given → NoneRefused xs → to_come files given it ≡ counted_list given xs
       → counted_list given xs ≡ whole_walk (job_for files given walk) (root_of walk) (given.read_dir_state (state_of walk))
   answered_whole walk it xs starts begun steady none came =
       elim begun [
@@ -153,9 +160,7 @@ module _ {C S P A T W L R E : Type 0} (files : FileSystem.Ghosts S) (process : P
   pub filled_whole : (walk : WalkDirGeneric C S P A T W R E) (it new : DirEntryIter C S P A T L R E) (n k : ℕ) (before xs : List (Result (DirEntry C A R E) (Error A))) → IsSteadyWalk files process clone defaults pool it given → Starts walk it → IsRefused it ⊎ Holds files process clone defaults walk it → IsSteady files process clone defaults (file_system_of walk) (callback_of walk) given → Fills files process clone defaults pool n it before (Ok k) xs new → before ≡ [] → length xs < n → NoneRefused xs
       → counted_list given xs ≡ whole_walk (job_for files given walk) (root_of walk) (given.read_dir_state (state_of walk))
   filled_whole walk it new n k before xs steadily starts begun steady fills empty fewer none =
-      let among : length xs ≡ length before + length fills.answered = ap length fills.appended ∙ length-append before fills.answered in
-      let filled = all_filled files process clone defaults pool given n k before xs it new steadily fills (omega (arith, among, fewer, fills.number.0)) none in
-      answered_whole walk it xs starts begun steady none (sym (filled ∙ ap (λ l. counted_list given l ++ to_come files given it) empty))
+      answered_whole walk it xs starts begun steady none (filled_came files process clone defaults pool given it new n k before xs steadily fills empty fewer none)
 
   -- the same for one that no crew reads for
   pub whole_filled : (walk : WalkDirGeneric C S P A T W R E) (it new : DirEntryIter C S P A T L R E) (n k : ℕ) (before xs : List (Result (DirEntry C A R E) (Error A))) → by_crew it ≡ false → Starts walk it → IsRefused it ⊎ Holds files process clone defaults walk it → IsSteady files process clone defaults (file_system_of walk) (callback_of walk) given → Fills files process clone defaults pool n it before (Ok k) xs new → before ≡ [] → length xs < n → NoneRefused xs

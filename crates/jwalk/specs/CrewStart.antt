@@ -13,7 +13,7 @@ use Rattle.read_parts.specs.Options as options
 use Rattle.read_parts.specs.Given.{Given, counted_reading, ClonesCount}
 use Rattle.jwalk_read.specs.Job.{options_of}
 use Rattle.jwalk_engine.specs.ReadAhead.{BeginsWith}
-use Rattle.jwalk_entries.specs.DirEntryIter.{is_refused, by_crew, job_of, items_of, unread_of, width_of, read_ahead, held_by, IsWithin, IsSourced, IsRefused}
+use Rattle.jwalk_entries.specs.DirEntryIter.{is_refused, by_crew, job_of, items_of, unread_of, width_of, read_ahead, held, held_by, IsWithin, IsSourced, IsRefused}
 use Rattle.jwalk_entries.specs.declared.dir_entry_iter.DirEntryIter.{DirEntryIter}
 
 -- what a busy crew leaves of an item: the error that says so, if the item has a directory to be read
@@ -50,10 +50,10 @@ module _ {C S P A T L R E : Type 0} (clone : Clone.Ghosts R) (read : Option (Rea
       ((why_not ≡ Some Memory) × (is_refused it ≡ true) × (items_of it ≡ []) × (unread_of it ≡ []))
       (λ r. (is_refused it ≡ is_refusal why_not) × (items_of it ≡ left_of why_not r.list) × IsToRead clone r why_not (unread_of it))
 
-  -- what it holds of the root's list as a value, by why its readings didn't begin, if they didn't
+  -- what it holds of the root's list, by why its readings didn't begin
   abbrev pub HoldsList : Option NotStarted → DirEntryIter C S P A T L R E → Type 0
   HoldsList None it = (given : Given R E) → ClonesCount clone given → IsSomeAnd read (λ r. held_by given it ≡ paired (counted_reading given r))
-  HoldsList (Some Busy) it = (given : Given R E) → IsSomeAnd read (λ r. held_by given it ≡ map busy_pair (counted_reading given r).list)
+  HoldsList (Some Busy) it = IsSomeAnd read (λ r. AtDepth 0 r.list × (held it ≡ map busy_pair r.list))
   HoldsList (Some Memory) it = IsRefused it
 
   -- The walk of a job that begins with a root's list. It holds no entry that is too deep, and what it has to read are the directories of what it holds. Where no crew reads, only these are queued, in order, and none is read yet. Only a walk that a crew is to read for finds the crew busy.

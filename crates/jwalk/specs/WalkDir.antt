@@ -1,16 +1,20 @@
 -- A walk as its builder describes it.
-use Rattle.std.specs.Prelude.{◌≡◌, ◌⊎◌, ℕ, true, false, List, map, Option, Some, None, IsSome, string_bytes}
+use Rattle.std.specs.Prelude.{◌≡◌, ◌⊎◌, ℕ, true, false, List, [], ◌∷◌, map, Option, Some, None, IsSome, Result, Ok, Err, string_bytes}
 use Rattle.std.specs.declared.clone.Clone as Clone
 use Rattle.std.specs.declared.default.Default as Default
+use Rattle.walk_model.specs.Error.{busy}
 use Rattle.walk_model.specs.Options.{Options, crew, with_parallelism}
-use Rattle.walk_model.specs.Entry.{AtDepth}
+use Rattle.walk_model.specs.Entry.{Item, AtDepth}
 use Rattle.walk_model.specs.Listing.{paired}
 use Rattle.walk_model.specs.Counted.{Worth, blank}
 use Rattle.walk_model.specs.Job.{Job, root_list}
 use Rattle.walk_fs.specs.declared.file_system.FileSystem as FileSystem
 use Rattle.read_parts.specs.declared.process_read_dir.ProcessReadDir as ProcessReadDir
+use Rattle.read_parts.specs.declared.error.Error.{Error}
+use Rattle.read_parts.specs.declared.dir_entry.DirEntry.{DirEntry}
+use Rattle.read_parts.specs.Entry.{item}
 use Rattle.read_parts.specs.Options.{options_value, width_of}
-use Rattle.read_parts.specs.Given.{Given}
+use Rattle.read_parts.specs.Given.{Given, counted_item}
 use Rattle.jwalk_read.specs.Job as job
 use Rattle.jwalk_read.specs.Job.{file_system, callback, IsSteady}
 use Rattle.jwalk_engine.specs.ReadAhead.{BeginsWith}
@@ -20,9 +24,19 @@ use Rattle.jwalk_crew.specs.declared.crew.NotStarted.TheVariants.{Busy, Memory}
 use Rattle.jwalk_readings.specs.declared.parallelism.Parallelism.{Parallelism}
 use Rattle.jwalk_readings.specs.Parallelism.{parallelism_value, crew_of}
 use Rattle.jwalk.specs.CrewStart.{busy_pair}
-use Rattle.jwalk_entries.specs.DirEntryIter.{by_crew, job_of, items_of, held_by, IsWithin, IsSourced, IsRefused}
+use Rattle.jwalk_entries.specs.DirEntryIter.{by_crew, job_of, items_of, held, held_by, IsWithin, IsSourced, IsRefused}
 use Rattle.jwalk.specs.declared.walk_dir.WalkDirGeneric.{WalkDirGeneric}
 use Rattle.jwalk_entries.specs.declared.dir_entry_iter.DirEntryIter.{DirEntryIter}
+
+-- the item is the error that reports a busy crew
+abbrev pub ReportsBusy : {R E : Type 0} → Item R E → Type 0
+ReportsBusy (Ok e) = ⊥
+ReportsBusy (Err f) = f ≡ busy
+
+-- none of the answers reports a busy crew
+abbrev pub NoneBusy : {C A R E : Type 0} → List (Result (DirEntry C A R E) (Error A)) → Type 0
+NoneBusy [] = Unit {0}
+NoneBusy (x ∷ answered) = (¬ ReportsBusy (item x)) × NoneBusy answered
 
 -- no callback, and states that count as nothing
 abbrev pub stateless : {R E : Type 0} → Given R E
@@ -124,10 +138,13 @@ module _ {C S P A T W L R E : Type 0} (files : FileSystem.Ghosts S) (process : P
   Holds walk it = (given : Given R E) → IsSteady files process clone defaults (file_system_of walk) (callback_of walk) given
       → held_by given it ≡ paired (root_list (job_for files given walk) (root_of walk) (given.read_dir_state (state_of walk)))
 
-  -- The iterator holds the root's list where the crew was busy: in place of each entry with a directory is the error that says so, and nothing is below it.
-  abbrev pub HoldsBusy : WalkDirGeneric C S P A T W R E → DirEntryIter C S P A T L R E → Type 0
-  HoldsBusy walk it = (given : Given R E) → IsSteady files process clone defaults (file_system_of walk) (callback_of walk) given
-      → held_by given it ≡ map busy_pair (root_list (job_for files given walk) (root_of walk) (given.read_dir_state (state_of walk))).list
+  -- The iterator holds the root's list, where the crew was busy: the error that reports it is in the place of each entry with a directory, and nothing is below it. It is so whatever that list is; by value it is the definition's.
+  pub record HoldsBusy (walk : WalkDirGeneric C S P A T W R E) (it : DirEntryIter C S P A T L R E) : Type 0 where
+    pub list : List (Item R E)
+    pub depth : AtDepth 0 list
+    pub holds : held it ≡ map busy_pair list
+    pub value : (given : Given R E) → IsSteady files process clone defaults (file_system_of walk) (callback_of walk) given
+        → map (counted_item given) list ≡ (root_list (job_for files given walk) (root_of walk) (given.read_dir_state (state_of walk))).list
 
   -- what it holds, by why its readings didn't begin, if they didn't
   abbrev pub HoldsUnless : Option NotStarted → WalkDirGeneric C S P A T W R E → DirEntryIter C S P A T L R E → Type 0

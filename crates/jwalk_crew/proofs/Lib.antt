@@ -1,4 +1,4 @@
-mod DueFacts
+pub mod DueFacts
 pub mod OriginFacts
 mod HandledFacts
 mod SharedFacts

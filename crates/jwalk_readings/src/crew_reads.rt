@@ -1,7 +1,6 @@
 //! Readings that a crew makes ahead.
-ghost use Rattle.std.specs.Prelude.{◌≡◌, ◌≢◌, ◌↔◌, ◌∷◌, ◌++◌, true, false, IsTrue, Ok, [], length, map, IfOk, IfErr, MatchResult, OnErr, OnOk, option_map};
-ghost use Rattle.walk_model.specs.ReadDir.{children_of};
-ghost use Rattle.jwalk_order.specs.Frontier.{passed};
+ghost use Rattle.std.specs.Prelude.{◌≡◌, ◌≢◌, ◌↔◌, ◌∷◌, ◌++◌, true, false, IsTrue, Ok, [], map, IfOk, IfErr, MatchResult, OnErr, OnOk, option_map};
+ghost use Rattle.std.specs.Arc.{arc_value};
 ghost use Rattle.read_parts.specs.Error.{failure};
 ghost use Rattle.read_parts.specs.Entry.{entry};
 ghost use Rattle.read_parts.specs.ReadDirSpec.{spec};
@@ -114,17 +113,15 @@ impl<
 
     /// Returns the readings of these directories, and of those below them, as a pool gives them.
     pub(crate) fn over(
-        job: Job<C, S, P, A>,
+        job: Arc<Job<C, S, P, A>, A>,
         mut roots: Vec<ReadDirSpec<C, A>, A>,
         pool: L,
     ) -> Result<Self, AllocError>
-        ensures job { IfOk result (λ reads. job_of reads ≡ job) }
+        ensures job { IfOk result (λ reads. job_of reads ≡ arc_value job) }
         ensures to_read { IfOk result (λ reads. to_read reads ≡ map spec roots.items) }
         ensures begins { IfOk result (BeginsBy (λ given origin addresses. given ≡ pool)) }
     {
-        let alloc = *roots.allocator();
-        let matcher = OrderedMatcher::with_roots(alloc, roots.len())?;
-        let job = Arc::new(alloc, job)?;
+        let matcher = OrderedMatcher::with_roots(*roots.allocator(), roots.len())?;
         roots.reverse();
         Ok(CrewReads {
             job,

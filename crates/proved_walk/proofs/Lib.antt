@@ -3,4 +3,4 @@ pub mod SmallTreeFacts
 pub mod RootAloneFacts
 pub mod TurnedFacts
 pub mod BothFacts
-pub mod AheadFacts
+pub mod OwnPoolFacts

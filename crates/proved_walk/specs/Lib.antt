@@ -7,3 +7,4 @@ pub mod Alike
 pub mod Filtering
 pub mod Texts
 pub mod Numbers
+pub mod OwnPool

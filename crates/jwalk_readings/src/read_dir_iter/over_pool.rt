@@ -1,5 +1,6 @@
 //! Readings in preorder, as a pool gives them.
 ghost use Rattle.std.specs.Prelude.{◌≡◌, true, length, map, IfOk, IfErr};
+ghost use Rattle.std.specs.Arc.{arc_value};
 ghost use Rattle.walk_model.specs.Error.{memory};
 ghost use Rattle.read_parts.specs.Error.{failure};
 ghost use Rattle.read_parts.specs.ReadDirSpec.{spec};
@@ -14,6 +15,7 @@ use read_parts::error::Error;
 use read_parts::process_read_dir::ProcessReadDir;
 use read_parts::read_dir_spec::ReadDirSpec;
 use std::alloc::Allocator;
+use std::sync::Arc;
 use walk_fs::file_system::FileSystem;
 
 impl<
@@ -27,21 +29,22 @@ impl<
     ghost use Rattle.jwalk_readings.specs.CrewReads.{IsMadeFor};
     ghost use Rattle.jwalk_readings.specs.ReadDirIter.{by_crew, job_of, to_read, StartsSteady};
 
-    /// Returns the readings of these directories and of all that is below them, as a pool gives them. Only a reading of
-    /// the directory that comes next, made by this job's options, is handed on.
+    /// The readings of these directories and of all that is below them, as a pool gives them. Only a reading of the
+    /// directory that comes next, made by this job's options, is handed on. A pool that reads by this very job has a
+    /// clone of the `Arc`.
     ///
     /// # Errors
     ///
     /// If memory runs out.
     pub fn over_pool(
-        job: Job<C, S, P, A>,
+        job: Arc<Job<C, S, P, A>, A>,
         roots: Vec<ReadDirSpec<C, A>, A>,
         pool: L,
     ) -> Result<Self, Error<A>>
         ensures by { IfOk result (λ reads. by_crew reads ≡ true) }
-        ensures job { IfOk result (λ reads. job_of reads ≡ job) }
+        ensures job { IfOk result (λ reads. job_of reads ≡ arc_value job) }
         ensures to_read { IfOk result (λ reads. to_read reads ≡ map spec roots.items) }
-        ensures steady { IsMadeFor L.Pool pool (record { job = job; roots = map spec roots.items })
+        ensures steady { IsMadeFor L.Pool pool (record { job = arc_value job; roots = map spec roots.items })
             (root_addresses (length roots.items)) → IfOk result (StartsSteady S.FileSystem P.ProcessReadDir
             C.ReadDirState.Clone C.DirEntryState.Default L.Pool) }
         ensures memory { IfErr result (λ error. failure error ≡ memory) }
