@@ -45,6 +45,44 @@ impl Plan<Global> for Family {
     }
 }
 
+// A root 0 with the leaves 1 and 2. A reading is the number. Nothing is said of its tree.
+struct Leaves;
+
+impl Plan<Global> for Leaves {
+    ghost use Rattle.jwalk_board.specs.Rows.{family, family-falls};
+    ghost use Rattle.std.specs.Prelude.{ℕ};
+
+    type Spec = u8;
+
+    type Reading = u8;
+
+    ghost Given = { Unit {0} };
+
+    ghost SpecValue = { ℕ };
+
+    ghost ReadingValue = { ℕ };
+
+    ghost spec_value = { λ _ s. s };
+
+    ghost reading_value = { λ _ r. r };
+
+    ghost IsLawful = { λ _. Unit {0} };
+
+    ghost IsFixed = { λ _ _. ⊥ };
+
+    ghost tree = { λ _ _. family };
+
+    ghost falls = { λ _ _ _. family-falls };
+
+    fn read(&self, alloc: Global, spec: &u8) -> Result<(u8, Vec<u8>), Refused> {
+        let children = match *spec {
+            0 => vec![in alloc; 1, 2]?,
+            _ => Vec::new(alloc),
+        };
+        Ok((*spec, children))
+    }
+}
+
 const MOVES: &[Move] = &[
     Move::Take(0),
     Move::Finish(0),
@@ -76,14 +114,17 @@ struct Outcome {
 // None of these promises anything: what comes back is compared, and no test carries the contract of a rehearsal to its
 // end.
 
-fn played(
+fn played<P: Plan<Global, Spec = u8, Reading = u8>>(
     alloc: Global,
+    plan: &P,
     roots: &[u8],
     workers: usize,
     moves: &[Move],
-) -> Result<Rehearsal<u8, u8>, Refused> {
+) -> Result<Rehearsal<u8, u8>, Refused>
+    requires { P.IsLawful plan.now }
+{
     let roots = Vec::from_slice(alloc, roots)?;
-    rehearse(alloc, &Family, roots, workers, moves)
+    rehearse(alloc, plan, roots, workers, moves)
 }
 
 fn are_taken(taken: &[IndexPath], wanted: &[&[usize]]) -> bool {
@@ -104,9 +145,18 @@ fn are_handed_out(items: &[Ordered<u8>], wanted: &[(&[usize], u8, usize)]) -> bo
     items.len() == wanted.len()
 }
 
-// Whether that many workers reach this outcome by these moves.
-fn comes_to(alloc: Global, roots: &[u8], workers: usize, moves: &[Move], wanted: &Outcome) -> bool {
-    match &played(alloc, roots, workers, moves) {
+// Whether so many workers come to this outcome by these moves.
+fn comes_to<P: Plan<Global, Spec = u8, Reading = u8>>(
+    alloc: Global,
+    plan: &P,
+    roots: &[u8],
+    workers: usize,
+    moves: &[Move],
+    wanted: &Outcome,
+) -> bool
+    requires { P.IsLawful plan.now }
+{
+    match &played(alloc, plan, roots, workers, moves) {
         Ok(made) => {
             are_taken(made.taken.as_slice(), wanted.taken)
                 && are_handed_out(made.handed_out.as_slice(), wanted.handed_out)
@@ -129,7 +179,7 @@ static WHOLE: Outcome = Outcome {
 
 #[test]
 fn a_rehearsal_plays_every_move(rt: HostRuntime) {
-    assert!(rt; comes_to(rt.alloc(), &[0], 2, MOVES, &WHOLE));
+    assert!(rt; comes_to(rt.alloc(), &Family, &[0], 2, MOVES, &WHOLE));
 }
 
 static PART: Outcome = Outcome {
@@ -140,7 +190,7 @@ static PART: Outcome = Outcome {
 
 #[test]
 fn a_rehearsal_leaves_the_board_as_the_moves_did(rt: HostRuntime) {
-    assert!(rt; comes_to(rt.alloc(), &[0], 2, &MOVES[..9], &PART));
+    assert!(rt; comes_to(rt.alloc(), &Family, &[0], 2, &MOVES[..9], &PART));
 }
 
 static WITHOUT_WORKERS: Outcome = Outcome {
@@ -158,20 +208,27 @@ static WITHOUT_ROOTS: Outcome = Outcome {
 #[test]
 fn without_workers_or_roots_nothing_moves(rt: HostRuntime) {
     const BOTH: &[Move] = &[Move::Take(0), Move::HandOut];
-    assert!(rt; comes_to(rt.alloc(), &[0], 0, BOTH, &WITHOUT_WORKERS));
-    assert!(rt; comes_to(rt.alloc(), &[], 2, BOTH, &WITHOUT_ROOTS));
+    assert!(rt; comes_to(rt.alloc(), &Family, &[0], 0, BOTH, &WITHOUT_WORKERS));
+    assert!(rt; comes_to(rt.alloc(), &Family, &[], 2, BOTH, &WITHOUT_ROOTS));
 }
+
+// Worker 1 takes and finishes the second child, while worker 0 holds the first.
+const TURNED: &[Move] = &[
+    Move::Take(0),
+    Move::Finish(0),
+    Move::Take(0),
+    Move::Take(1),
+    Move::Finish(1),
+    Move::HandOut,
+    Move::HandOut,
+];
 
 #[test]
 fn a_worker_may_finish_out_of_turn(rt: HostRuntime) {
-    const TURNED: &[Move] = &[
-        Move::Take(0),
-        Move::Finish(0),
-        Move::Take(0),
-        Move::Take(1),
-        Move::Finish(1),
-        Move::HandOut,
-        Move::HandOut,
-    ];
-    assert!(rt; comes_to(rt.alloc(), &[0], 2, TURNED, &PART));
+    assert!(rt; comes_to(rt.alloc(), &Family, &[0], 2, TURNED, &PART));
+}
+
+#[test]
+fn the_second_of_two_leaves_waits_for_the_first(rt: HostRuntime) {
+    assert!(rt; comes_to(rt.alloc(), &Leaves, &[0], 2, TURNED, &PART));
 }

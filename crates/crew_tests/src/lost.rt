@@ -7,7 +7,7 @@ use jwalk::file_system::FileSystem;
 use jwalk::ordered::Ordered;
 use jwalk::read_dir::{Job, NoProcess, ReadDirSpec};
 use jwalk::read_dir_iter::ReadDirIter;
-use jwalk::threads::InTurn;
+use jwalk::{DirEntryIter, Error};
 use jwalk_crew::pool::{Missed, Pool};
 use std::alloc::Global;
 use std::sync::Arc;
@@ -91,13 +91,11 @@ fn pool_of<'f, S: FileSystem>(
     Some(Prepared { board })
 }
 
-/// The outcome of a reading, in a word.
-fn word_of<S: FileSystem, L: Pool<States, S, NoProcess, Global>>(
-    reads: &mut ReadDirIter<States, S, NoProcess, Global, InTurn, L>,
-) -> &'static str {
-    match reads.next() {
+/// What comes, in a word.
+fn word_of<T: Drop>(coming: Option<Result<T, Error>>) -> &'static str {
+    match coming {
         None => "none",
-        Some(Ok(_)) => "read",
+        Some(Ok(_)) => "comes",
         Some(Err(error)) => { if error.is_lost() { "lost" } else { "error" } }
     }
 }
@@ -115,23 +113,57 @@ fn comes<S: FileSystem>(
     let from = roots(&own, "/r")?;
     let mut reads = ReadDirIter::over_pool(own, from, pool).ok()?;
     for word in words {
-        if word_of(&mut reads) != *word {
+        if word_of(reads.next()) != *word {
             return Some(false);
         }
     }
     Some(true)
 }
 
+/// Whether this comes of a walk from `/r` on, for which these two readings are there.
+fn comes_of_walk<S: FileSystem>(
+    alloc: Global,
+    fs: &S,
+    first: &str,
+    second: &str,
+    words: &[&str],
+) -> Option<bool> {
+    let pool = pool_of(alloc, fs, first, second)?;
+    let own = job_over(alloc, fs);
+    let list = own.root_list("/r", ()).ok()?;
+    let from = list.read_children_specs().ok()?;
+    let reads = ReadDirIter::over_pool(own, from, pool).ok()?;
+    let mut walk = DirEntryIter::with_list(reads, list.into_results_list(), false);
+    for word in words {
+        if word_of(walk.next()) != *word {
+            return Some(false);
+        }
+    }
+    Some(true)
+}
+
+/// Which two readings are there, and what comes then.
+const ROWS: &[(&str, &str, &[&str])] = &[
+    ("/s", "/r/a", &["lost", "none", "none", "none"]),
+    ("/r", "/s", &["comes", "lost", "none", "none"]),
+];
+
 #[test]
 fn a_reading_of_another_directory_is_lost_and_ends_the_readings(rt: HostRuntime) {
-    const ROWS: &[(&str, &str, &[&str])] = &[
-        ("/s", "/r/a", &["lost", "none", "none", "none"]),
-        ("/r", "/s", &["read", "lost", "none", "none"]),
-    ];
     let fs = tree(rt.alloc(), TWO_ROOTS);
     for (first, second, words) in ROWS {
         assert!(rt;
             matches!(&fs, Ok(fs) if comes(rt.alloc(), fs, first, second, words) == Some(true))
+        );
+    }
+}
+
+#[test]
+fn a_reading_of_another_directory_is_one_error_and_ends_the_walk(rt: HostRuntime) {
+    let fs = tree(rt.alloc(), TWO_ROOTS);
+    for (first, second, words) in ROWS {
+        assert!(rt;
+            matches!(&fs, Ok(fs) if comes_of_walk(rt.alloc(), fs, first, second, words) == Some(true))
         );
     }
 }
