@@ -145,7 +145,7 @@ fn are_handed_out(items: &[Ordered<u8>], wanted: &[(&[usize], u8, usize)]) -> bo
     items.len() == wanted.len()
 }
 
-// Whether so many workers come to this outcome by these moves.
+// Whether this many workers reach this outcome by these moves.
 fn comes_to<P: Plan<Global, Spec = u8, Reading = u8>>(
     alloc: Global,
     plan: &P,

@@ -120,7 +120,7 @@ fn comes<S: FileSystem>(
     Some(true)
 }
 
-/// Whether this comes of a walk from `/r` on, for which these two readings are there.
+/// Whether a walk from `/r` yields this, for which these two readings are there.
 fn comes_of_walk<S: FileSystem>(
     alloc: Global,
     fs: &S,

@@ -1,4 +1,4 @@
--- How a builder's walk begins where it may be told to read by a crew.
+-- How a builder's walk begins where a crew may read for it.
 use Rattle.std.proofs.Common.{◌≡◌, ◌∙◌, ◌⊎◌, ℕ, true, List, Option, Some, None, Result, Ok, Err, IfOk, IfSome, IsSome, IsSomeAnd, inl, inr, refl, sym, ap, subst}
 use Rattle.std.specs.Prelude.{option_map}
 use Rattle.std.specs.Result.{result_ok}

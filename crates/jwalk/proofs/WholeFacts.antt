@@ -133,7 +133,7 @@ module _ {C S P A T W L R E : Type 0} (files : FileSystem.Ghosts S) (process : P
       ∙ ap (λ options. coming (file_system_of walk) options (held_by given it)) starts.options
       ∙ ap (coming (file_system_of walk) (builder.options_of walk)) holds
 
-  -- A walk that was begun answered the whole walk from its root, where its answers are all that was to come, and none tells of want of memory.
+  -- A walk that was begun yielded the whole walk from its root, if its answers are all that was to come, and none says that memory ran out.
   pub answered_whole : (walk : WalkDirGeneric C S P A T W R E) (it : DirEntryIter C S P A T L R E) (xs : List (Result (DirEntry C A R E) (Error A))) → Starts walk it → IsRefused it ⊎ Holds files process clone defaults walk it → IsSteady files process clone defaults (file_system_of walk) (callback_of walk) given → NoneRefused xs → to_come files given it ≡ counted_list given xs
       → counted_list given xs ≡ whole_walk (job_for files given walk) (root_of walk) (given.read_dir_state (state_of walk))
   answered_whole walk it xs starts begun steady none came =

@@ -1,4 +1,4 @@
--- What becomes of the board that a walk and its workers share, by one hold of their lock.
+-- What one hold of their lock does to the board that a walk and its workers share.
 use Rattle.std.specs.Prelude.{◌≡◌, ◌⊎◌, ℕ, true, List, Option, Some, None, option_map, Result, Ok, Err, box_value, IsTrue, length}
 use Rattle.keyed_slot.specs.Keyed.{receipt_of, IsReceiptOf, IsAbsenceOf}
 use Rattle.keyed_slot.specs.declared.slot.Absence.{Absence}
@@ -60,7 +60,7 @@ module _ {C S P A R E : Type 0} where
     pub in_slot : IsReceiptOf receipt slot
     pub handled : IsHandled step (receipt_of receipt)
 
-  -- The board wasn't in this slot, and that stands under the lock from now on.
+  -- The board wasn't in this slot, which is noted under the lock from now on.
   pub record IsMissed {T M : Type 0} (slot : KeyedSlot (Work C S P A R E) A T M) (sleepers : Sleepers) (absence : Absence (Work C S P A R E) T M) : Type 0 where
     pub absent : IsAbsenceOf absence slot
     pub noted : sleepers.board_missed ≡ true

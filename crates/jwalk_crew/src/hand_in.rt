@@ -13,7 +13,7 @@ use read_parts::read_dir_spec::ReadDirSpec;
 use std::alloc::Allocator;
 use walk_fs::file_system::FileSystem;
 
-/// A reading that a worker made: where its directory stands in the walk, its message, and the directories below it.
+/// A reading that a worker made: the address of its directory in the walk, its message, and the directories below it.
 ///
 /// It isn't `Drop`, and its fields are this module's, so nobody can let it go but by `finish` and `give_up`.
 pub(crate) struct HandIn<

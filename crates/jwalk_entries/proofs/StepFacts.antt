@@ -168,7 +168,7 @@ module _ {C S P A R E : Type 0} (clone : Clone.Ghosts R) (known : Item R E → S
         ∙ ap (answers (options_of job).min_depth) (next_listed files given cloned as_given next)
         ∙ rw (counted-is_answered given.read_dir_state given.dir_entry_state (options_of job).min_depth passed, out) refl
 
--- what stands first gives nothing, where no directory is to be read below it
+-- the first pair gives nothing, where no directory is to be read below it
 plain_if : {R : Type 0} (E : Type 0) (b : Bool) (specs : List (Spec R)) → ¬ ((b ≡ true) × (specs ≢ [])) → is_plain (first_source {R = R} {E = E} b specs) ≡ true
 plain_if E false specs none = refl
 plain_if E true [] none = refl
@@ -228,7 +228,7 @@ module _ {C S P A T L R E : Type 0} (files : FileSystem.Ghosts S) (process : Pro
     placed = rw over.crew (left_placed clone (Known files process clone defaults pool old) (job_of old) (items_of old) (unread_of old) (by_crew old) (items_of mid) (unread_of mid) over.leaves steady.placed);
   }
 
-  -- the directories that are entered up to the first that is answered
+  -- the directories that are entered up to the first item that is yielded
   pub grows_to_answer : (old mid new : DirEntryIter C S P A T L R E) (passed : Result (DirEntry C A R E) (Error A)) → PassedOver old mid → Passes mid passed new → GrowsAhead files process clone defaults pool old (Some (item passed)) new
   grows_to_answer old mid new passed over passes =
       let more = many_on old mid new passed over passes in

@@ -72,7 +72,7 @@ pub record PassesPlainly {R E : Type 0} (from : Position R E) (passed : Item R E
   pub none_below : ¬ IsAtDirectory from.items from.unread
   pub others : to ≡ record from { items = rest }
 
--- what stands in front of a walk that was refused at its start: the error that tells of it
+-- what is held in front where memory ran out at the start: the error that says so
 abbrev pub refusal : {R E : Type 0} → Bool → List (Pair R E)
 refusal true = record { item = Err memory; source = nothing } ∷ []
 refusal false = []
@@ -155,7 +155,7 @@ module _ {C S P A T L R E : Type 0} where
     pub each : AreSourced (held it)
     pub unread : unread_of it ≡ sources (held it)
 
-  -- the answer tells why the walk ends early, and nothing is held, unread or read ahead any more
+  -- The answer says why the walk ends early, and nothing is held, unread or read ahead any more.
   pub record Stops (crew : Bool) (answer : Item R E) (new : DirEntryIter C S P A T L R E) : Type 0 where
     pub error : Failure
     pub told : answer ≡ Err error

@@ -1,4 +1,4 @@
--- What holds of a slot's table between any two steps, and what each step tells.
+-- What holds of a slot's table between any two steps, and what each step makes known.
 use Rattle.std.specs.Prelude.{◌≡◌, ◌≢◌, ℕ, Bool, true, false, List, [], ◌∷◌, length, slice_index, Option, Some, None}
 use mathlib.Core.Option as core
 use lib.ListN.{get_elem?}

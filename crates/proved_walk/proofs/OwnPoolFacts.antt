@@ -171,7 +171,7 @@ module _ {C S P A R E : Type 0} (files : FileSystem.Ghosts S) (process : Process
   pub none_reads : (job : Job C S P A R E) (old new : List (IndexPath A × ReadDirSpec C A R E)) → new ≡ [] → ReadsFor files process clone defaults job old origin → ReadsFor files process clone defaults job new origin
   none_reads job old new none comes = record { own = comes.own; at = subst (All At) (sym (ap stacked none)) (All-nil At) }
 
--- what counts as want of memory is want of memory
+-- what counts as out of memory is out of memory
 refused_outcome : {R E : Type 0} (given : Given R E) (o : Outcome R E) → counted_outcome given o ≡ Err memory → o ≡ Err memory
 refused_outcome given (Ok r) is = absurd cc
 refused_outcome given (Err f) is = let told : f ≡ memory = cc in ap Err told
