@@ -2,7 +2,7 @@
 ghost use Rattle.std.specs.Prelude.{◌≡◌};
 ghost use Rattle.walk_fs.specs.declared.fault.Fault.TheVariants.{Io, Memory};
 
-use std::alloc::AllocError;
+use std::alloc::{AllocError, AllocFailed};
 use std::io;
 
 /// An error of the file system, or that memory ran out.
@@ -18,6 +18,15 @@ impl From<AllocError> for Fault {
     ghost from_gives = { λ _ fault. fault ≡ Memory };
 
     fn from(_error: AllocError) -> Self {
+        Fault::Memory
+    }
+}
+
+/// Memory ran out for a value that the failure hands back, as that of `Vec::push`. The value is dropped.
+impl<T: Drop> From<AllocFailed<T>> for Fault {
+    ghost from_gives = { λ _ fault. fault ≡ Memory };
+
+    fn from(_failed: AllocFailed<T>) -> Self {
         Fault::Memory
     }
 }
