@@ -129,7 +129,7 @@ fn comes_of_walk<S: FileSystem>(
     words: &[&str],
 ) -> Option<bool> {
     let pool = pool_of(alloc, fs, first, second)?;
-    let own = job_over(alloc, fs);
+    let own = Arc::new(alloc, job_over(alloc, fs)).ok()?;
     let list = own.root_list("/r", ()).ok()?;
     let from = list.read_children_specs().ok()?;
     let reads = ReadDirIter::over_pool(own, from, pool).ok()?;
