@@ -1,6 +1,8 @@
 //! Readings that a crew makes ahead.
-ghost use Rattle.std.specs.Prelude.{◌≡◌, ◌≢◌, ◌↔◌, ◌∷◌, ◌++◌, true, false, IsTrue, Ok, [], map, IfOk, IfErr, MatchResult, OnErr, OnOk, option_map};
+ghost use Rattle.std.specs.Prelude.{◌≡◌, ◌≢◌, ◌↔◌, ◌∷◌, ◌++◌, true, false, IsTrue, Ok, [], length, map, IfOk, IfErr, MatchResult, OnErr, OnOk, option_map};
 ghost use Rattle.std.specs.Arc.{arc_value};
+ghost use Rattle.walk_model.specs.ReadDir.{children_of};
+ghost use Rattle.jwalk_order.specs.Frontier.{passed};
 ghost use Rattle.read_parts.specs.Error.{failure};
 ghost use Rattle.read_parts.specs.Entry.{entry};
 ghost use Rattle.read_parts.specs.ReadDirSpec.{spec};

@@ -4,3 +4,4 @@ pub mod RootAloneFacts
 pub mod TurnedFacts
 pub mod BothFacts
 pub mod OwnPoolFacts
+pub mod AheadFacts

@@ -1,5 +1,5 @@
 -- What a pool that reads when it is asked keeps of where its readings come from.
-use Rattle.std.proofs.Common.{◌≡◌, ◌≢◌, ◌∙◌, ℕ, suc, ◌+◌, List, [], ◌∷◌, ◌++◌, map, reverse, length, append-nil, All, Option, Some, None, option_map, slice_get, Bool, true, false, Result, Ok, Err, is_err, IfOk, OnOk, MatchResult, inl, inr, refl, sym, ap, ap₂, subst, arith}
+use Rattle.std.proofs.Common.{◌≡◌, ◌≢◌, ◌∙◌, ℕ, suc, ◌+◌, List, [], ◌∷◌, ◌++◌, map, length, append-nil, All, Some, None, option_map, slice_get, Bool, true, false, Result, Ok, Err, is_err, IfOk, OnOk, MatchResult, inl, inr, refl, sym, ap, ap₂, subst, arith}
 use Rattle.std.specs.Iterator.{Yields}
 use Rattle.std.specs.List.{AllZip}
 use Rattle.std.specs.declared.alloc.AllocError.{AllocError}
@@ -34,7 +34,6 @@ use Rattle.jwalk.specs.crew_parts.Wanted.{Fits}
 use Rattle.jwalk.specs.crew_parts.declared.wanted.Wanted.{Wanted}
 use Rattle.jwalk.specs.jwalk_crew.Due.{IsDue}
 use Rattle.jwalk.specs.jwalk_crew.Origin.{Origin, CountAlike, IsAt, IsMessageOf}
-use Rattle.jwalk.specs.jwalk_crew.Shared.{IsAnswerOf}
 use Rattle.jwalk.specs.jwalk_crew.declared.pool.Missed.TheVariants.{Lost}
 use Rattle.jwalk.specs.jwalk_crew.declared.pool.Pool as Pool
 use Rattle.jwalk.specs.jwalk_readings.declared.read_dir_iter.ReadDirIter.{ReadDirIter}
