@@ -1,5 +1,6 @@
 //! Walks with callbacks.
 use jwalk::file_system::{BuildError, FileSystem};
+use jwalk::read_dir::ByFn;
 use jwalk::{ClientState, DirEntry};
 use proved_walk::anywhere::walk_turned;
 use proved_walk::filtering::walk_without_target;
@@ -9,8 +10,9 @@ use proved_walk::root_alone::walk_root_alone;
 use proved_walk::skipping::small_tree_without_group_1;
 use proved_walk::small_tree::names_in_small_tree;
 use std::alloc::{AllocError, Global};
+use std::cmp::Ordering;
 use std::thread::Threads;
-use walk_fixtures::answers::are_lines;
+use walk_fixtures::answers::{Answer, are_lines};
 use walk_fixtures::trees::{GROUPED, Step, tree};
 use walk_ways::ways::{Asked, Setting, WAYS, Way};
 
@@ -134,23 +136,115 @@ fn directories_of_a_name_that_are_left_out(rt: HostRuntime) {
     assert!(rt; matches!(shows_without_target(rt.alloc(), wanted), Ok(true)));
 }
 
-/// Whether these are the marks of a walk: the state of each entry is whether it is marked.
-fn has_marks(alloc: Global, wanted: &str) -> Result<bool, BuildError> {
-    let root = String::from_str(alloc, "/t")?;
-    let found = walk_marked(alloc, tree(alloc, GROUPED)?, root)?;
+/// States that count lists on the way down, and that mark entries.
+type Marks = (usize, bool);
+
+/// The paths of answers that are entries, each with whether it is marked.
+fn marks_of(alloc: Global, found: &[Answer<Marks>]) -> Result<String, AllocError> {
     let mut text = String::new(alloc);
-    for answer in &found {
+    for answer in found {
         if let Ok(entry) = answer {
             let mark = if entry.client_state { "true" } else { "false" };
             push_entry(&mut text, entry, mark)?;
         }
     }
-    Ok(text.as_str() == wanted)
+    Ok(text)
+}
+
+/// The marks of the grouped tree.
+const MARKS: &str = "/t true;/t/a.txt true;/t/b.txt false;/t/c.txt false;/t/group 1 false;\
+                     /t/group 1/d.txt true;/t/group 2 false;/t/group 2/e.txt true;";
+
+/// Whether these are the marks of a walk: the state of each entry is whether it is marked.
+fn has_marks(alloc: Global, wanted: &str) -> Result<bool, BuildError> {
+    let root = String::from_str(alloc, "/t")?;
+    let found = walk_marked(alloc, tree(alloc, GROUPED)?, root)?;
+    Ok(marks_of(alloc, found.as_slice())?.as_str() == wanted)
 }
 
 #[test]
 fn the_first_entry_of_each_list_is_marked(rt: HostRuntime) {
-    let wanted = "/t true;/t/a.txt true;/t/b.txt false;/t/c.txt false;/t/group 1 false;\
-                  /t/group 1/d.txt true;/t/group 2 false;/t/group 2/e.txt true;";
-    assert!(rt; matches!(has_marks(rt.alloc(), wanted), Ok(true)));
+    assert!(rt; matches!(has_marks(rt.alloc(), MARKS), Ok(true)));
+}
+
+/// Puts entries in order by name, and errors behind them.
+fn put_in_order(list: &mut Vec<Answer<Marks>>) -> Result<(), AllocError> {
+    list.sort_by(|a, b| match (a, b) {
+        (Ok(a), Ok(b)) => a.file_name.cmp(&b.file_name),
+        (Ok(_), Err(_)) => Ordering::Less,
+        (Err(_), Ok(_)) => Ordering::Greater,
+        (Err(_), Err(_)) => Ordering::Equal,
+    })
+}
+
+/// The callback: it orders each list, drops hidden names and errors, leaves unread what is below depth 2, counts lists
+/// on the way down, and marks the first entry.
+fn mark(
+    _depth: Option<usize>,
+    _path: &str,
+    state: &mut usize,
+    list: &mut Vec<Answer<Marks>>,
+) -> Result<(), AllocError> {
+    put_in_order(list)?;
+    list.retain(|found| match found {
+        Ok(entry) => !entry.file_name.as_str().starts_with("."),
+        Err(_) => false,
+    });
+    for found in list.iter_mut() {
+        if let Ok(entry) = found
+            && entry.depth == 2
+        {
+            entry.read_children = None;
+        }
+    }
+    *state = state.saturating_add(1);
+    if let Some(Ok(first)) = list.first_mut() {
+        first.client_state = true;
+    }
+    Ok(())
+}
+
+/// Whether these are the marks of a walk from a root with that callback, with hidden names or not, where it is read in
+/// this way.
+fn marks_by<R: Threads + AllocGlobal + Sync, S: FileSystem + Send + Sync>(
+    rt: &R,
+    fs: &S,
+    root: &str,
+    way: Way,
+    wanted: &str,
+) -> Result<bool, AllocError> {
+    const BOTH: &[&[Setting]] = &[&[], &[Setting::Hidden]];
+    let mut are_so = true;
+    for settings in BOTH {
+        let asked = Asked {
+            fs,
+            root,
+            settings: *settings,
+        };
+        let found = asked.found(rt, ByFn::of(mark), way)?;
+        are_so &= marks_of(rt.alloc(), found.as_slice())?.as_str() == wanted;
+    }
+    Ok(are_so)
+}
+
+#[test]
+fn the_first_entry_of_each_list_is_marked_whatever_reads_the_directories(rt: HostRuntime) {
+    // From `/` on, the groups are at depth 2, and so are not read.
+    const ROWS: &[(&str, &str)] = &[
+        ("/t", MARKS),
+        (
+            "/",
+            "/ true;/t true;/t/a.txt true;/t/b.txt false;/t/c.txt false;/t/group 1 false;\
+             /t/group 2 false;",
+        ),
+    ];
+    let fs = tree(rt.alloc(), GROUPED);
+    for (root, wanted) in ROWS {
+        for way in WAYS {
+            assert!(rt;
+                matches!(&fs, Ok(fs) if marks_by(&rt, fs, *root, *way, *wanted) == Ok(true)),
+                "from {root}"
+            );
+        }
+    }
 }

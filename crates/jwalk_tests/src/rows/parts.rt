@@ -15,8 +15,9 @@ const ALL: &str = "0 d /t; 1 f /t/a.txt; 1 f /t/b.txt; 1 f /t/c.txt; 1 d /t/grou
 /// Three calls for answers.
 const THREE: Seen = Seen::Parts(&[(3, 3, SOME), (100, 5, ALL), (100, 0, ALL)]);
 
+// A `fill` that stops early, in turn (the wrong body `fill_stops_early`) or by threads, gives fewer than were asked for.
 #[test]
-fn answers_in_three_parts(rt: HostRuntime) {
+fn answers_in_three_parts_in_turn_and_by_threads(rt: HostRuntime) {
     const COURSES: &[Course] = &[
         Course {
             settings: &[Setting::Sort, Setting::By(Width::Serial)],

@@ -8,8 +8,10 @@ use jwalk::read_dir::NoProcess;
 use jwalk::threads::OnThreads;
 use jwalk::{Parallelism, WalkDir, WalkDirGeneric};
 use std::alloc::{AllocError, Global};
+use std::sync::Wait;
 use std::test::Fail;
 use std::thread::Threads;
+use std::time::Clock;
 use std::{env, io};
 
 /// Files and two groups of files, one of which has a hidden name.
@@ -33,15 +35,33 @@ fn a_folder_of_groups_by_name(rt: HostRuntime) {
     assert!(rt; shows(&rt, "groups", GROUPED, false, BY_NAME));
 }
 
+/// The words for reading one directory at a time, one or eight together, and by a crew.
+const READ_BY: &[&[&str]] = &[&[], &["--batch", "1"], &["--batch", "8"], &["--crew", "2"]];
+
+/// Whether a run by name over a folder of this disk prints these lines, with some words in front.
+fn prints<S: FileSystem + Send + Sync + 'static>(
+    rt: &(impl Wait + Threads + Clock + Clone + Drop + Send + Sync + AllocGlobal + 'static),
+    disk: S,
+    front: &[&str],
+    folder: &str,
+    printed: &str,
+) -> bool {
+    comes_unread(rt, disk, front, &["--sort", folder], &(printed, "", 0))
+}
+
 #[test]
-fn a_run_over_a_folder_of_groups(rt: HostRuntime) -> Result<(), Fail> {
+fn the_same_lines_of_a_folder_one_at_a_time_in_batches_and_by_a_crew(
+    rt: HostRuntime,
+) -> Result<(), Fail> {
     let folder = make(&rt, "run", GROUPED)?;
     let printed = BY_NAME.replace(rt.alloc(), "/t", folder.as_str())?;
-    let words: &[&str] = &["--sort", folder.as_str()];
-    let want = (printed.as_str(), "", 0);
-    let comes = comes_unread(&rt, RealFs::new(rt), &[], words, &want);
+    let mut are_printed = true;
+    for front in READ_BY {
+        let disk = RealFs::new(rt);
+        are_printed &= prints(&rt, disk, *front, folder.as_str(), printed.as_str());
+    }
     remove(&rt, folder.as_str())?;
-    assert!(rt; comes);
+    assert!(rt; are_printed);
     Ok(())
 }
 

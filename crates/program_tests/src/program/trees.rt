@@ -39,6 +39,25 @@ fn answers_come_in_order(rt: HostRuntime) {
 }
 
 #[test]
+fn roots_without_a_name_and_what_is_right_below_them(rt: HostRuntime) {
+    const ROWS: &[Row<'static>] = &[
+        (&["--max", "1", "."], "d /r\n", ("0 d .\n1 d ./r\n", "", 0)),
+        (
+            &["--max", "1", ".."],
+            "d /r\n",
+            ("0 d ..\n1 d ../r\n", "", 0),
+        ),
+        (
+            &["--max", "1", "../.."],
+            "d /r\n",
+            ("0 d ../..\n1 d ../../r\n", "", 0),
+        ),
+        (&["--max", "1", "/"], "d /r\n", ("0 d /\n1 d /r\n", "", 0)),
+    ];
+    all_come_over_tree(&rt, ROWS);
+}
+
+#[test]
 fn entries_come_by_name_where_that_is_asked(rt: HostRuntime) {
     const ROWS: &[Row<'static>] = &[
         (
