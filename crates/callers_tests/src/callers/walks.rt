@@ -89,26 +89,27 @@ fn twenty_directories(alloc: Global) -> Result<MemoryFs, BuildError> {
     Ok(fs)
 }
 
-/// How many readings are ahead before and after each of the first three answers, with eight directories read together.
-fn ahead_of_three(alloc: Global, min_depth: usize) -> Result<[(usize, usize); 3], BuildError> {
+/// How many readings are ahead at first, and after each of three answers, with eight directories read together.
+fn ahead_of_three(
+    alloc: Global,
+    min_depth: usize,
+) -> Result<(usize, usize, usize, usize), BuildError> {
     let walk = builder(alloc, twenty_directories(alloc)?, "/d")?.min_depth(min_depth);
     let mut walk = walk.parallelism(Parallelism::RayonNewPool(8)).into_iter();
-    let (before, _, after) = next_and_ahead(&mut walk);
-    let one = (before, after);
-    let (before, _, after) = next_and_ahead(&mut walk);
-    let two = (before, after);
-    let (before, _, after) = next_and_ahead(&mut walk);
-    Ok([one, two, (before, after)])
+    let (at_first, _, one) = next_and_ahead(&mut walk);
+    let (_, _, two) = next_and_ahead(&mut walk);
+    let (_, _, three) = next_and_ahead(&mut walk);
+    Ok((at_first, one, two, three))
 }
 
 #[test]
 fn what_one_answer_reads_ahead(rt: HostRuntime) {
-    // The root alone is read for its own answer; the first eight directories in it for the next one.
-    assert!(rt; matches!(ahead_of_three(rt.alloc(), 0), Ok([(0, 0), (0, 7), (7, 6)])));
+    // The root alone is read for its own answer, and eight of the directories in it for the next one.
+    assert!(rt; matches!(ahead_of_three(rt.alloc(), 0), Ok((0, 0, 7, 6))));
 }
 
 #[test]
 fn what_one_answer_reads_ahead_below_a_least_depth(rt: HostRuntime) {
-    // The root and the first directory in it are entered by one call.
-    assert!(rt; matches!(ahead_of_three(rt.alloc(), 1), Ok([(0, 7), (7, 6), (6, 5)])));
+    // One call enters the root and the first directory in it.
+    assert!(rt; matches!(ahead_of_three(rt.alloc(), 1), Ok((0, 7, 6, 5))));
 }
