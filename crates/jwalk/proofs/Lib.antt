@@ -14,3 +14,4 @@ pub use Rattle.read_parts.proofs.GivenFacts as GivenFacts
 pub use Rattle.jwalk_crew.proofs.OriginFacts as OriginFacts
 pub use Rattle.jwalk_crew.proofs.DueFacts as DueFacts
 pub use Rattle.jwalk_readings.proofs.AlikeFacts as CopyFacts
+mod EachFacts

@@ -1,5 +1,6 @@
 pub mod WalkDir
 pub mod CrewStart
+pub mod Each
 -- what callers cite of a walk's answers and of its readings
 pub use Rattle.jwalk_entries.specs.DirEntryIter as DirEntryIter
 pub use Rattle.jwalk_entries.specs.Step as Step

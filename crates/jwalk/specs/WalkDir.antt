@@ -1,5 +1,6 @@
 -- A walk as its builder describes it.
-use Rattle.std.specs.Prelude.{◌≡◌, ◌⊎◌, ℕ, true, false, List, [], ◌∷◌, map, Option, Some, None, IsSome, Result, Ok, Err, string_bytes}
+use Rattle.std.specs.Prelude.{◌≡◌, ◌⊎◌, ◌<◌, ℕ, min, true, false, List, [], ◌∷◌, map, Option, Some, None, IsSome, IsSomeAnd, Result, Ok, Err, string_bytes}
+use Rattle.std.specs.Arc.{arc_value}
 use Rattle.std.specs.declared.clone.Clone as Clone
 use Rattle.std.specs.declared.default.Default as Default
 use Rattle.walk_model.specs.Error.{busy}
@@ -10,6 +11,7 @@ use Rattle.walk_model.specs.Counted.{Worth, blank}
 use Rattle.walk_model.specs.Job.{Job, root_list}
 use Rattle.walk_fs.specs.declared.file_system.FileSystem as FileSystem
 use Rattle.read_parts.specs.declared.process_read_dir.ProcessReadDir as ProcessReadDir
+use Rattle.read_parts.specs.declared.process_read_dir.NoProcess.{NoProcess}
 use Rattle.read_parts.specs.declared.error.Error.{Error}
 use Rattle.read_parts.specs.declared.dir_entry.DirEntry.{DirEntry}
 use Rattle.read_parts.specs.Entry.{item}
@@ -19,6 +21,8 @@ use Rattle.jwalk_read.specs.Job as job
 use Rattle.jwalk_read.specs.Job.{file_system, callback, IsSteady}
 use Rattle.jwalk_engine.specs.ReadAhead.{BeginsWith}
 use Rattle.jwalk_entries.specs.DirEntryIter as iter
+use Rattle.jwalk_crew.specs.declared.crew.Crew.{Crew}
+use Rattle.jwalk_crew.specs.Crew.{workers_of}
 use Rattle.jwalk_crew.specs.declared.crew.NotStarted.{NotStarted}
 use Rattle.jwalk_crew.specs.declared.crew.NotStarted.TheVariants.{Busy, Memory}
 use Rattle.jwalk_readings.specs.declared.parallelism.Parallelism.{Parallelism}
@@ -113,6 +117,32 @@ module _ {C S P A T W R E : Type 0} where
     pub start : IsRefused it ⊎ AtDepth 0 (items_of it)
     pub width : iter.width_of it ≡ width_of (options_of walk).parallelism
     pub ahead : iter.by_crew it ≡ false → BeginsWith (iter.unread_of it) (iter.read_ahead it)
+
+-- A call of the builder that makes room for a crew, and changes nothing else.
+pub record SetsCrew {C S P A T V W R E : Type 0} (old : WalkDirGeneric C S P A T V R E) (new : WalkDirGeneric C S P A T W R E) : Type 0 where
+  pub options : options_of new ≡ options_of old
+  pub file_system : file_system_of new ≡ file_system_of old
+  pub callback : callback_of new ≡ callback_of old
+  pub root : root_of new ≡ root_of old
+  pub state : state_of new ≡ state_of old
+
+-- A call of the builder that has a crew of the walk's own read it, and changes nothing else. The crew has this many threads, and 0 leaves their number open; the walk waits for its place without limit.
+pub record SetsWorkers {H C S P A T V R E : Type 0} (count : ℕ) (old : WalkDirGeneric C S P A T V R E) (new : WalkDirGeneric C S P A T (Crew H) R E) : Type 0 where
+  pub options : options_of new ≡ with_parallelism crew (options_of old)
+  pub threads : IsSomeAnd new.crew (λ own. 0 < count → workers_of (arc_value own.0) ≡ min count 256)
+  pub limit : IsSomeAnd new.crew (λ own. own.1 ≡ None)
+  pub file_system : file_system_of new ≡ file_system_of old
+  pub callback : callback_of new ≡ callback_of old
+  pub root : root_of new ≡ root_of old
+  pub state : state_of new ≡ state_of old
+
+-- A call of the builder that changes the types of the states, of a walk without a callback. The root's state is a default then, and nothing else changes.
+pub record SetsStates {C D S A T W R E Q F : Type 0} (is_default : Q → Type 0) (old : WalkDirGeneric C S NoProcess A T W R E) (new : WalkDirGeneric D S NoProcess A T W Q F) : Type 0 where
+  pub state : is_default (state_of new)
+  pub options : options_of new ≡ options_of old
+  pub file_system : file_system_of new ≡ file_system_of old
+  pub root : root_of new ≡ root_of old
+  pub crew : new.crew ≡ old.crew
 
 -- A call of the builder that replaces the walk's callback, and changes nothing else.
 pub record SetsCallback {C S P Q A T W R E : Type 0} (process : Q) (old : WalkDirGeneric C S P A T W R E) (new : WalkDirGeneric C S Q A T W R E) : Type 0 where

@@ -12,10 +12,12 @@
 
 pub mod crew;
 pub mod file_system;
+mod host;
 pub mod read_dir;
 mod walk_dir;
 
 pub use crew::{Crew, NoPool, Pool};
+pub use host::Host;
 pub use jwalk_board::board;
 pub use jwalk_entries::dir_entry_iter;
 pub use jwalk_entries::dir_entry_iter::DirEntryIter;

@@ -4,7 +4,9 @@ ghost use Rattle.walk_model.specs.Error.{memory};
 ghost use Rattle.read_parts.specs.Error.{failure};
 
 mod crew_start;
+mod each;
 mod over_crew;
+mod workers;
 
 use jwalk_crew::pool::NoPool;
 use jwalk_entries::dir_entry_iter::DirEntryIter;
@@ -20,6 +22,7 @@ use read_parts::options::Options;
 use read_parts::process_read_dir::{NoProcess, ProcessReadDir};
 use real_fs::real_fs::RealFs;
 use std::alloc::{AllocError, Allocator, Global};
+use std::fmt::Debug;
 use std::rt::{Files, HostRuntime};
 use std::sync::Arc;
 use std::time::Duration;
@@ -113,12 +116,12 @@ impl<C: ClientState, S: FileSystem, A: Allocator + Copy, W: Drop> WalkDirGeneric
     }
 }
 
-impl<'a, R: Files + Alloc + Drop> WalkDirGeneric<
+impl<R: Files + Alloc + Clone + Drop> WalkDirGeneric<
     ((), ()),
-    RealFs<&'a R>,
+    RealFs<R>,
     NoProcess,
     R::A,
-    OnThreads<&'a R>,
+    OnThreads<R>,
 >
 where
     R::A: Copy,
@@ -127,18 +130,19 @@ where
     ghost use Rattle.real_fs.specs.RealFs.{runtime_of};
     ghost use Rattle.jwalk.specs.WalkDir.{file_system_of, root_of, options_of};
 
-    /// Returns a walk of the file system that a runtime reaches, from a root: `WalkDir::at(&rt, "/usr")?`.
+    /// Returns a walk of the file system that a runtime reaches, from a root: `WalkDir::at(&rt, "/usr")?`. It holds
+    /// clones of the runtime, so it can cross threads where the runtime can.
     ///
     /// # Errors
     ///
     /// If memory runs out.
-    pub fn at(rt: &'a R, root: &str) -> Result<Self, AllocError>
-        ensures file_system { IfOk result (λ walk. (runtime_of (file_system_of walk)).now ≡ rt.now) }
+    pub fn at(rt: &R, root: &str) -> Result<Self, AllocError>
+        ensures file_system { IfOk result (λ walk. R.is_clone rt.now (runtime_of (file_system_of walk))) }
         ensures root { IfOk result (λ walk. root_of walk ≡ root.now) }
         ensures options { IfOk result (λ walk. options_of walk ≡ defaults) }
     {
         let root = String::from_str(rt.alloc(), root)?;
-        Ok(WalkDirGeneric::new(RealFs::new(rt), root).threads(rt))
+        Ok(WalkDirGeneric::new(RealFs::new(rt.clone()?), root).threads(rt.clone()?))
     }
 }
 
@@ -267,6 +271,36 @@ impl<
             process,
             options: self.options,
             root_read_dir_state: self.root_read_dir_state,
+            threads: self.threads,
+            crew: self.crew,
+        }
+    }
+}
+
+impl<C: ClientState, S: FileSystem, A: Allocator + Copy, T: Drop, W: Drop> WalkDirGeneric<
+    C,
+    S,
+    NoProcess,
+    A,
+    T,
+    W,
+> {
+    ghost use Rattle.jwalk.specs.WalkDir.{SetsStates};
+
+    /// Returns the same walk with states of these types beside directories and entries: `walk.states::<usize, u64>()`. The
+    /// root's list begins with the default of `B`; a state that was set before is dropped. A callback is set
+    /// afterwards, since it is one for its states.
+    pub fn states<B: Clone + Default + Debug + Drop, E: Default + Debug + Drop>(
+        self,
+    ) -> WalkDirGeneric<(B, E), S, NoProcess, A, T, W>
+        ensures { SetsStates B.is_default self result }
+    {
+        WalkDirGeneric {
+            fs: self.fs,
+            root: self.root,
+            process: NoProcess,
+            options: self.options,
+            root_read_dir_state: B::default(),
             threads: self.threads,
             crew: self.crew,
         }

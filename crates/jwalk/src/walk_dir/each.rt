@@ -1,0 +1,95 @@
+//! Walks whose answers are handed to a closure.
+ghost use Rattle.jwalk_entries.specs.DirEntryIter.{Answers};
+ghost use Rattle.jwalk.specs.Each.{BeginsAlone, BeginsOver, CallsWithEach, CallsUntilError};
+ghost use Rattle.jwalk.specs.WalkDir.{callback_of};
+
+use crate::walk_dir::WalkDirGeneric;
+use jwalk_crew::crew::Crew;
+use jwalk_crew::pool::{NoPool, Pool};
+use jwalk_crew::session::Session;
+use read_parts::client_state::ClientState;
+use read_parts::dir_entry::DirEntry;
+use read_parts::error::Error;
+use read_parts::process_read_dir::ProcessReadDir;
+use std::alloc::Global;
+use std::sync::Wait;
+use std::thread::Threads;
+use std::time::Clock;
+use walk_fs::file_system::FileSystem;
+
+impl<C: ClientState, S: FileSystem, P: ProcessReadDir<C, Global>, T: Drop> WalkDirGeneric<
+    C,
+    S,
+    P,
+    Global,
+    T,
+    NoPool,
+> {
+    /// Begins the walk as `into_iter` does, and calls a closure with each of its answers, in order.
+    pub fn for_each<F: FnMut(Result<DirEntry<C, Global>, Error<Global>>)>(self, f: F)
+        requires lawful { P.IsLawful (callback_of self) }
+        requires callable { F.IsAlwaysCallable f }
+        ensures { CallsWithEach (BeginsAlone S.FileSystem P.ProcessReadDir C.ReadDirState.Clone C.DirEntryState.Default self) (Answers S.FileSystem P.ProcessReadDir C.ReadDirState.Clone C.DirEntryState.Default ⟦<NoPool as Pool<C, S, P, Global>>⟧) F.FnMut f }
+    {
+        self.into_iter().for_each(f)
+    }
+
+    /// Begins the walk as `into_iter` does, and calls a closure with its answers, in order, until it returns an error
+    /// or the walk ends.
+    ///
+    /// # Errors
+    ///
+    /// The first error that the closure returns. The walk ends there, and no further answer is taken.
+    pub fn try_for_each<
+        E: Drop,
+        F: FnMut(Result<DirEntry<C, Global>, Error<Global>>) -> Result<(), E>,
+    >(self, f: F) -> Result<(), E>
+        requires lawful { P.IsLawful (callback_of self) }
+        requires callable { F.IsAlwaysCallable f }
+        ensures { CallsUntilError (BeginsAlone S.FileSystem P.ProcessReadDir C.ReadDirState.Clone C.DirEntryState.Default self) (Answers S.FileSystem P.ProcessReadDir C.ReadDirState.Clone C.DirEntryState.Default ⟦<NoPool as Pool<C, S, P, Global>>⟧) F.FnMut f result }
+    {
+        self.into_iter().try_for_each(f)
+    }
+}
+
+impl<
+    R: Wait + Threads + Clock + Drop + Send + Sync + 'static,
+    C: ClientState + Send + 'static,
+    S: FileSystem + Send + Sync + 'static,
+    P: ProcessReadDir<C, Global> + Send + Sync + 'static,
+    T: Drop,
+> WalkDirGeneric<C, S, P, Global, T, Crew<R>>
+where
+    C::ReadDirState: Send + 'static,
+    C::DirEntryState: Send + 'static,
+{
+    /// Begins the walk as `into_iter` does, and calls a closure with each of its answers, in order.
+    ///
+    /// The call may block: for a place of the crew, for a reading, or for a lock.
+    pub fn for_each<F: FnMut(Result<DirEntry<C, Global>, Error<Global>>)>(self, f: F)
+        requires lawful { P.IsLawful (callback_of self) }
+        requires callable { F.IsAlwaysCallable f }
+        ensures { CallsWithEach (BeginsOver S.FileSystem P.ProcessReadDir C.ReadDirState.Clone C.DirEntryState.Default ⟦<Session<R, C, S, P, Global> as Pool<C, S, P, Global>>⟧ self) (Answers S.FileSystem P.ProcessReadDir C.ReadDirState.Clone C.DirEntryState.Default ⟦<Session<R, C, S, P, Global> as Pool<C, S, P, Global>>⟧) F.FnMut f }
+    {
+        self.into_iter().for_each(f)
+    }
+
+    /// Begins the walk as `into_iter` does, and calls a closure with its answers, in order, until it returns an error
+    /// or the walk ends.
+    ///
+    /// The call may block: for a place of the crew, for a reading, or for a lock.
+    ///
+    /// # Errors
+    ///
+    /// The first error that the closure returns. The walk ends there, and no further answer is taken.
+    pub fn try_for_each<
+        E: Drop,
+        F: FnMut(Result<DirEntry<C, Global>, Error<Global>>) -> Result<(), E>,
+    >(self, f: F) -> Result<(), E>
+        requires lawful { P.IsLawful (callback_of self) }
+        requires callable { F.IsAlwaysCallable f }
+        ensures { CallsUntilError (BeginsOver S.FileSystem P.ProcessReadDir C.ReadDirState.Clone C.DirEntryState.Default ⟦<Session<R, C, S, P, Global> as Pool<C, S, P, Global>>⟧ self) (Answers S.FileSystem P.ProcessReadDir C.ReadDirState.Clone C.DirEntryState.Default ⟦<Session<R, C, S, P, Global> as Pool<C, S, P, Global>>⟧) F.FnMut f result }
+    {
+        self.into_iter().try_for_each(f)
+    }
+}

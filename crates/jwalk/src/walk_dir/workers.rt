@@ -1,0 +1,83 @@
+//! Walks that threads of their own read ahead.
+ghost use Rattle.std.specs.Prelude.{◌≡◌, ◌<◌, IfOk};
+
+use crate::host::Host;
+use crate::walk_dir::WalkDirGeneric;
+use jwalk_crew::crew::Crew;
+use jwalk_crew::pool::NoPool;
+use jwalk_readings::parallelism::Parallelism;
+use read_parts::client_state::ClientState;
+use read_parts::process_read_dir::ProcessReadDir;
+use std::alloc::{AllocError, Allocator};
+use std::sync::Arc;
+use std::thread::{Threads, available_parallelism};
+use walk_fs::file_system::FileSystem;
+
+/// Returns how many threads a count means: 0 means as many as can run side by side, or one where that isn't known.
+fn threads_for<R: Threads>(rt: &R, count: usize) -> usize
+    ensures { 0 < count → result ≡ count }
+{
+    if count > 0 {
+        return count;
+    }
+    match available_parallelism(rt) {
+        Ok(cores) => cores.get(),
+        Err(_) => 1,
+    }
+}
+
+impl<
+    C: ClientState,
+    S: FileSystem,
+    P: ProcessReadDir<C, A>,
+    A: Allocator + Copy,
+    T: Drop,
+> WalkDirGeneric<C, S, P, A, T, NoPool> {
+    ghost use Rattle.jwalk.specs.WalkDir.{SetsCrew, SetsWorkers};
+
+    /// Returns the same walk, which a crew of `count` threads of its own reads ahead. The threads are started when the walk
+    /// begins, read directories while the answers are taken, also in a `for` over `walk.into_iter()`, and end with the
+    /// walk. Its answers and their order are those of a serial walk.
+    ///
+    /// A count of 0 stands for the number of threads that can run side by side ([`available_parallelism`]), 1 where
+    /// that isn't known. More than 256 count as 256. (In [`Crew::new`], 0 counts as 1.)
+    ///
+    /// The walk is busy only if no thread can be started: then `into_iter` yields an error whose `is_busy` is true.
+    /// Walks that are to share one crew are made by `with_crew`.
+    ///
+    /// # Errors
+    ///
+    /// If memory runs out.
+    pub fn workers<R: Host>(
+        self,
+        rt: &R,
+        count: usize,
+    ) -> Result<WalkDirGeneric<C, S, P, A, T, Crew<R>>, AllocError>
+        ensures { IfOk result (SetsWorkers count self) }
+    {
+        let alloc = *self.root.allocator();
+        let crew = Crew::new(rt.clone()?, 1, threads_for(rt, count));
+        let pool = Arc::new(alloc, crew)?;
+        Ok(
+            self.for_crew().parallelism(Parallelism::RayonExistingPool {
+                pool,
+                busy_timeout: None,
+            }),
+        )
+    }
+
+    /// Returns the same walk, with room for a crew.
+    fn for_crew<W: Drop>(self) -> WalkDirGeneric<C, S, P, A, T, W>
+        ensures { SetsCrew self result }
+    {
+        WalkDirGeneric {
+            fs: self.fs,
+            root: self.root,
+            process: self.process,
+            options: self.options,
+            root_read_dir_state: self.root_read_dir_state,
+            threads: self.threads,
+            crew: None,
+        }
+    }
+}
