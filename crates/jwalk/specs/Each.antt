@@ -1,8 +1,8 @@
 -- Walks whose answers are handed on by the builder's own calls.
-use Rattle.std.specs.Prelude.{◌≡◌, ◌⊎◌, false, List, Option, Some, Result, Ok, Err, MatchResult}
+use Rattle.std.specs.Prelude.{◌≡◌, ◌⊎◌, ◌++◌, false, List, Option, Some, Result, Ok, Err, MatchResult}
 use Rattle.std.specs.declared.clone.Clone as Clone
 use Rattle.std.specs.declared.default.Default as Default
-use Rattle.std.specs.Iterator.{CallsOnEach, Drains, YieldsThen}
+use Rattle.std.specs.Iterator.{CallsOnEach, Drains, Yields, YieldsThen}
 use Rattle.std.specs.List.{FoldsTo}
 use denote.Param.Members.{Mut, Called}
 use Rattle.walk_fs.specs.declared.file_system.FileSystem as FileSystem
@@ -43,3 +43,11 @@ module _ {I X : Type 0} (begins : I → Type 0) (next : I → Option X → I →
     pub ends : MatchResult result
         (λ _. Drains next walk answered)
         (λ error. (x : X) × (end : I) × (after : F) × YieldsThen next walk answered (Some x) end × Called call last (x, tt) (Err error) after)
+
+  -- A walk that began so yields answers until it ends, and they are appended, in order. Or memory for one more runs out after these.
+  pub record Appends {W : Type 0} (before : List X) (result : Result (Unit {0}) W) (after : List X) : Type 0 where
+    pub walk : I
+    pub begun : begins walk
+    pub answered : List X
+    pub appended : after ≡ before ++ answered
+    pub calls : MatchResult result (λ _. Drains next walk answered) (λ _. (end : I) × Yields next walk answered end)

@@ -32,7 +32,8 @@ impl<R: Drop> Drop for Crew<R> {
 
 impl<R: Wait + Clock> Crew<R> {
     /// Returns a crew that serves `places` walks at once, each with up to `workers` threads of its own. 0 counts as 1,
-    /// and more than 256 workers count as 256.
+    /// and more than 256 workers count as 256. (Where a walk has a crew of its own, by the builder's `workers`, 0 is the
+    /// number of threads that can run side by side.)
     pub fn new(rt: R, places: usize, workers: usize) -> Self
         ensures { workers_of result ≡ max 1 (min workers 256) }
     {

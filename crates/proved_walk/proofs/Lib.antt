@@ -5,3 +5,4 @@ pub mod TurnedFacts
 pub mod BothFacts
 pub mod OwnPoolFacts
 pub mod AheadFacts
+pub mod EachFacts

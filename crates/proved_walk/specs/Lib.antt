@@ -8,3 +8,4 @@ pub mod Filtering
 pub mod Texts
 pub mod Numbers
 pub mod OwnPool
+pub mod Each

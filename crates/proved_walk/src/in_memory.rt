@@ -16,7 +16,7 @@ use jwalk::error::Result as Answer;
 use jwalk::file_system::MemoryFs;
 use jwalk::read_dir::NoProcess;
 use jwalk::threads::InTurn;
-use jwalk::{Crew, DirEntry, Parallelism, WalkDirGeneric};
+use jwalk::{Crew, DirEntry, Host, Parallelism, WalkDirGeneric};
 use std::alloc::{AllocError, Global};
 use std::sync::{Arc, Wait};
 use std::thread::Threads;
@@ -113,5 +113,29 @@ pub fn walk_tree_unless_busy<R: Wait + Threads + Clock + Drop + Send + Sync + 's
     by_crew(pool, busy_timeout, fs, root)
         .into_iter()
         .fill(usize::MAX, &mut found)?;
+    Ok(found)
+}
+
+/// The same, where threads of the walk's own read, as many as the count says. What it yields is the whole walk of the
+/// tree, unless one of the items reports that memory ran out, or that no thread could be started.
+///
+/// # Errors
+///
+/// If memory runs out for the threads' crew or for the list.
+pub fn walk_tree_by_workers<R: Host>(
+    alloc: Global,
+    rt: &R,
+    count: usize,
+    fs: MemoryFs,
+    root: String,
+) -> Result<Vec<Found>, AllocError>
+    ensures { IfOk result (λ found. NoneRefused found.items → NoneBusy found.items
+        → counted_list stateless found.items
+        ≡ stateless_walk (functions_of (tree_of fs)) defaults (string_bytes root)) }
+{
+    let mut found = Vec::new(alloc);
+    WalkDirGeneric::<((), ()), _, _, _>::new(fs, root)
+        .workers(rt, count)?
+        .collect_into(&mut found)?;
     Ok(found)
 }

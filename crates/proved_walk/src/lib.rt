@@ -7,6 +7,7 @@ pub mod anywhere;
 pub mod batches;
 pub mod by_crew;
 pub mod counted;
+pub mod each;
 pub mod filtering;
 pub mod hands_on_names;
 pub mod in_memory;

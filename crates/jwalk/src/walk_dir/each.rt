@@ -1,6 +1,6 @@
-//! Walks whose answers are handed to a closure.
+//! Walks whose answers are handed to a closure, or appended to a list.
 ghost use Rattle.jwalk_entries.specs.DirEntryIter.{Answers};
-ghost use Rattle.jwalk.specs.Each.{BeginsAlone, BeginsOver, CallsWithEach, CallsUntilError};
+ghost use Rattle.jwalk.specs.Each.{BeginsAlone, BeginsOver, CallsWithEach, CallsUntilError, Appends};
 ghost use Rattle.jwalk.specs.WalkDir.{callback_of};
 
 use crate::walk_dir::WalkDirGeneric;
@@ -11,7 +11,7 @@ use read_parts::client_state::ClientState;
 use read_parts::dir_entry::DirEntry;
 use read_parts::error::Error;
 use read_parts::process_read_dir::ProcessReadDir;
-use std::alloc::Global;
+use std::alloc::{AllocError, Global};
 use std::sync::Wait;
 use std::thread::Threads;
 use std::time::Clock;
@@ -29,7 +29,10 @@ impl<C: ClientState, S: FileSystem, P: ProcessReadDir<C, Global>, T: Drop> WalkD
     pub fn for_each<F: FnMut(Result<DirEntry<C, Global>, Error<Global>>)>(self, f: F)
         requires lawful { P.IsLawful (callback_of self) }
         requires callable { F.IsAlwaysCallable f }
-        ensures { CallsWithEach (BeginsAlone S.FileSystem P.ProcessReadDir C.ReadDirState.Clone C.DirEntryState.Default self) (Answers S.FileSystem P.ProcessReadDir C.ReadDirState.Clone C.DirEntryState.Default ⟦<NoPool as Pool<C, S, P, Global>>⟧) F.FnMut f }
+        ensures { CallsWithEach
+            (BeginsAlone S.FileSystem P.ProcessReadDir C.ReadDirState.Clone C.DirEntryState.Default self)
+            (Answers S.FileSystem P.ProcessReadDir C.ReadDirState.Clone C.DirEntryState.Default
+            ⟦<NoPool as Pool<C, S, P, Global>>⟧) F.FnMut f }
     {
         self.into_iter().for_each(f)
     }
@@ -46,9 +49,31 @@ impl<C: ClientState, S: FileSystem, P: ProcessReadDir<C, Global>, T: Drop> WalkD
     >(self, f: F) -> Result<(), E>
         requires lawful { P.IsLawful (callback_of self) }
         requires callable { F.IsAlwaysCallable f }
-        ensures { CallsUntilError (BeginsAlone S.FileSystem P.ProcessReadDir C.ReadDirState.Clone C.DirEntryState.Default self) (Answers S.FileSystem P.ProcessReadDir C.ReadDirState.Clone C.DirEntryState.Default ⟦<NoPool as Pool<C, S, P, Global>>⟧) F.FnMut f result }
+        ensures { CallsUntilError
+            (BeginsAlone S.FileSystem P.ProcessReadDir C.ReadDirState.Clone C.DirEntryState.Default self)
+            (Answers S.FileSystem P.ProcessReadDir C.ReadDirState.Clone C.DirEntryState.Default
+            ⟦<NoPool as Pool<C, S, P, Global>>⟧) F.FnMut f result }
     {
         self.into_iter().try_for_each(f)
+    }
+
+    /// Begins the walk as `into_iter` does, and appends all its answers to `out`, in order.
+    ///
+    /// # Errors
+    ///
+    /// If memory runs out for `out`. It keeps the answers that were appended before, and the walk ends there. If the
+    /// walk itself runs out of memory, the error is one of the answers.
+    pub fn collect_into(
+        self,
+        out: &mut Vec<Result<DirEntry<C, Global>, Error<Global>>, Global>,
+    ) -> Result<(), AllocError>
+        requires { P.IsLawful (callback_of self) }
+        ensures { Appends
+            (BeginsAlone S.FileSystem P.ProcessReadDir C.ReadDirState.Clone C.DirEntryState.Default self)
+            (Answers S.FileSystem P.ProcessReadDir C.ReadDirState.Clone C.DirEntryState.Default
+            ⟦<NoPool as Pool<C, S, P, Global>>⟧) out.old.items result out.new.items }
+    {
+        out.extend(self.into_iter())
     }
 }
 
@@ -69,7 +94,11 @@ where
     pub fn for_each<F: FnMut(Result<DirEntry<C, Global>, Error<Global>>)>(self, f: F)
         requires lawful { P.IsLawful (callback_of self) }
         requires callable { F.IsAlwaysCallable f }
-        ensures { CallsWithEach (BeginsOver S.FileSystem P.ProcessReadDir C.ReadDirState.Clone C.DirEntryState.Default ⟦<Session<R, C, S, P, Global> as Pool<C, S, P, Global>>⟧ self) (Answers S.FileSystem P.ProcessReadDir C.ReadDirState.Clone C.DirEntryState.Default ⟦<Session<R, C, S, P, Global> as Pool<C, S, P, Global>>⟧) F.FnMut f }
+        ensures { CallsWithEach
+            (BeginsOver S.FileSystem P.ProcessReadDir C.ReadDirState.Clone C.DirEntryState.Default
+            ⟦<Session<R, C, S, P, Global> as Pool<C, S, P, Global>>⟧ self)
+            (Answers S.FileSystem P.ProcessReadDir C.ReadDirState.Clone C.DirEntryState.Default
+            ⟦<Session<R, C, S, P, Global> as Pool<C, S, P, Global>>⟧) F.FnMut f }
     {
         self.into_iter().for_each(f)
     }
@@ -88,8 +117,34 @@ where
     >(self, f: F) -> Result<(), E>
         requires lawful { P.IsLawful (callback_of self) }
         requires callable { F.IsAlwaysCallable f }
-        ensures { CallsUntilError (BeginsOver S.FileSystem P.ProcessReadDir C.ReadDirState.Clone C.DirEntryState.Default ⟦<Session<R, C, S, P, Global> as Pool<C, S, P, Global>>⟧ self) (Answers S.FileSystem P.ProcessReadDir C.ReadDirState.Clone C.DirEntryState.Default ⟦<Session<R, C, S, P, Global> as Pool<C, S, P, Global>>⟧) F.FnMut f result }
+        ensures { CallsUntilError
+            (BeginsOver S.FileSystem P.ProcessReadDir C.ReadDirState.Clone C.DirEntryState.Default
+            ⟦<Session<R, C, S, P, Global> as Pool<C, S, P, Global>>⟧ self)
+            (Answers S.FileSystem P.ProcessReadDir C.ReadDirState.Clone C.DirEntryState.Default
+            ⟦<Session<R, C, S, P, Global> as Pool<C, S, P, Global>>⟧) F.FnMut f result }
     {
         self.into_iter().try_for_each(f)
+    }
+
+    /// Begins the walk as `into_iter` does, and appends all its answers to `out`, in order.
+    ///
+    /// The call may block: for a place of the crew, for a reading, or for a lock.
+    ///
+    /// # Errors
+    ///
+    /// If memory runs out for `out`. It keeps the answers that were appended before, and the walk ends there. If the
+    /// walk itself runs out of memory, the error is one of the answers.
+    pub fn collect_into(
+        self,
+        out: &mut Vec<Result<DirEntry<C, Global>, Error<Global>>, Global>,
+    ) -> Result<(), AllocError>
+        requires { P.IsLawful (callback_of self) }
+        ensures { Appends
+            (BeginsOver S.FileSystem P.ProcessReadDir C.ReadDirState.Clone C.DirEntryState.Default
+            ⟦<Session<R, C, S, P, Global> as Pool<C, S, P, Global>>⟧ self)
+            (Answers S.FileSystem P.ProcessReadDir C.ReadDirState.Clone C.DirEntryState.Default
+            ⟦<Session<R, C, S, P, Global> as Pool<C, S, P, Global>>⟧) out.old.items result out.new.items }
+    {
+        out.extend(self.into_iter())
     }
 }

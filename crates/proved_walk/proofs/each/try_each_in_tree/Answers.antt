@@ -1,0 +1,23 @@
+use Rattle.std.proofs.Common.{◌∙◌, refl}
+use Rattle.jwalk.specs.WalkDir.{stateless}
+use Rattle.jwalk.specs.walk_model.Tree.{functions_of}
+use Rattle.jwalk.specs.memory_fs.MemoryFs.{tree_of}
+use Rattle.jwalk.proofs.WholeFacts.{stateless_of, steady_start, whole}
+use Rattle.proved_walk.proofs.EachFacts.{if_ends}
+use Rattle.proved_walk.proofs.each.try_each_in_tree.Goals as goal
+
+pub returns : goal.returns
+returns g c =
+    let walk = c.new.result in
+    let made = c.new.ensures in
+    let ran = c.try_for_each.ensures in
+    let begun = ran.begun in
+    let steady = record { file_system = tt; callback = λ depth path state list. refl; clones = λ x y is. refl; default = λ x is. refl } in
+    if_ends c.try_for_each.result ran.ends (λ drains. record {
+  found = ran.answered;
+  last = ran.last;
+  calls = ran.passes;
+  whole = λ none.
+      whole _ _ _ _ _ stateless walk ran.walk ran.answered (steady_start _ _ _ _ _ stateless walk ran.walk begun.own begun.starts steady) begun.starts begun.holds steady drains none
+      ∙ stateless_of (λ fs. functions_of (tree_of fs)) walk c.args.fs _ _ made.file_system made.options made.root;
+})
