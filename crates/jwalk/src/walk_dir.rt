@@ -185,9 +185,13 @@ impl<
     /// Sets whether links are followed: the entry then has the link's own path, and the type of what the link leads to.
     /// Off by default: links are yielded as links, and a root that is a link to a directory is still read.
     ///
-    /// A link to a directory is a loop if its text has the components of the path of a directory above it. A loop is
-    /// yielded as an error that names the nearest such directory. A loop that the text doesn't show, such as that of a
-    /// relative target, is followed until the greatest depth or the file system ends it.
+    /// A link to a directory is a loop if its text, joined to the path of the link's parent, is the same place as a
+    /// directory above it (`path_text::same_place`). A loop is yielded as an error that names the nearest such directory.
+    ///
+    /// Text alone decides: what the links on the way lead to isn't looked up. So a link may be called a loop that isn't
+    /// one. If `/r/k` is a link to `/s/t`, and `/s/t/l` one to `..`, then `/r/k/l` is a loop on `/r`, though it leads to
+    /// `/s`. And a loop that the texts don't show is followed until the greatest depth or the file system ends it, as
+    /// that of a link in each of two directories to the other: `/r/a/l` to `../b`, and `/r/b/m` to `../a`.
     pub fn follow_links(mut self, follow_links: bool) -> Self
         ensures { Sets (with_follow_links follow_links (options_of self)) self result }
     {

@@ -6,7 +6,7 @@ ghost use Rattle.read_parts.specs.Ancestors.{texts};
 
 use std::alloc::{AllocError, Allocator, Global};
 use std::sync::Arc;
-use walk_paths::path_text;
+use walk_paths::place::Place;
 
 /// The paths of the directories above an entry, that of the root first: a shared list of shared paths. There is no list
 /// if links aren't followed.
@@ -78,17 +78,18 @@ impl<A: Allocator + Copy> Ancestors<A> {
         })
     }
 
-    /// Returns a handle of the nearest of these paths that a target is the same path as.
+    /// Returns a handle of the nearest of these paths that is the same place as a path.
     ///
     /// # Errors
     ///
     /// If memory runs out.
-    pub fn nearest(&self, target: &str) -> Result<Option<Arc<String<A>, A>>, AllocError>
-        ensures { IfOk result (λ o. option_map text o ≡ looped_to target.now (texts self.now)) }
+    pub fn nearest(&self, alloc: A, path: &str) -> Result<Option<Arc<String<A>, A>>, AllocError>
+        ensures { IfOk result (λ o. option_map text o ≡ looped_to path.now (texts self.now)) }
     {
+        let place = Place::new(alloc, path)?;
         let mut left = self.paths();
         while let Some((last, above)) = left.split_last() {
-            if path_text::same_path(target, last.as_str()) {
+            if place.is_at(last.as_str()) {
                 return Ok(Some(last.clone()?));
             }
             left = above;

@@ -128,8 +128,9 @@ impl<A: Allocator + Copy> Error<A> {
         }
     }
 
-    /// Returns the directory that a link leads back to, for a loop alone: the nearest one above the link whose path has
-    /// the same components as the link's text.
+    /// Returns the directory that a link leads back to, for a loop alone: the nearest one above the link that is the same
+    /// place as the link's text below the link's parent (`path_text::same_place`). Text alone decides, so the file system
+    /// may find another directory by the link.
     pub fn loop_ancestor(&self) -> Option<&str>
         ensures { option_copied result ≡ ancestor_of (failure self.now) }
     {

@@ -97,7 +97,7 @@ module _ {R E : Type 0} (job : Job R E) where
   and_few x (Err error) h = tt
 
   reached_few : (e x : Entry R E) → Few (Ok x) → Few (value.reached job e x)
-  reached_few e x = and_few x (value.leads_on job.fs e.depth e.ancestors (path_of e) x.file_type)
+  reached_few e x = and_few x (value.leads_on job.fs e.depth e.ancestors e.parent_path (path_of e) x.file_type)
 
   then_few : (f : Entry R E → Item R E) (x : Item R E) → ((e : Entry R E) → Few (Ok e) → Few (f e)) → Few x → Few (either f Err x)
   then_few f (Ok e) next h = next e h

@@ -29,7 +29,7 @@ module _ {R E : Type 0} (job : Job R E) where
   and_at x (Err error) = tt
 
   reached_at : (e x : Entry R E) → At x.depth (value.reached job e x)
-  reached_at e x = and_at x (value.leads_on job.fs e.depth e.ancestors (path_of e) x.file_type)
+  reached_at e x = and_at x (value.leads_on job.fs e.depth e.ancestors e.parent_path (path_of e) x.file_type)
 
   -- an entry after the link rule is where it was
   followed_at : (e : Entry R E) → At e.depth (value.followed job e)

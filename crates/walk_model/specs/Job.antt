@@ -6,7 +6,7 @@ use Rattle.walk_model.specs.declared.metadata.Metadata.{Metadata}
 use Rattle.walk_model.specs.FileType.{is_dir, is_symlink}
 use Rattle.walk_model.specs.Metadata.{type_of}
 use Rattle.walk_model.specs.FileSystem.{Named, Listed, Functions, metadata_at}
-use Rattle.walk_model.specs.Paths.{join, parent, file_name, same_path}
+use Rattle.walk_model.specs.Paths.{join, parent, file_name, same_place}
 use Rattle.walk_model.specs.Error.{Failure, io, looped}
 use Rattle.walk_model.specs.Entry.{Entry, Item, children_at, is_hidden, path_of}
 use Rattle.walk_model.specs.ReadDir.{Spec, Reading, Outcome, KeepsDepths, IsLawfulReading}
@@ -33,9 +33,9 @@ abbrev pub either : {X F Y : Type 0} → (X → Y) → (F → Y) → Result X F 
 either f g (Ok x) = f x
 either f g (Err e) = g e
 
--- the nearest ancestor, which is the last of the list, that is the same path as a target
+-- the nearest ancestor, which is the last of the list, that is the same place as a path
 abbrev pub looped_to : List ℕ → List (List ℕ) → Option (List ℕ)
-looped_to target ancestors = find (same_path target) (reverse ancestors)
+looped_to path ancestors = find (same_place path) (reverse ancestors)
 
 -- the name of an entry made from a path, and its parent: the whole path and nothing if the path has no file name
 abbrev pub own_name : List ℕ → List ℕ
@@ -49,12 +49,12 @@ abbrev pub unless_above : ℕ → List ℕ → Option (List ℕ) → Result (Uni
 unless_above depth path None = Ok tt
 unless_above depth path (Some ancestor) = Err (looped depth ancestor path)
 
--- whether a link at a depth and a path, below these ancestors, leads on to a target of this type. A directory is looked for among the ancestors, by the link's text.
-abbrev pub leads_on : Functions → ℕ → List (List ℕ) → List ℕ → FileType → Result (Unit {0}) Failure
-leads_on fs depth ancestors path type =
+-- whether a link at a depth, with a parent and a path of its own and these ancestors, leads on to a target of this type. A directory is looked for among the ancestors, by the link's text below the parent.
+abbrev pub leads_on : Functions → ℕ → List (List ℕ) → List ℕ → List ℕ → FileType → Result (Unit {0}) Failure
+leads_on fs depth ancestors above path type =
     if is_dir type
     then either
-    (λ target. unless_above depth path (looped_to target ancestors))
+    (λ target. unless_above depth path (looped_to (join above target) ancestors))
     (λ kind. Err (io depth None kind))
     (fs.target_of path)
     else Ok tt
@@ -81,7 +81,7 @@ module _ {R E : Type 0} (job : Job R E) where
 
   -- the entry x that is reached through the link e, where that leads on
   abbrev pub reached : Entry R E → Entry R E → Item R E
-  reached e x = result_and (leads_on job.fs e.depth e.ancestors (path_of e) x.file_type) (Ok x)
+  reached e x = result_and (leads_on job.fs e.depth e.ancestors e.parent_path (path_of e) x.file_type) (Ok x)
 
   -- an entry after the link rule: where links are followed, a link is replaced by what it leads to
   abbrev pub followed : Entry R E → Item R E

@@ -1,6 +1,6 @@
 -- Path texts, row by row.
 use Rattle.std.specs.Prelude.{◌≡◌, ℕ, true, false, List, [], ◌∷◌, Option, Some, None, codes, refl}
-use Rattle.walk_model.specs.Paths.{Component, root, here, up, plain, components, file_name, parent, join, same_path}
+use Rattle.walk_model.specs.Paths.{Component, root, here, up, plain, components, file_name, parent, join, same_path, normalised, same_place}
 
 -- the three results for a text
 pub record Row (text : List ℕ) (cs : List Component) (name above : Option (List ℕ)) : Type 0 where
@@ -88,3 +88,27 @@ dots_are_kept = refl
 
 empty_is_not_dot : same_path [] (codes ".") ≡ false
 empty_is_not_dot = refl
+
+up_two : same_place (codes "/r/a/b/c/../..") (codes "/r/a") ≡ true
+up_two = refl
+
+above_the_root : same_place (codes "/..") (codes "/") ≡ true
+above_the_root = refl
+
+first_dot_dropped : same_place (codes "./a") (codes "a") ≡ true
+first_dot_dropped = refl
+
+nothing_left : same_place (codes "a/..") [] ≡ true
+nothing_left = refl
+
+dots_left : same_place (codes "a/../../../a") (codes "../../a") ≡ true
+dots_left = refl
+
+dots_in_front_count : same_place (codes "../a") (codes "a") ≡ false
+dots_in_front_count = refl
+
+normalised_names : normalised (codes "/r//a/./b/../c/") ≡ plain (codes "c") ∷ plain (codes "a") ∷ plain (codes "r") ∷ root ∷ []
+normalised_names = refl
+
+normalised_dots : normalised (codes "./../a/../..") ≡ up ∷ up ∷ []
+normalised_dots = refl

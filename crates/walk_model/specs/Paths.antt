@@ -1,5 +1,5 @@
 -- Path texts by their components, as in `std::path` on Unix. A text is the list of its bytes.
-use Rattle.std.specs.Prelude.{ℕ, Bool, true, false, ◌||◌, ◌&&◌, List, [], ◌∷◌, ◌++◌, map, find, Option, Some, None, if◌then◌else◌, ◌==◌, bytes_eq, flat_map}
+use Rattle.std.specs.Prelude.{ℕ, Bool, true, false, ◌||◌, ◌&&◌, List, [], ◌∷◌, ◌++◌, map, find, Option, Some, None, if◌then◌else◌, ◌==◌, bytes_eq, flat_map, fold}
 use Rattle.std.specs.List.{slice_split}
 
 -- one component of a path
@@ -60,6 +60,27 @@ components_eq _ _ = false
 -- whether two paths have the same components (`Path`'s own `==`)
 abbrev pub same_path : List ℕ → List ℕ → Bool
 same_path a b = components_eq (components a) (components b)
+
+-- a normalised path after `..`, its last component first: a name is taken away, the root stays, and else `..` is added
+abbrev pub after_up : List Component → List Component
+after_up (plain name ∷ before) = before
+after_up (root ∷ before) = root ∷ before
+after_up before = up ∷ before
+
+-- the same after any component: `.` is dropped
+abbrev pub after_one : List Component → Component → List Component
+after_one before root = root ∷ before
+after_one before here = before
+after_one before up = after_up before
+after_one before (plain name) = plain name ∷ before
+
+-- the components of a path, normalised from the front, the last first
+abbrev pub normalised : List ℕ → List Component
+normalised text = fold after_one [] (components text)
+
+-- whether two paths are the same place by their texts: equal components once they are normalised
+abbrev pub same_place : List ℕ → List ℕ → Bool
+same_place a b = components_eq (normalised a) (normalised b)
 
 -- the last component, if there is one
 abbrev pub last_of : List Component → Option Component

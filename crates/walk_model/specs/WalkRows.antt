@@ -143,11 +143,10 @@ loop_found : over (deep (codes "/r/a")) following (codes "/r")
 unfolding whole_walk below digits
 loop_found = refl
 
-relative_target_missed : over (deep (codes "../..")) (with_max_depth 6 following) (codes "/r")
-    ≡ codes "0 d /r\n" ∷ codes "1 d /r/a\n" ∷ codes "2 d /r/a/b\n" ∷ codes "3 d /r/a/b/c\n" ∷ codes "4 D /r/a/b/c/a-link\n"
-    ∷ codes "5 d /r/a/b/c/a-link/b\n" ∷ codes "6 d /r/a/b/c/a-link/b/c\n" ∷ []
+loop_by_a_relative_target : over (deep (codes "../..")) following (codes "/r")
+    ≡ codes "0 d /r\n" ∷ codes "1 d /r/a\n" ∷ codes "2 d /r/a/b\n" ∷ codes "3 d /r/a/b/c\n" ∷ codes "! 4 /r/a/b/c/a-link loop /r/a\n" ∷ []
 unfolding whole_walk below digits
-relative_target_missed = refl
+loop_by_a_relative_target = refl
 
 abbrev circle : List Step
 circle = d (codes "/r") ∷ l (codes "a") (codes "/r/a") ∷ []
@@ -239,9 +238,19 @@ root_slash_has_no_parent = refl
 abbrev itself : List Step
 itself = d (codes "/r") ∷ l (codes ".") (codes "/r/l") ∷ []
 
-link_to_itself : over itself (with_max_depth 3 following) (codes "/r") ≡ codes "0 d /r\n" ∷ codes "1 D /r/l\n" ∷ codes "2 D /r/l/l\n" ∷ codes "3 D /r/l/l/l\n" ∷ []
+link_to_its_directory : over itself (with_max_depth 3 following) (codes "/r") ≡ codes "0 d /r\n" ∷ codes "! 1 /r/l loop /r\n" ∷ []
 unfolding whole_walk below digits
-link_to_itself = refl
+link_to_its_directory = refl
+
+link_to_its_directory_unbounded : over itself following (codes "/r") ≡ codes "0 d /r\n" ∷ codes "! 1 /r/l loop /r\n" ∷ []
+unfolding whole_walk below digits
+link_to_its_directory_unbounded = refl
+
+-- text alone decides: the file system finds `/s` by the link `/r/k/l`, whose text leads to `/r`
+no_loop_but_by_its_text : over (d (codes "/r") ∷ l (codes "/s/t") (codes "/r/k") ∷ d (codes "/s") ∷ d (codes "/s/t") ∷ l (codes "..") (codes "/s/t/l") ∷ []) following (codes "/r")
+    ≡ codes "0 d /r\n" ∷ codes "1 D /r/k\n" ∷ codes "! 2 /r/k/l loop /r\n" ∷ []
+unfolding whole_walk below digits
+no_loop_but_by_its_text = refl
 
 -- of two ancestors that a link leads to, the nearest is named: the root's text `/l/`, and the directory read, `/l`
 nearest_ancestor_named : over (d (codes "/s") ∷ l (codes "/s") (codes "/l") ∷ l (codes "/l") (codes "/s/k") ∷ []) following (codes "/l/")
@@ -295,20 +304,30 @@ errors_at_any_depth : walked faulty (with_max_depth 5 (with_min_depth 5 sorted))
 unfolding whole_walk below digits
 errors_at_any_depth = refl
 
+-- two directories with a link from each to the other
+abbrev to_each_other : List Step
+to_each_other = d (codes "/r") ∷ d (codes "/r/a") ∷ l (codes "../b") (codes "/r/a/l") ∷ d (codes "/r/b") ∷ l (codes "../a") (codes "/r/b/m") ∷ []
+
+mutual_links_not_told : over to_each_other (with_max_depth 4 following) (codes "/r")
+    ≡ codes "0 d /r\n" ∷ codes "1 d /r/a\n" ∷ codes "2 D /r/a/l\n" ∷ codes "3 D /r/a/l/m\n" ∷ codes "4 D /r/a/l/m/l\n"
+    ∷ codes "1 d /r/b\n" ∷ codes "2 D /r/b/m\n" ∷ codes "3 D /r/b/m/l\n" ∷ codes "4 D /r/b/m/l/m\n" ∷ []
+unfolding whole_walk below digits
+mutual_links_not_told = refl
+
 abbrev repeated : ℕ → List ℕ
-repeated zero = codes "/r"
-repeated (suc n) = repeated n ++ codes "/l"
+repeated zero = codes "/r/b"
+repeated (suc n) = repeated n ++ codes "/m/l"
 
 abbrev last_line : List (List ℕ) → List ℕ
 last_line [] = []
 last_line (line ∷ []) = line
 last_line (line ∷ next ∷ lines) = last_line (next ∷ lines)
 
--- one look-up follows 40 links: 41 entries, and one error whose path has 41 of them
-link_to_itself_unbounded : length (over itself following (codes "/r")) ≡ 42
+-- one look-up follows 40 links: below each of the two directories 40 entries, and one error whose path has 41 links
+mutual_links_unbounded : length (over to_each_other following (codes "/r")) ≡ 85
 unfolding whole_walk below digits
-link_to_itself_unbounded = refl
+mutual_links_unbounded = refl
 
-link_past_the_limit : last_line (over itself following (codes "/r")) ≡ codes "! 41 " ++ repeated 41 ++ codes " Other\n"
+links_past_the_limit : last_line (over to_each_other following (codes "/r")) ≡ codes "! 42 " ++ repeated 20 ++ codes "/m Other\n"
 unfolding whole_walk below digits
-link_past_the_limit = refl
+links_past_the_limit = refl

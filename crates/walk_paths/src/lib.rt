@@ -2,3 +2,4 @@
 #![tactic(auto)]
 
 pub mod path_text;
+pub mod place;

@@ -1,7 +1,8 @@
 //! Paths as texts, whose components are between their slashes.
 ghost use Rattle.std.specs.Prelude.{◌≡◌, ◌++◌, ◌≤◌, IfOk, length, option_copied, string_bytes};
-ghost use Rattle.walk_model.specs.Paths.{starts_with_slash, with_slash, join, parent, file_name, same_path};
+ghost use Rattle.walk_model.specs.Paths.{starts_with_slash, with_slash, join, parent, file_name, same_path, same_place};
 
+use crate::place::Place;
 use std::alloc::{AllocError, Allocator};
 use std::path::Path;
 
@@ -87,9 +88,27 @@ pub fn file_name(path: &str) -> Option<&str>
 /// Returns whether two paths have the same components, in the same order.
 ///
 /// `a//b/` and `a/b` are the same path, and so are `/a/./b` and `/a/b`; `./a` and `a` aren't, nor `a/../b` and `b`, nor
-/// the empty path and `.`. The rule is that of `==` on `std::path::Path` on Unix.
+/// the empty path and `.`. The rule is that of `==` on `std::path::Path` on Unix. `same_place` compares paths without
+/// their `.` and `..`.
 pub fn same_path(a: &str, b: &str) -> bool
     ensures { result ≡ same_path a.now b.now }
 {
     Path::new(a).starts_with(b) && Path::new(b).starts_with(a)
+}
+
+/// Returns whether two paths name the same place by their texts: whether they have the same components once `.` and
+/// `..` are gone. A `..` takes away the name before it, is dropped after the root, and stays where there is no name
+/// before it.
+///
+/// `/r/a/b/c/../..` and `/r/a` are the same place, and so are `/..` and `/`, `./a` and `a`, `a/..` and the empty path;
+/// `../a` and `a` aren't. Text alone decides: if `/r/k` is a link to `/s/t`, then `/r/k/..` is `/s` for a file system,
+/// and `/r` here.
+///
+/// # Errors
+///
+/// If memory runs out. It is needed for the components of `a`.
+pub fn same_place<A: Allocator + Copy>(alloc: A, a: &str, b: &str) -> Result<bool, AllocError>
+    ensures { IfOk result (λ same. same ≡ same_place a.now b.now) }
+{
+    Ok(Place::new(alloc, a)?.is_at(b))
 }

@@ -101,29 +101,35 @@ fn parent_of<A: Allocator + Copy>(
     shared(alloc, parent)
 }
 
-/// Returns whether a link at a path leads on to its target, which is of this type. It doesn't if that is a directory
-/// above the link, as the link's text shows, nor if the text of the link to a directory can't be read.
+/// Returns whether a link leads on to its target, which is of this type. The link has a path and the path of its parent.
+/// It doesn't lead on if its text below the parent is the same place as a directory above it, nor if the text of the
+/// link to a directory can't be read.
 fn leads_on<S: FileSystem, A: Allocator + Copy>(
     alloc: A,
     fs: &S,
     depth: usize,
     ancestors: &Ancestors<A>,
+    parent: &str,
     path: &Arc<String<A>, A>,
     file_type: FileType,
 ) -> Result<Result<(), Error<A>>, AllocError>
     ensures { S.IsFixed fs.now → IfOk result (λ r. MatchResult r
-        (λ _. value.leads_on (S.functions fs.now) depth (texts ancestors.now) (text path.now) file_type ≡ Ok tt)
-        (λ e. value.leads_on (S.functions fs.now) depth (texts ancestors.now) (text path.now) file_type
+        (λ _. value.leads_on (S.functions fs.now) depth (texts ancestors.now) parent.now (text path.now) file_type
+        ≡ Ok tt)
+        (λ e. value.leads_on (S.functions fs.now) depth (texts ancestors.now) parent.now (text path.now) file_type
         ≡ Err (failure e))) }
 {
     if !file_type.is_dir() {
         return Ok(Ok(()));
     }
     match fs.read_link(alloc, path.as_str()) {
-        Ok(target) => match ancestors.nearest(target.as_str())? {
-            Some(ancestor) => Ok(Err(Error::from_loop(depth, ancestor, path.clone()?))),
-            None => Ok(Ok(())),
-        },
+        Ok(target) => {
+            let place = path_text::join(alloc, parent, target.as_str())?;
+            match ancestors.nearest(alloc, place.as_str())? {
+                Some(ancestor) => Ok(Err(Error::from_loop(depth, ancestor, path.clone()?))),
+                None => Ok(Ok(())),
+            }
+        }
         Err(Fault::Io(err)) => Ok(Err(Error::from_io(depth, err))),
         Err(Fault::Memory) => Err(AllocError),
     }
@@ -167,8 +173,7 @@ impl<C: ClientState, S: FileSystem, P: ProcessReadDir<C, A>, A: Allocator + Copy
         }
     }
 
-    /// Returns the entry that a link at a path led to, unless it is a directory above the link, as the link's text
-    /// shows.
+    /// Returns the entry that a link at a path led to, unless it is a directory above the link by the link's text.
     fn reached(
         &self,
         link: &DirEntry<C, A>,
@@ -189,6 +194,7 @@ impl<C: ClientState, S: FileSystem, P: ProcessReadDir<C, A>, A: Allocator + Copy
             &self.fs,
             link.depth,
             above,
+            link.parent_path(),
             path,
             found.file_type,
         )?;

@@ -18,6 +18,6 @@ pub returns-clause-value : goal.returns-clause-value
 returns-clause-value g c = λ given fixed.
     let job = job_by g.S.FileSystem given c.args.self.now in
     let link = counted_entry given (entry c.args.link.now) in
-    let met = rw (c.requires, c.ancestors-above.ensures) at (c.in_ok-leads_on.ensures fixed) in
+    let met = rw (c.requires, c.ancestors-above.ensures, c.parent_path.ensures) at (c.in_ok-leads_on.ensures fixed) in
     ap (λ r. counted_item given (item r)) c.and.ensures
     ∙ handed_on (λ r. counted_item given (item r)) failure c.args.found c.in_ok-leads_on.leads_on _ _ (λ e. refl) met refl

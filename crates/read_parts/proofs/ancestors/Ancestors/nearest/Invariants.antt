@@ -6,7 +6,7 @@ use Rattle.read_parts.proofs.ancestors.Ancestors.nearest.Given as goal
 
 -- the nearest of those that are left is the nearest of all
 abbrev pub invariant-loop-last : goal.invariant-loop-last
-invariant-loop-last g l = looped_to l.target (map text l.left) ≡ looped_to l.target (texts l.self)
+invariant-loop-last g l = looped_to l.path (map text l.left) ≡ looped_to l.path (texts l.self)
 
 abbrev pub decreases-loop-last : goal.decreases-loop-last
 decreases-loop-last g l = length l.left
