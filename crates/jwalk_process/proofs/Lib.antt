@@ -1,3 +1,4 @@
 pub mod DepthFilters
 pub mod FilterFacts
+pub mod SizeFacts
 pub mod SkipFacts
