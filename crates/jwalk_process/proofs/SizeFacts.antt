@@ -1,5 +1,5 @@
 -- Files that are asked, one after another, and how they count.
-use Rattle.std.proofs.Common.{◌≡◌, ◌∙◌, ◌<◌, ℕ, Bool, true, false, cond, List, [], ◌∷◌, map, length, get_or, set, Option, Result, Ok, Err, refl, ap, sym, subst, arith}
+use Rattle.std.proofs.Common.{◌≡◌, ◌∙◌, ◌<◌, ℕ, true, false, cond, List, [], ◌∷◌, map, length, get_or, set, Option, Result, Ok, Err, refl, ap, sym, subst}
 use Rattle.std.specs.Prelude.{OnOk}
 use Rattle.std.specs.declared.io.ErrorKind.{ErrorKind}
 use Rattle.std.proofs.lemmas.List.{map-set, get_or-map}
@@ -7,7 +7,7 @@ use Rattle.std.proofs.Math.Seq.{map-set_same}
 use Rattle.walk_model.specs.declared.metadata.Metadata.{Metadata}
 use Rattle.walk_model.specs.FileType.{is_file}
 use Rattle.walk_model.specs.FileSystem.{Functions}
-use Rattle.walk_model.specs.Entry.{Entry, Item, metadata_of, AtDepth}
+use Rattle.walk_model.specs.Entry.{Item, metadata_of, AtDepth}
 use Rattle.walk_model.specs.Counted.{entry_by, item_by}
 use Rattle.read_parts.specs.Given.{Given, IsProcessed}
 use Rattle.jwalk_process.specs.WithSizes.{with_asked, size_of, sized_item, unasked_item, counted_size, PutsSizes}

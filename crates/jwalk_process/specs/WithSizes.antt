@@ -1,5 +1,5 @@
 -- Files with their lengths in the states of their entries.
-use Rattle.std.specs.Prelude.{◌≡◌, ℕ, Bool, true, false, cond, List, [], ◌∷◌, map, Option, Result, Ok, Err, if◌then◌else◌, refl}
+use Rattle.std.specs.Prelude.{◌≡◌, ℕ, Bool, true, false, cond, List, [], ◌∷◌, map, Option, Result, Ok, Err, if◌then◌else◌, IsTrue, refl}
 use Rattle.std.specs.declared.io.ErrorKind.{ErrorKind}
 use Rattle.walk_model.specs.declared.metadata.Metadata.{Metadata}
 use Rattle.walk_model.specs.Metadata.{len_of}
@@ -9,7 +9,9 @@ use Rattle.walk_model.specs.Entry.{Entry, Item, metadata_of, AtDepth}
 use Rattle.walk_model.specs.ReadDir.{list_depth}
 use Rattle.walk_model.specs.Counted.{Worth, blank, number, bytes}
 use Rattle.walk_model.specs.Lines.{kind_name}
-use Rattle.walk_model.specs.Job.{Processing, KeepsDepthsOf}
+use Rattle.walk_model.specs.Options.{Options}
+use Rattle.walk_model.specs.Job.{Job, Processing, KeepsDepthsOf}
+use Rattle.walk_model.specs.Walk.{whole_walk, stateless_walk}
 use Rattle.read_parts.specs.Given.{Given}
 use Rattle.jwalk_process.specs.declared.size.Size.{Size}
 use Rattle.jwalk_process.specs.declared.size.Size.TheVariants.{Unasked, Len, Failed}
@@ -88,3 +90,26 @@ sizing fs = record {
 abbrev pub PutsSizes : {R : Type 0} → Type 0 → Functions → Given R Size → Type 0
 PutsSizes fixed fs given = fixed × ((size : Size) → given.dir_entry_state size ≡ size_worth size)
     × ((depth : Option ℕ) (path : List ℕ) (state : Worth) (list : List (Item Worth Worth)) → given.processed depth path state list ≡ sizes fs depth path state list)
+
+-- readings of a file system by a callback that asks the same one for sizes
+abbrev pub job_sizing : Functions → Options → Job Worth Worth
+job_sizing fs options = record { fs = fs; options = options; processed = sizes fs; default = blank }
+
+-- A file has the size that the file system gives it.
+abbrev pub HasSize : Functions → Item Worth Worth → Type 0
+HasSize fs (Ok e) = IsTrue (is_file e.file_type) → e.client_state ≡ counted_size (metadata_of fs e)
+HasSize fs (Err f) = Unit {0}
+
+-- Each file of a list does.
+abbrev pub HaveSizes : Functions → List (Item Worth Worth) → Type 0
+HaveSizes fs [] = Unit {0}
+HaveSizes fs (x ∷ items) = HasSize fs x × HaveSizes fs items
+
+-- A walk that asks for sizes is the walk without a callback, with sizes in its files.
+pub record IsSizedWalk (fs : Functions) (options : Options) (root : List ℕ) (state : Worth) : Type 0 where
+  pub items : whole_walk (job_sizing fs options) root state ≡ map (with_asked counted_size fs) (stateless_walk fs options root)
+  pub files : HaveSizes fs (whole_walk (job_sizing fs options) root state)
+
+-- All walks that ask their own file system for sizes are so.
+abbrev pub WalksAreSized : Type 0
+WalksAreSized = (fs : Functions) (options : Options) (root : List ℕ) (state : Worth) → IsSizedWalk fs options root state

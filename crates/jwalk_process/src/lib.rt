@@ -4,6 +4,7 @@
 pub mod by_fn;
 pub mod calls;
 pub mod filter_entry;
+pub mod laws;
 pub mod size;
 pub mod skip_names;
 pub mod with_sizes;

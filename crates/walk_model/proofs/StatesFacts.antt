@@ -50,7 +50,7 @@ module _ {R E : Type 0} where
   bare-in_order true l = bare-arranged l
   bare-in_order false l = refl
 
-  bare-after_reading : (outcome : Outcome R E) (x : Item R E) → bare_item (after_reading outcome x) ≡ after_reading (bare_outcome outcome) (bare_item x)
+  pub bare-after_reading : (outcome : Outcome R E) (x : Item R E) → bare_item (after_reading outcome x) ≡ after_reading (bare_outcome outcome) (bare_item x)
   bare-after_reading (Ok r) x = refl
   bare-after_reading (Err f) (Err g) = refl
   bare-after_reading (Err f) (Ok e) =
@@ -199,7 +199,7 @@ module _ {R E : Type 0} (job : Job R E) where
       ∙ rw (bare-item_of spec l) (ap (λ m. value.item_of plain (bare_spec spec) l ++ m) (bare-raw spec items))
 
   -- a list in the order that is asked for
-  bare-ordered : (spec : Spec R) (items : List Listed) → map bare_item (value.ordered job spec items) ≡ value.ordered plain (bare_spec spec) items
+  pub bare-ordered : (spec : Spec R) (items : List Listed) → map bare_item (value.ordered job spec items) ≡ value.ordered plain (bare_spec spec) items
   bare-ordered spec items =
       bare-in_order job.options.sort (value.raw job spec items)
       ∙ ap (λ l. cond job.options.sort (arranged l) l) (bare-raw spec items)
@@ -231,7 +231,7 @@ module _ {R E : Type 0} (job : Job R E) where
   root_of (Ok e) = entered (value.followed job e) ∙ ap (either (value.with_target plain) Err) (bare-followed e)
   root_of (Err f) = refl
 
-  bare-root_item : (path : List ℕ) → bare_item (value.root_item job path) ≡ value.root_item plain path
+  pub bare-root_item : (path : List ℕ) → bare_item (value.root_item job path) ≡ value.root_item plain path
   bare-root_item path =
       let ancestors : List (List ℕ) = cond job.options.follow_links (path ∷ []) [] in
       root_of (value.made job 0 path false ancestors)

@@ -1,4 +1,4 @@
-use Rattle.std.proofs.Common.{map, ◌∙◌}
+use Rattle.std.proofs.Common.{map}
 use Rattle.read_parts.specs.Entry.{item}
 use Rattle.jwalk_process.specs.WithSizes.{asks}
 use Rattle.jwalk_process.proofs.SizeFacts.{depth-unasked, made_sized, on_ok_with}
