@@ -1,4 +1,6 @@
 pub mod ByFn
 pub mod FilterEntry
 pub mod Rows
+pub mod SizeRows
 pub mod SkipNames
+pub mod WithSizes

@@ -1,7 +1,10 @@
-//! Callbacks that are ready to use: a closure, a filter of entries, and directories that aren't entered.
+//! Callbacks that are ready to use: a closure, a filter of entries, directories that aren't entered, and sizes of files.
 #![tactic(auto)]
 
 pub mod by_fn;
 pub mod calls;
 pub mod filter_entry;
+pub mod laws;
+pub mod size;
 pub mod skip_names;
+pub mod with_sizes;

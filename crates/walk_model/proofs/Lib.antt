@@ -12,4 +12,5 @@ pub mod PathSame
 pub mod PreorderFacts
 pub mod ReadingFacts
 pub mod SortingFacts
+pub mod StatesFacts
 pub mod WithinFacts

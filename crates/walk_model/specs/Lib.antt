@@ -17,6 +17,7 @@ pub mod Listing
 pub mod Held
 pub mod Preorder
 pub mod Walk
+pub mod States
 pub mod Lines
 pub mod WalkRows
 pub mod CallbackRows

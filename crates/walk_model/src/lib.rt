@@ -4,3 +4,4 @@
 pub mod file_type;
 pub mod laws;
 pub mod metadata;
+pub mod states;
