@@ -46,12 +46,16 @@ fn the_place_is_given_back_after_any_number_of_answers(rt: HostRuntime) {
 // Where readers outlive the walk (the wrong body `readers_outlive_the_walk`), directories are listed on and on.
 #[test]
 fn workers_list_nothing_more_once_a_long_walk_is_dropped(rt: HostRuntime) {
-    // Each link leads back to both, more than 2^39 times in all.
+    // Each link leads to two that lead back, more than 2^39 times in all.
     const SCENE: Scene = Scene {
         steps: &[
             Step::Dir("/r"),
-            Step::Link(".", "/r/a"),
-            Step::Link(".", "/r/b"),
+            Step::Dir("/r/a"),
+            Step::Link("../b", "/r/a/l"),
+            Step::Link("../b", "/r/a/m"),
+            Step::Dir("/r/b"),
+            Step::Link("../a", "/r/b/l"),
+            Step::Link("../a", "/r/b/m"),
         ],
         failing: Failing::Never,
         places: 1,

@@ -18,6 +18,8 @@ mod lost;
 #[cfg(test)]
 mod options;
 #[cfg(test)]
+mod random_links;
+#[cfg(test)]
 mod random_trees;
 #[cfg(test)]
 mod random_walks;
@@ -29,3 +31,5 @@ mod rows;
 mod serial;
 #[cfg(test)]
 mod together;
+#[cfg(test)]
+mod told_loops;

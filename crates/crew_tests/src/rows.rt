@@ -7,7 +7,9 @@ use jwalk::read_dir::ByFn;
 use std::alloc::{AllocError, Global};
 use walk_fixtures::answers::Answer;
 use walk_fixtures::moving::move_directory;
-use walk_fixtures::trees::{DENIED, FORKED, GROUPED, LOOPED, Step, tree};
+use walk_fixtures::trees::{
+    DENIED, ELSEWHERE, FORKED, GROUPED, LOOPED, LOOPED_BACK, Step, TO_EACH_OTHER, WITHIN, tree,
+};
 use walk_fixtures::watched::Failing;
 use walk_ways::ways::Setting;
 
@@ -50,7 +52,7 @@ fn names_in_order_with_three_workers(rt: HostRuntime) {
     assert!(rt; holds(&rt, &ROW, 3));
 }
 
-/// Directories beside one another and in one another, one that can't be read, and a loop.
+/// Directories beside one another and in one another, one that can't be read, loops, and links to each other.
 const ROWS: &[Row] = &[
     (
         FORKED,
@@ -88,6 +90,26 @@ const ROWS: &[Row] = &[
         "/r",
         &[Setting::Follow],
         "0 d /r; 1 d /r/a; 2 d /r/a/b; 3 d /r/a/b/c; ! 4 /r/a/b/c/a-link loop /r/a",
+    ),
+    (
+        LOOPED_BACK,
+        "/r",
+        &[Setting::Follow],
+        "0 d /r; 1 d /r/a; 2 d /r/a/b; 3 d /r/a/b/c; ! 4 /r/a/b/c/a-link loop /r/a",
+    ),
+    (WITHIN, "/r", &[Setting::Follow], "0 d /r; ! 1 /r/l loop /r"),
+    (
+        ELSEWHERE,
+        "/r",
+        &[Setting::Follow],
+        "0 d /r; 1 D /r/k; ! 2 /r/k/l loop /r",
+    ),
+    (
+        TO_EACH_OTHER,
+        "/r",
+        &[Setting::Follow, Setting::Max(4)],
+        "0 d /r; 1 d /r/a; 2 D /r/a/l; 3 D /r/a/l/m; 4 D /r/a/l/m/l; \
+         1 d /r/b; 2 D /r/b/m; 3 D /r/b/m/l; 4 D /r/b/m/l/m",
     ),
 ];
 

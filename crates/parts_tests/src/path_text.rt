@@ -1,6 +1,6 @@
-//! Path texts: their names and parents, which of them are the same path, and their joins.
+//! Path texts: their names and parents, which of them are the same path or place, and their joins.
 use std::alloc::Global;
-use walk_paths::path_text::{file_name, join, join_parts, parent, same_path};
+use walk_paths::path_text::{file_name, join, join_parts, parent, same_path, same_place};
 
 // A path, its name and its parent.
 const NAMES: &[(&str, Option<&str>, Option<&str>)] = &[
@@ -50,6 +50,36 @@ fn texts_of_the_same_path(rt: HostRuntime) {
             a,
             b
         );
+    }
+}
+
+const PLACES: &[(&str, &str, bool)] = &[
+    ("/r/a/b/c/../..", "/r/a", true),
+    ("/..", "/", true),
+    ("./a", "a", true),
+    ("a/..", "", true),
+    ("a/../../../a", "../../a", true),
+    ("../a", "a", false),
+    ("/a/../../b//./c/", "/b/c", true),
+    ("/", "", false),
+    ("a", "/a", false),
+    ("..", "", false),
+    ("a/b", "a", false),
+    ("a/b", "b", false),
+];
+
+/// Whether this says if two paths are the same place, whichever comes first.
+fn are_told(alloc: Global, a: &str, b: &str, same: bool) -> bool {
+    match (same_place(alloc, a, b), same_place(alloc, b, a)) {
+        (Ok(there), Ok(back)) => there == same && back == same,
+        _ => false,
+    }
+}
+
+#[test]
+fn texts_of_the_same_place(rt: HostRuntime) {
+    for (a, b, same) in PLACES {
+        assert!(rt; are_told(rt.alloc(), a, b, *same), "{:?}, {:?}", a, b);
     }
 }
 

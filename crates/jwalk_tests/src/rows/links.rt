@@ -3,7 +3,7 @@ use crate::rows::row::{Over, Row, all_hold};
 use jwalk::read_dir::NoProcess;
 use std::thread::Threads;
 use walk_fixtures::answers::Answer;
-use walk_fixtures::trees::{LOOPED, Step, tree};
+use walk_fixtures::trees::{ELSEWHERE, LOOPED, LOOPED_BACK, Step, TO_EACH_OTHER, WITHIN, tree};
 use walk_ways::ways::{Asked, Setting, WAYS, Way};
 
 #[test]
@@ -25,33 +25,52 @@ fn a_link_to_an_ancestor_is_a_loop(rt: HostRuntime) {
     all_hold(&rt, ROWS);
 }
 
-/// Directories in one another, the innermost with a link to the second by a relative text.
-const BACK: &[Step] = &[
-    Step::Dir("/r"),
-    Step::Dir("/r/a"),
-    Step::Dir("/r/a/b"),
-    Step::Dir("/r/a/b/c"),
-    Step::Link("../..", "/r/a/b/c/a-link"),
-];
-
-/// A directory of a link to itself.
-const WITHIN: &[Step] = &[Step::Dir("/r"), Step::Link(".", "/r/l")];
-
 #[test]
-fn a_link_back_by_a_relative_text_is_followed(rt: HostRuntime) {
+fn a_link_back_by_a_relative_text_is_a_loop(rt: HostRuntime) {
     const ROWS: &[Row] = &[
         Row {
-            over: Over::Tree(BACK),
+            over: Over::Tree(LOOPED_BACK),
             root: "/r",
-            settings: &[Setting::Follow, Setting::Max(6)],
-            answers: "0 d /r; 1 d /r/a; 2 d /r/a/b; 3 d /r/a/b/c; 4 D /r/a/b/c/a-link; \
-                      5 d /r/a/b/c/a-link/b; 6 d /r/a/b/c/a-link/b/c",
+            settings: &[Setting::Follow],
+            answers: "0 d /r; 1 d /r/a; 2 d /r/a/b; 3 d /r/a/b/c; ! 4 /r/a/b/c/a-link loop /r/a",
+        },
+        Row {
+            over: Over::Tree(LOOPED_BACK),
+            root: "/r/./a/",
+            settings: &[Setting::Follow],
+            answers: "0 d /r/a; 1 d /r/./a/b; 2 d /r/./a/b/c; ! 3 /r/./a/b/c/a-link loop /r/./a/",
         },
         Row {
             over: Over::Tree(WITHIN),
             root: "/r",
             settings: &[Setting::Follow, Setting::Max(3)],
-            answers: "0 d /r; 1 D /r/l; 2 D /r/l/l; 3 D /r/l/l/l",
+            answers: "0 d /r; ! 1 /r/l loop /r",
+        },
+        Row {
+            over: Over::Tree(WITHIN),
+            root: "/r",
+            settings: &[Setting::Follow],
+            answers: "0 d /r; ! 1 /r/l loop /r",
+        },
+    ];
+    all_hold(&rt, ROWS);
+}
+
+#[test]
+fn text_alone_tells_a_loop(rt: HostRuntime) {
+    const ROWS: &[Row] = &[
+        Row {
+            over: Over::Tree(ELSEWHERE),
+            root: "/r",
+            settings: &[Setting::Follow],
+            answers: "0 d /r; 1 D /r/k; ! 2 /r/k/l loop /r",
+        },
+        Row {
+            over: Over::Tree(TO_EACH_OTHER),
+            root: "/r",
+            settings: &[Setting::Follow, Setting::Max(4)],
+            answers: "0 d /r; 1 d /r/a; 2 D /r/a/l; 3 D /r/a/l/m; 4 D /r/a/l/m/l; \
+                      1 d /r/b; 2 D /r/b/m; 3 D /r/b/m/l; 4 D /r/b/m/l/m",
         },
     ];
     all_hold(&rt, ROWS);
@@ -150,9 +169,9 @@ fn ends(found: &[Answer], count: usize, depth: usize, length: usize) -> bool {
     is_last && found.len() == count
 }
 
-/// Whether the walk that follows a link to its own directory ends so, read in this way.
+/// Whether the walk that follows links in two directories to each other ends so, read in this way.
 fn is_ended<R: Threads + AllocGlobal + Sync>(rt: &R, way: Way) -> bool {
-    let Ok(fs) = tree(rt.alloc(), WITHIN) else {
+    let Ok(fs) = tree(rt.alloc(), TO_EACH_OTHER) else {
         return false;
     };
     let asked = Asked {
@@ -161,13 +180,13 @@ fn is_ended<R: Threads + AllocGlobal + Sync>(rt: &R, way: Way) -> bool {
         settings: &[Setting::Follow],
     };
     match asked.found::<_, ((), ()), _>(rt, NoProcess, way) {
-        Ok(found) => ends(found.as_slice(), 42, 41, 84),
+        Ok(found) => ends(found.as_slice(), 85, 42, 86),
         Err(_) => false,
     }
 }
 
 #[test]
-fn a_link_to_its_own_directory_ends_at_the_41st(rt: HostRuntime) {
+fn links_to_each_other_end_at_the_41st(rt: HostRuntime) {
     for way in WAYS {
         assert!(rt; is_ended(&rt, *way));
     }

@@ -36,13 +36,23 @@ fn a_link_to_a_directory_above_is_a_loop(rt: HostRuntime) {
             ),
         ),
         (
-            &["--follow", "--max", "6", "/r"],
+            &["--follow", "/r"],
             RELATIVE,
             (
-                "0 d /r\n1 d /r/a\n2 d /r/a/b\n3 d /r/a/b/c\n4 D /r/a/b/c/a-link\n5 d /r/a/b/c/a-link/b\n6 d /r/a/b/c/a-link/b/c\n",
+                "0 d /r\n1 d /r/a\n2 d /r/a/b\n3 d /r/a/b/c\n! 4 /r/a/b/c/a-link loop /r/a\n",
                 "",
-                0,
+                1,
             ),
+        ),
+        (
+            &["--follow", "/r"],
+            "d /r\nl .\t/r/l\n",
+            ("0 d /r\n! 1 /r/l loop /r\n", "", 1),
+        ),
+        (
+            &["--follow", "/r"],
+            "d /r\nl /s/t\t/r/k\nd /s\nd /s/t\nl ..\t/s/t/l\n",
+            ("0 d /r\n1 D /r/k\n! 2 /r/k/l loop /r\n", "", 1),
         ),
         (
             &["--follow", "/l/"],
@@ -108,26 +118,42 @@ fn links_to_files_and_to_nothing(rt: HostRuntime) {
     all_come_over_tree(&rt, ROWS);
 }
 
-/// The lines of the paths that go once through a link, twice and so on, up to the one that fails.
-fn lines_of_links(alloc: Global) -> Result<String, AllocError> {
-    let mut path = String::from_str(alloc, "/r/l")?;
-    let mut out = String::from_str(alloc, "0 d /r\n")?;
-    for depth in 1..41 {
+/// Adds the lines of the paths below a directory that go once through a link, twice and so on, up to the one that fails.
+fn push_lines(
+    alloc: Global,
+    out: &mut String,
+    dir: &str,
+    names: (&str, &str),
+) -> Result<(), AllocError> {
+    let mut path = String::from_str(alloc, dir)?;
+    out.push_str(format!(in alloc; "1 d {path}\n")?.as_str())?;
+    let (mut name, mut other) = names;
+    for depth in 2..42 {
+        path.push_str(name)?;
         out.push_str(format!(in alloc; "{depth} D {path}\n")?.as_str())?;
-        path.push_str("/l")?;
+        (name, other) = (other, name);
     }
-    out.push_str(format!(in alloc; "! 41 {path} Other\n")?.as_str())?;
+    out.push_str(format!(in alloc; "! 42 {path}{name} Other\n")?.as_str())
+}
+
+/// The lines of a walk round two directories with links to each other.
+fn lines_of_links(alloc: Global) -> Result<String, AllocError> {
+    let mut out = String::from_str(alloc, "0 d /r\n")?;
+    push_lines(alloc, &mut out, "/r/a", ("/l", "/m"))?;
+    push_lines(alloc, &mut out, "/r/b", ("/m", "/l"))?;
     Ok(out)
 }
 
 #[test]
-fn links_are_gone_round_until_a_look_up_refuses(rt: HostRuntime) -> Result<(), AllocError> {
+fn links_to_each_other_are_gone_round_until_a_look_up_refuses(
+    rt: HostRuntime,
+) -> Result<(), AllocError> {
     let out = lines_of_links(rt.alloc())?;
     all_come_over_tree(
         &rt,
         &[(
             &["--follow", "/r"],
-            "d /r\nl .\t/r/l\n",
+            "d /r\nd /r/a\nl ../b\t/r/a/l\nd /r/b\nl ../a\t/r/b/m\n",
             (out.as_str(), "", 1),
         )],
     );
