@@ -9,6 +9,8 @@ mod error_texts;
 #[cfg(test)]
 mod errors;
 #[cfg(test)]
+mod file_sizes;
+#[cfg(test)]
 mod getters;
 #[cfg(test)]
 mod in_memory;

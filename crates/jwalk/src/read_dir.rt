@@ -2,7 +2,9 @@
 pub use jwalk_process::by_fn::ByFn;
 pub use jwalk_process::calls::{Calls, Closure};
 pub use jwalk_process::filter_entry::FilterEntry;
+pub use jwalk_process::size::Size;
 pub use jwalk_process::skip_names::SkipNames;
+pub use jwalk_process::with_sizes::WithSizes;
 pub use jwalk_read::job::Job;
 pub use jwalk_read::read_dir::ReadDir;
 pub use read_parts::ancestors::Ancestors;
