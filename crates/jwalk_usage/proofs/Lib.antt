@@ -1,0 +1,2 @@
+pub mod TotalFacts
+pub mod CountFacts
