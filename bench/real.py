@@ -11,6 +11,11 @@ median of the turns' ratios. A peak of memory is that of the last turn, and no l
 of /usr takes turns with the walk in the disk's order. In brackets is what the walk is to take at most. Walks in batches of
 each width, and over crews of 1, 2 and 4 workers, take turns with the serial one and with the other programs. The tree in
 memory is read from the program's input: 10,101 directories, and the time to read it and to build it is in each of its times.
+Of /usr with links followed it prints the lines of each program, and how many loops each tells. `walk` tells a link by its
+text, and prints a line for it, as for a broken link. `find -L` asks the system which directory each one is, and prints a
+loop with its errors, and a broken link with the rest. `fd -L` leaves loops out. So `walk` has a line more for each loop that
+`find` tells too. It has more where a link leads back through another link, whose text doesn't show it, and fewer where a
+text seems to lead back and doesn't.
 FILE gets the times of the trees on disk, a row for each tree, from which bench/figures.py draws its picture.
 """
 import argparse
@@ -147,6 +152,33 @@ def by_name(walk, output):
     )
 
 
+def lines_of(path):
+    """The lines of an output, split at line feeds alone."""
+    with open(path, "rb") as file:
+        return file.read().split(b"\n")[:-1]
+
+
+def followed(walk, output):
+    """The lines and the loops of /usr with links followed, by each program; they end with 1 where there are loops."""
+    commands = [("walk", [walk, "--follow", "--hidden", "/usr"]), ("find", ["find", "-L", "/usr"])]
+    fd = next((name for name in ("fd", "fdfind") if shutil.which(name)), None)
+    if fd:
+        commands.append(("fd", [fd, "-uuL", "-j4", ".", "/usr"]))
+    for name, words in commands:
+        errors = output + ".err"
+        with open(output, "wb") as out, open(errors, "wb") as err:
+            start = time.perf_counter()
+            subprocess.run(words, stdout=out, stderr=err, check=False)
+            seconds = time.perf_counter() - start
+        lines = lines_of(output)
+        loops = {
+            "walk": lambda: sum(1 for line in lines if line.startswith(b"! ") and b" loop " in line),
+            "find": lambda: sum(1 for line in lines_of(errors) if b"loop detected" in line),
+            "fd": lambda: 0,
+        }[name]()
+        print(f"/usr, links followed: {name:<6}{len(lines):>9} lines, {loops:>4} loops told, {seconds * 1e3:>9.1f} ms")
+
+
 def ways():
     """The words for each way to read: a directory at a time, batches of each width, crews of each number of workers."""
     yield []
@@ -199,6 +231,7 @@ def main():
     for tree, root, bound in trees(folder):
         compare(tree, root, bound, walk, output)
     by_name(walk, output)
+    followed(walk, output)
     print(f"{'tree':<8}{'way':<12}{'ms':>10}{'x serial':>9}{'x batch':>8}{'x find':>8}{'cpu x':>8}{'MiB':>8}")
     rows = []
     for tree, root, _ in trees(folder):
