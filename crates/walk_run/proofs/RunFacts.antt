@@ -1,7 +1,7 @@
 -- How a call ends.
 use Rattle.std.proofs.Common.{◌≡◌, Result, Ok, Err, IfOk}
 use Rattle.walk_text.specs.declared.failure.Failure.{Failure}
-use Rattle.walk_text.specs.declared.failure.Failure.TheVariants.{BadWords, BadTree, Memory, Output}
+use Rattle.walk_text.specs.declared.failure.Failure.TheVariants.{BadWords, BadTree, TooMany, Memory, Output}
 use Rattle.walk_text.specs.Failure.{status_of}
 
 -- no failure ends with 0
@@ -9,6 +9,7 @@ pub never_zero : (failure : Failure) → status_of failure ≡ 0 → ⊥
 never_zero BadWords is = absurd cc
 never_zero (BadTree number) is = absurd cc
 never_zero Memory is = absurd cc
+never_zero TooMany is = absurd cc
 never_zero Output is = absurd cc
 
 -- two facts about a result make a third

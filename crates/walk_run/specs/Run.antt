@@ -11,7 +11,7 @@ use Rattle.read_parts.specs.declared.process_read_dir.ProcessReadDir as ProcessR
 use Rattle.jwalk.specs.declared.crew.Pool as Pool
 use Rattle.walk_text.specs.declared.asked.Asked.{Asked}
 use Rattle.walk_text.specs.declared.failure.Failure.{Failure}
-use Rattle.walk_text.specs.declared.failure.Failure.TheVariants.{BadWords, BadTree, Memory, Output}
+use Rattle.walk_text.specs.declared.failure.Failure.TheVariants.{BadWords, BadTree, TooMany, Memory, Output}
 use Rattle.walk_text.specs.Failure.{status_of}
 use Rattle.walk_text.specs.Words.{Ask, AreGood, AskForTree}
 use Rattle.walk_text.specs.TextLines.{text_lines}
@@ -48,6 +48,7 @@ abbrev pub TellsOfCall : List (List ℕ) → Option (List ℕ) → Failure → T
 TellsOfCall words to_come BadWords = ¬ (AreGood words)
 TellsOfCall words to_come (BadTree number) = AskForTree words × TellsOfInput to_come (BadTree number)
 TellsOfCall words to_come Memory = Unit {0}
+TellsOfCall words to_come TooMany = ⊥
 TellsOfCall words to_come Output = ⊥
 
 -- A call ends with the status of the failure that keeps its walk from beginning, or with 0 or 1 once the walk has begun.

@@ -1,0 +1,3 @@
+pub mod TotalFacts
+pub mod CountFacts
+pub mod StateFacts

@@ -1,0 +1,133 @@
+//! One answer after another, counted.
+ghost use Rattle.std.specs.Prelude.{◌≡◌, option_map};
+ghost use Rattle.jwalk.specs.read_parts.Entry.{children};
+ghost use Rattle.jwalk_usage.specs.Totals.{has_failed};
+
+use crate::report::{Usage, UsageFault};
+use crate::sums::plus;
+use jwalk::dir_entry::ReadChildren;
+use jwalk::error::Result as Answer;
+use jwalk::file_system::{FileSystem, FileType, Metadata};
+use jwalk::{ClientState, DirEntry, Error};
+use std::alloc::Allocator;
+
+/// Returns whether the directory below an entry could not be read.
+fn has_failed<C: ClientState, A: Allocator + Copy>(below: &Option<ReadChildren<C, A>>) -> bool
+    ensures { result ≡ has_failed (option_map children below.now) }
+{
+    match below {
+        Some(children) => children.error().is_some(),
+        None => false,
+    }
+}
+
+impl Usage {
+    ghost use Rattle.std.specs.Prelude.{◌≡◌, ◌≤◌, ◌+◌, ◌^◌, ◌⊎◌, Ok, Err, IfErr, OnOk};
+    ghost use Rattle.jwalk.specs.walk_model.Error.{memory};
+    ghost use Rattle.jwalk.specs.read_parts.Entry.{entry, item};
+    ghost use Rattle.jwalk.specs.read_parts.Error.{failure};
+    ghost use Rattle.jwalk.specs.DirEntryIter.{TellsMemory};
+    ghost use Rattle.jwalk_usage.specs.Counts.{nothing, with_type, with_length, with_one, CountsType, IsTooGreat, CannotCount};
+
+    /// Returns the usage of no answers.
+    pub(crate) fn nothing() -> Self
+        ensures { result ≡ nothing }
+    {
+        Usage {
+            files: 0,
+            dirs: 0,
+            links: 0,
+            others: 0,
+            errors: 0,
+            bytes: 0,
+        }
+    }
+
+    /// Counts an entry by its type.
+    fn add_type(&mut self, file_type: FileType) -> Result<(), UsageFault>
+        ensures counted { OnOk result (self.new ≡ with_type file_type self.old) }
+        ensures too_many { IfErr result (λ fault. (fault ≡ UsageFault.TooMany)
+            × IsTooGreat (with_type file_type self.old)) }
+    {
+        match file_type {
+            FileType::File => self.files = plus(self.files, 1)?,
+            FileType::Dir => self.dirs = plus(self.dirs, 1)?,
+            FileType::Symlink => self.links = plus(self.links, 1)?,
+            FileType::Other => self.others = plus(self.others, 1)?,
+        }
+        Ok(())
+    }
+
+    /// Counts an error, unless it reports that memory ran out.
+    fn add_error<A: Allocator + Copy>(&mut self, error: &Error<A>) -> Result<(), UsageFault>
+        ensures counted { OnOk result (self.new ≡ record self.old { errors = self.old.errors + 1 }) }
+        ensures memory { failure error.now ≡ memory → result ≡ Err UsageFault.Memory }
+        ensures faults { IfErr result (λ fault. ((fault ≡ UsageFault.Memory) × (failure error.now ≡ memory))
+            ⊎ ((fault ≡ UsageFault.TooMany) × (2 ^ 128 ≤ self.old.errors + 1))) }
+    {
+        if error.is_memory() {
+            return Err(UsageFault::Memory);
+        }
+        self.errors = plus(self.errors, 1)?;
+        Ok(())
+    }
+
+    /// Counts the bytes of a file by its metadata, or the error in their place.
+    fn add_length<A: Allocator + Copy>(
+        &mut self,
+        metadata: Result<Metadata, Error<A>>,
+    ) -> Result<(), UsageFault>
+        ensures counted { OnOk result (self.new ≡ with_length metadata self.old) }
+        ensures memory { IfErr metadata (λ e. failure e ≡ memory → result ≡ Err UsageFault.Memory) }
+        ensures too_many { result ≡ Err UsageFault.TooMany → IsTooGreat (with_length metadata self.old) }
+    {
+        match metadata {
+            Ok(metadata) => {
+                self.bytes = plus(self.bytes, metadata.len() as u128)?;
+                Ok(())
+            }
+            Err(error) => self.add_error(&error),
+        }
+    }
+
+    /// Counts an entry by its type, the error of a directory, and the bytes of a file.
+    fn add_entry<S: FileSystem, C: ClientState, A: Allocator + Copy>(
+        &mut self,
+        fs: &S,
+        found: &DirEntry<C, A>,
+    ) -> Result<(), UsageFault>
+        ensures counted { OnOk result (S.IsFixed fs.now
+            → self.new ≡ with_one (S.functions fs.now) (Ok (entry found.now)) self.old) }
+        ensures types { OnOk result (CountsType (Ok (entry found.now)) self.old self.new) }
+        ensures faults { IfErr result (CannotCount (S.IsFixed fs.now) (S.functions fs.now)
+            (Ok (entry found.now)) self.old) }
+    {
+        self.add_type(found.file_type())?;
+        if has_failed(&found.read_children) {
+            self.errors = plus(self.errors, 1)?;
+        }
+        if found.file_type().is_file() {
+            self.add_length(found.metadata(fs))?;
+        }
+        Ok(())
+    }
+
+    /// Counts one answer.
+    pub(crate) fn add<S: FileSystem, C: ClientState, A: Allocator + Copy>(
+        &mut self,
+        fs: &S,
+        answer: Answer<DirEntry<C, A>, A>,
+    ) -> Result<(), UsageFault>
+        ensures counted { OnOk result (S.IsFixed fs.now
+            → self.new ≡ with_one (S.functions fs.now) (item answer) self.old) }
+        ensures types { OnOk result (CountsType (item answer) self.old self.new) }
+        ensures told { OnOk result (¬ TellsMemory (item answer)) }
+        ensures faults { IfErr result (CannotCount (S.IsFixed fs.now) (S.functions fs.now)
+            (item answer) self.old) }
+    {
+        match answer {
+            Ok(found) => self.add_entry(fs, &found),
+            Err(error) => self.add_error(&error),
+        }
+    }
+}
