@@ -16,7 +16,7 @@ use Rattle.jwalk_usage.specs.Counts.{nothing, with_one, IsTooGreat, CountsType, 
 use Rattle.jwalk_usage.proofs.TotalFacts.{totals_push, types_push}
 
 -- calls and one more
-yields_push : {I X : Type 0} (next : I → Option X → I → Type 0) (xs : List X) (x : X) (start now then : I) → Yields next start xs now → next now (Some x) then → Yields next start (xs ++ x ∷ []) then
+pub yields_push : {I X : Type 0} (next : I → Option X → I → Type 0) (xs : List X) (x : X) (start now then : I) → Yields next start xs now → next now (Some x) then → Yields next start (xs ++ x ∷ []) then
 yields_push next [] x start now then same step = (then, subst (λ s. next s (Some x) then) (sym same) step, refl)
 yields_push next (y ∷ xs) x start now then (mid, first, rest) step = (mid, first, yields_push next xs x mid now then rest step)
 
@@ -27,7 +27,7 @@ told_by (Err y) e P is holds = subst P (sym is) holds
 
 module _ {C A R E : Type 0} where
   -- one more answer that doesn't report that memory ran out
-  none_push : (xs : List (Result (DirEntry C A R E) (Error A))) (x : Result (DirEntry C A R E) (Error A)) → NoneRefused xs → ¬ TellsMemory (item x) → NoneRefused (xs ++ x ∷ [])
+  pub none_push : (xs : List (Result (DirEntry C A R E) (Error A))) (x : Result (DirEntry C A R E) (Error A)) → NoneRefused xs → ¬ TellsMemory (item x) → NoneRefused (xs ++ x ∷ [])
   none_push [] x none not = (not, tt)
   none_push (y ∷ xs) x none not = (none.0, none_push xs x none.1 not)
 

@@ -1,3 +1,4 @@
 pub mod TotalFacts
 pub mod CountFacts
 pub mod StateFacts
+pub mod SizedFacts

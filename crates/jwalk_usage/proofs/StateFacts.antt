@@ -10,7 +10,7 @@ use Rattle.jwalk_usage.specs.Totals.{is_other, entry_of, errors_of, bytes_of, to
 use Rattle.jwalk_usage.proofs.TotalFacts.{by_numbers}
 
 -- a sum over other items that count the same
-sum_same : {X Y : Type 0} (view : X → Y) (f : Y → ℕ) (g : X → ℕ) → ((x : X) → f (view x) ≡ g x) → (l : List X) → sum_by f (map view l) ≡ sum_by g l
+pub sum_same : {X Y : Type 0} (view : X → Y) (f : Y → ℕ) (g : X → ℕ) → ((x : X) → f (view x) ≡ g x) → (l : List X) → sum_by f (map view l) ≡ sum_by g l
 sum_same view f g each [] = refl
 sum_same view f g each (x ∷ l) = sum_by-cons f (view x) (map view l) ∙ ap₂ (λ a b. a + b) (each x) (sum_same view f g each l) ∙ sym (sum_by-cons g x l)
 
@@ -23,7 +23,7 @@ module _ {R E : Type 0} (given : Given R E) where
   same_bytes fs (Err f) = refl
   same_bytes fs (Ok e) = refl
 
-  same_type : (is : _) (x : Item R E) → entry_of is (counted_item given x) ≡ entry_of is x
+  pub same_type : (is : _) (x : Item R E) → entry_of is (counted_item given x) ≡ entry_of is x
   same_type is (Err f) = refl
   same_type is (Ok e) = refl
 

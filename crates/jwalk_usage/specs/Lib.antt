@@ -1,3 +1,4 @@
 pub mod Totals
 pub mod Counts
 pub mod Rows
+pub mod Sized

@@ -12,7 +12,7 @@ use jwalk::{ClientState, DirEntry, Error};
 use std::alloc::Allocator;
 
 /// Returns whether the directory below an entry could not be read.
-fn has_failed<C: ClientState, A: Allocator + Copy>(below: &Option<ReadChildren<C, A>>) -> bool
+pub(crate) fn has_failed<C: ClientState, A: Allocator + Copy>(below: &Option<ReadChildren<C, A>>) -> bool
     ensures { result ≡ has_failed (option_map children below.now) }
 {
     match below {
@@ -44,7 +44,7 @@ impl Usage {
     }
 
     /// Counts an entry by its type.
-    fn add_type(&mut self, file_type: FileType) -> Result<(), UsageFault>
+    pub(crate) fn add_type(&mut self, file_type: FileType) -> Result<(), UsageFault>
         ensures counted { OnOk result (self.new ≡ with_type file_type self.old) }
         ensures too_many { IfErr result (λ fault. (fault ≡ UsageFault.TooMany)
             × IsTooGreat (with_type file_type self.old)) }
@@ -59,7 +59,7 @@ impl Usage {
     }
 
     /// Counts an error, unless it reports that memory ran out.
-    fn add_error<A: Allocator + Copy>(&mut self, error: &Error<A>) -> Result<(), UsageFault>
+    pub(crate) fn add_error<A: Allocator + Copy>(&mut self, error: &Error<A>) -> Result<(), UsageFault>
         ensures counted { OnOk result (self.new ≡ record self.old { errors = self.old.errors + 1 }) }
         ensures memory { failure error.now ≡ memory → result ≡ Err UsageFault.Memory }
         ensures faults { IfErr result (λ fault. ((fault ≡ UsageFault.Memory) × (failure error.now ≡ memory))

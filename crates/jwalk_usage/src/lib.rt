@@ -13,12 +13,14 @@ ghost use Rattle.jwalk_usage.specs.Counts.{CountsAll, CountsRest, StopsCounting}
 
 mod counting;
 pub mod report;
+pub mod sized;
 pub mod sums;
 
 use jwalk::error::Result as Answer;
 use jwalk::file_system::FileSystem;
 use jwalk::{ClientState, DirEntry};
 pub use report::{Usage, UsageFault};
+pub use sized::{usage_sized, usage_sized_of_rest};
 use std::alloc::Allocator;
 
 /// Returns what the answers of an iterator come to. It is called until it ends, so it may be a walk, or any other

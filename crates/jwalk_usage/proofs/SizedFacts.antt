@@ -1,0 +1,183 @@
+-- Answers with sizes, counted one call after another, and what walks with sizes come to.
+use Rattle.std.proofs.Common.{◌≡◌, ◌+◌, ℕ, Bool, true, false, cond, ◌&&◌, List, [], ◌∷◌, ◌++◌, Option, Some, None, Result, Ok, Err, map, refl, sym, ap, subst, ◌∙◌, arith}
+use Rattle.std.specs.Prelude.{option_map, is_err}
+use Rattle.std.specs.List.{sum_by}
+use Rattle.std.specs.Iterator.{Yields}
+use Rattle.std.specs.declared.io.ErrorKind.{ErrorKind}
+use Rattle.std.proofs.lemmas.List.{map-append}
+use Rattle.std.proofs.lemmas.List.Sums.{sum_by_push}
+use Rattle.jwalk.specs.walk_model.declared.metadata.Metadata.{Metadata}
+use Rattle.jwalk.specs.walk_model.declared.file_type.FileType.{FileType}
+use Rattle.jwalk.specs.walk_model.FileType.{is_dir, is_file, is_symlink}
+use Rattle.jwalk.specs.walk_model.FileSystem.{Functions}
+use Rattle.jwalk.specs.walk_model.Entry.{Children, Entry, Item, metadata_of}
+use Rattle.jwalk.specs.walk_model.Counted.{Worth, blank, number, bytes, both, children_by}
+use Rattle.jwalk.specs.walk_model.Walk.{stateless_walk}
+use Rattle.jwalk.specs.read_parts.declared.dir_entry.DirEntry.{DirEntry}
+use Rattle.jwalk.specs.read_parts.declared.error.Error.{Error}
+use Rattle.jwalk.specs.read_parts.Entry.{item}
+use Rattle.jwalk.specs.read_parts.Given.{counted_item}
+use Rattle.jwalk.specs.jwalk_process.declared.size.Size.{Size}
+use Rattle.jwalk.specs.jwalk_process.declared.size.Size.TheVariants.{Unasked, Len, Failed}
+use Rattle.jwalk.specs.jwalk_process.WithSizes.{with_asked, counted_size, size_worth, sizing}
+use Rattle.jwalk.proofs.SizedWalks.{walks_are_sized}
+use Rattle.jwalk.specs.DirEntryIter.{TellsMemory, NoneRefused}
+use Rattle.jwalk_usage.specs.declared.report.Usage.{Usage}
+use Rattle.jwalk_usage.specs.declared.report.UsageFault.{UsageFault}
+use Rattle.jwalk_usage.specs.declared.report.UsageFault.TheVariants.{TooMany, Memory}
+use Rattle.jwalk_usage.specs.Totals.{one_if, is_other, has_failed, length_in, entry_of, errors_of, bytes_of, totals}
+use Rattle.jwalk_usage.specs.Counts.{nothing, IsTooGreat}
+use Rattle.jwalk_usage.specs.Sized.{is_failure, length_of, errors_in, bytes_in, sized_totals, with_sized, CannotCountSize, TellsOfSize, AddsSizes, StopsAtSize, SizesAddUp}
+use Rattle.jwalk_usage.proofs.TotalFacts.{by_numbers}
+use Rattle.jwalk_usage.proofs.StateFacts.{sum_same, same_type, same_totals}
+use Rattle.jwalk_usage.proofs.CountFacts.{yields_push, none_push}
+
+module _ {R : Type 0} (l : List (Item R Size)) (x : Item R Size) where
+  -- the totals with one more answer
+  sized_push : sized_totals (l ++ x ∷ []) ≡ with_sized x (sized_totals l)
+  sized_push = by_numbers _ _ _ _ _ _ _ _ _ _ _ _
+      (sum_by_push (entry_of is_file) l x) (sum_by_push (entry_of is_dir) l x) (sum_by_push (entry_of is_symlink) l x) (sum_by_push (entry_of is_other) l x) (sum_by_push errors_in l x) (sum_by_push bytes_in l x)
+
+module _ {I C A R : Type 0} (next : I → Option (Result (DirEntry C A R Size) (Error A)) → I → Type 0) (start : I) where
+  -- Calls from the start yielded answers, and the usage is what they come to.
+  pub record SizedSoFar (now : I) (usage : Usage) : Type 0 where
+    pub answered : List (Result (DirEntry C A R Size) (Error A))
+    pub calls : Yields next start answered now
+    pub adds : AddsSizes answered usage
+
+  pub nothing_sized : (usage : Usage) → usage ≡ nothing → SizedSoFar start usage
+  nothing_sized usage is = subst (SizedSoFar start) (sym is) (record { answered = []; calls = refl; adds = record { none_refused = tt; totals = refl } })
+
+  -- one more answer
+  pub one_sized : (now then : I) (old new : Usage) (x : Result (DirEntry C A R Size) (Error A)) → SizedSoFar now old → next now (Some x) then → ¬ TellsMemory (item x) → new ≡ with_sized (item x) old → SizedSoFar then new
+  one_sized now then old new x so_far step not counted = record {
+    answered = so_far.answered ++ x ∷ [];
+    calls = yields_push next so_far.answered x start now then so_far.calls step;
+    adds = record {
+      none_refused = none_push so_far.answered x so_far.adds.none_refused not;
+      totals = counted ∙ ap (with_sized (item x)) so_far.adds.totals ∙ sym (sized_push (map item so_far.answered) (item x)) ∙ ap sized_totals (sym (map-append item so_far.answered (x ∷ [])));
+    };
+  }
+
+  -- why the last answer can't be counted, by the totals of all
+  tells_of : (now : I) (u : Usage) (x : Result (DirEntry C A R Size) (Error A)) (fault : UsageFault) (so_far : SizedSoFar now u) → CannotCountSize (item x) u fault → TellsOfSize (map item so_far.answered) (item x) fault
+  tells_of now u x TooMany so_far cannot = subst IsTooGreat (ap (with_sized (item x)) so_far.adds.totals ∙ sym (sized_push (map item so_far.answered) (item x))) cannot
+  tells_of now u x Memory so_far cannot = cannot
+
+  -- an answer that can't be counted
+  pub stops_at : (now then : I) (u : Usage) (x : Result (DirEntry C A R Size) (Error A)) (fault : UsageFault) → SizedSoFar now u → next now (Some x) then → CannotCountSize (item x) u fault → StopsAtSize next start fault
+  stops_at now then u x fault so_far step cannot = record {
+    answered = so_far.answered;
+    last = x;
+    end = then;
+    calls = (now, so_far.calls, step);
+    tells = tells_of now u x fault so_far cannot;
+  }
+
+-- what a state that counts as a size says
+abbrev counts_failed : Worth → Bool
+counts_failed (bytes name) = true
+counts_failed _ = false
+
+abbrev counts_length : Worth → ℕ
+counts_length (number n) = n
+counts_length _ = 0
+
+module _ {R : Type 0} where
+  abbrev counted_errors : Item R Worth → ℕ
+  counted_errors (Ok e) = one_if (has_failed e.read_children) + one_if (is_file e.file_type && counts_failed e.client_state)
+  counted_errors (Err f) = 1
+
+  abbrev counted_bytes : Item R Worth → ℕ
+  counted_bytes (Ok e) = cond (is_file e.file_type) (counts_length e.client_state) 0
+  counted_bytes (Err f) = 0
+
+  abbrev counted_totals : List (Item R Worth) → Usage
+  counted_totals l = record {
+    files = sum_by (entry_of is_file) l;
+    dirs = sum_by (entry_of is_dir) l;
+    links = sum_by (entry_of is_symlink) l;
+    others = sum_by (entry_of is_other) l;
+    errors = sum_by counted_errors l;
+    bytes = sum_by counted_bytes l;
+  }
+
+failed_counts : (s : Size) → counts_failed (size_worth s) ≡ is_failure s
+failed_counts Unasked = refl
+failed_counts (Len n) = refl
+failed_counts (Failed kind) = refl
+
+length_counts : (s : Size) → counts_length (size_worth s) ≡ length_of s
+length_counts Unasked = refl
+length_counts (Len n) = refl
+length_counts (Failed kind) = refl
+
+has_failed_by : {R V : Type 0} (view : R → V) (o : Option (Children R)) → has_failed (option_map (children_by view) o) ≡ has_failed o
+has_failed_by view None = refl
+has_failed_by view (Some c) = refl
+
+module _ {B : Type 0} (fs : Functions) where
+  abbrev counted : Item B Size → Item Worth Worth
+  counted = counted_item (sizing fs)
+
+  errors_counted : (x : Item B Size) → counted_errors (counted x) ≡ errors_in x
+  errors_counted (Ok e) = rw (has_failed_by (λ _. blank) e.read_children, failed_counts e.client_state) refl
+  errors_counted (Err f) = refl
+
+  bytes_counted : (x : Item B Size) → counted_bytes (counted x) ≡ bytes_in x
+  bytes_counted (Ok e) = rw (length_counts e.client_state) refl
+  bytes_counted (Err f) = refl
+
+  -- totals by sizes, as these count
+  sized_counted : (l : List (Item B Size)) → counted_totals (map counted l) ≡ sized_totals l
+  sized_counted l =
+      let type = same_type (sizing {R = B} fs) in
+      by_numbers _ _ _ _ _ _ _ _ _ _ _ _
+      (sum_same counted _ _ (type is_file) l) (sum_same counted _ _ (type is_dir) l) (sum_same counted _ _ (type is_symlink) l) (sum_same counted _ _ (type is_other) l)
+      (sum_same counted _ _ errors_counted l) (sum_same counted _ _ bytes_counted l)
+
+module _ (fs : Functions) where
+  abbrev with_asked_size : Item Worth Worth → Item Worth Worth
+  with_asked_size = with_asked counted_size fs
+
+  type_asked : (is : FileType → Bool) (x : Item Worth Worth) → entry_of is (with_asked_size x) ≡ entry_of is x
+  type_asked is (Ok e) = elim (is_file e.file_type) as (λ b. one_if (is (cond b (record e { client_state = counted_size (metadata_of fs e) }) e).file_type) ≡ one_if (is e.file_type)) [ true ↦ refl | false ↦ refl ]
+  type_asked is (Err f) = refl
+
+  failed_asked : (found : Result Metadata ErrorKind) → counts_failed (counted_size found) ≡ is_err found
+  failed_asked (Ok m) = refl
+  failed_asked (Err kind) = refl
+
+  length_asked : (found : Result Metadata ErrorKind) → counts_length (counted_size found) ≡ length_in found
+  length_asked (Ok m) = refl
+  length_asked (Err kind) = refl
+
+  errors_if : (e : Entry Worth Worth) (b : Bool) → is_file e.file_type ≡ b → counted_errors (Ok (cond b (record e { client_state = counted_size (metadata_of fs e) }) e)) ≡ errors_of fs (Ok e)
+  errors_if e true is = rw (failed_asked (metadata_of fs e)) refl
+  errors_if e false is = rw is refl
+
+  bytes_if : (e : Entry Worth Worth) (b : Bool) → is_file e.file_type ≡ b → counted_bytes (Ok (cond b (record e { client_state = counted_size (metadata_of fs e) }) e)) ≡ bytes_of fs (Ok e)
+  bytes_if e true is = rw (length_asked (metadata_of fs e)) refl
+  bytes_if e false is = rw is refl
+
+  errors_asked : (x : Item Worth Worth) → counted_errors (with_asked_size x) ≡ errors_of fs x
+  errors_asked (Ok e) = errors_if e (is_file e.file_type) refl
+  errors_asked (Err f) = refl
+
+  bytes_asked : (x : Item Worth Worth) → counted_bytes (with_asked_size x) ≡ bytes_of fs x
+  bytes_asked (Ok e) = bytes_if e (is_file e.file_type) refl
+  bytes_asked (Err f) = refl
+
+  -- what is asked counts as the file system returns it
+  totals_asked : (l : List (Item Worth Worth)) → counted_totals (map with_asked_size l) ≡ totals fs l
+  totals_asked l = by_numbers _ _ _ _ _ _ _ _ _ _ _ _
+      (sum_same with_asked_size _ _ (type_asked is_file) l) (sum_same with_asked_size _ _ (type_asked is_dir) l) (sum_same with_asked_size _ _ (type_asked is_symlink) l) (sum_same with_asked_size _ _ (type_asked is_other) l)
+      (sum_same with_asked_size _ _ errors_asked l) (sum_same with_asked_size _ _ bytes_asked l)
+
+pub sizes_add_up : {B R E : Type 0} → SizesAddUp B R E
+sizes_add_up fs options root state given sized plain walked unsized =
+    sym (sized_counted fs sized)
+    ∙ ap counted_totals (walked ∙ (walks_are_sized fs options root state).items)
+    ∙ totals_asked fs (stateless_walk fs options root)
+    ∙ ap (totals fs) (sym unsized)
+    ∙ same_totals given fs plain
