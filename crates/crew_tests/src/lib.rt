@@ -14,9 +14,13 @@ mod early;
 #[cfg(test)]
 mod faults;
 #[cfg(test)]
+mod handed;
+#[cfg(test)]
 mod lost;
 #[cfg(test)]
 mod options;
+#[cfg(test)]
+mod own_crew;
 #[cfg(test)]
 mod random_links;
 #[cfg(test)]

@@ -12,6 +12,7 @@ use std::time::{Clock, Duration};
 use std::{io, thread};
 use walk_fixtures::answers::{Answer, are_lines};
 use walk_fixtures::listed_directory::{Item, ListedDirectory};
+use walk_ways::builders::builder;
 use walk_ways::ways::all_of;
 
 /// A directory of two directories.
@@ -29,12 +30,24 @@ const BOTH: ListedDirectory<'static> = ListedDirectory {
 #[derive(Drop)]
 struct Meeting<R> {
     clock: R,
+    /// How many milliseconds the one waits for the other, at most.
+    patience: u64,
     a: AtomicBool,
     b: AtomicBool,
 }
 
 impl<R: Clock> Meeting<R> {
-    /// An empty listing, once the other's has begun too, which is waited for some seconds at most.
+    /// The directory, before any listing.
+    fn new(clock: R, patience: u64) -> Self {
+        Meeting {
+            clock,
+            patience,
+            a: AtomicBool::new(false),
+            b: AtomicBool::new(false),
+        }
+    }
+
+    /// An empty listing, once the other's has begun too.
     fn meet<A: Allocator + Copy>(
         &self,
         alloc: A,
@@ -42,7 +55,7 @@ impl<R: Clock> Meeting<R> {
         other: &AtomicBool,
     ) -> Result<Vec<io::Result<Listed<A>>, A>, Fault> {
         own.store(true, Ordering::SeqCst);
-        for _ in 0..5_000 {
+        for _ in 0..self.patience {
             if other.load(Ordering::SeqCst) {
                 return Ok(Vec::new(alloc));
             }
@@ -93,15 +106,43 @@ fn answers_by_two<R: Host>(rt: &R, fs: Meeting<R>) -> Result<Vec<Answer>, AllocE
     all_of(alloc, walk.parallelism(by_crew).into_iter())
 }
 
+/// All that a walk over the two yields, which so many workers of its own read.
+fn answers_by_own<R: Host>(
+    rt: &R,
+    fs: Meeting<R>,
+    workers: usize,
+) -> Result<Vec<Answer>, AllocError> {
+    let walk = builder(rt.alloc(), fs, "/r")?;
+    all_of(rt.alloc(), walk.workers(rt, workers)?.into_iter())
+}
+
+/// What a walk yields if the two are read at the same time.
+const MET: &str = "0 d /r; 1 d /r/a; 1 d /r/b";
+
+/// What it yields if one thread reads both.
+const MISSED: &str = "0 d /r; 1 d /r/a ! 1 /r/a Other; 1 d /r/b";
+
 // A crew of one thread (the wrong body `crew_of_one_thread`) yields an error inside the first of the two.
 #[test]
 fn two_workers_read_at_the_same_time(rt: HostRuntime) -> Result<(), AllocError> {
-    let fs = Meeting {
-        clock: rt,
-        a: AtomicBool::new(false),
-        b: AtomicBool::new(false),
-    };
-    let found = answers_by_two(&rt, fs)?;
-    assert!(rt; are_lines(rt.alloc(), found.as_slice(), "0 d /r; 1 d /r/a; 1 d /r/b"));
+    let found = answers_by_two(&rt, Meeting::new(rt.clone()?, 5_000))?;
+    assert!(rt; are_lines(rt.alloc(), found.as_slice(), MET));
+    Ok(())
+}
+
+// A walk that reads its directories itself (the wrong body `workers_walk_serially`) misses the second of the two.
+#[test]
+fn two_workers_of_a_walk_s_own_read_at_the_same_time(rt: HostRuntime) -> Result<(), AllocError> {
+    let found = answers_by_own(&rt, Meeting::new(rt.clone()?, 5_000), 2)?;
+    assert!(rt; are_lines(rt.alloc(), found.as_slice(), MET));
+    Ok(())
+}
+
+#[test]
+fn one_worker_of_a_walk_s_own_reads_one_directory_at_a_time(
+    rt: HostRuntime,
+) -> Result<(), AllocError> {
+    let found = answers_by_own(&rt, Meeting::new(rt.clone()?, 20), 1)?;
+    assert!(rt; are_lines(rt.alloc(), found.as_slice(), MISSED));
     Ok(())
 }

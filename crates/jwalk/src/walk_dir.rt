@@ -6,6 +6,7 @@ ghost use Rattle.read_parts.specs.Error.{failure};
 mod crew_start;
 mod each;
 mod over_crew;
+mod states;
 mod workers;
 
 use jwalk_crew::pool::NoPool;
@@ -22,7 +23,6 @@ use read_parts::options::Options;
 use read_parts::process_read_dir::{NoProcess, ProcessReadDir};
 use real_fs::real_fs::RealFs;
 use std::alloc::{AllocError, Allocator, Global};
-use std::fmt::Debug;
 use std::rt::{Files, HostRuntime};
 use std::sync::Arc;
 use std::time::Duration;
@@ -275,36 +275,6 @@ impl<
             process,
             options: self.options,
             root_read_dir_state: self.root_read_dir_state,
-            threads: self.threads,
-            crew: self.crew,
-        }
-    }
-}
-
-impl<C: ClientState, S: FileSystem, A: Allocator + Copy, T: Drop, W: Drop> WalkDirGeneric<
-    C,
-    S,
-    NoProcess,
-    A,
-    T,
-    W,
-> {
-    ghost use Rattle.jwalk.specs.WalkDir.{SetsStates};
-
-    /// Returns the same walk with states of these types beside directories and entries: `walk.states::<usize, u64>()`. The
-    /// root's list begins with the default of `B`; a state that was set before is dropped. A callback is set
-    /// afterwards, since it is one for its states.
-    pub fn states<B: Clone + Default + Debug + Drop, E: Default + Debug + Drop>(
-        self,
-    ) -> WalkDirGeneric<(B, E), S, NoProcess, A, T, W>
-        ensures { SetsStates B.is_default self result }
-    {
-        WalkDirGeneric {
-            fs: self.fs,
-            root: self.root,
-            process: NoProcess,
-            options: self.options,
-            root_read_dir_state: B::default(),
             threads: self.threads,
             crew: self.crew,
         }

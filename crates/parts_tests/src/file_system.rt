@@ -1,7 +1,7 @@
 //! A file system that isn't fixed, one that is borrowed, and the faults that `?` makes.
 ghost use Rattle.walk_model.specs.Tree.{functions_of, only_root};
 
-use std::alloc::{AllocError, Allocator, Global};
+use std::alloc::{AllocError, AllocFailed, Allocator, Global};
 use std::cell::Cell;
 use std::io;
 use std::io::ErrorKind;
@@ -95,6 +95,7 @@ where
 #[test]
 fn want_of_memory_is_a_fault_of_its_own(rt: HostRuntime) {
     assert!(rt; matches!(fails(AllocError), Err(Fault::Memory)));
+    assert!(rt; matches!(fails(AllocFailed { value: 7 }), Err(Fault::Memory)));
 }
 
 fn keeps(wanted: ErrorKind) -> bool {

@@ -100,7 +100,8 @@ where
             (Answers S.FileSystem P.ProcessReadDir C.ReadDirState.Clone C.DirEntryState.Default
             ⟦<Session<R, C, S, P, Global> as Pool<C, S, P, Global>>⟧) F.FnMut f }
     {
-        self.into_iter().for_each(f)
+        let walk = self.into_iter();
+        walk.for_each(f)
     }
 
     /// Begins the walk as `into_iter` does, and calls a closure with its answers, in order, until it returns an error
@@ -123,7 +124,8 @@ where
             (Answers S.FileSystem P.ProcessReadDir C.ReadDirState.Clone C.DirEntryState.Default
             ⟦<Session<R, C, S, P, Global> as Pool<C, S, P, Global>>⟧) F.FnMut f result }
     {
-        self.into_iter().try_for_each(f)
+        let mut walk = self.into_iter();
+        walk.try_for_each(f)
     }
 
     /// Begins the walk as `into_iter` does, and appends all its answers to `out`, in order.

@@ -1,0 +1,38 @@
+//! Walks with states of other types beside directories and entries.
+
+use crate::walk_dir::WalkDirGeneric;
+use read_parts::client_state::ClientState;
+use read_parts::process_read_dir::NoProcess;
+use std::alloc::Allocator;
+use std::fmt::Debug;
+use walk_fs::file_system::FileSystem;
+
+impl<C: ClientState, S: FileSystem, A: Allocator + Copy, T: Drop, W: Drop> WalkDirGeneric<
+    C,
+    S,
+    NoProcess,
+    A,
+    T,
+    W,
+> {
+    ghost use Rattle.jwalk.specs.WalkDir.{SetsStates};
+
+    /// Returns the same walk with states of these types beside directories and entries: `walk.states::<usize, u64>()`. The
+    /// root's list begins with the default of `B`; a state that was set before is dropped. A callback is set
+    /// afterwards, since it is one for its states.
+    pub fn states<B: Clone + Default + Debug + Drop, E: Default + Debug + Drop>(
+        self,
+    ) -> WalkDirGeneric<(B, E), S, NoProcess, A, T, W>
+        ensures { SetsStates B.is_default self result }
+    {
+        WalkDirGeneric {
+            fs: self.fs,
+            root: self.root,
+            process: NoProcess,
+            options: self.options,
+            root_read_dir_state: B::default(),
+            threads: self.threads,
+            crew: self.crew,
+        }
+    }
+}
