@@ -17,8 +17,8 @@ impl<C: ClientState, S: FileSystem, A: Allocator + Copy, T: Drop, W: Drop> WalkD
 > {
     ghost use Rattle.jwalk.specs.WalkDir.{SetsStates};
 
-    /// Returns the same walk with states of these types beside directories and entries: `walk.states::<usize, u64>()`. The
-    /// root's list begins with the default of `B`; a state that was set before is dropped. A callback is set
+    /// Returns the same walk with states of these types beside directories and entries: `walk.states::<usize, u64>()`.
+    /// The root's list begins with the default of `B`, and a state that was set before is dropped. A callback is set
     /// afterwards, since it is one for its states.
     pub fn states<B: Clone + Default + Debug + Drop, E: Default + Debug + Drop>(
         self,

@@ -35,9 +35,9 @@ impl<
 > WalkDirGeneric<C, S, P, A, T, NoPool> {
     ghost use Rattle.jwalk.specs.WalkDir.{SetsCrew, SetsWorkers};
 
-    /// Returns the same walk, which a crew of `count` threads of its own reads ahead. The threads are started when the walk
-    /// begins, read directories while the answers are taken, also in a `for` over `walk.into_iter()`, and end with the
-    /// walk. Its answers and their order are those of a serial walk.
+    /// Returns the same walk, which a crew of `count` threads of its own reads ahead. The threads are started when the
+    /// walk begins, read directories while the answers are taken, also in a `for` over `walk.into_iter()`, and end with
+    /// the walk. Its answers and their order are those of a serial walk.
     ///
     /// A count of 0 stands for the number of threads that can run side by side ([`available_parallelism`]), 1 where
     /// that isn't known. More than 256 count as 256. (In [`Crew::new`], 0 counts as 1.)
