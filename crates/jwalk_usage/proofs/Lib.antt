@@ -1,2 +1,3 @@
 pub mod TotalFacts
 pub mod CountFacts
+pub mod StateFacts

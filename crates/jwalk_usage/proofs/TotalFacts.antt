@@ -9,11 +9,11 @@ use Rattle.jwalk_usage.specs.Totals.{is_other, entry_of, errors_of, bytes_of, to
 use Rattle.jwalk_usage.specs.Counts.{with_one, CountsType, CountsTypes}
 
 -- the usage of six numbers
-abbrev usage_of : ℕ → ℕ → ℕ → ℕ → ℕ → ℕ → Usage
+abbrev pub usage_of : ℕ → ℕ → ℕ → ℕ → ℕ → ℕ → Usage
 usage_of files dirs links others errors bytes = record { files = files; dirs = dirs; links = links; others = others; errors = errors; bytes = bytes }
 
 -- usages whose numbers are the same are the same
-by_numbers : (f f' d d' l l' o o' e e' b b' : ℕ) → f ≡ f' → d ≡ d' → l ≡ l' → o ≡ o' → e ≡ e' → b ≡ b' → usage_of f d l o e b ≡ usage_of f' d' l' o' e' b'
+pub by_numbers : (f f' d d' l l' o o' e e' b b' : ℕ) → f ≡ f' → d ≡ d' → l ≡ l' → o ≡ o' → e ≡ e' → b ≡ b' → usage_of f d l o e b ≡ usage_of f' d' l' o' e' b'
 by_numbers f f' d d' l l' o o' e e' b b' files dirs links others errors bytes = cc
 
 module _ {R E : Type 0} (fs : Functions) (l : List (Item R E)) (x : Item R E) where

@@ -1,0 +1,36 @@
+-- Totals don't depend on states.
+use Rattle.std.proofs.Common.{◌≡◌, ◌+◌, ℕ, List, [], ◌∷◌, map, Option, Some, None, Ok, Err, refl, sym, ap, ap₂, ◌∙◌}
+use Rattle.std.specs.List.{sum_by}
+use Rattle.std.proofs.lemmas.List.Sums.{sum_by-cons}
+use Rattle.jwalk.specs.walk_model.FileType.{is_dir, is_file, is_symlink}
+use Rattle.jwalk.specs.walk_model.FileSystem.{Functions}
+use Rattle.jwalk.specs.walk_model.Entry.{Item}
+use Rattle.jwalk.specs.read_parts.Given.{Given, counted_item}
+use Rattle.jwalk_usage.specs.Totals.{is_other, entry_of, errors_of, bytes_of, totals}
+use Rattle.jwalk_usage.proofs.TotalFacts.{by_numbers}
+
+-- a sum over other items that count the same
+sum_same : {X Y : Type 0} (view : X → Y) (f : Y → ℕ) (g : X → ℕ) → ((x : X) → f (view x) ≡ g x) → (l : List X) → sum_by f (map view l) ≡ sum_by g l
+sum_same view f g each [] = refl
+sum_same view f g each (x ∷ l) = sum_by-cons f (view x) (map view l) ∙ ap₂ (λ a b. a + b) (each x) (sum_same view f g each l) ∙ sym (sum_by-cons g x l)
+
+module _ {R E : Type 0} (given : Given R E) where
+  same_errors : (fs : Functions) (x : Item R E) → errors_of fs (counted_item given x) ≡ errors_of fs x
+  same_errors fs (Err f) = refl
+  same_errors fs (Ok e) = elim e.read_children as (λ o. errors_of fs (counted_item given (Ok (record e { read_children = o }))) ≡ errors_of {R = R} {E = E} fs (Ok (record e { read_children = o }))) [ None ↦ refl | Some c ↦ refl ]
+
+  same_bytes : (fs : Functions) (x : Item R E) → bytes_of fs (counted_item given x) ≡ bytes_of fs x
+  same_bytes fs (Err f) = refl
+  same_bytes fs (Ok e) = refl
+
+  same_type : (is : _) (x : Item R E) → entry_of is (counted_item given x) ≡ entry_of is x
+  same_type is (Err f) = refl
+  same_type is (Ok e) = refl
+
+  -- the totals of items as their states count
+  pub same_totals : (fs : Functions) (l : List (Item R E)) → totals fs (map (counted_item given) l) ≡ totals fs l
+  same_totals fs l =
+      let view = counted_item given in
+      by_numbers _ _ _ _ _ _ _ _ _ _ _ _
+      (sum_same view _ _ (same_type is_file) l) (sum_same view _ _ (same_type is_dir) l) (sum_same view _ _ (same_type is_symlink) l) (sum_same view _ _ (same_type is_other) l)
+      (sum_same view _ _ (same_errors fs) l) (sum_same view _ _ (same_bytes fs) l)
