@@ -6,7 +6,7 @@ for_each-requires-clause-callable g c = record { at = λ xs t q x u yields folds
 
 pub returns : goal.returns
 returns g c = record {
-  walk = c.into_iter.result;
-  begun = record { starts = c.into_iter.ensures.starts; begins = c.into_iter.ensures.begins; steady = c.into_iter.ensures.steady };
+  walk = c.into_iter-walk.result;
+  begun = record { starts = c.into_iter-walk.ensures.starts; begins = c.into_iter-walk.ensures.begins; steady = c.into_iter-walk.ensures.steady };
   calls = c.for_each.ensures.ran;
 }

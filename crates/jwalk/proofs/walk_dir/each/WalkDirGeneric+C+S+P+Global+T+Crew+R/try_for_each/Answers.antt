@@ -7,6 +7,6 @@ try_for_each-requires-clause-callable g c = record { at = λ xs t q x u yields f
 pub returns : goal.returns
 returns g c =
     let ran = c.try_for_each.ensures.ran in
-    calls_until g.F.FnMut _ _ (λ e. e.0) c.args.f _ c.into_iter.result _
-    (record { starts = c.into_iter.ensures.starts; begins = c.into_iter.ensures.begins; steady = c.into_iter.ensures.steady })
+    calls_until g.F.FnMut _ _ (λ e. e.0) c.args.f _ c.into_iter-walk.result _
+    (record { starts = c.into_iter-walk.ensures.starts; begins = c.into_iter-walk.ensures.begins; steady = c.into_iter-walk.ensures.steady })
     ran.0 ran.1 ran.2 ran.3 ran.4 ran.5
