@@ -1,3 +1,5 @@
 pub mod TotalFacts
 pub mod CountFacts
 pub mod StateFacts
+pub mod GrowFacts
+pub mod WholeTotals

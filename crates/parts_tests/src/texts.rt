@@ -55,7 +55,9 @@ fn other_words_are_bad(rt: HostRuntime) {
         &["--crew", "2", "--crew", "2", "/r"],
         &["--batch", "2", "--crew", "2", "/r"],
         &["--crew", "2", "--batch", "2", "/r"],
-        &["--tree", "--usage", "/r"],
+        &["--tree", "--usages", "/r"],
+        &["--usage", "--usage", "/r"],
+        &["--usage", "3", "/r"],
     ];
     for words in ROWS {
         assert!(rt; are_bad(rt.alloc(), words), "{:?}", words);
@@ -66,6 +68,7 @@ fn are_same(asked: &Asked, wanted: &Asked) -> bool {
     asked.tree == wanted.tree
         && asked.sort == wanted.sort
         && asked.hidden == wanted.hidden
+        && asked.usage == wanted.usage
         && asked.follow == wanted.follow
         && asked.min == wanted.min
         && asked.max == wanted.max
@@ -159,6 +162,7 @@ static ORDERED: Asked = Asked {
     sort: true,
     hidden: false,
     follow: true,
+    usage: false,
     min: Some(1),
     max: Some(2),
     read_by: Some(ReadBy::Batch(3)),
@@ -169,6 +173,7 @@ static BY_CREW: Asked = Asked {
     sort: true,
     hidden: false,
     follow: false,
+    usage: false,
     min: None,
     max: Some(2),
     read_by: Some(ReadBy::Crew(3)),
@@ -179,10 +184,32 @@ static HIDDEN: Asked = Asked {
     sort: false,
     hidden: true,
     follow: false,
+    usage: false,
     min: None,
     max: None,
     read_by: None,
 };
+
+static COUNTED: Asked = Asked {
+    tree: true,
+    sort: false,
+    hidden: false,
+    follow: false,
+    usage: true,
+    min: None,
+    max: None,
+    read_by: None,
+};
+
+#[test]
+fn totals_are_asked_for_in_any_place(rt: HostRuntime) {
+    const ROWS: &[&[&str]] = &[
+        &["--tree", "--usage", "/r"],
+        &["--usage", "--tree", "/r"],
+        &["--tree", "--usage", "--usage"],
+    ];
+    assert!(rt; all_ask_for(rt.alloc(), ROWS, &COUNTED));
+}
 
 #[test]
 fn a_crew_is_named_in_any_place(rt: HostRuntime) {
@@ -304,6 +331,7 @@ fn each_failure_has_its_text_and_status(rt: HostRuntime) {
     const ROWS: &[(Failure, &str, u8)] = &[
         (Failure::BadWords, "walk: bad words\n", 2),
         (Failure::BadTree(3), "walk: bad tree, line 3\n", 2),
+        (Failure::TooMany, "walk: too many\n", 1),
         (Failure::Memory, "walk: memory refused\n", 1),
         (Failure::Output, "", 1),
     ];

@@ -12,7 +12,7 @@ use Rattle.walk_text.specs.Built.{added, Adds, AddsAll, Builds, CannotAdd, IsFir
 use Rattle.walk_text.specs.TreeLine.{Says}
 use Rattle.walk_text.specs.declared.tree_line.TreeLine.{TreeLine}
 use Rattle.walk_text.specs.declared.failure.Failure.{Failure}
-use Rattle.walk_text.specs.declared.failure.Failure.TheVariants.{BadWords, BadTree, Memory, Output}
+use Rattle.walk_text.specs.declared.failure.Failure.TheVariants.{BadWords, BadTree, TooMany, Memory, Output}
 
 -- an empty line changes nothing
 pub adds_nothing : (line : List ℕ) (tree : Tree) → (length line == 0) ≡ true → Adds line tree tree
@@ -69,6 +69,7 @@ names_first text xs x start tree failure before within here same adds bad = by_f
     by_failure : (f : Failure) → (f ≢ Memory → (f ≡ BadTree x.0) × CannotAdd (text_of x) tree) → TellsOf (text_lines text) f
     by_failure Memory told = tt
     by_failure BadWords told = absurd (let e = told (λ e. cc) in cc (e.0))
+    by_failure TooMany told = absurd (let e = told (λ e. cc) in cc (e.0))
     by_failure Output told = absurd (let e = told (λ e. cc) in cc (e.0))
     by_failure (BadTree number) told =
         let is = told (λ e. cc) in
@@ -85,6 +86,7 @@ unread to_come failure (inr e) = subst (TellsOfInput to_come) (sym e) (inl refl)
 pub tells_of_read : (to_come : Option (List ℕ)) (read : List ℕ) (failure : Failure) → IfSome to_come (λ bytes. read ≡ bytes) → TellsOf (text_lines read) failure → TellsOfInput to_come failure
 tells_of_read to_come read Memory is tells = tt
 tells_of_read to_come read BadWords is tells = tells
+tells_of_read to_come read TooMany is tells = tells
 tells_of_read to_come read Output is tells = tells
 tells_of_read None read (BadTree number) is tells = inr tt
 tells_of_read (Some bytes) read (BadTree number) is tells = inr (subst (λ b. IsFirstBad (text_lines b) number) is tells)

@@ -6,7 +6,7 @@ use Rattle.walk_text.specs.Asked.{nothing, also}
 use Rattle.walk_text.specs.Words.{BeginWithNumber, BeginWithNamedNumber, Begin, AddAll, Add, Ask, AreGood}
 use Rattle.walk_text.specs.declared.asked.Asked.{Asked}
 use Rattle.walk_text.specs.declared.asked.Choice.{Choice}
-use Rattle.walk_text.specs.declared.asked.Choice.TheVariants.{Tree, Sort, Hidden, Follow, Min, Max, Read}
+use Rattle.walk_text.specs.declared.asked.Choice.TheVariants.{Tree, Sort, Hidden, Follow, Usage, Min, Max, Read}
 use Rattle.walk_text.specs.declared.read_by.ReadBy.TheVariants.{Batch, Crew}
 
 -- an option and the words behind it
@@ -33,6 +33,7 @@ named name behind =
     else if bytes_eq name (codes "--sort") then split_as Sort behind
     else if bytes_eq name (codes "--hidden") then split_as Hidden behind
     else if bytes_eq name (codes "--follow") then split_as Follow behind
+    else if bytes_eq name (codes "--usage") then split_as Usage behind
     else if bytes_eq name (codes "--min") then numbered Min behind
     else if bytes_eq name (codes "--max") then numbered Max behind
     else if bytes_eq name (codes "--batch") then numbered batch behind
@@ -54,6 +55,7 @@ split_is words Tree others begin = ap split begin
 split_is words Sort others begin = ap split begin
 split_is words Hidden others begin = ap split begin
 split_is words Follow others begin = ap split begin
+split_is words Usage others begin = ap split begin
 split_is words (Min n) others (behind, is, number) = ap split is ∙ numbered_is Min behind n others number
 split_is words (Max n) others (behind, is, number) = ap split is ∙ numbered_is Max behind n others number
 split_is words (Read (Batch n)) others (behind, is, number) = ap split is ∙ numbered_is batch behind n others number
@@ -82,6 +84,7 @@ fewer_behind words Tree others begin = one_word (codes "--tree") words others be
 fewer_behind words Sort others begin = one_word (codes "--sort") words others begin
 fewer_behind words Hidden others begin = one_word (codes "--hidden") words others begin
 fewer_behind words Follow others begin = one_word (codes "--follow") words others begin
+fewer_behind words Usage others begin = one_word (codes "--usage") words others begin
 fewer_behind words (Min n) others begin = two_words (codes "--min") words n others begin
 fewer_behind words (Max n) others begin = two_words (codes "--max") words n others begin
 fewer_behind words (Read (Batch n)) others begin = two_words (codes "--batch") words n others begin
@@ -107,9 +110,9 @@ behind_name name words option n others (behind, is, number) =
     let same : words ≡ behind = cc in
     (cc, subst (λ ws. BeginWithNumber ws n others) (sym same) number)
 
--- a name is no option of one word unless it is one of four
-pub no_plain_option : (name : List ℕ) → name ≢ codes "--tree" → name ≢ codes "--sort" → name ≢ codes "--hidden" → name ≢ codes "--follow" → (choice : Choice) (others : List (List ℕ)) → ¬ (Begin (name ∷ others) choice others)
-no_plain_option name tree sort hidden follow choice others begin = refuted choice begin
+-- a name is no option of one word unless it is one of five
+pub no_plain_option : (name : List ℕ) → name ≢ codes "--tree" → name ≢ codes "--sort" → name ≢ codes "--hidden" → name ≢ codes "--follow" → name ≢ codes "--usage" → (choice : Choice) (others : List (List ℕ)) → ¬ (Begin (name ∷ others) choice others)
+no_plain_option name tree sort hidden follow usage choice others begin = refuted choice begin
   where
     by_number : (option : List ℕ) (n : ℕ) → ¬ (BeginWithNamedNumber option (name ∷ others) n others)
     by_number option n named = absurd (omega (arith, fewer_behind_number others n others (behind_name name others option n others named).1))
@@ -119,6 +122,7 @@ no_plain_option name tree sort hidden follow choice others begin = refuted choic
     refuted Sort b = sort cc
     refuted Hidden b = hidden cc
     refuted Follow b = follow cc
+    refuted Usage b = usage cc
     refuted (Min n) b = by_number (codes "--min") n b
     refuted (Max n) b = by_number (codes "--max") n b
     refuted (Read (Batch n)) b = by_number (codes "--batch") n b
@@ -136,6 +140,7 @@ no_numbered_option name not_min not_max not_batch not_crew n words others number
     refuted Sort b = one_word_alone (codes "--sort") b
     refuted Hidden b = one_word_alone (codes "--hidden") b
     refuted Follow b = one_word_alone (codes "--follow") b
+    refuted Usage b = one_word_alone (codes "--usage") b
     refuted (Min k) b = not_min (behind_name name words (codes "--min") k others b).0
     refuted (Max k) b = not_max (behind_name name words (codes "--max") k others b).0
     refuted (Read (Batch k)) b = not_batch (behind_name name words (codes "--batch") k others b).0
@@ -153,6 +158,7 @@ no_option words name behind is plain numbered choice others begin = refuted choi
     refuted Sort b = plain Sort others cc
     refuted Hidden b = plain Hidden others cc
     refuted Follow b = plain Follow others cc
+    refuted Usage b = plain Usage others cc
     refuted (Min n) b = by_number (codes "--min") n (Min n) b b
     refuted (Max n) b = by_number (codes "--max") n (Max n) b b
     refuted (Read (Batch n)) b = by_number (codes "--batch") n (batch n) b b

@@ -5,13 +5,13 @@ use Rattle.read_parts.specs.Options.{mode_value}
 use Rattle.read_parts.specs.declared.mode.Mode.TheVariants.{Batches}
 use Rattle.walk_text.specs.declared.asked.Asked.{Asked}
 use Rattle.walk_text.specs.declared.asked.Choice.{Choice}
-use Rattle.walk_text.specs.declared.asked.Choice.TheVariants.{Tree, Sort, Hidden, Follow, Min, Max, Read}
+use Rattle.walk_text.specs.declared.asked.Choice.TheVariants.{Tree, Sort, Hidden, Follow, Usage, Min, Max, Read}
 use Rattle.walk_text.specs.declared.read_by.ReadBy.{ReadBy}
 use Rattle.walk_text.specs.declared.read_by.ReadBy.TheVariants.{Batch, Crew}
 
 -- what no option asks for
 abbrev pub nothing : Asked
-nothing = record { tree = false; sort = false; hidden = false; follow = false; min = None; max = None; read_by = None }
+nothing = record { tree = false; sort = false; hidden = false; follow = false; usage = false; min = None; max = None; read_by = None }
 
 -- what is asked for with one more option; each is taken at most once
 abbrev pub also : Choice → Asked → Option Asked
@@ -19,6 +19,7 @@ also Tree asked = if asked.tree then None else Some (record asked { tree = true 
 also Sort asked = if asked.sort then None else Some (record asked { sort = true })
 also Hidden asked = if asked.hidden then None else Some (record asked { hidden = true })
 also Follow asked = if asked.follow then None else Some (record asked { follow = true })
+also Usage asked = if asked.usage then None else Some (record asked { usage = true })
 also (Min depth) asked = if is_some asked.min then None else Some (record asked { min = Some depth })
 also (Max depth) asked = if is_some asked.max then None else Some (record asked { max = Some depth })
 also (Read by) asked = if is_some asked.read_by then None else Some (record asked { read_by = Some by })

@@ -4,7 +4,7 @@ use Rattle.std.specs.declared.io.ErrorKind.TheVariants.{PermissionDenied}
 use Rattle.walk_model.specs.Tree.{Tree, Refusal, directory, file, link, add, deny, only_root}
 use Rattle.memory_fs.specs.MemoryFs.{IsSameTree, IsBuilt}
 use Rattle.walk_text.specs.declared.failure.Failure.{Failure}
-use Rattle.walk_text.specs.declared.failure.Failure.TheVariants.{BadWords, BadTree, Memory, Output}
+use Rattle.walk_text.specs.declared.failure.Failure.TheVariants.{BadWords, BadTree, TooMany, Memory, Output}
 use Rattle.walk_text.specs.declared.tree_line.TreeLine.{TreeLine}
 use Rattle.walk_text.specs.declared.tree_line.TreeLine.TheVariants.{Dir, File, Link, Deny}
 use Rattle.walk_text.specs.TextLines.{text_lines}
@@ -50,6 +50,7 @@ pub record IsFirstBad (lines : List (List ℕ)) (number : ℕ) : Type 0 where
 abbrev pub TellsOf : List (List ℕ) → Failure → Type 0
 TellsOf lines (BadTree number) = IsFirstBad lines number
 TellsOf lines Memory = Unit {0}
+TellsOf lines TooMany = ⊥
 TellsOf lines BadWords = ⊥
 TellsOf lines Output = ⊥
 
@@ -57,5 +58,6 @@ TellsOf lines Output = ⊥
 abbrev pub TellsOfInput : Option (List ℕ) → Failure → Type 0
 TellsOfInput to_come (BadTree number) = (number ≡ 0) ⊎ IfSome to_come (λ bytes. IsFirstBad (text_lines bytes) number)
 TellsOfInput to_come Memory = Unit {0}
+TellsOfInput to_come TooMany = ⊥
 TellsOfInput to_come BadWords = ⊥
 TellsOfInput to_come Output = ⊥

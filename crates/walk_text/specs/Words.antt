@@ -4,7 +4,7 @@ use Rattle.walk_text.specs.Number.{IsNumber, value_of}
 use Rattle.walk_text.specs.Asked.{nothing, also}
 use Rattle.walk_text.specs.declared.asked.Asked.{Asked}
 use Rattle.walk_text.specs.declared.asked.Choice.{Choice}
-use Rattle.walk_text.specs.declared.asked.Choice.TheVariants.{Tree, Sort, Hidden, Follow, Min, Max, Read}
+use Rattle.walk_text.specs.declared.asked.Choice.TheVariants.{Tree, Sort, Hidden, Follow, Usage, Min, Max, Read}
 use Rattle.walk_text.specs.declared.read_by.ReadBy.TheVariants.{Batch, Crew}
 
 -- The words begin with a number, and these are behind it.
@@ -21,6 +21,7 @@ Begin words Tree others = words ≡ codes "--tree" ∷ others
 Begin words Sort others = words ≡ codes "--sort" ∷ others
 Begin words Hidden others = words ≡ codes "--hidden" ∷ others
 Begin words Follow others = words ≡ codes "--follow" ∷ others
+Begin words Usage others = words ≡ codes "--usage" ∷ others
 Begin words (Min depth) others = BeginWithNamedNumber (codes "--min") words depth others
 Begin words (Max depth) others = BeginWithNamedNumber (codes "--max") words depth others
 Begin words (Read (Batch width)) others = BeginWithNamedNumber (codes "--batch") words width others

@@ -14,6 +14,8 @@ pub enum Choice {
     Hidden,
     /// Links are followed.
     Follow,
+    /// Totals are printed in place of the answers.
+    Usage,
     /// The least depth of the entries.
     Min(usize),
     /// The greatest depth.
@@ -33,6 +35,8 @@ pub struct Asked {
     pub hidden: bool,
     /// Whether links are followed.
     pub follow: bool,
+    /// Whether totals are printed in place of the answers.
+    pub usage: bool,
     /// The least depth of the entries, if one was named.
     pub min: Option<usize>,
     /// The greatest depth, if one was named.
@@ -53,6 +57,7 @@ impl Asked {
             sort: false,
             hidden: false,
             follow: false,
+            usage: false,
             min: None,
             max: None,
             read_by: None,
@@ -72,6 +77,10 @@ impl Asked {
             }),
             Choice::Follow if !self.follow => Some(Asked {
                 follow: true,
+                ..self
+            }),
+            Choice::Usage if !self.usage => Some(Asked {
+                usage: true,
                 ..self
             }),
             Choice::Min(depth) if self.min.is_none() => Some(Asked {

@@ -12,7 +12,9 @@ pub enum Failure {
     BadWords,
     /// The line of this number, counted from 1, can't be added to the tree. It is 0 if the lines can't be read.
     BadTree(usize),
-    /// Memory ran out outside the walk.
+    /// A total of the walk passes the greatest number.
+    TooMany,
+    /// Memory ran out, outside the walk or for its totals.
     Memory,
     /// Standard output can't be written.
     Output,
@@ -27,7 +29,7 @@ impl Failure {
     {
         match self {
             Failure::BadWords | Failure::BadTree(_) => 2,
-            Failure::Memory | Failure::Output => 1,
+            Failure::TooMany | Failure::Memory | Failure::Output => 1,
         }
     }
 
@@ -52,6 +54,7 @@ impl fmt::Display for Failure {
         match self {
             Failure::BadWords => f.write_str("bad words"),
             Failure::BadTree(line) => write!(f, "bad tree, line {line}"),
+            Failure::TooMany => f.write_str("too many"),
             Failure::Memory => f.write_str("memory refused"),
             Failure::Output => f.write_str("output can't be written"),
         }

@@ -41,6 +41,7 @@ fn plain_option(name: &str) -> Option<Choice>
         "--sort" => Some(Choice::Sort),
         "--hidden" => Some(Choice::Hidden),
         "--follow" => Some(Choice::Follow),
+        "--usage" => Some(Choice::Usage),
         _ => None,
     }
 }
