@@ -1,5 +1,5 @@
-//! What callers of walks meet: the functions of `proved_walk`, `for` loops, getters, errors and their texts, and walks
-//! of size.
+//! What callers of walks meet: the functions of `proved_walk`, `for` loops, getters, errors and their texts, walks of size,
+//! and totals.
 #![tactic(auto)]
 
 #[cfg(test)]
@@ -18,6 +18,8 @@ mod in_memory;
 mod own_pool;
 #[cfg(test)]
 mod sizes;
+#[cfg(test)]
+mod totals;
 #[cfg(test)]
 mod walks;
 #[cfg(test)]

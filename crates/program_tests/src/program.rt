@@ -4,5 +4,6 @@ mod lines;
 mod links;
 pub mod runs;
 mod streams;
+mod totals;
 mod trees;
 mod words;

@@ -18,5 +18,6 @@ pub mod root_alone;
 pub mod skipping;
 pub mod small_tree;
 pub mod texts;
+pub mod totals;
 pub mod turned_by_crew;
 pub mod whole;

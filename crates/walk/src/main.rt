@@ -1,6 +1,6 @@
 //! Walks the disk and prints one line for each answer:
-//! `walk [--tree] [--sort] [--hidden] [--follow] [--min N] [--max N] [--batch N | --crew N] ROOT`. With `--tree` it
-//! walks the tree that the lines on standard input describe.
+//! `walk [--tree] [--sort] [--hidden] [--follow] [--usage] [--min N] [--max N] [--batch N | --crew N] ROOT`. With
+//! `--tree` it walks the tree that the lines on standard input describe. With `--usage` it prints one line of totals.
 #![tactic(auto)]
 
 use jwalk::file_system::RealFs;

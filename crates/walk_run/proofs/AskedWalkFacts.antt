@@ -1,12 +1,26 @@
 -- The lines of answers and whether they are entries, whatever their states count as.
-use Rattle.std.proofs.Common.{◌≡◌, ◌++◌, ◌∙◌, List, [], ◌∷◌, map, Some, None, Result, Ok, Err, is_ok, ap, refl}
+use Rattle.std.proofs.Common.{◌≡◌, ◌++◌, ◌∙◌, List, [], ◌∷◌, map, Some, None, Result, Ok, Err, is_ok, true, false, if◌then◌else◌, ap, sym, refl}
 use Rattle.std.specs.List.{list_all}
 use Rattle.walk_model.specs.Entry.{Item}
 use Rattle.walk_model.specs.Lines.{line_of, lines_of}
+use Rattle.walk_model.specs.FileSystem.{Functions}
+use Rattle.walk_model.specs.Counted.{Worth}
+use Rattle.walk_text.specs.declared.asked.Asked.{Asked}
+use Rattle.walk_run.specs.Totals.{totals_line}
+use Rattle.walk_run.specs.AskedWalk.{written}
 use Rattle.read_parts.specs.declared.dir_entry.DirEntry.{DirEntry}
 use Rattle.read_parts.specs.declared.error.Error.{Error}
 use Rattle.read_parts.specs.Entry.{item}
 use Rattle.read_parts.specs.Given.{Given, counted_item}
+
+module _ (fs : Functions) (asked : Asked) (l : List (Item Worth Worth)) where
+  -- what is written where no totals are asked for
+  pub lines_written : asked.usage ≡ false → lines_of l ≡ written fs asked l
+  lines_written plain = ap (λ b. if b then totals_line fs l else lines_of l) (sym plain)
+
+  -- and where they are
+  pub totals_written : asked.usage ≡ true → totals_line fs l ≡ written fs asked l
+  totals_written counts = ap (λ b. if b then totals_line fs l else lines_of l) (sym counts)
 
 module _ {R E : Type 0} (given : Given R E) where
   -- a line doesn't depend on states

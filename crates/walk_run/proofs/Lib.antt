@@ -1,4 +1,5 @@
 pub mod LineFacts
+pub mod NotingFacts
 pub mod PrintFacts
 pub mod AskedWalkFacts
 pub mod RunFacts

@@ -1,5 +1,5 @@
 -- What a walk that is asked for prints.
-use Rattle.std.specs.Prelude.{◌≡◌, ℕ, true, List, Option, is_ok}
+use Rattle.std.specs.Prelude.{◌≡◌, ℕ, true, List, Option, is_ok, if◌then◌else◌}
 use Rattle.std.specs.List.{list_all}
 use Rattle.std.specs.Io.KnownBytes.{Appends}
 use Rattle.std.specs.Borrow.{Bor}
@@ -22,14 +22,19 @@ use Rattle.walk_model.specs.Lines.{lines_of}
 use Rattle.walk_text.specs.declared.asked.Asked.{Asked}
 use Rattle.walk_text.specs.Asked.{options_for}
 use Rattle.walk_run.specs.Answers.{PrintsAll}
+use Rattle.walk_run.specs.Totals.{totals_line}
 
 -- all that a walk from a root yields, as is asked for, over a file system that always returns the same
 abbrev pub answers_over : Functions → Asked → List ℕ → List (Item Worth Worth)
 answers_over fs asked root = stateless_walk fs (options_for asked) root
 
--- The lines of all answers were written, and none of them is an error.
+-- what is written of all answers: the line of their totals if that is asked for, and a line for each otherwise
+abbrev pub written : Functions → Asked → List (Item Worth Worth) → List ℕ
+written fs asked l = if asked.usage then totals_line fs l else lines_of l
+
+-- All answers were written as is asked for, and none of them is an error.
 pub record PrintsOver (fs : Functions) (asked : Asked) (root : List ℕ) (old new : Option (List ℕ)) : Type 0 where
-  pub prints : Appends old new (lines_of (answers_over fs asked root))
+  pub prints : Appends old new (written fs asked (answers_over fs asked root))
   pub clean : list_all is_ok (answers_over fs asked root) ≡ true
 
 -- A walk with threads of a runtime, over a file system and from a root, began as is asked for. It was called until it ended, the line of each answer was written, and no answer was an error.

@@ -1,9 +1,10 @@
 -- How a call of the program ends.
-use Rattle.std.specs.Prelude.{◌≡◌, ◌≤◌, ◌⊎◌, ℕ, List, Option, Some, None, is_some, IfSome, IfNone}
+use Rattle.std.specs.Prelude.{◌≡◌, ◌≤◌, ◌⊎◌, ℕ, true, false, List, Option, Some, None, is_some, IfSome, IfNone}
 use Rattle.walk_model.specs.Tree as tree
 use Rattle.walk_model.specs.Tree.{functions_of}
 use Rattle.std.specs.declared.clone.Clone as Clone
 use Rattle.std.specs.declared.default.Default as Default
+use Rattle.std.specs.declared.sync.Arc.{Arc}
 use Rattle.walk_fs.specs.declared.file_system.FileSystem as FileSystem
 use Rattle.memory_fs.specs.declared.memory_fs.MemoryFs.{MemoryFs}
 use Rattle.memory_fs.specs.MemoryFs.{tree_of}
@@ -17,6 +18,7 @@ use Rattle.walk_text.specs.Words.{Ask, AreGood, AskForTree}
 use Rattle.walk_text.specs.TextLines.{text_lines}
 use Rattle.walk_text.specs.Built.{Builds, TellsOfInput}
 use Rattle.walk_run.specs.AskedWalk.{PrintsBegun, PrintsOver}
+use Rattle.walk_run.specs.AskedTotals.{CountsBegun}
 use Rattle.walk_run.specs.declared.source.Source.{Source}
 use Rattle.walk_run.specs.declared.source.Source.TheVariants.{Disk, Tree}
 
@@ -34,12 +36,13 @@ abbrev pub IsSource : {S A : Type 0} → S → Option tree.Tree → Source S A �
 IsSource disk None source = source ≡ Disk disk
 IsSource {S} {A} disk (Some t) source = (tree : MemoryFs A) × (source ≡ Tree tree) × (tree_of tree ≡ t)
 
--- The walk that begins so was printed to its end, and no answer is an error. Its answers are the whole walk over its tree. Without a tree, they are that over the disk, if it always returns the same.
-pub record PrintsWalk (T : Type 0) {C S P A L R E : Type 0} (files : FileSystem.Ghosts S) (sources : FileSystem.Ghosts (Source S A)) (process : ProcessReadDir.Ghosts P C A R E) (clone : Clone.Ghosts R) (defaults : Default.Ghosts E) (pool : Pool.Ghosts L C (Source S A) P A R E) (disk : S) (words : List (List ℕ)) (to_come old new : Option (List ℕ)) : Type 0 where
+-- The walk that begins so was printed to its end, or its totals were, and no answer is an error. Its answers are the whole walk over its tree. Without a tree, they are that over the disk, if it always returns the same.
+pub record PrintsWalk (T : Type 0) {C S P A L M R E : Type 0} (files : FileSystem.Ghosts S) (sources : FileSystem.Ghosts (Source S A)) (shared : FileSystem.Ghosts (Arc (Source S A) A)) (process : ProcessReadDir.Ghosts P C A R E) (clone : Clone.Ghosts R) (defaults : Default.Ghosts E) (pool : Pool.Ghosts L C (Source S A) P A R E) (sharing : Pool.Ghosts M C (Arc (Source S A) A) P A R E) (disk : S) (words : List (List ℕ)) (to_come old new : Option (List ℕ)) : Type 0 where
   pub walk : BeginsWalk words to_come
   pub source : Source S A
   pub over : IsSource disk walk.tree source
-  pub begun : PrintsBegun T sources process clone defaults pool source walk.asked walk.root old new
+  pub begun : walk.asked.usage ≡ false → PrintsBegun T sources process clone defaults pool source walk.asked walk.root old new
+  pub counted : walk.asked.usage ≡ true → CountsBegun T shared process clone defaults sharing source walk.asked walk.root old new
   pub over_tree : IfSome walk.tree (λ t. PrintsOver (functions_of t) walk.asked walk.root old new)
   pub over_disk : IfNone walk.tree (files.IsFixed disk → PrintsOver (files.functions disk) walk.asked walk.root old new)
 

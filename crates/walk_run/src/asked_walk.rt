@@ -1,5 +1,5 @@
 //! The walk that is asked for, over any file system, printed.
-ghost use Rattle.std.specs.Prelude.{◌≡◌, ◌≤◌, string_bytes, IfOk, IfErr, OnErr};
+ghost use Rattle.std.specs.Prelude.{◌≡◌, ◌≤◌, false, string_bytes, IfOk, IfErr, OnErr};
 ghost use Rattle.jwalk.specs.Parallelism.{parallelism_value};
 ghost use Rattle.jwalk.specs.WalkDir.{file_system_of, root_of, options_of};
 ghost use Rattle.walk_text.specs.Asked.{parallelism_by, options_for};
@@ -44,7 +44,7 @@ fn parallelism_of<T: Wait + Clock + Clone + Drop, A: Allocator + Copy>(
 
 /// Returns the walk that is asked for. Its options are set one after another: the order, hidden names, links, the least
 /// depth, the greatest, and last what directories are read by. The last holds whatever the greatest depth is.
-fn walk_of<'t, T: Wait + Threads + Clock + Clone + Drop, S: FileSystem, A: Allocator + Copy>(
+pub fn walk_of<'t, T: Wait + Threads + Clock + Clone + Drop, S: FileSystem, A: Allocator + Copy>(
     rt: &'t T,
     fs: S,
     root: String<A>,
@@ -72,8 +72,8 @@ fn walk_of<'t, T: Wait + Threads + Clock + Clone + Drop, S: FileSystem, A: Alloc
     Ok(walk)
 }
 
-/// Walks over a file system as is asked for, and prints one line for each answer. Returns the status: 0 if the walk
-/// ended and no answer was an error, and 1 otherwise.
+/// Walks over a file system as is asked for, and prints one line for each answer, which is for words that ask for no
+/// totals. Returns the status: 0 if the walk ended and no answer was an error, and 1 otherwise.
 ///
 /// # Errors
 ///
@@ -85,6 +85,7 @@ pub fn print_walk<
     W: Write,
     E: Write,
 >(rt: &T, alloc: A, fs: S, request: &Request<'_>, out: &mut W, err: &mut E) -> Result<u8, Failure>
+    requires { request.now.asked.usage ≡ false }
     ensures status { IfOk result (λ status. status ≤ 1) }
     ensures memory { IfErr result (λ failure. failure ≡ Failure.Memory) }
     ensures untouched { OnErr result (W.contents out.new ≡ W.contents out.old) }

@@ -2,7 +2,10 @@
 #![tactic(auto)]
 
 mod answers;
+mod asked_totals;
 mod asked_walk;
+mod noting;
 pub mod run;
 mod source;
+mod totals;
 mod walk_printed;

@@ -3,7 +3,7 @@ ghost use Rattle.std.specs.Prelude.{◌≡◌, ◌≤◌, Err, map, string_bytes
 ghost use Rattle.walk_text.specs.Words.{AreGood, AskForTree};
 ghost use Rattle.walk_run.specs.Run.{BeginsWalk, PrintsWalk, TellsOfCall, Ends};
 
-use crate::asked_walk::print_walk;
+use crate::asked_totals::print_asked;
 use crate::source::Source;
 use jwalk::Pool;
 use jwalk::crew::Session;
@@ -11,14 +11,14 @@ use jwalk::file_system::FileSystem;
 use jwalk::read_dir::{NoProcess, ProcessReadDir};
 use std::alloc::Allocator;
 use std::io::{Read, Write};
-use std::sync::Wait;
+use std::sync::{Arc, Wait};
 use std::thread::Threads;
 use std::time::Clock;
 use walk_text::failure::Failure;
 use walk_text::input::read_tree;
 use walk_text::words::parse_words;
 
-/// Walks as the words ask, and prints one line for each answer.
+/// Walks as the words ask, and prints one line for each answer, or the line of their totals.
 fn try_run<
     T: Wait + Threads + Clock + Clone + Drop + Send + Sync + 'static,
     S: FileSystem + Send + Sync + 'static,
@@ -42,8 +42,10 @@ fn try_run<
     ensures untouched { OnErr result (W.contents out.new ≡ W.contents out.old) }
     ensures unread { ¬ (AskForTree (map string_bytes words.now)) → input.new ≡ input.old }
     ensures printed { IfOk result (λ status. status ≡ 0 → PrintsWalk T S.FileSystem
-        ⟦<Source<S, A> as FileSystem>⟧ ⟦<NoProcess as ProcessReadDir<((), ()), A>>⟧ ⟦<() as Clone>⟧ ⟦<() as Default>⟧
+        ⟦<Source<S, A> as FileSystem>⟧ ⟦<Arc<Source<S, A>, A> as FileSystem>⟧
+        ⟦<NoProcess as ProcessReadDir<((), ()), A>>⟧ ⟦<() as Clone>⟧ ⟦<() as Default>⟧
         ⟦<Session<T, ((), ()), Source<S, A>, NoProcess, A> as Pool<((), ()), Source<S, A>, NoProcess, A>>⟧
+        ⟦<Session<T, ((), ()), Arc<Source<S, A>, A>, NoProcess, A> as Pool<((), ()), Arc<Source<S, A>, A>, NoProcess, A>>⟧
         disk (map string_bytes words.now) (R.remaining input.old) (W.contents out.old) (W.contents out.new)) }
 {
     let Some(request) = parse_words(words) else {
@@ -51,12 +53,13 @@ fn try_run<
     };
     if request.asked.tree {
         let tree = read_tree(alloc, input)?;
-        return print_walk(rt, alloc, Source::<S, A>::Tree(tree), &request, out, err);
+        return print_asked(rt, alloc, Source::<S, A>::Tree(tree), &request, out, err);
     }
-    print_walk(rt, alloc, Source::<S, A>::Disk(disk), &request, out, err)
+    print_asked(rt, alloc, Source::<S, A>::Disk(disk), &request, out, err)
 }
 
-/// Walks as the words ask, prints one line for each answer, and returns the status.
+/// Walks as the words ask, prints one line for each answer, and returns the status. If the words ask for totals, it
+/// prints these in place of the answers: how many files, directories, links and errors they are, and how many bytes.
 ///
 /// The status is 0 if the walk ended and no answer was an error. It is 1 if one was, if memory ran out, or if the
 /// output can't be written. It is 2 for bad words or a bad tree, and then nothing is printed. What is wrong is reported
@@ -78,8 +81,10 @@ pub fn run<
     ensures untouched { result ≡ 2 → W.contents out.new ≡ W.contents out.old }
     ensures unread { ¬ (AskForTree (map string_bytes words.now)) → input.new ≡ input.old }
     ensures printed { result ≡ 0 → PrintsWalk T S.FileSystem
-        ⟦<Source<S, A> as FileSystem>⟧ ⟦<NoProcess as ProcessReadDir<((), ()), A>>⟧ ⟦<() as Clone>⟧ ⟦<() as Default>⟧
+        ⟦<Source<S, A> as FileSystem>⟧ ⟦<Arc<Source<S, A>, A> as FileSystem>⟧
+        ⟦<NoProcess as ProcessReadDir<((), ()), A>>⟧ ⟦<() as Clone>⟧ ⟦<() as Default>⟧
         ⟦<Session<T, ((), ()), Source<S, A>, NoProcess, A> as Pool<((), ()), Source<S, A>, NoProcess, A>>⟧
+        ⟦<Session<T, ((), ()), Arc<Source<S, A>, A>, NoProcess, A> as Pool<((), ()), Arc<Source<S, A>, A>, NoProcess, A>>⟧
         disk (map string_bytes words.now) (R.remaining input.old) (W.contents out.old) (W.contents out.new) }
 {
     match try_run(rt, alloc, disk, words, input, out, err) {

@@ -132,6 +132,26 @@ fn each_sort_of_answer_has_its_line(rt: HostRuntime) {
 }
 
 #[test]
+fn each_sort_of_answer_is_counted(rt: HostRuntime) {
+    const ROWS: &[Row] = &[
+        (
+            &["--usage", "/odd"],
+            ("files 0 dirs 2 links 1 others 1 errors 2 bytes 0\n", "", 1),
+        ),
+        (
+            &["--usage", "--follow", "/special"],
+            ("files 0 dirs 1 links 0 others 1 errors 0 bytes 0\n", "", 0),
+        ),
+        (
+            &["--usage", "/denied"],
+            ("files 0 dirs 1 links 0 others 0 errors 1 bytes 0\n", "", 0),
+        ),
+        (&["--usage", "/wide"], ("", "walk: memory refused\n", 1)),
+    ];
+    assert_eq!(rt; first_wrong(&rt, ROWS), None);
+}
+
+#[test]
 fn errors_come_last_and_whatever_their_depth(rt: HostRuntime) {
     const ROWS: &[Row] = &[
         (

@@ -119,6 +119,8 @@ const WAYS: &[Way] = &[
     (&["--tree", "--batch", "0"], false),
     (&["--crew", "1"], true),
     (&["--tree", "--crew", "1"], false),
+    (&["--crew", "2"], true),
+    (&["--tree", "--crew", "2"], false),
     (&["--crew", "3"], true),
     (&["--tree", "--crew", "3"], false),
     (&["--crew", "0"], true),

@@ -52,7 +52,11 @@ fn an_input_that_cannot_be_read_is_told(rt: HostRuntime) {
 
 #[test]
 fn an_output_that_cannot_be_written_ends_the_walk(rt: HostRuntime) {
-    const CALLS: &[&[&str]] = &[&["--tree", "/t"], &["--tree", "--crew", "3", "/t"]];
+    const CALLS: &[&[&str]] = &[
+        &["--tree", "/t"],
+        &["--tree", "--crew", "3", "/t"],
+        &["--tree", "--usage", "/t"],
+    ];
     for words in CALLS {
         let disk = MemoryFs::new(rt.alloc());
         let mut out = Broken(ErrorKind::BrokenPipe);

@@ -8,7 +8,7 @@ use Rattle.jwalk.specs.WalkDir.{file_system_of, callback_of, stateless}
 use Rattle.jwalk.proofs.CleanFacts.{clean_whole}
 use Rattle.jwalk.proofs.WholeFacts.{steady_begun, stateless_of}
 use Rattle.walk_text.specs.Asked.{options_for}
-use Rattle.walk_run.proofs.AskedWalkFacts.{all_entries, same_lines}
+use Rattle.walk_run.proofs.AskedWalkFacts.{all_entries, same_lines, lines_written}
 use Rattle.walk_run.proofs.asked_walk.print_walk.Goals as goal
 
 pub returns-clause-walked : goal.returns-clause-walked
@@ -38,6 +38,6 @@ returns-clause-printed g c = λ clean fixed.
     let listed = clean_whole _ _ _ _ _ stateless walk c.into_iter-answers.result all.0 begun.begins.0 begun.begins.1.holds steadily begun.starts steady all.1 (sym all.2) in
     let asked = listed ∙ stateless_of g.S.FileSystem.functions walk c.args.fs (options_for request.asked) request.root.now built.file_system built.options (built.root ∙ c.in_ok-root.ensures.ok) in
     record {
-      prints = subst (λ l. Appends (g.W.Write.contents c.args.out.now) (g.W.Write.contents c.print_walked.new.out) l) (sym (same_lines stateless (map item all.0)) ∙ ap lines_of asked) all.3;
+      prints = subst (λ l. Appends (g.W.Write.contents c.args.out.now) (g.W.Write.contents c.print_walked.new.out) l) (sym (same_lines stateless (map item all.0)) ∙ ap lines_of asked ∙ lines_written (g.S.FileSystem.functions c.args.fs) request.asked _ c.requires) all.3;
       clean = ap (list_all is_ok) (sym asked) ∙ (all_entries stateless all.0 ∙ sym all.2);
     }

@@ -1,0 +1,36 @@
+-- The totals of a walk are those of all that was to come.
+use Rattle.std.proofs.Common.{◌≡◌, ◌⊎◌, ◌∙◌, false, sym, ap, map}
+use Rattle.std.specs.declared.clone.Clone as Clone
+use Rattle.std.specs.declared.default.Default as Default
+use Rattle.jwalk.specs.walk_fs.declared.file_system.FileSystem as FileSystem
+use Rattle.jwalk.specs.read_parts.declared.process_read_dir.ProcessReadDir as ProcessReadDir
+use Rattle.jwalk.specs.jwalk_crew.declared.pool.Pool as Pool
+use Rattle.jwalk.specs.jwalk_entries.declared.dir_entry_iter.DirEntryIter.{DirEntryIter}
+use Rattle.jwalk.specs.declared.walk_dir.WalkDirGeneric.{WalkDirGeneric}
+use Rattle.jwalk.specs.walk_model.Walk.{whole_walk}
+use Rattle.jwalk.specs.read_parts.Entry.{item}
+use Rattle.jwalk.specs.read_parts.Given.{Given}
+use Rattle.jwalk.specs.jwalk_read.Job.{IsSteady}
+use Rattle.jwalk.specs.WalkDir.{file_system_of, callback_of, root_of, state_of, job_for, Starts, Holds}
+use Rattle.jwalk.specs.DirEntryIter.{by_crew, to_come, IsRefused, IsSteadyWalk, Answers}
+use Rattle.jwalk.proofs.WholeFacts.{all_answered, whole, steady_start}
+use Rattle.jwalk_usage.specs.declared.report.Usage.{Usage}
+use Rattle.jwalk_usage.specs.Totals.{totals}
+use Rattle.jwalk_usage.specs.Counts.{CountsAll}
+use Rattle.jwalk_usage.proofs.StateFacts.{same_totals}
+
+module _ {C S P A T L R E : Type 0} (files : FileSystem.Ghosts S) (process : ProcessReadDir.Ghosts P C A R E) (clone : Clone.Ghosts R) (defaults : Default.Ghosts E) (pool : Pool.Ghosts L C S P A R E) (given : Given R E) (fs : S) (usage : Usage) where
+  -- the usage of a steady walk is the totals of what was to come
+  pub coming_counted : (it : DirEntryIter C S P A T L R E) → IsSteadyWalk files process clone defaults pool it given → files.IsFixed fs → CountsAll (Answers files process clone defaults pool) (files.IsFixed fs) (files.functions fs) it usage → usage ≡ totals (files.functions fs) (to_come files given it)
+  coming_counted it steady fixed (answered, drains, counts) =
+      counts.totals fixed
+      ∙ sym (same_totals given (files.functions fs) (map item answered))
+      ∙ ap (totals (files.functions fs)) (sym (all_answered files process clone defaults pool given answered it steady drains counts.none_refused))
+
+  -- that of a walk that was begun, and that no crew reads for, is the totals of the whole walk from its root
+  pub whole_counted : {W : Type 0} (walk : WalkDirGeneric C S P A T W R E) (it : DirEntryIter C S P A T L R E) → by_crew it ≡ false → Starts walk it → IsRefused it ⊎ Holds files process clone defaults walk it → IsSteady files process clone defaults (file_system_of walk) (callback_of walk) given → files.IsFixed fs → CountsAll (Answers files process clone defaults pool) (files.IsFixed fs) (files.functions fs) it usage
+      → usage ≡ totals (files.functions fs) (whole_walk (job_for files given walk) (root_of walk) (given.read_dir_state (state_of walk)))
+  whole_counted walk it own starts begun steady fixed (answered, drains, counts) =
+      counts.totals fixed
+      ∙ sym (same_totals given (files.functions fs) (map item answered))
+      ∙ ap (totals (files.functions fs)) (whole files process clone defaults pool given walk it answered (steady_start files process clone defaults pool given walk it own starts steady) starts begun steady drains counts.none_refused)

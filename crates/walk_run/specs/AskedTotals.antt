@@ -1,0 +1,31 @@
+-- What a walk that is asked for totals prints.
+use Rattle.std.specs.Prelude.{◌≡◌, ℕ, true, List, Option}
+use Rattle.std.specs.Arc.{arc_value}
+use Rattle.std.specs.Borrow.{Bor}
+use Rattle.std.specs.declared.sync.Arc.{Arc}
+use Rattle.std.specs.declared.clone.Clone as Clone
+use Rattle.std.specs.declared.default.Default as Default
+use Rattle.walk_fs.specs.declared.file_system.FileSystem as FileSystem
+use Rattle.read_parts.specs.declared.process_read_dir.ProcessReadDir as ProcessReadDir
+use Rattle.jwalk.specs.declared.crew.Pool as Pool
+use Rattle.jwalk.specs.declared.crew.Crew.{Crew}
+use Rattle.jwalk.specs.declared.threads.OnThreads.{OnThreads}
+use Rattle.jwalk.specs.declared.dir_entry_iter.DirEntryIter.{DirEntryIter}
+use Rattle.jwalk.specs.declared.walk_dir.WalkDirGeneric.{WalkDirGeneric}
+use Rattle.jwalk.specs.DirEntryIter.{Answers}
+use Rattle.jwalk.specs.WalkDir.{file_system_of, root_of, options_of, Starts}
+use Rattle.walk_text.specs.declared.asked.Asked.{Asked}
+use Rattle.walk_text.specs.Asked.{options_for}
+use Rattle.walk_run.specs.Totals.{PrintsTotals}
+
+-- A walk with threads of a runtime, over a file system that is shared and from a root, began as is asked for. It was called until it ended, the line of its totals was written, and no answer was an error.
+pub record CountsBegun (T : Type 0) {C S P A L R E : Type 0} (files : FileSystem.Ghosts (Arc S A)) (process : ProcessReadDir.Ghosts P C A R E) (clone : Clone.Ghosts R) (defaults : Default.Ghosts E) (pool : Pool.Ghosts L C (Arc S A) P A R E) (fs : S) (asked : Asked) (root : List ℕ) (old new : Option (List ℕ)) : Type 0 where
+  pub shared : Arc S A
+  pub over : arc_value shared ≡ fs
+  pub walk : WalkDirGeneric C (Arc S A) P A (OnThreads (Bor T)) (Crew T) R E
+  pub file_system : arc_value (file_system_of walk) ≡ fs
+  pub root_of_it : root_of walk ≡ root
+  pub options : options_of walk ≡ options_for asked
+  pub it : DirEntryIter C (Arc S A) P A (OnThreads (Bor T)) L R E
+  pub starts : Starts walk it
+  pub prints : PrintsTotals (Answers files process clone defaults pool) (files.IsFixed shared) (files.functions shared) it old new true
