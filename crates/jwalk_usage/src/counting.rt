@@ -12,7 +12,9 @@ use jwalk::{ClientState, DirEntry, Error};
 use std::alloc::Allocator;
 
 /// Returns whether the directory below an entry could not be read.
-pub(crate) fn has_failed<C: ClientState, A: Allocator + Copy>(below: &Option<ReadChildren<C, A>>) -> bool
+pub(crate) fn has_failed<C: ClientState, A: Allocator + Copy>(
+    below: &Option<ReadChildren<C, A>>,
+) -> bool
     ensures { result ≡ has_failed (option_map children below.now) }
 {
     match below {
@@ -59,7 +61,10 @@ impl Usage {
     }
 
     /// Counts an error, unless it reports that memory ran out.
-    pub(crate) fn add_error<A: Allocator + Copy>(&mut self, error: &Error<A>) -> Result<(), UsageFault>
+    pub(crate) fn add_error<A: Allocator + Copy>(
+        &mut self,
+        error: &Error<A>,
+    ) -> Result<(), UsageFault>
         ensures counted { OnOk result (self.new ≡ record self.old { errors = self.old.errors + 1 }) }
         ensures memory { failure error.now ≡ memory → result ≡ Err UsageFault.Memory }
         ensures faults { IfErr result (λ fault. ((fault ≡ UsageFault.Memory) × (failure error.now ≡ memory))
