@@ -11,12 +11,11 @@ returns g c =
     let made = c.new.ensures in
     let ran = c.for_each.ensures in
     let begun = ran.begun in
-    let steady = record { file_system = tt; callback = λ depth path state list. refl; clones = λ x y is. refl; default = λ x is. refl } in
     record {
       found = ran.calls.0;
       last = ran.calls.1;
       calls = ran.calls.3;
       whole = λ none.
-          whole _ _ _ _ _ stateless walk ran.walk ran.calls.0 (steady_start _ _ _ _ _ stateless walk ran.walk begun.own begun.starts steady) begun.starts begun.holds steady ran.calls.2 none
+          whole _ _ _ _ _ stateless walk ran.walk ran.calls.0 (steady_start _ _ _ _ _ stateless walk ran.walk begun.own begun.starts (record { file_system = tt; callback = λ depth path state list. refl; clones = λ x y is. refl; default = λ x is. refl })) begun.starts begun.holds (record { file_system = tt; callback = λ depth path state list. refl; clones = λ x y is. refl; default = λ x is. refl }) ran.calls.2 none
           ∙ stateless_of (λ fs. functions_of (tree_of fs)) walk c.args.fs _ _ made.file_system made.options made.root;
     }

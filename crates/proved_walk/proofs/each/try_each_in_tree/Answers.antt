@@ -12,12 +12,11 @@ returns g c =
     let made = c.new.ensures in
     let ran = c.try_for_each.ensures in
     let begun = ran.begun in
-    let steady = record { file_system = tt; callback = λ depth path state list. refl; clones = λ x y is. refl; default = λ x is. refl } in
-    if_ends c.try_for_each.result ran.ends (λ drains. record {
+    if_ends _ c.try_for_each.result ran.ends (λ drains. record {
       found = ran.answered;
       last = ran.last;
       calls = ran.passes;
       whole = λ none.
-          whole _ _ _ _ _ stateless walk ran.walk ran.answered (steady_start _ _ _ _ _ stateless walk ran.walk begun.own begun.starts steady) begun.starts begun.holds steady drains none
+          whole _ _ _ _ _ stateless walk ran.walk ran.answered (steady_start _ _ _ _ _ stateless walk ran.walk begun.own begun.starts (record { file_system = tt; callback = λ depth path state list. refl; clones = λ x y is. refl; default = λ x is. refl })) begun.starts begun.holds (record { file_system = tt; callback = λ depth path state list. refl; clones = λ x y is. refl; default = λ x is. refl }) drains none
           ∙ stateless_of (λ fs. functions_of (tree_of fs)) walk c.args.fs _ _ made.file_system made.options made.root;
     })

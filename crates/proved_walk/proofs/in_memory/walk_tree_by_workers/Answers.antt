@@ -1,8 +1,10 @@
-use Rattle.std.proofs.Common.{◌∙◌, refl}
-use Rattle.jwalk.specs.WalkDir.{stateless}
+use Rattle.std.proofs.Common.{◌∙◌, ◌++◌, refl, ap, subst}
+use Rattle.jwalk.specs.WalkDir.{stateless, NoneBusy}
+use Rattle.jwalk.specs.DirEntryIter.{NoneRefused}
 use Rattle.jwalk.specs.walk_model.Options.{crew, defaults, with_parallelism}
 use Rattle.jwalk.specs.walk_model.Tree.{functions_of}
 use Rattle.jwalk.specs.memory_fs.MemoryFs.{tree_of}
+use Rattle.jwalk.specs.read_parts.Given.{counted_list}
 use Rattle.jwalk.proofs.WholeFacts.{steady_begun, stateless_of}
 use Rattle.jwalk.proofs.CleanFacts.{whole_unless_busy}
 use Rattle.jwalk.proofs.AlikeFacts.{stateless_however_read}
@@ -15,8 +17,9 @@ returns g c = λ none free.
     let made = c.new.ensures in
     let ran = c.in_ok-collect_into.ensures in
     let begun = ran.begun in
-    let steady = record { file_system = tt; callback = λ depth path state list. refl; clones = λ x y is. refl; default = λ x is. refl } in
-    whole_unless_busy _ _ _ _ _ stateless walk ran.walk ran.answered begun.begins.0 begun.begins.1.holds
-    (steady_begun _ _ _ _ _ stateless walk ran.walk begun.steady begun.starts steady) begun.starts steady ran.calls none free
-    ∙ stateless_of (λ fs. functions_of (tree_of fs)) walk c.args.fs (with_parallelism crew defaults) _ set.file_system set.options set.root
+    let same = ran.appended ∙ ap (λ l. l ++ ran.answered) c.new-found.ensures.items in
+    ap (counted_list stateless) same
+    ∙ whole_unless_busy _ _ _ _ _ stateless walk ran.walk ran.answered begun.begins.0 begun.begins.1.holds
+    (steady_begun _ _ _ _ _ stateless walk ran.walk begun.steady begun.starts (record { file_system = tt; callback = λ depth path state list. refl; clones = λ x y is. refl; default = λ x is. refl })) begun.starts (record { file_system = tt; callback = λ depth path state list. refl; clones = λ x y is. refl; default = λ x is. refl }) ran.calls (subst NoneRefused same none) (subst NoneBusy same free)
+    ∙ stateless_of (λ fs. functions_of (tree_of fs)) walk c.args.fs (with_parallelism crew defaults) _ (set.file_system ∙ made.file_system) (set.options ∙ ap (with_parallelism crew) made.options) (set.root ∙ made.root)
     ∙ stateless_however_read crew (functions_of (tree_of c.args.fs)) defaults _
