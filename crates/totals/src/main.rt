@@ -32,10 +32,10 @@ fn main(rt: HostRuntime) -> anyhow::Result<()> {
         })
         .for_each(|answer| match answer {
             Ok(entry) => {
-                files = files.saturating_add(entry.file_type().is_file() as u64);
+                files = files.saturating_add(u64::from(entry.file_type().is_file()));
                 bytes = bytes.saturating_add(entry.client_state);
                 let unread = entry.read_children.as_ref().and_then(|it| it.error());
-                errors = errors.saturating_add(unread.is_some() as u64);
+                errors = errors.saturating_add(u64::from(unread.is_some()));
             }
             Err(_) => errors = errors.saturating_add(1),
         });
