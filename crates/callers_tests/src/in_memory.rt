@@ -1,8 +1,9 @@
 //! Walks over a tree in memory, and a closure over the lists that a crew reads, by the functions of `proved_walk`.
 use jwalk::file_system::{BuildError, MemoryFs};
 use jwalk::{Crew, Parallelism, WalkDirGeneric};
+use proved_walk::each::{each_in_tree, try_each_in_tree};
 use proved_walk::in_memory::{
-    walk_tree, walk_tree_by_crew, walk_tree_on_threads, walk_tree_unless_busy,
+    walk_tree, walk_tree_by_crew, walk_tree_by_workers, walk_tree_on_threads, walk_tree_unless_busy,
 };
 use proved_walk::turned_by_crew::walk_turned_by_crew;
 use std::alloc::{AllocError, Global};
@@ -68,6 +69,56 @@ fn shows_by_crew<R: Host>(rt: &R, wanted: &str) -> Result<bool, BuildError> {
 #[test]
 fn a_tree_in_memory_that_a_crew_reads(rt: HostRuntime) {
     assert!(rt; matches!(shows_by_crew(&rt, WHOLE), Ok(true)));
+}
+
+/// Whether these are the lines of a walk over it that threads of its own read for, as many as the count says.
+fn shows_by_workers<R: Host>(rt: &R, count: usize, wanted: &str) -> Result<bool, BuildError> {
+    let alloc = rt.alloc();
+    let (fs, root) = small(alloc)?;
+    let found = walk_tree_by_workers(alloc, rt, count, fs, root)?;
+    Ok(are_lines(alloc, found.as_slice(), wanted))
+}
+
+#[test]
+fn a_tree_in_memory_that_workers_of_the_walk_read(rt: HostRuntime) {
+    for count in 0..3 {
+        assert!(rt; matches!(shows_by_workers(&rt, count, WHOLE), Ok(true)));
+    }
+}
+
+#[test]
+fn all_answers_appended_to_those_of_another_walk(rt: HostRuntime) -> Result<(), BuildError> {
+    let alloc = rt.alloc();
+    let (fs, root) = small(alloc)?;
+    let mut found = walk_tree(alloc, fs, root)?;
+    let (fs, root) = small(alloc)?;
+    WalkDirGeneric::<((), ()), _, _, _>::new(fs, root).collect_into(&mut found)?;
+    assert_eq!(rt; found.len(), 10);
+    assert!(rt; are_lines(alloc, found.as_slice().get(5..).unwrap_or(&[]), WHOLE));
+    Ok(())
+}
+
+#[test]
+fn a_closure_called_with_each_answer(rt: HostRuntime) -> Result<(), BuildError> {
+    let alloc = rt.alloc();
+    let (fs, root) = small(alloc)?;
+    let mut count: usize = 0;
+    each_in_tree(fs, root, |_| count = count.saturating_add(1));
+    assert_eq!(rt; count, 5);
+    Ok(())
+}
+
+#[test]
+fn a_closure_called_until_it_fails(rt: HostRuntime) -> Result<(), BuildError> {
+    let alloc = rt.alloc();
+    let (fs, root) = small(alloc)?;
+    let mut count: usize = 0;
+    let result = try_each_in_tree(fs, root, |_| {
+        count = count.saturating_add(1);
+        if count < 3 { Ok(()) } else { Err(count) }
+    });
+    assert!(rt; matches!(result, Err(3)));
+    Ok(())
 }
 
 /// Whether these are the lines of a walk over it that waits 10 milliseconds for a place of a crew.
