@@ -1,0 +1,2 @@
+pub mod FitsFacts
+pub mod NameFacts
