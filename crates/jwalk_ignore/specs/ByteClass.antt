@@ -1,5 +1,5 @@
 -- The named classes of bytes.
-use Rattle.std.specs.Prelude.{ℕ, Bool, ◌==◌, ◌&&◌, ◌||◌, nat_le}
+use Rattle.std.specs.Prelude.{ℕ, Bool, ◌==◌, ◌&&◌, ◌||◌, nat_le, List, Option, Some, None, codes, bytes_eq, if◌then◌else◌}
 use Rattle.jwalk_ignore.specs.declared.byte_class.ByteClass.{ByteClass}
 use Rattle.jwalk_ignore.specs.declared.byte_class.ByteClass.TheVariants.{Alnum, Alpha, Blank, Cntrl, Digit, Graph, Lower, Print, Punct, Space, Upper, Xdigit}
 
@@ -33,3 +33,20 @@ class_has Punct byte = within 33 47 byte || within 58 64 byte || within 91 96 by
 class_has Space byte = byte == 9 || byte == 10 || byte == 13 || byte == 32
 class_has Upper byte = is_upper byte
 class_has Xdigit byte = is_digit byte || within 65 70 byte || within 97 102 byte
+
+-- the class of a name
+abbrev pub class_by_name : List ℕ → Option ByteClass
+class_by_name name =
+    if bytes_eq name (codes "xdigit") then Some Xdigit
+    else if bytes_eq name (codes "alnum") then Some Alnum
+    else if bytes_eq name (codes "alpha") then Some Alpha
+    else if bytes_eq name (codes "blank") then Some Blank
+    else if bytes_eq name (codes "cntrl") then Some Cntrl
+    else if bytes_eq name (codes "digit") then Some Digit
+    else if bytes_eq name (codes "graph") then Some Graph
+    else if bytes_eq name (codes "lower") then Some Lower
+    else if bytes_eq name (codes "print") then Some Print
+    else if bytes_eq name (codes "punct") then Some Punct
+    else if bytes_eq name (codes "space") then Some Space
+    else if bytes_eq name (codes "upper") then Some Upper
+    else None

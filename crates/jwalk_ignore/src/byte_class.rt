@@ -1,6 +1,6 @@
 //! The named classes of bytes.
 ghost use Rattle.std.specs.Prelude.{◌≡◌};
-ghost use Rattle.jwalk_ignore.specs.ByteClass.{class_has};
+ghost use Rattle.jwalk_ignore.specs.ByteClass.{class_by_name, class_has};
 
 /// A class of bytes by its name in a pattern, as `[:digit:]`. Only bytes of ASCII are in one.
 #[derive(Clone, Copy, Debug, PartialEq, Eq)]
@@ -50,6 +50,29 @@ impl ByteClass {
             ByteClass::Space => matches!(byte, b'\t' | b'\n' | b'\r' | b' '),
             ByteClass::Upper => matches!(byte, b'A'..=b'Z'),
             ByteClass::Xdigit => matches!(byte, b'0'..=b'9' | b'A'..=b'F' | b'a'..=b'f'),
+        }
+    }
+
+    /// Returns the class of a name, as of `digit`.
+    pub fn by_name(name: &[u8]) -> Option<Self>
+        ensures { result ≡ class_by_name name.now }
+    {
+        if name == b"xdigit".as_slice() {
+            return Some(ByteClass::Xdigit);
+        }
+        match name {
+            b"alnum" => Some(ByteClass::Alnum),
+            b"alpha" => Some(ByteClass::Alpha),
+            b"blank" => Some(ByteClass::Blank),
+            b"cntrl" => Some(ByteClass::Cntrl),
+            b"digit" => Some(ByteClass::Digit),
+            b"graph" => Some(ByteClass::Graph),
+            b"lower" => Some(ByteClass::Lower),
+            b"print" => Some(ByteClass::Print),
+            b"punct" => Some(ByteClass::Punct),
+            b"space" => Some(ByteClass::Space),
+            b"upper" => Some(ByteClass::Upper),
+            _ => None,
         }
     }
 }

@@ -12,8 +12,15 @@ pub struct Glob<A: Allocator + Copy = Global> {
 }
 
 impl<A: Allocator + Copy> Glob<A> {
-    ghost use Rattle.std.specs.Prelude.{◌↔◌, IsTrue};
-    ghost use Rattle.jwalk_ignore.specs.Glob.{glob_value, IsNamed};
+    ghost use Rattle.std.specs.Prelude.{◌≡◌, ◌↔◌, IsTrue};
+    ghost use Rattle.jwalk_ignore.specs.Glob.{glob_value, parts_value, IsNamed};
+
+    /// Returns the pattern of these parts.
+    pub(crate) fn new(parts: Vec<Part<ByteTest<A>>, A>) -> Self
+        ensures { glob_value result ≡ parts_value parts.items }
+    {
+        Glob { parts }
+    }
 
     /// Returns whether a name fits.
     pub fn fits(&self, name: &[u8]) -> bool
