@@ -1,13 +1,12 @@
 #!/usr/bin/env python3
-"""Rows of ignore files, paths and what git says of them.
+"""Rows of ignore files, paths and what git says of them, as in crates/ignore_tests/src/rows.rt.
 
-    python3 bench/ignore.py [SEED [COUNT]] > rows
+    python3 bench/ignore.py [SEED [COUNT]]
 
 Makes random ignore files and paths, and asks `git check-ignore` about each in a fresh repository, with the directories
 on disk, since git takes a path's type from there. A row is left out where git's answer is about a directory above the
 path, and where a literal text has `**` directly behind it: git 2.39 matches more there than it documents.
-A row is the file, the path, `d` or `f` and the answer (`I`gnored, `K`ept or `-`), with a tab between; bytes outside
-printable ASCII, tabs and backslashes are written as `\\xNN`.
+A row is the file, the path, whether that is a directory, and the answer.
 """
 import os
 import random
@@ -162,23 +161,26 @@ def answered(rows):
     wanted = []
     for rules, asked in rows:
         paths = {}
+        rows_of = {path for path, _ in asked}
         for path, is_dir in asked:
             parts = path.split(b"/")
             for end in range(1, len(parts)):
                 paths[b"/".join(parts[:end])] = True
             paths.setdefault(path, is_dir)
-        wanted.append((rules, [(p, d) for p, d in paths.items()]))
-    for (rules, asked), answers in zip(wanted, ask(wanted)):
+        wanted.append((rules, [(p, d) for p, d in paths.items()], rows_of))
+    for (rules, asked, rows_of), answers in zip(wanted, ask([(rules, asked) for rules, asked, _ in wanted])):
         if len(answers) != len(asked):
             continue
         by_path = {path: answer for (path, _), answer in zip(asked, answers)}
         for path, is_dir in asked:
+            if path not in rows_of:
+                continue
             parts = path.split(b"/")
             above = [by_path[b"/".join(parts[:end])] for end in range(1, len(parts))]
             if any(answer and not answer.startswith(b"!") for answer in above):
                 continue
             answer = by_path[path]
-            yield rules, path, is_dir, "-" if not answer else "K" if answer.startswith(b"!") else "I"
+            yield rules, path, is_dir, "Unsaid" if not answer else "Kept" if answer.startswith(b"!") else "Ignored"
 
 
 def random_rows(random, count):
@@ -195,16 +197,18 @@ def random_rows(random, count):
 
 
 def written(data):
-    return "".join(chr(c) if 32 <= c < 127 and c != 92 else "\\x%02x" % c for c in data)
+    """A byte string of Rust."""
+    plain = {9: "\\t", 10: "\\n", 13: "\\r", 34: '\\"', 92: "\\\\"}
+    return 'b"' + "".join(plain.get(c, chr(c) if 32 <= c < 127 else "\\x%02x" % c) for c in data) + '"'
 
 
 def main():
     seed = int(sys.argv[1]) if len(sys.argv) > 1 else 1
-    count = int(sys.argv[2]) if len(sys.argv) > 2 else 100
+    count = int(sys.argv[2]) if len(sys.argv) > 2 else 20
     rows = [(rules, [(p.rstrip(b"/"), p.endswith(b"/")) for p in paths]) for rules, paths in FIXED]
     rows += list(random_rows(random.Random(seed), count))
     for rules, path, is_dir, answer in answered(rows):
-        print(written(rules), written(path), "d" if is_dir else "f", answer, sep="\t")
+        print(f"({written(rules)}, {written(path)}, {str(is_dir).lower()}, Decision::{answer}),")
 
 
 main()

@@ -103,7 +103,7 @@ module _ {Y : Type 0} (read : List ℕ → Option Y) (none : read [] ≡ None) w
       let one : 1 + n ≡ suc n = omega arith in
       let two : suc n + 1 ≡ suc (n + 1) = omega arith in
       let onto : onto_first c (lines_of cs) ≡ (c ∷ before_first is_line_feed cs) ∷ others = ap (onto_first c) first in
-      (others, simp (e, one, two) onto, simp (e, one, two) same)
+      (others, simp (e, one) onto, simp (e, one, two) same)
 
   -- one byte more
   by_first_byte : (b : Bool) (c : ℕ) (cs : List ℕ) → is_line_feed c ≡ b → Parted cs → Parted (c ∷ cs)

@@ -18,7 +18,7 @@ going_on c cs e (others, first, names) =
     let one : 1 + n ≡ suc n = omega arith in
     let two : suc n + 1 ≡ suc (n + 1) = omega arith in
     let onto : onto_first c (pieces cs) ≡ (c ∷ before_first is_slash cs) ∷ others = ap (onto_first c) first in
-    (others, simp (e, one, two) onto, simp (e, one, two) names)
+    (others, simp (e, one) onto, simp (e, one, two) names)
 
 -- one byte more
 by_first_byte : (b : Bool) (c : ℕ) (cs : List ℕ) → is_slash c ≡ b → Parted cs → Parted (c ∷ cs)

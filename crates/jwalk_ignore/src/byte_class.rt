@@ -3,8 +3,8 @@ ghost use Rattle.std.specs.Prelude.{◌≡◌};
 ghost use Rattle.jwalk_ignore.specs.ByteClass.{class_by_name, class_has};
 
 /// A class of bytes by its name in a pattern, as `[:digit:]`. Only bytes of ASCII are in one.
-#[derive(Clone, Copy, Debug, PartialEq, Eq)]
-pub enum ByteClass {
+#[derive(Clone, Copy)]
+pub(crate) enum ByteClass {
     /// `alnum`: letters and digits.
     Alnum,
     /// `alpha`: letters.
@@ -33,7 +33,7 @@ pub enum ByteClass {
 
 impl ByteClass {
     /// Returns whether a byte is in the class.
-    pub fn has(self, byte: u8) -> bool
+    pub(crate) fn has(self, byte: u8) -> bool
         ensures { result ≡ class_has self byte }
     {
         match self {
@@ -54,7 +54,7 @@ impl ByteClass {
     }
 
     /// Returns the class of a name, as of `digit`.
-    pub fn by_name(name: &[u8]) -> Option<Self>
+    pub(crate) fn by_name(name: &[u8]) -> Option<Self>
         ensures { result ≡ class_by_name name.now }
     {
         if name == b"xdigit".as_slice() {

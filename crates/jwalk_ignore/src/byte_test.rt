@@ -6,7 +6,7 @@ use std::alloc::{Allocator, Global};
 
 /// Which bytes fit at one place of a name.
 #[derive(Drop)]
-pub enum ByteTest<A: Allocator + Copy = Global> {
+pub(crate) enum ByteTest<A: Allocator + Copy = Global> {
     /// This byte alone.
     Byte(u8),
     /// Any byte: `?`.
@@ -19,7 +19,7 @@ impl<A: Allocator + Copy> ByteTest<A> {
     ghost use Rattle.jwalk_ignore.specs.ByteTest.{test_value, fits};
 
     /// Returns whether a byte fits.
-    pub fn fits(&self, byte: u8) -> bool
+    pub(crate) fn fits(&self, byte: u8) -> bool
         ensures { result ≡ fits (test_value self.now) byte }
     {
         match self {

@@ -50,7 +50,7 @@ fn read_items<A: Allocator + Copy>(
 
 /// A class of bytes, as `[a-z]`, or `[!a-z]` and `[^a-z]` for all other bytes.
 #[derive(Drop)]
-pub struct Class<A: Allocator + Copy = Global> {
+pub(crate) struct Class<A: Allocator + Copy = Global> {
     negated: bool,
     items: Vec<ClassItem, A>,
 }
@@ -75,7 +75,7 @@ impl<A: Allocator + Copy> Class<A> {
     }
 
     /// Returns whether the class has a byte.
-    pub fn has(&self, byte: u8) -> bool
+    pub(crate) fn has(&self, byte: u8) -> bool
         ensures { result ≡ has (class_value self.now) byte }
     {
         is_listed(&self.items, byte) != self.negated

@@ -5,8 +5,8 @@ ghost use Rattle.jwalk_ignore.specs.ClassItem.{item_has};
 use crate::byte_class::ByteClass;
 
 /// One item of a class, as `a`, `a-z` or `[:alpha:]` of `[aa-z[:alpha:]]`.
-#[derive(Clone, Copy, Debug, PartialEq, Eq)]
-pub enum ClassItem {
+#[derive(Clone, Copy)]
+pub(crate) enum ClassItem {
     /// The bytes from the first to the second, both included. There are none if the second is below the first.
     Range(u8, u8),
     /// The bytes of a named class.
@@ -15,7 +15,7 @@ pub enum ClassItem {
 
 impl ClassItem {
     /// Returns whether the item has a byte.
-    pub fn has(self, byte: u8) -> bool
+    pub(crate) fn has(self, byte: u8) -> bool
         ensures { result ≡ item_has self byte }
     {
         match self {

@@ -7,7 +7,7 @@ use std::alloc::{Allocator, Global};
 
 /// A pattern of one name, as `*.o`.
 #[derive(Drop)]
-pub struct Glob<A: Allocator + Copy = Global> {
+pub(crate) struct Glob<A: Allocator + Copy = Global> {
     parts: Vec<Part<ByteTest<A>>, A>,
 }
 
@@ -23,7 +23,7 @@ impl<A: Allocator + Copy> Glob<A> {
     }
 
     /// Returns whether a name fits.
-    pub fn fits(&self, name: &[u8]) -> bool
+    pub(crate) fn fits(&self, name: &[u8]) -> bool
         ensures { IsTrue result ↔ IsNamed (glob_value self.now) name.now }
     {
         let mut taken = take_front(&self.parts, name);

@@ -2,7 +2,7 @@
 
 /// A part of a pattern of bytes or of names.
 #[derive(Drop)]
-pub enum Part<T> {
+pub(crate) enum Part<T> {
     /// Any number of items in a row, or none: `*` of bytes, `**` of names.
     Many,
     /// One item, which has to fit.
