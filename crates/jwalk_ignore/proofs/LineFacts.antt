@@ -10,7 +10,7 @@ use Rattle.jwalk_ignore.specs.Line.{is_space, is_line_feed, lines_of, trimmed}
 
 -- one byte in front of a beginning
 in_front : (blank : Bool) (c : ℕ) (cs short : List ℕ) → short ≡ take (length short) cs
-  → (if blank then [] else c ∷ short) ≡ take (length (if blank then [] else c ∷ short)) (c ∷ cs)
+    → (if blank then [] else c ∷ short) ≡ take (length (if blank then [] else c ∷ short)) (c ∷ cs)
 in_front true c cs short is = refl
 in_front false c cs short is = ap (λ (xs : List ℕ). c ∷ xs) is
 
@@ -54,7 +54,7 @@ kept_rest (c ∷ cs) some = (length (trimmed (c == 92) cs), ap (λ (b : Bool). l
 
 -- a space that may be at the end
 space_next : (blank : Bool) (end place : ℕ) (cs : List ℕ) → list_all is_space cs ≡ blank
-  → whole_end end place (length (if blank then [] else 32 ∷ trimmed false cs)) ≡ whole_end end (place + 1) (length (trimmed false cs))
+    → whole_end end place (length (if blank then [] else 32 ∷ trimmed false cs)) ≡ whole_end end (place + 1) (length (trimmed false cs))
 space_next true end place cs blank = ap (λ (xs : List ℕ). whole_end end (place + 1) (length xs)) (sym (blank_rest cs blank))
 space_next false end place cs blank =
     let some = kept_rest cs blank in
@@ -63,21 +63,21 @@ space_next false end place cs blank =
 
 -- a byte more
 pub next_end : (escaped space : Bool) (end place c : ℕ) (cs : List ℕ) → (c == 32) ≡ space
-  → whole_end end place (length (trimmed escaped (c ∷ cs)))
-  ≡ whole_end (if escaped || not space then place + 1 else end) (place + 1) (length (trimmed (not escaped && c == 92) cs))
+    → whole_end end place (length (trimmed escaped (c ∷ cs)))
+    ≡ whole_end (if escaped || not space then place + 1 else end) (place + 1) (length (trimmed (not escaped && c == 92) cs))
 next_end true space end place c cs is = one_kept place (length (trimmed false cs))
 next_end false false end place c cs is =
     ap (λ (b : Bool). whole_end end place (length (if b && list_all is_space cs then [] else c ∷ trimmed (c == 92) cs))) is ∙ one_kept place (length (trimmed (c == 92) cs))
 next_end false true end place c cs is =
     let same : c ≡ 32 = search (rules, tests) in
     subst (λ (x : ℕ). whole_end end place (length (trimmed false (x ∷ cs))) ≡ whole_end end (place + 1) (length (trimmed (x == 92) cs))) (sym same)
-      (space_next (list_all is_space cs) end place cs refl)
+    (space_next (list_all is_space cs) end place cs refl)
 
 -- the byte at a place more
 pub next_end_at : (escaped kept escapes : Bool) (end place : ℕ) (text : List ℕ) → place < length text
-  → kept ≡ (escaped || not (is_space (get_or text place 0))) → escapes ≡ (not escaped && get_or text place 0 == 92)
-  → whole_end end place (length (trimmed escaped (drop place text)))
-  ≡ whole_end (if kept then place + 1 else end) (place + 1) (length (trimmed escapes (drop (place + 1) text)))
+    → kept ≡ (escaped || not (is_space (get_or text place 0))) → escapes ≡ (not escaped && get_or text place 0 == 92)
+    → whole_end end place (length (trimmed escaped (drop place text)))
+    ≡ whole_end (if kept then place + 1 else end) (place + 1) (length (trimmed escapes (drop (place + 1) text)))
 next_end_at escaped kept escapes end place text inside is_kept is_escape =
     let c : ℕ = get_or text place 0 in
     let cs : List ℕ = drop (place + 1) text in

@@ -12,9 +12,9 @@ use Rattle.jwalk_ignore.specs.Token.{Token, token_in}
 -- what is read behind a token
 abbrev going_on : ℕ → NamesRead → Option (Token × List ℕ) → Option (List (Part (List (Part ByteTest))))
 going_on n read found = elim found [
-    None ↦ None
+  | None ↦ None
   | Some next ↦ parts_in n (added next.0 read) next.1
-  ]
+]
 
 -- a malformed token
 pub no_token : (n : ℕ) (read : NamesRead) (rest : List ℕ) → (length rest == 0) ≡ false → token_in rest ≡ None → parts_in n read rest ≡ None
@@ -29,7 +29,7 @@ at_end n read (byte ∷ behind) none = let clash : suc (length behind) ≡ 0 = s
 
 -- reading on behind one token
 pub next_token : (n : ℕ) (read : NamesRead) (rest : List ℕ) (token : Token) (behind : List ℕ) → token_in rest ≡ Some (token, behind)
-  → length rest ≤ n → length behind < length rest → (m : ℕ) × (length behind ≤ m) × (parts_in n read rest ≡ parts_in m (added token read) behind)
+    → length rest ≤ n → length behind < length rest → (m : ℕ) × (length behind ≤ m) × (parts_in n read rest ≡ parts_in m (added token read) behind)
 next_token n read [] token behind is within shorter = absurd (omega arith)
 next_token zero read (byte ∷ after) token behind is within shorter = absurd (omega arith)
 next_token (suc n) read (byte ∷ after) token behind is within shorter = (n, omega arith, ap (going_on n read) is)

@@ -5,7 +5,7 @@ use Rattle.jwalk_ignore.specs.Rules.{NoneMatches, LastMatch, Says}
 
 -- all of a list by value, of which the last is known
 pub map_last : {X Y : Type 0} (value : X → Y) (before : List X) (last : X) (behind : List Y)
-  → map value (before ++ last ∷ []) ++ behind ≡ map value before ++ value last ∷ behind
+    → map value (before ++ last ∷ []) ++ behind ≡ map value before ++ value last ∷ behind
 map_last value [] last behind = refl
 map_last value (x ∷ xs) last behind = ap (λ (ys : List _). value x ∷ ys) (map_last value xs last behind)
 

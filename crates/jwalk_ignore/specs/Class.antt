@@ -31,8 +31,8 @@ items_in items last (suc skip) (byte ∷ behind) = items_in items last skip behi
 items_in items last zero (byte ∷ behind) =
     if closes byte (length items) then Some (items, behind)
     else elim (item_in last (byte ∷ behind)) [
-      None ↦ None
-    | Some read ↦ items_in (items ++ read.item ∷ []) read.last (read.len - 1) behind
+      | None ↦ None
+      | Some read ↦ items_in (items ++ read.item ∷ []) read.last (read.len - 1) behind
     ]
 
 -- a class of these items, and what is behind it

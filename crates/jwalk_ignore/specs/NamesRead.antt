@@ -51,6 +51,6 @@ abbrev pub parts_in : ℕ → NamesRead → List ℕ → Option (List (Part (Lis
 parts_in tokens read [] = Some (finished read)
 parts_in zero read (byte ∷ behind) = None
 parts_in (suc tokens) read (byte ∷ behind) = elim (token_in (byte ∷ behind)) [
-    None ↦ None
+  | None ↦ None
   | Some next ↦ parts_in tokens (added next.0 read) next.1
-  ]
+]

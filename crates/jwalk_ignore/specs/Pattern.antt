@@ -27,7 +27,7 @@ pattern_of_text keeps text =
     let inner = without_last_slash text in
     let names = without_first_slash inner in
     option_map (λ parts. record { keeps = keeps; only_dirs = ends_with_slash text; parts = parts })
-      (parts_in (length names) (record { parts = first_parts inner; name = [] }) names)
+    (parts_in (length names) (record { parts = first_parts inner; name = [] }) names)
 
 -- the pattern of a line's text; none for a blank text, a comment and a malformed pattern
 abbrev pub pattern_in : List ℕ → Option Pattern

@@ -34,8 +34,11 @@ row_below = refl
 row_escaped : pattern_in (codes "\\#") ≡ Some (record { keeps = false; only_dirs = false; parts = Many ∷ name 35 ∷ [] })
 row_escaped = refl
 
-row_class : pattern_in (codes "[]a-c]") ≡ Some (record { keeps = false; only_dirs = false;
-  parts = Many ∷ One (One (OneOf (record { negated = false; items = Range 93 93 ∷ Range 97 97 ∷ Range 97 99 ∷ [] })) ∷ []) ∷ [] })
+row_class : pattern_in (codes "[]a-c]") ≡ Some (record {
+  keeps = false;
+  only_dirs = false;
+  parts = Many ∷ One (One (OneOf (record { negated = false; items = Range 93 93 ∷ Range 97 97 ∷ Range 97 99 ∷ [] })) ∷ []) ∷ [];
+})
 row_class = refl
 
 row_open_class : pattern_in (codes "[a") ≡ None

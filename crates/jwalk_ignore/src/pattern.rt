@@ -57,7 +57,10 @@ fn has_slash(text: &[u8]) -> bool
 }
 
 /// Returns the parts in front of those of a text: `**` if it has no slash.
-fn first_parts<A: Allocator + Copy>(alloc: A, text: &[u8]) -> Result<Vec<Part<Glob<A>>, A>, AllocError>
+fn first_parts<A: Allocator + Copy>(
+    alloc: A,
+    text: &[u8],
+) -> Result<Vec<Part<Glob<A>>, A>, AllocError>
     ensures { IfOk result (λ parts. globs_value parts.items ≡ first_parts text.now) }
 {
     let mut parts = Vec::new(alloc);

@@ -48,7 +48,10 @@ impl<A: Allocator + Copy> Token<A> {
         ensures shorter { IfOk result (λ r. IfSome r (λ x. length x.1.now < length text.now)) }
     {
         match Class::read(alloc, text)? {
-            Some((class, behind)) => Ok(Some((Token::Part(Part::One(ByteTest::OneOf(class))), behind))),
+            Some((class, behind)) => Ok(Some((
+                Token::Part(Part::One(ByteTest::OneOf(class))),
+                behind,
+            ))),
             None => Ok(None),
         }
     }

@@ -9,6 +9,6 @@ use Rattle.jwalk_ignore.proofs.names_read.is_stars.Goals as goal
 
 pub returns : goal.returns
 returns g c =
-  all_from_yields_List (λ part. is_many (part_map test_value part)) _ _ _ c.all.ensures.ran
+    all_from_yields_List (λ part. is_many (part_map test_value part)) _ _ _ c.all.ensures.ran
     (YieldsList-from_slice c.args.name.now c.iter.ensures.rest) (λ x b q k. search (rules, tests))
-  ∙ sym (list_all-map (part_map test_value) is_many c.args.name.now)
+    ∙ sym (list_all-map (part_map test_value) is_many c.args.name.now)
