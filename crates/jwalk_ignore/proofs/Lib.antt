@@ -1,0 +1,6 @@
+pub mod FitsFacts
+pub mod NameFacts
+pub mod ClassFacts
+pub mod PartsFacts
+pub mod RulesFacts
+pub mod LineFacts

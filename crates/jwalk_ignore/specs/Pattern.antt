@@ -1,0 +1,45 @@
+-- The pattern of one line.
+use Rattle.std.specs.Prelude.{◌≡◌, ℕ, ◌==◌, Bool, true, false, IsTrue, List, [], ◌∷◌, length, Option, Some, None, if◌then◌else◌}
+use Rattle.std.specs.Option.{option_map}
+use Rattle.jwalk_ignore.specs.ByteTest.{ByteTest}
+use Rattle.jwalk_ignore.specs.NamePattern.{globs_value, IsReached}
+use Rattle.jwalk_ignore.specs.Names.{names_of}
+use Rattle.jwalk_ignore.specs.NamesRead.{parts_in}
+use Rattle.jwalk_ignore.specs.PatternText.{without_first_slash, without_last_slash, ends_with_slash, first_parts}
+use Rattle.jwalk_ignore.specs.declared.decision.Decision.{Decision}
+use Rattle.jwalk_ignore.specs.declared.decision.Decision.TheVariants.{Ignored, Kept}
+use Rattle.jwalk_ignore.specs.declared.part.Part.{Part}
+use Rattle.jwalk_ignore.specs.declared.pattern.Pattern.{Pattern as CodePattern}
+
+-- a pattern by value: whether it begins with `!`, whether it ends with a slash, and the parts for the names of a path
+pub record Pattern : Type 0 where
+  pub keeps : Bool
+  pub only_dirs : Bool
+  pub parts : List (Part (List (Part ByteTest)))
+
+-- a pattern by value
+abbrev pub pattern_value : {A : Type 0} → CodePattern A → Pattern
+pattern_value pattern = record { keeps = pattern.keeps; only_dirs = pattern.only_dirs; parts = globs_value pattern.parts.items }
+
+-- the pattern of a text behind the `!`, if there is one; none if it is malformed
+abbrev pub pattern_of_text : Bool → List ℕ → Option Pattern
+pattern_of_text keeps text =
+    let inner = without_last_slash text in
+    let names = without_first_slash inner in
+    option_map (λ parts. record { keeps = keeps; only_dirs = ends_with_slash text; parts = parts })
+    (parts_in (length names) (record { parts = first_parts inner; name = [] }) names)
+
+-- the pattern of a line's text; none for a blank text, a comment and a malformed pattern
+abbrev pub pattern_in : List ℕ → Option Pattern
+pattern_in [] = None
+pattern_in (byte ∷ behind) =
+    if byte == 35 then None else if byte == 33 then pattern_of_text true behind else pattern_of_text false (byte ∷ behind)
+
+-- a pattern matches a path: the names fit, and it is a directory if the pattern ends with a slash
+abbrev pub Matches : Pattern → List ℕ → Bool → Type 0
+Matches pattern path is_dir = (IsTrue pattern.only_dirs → IsTrue is_dir) × IsReached pattern.parts (names_of path)
+
+-- what a pattern says of a path that it matches, by whether it begins with `!`
+abbrev pub decision_of : Bool → Decision
+decision_of true = Kept
+decision_of false = Ignored
