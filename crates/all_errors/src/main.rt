@@ -34,7 +34,7 @@ fn sort_of(error: &Error) -> &'static str {
 /// Returns the error of an answer, or the one in which reading the entry's directory ended.
 fn error_of(answer: &jwalk::Result<DirEntry<((), ())>>) -> Option<&Error> {
     match answer {
-        Ok(entry) => entry.read_children.as_ref().and_then(|it| it.error()),
+        Ok(entry) => entry.read_children_error(),
         Err(error) => Some(error),
     }
 }

@@ -46,7 +46,7 @@ struct Row {
 }
 
 impl Row {
-    /// The walk, read by so many workers.
+    /// The walk, read by that many workers.
     fn begun<R: Host>(&self, rt: &R, workers: usize) -> Result<Walk<R>, BuildError> {
         let walk = with_all(over_tree(rt.alloc(), self.steps, self.root)?, self.settings);
         Ok(walk.workers(rt, workers)?.into_iter())

@@ -106,7 +106,7 @@ fn answers_by_two<R: Host>(rt: &R, fs: Meeting<R>) -> Result<Vec<Answer>, AllocE
     all_of(alloc, walk.parallelism(by_crew).into_iter())
 }
 
-/// All that a walk over the two yields, which so many workers of its own read.
+/// All that a walk over the two yields, which that many workers of its own read.
 fn answers_by_own<R: Host>(
     rt: &R,
     fs: Meeting<R>,

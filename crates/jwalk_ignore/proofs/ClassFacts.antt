@@ -1,6 +1,6 @@
 -- How the items of a class are read on.
 use Prim.Native.Nat.{zero}
-use Rattle.std.proofs.Common.{◌≡◌, ℕ, suc, ◌<◌, ◌-◌, List, [], ◌∷◌, ◌++◌, Option, Some, None, false, length, drop, ap, subst, refl, sym, ◌∙◌, arith}
+use Rattle.std.proofs.Common.{◌≡◌, ℕ, suc, ◌<◌, ◌-◌, List, [], ◌∷◌, ◌++◌, Option, Some, false, length, drop, ap, subst, refl, sym, ◌∙◌, arith}
 use Rattle.std.proofs.Math.Seq.{drop-nil}
 use Rattle.jwalk_ignore.specs.Class.{closes, items_in}
 use Rattle.jwalk_ignore.specs.ItemRead.{item_in}

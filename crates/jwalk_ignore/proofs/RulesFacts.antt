@@ -1,7 +1,7 @@
 -- The last pattern that matches.
-use Rattle.std.proofs.Common.{◌≡◌, ℕ, Bool, true, false, List, [], ◌∷◌, ◌++◌, map, ap, refl, sym, ◌∙◌, append_assoc}
-use Rattle.jwalk_ignore.specs.Pattern.{Pattern, Matches, decision_of}
-use Rattle.jwalk_ignore.specs.Rules.{NoneMatches, LastMatch, Says}
+use Rattle.std.proofs.Common.{◌≡◌, ℕ, Bool, true, false, List, [], ◌∷◌, ◌++◌, map, ap, refl}
+use Rattle.jwalk_ignore.specs.Pattern.{Pattern, decision_of}
+use Rattle.jwalk_ignore.specs.Rules.{LastMatch, Says}
 
 -- all of a list by value, of which the last is known
 pub map_last : {X Y : Type 0} (value : X → Y) (before : List X) (last : X) (behind : List Y)

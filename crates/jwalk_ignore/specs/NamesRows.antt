@@ -1,5 +1,5 @@
 -- The names of paths, row by row.
-use Rattle.std.specs.Prelude.{◌≡◌, List, [], ◌∷◌, codes, refl}
+use Rattle.std.specs.Prelude.{◌≡◌, [], ◌∷◌, codes, refl}
 use Rattle.jwalk_ignore.specs.Names.{names_of}
 
 row_empty : names_of [] ≡ []

@@ -1,5 +1,5 @@
 -- The pattern of one line.
-use Rattle.std.specs.Prelude.{◌≡◌, ℕ, ◌==◌, Bool, true, false, IsTrue, List, [], ◌∷◌, length, Option, Some, None, if◌then◌else◌}
+use Rattle.std.specs.Prelude.{ℕ, ◌==◌, Bool, true, false, IsTrue, List, [], ◌∷◌, length, Option, None, if◌then◌else◌}
 use Rattle.std.specs.Option.{option_map}
 use Rattle.jwalk_ignore.specs.ByteTest.{ByteTest}
 use Rattle.jwalk_ignore.specs.NamePattern.{globs_value, IsReached}

@@ -1,7 +1,7 @@
 -- The patterns of texts, row by row.
-use Rattle.std.specs.Prelude.{◌≡◌, ℕ, true, false, List, [], ◌∷◌, Option, Some, None, codes, refl}
-use Rattle.jwalk_ignore.specs.ByteTest.{ByteTest, Byte, Any, OneOf}
-use Rattle.jwalk_ignore.specs.Pattern.{Pattern, pattern_in}
+use Rattle.std.specs.Prelude.{◌≡◌, ℕ, true, false, List, [], ◌∷◌, Some, None, codes, refl}
+use Rattle.jwalk_ignore.specs.ByteTest.{ByteTest, Byte, OneOf}
+use Rattle.jwalk_ignore.specs.Pattern.{pattern_in}
 use Rattle.jwalk_ignore.specs.declared.class_item.ClassItem.TheVariants.{Range}
 use Rattle.jwalk_ignore.specs.declared.part.Part.{Part}
 use Rattle.jwalk_ignore.specs.declared.part.Part.TheVariants.{Many, One}

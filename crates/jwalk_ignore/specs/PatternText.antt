@@ -1,5 +1,5 @@
 -- The slashes at both ends of a pattern.
-use Rattle.std.specs.Prelude.{ℕ, Bool, false, ◌-◌, List, [], ◌∷◌, length, get_or, take, if◌then◌else◌}
+use Rattle.std.specs.Prelude.{ℕ, Bool, ◌-◌, List, [], ◌∷◌, length, get_or, take, if◌then◌else◌}
 use Rattle.std.specs.List.{list_any}
 use Rattle.jwalk_ignore.specs.ByteTest.{ByteTest}
 use Rattle.jwalk_ignore.specs.Names.{is_slash}

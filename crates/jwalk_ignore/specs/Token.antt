@@ -3,7 +3,7 @@ use Rattle.std.specs.Prelude.{ℕ, ◌==◌, List, [], ◌∷◌, Option, Some, 
 use Rattle.std.specs.Borrow.{Bor}
 use Rattle.std.specs.Option.{option_map}
 use Rattle.jwalk_ignore.specs.ByteTest.{ByteTest, Byte, Any, OneOf, test_value}
-use Rattle.jwalk_ignore.specs.Class.{ClassValue, class_in}
+use Rattle.jwalk_ignore.specs.Class.{class_in}
 use Rattle.jwalk_ignore.specs.Fits.{part_map}
 use Rattle.jwalk_ignore.specs.declared.part.Part.{Part}
 use Rattle.jwalk_ignore.specs.declared.part.Part.TheVariants.{Many, One}

@@ -1,5 +1,5 @@
 -- Answers with sizes, counted one call after another, and what walks with sizes come to.
-use Rattle.std.proofs.Common.{◌≡◌, ◌+◌, ℕ, Bool, true, false, cond, ◌&&◌, List, [], ◌∷◌, ◌++◌, Option, Some, None, Result, Ok, Err, map, refl, sym, ap, subst, ◌∙◌, arith}
+use Rattle.std.proofs.Common.{◌≡◌, ◌+◌, ℕ, Bool, true, false, cond, ◌&&◌, List, [], ◌∷◌, ◌++◌, Option, Some, None, Result, Ok, Err, map, refl, sym, ap, subst, ◌∙◌}
 use Rattle.std.specs.Prelude.{option_map, is_err}
 use Rattle.std.specs.List.{sum_by}
 use Rattle.std.specs.Iterator.{Yields}
@@ -11,7 +11,7 @@ use Rattle.jwalk.specs.walk_model.declared.file_type.FileType.{FileType}
 use Rattle.jwalk.specs.walk_model.FileType.{is_dir, is_file, is_symlink}
 use Rattle.jwalk.specs.walk_model.FileSystem.{Functions}
 use Rattle.jwalk.specs.walk_model.Entry.{Children, Entry, Item, metadata_of}
-use Rattle.jwalk.specs.walk_model.Counted.{Worth, blank, number, bytes, both, children_by}
+use Rattle.jwalk.specs.walk_model.Counted.{Worth, blank, number, bytes, children_by}
 use Rattle.jwalk.specs.walk_model.Walk.{stateless_walk}
 use Rattle.jwalk.specs.read_parts.declared.dir_entry.DirEntry.{DirEntry}
 use Rattle.jwalk.specs.read_parts.declared.error.Error.{Error}
@@ -21,7 +21,7 @@ use Rattle.jwalk.specs.jwalk_process.declared.size.Size.{Size}
 use Rattle.jwalk.specs.jwalk_process.declared.size.Size.TheVariants.{Unasked, Len, Failed}
 use Rattle.jwalk.specs.jwalk_process.WithSizes.{with_asked, counted_size, size_worth, sizing}
 use Rattle.jwalk.proofs.SizedWalks.{walks_are_sized}
-use Rattle.jwalk.specs.DirEntryIter.{TellsMemory, NoneRefused}
+use Rattle.jwalk.specs.DirEntryIter.{TellsMemory}
 use Rattle.jwalk_usage.specs.declared.report.Usage.{Usage}
 use Rattle.jwalk_usage.specs.declared.report.UsageFault.{UsageFault}
 use Rattle.jwalk_usage.specs.declared.report.UsageFault.TheVariants.{TooMany, Memory}

@@ -1,5 +1,5 @@
 -- Totals don't depend on states.
-use Rattle.std.proofs.Common.{◌≡◌, ◌+◌, ℕ, List, [], ◌∷◌, map, Option, Some, None, Ok, Err, refl, sym, ap, ap₂, ◌∙◌}
+use Rattle.std.proofs.Common.{◌≡◌, ◌+◌, ℕ, List, [], ◌∷◌, map, Some, None, Ok, Err, refl, sym, ap₂, ◌∙◌}
 use Rattle.std.specs.List.{sum_by}
 use Rattle.std.proofs.lemmas.List.Sums.{sum_by-cons}
 use Rattle.jwalk.specs.walk_model.FileType.{is_dir, is_file, is_symlink}

@@ -13,7 +13,7 @@ use std::alloc::Allocator;
 use std::fmt::Debug;
 
 impl Usage {
-    ghost use Rattle.std.specs.Prelude.{◌≡◌, ◌⊎◌, Ok, IfErr, OnOk};
+    ghost use Rattle.std.specs.Prelude.{◌≡◌, Ok, IfErr, OnOk};
     ghost use Rattle.jwalk.specs.read_parts.Entry.{entry, item};
     ghost use Rattle.jwalk.specs.DirEntryIter.{TellsMemory};
     ghost use Rattle.jwalk_usage.specs.Counts.{IsTooGreat};

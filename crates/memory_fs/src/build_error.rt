@@ -1,7 +1,7 @@
 //! Why a tree can't be built on.
 ghost use Rattle.std.specs.Prelude.{◌≡◌};
 
-use std::alloc::AllocError;
+use std::alloc::{AllocError, AllocFailed};
 use std::error::Error;
 use std::fmt;
 
@@ -40,6 +40,17 @@ impl From<AllocError> for BuildError {
     ghost from_gives = { λ _ e. e ≡ Memory };
 
     fn from(_error: AllocError) -> Self {
+        BuildError::Memory
+    }
+}
+
+/// Memory ran out for a value that the failure hands back, as that of `Vec::push`. The value is dropped.
+impl<T: Drop> From<AllocFailed<T>> for BuildError {
+    ghost use Rattle.memory_fs.specs.declared.build_error.BuildError.TheVariants.{Memory};
+
+    ghost from_gives = { λ _ error. error ≡ Memory };
+
+    fn from(_failed: AllocFailed<T>) -> Self {
         BuildError::Memory
     }
 }

@@ -1,5 +1,5 @@
 -- Walks whose answers are handed to a closure.
-use Rattle.std.specs.Prelude.{◌≡◌, List, Result, Ok, Err, MatchResult}
+use Rattle.std.specs.Prelude.{◌≡◌, List}
 use Rattle.std.specs.List.{FoldsTo}
 use denote.Param.Members.{Mut, Called}
 

@@ -64,7 +64,7 @@ fn asked<S: FileSystem, A: Allocator + Copy>(
 }
 
 impl<C: ClientState, A: Allocator + Copy> DirEntry<C, A> {
-    ghost use Rattle.std.specs.Prelude.{◌≡◌, ◌||◌, true, Ok, Err, IfOk, IfErr, IfSome, MatchResult, option_map, string_bytes, if◌then◌else◌};
+    ghost use Rattle.std.specs.Prelude.{◌≡◌, ◌||◌, true, Ok, Err, IfOk, IfErr, IfSome, MatchResult, option_map, option_and_then, option_copied, string_bytes, if◌then◌else◌};
     ghost use Rattle.walk_model.specs.Entry.{path_of, metadata_of, IsErrorOf, with_error, children_at};
     ghost use Rattle.walk_model.specs.FileType.{is_dir, is_symlink};
     ghost use Rattle.walk_model.specs.Metadata.{type_of};
@@ -148,6 +148,17 @@ impl<C: ClientState, A: Allocator + Copy> DirEntry<C, A> {
         ensures { texts result.now ≡ (entry self.now).ancestors }
     {
         &self.ancestors
+    }
+
+    /// Returns the error that reading the entry's directory ended in: `None` if it was read, or isn't to be.
+    pub fn read_children_error(&self) -> Option<&Error<A>>
+        ensures { option_map failure (option_copied result)
+            ≡ option_and_then (λ children. children.error) (entry self.now).read_children }
+    {
+        match &self.read_children {
+            Some(children) => children.error(),
+            None => None,
+        }
     }
 
     /// Returns the path of the entry: its `file_name` below its `parent_path`.

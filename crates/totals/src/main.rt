@@ -34,7 +34,7 @@ fn main(rt: HostRuntime) -> anyhow::Result<()> {
             Ok(entry) => {
                 files = files.saturating_add(u64::from(entry.file_type().is_file()));
                 bytes = bytes.saturating_add(entry.client_state);
-                let unread = entry.read_children.as_ref().and_then(|it| it.error());
+                let unread = entry.read_children_error();
                 errors = errors.saturating_add(u64::from(unread.is_some()));
             }
             Err(_) => errors = errors.saturating_add(1),

@@ -1,5 +1,5 @@
 -- What a normalised path and what is left of one are as components, the last first.
-use Rattle.std.specs.Prelude.{◌<◌, ◌+◌, ◌^◌, ℕ, List, [], map, length, fold}
+use Rattle.std.specs.Prelude.{◌<◌, ◌+◌, ◌^◌, List, [], map, length, fold}
 use Rattle.std.specs.Fn.{iterate}
 use Rattle.std.specs.Path.{components_remaining}
 use Rattle.walk_model.specs.Paths.{Component, after_one, after_up}

@@ -1,5 +1,5 @@
 -- What an iterator that notes errors passes on.
-use Rattle.std.proofs.Common.{◌≡◌, ◌∙◌, Bool, true, false, ◌&&◌, List, [], ◌∷◌, Option, Some, None, Result, is_ok, refl, sym, ap}
+use Rattle.std.proofs.Common.{◌≡◌, ◌∙◌, Bool, true, false, ◌&&◌, List, [], ◌∷◌, Option, None, Result, is_ok, refl, sym, ap}
 use Rattle.std.specs.Iterator.{Yields, YieldsThen, Drains}
 use Rattle.std.specs.List.{list_all}
 use Rattle.walk_run.specs.declared.noting.Noting.{Noting}

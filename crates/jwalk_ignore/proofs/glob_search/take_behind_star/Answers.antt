@@ -1,7 +1,6 @@
-use Rattle.std.proofs.Common.{rules, ◌≤◌, ◌∷◌, length, drop, ◌≡◌, ℕ, sym, ◌∙◌, arith}
 use Rattle.jwalk_ignore.specs.ByteTest.{test_value}
-use Rattle.jwalk_ignore.specs.Glob.{parts_value, IsNamed, TakesByte}
-use Rattle.jwalk_ignore.proofs.FitsFacts.{star_next, star_end, behind_decides}
+use Rattle.jwalk_ignore.specs.Glob.{parts_value, TakesByte}
+use Rattle.jwalk_ignore.proofs.FitsFacts.{star_next, behind_decides}
 use Rattle.jwalk_ignore.proofs.glob_search.take_behind_star.Goals as goal
 
 pub returns-in_default-clause-decides : goal.returns-in_default-clause-decides

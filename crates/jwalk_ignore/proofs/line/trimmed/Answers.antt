@@ -1,4 +1,4 @@
-use Rattle.std.proofs.Common.{◌≡◌, ◌+◌, ◌≤◌, ℕ, Bool, true, false, List, [], ◌∷◌, length, take, drop, ap, sym, ◌∙◌, arith}
+use Rattle.std.proofs.Common.{◌+◌, ◌≤◌, ℕ, Bool, true, false, length, take, drop, ap, sym, ◌∙◌, arith}
 use Rattle.jwalk_ignore.specs.Line.{trimmed}
 use Rattle.jwalk_ignore.proofs.LineFacts.{a_beginning, from_start, at_end, next_end_at, whole_end}
 use Rattle.jwalk_ignore.proofs.line.trimmed.Goals as goal

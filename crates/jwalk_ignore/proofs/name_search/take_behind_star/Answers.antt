@@ -1,8 +1,7 @@
-use Rattle.std.proofs.Common.{rules, ◌≤◌, ◌∷◌, length, drop, ◌≡◌, ℕ, sym, ◌∙◌, arith}
 use Rattle.jwalk_ignore.specs.Glob.{glob_value, IsNamed}
 use Rattle.jwalk_ignore.specs.Names.{names_of}
 use Rattle.jwalk_ignore.specs.NamePattern.{globs_value}
-use Rattle.jwalk_ignore.proofs.FitsFacts.{star_next, star_end, behind_decides}
+use Rattle.jwalk_ignore.proofs.FitsFacts.{star_next, behind_decides}
 use Rattle.jwalk_ignore.proofs.name_search.take_behind_star.Goals as goal
 
 pub returns-in_default-clause-decides : goal.returns-in_default-clause-decides

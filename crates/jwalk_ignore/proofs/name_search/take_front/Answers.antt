@@ -1,5 +1,4 @@
-use Rattle.std.proofs.Common.{◌≤◌, ◌∷◌, length, drop, ◌≡◌, ℕ, List, [], ◌<◌, true, false, sym, ◌∙◌, arith, subst, ap, refl}
-use Rattle.std.specs.Bool.{◌==◌}
+use Rattle.std.proofs.Common.{drop, ◌≡◌, List, [], true, false, sym, arith, subst, refl}
 use Rattle.std.proofs.lemmas.List.{nil_from_length}
 use Rattle.jwalk_ignore.specs.declared.part.Part.{Part}
 use Rattle.jwalk_ignore.specs.declared.part.Part.TheVariants.{Many, One}

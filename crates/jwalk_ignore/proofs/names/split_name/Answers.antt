@@ -1,4 +1,4 @@
-use Rattle.std.proofs.Common.{◌≡◌, ℕ, List, [], length, true, false, ap, sym, ◌∙◌}
+use Rattle.std.proofs.Common.{◌≡◌, ℕ, List, length, true, false, ap, ◌∙◌}
 use Rattle.std.specs.Bool.{◌==◌}
 use Rattle.jwalk_ignore.proofs.NameFacts.{first_name}
 use Rattle.jwalk_ignore.proofs.names.split_name.Goals as goal

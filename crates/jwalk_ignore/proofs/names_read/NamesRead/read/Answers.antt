@@ -1,8 +1,8 @@
-use Rattle.std.proofs.Common.{◌≡◌, ◌≤◌, ℕ, List, [], Some, None, length, ap, sym, ◌∙◌, arith}
+use Rattle.std.proofs.Common.{◌≡◌, Some, None, length, ap, sym, ◌∙◌, arith}
 use Rattle.std.specs.Option.{option_map}
 use Rattle.jwalk_ignore.specs.Glob.{parts_value}
 use Rattle.jwalk_ignore.specs.NamePattern.{globs_value}
-use Rattle.jwalk_ignore.specs.NamesRead.{NamesRead, added, finished, parts_in, read_value}
+use Rattle.jwalk_ignore.specs.NamesRead.{NamesRead, parts_in, read_value}
 use Rattle.jwalk_ignore.specs.Token.{token_in, token_read, token_value}
 use Rattle.jwalk_ignore.proofs.PartsFacts.{no_token, at_end, next_token}
 use Rattle.jwalk_ignore.proofs.names_read.NamesRead.read.Goals as goal
