@@ -62,7 +62,7 @@ fn a_reading_that_was_interrupted_is_made_again(rt: HostRuntime) {
 }
 
 #[test]
-fn want_of_memory_while_names_are_read(rt: HostRuntime) {
+fn memory_runs_out_while_names_are_read(rt: HostRuntime) {
     assert!(rt;
         is_read(
             rt.alloc(),
@@ -130,7 +130,7 @@ fn a_fault_of_each_call(rt: HostRuntime) {
 }
 
 #[test]
-fn want_of_memory_in_each_call(rt: HostRuntime) {
+fn memory_runs_out_in_each_call(rt: HostRuntime) {
     const ROWS: &[Row] = &[
         (&[(Call::Look, "/t")], "! 0 - memory\n"),
         (&[(Call::Open, "/t/")], "! 0 - memory\n"),
