@@ -1,0 +1,5 @@
+//! File systems that fail, change or lie, by worked examples.
+mod endless;
+mod failing_calls;
+mod lies;
+mod vanishing;
