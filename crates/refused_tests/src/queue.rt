@@ -120,7 +120,19 @@ fn passes<'m>(
         || (item.index_path == *matcher.looking_for() && matcher.advance_past(&item).is_ok())
 }
 
-const PASSED: &[(&[usize], usize)] = &[(&[0], 2), (&[0, 0], 1), (&[0, 0, 0], 0), (&[0, 1], 0)];
+/// So deep that the matcher's memory doesn't last.
+const PASSED: &[(&[usize], usize)] = &[
+    (&[0], 2),
+    (&[0, 0], 1),
+    (&[0, 0, 0], 1),
+    (&[0, 0, 0, 0], 1),
+    (&[0, 0, 0, 0, 0], 1),
+    (&[0, 0, 0, 0, 0, 0], 1),
+    (&[0, 0, 0, 0, 0, 0, 0], 1),
+    (&[0, 0, 0, 0, 0, 0, 0, 0], 1),
+    (&[0, 0, 0, 0, 0, 0, 0, 0, 0], 0),
+    (&[0, 1], 0),
+];
 
 /// The passes of a matcher.
 struct OfMatcher;
