@@ -7,8 +7,8 @@ use std::alloc::Global;
 use walk_fixtures::trees::tree;
 use walk_ways::width::Width;
 
-/// The greatest heap, in pieces of 16 bytes.
-const GREATEST: usize = 4_000;
+/// The greatest heap, in pieces of 64 bytes.
+const GREATEST: usize = 1_000;
 
 /// How the walk of a row comes out over a heap of that many bytes, all of which must be free again afterwards.
 fn comes_over(
@@ -38,9 +38,9 @@ fn first_wrong(alloc: Global, row: &Row, width: Width, taken: Taken) -> Option<u
         return Some(0);
     };
     for pieces in 1..GREATEST {
-        let size = pieces.wrapping_mul(16);
+        let size = pieces.wrapping_mul(64);
         match comes_over(alloc, size, &fs, row, width, taken) {
-            Came::Whole if pieces > 20 => return None,
+            Came::Whole if pieces > 5 => return None,
             Came::Refused => {}
             _ => return Some(size),
         }
