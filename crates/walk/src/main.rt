@@ -25,7 +25,9 @@ type Disk = Patient<RealFs, HostRuntime>;
 
 /// Returns the words, and the disk.
 fn call_of(rt: &HostRuntime) -> Result<(Vec<String>, Disk), Failure> {
+    // begin patient
     let disk = Patient::new(RealFs::new(rt.clone()?), rt.clone()?);
+    // end patient
     Ok((words_of(rt)?, disk))
 }
 
