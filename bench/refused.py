@@ -7,8 +7,9 @@ Build the program first: (cd crates/walk && rt run). It needs a C compiler, `cc`
 the C library's allocator, and refuses what it is told to, of the program's own requests alone: those by which the C
 library starts threads aren't counted. A walk runs again and again, with the first request refused, then the second, and so
 on, until a run meets no refusal. Each run must end within 20 seconds with a beginning of the walk's lines, and then
-`! 0 - memory`, or `walk: memory refused` on standard error, and status 1; or, over a crew, with all its lines. When the
-program ends, all pieces must have been given back, by a crew's threads within two seconds. Whatever else comes is printed,
+`! 0 - memory`, or `walk: memory refused` on standard error, and status 1; or, over a crew, with all its lines. A walk for
+totals must print nothing and report `walk: memory refused`; over a crew it may also have its line, or status 1 and a line
+in which a busy crew is counted as an error. When the program ends, all pieces must have been given back, by a crew's threads within two seconds. Whatever else comes is printed,
 and the script ends with 1.
 """
 import os
@@ -171,6 +172,9 @@ ROWS = [
     (GROUPS, ["--sort", "/t"], ALL + ["2 f /t/group 2/e.txt"], 0),
     (GROUPS + "x /t/group 2\n", ["--sort", "/t"], ALL[:-1] + ["1 d /t/group 2 ! PermissionDenied"], 0),
     (LOOP, ["--follow", "/r"], ["0 d /r", "1 d /r/a", "2 d /r/a/b", "3 d /r/a/b/c", "! 4 /r/a/b/c/a-link loop /r/a"], 1),
+    (GROUPS, ["--usage", "/t"], ["files 5 dirs 3 links 0 others 0 errors 0 bytes 18"], 0),
+    (GROUPS + "x /t/group 2\n", ["--usage", "/t"], ["files 4 dirs 3 links 0 others 0 errors 1 bytes 14"], 0),
+    (LOOP, ["--usage", "--follow", "/r"], ["files 0 dirs 4 links 0 others 0 errors 1 bytes 0"], 1),
 ]
 
 WAYS = [[], ["--batch", "1"], ["--batch", "2"], ["--batch", "8"], ["--crew", "2"], ["--crew", "8"]]
@@ -196,6 +200,8 @@ def is_right(out, err, status, lines, wanted, refused, by_crew):
         return False
     if err == "walk: memory refused\n":
         return whole.startswith(out)
+    if whole.startswith("files "):
+        return by_crew and not err and out.startswith("files ") and out.count("\n") == 1
     # a crew of which no thread could be started is busy
     last = [end for end in ("! 0 - memory\n", "! 0 - busy\n") if out.endswith(end) and (by_crew or "busy" not in end)]
     before = out[: -len(last[0])] if last else "\n"
