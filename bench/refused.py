@@ -198,9 +198,10 @@ def is_right(out, err, status, lines, wanted, refused, by_crew):
         return True
     if not refused or status != 1:
         return False
+    is_usage = whole.startswith("files ")
     if err == "walk: memory refused\n":
-        return whole.startswith(out)
-    if whole.startswith("files "):
+        return not out if is_usage else whole.startswith(out)
+    if is_usage:
         return by_crew and not err and out.startswith("files ") and out.count("\n") == 1
     # a crew of which no thread could be started is busy
     last = [end for end in ("! 0 - memory\n", "! 0 - busy\n") if out.endswith(end) and (by_crew or "busy" not in end)]
