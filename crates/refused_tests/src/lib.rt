@@ -1,4 +1,4 @@
-//! Steps of board, queue and matcher and calls that build a tree, where each request for memory is refused once.
+//! Steps of board, queue and matcher, calls that build a tree, and a rehearsal, where each request for memory is refused once.
 #![tactic(auto)]
 
 #[cfg(test)]
@@ -9,3 +9,5 @@ mod building;
 mod memory;
 #[cfg(test)]
 mod queue;
+#[cfg(test)]
+mod rehearsal;
