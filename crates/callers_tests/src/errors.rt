@@ -173,8 +173,9 @@ fn metadata(alloc: Global, follow: bool) -> Option<Metadata> {
     .ok()
 }
 
+// An unfollowed link has its own metadata, a followed one those of the file that it leads to.
 #[test]
-fn the_metadata_of_a_link_and_of_what_was_followed(rt: HostRuntime) {
+fn metadata_through_the_wrong_call(rt: HostRuntime) {
     let link = metadata(rt.alloc(), false);
     let file = metadata(rt.alloc(), true);
     let is_link = link == Some(Metadata::new(FileType::Symlink, 1));
