@@ -4,6 +4,7 @@ mod lines;
 mod links;
 pub mod runs;
 mod streams;
+mod together;
 mod totals;
 mod trees;
 mod words;
