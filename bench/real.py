@@ -227,7 +227,7 @@ def find_sum(root):
 
 
 def adders(walk, root):
-    """The programs that add up what stands below a root, hidden names too, each with its bounds beside `du` and `find`."""
+    """The programs that add up what is below a root, hidden names too, each with its bounds beside `du` and `find`."""
     usage = [walk, "--usage", "--hidden"]
     yield "serial", [*usage, root], {"du": 2.4}
     yield "crew 4", [*usage, "--crew", "4", root], {"du": 1.0, "find": 1.0}

@@ -56,5 +56,5 @@ module _ {C S P A T W L R : Type 0} (files : FileSystem.Ghosts S) (process : Pro
       ∙ sized_whole fs (options_of walk) (root_of walk) blank (map item answered) (whole files process clone defaults pool (sizing fs) walk it answered steadily starts begun steady drains adds.none_refused)
 
 -- A callback that asks a fixed file system puts the sizes that these functions give, if they are its own.
-pub puts_sizes : {R : Type 0} (fixed : Type 0) (fs own : Functions) → fixed → own ≡ fs → PutsSizes fixed own (sizing {R} fs)
-puts_sizes fixed fs own is same = (is, (λ size. refl), λ depth path state list. ap (λ f. sizes f depth path state list) (sym same))
+pub puts_sizes : (R : Type 0) (fixed : Type 0) (fs own : Functions) → fixed → own ≡ fs → PutsSizes fixed own (sizing {R = R} fs)
+puts_sizes R fixed fs own is same = (is, (λ size. refl), λ depth path state list. ap (λ f. sizes f depth path state list) (sym same))

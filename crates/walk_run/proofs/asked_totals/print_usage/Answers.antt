@@ -53,7 +53,7 @@ returns-clause-printed g c = λ clean fixed.
     let steady : IsSteady _ _ _ _ (file_system_of walk) (callback_of walk) (sizing own)
     = record {
       file_system = subst g.S.FileSystem.IsFixed (sym over) fixed;
-      callback = puts_sizes _ own (functions (arc_value (asks (callback_of walk)))) (subst g.S.FileSystem.IsFixed (sym asked) fixed) (ap functions (asked ∙ sym over));
+      callback = puts_sizes _ _ own (functions (arc_value (asks (callback_of walk)))) (subst g.S.FileSystem.IsFixed (sym asked) fixed) (ap functions (asked ∙ sym over));
       clones = λ x y is. refl;
       default = λ x is. ap size_worth is;
     } in

@@ -1,14 +1,18 @@
-//! Two files whose sizes are asked at the same time.
+//! Sizes of files, asked where directories are read.
 ghost use Rattle.walk_model.specs.Tree.{functions_of, only_root};
 
-use crate::program::runs::comes_unread;
+use crate::program::runs::{TREE_A, Want, comes_unread, watched_over};
 use jwalk::file_system::{Fault, FileSystem, FileType, Listed, Metadata};
 use std::alloc::{AllocError, Allocator};
 use std::io::ErrorKind;
+use std::sync::Wait;
 use std::sync::atomic::{AtomicBool, Ordering};
+use std::thread::Threads;
 use std::time::{Clock, Duration};
 use std::{io, thread};
 use walk_fixtures::listed_directory::{Item, ListedDirectory};
+use walk_fixtures::watched::{Calls, Failing};
+use walk_text::failure::Failure;
 
 /// A directory of two directories.
 const BOTH: ListedDirectory<'static> = ListedDirectory {
@@ -111,4 +115,51 @@ fn one_worker_asks_for_one_size_at_a_time(rt: HostRuntime) -> Result<(), AllocEr
     let want = ("files 2 dirs 3 links 0 others 0 errors 1 bytes 4\n", "", 0);
     assert!(rt; comes_unread(&rt, disk, &[], &["--usage", "--crew", "1", "/r"], &want));
     Ok(())
+}
+
+/// The words in front of a call's own: one directory at a time, a batch, and a crew.
+const FRONTS: &[&[&str]] = &[&[], &["--batch", "2"], &["--crew", "2"]];
+
+/// How often a disk that is tree A is called for its totals, if these are right.
+fn calls_for_totals(
+    rt: &(impl Wait + Threads + Clock + Clone + Drop + Send + Sync + AllocGlobal + 'static),
+    front: &[&str],
+) -> Result<Option<Calls>, Failure> {
+    let disk = watched_over(rt.alloc(), TREE_A, Failing::Never)?;
+    let want = ("files 5 dirs 3 links 0 others 0 errors 0 bytes 18\n", "", 0);
+    let is_right = comes_unread(rt, disk.clone()?, front, &["--usage", "/t"], &want);
+    Ok(is_right.then_some(disk.calls()))
+}
+
+// The root is looked at, and each of the five files; each of the three directories is listed.
+#[test]
+fn each_file_is_asked_for_its_length_once(rt: HostRuntime) {
+    let once = Calls {
+        lists: 3,
+        looks: 6,
+        follows: 0,
+    };
+    for front in FRONTS {
+        assert!(rt; matches!(calls_for_totals(&rt, front), Ok(Some(calls)) if calls == once));
+    }
+}
+
+/// Whether a call for the totals of tree A reports that memory ran out, where the disk has none for that path.
+fn reports_memory(
+    rt: &(impl Wait + Threads + Clock + Clone + Drop + Send + Sync + AllocGlobal + 'static),
+    front: &[&str],
+    path: &'static str,
+) -> Result<bool, Failure> {
+    let disk = watched_over(rt.alloc(), TREE_A, Failing::MetadataForMemory(path))?;
+    let want: Want<'_> = ("", "walk: memory refused\n", 1);
+    Ok(comes_unread(rt, disk, front, &["--usage", "/t"], &want))
+}
+
+#[test]
+fn memory_that_runs_out_for_a_file_is_told(rt: HostRuntime) {
+    for front in FRONTS {
+        for path in ["/t/b.txt", "/t/group 1/d.txt"] {
+            assert!(rt; matches!(reports_memory(&rt, front, path), Ok(true)));
+        }
+    }
 }
