@@ -1,5 +1,5 @@
 -- The totals of a walk are those of all that was to come.
-use Rattle.std.proofs.Common.{◌≡◌, ◌⊎◌, ◌∙◌, false, sym, ap, map, refl}
+use Rattle.std.proofs.Common.{◌≡◌, ◌⊎◌, ◌∙◌, ℕ, List, Option, false, sym, ap, map}
 use Rattle.std.specs.declared.clone.Clone as Clone
 use Rattle.std.specs.declared.default.Default as Default
 use Rattle.jwalk.specs.walk_fs.declared.file_system.FileSystem as FileSystem
@@ -8,13 +8,15 @@ use Rattle.jwalk.specs.jwalk_crew.declared.pool.Pool as Pool
 use Rattle.jwalk.specs.jwalk_entries.declared.dir_entry_iter.DirEntryIter.{DirEntryIter}
 use Rattle.jwalk.specs.declared.walk_dir.WalkDirGeneric.{WalkDirGeneric}
 use Rattle.jwalk.specs.walk_model.FileSystem.{Functions}
-use Rattle.jwalk.specs.walk_model.Counted.{blank}
+use Rattle.jwalk.specs.walk_model.Entry.{Item}
+use Rattle.jwalk.specs.walk_model.ReadDir.{Reading}
+use Rattle.jwalk.specs.walk_model.Counted.{Worth, blank}
 use Rattle.jwalk.specs.walk_model.Walk.{whole_walk, stateless_walk}
 use Rattle.jwalk.specs.read_parts.Entry.{item}
 use Rattle.jwalk.specs.read_parts.Given.{Given}
 use Rattle.jwalk.specs.jwalk_read.Job.{IsSteady}
 use Rattle.jwalk.specs.jwalk_process.declared.size.Size.{Size}
-use Rattle.jwalk.specs.jwalk_process.WithSizes.{sizes, sizing, PutsSizes}
+use Rattle.jwalk.specs.jwalk_process.WithSizes.{sizes, sizing}
 use Rattle.jwalk.specs.WalkDir.{file_system_of, callback_of, root_of, state_of, options_of, job_for, Starts, Holds}
 use Rattle.jwalk.specs.DirEntryIter.{by_crew, to_come, IsRefused, IsSteadyWalk, Answers}
 use Rattle.jwalk.proofs.WholeFacts.{all_answered, whole, steady_start}
@@ -55,6 +57,6 @@ module _ {C S P A T W L R : Type 0} (files : FileSystem.Ghosts S) (process : Pro
       adds.totals
       ∙ sized_whole fs (options_of walk) (root_of walk) blank (map item answered) (whole files process clone defaults pool (sizing fs) walk it answered steadily starts begun steady drains adds.none_refused)
 
--- A callback that asks a fixed file system puts the sizes that these functions give, if they are its own.
-pub puts_sizes : (R : Type 0) (fixed : Type 0) (fs own : Functions) → fixed → own ≡ fs → PutsSizes fixed own (sizing {R = R} fs)
-puts_sizes R fixed fs own is same = (is, (λ size. refl), λ depth path state list. ap (λ f. sizes f depth path state list) (sym same))
+-- Two file systems that return the same have the same sizes.
+pub same_sizes : (fs other : Functions) → other ≡ fs → (depth : Option ℕ) (path : List ℕ) (state : Worth) (list : List (Item Worth Worth)) → ◌≡◌ {A = Reading Worth Worth} (sizes fs depth path state list) (sizes other depth path state list)
+same_sizes fs other same depth path state list = ap (λ f. sizes f depth path state list) (sym same)

@@ -5,7 +5,7 @@ use Rattle.jwalk.specs.jwalk_process.WithSizes.{asks, size_worth, sizing}
 use Rattle.jwalk.specs.WalkDir.{file_system_of, callback_of, options_of, root_of, stateless}
 use Rattle.jwalk.proofs.WholeFacts.{steady_start}
 use Rattle.jwalk_usage.specs.Totals.{totals}
-use Rattle.jwalk_usage.proofs.WholeTotals.{counted_over, whole_sized, puts_sizes}
+use Rattle.jwalk_usage.proofs.WholeTotals.{counted_over, whole_sized, same_sizes}
 use Rattle.proved_walk.proofs.totals.totals_of_both.Goals as goal
 
 pub returns : goal.returns
@@ -23,7 +23,7 @@ returns g c = λ alike.
     let steadily : IsSteady _ _ _ _ (file_system_of sized) (callback_of sized) (sizing own)
     = record {
       file_system = alike.sized_over.0;
-      callback = puts_sizes _ _ own (g.H.FileSystem.functions (asks (callback_of sized))) alike.sized_by.0 (alike.sized_by.1 ∙ sym alike.sized_over.1);
+      callback = (alike.sized_by.0, (λ size. refl), same_sizes own (g.H.FileSystem.functions (asks (callback_of sized))) (alike.sized_by.1 ∙ sym alike.sized_over.1));
       clones = λ x y is. refl;
       default = λ x is. ap size_worth is;
     } in

@@ -13,7 +13,7 @@ use Rattle.jwalk.proofs.SizedWalks.{walks_are_sized}
 use Rattle.jwalk.proofs.WholeFacts.{steady_begun}
 use Rattle.jwalk_usage.specs.Totals.{totals}
 use Rattle.jwalk_usage.proofs.SizedFacts.{sized_whole}
-use Rattle.jwalk_usage.proofs.WholeTotals.{puts_sizes}
+use Rattle.jwalk_usage.proofs.WholeTotals.{same_sizes}
 use Rattle.walk_text.specs.Asked.{options_for}
 use Rattle.walk_run.specs.AskedWalk.{answers_over}
 use Rattle.walk_run.specs.Totals.{usage_line}
@@ -53,7 +53,7 @@ returns-clause-printed g c = λ clean fixed.
     let steady : IsSteady _ _ _ _ (file_system_of walk) (callback_of walk) (sizing own)
     = record {
       file_system = subst g.S.FileSystem.IsFixed (sym over) fixed;
-      callback = puts_sizes _ _ own (functions (arc_value (asks (callback_of walk)))) (subst g.S.FileSystem.IsFixed (sym asked) fixed) (ap functions (asked ∙ sym over));
+      callback = (subst g.S.FileSystem.IsFixed (sym asked) fixed, (λ size. refl), same_sizes own (functions (arc_value (asks (callback_of walk)))) (ap functions (asked ∙ sym over)));
       clones = λ x y is. refl;
       default = λ x is. ap size_worth is;
     } in
