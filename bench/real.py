@@ -1,8 +1,9 @@
 #!/usr/bin/env python3
 """Times `walk` on the real disk beside `find`, and beside `fd` and `bfs` where they are installed; and in batches and over
-crews beside the walk that reads a directory at a time, also over a tree in memory.
+crews beside the walk that reads a directory at a time, also over a tree in memory. Then it times totals, `walk --usage`,
+beside `du` and `find`.
 
-    python3 bench/real.py [--save FILE] [FOLDER [PROGRAM]]
+    python3 bench/real.py [--save FILE] [--usage] [FOLDER [PROGRAM]]
 
 Build the program first: (cd crates/walk && rt run). FOLDER holds the trees that the script makes (a temporary folder where
 none is given). All of a tree's programs take turns, each with its output in a file, and the tree is warm: the first turn
@@ -16,6 +17,11 @@ text, and prints a line for it, as for a broken link. `find -L` asks the system 
 loop with its errors, and a broken link with the rest. `fd -L` leaves loops out. So `walk` has a line more for each loop that
 `find` tells too. It has more where a link leads back through another link, whose text doesn't show it, and fewer where a
 text seems to lead back and doesn't.
+Totals are those of /usr and of the 10,000 directories, and with `--usage` only they are timed. A time of them is the median
+of nine turns, and its ratio that of two such times. `find` prints the length of each file, and `awk` adds them up. `dust`,
+`gdu` and `dua` take their turns where they are installed. What `walk` counts is compared with what `find` counts of files,
+directories and links, and with its sum: `equal`, or the two lists of numbers. The tree in memory has 10,000 directories of 19
+files, and `walk --tree --usage` takes turns with `walk --tree`.
 FILE gets the times of the trees on disk, a row for each tree, from which bench/figures.py draws its picture.
 """
 import argparse
@@ -30,6 +36,7 @@ from statistics import median
 
 PROGRAM = os.path.join(os.path.dirname(os.path.abspath(__file__)), "..", "crates", "walk", "out", "walk")
 TURNS = 5
+USAGE_TURNS = 9
 WIDTHS = (1, 4, 16, 64, 256)
 WORKERS = (1, 2, 4)
 
@@ -105,11 +112,11 @@ def run(words, output_path, input_path=os.devnull):
     return seconds, usage.ru_utime + usage.ru_stime, usage.ru_maxrss
 
 
-def turns(commands, output_path, input_path=os.devnull):
+def turns(commands, output_path, input_path=os.devnull, count=TURNS):
     """The runs of each command, but for its first, and the lines that it printed."""
     runs = {name: [] for name, _ in commands}
     lines = {}
-    for turn in range(TURNS + 1):
+    for turn in range(count + 1):
         for name, words in commands:
             measured = run(words, output_path, input_path)
             if turn > 0:
@@ -122,6 +129,10 @@ def turns(commands, output_path, input_path=os.devnull):
 
 def best(runs):
     return min(seconds for seconds, _, _ in runs)
+
+
+def middle(runs):
+    return median(seconds for seconds, _, _ in runs)
 
 
 def processor_ratio(runs, beside):
@@ -207,6 +218,91 @@ def side_by_side(tree, words, output, input_path=os.devnull, others=()):
     return {name: best(of) * 1e3 for name, of in {"serial": serial, "best batch": batch, **singles}.items()}
 
 
+# The length of each file below a root, and their sum.
+FIND_SUM = "find \"$1\" -type f -printf '%s\\n' | awk '{s += $1} END {printf \"%.0f\\n\", s}'"
+
+
+def find_sum(root):
+    return ["sh", "-c", FIND_SUM, "sh", root]
+
+
+def adders(walk, root):
+    """The programs that add up what is below a root, hidden names too, each with its bounds beside `du` and `find`."""
+    usage = [walk, "--usage", "--hidden"]
+    yield "serial", [*usage, root], {"du": 2.4}
+    yield "crew 4", [*usage, "--crew", "4", root], {"du": 1.0, "find": 1.0}
+    yield "du", ["du", "-s", "--apparent-size", root], {}
+    yield "find", find_sum(root), {}
+    others = {"dust": ["-s", "-d", "0"], "gdu": ["-n", "-p", "-s", "-a"], "dua": ["--apparent-size", "aggregate"]}
+    for name, words in others.items():
+        if shutil.which(name):
+            yield name, [name, *words, root], {}
+
+
+def printed(words):
+    return subprocess.run(words, stdin=subprocess.DEVNULL, stdout=subprocess.PIPE, check=True, text=True).stdout
+
+
+def found_totals(root):
+    """What `find` counts below a root: files, directories, links, and the bytes of the files."""
+    counts = [len(printed(["find", root, "-type", letter, "-printf", "."])) for letter in "fdl"]
+    return [*counts, int(printed(find_sum(root)))]
+
+
+def walked_totals(words):
+    """The same numbers from the line of `walk --usage`."""
+    fields = printed(words).split()
+    numbers = dict(zip(fields[::2], map(int, fields[1::2])))
+    return [numbers[name] for name in ("files", "dirs", "links", "bytes")]
+
+
+def add_up(tree, root, walk, output):
+    """The times of all that add up a tree, and whether `walk` counts what `find` does."""
+    commands = list(adders(walk, root))
+    runs, _ = turns([(name, words) for name, words, _ in commands], output, count=USAGE_TURNS)
+    for name, _, bounds in commands:
+        of = runs[name]
+        most = "  (at most " + ", ".join(f"{bound} of {beside}" for beside, bound in bounds.items()) + ")" if bounds else ""
+        print(
+            f"{tree:<6}{name:<8}{middle(of) * 1e3:>10.1f}{middle(of) / middle(runs['du']):>8.2f}"
+            f"{middle(of) / middle(runs['find']):>8.2f}{of[-1][2] / 1024:>8.1f}{most}"
+        )
+    wanted = found_totals(root)
+    for name, words, _ in commands[:2]:
+        found = walked_totals(words)
+        print(f"{tree:<6}{name:<8}files, directories, links and bytes:", "equal" if found == wanted else f"{found}, find {wanted}")
+
+
+def filed(folder):
+    """The file with the lines of a tree of 10,000 directories of 19 files."""
+    path = os.path.join(folder, "filed.txt")
+    with open(path, "w") as file:
+        file.write("d /r\n")
+        for directory in range(10_000):
+            file.write(f"d /r/{directory}\n")
+            file.writelines(f"f {length} /r/{directory}/{length}\n" for length in range(19))
+    return path
+
+
+def add_up_in_memory(walk, output, input_path):
+    commands = [("lines", [walk, "--tree", "/r"]), ("totals", [walk, "--tree", "--usage", "/r"])]
+    runs, _ = turns(commands, output, input_path, USAGE_TURNS)
+    lines, totals = middle(runs["lines"]), middle(runs["totals"])
+    print(
+        f"in memory: totals {totals * 1e3:.1f} ms beside {lines * 1e3:.1f} ms for the lines, {totals / lines:.2f} times (at most 1.1)"
+    )
+
+
+def usages(folder, walk, output):
+    """The totals of the trees that they are timed on."""
+    print(f"totals, medians of {USAGE_TURNS}")
+    print(f"{'tree':<6}{'program':<8}{'ms':>10}{'x du':>8}{'x find':>8}{'MiB':>8}")
+    for tree, root, _ in trees(folder):
+        if tree in ("flat", "/usr"):
+            add_up(tree, root, walk, output)
+    add_up_in_memory(walk, output, filed(folder))
+
+
 def save(path, rows):
     """Writes each tree's milliseconds, with a first line that says where they were taken."""
     columns = list(rows[0][1])
@@ -217,15 +313,8 @@ def save(path, rows):
             print(tree, *(f"{times[column]:.0f}" for column in columns), sep="\t", file=file)
 
 
-def main():
-    parser = argparse.ArgumentParser()
-    parser.add_argument("folder", nargs="?")
-    parser.add_argument("walk", nargs="?", default=PROGRAM, metavar="program")
-    parser.add_argument("--save", metavar="FILE")
-    asked = parser.parse_args()
-    folder = asked.folder or tempfile.mkdtemp(prefix="walk-real-")
-    walk = asked.walk
-    output = os.path.join(folder, "out.txt")
+def listings(folder, walk, output):
+    """The lines of the trees. Returns the milliseconds of each tree, by ways."""
     print(f"{os.cpu_count()} cores, best of {TURNS}")
     print(f"{'tree':<6}{'program':<8}{'lines':>9}{'ms':>10}{'x find':>8}{'cpu x':>8}{'MiB':>8}")
     for tree, root, bound in trees(folder):
@@ -238,8 +327,23 @@ def main():
         others = [(name, words) for name, words in programs(walk, root) if name != "walk"]
         rows.append((tree, side_by_side(tree, [walk, "--hidden", root], output, others=others)))
     side_by_side("memory", [walk, "--tree", "/r"], output, in_memory(folder))
-    if asked.save:
-        save(asked.save, rows)
+    return rows
+
+
+def main():
+    parser = argparse.ArgumentParser()
+    parser.add_argument("folder", nargs="?")
+    parser.add_argument("walk", nargs="?", default=PROGRAM, metavar="program")
+    parser.add_argument("--save", metavar="FILE")
+    parser.add_argument("--usage", action="store_true", help="only the totals")
+    asked = parser.parse_args()
+    folder = asked.folder or tempfile.mkdtemp(prefix="walk-real-")
+    output = os.path.join(folder, "out.txt")
+    if not asked.usage:
+        rows = listings(folder, asked.walk, output)
+        if asked.save:
+            save(asked.save, rows)
+    usages(folder, asked.walk, output)
     if not asked.folder:
         subprocess.run(["rm", "-rf", folder], check=True)
 

@@ -10,16 +10,17 @@ use Rattle.jwalk.specs.walk_model.declared.metadata.Metadata.{Metadata}
 use Rattle.jwalk.specs.walk_model.declared.file_type.FileType.{FileType}
 use Rattle.jwalk.specs.walk_model.FileType.{is_dir, is_file, is_symlink}
 use Rattle.jwalk.specs.walk_model.FileSystem.{Functions}
+use Rattle.jwalk.specs.walk_model.Options.{Options}
 use Rattle.jwalk.specs.walk_model.Entry.{Children, Entry, Item, metadata_of}
 use Rattle.jwalk.specs.walk_model.Counted.{Worth, blank, number, bytes, children_by}
-use Rattle.jwalk.specs.walk_model.Walk.{stateless_walk}
+use Rattle.jwalk.specs.walk_model.Walk.{whole_walk, stateless_walk}
 use Rattle.jwalk.specs.read_parts.declared.dir_entry.DirEntry.{DirEntry}
 use Rattle.jwalk.specs.read_parts.declared.error.Error.{Error}
 use Rattle.jwalk.specs.read_parts.Entry.{item}
 use Rattle.jwalk.specs.read_parts.Given.{counted_item}
 use Rattle.jwalk.specs.jwalk_process.declared.size.Size.{Size}
 use Rattle.jwalk.specs.jwalk_process.declared.size.Size.TheVariants.{Unasked, Len, Failed}
-use Rattle.jwalk.specs.jwalk_process.WithSizes.{with_asked, counted_size, size_worth, sizing}
+use Rattle.jwalk.specs.jwalk_process.WithSizes.{with_asked, counted_size, size_worth, sizing, job_sizing}
 use Rattle.jwalk.proofs.SizedWalks.{walks_are_sized}
 use Rattle.jwalk.specs.DirEntryIter.{TellsMemory}
 use Rattle.jwalk_usage.specs.declared.report.Usage.{Usage}
@@ -174,10 +175,15 @@ module _ (fs : Functions) where
       (sum_same with_asked_size _ _ (type_asked is_file) l) (sum_same with_asked_size _ _ (type_asked is_dir) l) (sum_same with_asked_size _ _ (type_asked is_symlink) l) (sum_same with_asked_size _ _ (type_asked is_other) l)
       (sum_same with_asked_size _ _ errors_asked l) (sum_same with_asked_size _ _ bytes_asked l)
 
-pub sizes_add_up : {B R E : Type 0} → SizesAddUp B R E
-sizes_add_up fs options root state given sized plain walked unsized =
+-- a walk with sizes comes by them to the totals of the walk without a callback
+pub sized_whole : {B : Type 0} (fs : Functions) (options : Options) (root : List ℕ) (state : Worth) (sized : List (Item B Size)) → map (counted_item (sizing fs)) sized ≡ whole_walk (job_sizing fs options) root state → sized_totals sized ≡ totals fs (stateless_walk fs options root)
+sized_whole fs options root state sized walked =
     sym (sized_counted fs sized)
     ∙ ap counted_totals (walked ∙ (walks_are_sized fs options root state).items)
     ∙ totals_asked fs (stateless_walk fs options root)
+
+pub sizes_add_up : {B R E : Type 0} → SizesAddUp B R E
+sizes_add_up fs options root state given sized plain walked unsized =
+    sized_whole fs options root state sized walked
     ∙ ap (totals fs) (sym unsized)
     ∙ same_totals given fs plain

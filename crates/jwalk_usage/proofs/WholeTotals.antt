@@ -1,5 +1,5 @@
 -- The totals of a walk are those of all that was to come.
-use Rattle.std.proofs.Common.{◌≡◌, ◌⊎◌, ◌∙◌, false, sym, ap, map}
+use Rattle.std.proofs.Common.{◌≡◌, ◌⊎◌, ◌∙◌, ℕ, List, Option, false, sym, ap, map}
 use Rattle.std.specs.declared.clone.Clone as Clone
 use Rattle.std.specs.declared.default.Default as Default
 use Rattle.jwalk.specs.walk_fs.declared.file_system.FileSystem as FileSystem
@@ -7,17 +7,33 @@ use Rattle.jwalk.specs.read_parts.declared.process_read_dir.ProcessReadDir as Pr
 use Rattle.jwalk.specs.jwalk_crew.declared.pool.Pool as Pool
 use Rattle.jwalk.specs.jwalk_entries.declared.dir_entry_iter.DirEntryIter.{DirEntryIter}
 use Rattle.jwalk.specs.declared.walk_dir.WalkDirGeneric.{WalkDirGeneric}
-use Rattle.jwalk.specs.walk_model.Walk.{whole_walk}
+use Rattle.jwalk.specs.walk_model.FileSystem.{Functions}
+use Rattle.jwalk.specs.walk_model.Entry.{Item}
+use Rattle.jwalk.specs.walk_model.ReadDir.{Reading}
+use Rattle.jwalk.specs.walk_model.Counted.{Worth, blank}
+use Rattle.jwalk.specs.walk_model.Walk.{whole_walk, stateless_walk}
 use Rattle.jwalk.specs.read_parts.Entry.{item}
 use Rattle.jwalk.specs.read_parts.Given.{Given}
 use Rattle.jwalk.specs.jwalk_read.Job.{IsSteady}
-use Rattle.jwalk.specs.WalkDir.{file_system_of, callback_of, root_of, state_of, job_for, Starts, Holds}
+use Rattle.jwalk.specs.jwalk_process.declared.size.Size.{Size}
+use Rattle.jwalk.specs.jwalk_process.WithSizes.{sizes, sizing}
+use Rattle.jwalk.specs.WalkDir.{file_system_of, callback_of, root_of, state_of, options_of, job_for, Starts, Holds}
 use Rattle.jwalk.specs.DirEntryIter.{by_crew, to_come, IsRefused, IsSteadyWalk, Answers}
 use Rattle.jwalk.proofs.WholeFacts.{all_answered, whole, steady_start}
 use Rattle.jwalk_usage.specs.declared.report.Usage.{Usage}
 use Rattle.jwalk_usage.specs.Totals.{totals}
 use Rattle.jwalk_usage.specs.Counts.{CountsAll}
+use Rattle.jwalk_usage.specs.Sized.{CountsSizes}
 use Rattle.jwalk_usage.proofs.StateFacts.{same_totals}
+use Rattle.jwalk_usage.proofs.SizedFacts.{sized_whole}
+
+-- The usage of a steady walk from its beginning is the totals of the whole walk from its root, by a file system that is asked for metadata and is fixed.
+pub counted_over : {C S P A T W L R E : Type 0} (files : FileSystem.Ghosts S) (process : ProcessReadDir.Ghosts P C A R E) (clone : Clone.Ghosts R) (defaults : Default.Ghosts E) (pool : Pool.Ghosts L C S P A R E) (given : Given R E) (fixed : Type 0) (fs : Functions) (usage : Usage) (walk : WalkDirGeneric C S P A T W R E) (it : DirEntryIter C S P A T L R E) → IsSteadyWalk files process clone defaults pool it given → Starts walk it → IsRefused it ⊎ Holds files process clone defaults walk it → IsSteady files process clone defaults (file_system_of walk) (callback_of walk) given → fixed → CountsAll (Answers files process clone defaults pool) fixed fs it usage
+    → usage ≡ totals fs (whole_walk (job_for files given walk) (root_of walk) (given.read_dir_state (state_of walk)))
+counted_over files process clone defaults pool given fixed fs usage walk it steadily starts begun steady is (answered, drains, counts) =
+    counts.totals is
+    ∙ sym (same_totals given fs (map item answered))
+    ∙ ap (totals fs) (whole files process clone defaults pool given walk it answered steadily starts begun steady drains counts.none_refused)
 
 module _ {C S P A T L R E : Type 0} (files : FileSystem.Ghosts S) (process : ProcessReadDir.Ghosts P C A R E) (clone : Clone.Ghosts R) (defaults : Default.Ghosts E) (pool : Pool.Ghosts L C S P A R E) (given : Given R E) (fs : S) (usage : Usage) where
   -- the usage of a steady walk is the totals of what was to come
@@ -30,7 +46,17 @@ module _ {C S P A T L R E : Type 0} (files : FileSystem.Ghosts S) (process : Pro
   -- that of a walk that was begun, and that no crew reads for, is the totals of the whole walk from its root
   pub whole_counted : {W : Type 0} (walk : WalkDirGeneric C S P A T W R E) (it : DirEntryIter C S P A T L R E) → by_crew it ≡ false → Starts walk it → IsRefused it ⊎ Holds files process clone defaults walk it → IsSteady files process clone defaults (file_system_of walk) (callback_of walk) given → files.IsFixed fs → CountsAll (Answers files process clone defaults pool) (files.IsFixed fs) (files.functions fs) it usage
       → usage ≡ totals (files.functions fs) (whole_walk (job_for files given walk) (root_of walk) (given.read_dir_state (state_of walk)))
-  whole_counted walk it own starts begun steady fixed (answered, drains, counts) =
-      counts.totals fixed
-      ∙ sym (same_totals given (files.functions fs) (map item answered))
-      ∙ ap (totals (files.functions fs)) (whole files process clone defaults pool given walk it answered (steady_start files process clone defaults pool given walk it own starts steady) starts begun steady drains counts.none_refused)
+  whole_counted walk it own starts begun steady fixed counts = counted_over files process clone defaults pool given (files.IsFixed fs) (files.functions fs) usage walk it (steady_start files process clone defaults pool given walk it own starts steady) starts begun steady fixed counts
+
+module _ {C S P A T W L R : Type 0} (files : FileSystem.Ghosts S) (process : ProcessReadDir.Ghosts P C A R Size) (clone : Clone.Ghosts R) (defaults : Default.Ghosts Size) (pool : Pool.Ghosts L C S P A R Size) (walk : WalkDirGeneric C S P A T W R Size) (it : DirEntryIter C S P A T L R Size) (usage : Usage) where
+  -- The usage by sizes of a steady walk from its beginning, whose callback asks for the sizes that the walk's own file system gives, is the totals of the walk without a callback.
+  pub whole_sized : IsSteadyWalk files process clone defaults pool it (sizing (files.functions (file_system_of walk))) → Starts walk it → IsRefused it ⊎ Holds files process clone defaults walk it → IsSteady files process clone defaults (file_system_of walk) (callback_of walk) (sizing (files.functions (file_system_of walk))) → CountsSizes (Answers files process clone defaults pool) it usage
+      → usage ≡ totals (files.functions (file_system_of walk)) (stateless_walk (files.functions (file_system_of walk)) (options_of walk) (root_of walk))
+  whole_sized steadily starts begun steady (answered, drains, adds) =
+      let fs = files.functions (file_system_of walk) in
+      adds.totals
+      ∙ sized_whole fs (options_of walk) (root_of walk) blank (map item answered) (whole files process clone defaults pool (sizing fs) walk it answered steadily starts begun steady drains adds.none_refused)
+
+-- Two file systems that return the same have the same sizes.
+pub same_sizes : (fs other : Functions) → other ≡ fs → (depth : Option ℕ) (path : List ℕ) (state : Worth) (list : List (Item Worth Worth)) → ◌≡◌ {A = Reading Worth Worth} (sizes fs depth path state list) (sizes other depth path state list)
+same_sizes fs other same depth path state list = ap (λ f. sizes f depth path state list) (sym same)

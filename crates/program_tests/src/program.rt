@@ -3,6 +3,7 @@ mod closed;
 mod lines;
 mod links;
 pub mod runs;
+mod sizes;
 mod streams;
 mod totals;
 mod trees;

@@ -9,3 +9,4 @@ pub mod Texts
 pub mod Numbers
 pub mod OwnPool
 pub mod Each
+pub mod Totals

@@ -1,6 +1,8 @@
 -- The lines of answers and whether they are entries, whatever their states count as.
 use Rattle.std.proofs.Common.{◌≡◌, ◌++◌, ◌∙◌, List, [], ◌∷◌, map, Some, None, Result, Ok, Err, is_ok, true, false, if◌then◌else◌, ap, sym, refl}
 use Rattle.std.specs.List.{list_all}
+use Rattle.std.specs.declared.io.ErrorKind.{ErrorKind}
+use Rattle.walk_model.specs.declared.metadata.Metadata.{Metadata}
 use Rattle.walk_model.specs.Entry.{Item}
 use Rattle.walk_model.specs.Lines.{line_of, lines_of}
 use Rattle.walk_model.specs.FileSystem.{Functions}
@@ -8,6 +10,7 @@ use Rattle.walk_model.specs.Counted.{Worth}
 use Rattle.walk_text.specs.declared.asked.Asked.{Asked}
 use Rattle.walk_run.specs.Totals.{totals_line}
 use Rattle.walk_run.specs.AskedWalk.{written}
+use Rattle.jwalk.specs.jwalk_process.WithSizes.{with_asked}
 use Rattle.read_parts.specs.declared.dir_entry.DirEntry.{DirEntry}
 use Rattle.read_parts.specs.declared.error.Error.{Error}
 use Rattle.read_parts.specs.Entry.{item}
@@ -37,3 +40,9 @@ module _ {R E : Type 0} (given : Given R E) where
   all_entries [] = refl
   all_entries (Ok e ∷ xs) = all_entries xs
   all_entries (Err f ∷ xs) = refl
+
+-- and so is one with its size
+pub all_sized : {R E : Type 0} (kept : Result Metadata ErrorKind → E) (fs : Functions) (l : List (Item R E)) → list_all is_ok (map (with_asked kept fs) l) ≡ list_all is_ok l
+all_sized kept fs [] = refl
+all_sized kept fs (Ok e ∷ l) = all_sized kept fs l
+all_sized kept fs (Err f ∷ l) = refl

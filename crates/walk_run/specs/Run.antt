@@ -9,6 +9,8 @@ use Rattle.walk_fs.specs.declared.file_system.FileSystem as FileSystem
 use Rattle.memory_fs.specs.declared.memory_fs.MemoryFs.{MemoryFs}
 use Rattle.memory_fs.specs.MemoryFs.{tree_of}
 use Rattle.read_parts.specs.declared.process_read_dir.ProcessReadDir as ProcessReadDir
+use Rattle.jwalk.specs.jwalk_process.declared.size.Size.{Size}
+use Rattle.jwalk.specs.jwalk_process.declared.with_sizes.WithSizes.{WithSizes}
 use Rattle.jwalk.specs.declared.crew.Pool as Pool
 use Rattle.walk_text.specs.declared.asked.Asked.{Asked}
 use Rattle.walk_text.specs.declared.failure.Failure.{Failure}
@@ -37,12 +39,12 @@ IsSource disk None source = source ≡ Disk disk
 IsSource {S} {A} disk (Some t) source = (tree : MemoryFs A) × (source ≡ Tree tree) × (tree_of tree ≡ t)
 
 -- The walk that begins so was printed to its end, or its totals were, and no answer is an error. Its answers are the whole walk over its tree. Without a tree, they are that over the disk, if it always returns the same.
-pub record PrintsWalk (T : Type 0) {C S P A L M R E : Type 0} (files : FileSystem.Ghosts S) (sources : FileSystem.Ghosts (Source S A)) (shared : FileSystem.Ghosts (Arc (Source S A) A)) (process : ProcessReadDir.Ghosts P C A R E) (clone : Clone.Ghosts R) (defaults : Default.Ghosts E) (pool : Pool.Ghosts L C (Source S A) P A R E) (sharing : Pool.Ghosts M C (Arc (Source S A) A) P A R E) (disk : S) (words : List (List ℕ)) (to_come old new : Option (List ℕ)) : Type 0 where
+pub record PrintsWalk (T : Type 0) {C D S P A L M R E : Type 0} (files : FileSystem.Ghosts S) (sources : FileSystem.Ghosts (Source S A)) (shared : FileSystem.Ghosts (Arc (Source S A) A)) (process : ProcessReadDir.Ghosts P C A R E) (sizing : ProcessReadDir.Ghosts (WithSizes (Arc (Source S A) A)) D A R Size) (clone : Clone.Ghosts R) (defaults : Default.Ghosts E) (unasked : Default.Ghosts Size) (pool : Pool.Ghosts L C (Source S A) P A R E) (sharing : Pool.Ghosts M D (Arc (Source S A) A) (WithSizes (Arc (Source S A) A)) A R Size) (disk : S) (words : List (List ℕ)) (to_come old new : Option (List ℕ)) : Type 0 where
   pub walk : BeginsWalk words to_come
   pub source : Source S A
   pub over : IsSource disk walk.tree source
   pub begun : walk.asked.usage ≡ false → PrintsBegun T sources process clone defaults pool source walk.asked walk.root old new
-  pub counted : walk.asked.usage ≡ true → CountsBegun T shared process clone defaults sharing source walk.asked walk.root old new
+  pub counted : walk.asked.usage ≡ true → CountsBegun T shared sizing clone unasked sharing source walk.asked walk.root old new
   pub over_tree : IfSome walk.tree (λ t. PrintsOver (functions_of t) walk.asked walk.root old new)
   pub over_disk : IfNone walk.tree (files.IsFixed disk → PrintsOver (files.functions disk) walk.asked walk.root old new)
 

@@ -10,7 +10,7 @@ use crate::totals::print_totals;
 use jwalk::Pool;
 use jwalk::crew::Session;
 use jwalk::file_system::FileSystem;
-use jwalk::read_dir::{NoProcess, ProcessReadDir};
+use jwalk::read_dir::{NoProcess, ProcessReadDir, Size, WithSizes};
 use std::alloc::{AllocError, Allocator};
 use std::io::Write;
 use std::sync::{Arc, Wait};
@@ -28,7 +28,7 @@ fn shared<S: FileSystem, A: Allocator>(alloc: A, fs: S) -> Result<Arc<S, A>, All
 
 /// Walks over a file system as is asked for, and prints the line of what the answers come to. Returns the status: 0 if
 /// the walk ended and no answer was an error, and 1 otherwise. Directories are read in turn, or by a crew: no batch is
-/// read by threads.
+/// read by threads. Who reads a directory asks the sizes of its files too.
 ///
 /// # Errors
 ///
@@ -45,8 +45,8 @@ fn print_usage<
     ensures memory { IfErr result (λ failure. failure ≡ Failure.Memory) }
     ensures untouched { OnErr result (W.contents out.new ≡ W.contents out.old) }
     ensures counted { IfOk result (λ status. status ≡ 0 → CountsBegun T ⟦<Arc<S, A> as FileSystem>⟧
-        ⟦<NoProcess as ProcessReadDir<((), ()), A>>⟧ ⟦<() as Clone>⟧ ⟦<() as Default>⟧
-        ⟦<Session<T, ((), ()), Arc<S, A>, NoProcess, A> as Pool<((), ()), Arc<S, A>, NoProcess, A>>⟧
+        ⟦<WithSizes<Arc<S, A>> as ProcessReadDir<((), Size), A>>⟧ ⟦<() as Clone>⟧ ⟦<Size as Default>⟧
+        ⟦<Session<T, ((), Size), Arc<S, A>, WithSizes<Arc<S, A>>, A> as Pool<((), Size), Arc<S, A>, WithSizes<Arc<S, A>>, A>>⟧
         fs request.now.asked request.now.root.now (W.contents out.old) (W.contents out.new)) }
     ensures printed { IfOk result (λ status. status ≡ 0 → S.IsFixed fs
         → PrintsOver (S.functions fs) request.now.asked request.now.root.now
@@ -54,9 +54,10 @@ fn print_usage<
 {
     let root = String::from_str(alloc, request.root)?;
     let fs = shared(alloc, fs)?;
-    let walk = walk_of(rt, fs.clone()?, root, request.asked)?;
-    let answers = walk.into_iter();
-    Ok(status_once(print_totals(&fs, answers, out), err))
+    let walk = walk_of::<((), Size), _, _, _>(rt, fs.clone()?, root, request.asked)?;
+    let sizes = WithSizes::new(fs);
+    let answers = walk.process_read_dir(sizes).into_iter();
+    Ok(status_once(print_totals(answers, out), err))
 }
 
 /// Walks over a file system as is asked for, and prints one line for each answer, or the line of their totals. Returns
@@ -81,8 +82,8 @@ pub fn print_asked<
         fs request.now.asked request.now.root.now (W.contents out.old) (W.contents out.new)) }
     ensures counted { IfOk result (λ status. status ≡ 0 → request.now.asked.usage ≡ true → CountsBegun T
         ⟦<Arc<S, A> as FileSystem>⟧
-        ⟦<NoProcess as ProcessReadDir<((), ()), A>>⟧ ⟦<() as Clone>⟧ ⟦<() as Default>⟧
-        ⟦<Session<T, ((), ()), Arc<S, A>, NoProcess, A> as Pool<((), ()), Arc<S, A>, NoProcess, A>>⟧
+        ⟦<WithSizes<Arc<S, A>> as ProcessReadDir<((), Size), A>>⟧ ⟦<() as Clone>⟧ ⟦<Size as Default>⟧
+        ⟦<Session<T, ((), Size), Arc<S, A>, WithSizes<Arc<S, A>>, A> as Pool<((), Size), Arc<S, A>, WithSizes<Arc<S, A>>, A>>⟧
         fs request.now.asked request.now.root.now (W.contents out.old) (W.contents out.new)) }
     ensures printed { IfOk result (λ status. status ≡ 0 → S.IsFixed fs
         → PrintsOver (S.functions fs) request.now.asked request.now.root.now

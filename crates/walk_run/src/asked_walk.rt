@@ -11,7 +11,7 @@ use jwalk::crew::Session;
 use jwalk::file_system::FileSystem;
 use jwalk::read_dir::{NoProcess, ProcessReadDir};
 use jwalk::threads::OnThreads;
-use jwalk::{Crew, Parallelism, Pool, WalkDirGeneric};
+use jwalk::{ClientState, Crew, Parallelism, Pool, WalkDirGeneric};
 use std::alloc::{AllocError, Allocator};
 use std::io::Write;
 use std::sync::{Arc, Wait};
@@ -42,14 +42,21 @@ fn parallelism_of<T: Wait + Clock + Clone + Drop, A: Allocator + Copy>(
     }
 }
 
-/// Returns the walk that is asked for. Its options are set one after another: the order, hidden names, links, the least
-/// depth, the greatest, and last what directories are read by. The last holds whatever the greatest depth is.
-pub fn walk_of<'t, T: Wait + Threads + Clock + Clone + Drop, S: FileSystem, A: Allocator + Copy>(
+/// Returns the walk that is asked for, without a callback. Its options are set one after another: the order, hidden
+/// names, links, the least depth, the greatest, and last what directories are read by. The last holds whatever the
+/// greatest depth is.
+pub fn walk_of<
+    't,
+    C: ClientState,
+    T: Wait + Threads + Clock + Clone + Drop,
+    S: FileSystem,
+    A: Allocator + Copy,
+>(
     rt: &'t T,
     fs: S,
     root: String<A>,
     asked: Asked,
-) -> Result<WalkDirGeneric<((), ()), S, NoProcess, A, OnThreads<&'t T>, Crew<T>>, AllocError>
+) -> Result<WalkDirGeneric<C, S, NoProcess, A, OnThreads<&'t T>, Crew<T>>, AllocError>
     ensures file_system { IfOk result (λ walk. file_system_of walk ≡ fs) }
     ensures root { IfOk result (λ walk. root_of walk ≡ string_bytes root) }
     ensures options { IfOk result (λ walk. options_of walk ≡ options_for asked) }
@@ -98,7 +105,7 @@ pub fn print_walk<
         (W.contents out.old) (W.contents out.new)) }
 {
     let root = String::from_str(alloc, request.root)?;
-    let walk = walk_of(rt, fs, root, request.asked)?;
+    let walk = walk_of::<((), ()), _, _, _>(rt, fs, root, request.asked)?;
     let mut answers = walk.into_iter();
     Ok(status_once(print_walked(alloc, &mut answers, out), err))
 }

@@ -8,7 +8,7 @@ use crate::source::Source;
 use jwalk::Pool;
 use jwalk::crew::Session;
 use jwalk::file_system::FileSystem;
-use jwalk::read_dir::{NoProcess, ProcessReadDir};
+use jwalk::read_dir::{NoProcess, ProcessReadDir, Size, WithSizes};
 use std::alloc::Allocator;
 use std::io::{Read, Write};
 use std::sync::{Arc, Wait};
@@ -43,9 +43,12 @@ fn try_run<
     ensures unread { ¬ (AskForTree (map string_bytes words.now)) → input.new ≡ input.old }
     ensures printed { IfOk result (λ status. status ≡ 0 → PrintsWalk T S.FileSystem
         ⟦<Source<S, A> as FileSystem>⟧ ⟦<Arc<Source<S, A>, A> as FileSystem>⟧
-        ⟦<NoProcess as ProcessReadDir<((), ()), A>>⟧ ⟦<() as Clone>⟧ ⟦<() as Default>⟧
+        ⟦<NoProcess as ProcessReadDir<((), ()), A>>⟧
+        ⟦<WithSizes<Arc<Source<S, A>, A>> as ProcessReadDir<((), Size), A>>⟧
+        ⟦<() as Clone>⟧ ⟦<() as Default>⟧ ⟦<Size as Default>⟧
         ⟦<Session<T, ((), ()), Source<S, A>, NoProcess, A> as Pool<((), ()), Source<S, A>, NoProcess, A>>⟧
-        ⟦<Session<T, ((), ()), Arc<Source<S, A>, A>, NoProcess, A> as Pool<((), ()), Arc<Source<S, A>, A>, NoProcess, A>>⟧
+        ⟦<Session<T, ((), Size), Arc<Source<S, A>, A>, WithSizes<Arc<Source<S, A>, A>>, A>
+        as Pool<((), Size), Arc<Source<S, A>, A>, WithSizes<Arc<Source<S, A>, A>>, A>>⟧
         disk (map string_bytes words.now) (R.remaining input.old) (W.contents out.old) (W.contents out.new)) }
 {
     let Some(request) = parse_words(words) else {
@@ -82,9 +85,12 @@ pub fn run<
     ensures unread { ¬ (AskForTree (map string_bytes words.now)) → input.new ≡ input.old }
     ensures printed { result ≡ 0 → PrintsWalk T S.FileSystem
         ⟦<Source<S, A> as FileSystem>⟧ ⟦<Arc<Source<S, A>, A> as FileSystem>⟧
-        ⟦<NoProcess as ProcessReadDir<((), ()), A>>⟧ ⟦<() as Clone>⟧ ⟦<() as Default>⟧
+        ⟦<NoProcess as ProcessReadDir<((), ()), A>>⟧
+        ⟦<WithSizes<Arc<Source<S, A>, A>> as ProcessReadDir<((), Size), A>>⟧
+        ⟦<() as Clone>⟧ ⟦<() as Default>⟧ ⟦<Size as Default>⟧
         ⟦<Session<T, ((), ()), Source<S, A>, NoProcess, A> as Pool<((), ()), Source<S, A>, NoProcess, A>>⟧
-        ⟦<Session<T, ((), ()), Arc<Source<S, A>, A>, NoProcess, A> as Pool<((), ()), Arc<Source<S, A>, A>, NoProcess, A>>⟧
+        ⟦<Session<T, ((), Size), Arc<Source<S, A>, A>, WithSizes<Arc<Source<S, A>, A>>, A>
+        as Pool<((), Size), Arc<Source<S, A>, A>, WithSizes<Arc<Source<S, A>, A>>, A>>⟧
         disk (map string_bytes words.now) (R.remaining input.old) (W.contents out.old) (W.contents out.new) }
 {
     match try_run(rt, alloc, disk, words, input, out, err) {

@@ -7,11 +7,12 @@ ghost use Rattle.walk_text.specs.Failure.{status_of};
 ghost use Rattle.walk_run.specs.Totals.{PrintsTotals};
 
 use crate::noting::Noting;
+use jwalk::DirEntry;
 use jwalk::error::Result as Answer;
-use jwalk::file_system::FileSystem;
-use jwalk::{ClientState, DirEntry};
-use jwalk_usage::{Usage, UsageFault, usage_of_rest};
+use jwalk::read_dir::Size;
+use jwalk_usage::{Usage, UsageFault, usage_sized_of_rest};
 use std::alloc::Allocator;
+use std::fmt::Debug;
 use std::io::Write;
 use walk_text::failure::Failure;
 
@@ -37,22 +38,20 @@ fn write_line<W: Write>(usage: &Usage, out: &mut W) -> Result<(), Failure>
     Ok(())
 }
 
-/// Prints what the answers of an iterator come to, and returns whether none was an error.
+/// Prints what the answers of an iterator come to by the sizes in their entries, and returns whether none was an error.
 pub fn print_totals<
-    S: FileSystem,
-    C: ClientState,
+    B: Clone + Default + Debug + Drop,
     A: Allocator + Copy,
-    I: Iterator<Item = Answer<DirEntry<C, A>, A>> + Drop,
+    I: Iterator<Item = Answer<DirEntry<(B, Size), A>, A>> + Drop,
     W: Write,
->(fs: &S, answers: I, out: &mut W) -> Result<bool, Failure>
+>(answers: I, out: &mut W) -> Result<bool, Failure>
     requires can { I.can_next answers }
     requires ends { IsFinite (I.remaining answers) }
-    ensures printed { IfOk result (PrintsTotals I.next_gives (S.IsFixed fs.now) (S.functions fs.now) answers
-        (W.contents out.old) (W.contents out.new)) }
+    ensures printed { IfOk result (PrintsTotals I.next_gives answers (W.contents out.old) (W.contents out.new)) }
     ensures status { IfErr result (λ failure. status_of failure ≡ 1) }
 {
     let mut noting = Noting::new(answers);
-    match usage_of_rest(fs, &mut noting) {
+    match usage_sized_of_rest(&mut noting) {
         Ok(usage) => write_line(&usage, out)?,
         Err(fault) => return Err(failure_of(fault)),
     }

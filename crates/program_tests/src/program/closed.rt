@@ -1,5 +1,5 @@
 //! An output that is closed while a walk is under way.
-use crate::program::runs::ends;
+use crate::program::runs::{ends, watched_over};
 use std::alloc::{AllocError, Global};
 use std::io;
 use std::io::{ErrorKind, Write};
@@ -8,7 +8,6 @@ use std::thread::Threads;
 use std::time::Clock;
 use walk_fixtures::watched::{Failing, Watched};
 use walk_text::failure::Failure;
-use walk_text::tree::build_tree;
 
 /// How often a disk was called, by whatever call.
 fn asked(disk: &Watched) -> usize {
@@ -54,15 +53,6 @@ fn dir_lines(alloc: Global, count: u64) -> Result<String, AllocError> {
     Ok(lines)
 }
 
-fn shared(alloc: Global, disk: Watched) -> Result<Arc<Watched>, AllocError> {
-    Ok(Arc::new(alloc, disk)?)
-}
-
-fn watched_over(alloc: Global, lines: &str) -> Result<Arc<Watched>, Failure> {
-    let tree = build_tree(alloc, lines.as_bytes())?;
-    Ok(shared(alloc, Watched::new(tree, Failing::Never))?)
-}
-
 /// Whether the disk was not called since a write failed, long before it was walked to its end.
 fn is_left(out: &Closed<'_>, before: usize) -> bool {
     out.calls == asked(out.disk) && out.calls.wrapping_sub(before) < 3000
@@ -94,7 +84,7 @@ fn stops(
 #[test]
 fn nothing_is_asked_once_a_write_has_failed(rt: HostRuntime) -> Result<(), Failure> {
     let lines = dir_lines(rt.alloc(), 6000)?;
-    let disk = watched_over(rt.alloc(), lines.as_str())?;
+    let disk = watched_over(rt.alloc(), lines.as_str(), Failing::Never)?;
     assert!(rt; stops(&rt, &["/r"], &disk, false));
     assert!(rt; stops(&rt, &["--batch", "8", "/r"], &disk, false));
     assert!(rt; stops(&rt, &["--crew", "2", "/r"], &disk, true));

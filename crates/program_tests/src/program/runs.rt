@@ -1,13 +1,16 @@
 //! The outcome of a run.
 use jwalk::file_system::{FileSystem, MemoryFs};
+use std::alloc::{AllocError, Global};
 use std::io;
 use std::io::{Read, Write};
 use std::process::Abort;
-use std::sync::Wait;
+use std::sync::{Arc, Wait};
 use std::thread::Threads;
 use std::time::Clock;
 use walk_fixtures::texts::texts;
+use walk_fixtures::watched::{Failing, Watched};
 use walk_run::run::run;
+use walk_text::failure::Failure;
 use walk_text::tree::build_tree;
 
 /// A tree of three directories, one file hidden.
@@ -96,6 +99,16 @@ pub fn comes_unread<S: FileSystem + Send + Sync + 'static>(
 ) -> bool {
     let mut input = Unread { reads: 0 };
     comes(rt, disk, front, words, &mut input, want) && input.reads == 0
+}
+
+fn shared(alloc: Global, disk: Watched) -> Result<Arc<Watched>, AllocError> {
+    Ok(Arc::new(alloc, disk)?)
+}
+
+/// The tree of these lines, as a disk that counts its calls and fails so.
+pub fn watched_over(alloc: Global, lines: &str, failing: Failing) -> Result<Arc<Watched>, Failure> {
+    let tree = build_tree(alloc, lines.as_bytes())?;
+    Ok(shared(alloc, Watched::new(tree, failing))?)
 }
 
 /// The words in front of a call's own, and whether the tree of a row's lines is the disk. Else the lines are the input,

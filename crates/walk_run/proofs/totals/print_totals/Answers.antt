@@ -8,12 +8,12 @@ pub returns-clause-printed : goal.returns-clause-printed
 returns-clause-printed g c =
     let made = c.new-noting.ensures in
     let counted = c.in-Ok.ensures.totals in
-    let passed = all_passed_on g.I.Iterator.next_gives counted.0 c.new-noting.result c.usage_of_rest.new.answers counted.1 in
+    let passed = all_passed_on g.I.Iterator.next_gives counted.0 c.new-noting.result c.usage_sized_of_rest.new.answers counted.1 in
     record {
       answered = counted.0;
       drains = subst (λ s. Drains g.I.Iterator.next_gives s counted.0) made.source passed.0;
       all = c.is_clean.ensures ∙ passed.1 ∙ ap (λ b. b && list_all is_ok counted.0) made.clean;
       usage = c.in-Ok.usage;
-      counts = counted.2;
+      adds = counted.2;
       written = c.in_ok-write_line-in-Ok.ensures.written;
     }
