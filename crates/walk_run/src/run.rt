@@ -47,8 +47,7 @@ fn try_run<
         ⟦<WithSizes<Arc<Source<S, A>, A>> as ProcessReadDir<((), Size), A>>⟧
         ⟦<() as Clone>⟧ ⟦<() as Default>⟧ ⟦<Size as Default>⟧
         ⟦<Session<T, ((), ()), Source<S, A>, NoProcess, A> as Pool<((), ()), Source<S, A>, NoProcess, A>>⟧
-        ⟦<Session<T, ((), Size), Arc<Source<S, A>, A>, WithSizes<Arc<Source<S, A>, A>>, A>
-        as Pool<((), Size), Arc<Source<S, A>, A>, WithSizes<Arc<Source<S, A>, A>>, A>>⟧
+        ⟦<Session<T, ((), Size), Arc<Source<S, A>, A>, WithSizes<Arc<Source<S, A>, A>>, A> as Pool<((), Size), Arc<Source<S, A>, A>, WithSizes<Arc<Source<S, A>, A>>, A>>⟧
         disk (map string_bytes words.now) (R.remaining input.old) (W.contents out.old) (W.contents out.new)) }
 {
     let Some(request) = parse_words(words) else {
@@ -89,8 +88,7 @@ pub fn run<
         ⟦<WithSizes<Arc<Source<S, A>, A>> as ProcessReadDir<((), Size), A>>⟧
         ⟦<() as Clone>⟧ ⟦<() as Default>⟧ ⟦<Size as Default>⟧
         ⟦<Session<T, ((), ()), Source<S, A>, NoProcess, A> as Pool<((), ()), Source<S, A>, NoProcess, A>>⟧
-        ⟦<Session<T, ((), Size), Arc<Source<S, A>, A>, WithSizes<Arc<Source<S, A>, A>>, A>
-        as Pool<((), Size), Arc<Source<S, A>, A>, WithSizes<Arc<Source<S, A>, A>>, A>>⟧
+        ⟦<Session<T, ((), Size), Arc<Source<S, A>, A>, WithSizes<Arc<Source<S, A>, A>>, A> as Pool<((), Size), Arc<Source<S, A>, A>, WithSizes<Arc<Source<S, A>, A>>, A>>⟧
         disk (map string_bytes words.now) (R.remaining input.old) (W.contents out.old) (W.contents out.new) }
 {
     match try_run(rt, alloc, disk, words, input, out, err) {
