@@ -1,13 +1,13 @@
 //! Readings over a board, in turn and on threads.
 use crate::given::{self, Refusing, States, push_names, roots_of};
-use jwalk_engine::board_walk::BoardWalk;
+use jwalk_engine::batch_reads::BatchReads;
 use jwalk_read::job::Job;
 use jwalk_read::read_dir::Outcome;
 use read_parts::process_read_dir::NoProcess;
 use std::alloc::{AllocError, Global};
 use std::thread::Threads;
 
-type Walk<'f> = BoardWalk<States, &'f Refusing, NoProcess>;
+type Walk<'f> = BatchReads<States, &'f Refusing, NoProcess>;
 
 /// Three directories with one in each.
 const TWINS: [&str; 7] = ["/r", "/r/a", "/r/a/x", "/r/b", "/r/b/x", "/r/c", "/r/c/x"];
@@ -36,7 +36,7 @@ fn walk(alloc: Global, fs: &Refusing, width: usize) -> Option<Walk<'_>> {
     }
     let job = Job::new(alloc, fs, NoProcess, true, true, false, usize::MAX);
     let roots = roots_of(&job, "/r")?;
-    BoardWalk::try_new(alloc, job, roots, width).ok()
+    BatchReads::try_new(alloc, job, roots, width).ok()
 }
 
 /// How the directories are read.
