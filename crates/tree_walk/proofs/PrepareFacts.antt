@@ -48,7 +48,7 @@ module _ {T R : Type 0} (is_reading : T → R → List T → Type 0) (width : �
       (λ (none : times a (addresses_of b.ready) ≡ 0). (let gone : times a b.in_hand ≡ 0 = ap (times a) keeps.none_in_hand in omega (arith, on, times-on_board a b, none, gone)))
       (λ (there : 0 < times a (addresses_of b.ready)). absurd (unread there))
       (eq-zero-or-pos (times a (addresses_of b.ready))) in
-      let read : IsAmong a (addresses_of c.ready) = next_is_read is_reading width b (ahead_on c) whole reads.least wide keeps.none_in_hand (some, inl queued) in
+      let read : IsAmong a (addresses_of c.ready) = next_is_read is_reading width b (ahead_on c) whole reads.least wide keeps.none_in_hand (keeps.running, some, inl queued) in
       record {
         some = left_first b keeps whole some;
         unread = unread;
@@ -72,7 +72,7 @@ module _ {T R : Type 0} (is_reading : T → R → List T → Type 0) (width : �
         (omega (arith, length_permutation (g.fresh ++ (left_on mid).made) ((g.read, g.children) ∷ (left_on new).made) g.leaves, length-append g.fresh (left_on mid).made, length_permutation (ahead_of mid).done (next_on mid ∷ (ahead_of new).done) at.done, as_many_done mid, as_many_done new))
 
     -- What is returned after some were read for it is what one call returns.
-    gives_after : (given : R) → Enters spec_of (IsSound is_reading) width (next_on mid) (ahead_of mid) (ahead_of new) → GivesFirst is_reading width mid given new → Answers {F = AllocError} is_reading width old (Ok (Some given)) new
+    gives_after : (given : R) → Enters spec_of (IsSound is_reading) width (next_on mid) (ahead_of mid) (ahead_of new) → GivesFirst is_reading width mid given new → Answers is_reading width {F = AllocError} old (Ok (Some given)) new
     gives_after given enters g =
         let at = hands enters in
         let some = r.reads in
@@ -111,6 +111,6 @@ module _ {T R : Type 0} (is_reading : T → R → List T → Type 0) (width : �
       reads
 
   -- and so is an error of that call.
-  pub not_prepared : (old new : Option (Board T (Read T R))) (e : AllocError) (answer : Result (Option R) AllocError) → 1 ≤ width → IsErr answer → Prepares {F = AllocError} is_reading width old (Err e) new → Answers is_reading width old answer new
+  pub not_prepared : (old new : Option (Board T (Read T R))) (e : AllocError) (answer : Result (Option R) AllocError) → 1 ≤ width → IsErr answer → Prepares is_reading width {F = AllocError} old (Err e) new → Answers is_reading width old answer new
   not_prepared old new e (Ok o) wide is p = absurd cc
   not_prepared old new e (Err x) wide is p = record { ahead = rw p.stopped (omega (arith, wide)); stopped = p.stopped; some = p.some; next = tt; enters = tt }
