@@ -28,7 +28,7 @@ pub enum Told {
 }
 
 impl fmt::Display for Told {
-    fn fmt(&self, f: &mut fmt::Formatter) -> fmt::Result {
+    fn fmt<W: fmt::Write>(&self, f: &mut fmt::Formatter<W>) -> fmt::Result {
         match self {
             Told::Text(text) => write!(f, "{text}"),
             Told::Begins(part) => write!(f, "[{part}]"),
