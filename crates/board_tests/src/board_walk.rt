@@ -24,11 +24,7 @@ fn all_readings_of_a_family_however_many_together(rt: HostRuntime) {
 }
 
 /// Adds a reading, or that memory ran out, and how many others are ahead. None at the end.
-fn push_next(
-    text: &mut String,
-    next: Result<Option<u8>, AllocError>,
-    ahead: usize,
-) -> Option<()> {
+fn push_next(text: &mut String, next: Result<Option<u8>, AllocError>, ahead: usize) -> Option<()> {
     match next {
         Ok(read) => write!(text, "{}:{ahead} ", read?).ok(),
         Err(_refused) => text.push_str("refused ").ok(),

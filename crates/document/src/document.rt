@@ -69,9 +69,11 @@ pub fn put_together<A: Allocator + Copy>(
     requires { 1 ≤ together }
     ensures { IfOk result (λ v. v.items ≡ tells document levels (Line.Part part)) }
 {
+    // begin together
     let root = Place {
         line: Line::Part(part),
         levels,
     };
     read_all(alloc, document, vec![in alloc; root]?, together)
+    // end together
 }

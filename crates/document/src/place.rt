@@ -64,6 +64,7 @@ impl<A: Allocator + Copy> Plan<A> for Document {
 
     ghost falls = { λ document _ _. document_falls document };
 
+    // begin read
     fn read(&self, alloc: A, place: &Place) -> Result<(Told, Vec<Place, A>), Refused> {
         let part = match place.line {
             Line::Text(text) => return Ok((Told::Text(text), Vec::new(alloc))),
@@ -77,4 +78,5 @@ impl<A: Allocator + Copy> Plan<A> for Document {
             },
         }
     }
+    // end read
 }

@@ -20,7 +20,7 @@ use Rattle.jwalk_read.specs.PlanReading.{IsPlanReading}
 use Rattle.jwalk_read.specs.ReadDir.{outcome}
 use Rattle.jwalk_engine.specs.Reads.{Read, spec_of, IsMade, IsSound, IsSoundOver, IsSteadyWith, ReadsNext}
 use Rattle.jwalk_engine.specs.ReadAhead.{nothing_ahead, EntersNext}
-use Rattle.jwalk_engine.specs.BatchReads.{to_read_on, early_on, ahead_of, PassesAddress}
+use Rattle.jwalk_engine.specs.BatchReads.{seen_made, to_read_on, early_on, ahead_of, PassesAddress}
 use Rattle.jwalk_engine.proofs.SeenFacts.{seen_enters_next}
 use Rattle.jwalk_engine.proofs.ReadFacts.{all_sound_over, all_made, all_as_given, plan_sound, keeps_sound, gives_first, passes_first}
 
@@ -60,7 +60,7 @@ module _ {C S P A R E : Type 0} (files : FileSystem.Ghosts S) (process : Process
     steady_after answer a given steady = record { steady = steady.steady; early = all_as_given files clone Counts job (early_on new) (sound answer a) given steady }
 
     pub ahead_after : (answer : Result (Option (Result (ReadDir C A R E) (Error A))) F) → Answers answer → length (early_on new) + 1 ≤ length (early_on old) + width
-    ahead_after answer a = omega (arith, a.ahead, length-map (left_on old).made (λ m. (m.0, map spec m.1)), length-map (left_on new).made (λ m. (m.0, map spec m.1)))
+    ahead_after answer a = omega (arith, a.ahead, length-map (left_on old).made seen_made, length-map (left_on new).made seen_made)
 
     pub stopped_after : (answer : Result (Option (Result (ReadDir C A R E) (Error A))) F) → Answers answer → OnErr answer (to_read_on new ≡ [])
     stopped_after (Ok o) a = tt

@@ -151,12 +151,7 @@ pub(crate) fn finish_batch<T: Drop, R: Drop, A: Allocator + Copy>(
 
 /// Takes a batch of the least specifications, reads them one after another, and finishes them all. One alone is read
 /// without a list.
-pub(crate) fn read_batch<
-    T: Drop,
-    R: Drop,
-    J: Plan<A, Spec = T, Reading = R>,
-    A: Allocator + Copy,
->(
+pub(crate) fn read_batch<T: Drop, R: Drop, J: Plan<A, Spec = T, Reading = R>, A: Allocator + Copy>(
     alloc: A,
     plan: &J,
     board: &mut Board<T, Read<T, R>, A>,

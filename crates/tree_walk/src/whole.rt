@@ -13,12 +13,12 @@ use std::alloc::{AllocError, Allocator};
 /// # Errors
 ///
 /// If memory runs out.
-pub fn read_all<
-    T: Drop,
-    R: Drop,
-    J: Plan<A, Spec = T, Reading = R> + Drop,
-    A: Allocator + Copy,
->(alloc: A, plan: J, roots: Vec<T, A>, width: usize) -> Result<Vec<R, A>, AllocError>
+pub fn read_all<T: Drop, R: Drop, J: Plan<A, Spec = T, Reading = R> + Drop, A: Allocator + Copy>(
+    alloc: A,
+    plan: J,
+    roots: Vec<T, A>,
+    width: usize,
+) -> Result<Vec<R, A>, AllocError>
     ghost given: { J.Given }
     requires lawful { J.IsLawful plan }
     requires fixed { J.IsFixed plan given }
