@@ -1,6 +1,6 @@
 use Rattle.std.proofs.Common.{sym, subst}
 use Rattle.std.specs.Prelude.{All}
-use Rattle.jwalk_engine.specs.Reads.{IsMade}
+use Rattle.jwalk_engine.specs.Reads.{IsMade, IsSteadyWith}
 use Rattle.jwalk_engine.specs.BatchReads.{early_on}
 use Rattle.jwalk_engine.proofs.StepFacts.{made_after, ahead_after, stopped_after, nothing_after, some_before, steady_after, next_after, enters_after, passes_after}
 use Rattle.jwalk_engine.proofs.batch_reads.BatchReads.read_next.Goals as goal
@@ -20,12 +20,12 @@ returns-clause-ahead g c =
 pub returns-clause-stopped : goal.returns-clause-stopped
 returns-clause-stopped g c =
     let w = c.self.inside.walk in
-    rw (← c.self.view_is) (stopped_after g.S.FileSystem g.P.ProcessReadDir g.C.ReadDirState.Clone g.C.DirEntryState.Default w.plan w.width w.board c.read_next.new.self.board c.self.invariant c.read_next.result c.read_next.ensures.answers)
+    stopped_after g.S.FileSystem g.P.ProcessReadDir g.C.ReadDirState.Clone g.C.DirEntryState.Default w.plan w.width w.board c.read_next.new.self.board c.self.invariant c.read_next.result c.read_next.ensures.answers
 
 pub returns-clause-nothing_ahead : goal.returns-clause-nothing_ahead
 returns-clause-nothing_ahead g c =
     let w = c.self.inside.walk in
-    rw (← c.self.view_is) (nothing_after g.S.FileSystem g.P.ProcessReadDir g.C.ReadDirState.Clone g.C.DirEntryState.Default w.plan w.width w.board c.read_next.new.self.board c.self.invariant c.read_next.result c.read_next.ensures.answers)
+    nothing_after g.S.FileSystem g.P.ProcessReadDir g.C.ReadDirState.Clone g.C.DirEntryState.Default w.plan w.width w.board c.read_next.new.self.board c.self.invariant c.read_next.result c.read_next.ensures.answers
 
 pub returns-clause-some : goal.returns-clause-some
 returns-clause-some g c =
@@ -35,7 +35,10 @@ returns-clause-some g c =
 pub returns-clause-steady : goal.returns-clause-steady
 returns-clause-steady g c =
     let w = c.self.inside.walk in
-    rw (← c.self.view_is) (steady_after g.S.FileSystem g.P.ProcessReadDir g.C.ReadDirState.Clone g.C.DirEntryState.Default w.plan w.width w.board c.read_next.new.self.board c.self.invariant c.read_next.result c.read_next.ensures.answers)
+    let now = c.read_next.new.self in
+    let stays = steady_after g.S.FileSystem g.P.ProcessReadDir g.C.ReadDirState.Clone g.C.DirEntryState.Default w.plan w.width w.board now.board c.self.invariant c.read_next.result c.read_next.ensures.answers in
+    rw (← c.self.view_is)
+    (λ given steady. subst (λ j. IsSteadyWith g.S.FileSystem g.P.ProcessReadDir g.C.ReadDirState.Clone g.C.DirEntryState.Default j (early_on now.board) given) (sym c.read_next.ensures.plan) (stays given steady))
 
 pub returns-clause-next : goal.returns-clause-next
 returns-clause-next g c =
