@@ -57,7 +57,7 @@ fn a_loop_tells_of_the_link_and_of_the_ancestor(rt: HostRuntime) {
 /// Whether the entry of the directory that may not be listed has the error of that.
 fn meets_denied(alloc: Global) -> Option<bool> {
     let entry = last(over_tree(alloc, DENIED, "/t").ok()?.sort(true))?.ok()?;
-    let error = entry.read_children.as_ref()?.error()?;
+    let error = entry.read_children_error()?;
     let lead = "IO error for operation on /t/group 2: ";
     let is_told = tells_own(alloc, error, ErrorKind::PermissionDenied, lead)?;
     Some(is_told && is_at(error, 1, Some("/t/group 2")))
@@ -173,8 +173,9 @@ fn metadata(alloc: Global, follow: bool) -> Option<Metadata> {
     .ok()
 }
 
+// An unfollowed link has its own metadata, a followed one those of the file that it leads to.
 #[test]
-fn the_metadata_of_a_link_and_of_what_was_followed(rt: HostRuntime) {
+fn metadata_through_the_wrong_call(rt: HostRuntime) {
     let link = metadata(rt.alloc(), false);
     let file = metadata(rt.alloc(), true);
     let is_link = link == Some(Metadata::new(FileType::Symlink, 1));

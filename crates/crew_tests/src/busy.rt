@@ -41,9 +41,9 @@ const IMPATIENT_FROM_FILE: Asked<'static> = Asked {
     ..IMPATIENT
 };
 
-// That a place is in use is what the wrong body `in_use_always_zero` fails to say.
+// A directory is not read while another walk has the place, and the place counts as in use.
 #[test]
-fn a_directory_is_not_read_while_another_walk_has_the_place(rt: HostRuntime) {
+fn in_use_always_zero(rt: HostRuntime) {
     const ACTS: &[Act<'static>] = &[
         Act::Begins(PATIENT),
         Act::IsBusy(IMPATIENT),

@@ -43,9 +43,9 @@ fn the_place_is_given_back_after_any_number_of_answers(rt: HostRuntime) {
     }
 }
 
-// Where readers outlive the walk (the wrong body `readers_outlive_the_walk`), directories are listed on and on.
+// A long walk is dropped, and its workers list nothing more.
 #[test]
-fn workers_list_nothing_more_once_a_long_walk_is_dropped(rt: HostRuntime) {
+fn readers_outlive_the_walk(rt: HostRuntime) {
     // Each link leads to two that lead back, more than 2^39 times in all.
     const SCENE: Scene = Scene {
         steps: &[

@@ -8,8 +8,6 @@ mod busy;
 #[cfg(test)]
 mod crewed;
 #[cfg(test)]
-mod dice;
-#[cfg(test)]
 mod early;
 #[cfg(test)]
 mod faults;

@@ -1,7 +1,7 @@
 //! Trees of directories and links, made at random.
-use crate::dice::Dice;
 use jwalk::file_system::{BuildError, MemoryFs};
 use std::alloc::{AllocError, Global};
+use walk_fixtures::dice::Dice;
 
 /// How many directories and links a tree is made of at most.
 const STEPS: usize = 24;

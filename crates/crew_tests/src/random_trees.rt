@@ -1,8 +1,8 @@
 //! Trees made at random.
-use crate::dice::Dice;
 use jwalk::file_system::{BuildError, MemoryFs};
 use std::alloc::{AllocError, Global};
 use std::io::ErrorKind;
+use walk_fixtures::dice::Dice;
 
 /// How many steps make a tree.
 const STEPS: usize = 60;

@@ -1,8 +1,8 @@
 //! Walks over trees made at random, with and without a crew.
 use crate::crewed::{Asked, Host, Reader};
-use crate::dice::Dice;
 use crate::random_trees::random_tree;
 use crate::serial::are_serial;
+use walk_fixtures::dice::Dice;
 use walk_ways::ways::Setting;
 
 /// How many trees there are.

@@ -122,9 +122,9 @@ const MET: &str = "0 d /r; 1 d /r/a; 1 d /r/b";
 /// What it yields if one thread reads both.
 const MISSED: &str = "0 d /r; 1 d /r/a ! 1 /r/a Other; 1 d /r/b";
 
-// A crew of one thread (the wrong body `crew_of_one_thread`) yields an error inside the first of the two.
+// Two workers read at the same time. A crew of one thread would yield an error inside the first of the two.
 #[test]
-fn two_workers_read_at_the_same_time(rt: HostRuntime) -> Result<(), AllocError> {
+fn crew_of_one_thread(rt: HostRuntime) -> Result<(), AllocError> {
     let found = answers_by_two(&rt, Meeting::new(rt.clone()?, 5_000))?;
     assert!(rt; are_lines(rt.alloc(), found.as_slice(), MET));
     Ok(())

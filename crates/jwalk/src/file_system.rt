@@ -1,6 +1,7 @@
 //! What a walk reads from: the file system as a trait, its types, the disk, and a tree in memory.
 pub use memory_fs::build_error::BuildError;
 pub use memory_fs::memory_fs::MemoryFs;
+pub use real_fs::patient::Patient;
 pub use real_fs::real_fs::RealFs;
 pub use walk_fs::fault::Fault;
 pub use walk_fs::file_system::FileSystem;

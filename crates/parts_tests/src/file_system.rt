@@ -93,7 +93,7 @@ where
 }
 
 #[test]
-fn want_of_memory_is_a_fault_of_its_own(rt: HostRuntime) {
+fn memory_that_ran_out_is_a_fault_of_its_own(rt: HostRuntime) {
     assert!(rt; matches!(fails(AllocError), Err(Fault::Memory)));
     assert!(rt; matches!(fails(AllocFailed { value: 7 }), Err(Fault::Memory)));
 }

@@ -2,7 +2,7 @@
 use linked_list_allocator::LocalHeap;
 use memory_fs::build_error::BuildError;
 use memory_fs::memory_fs::MemoryFs;
-use std::alloc::{Allocator, Global};
+use std::alloc::{AllocFailed, Allocator, Global};
 use std::io;
 use std::io::ErrorKind;
 use std::process::Abort;
@@ -551,4 +551,14 @@ fn frees_all(heap: &LocalHeap, rounds: u64) -> bool {
 fn what_is_removed_is_freed(rt: HostRuntime) {
     let made = LocalHeap::new(rt.alloc(), 1 << 16);
     assert!(rt; matches!(&made, Ok(heap) if frees_all(heap, 1000)));
+}
+
+/// A step that fails as a `push` does which runs out of memory.
+fn fails_as_a_push() -> Result<(), BuildError> {
+    Err(AllocFailed { value: 7 })?
+}
+
+#[test]
+fn a_failed_push_is_memory_that_ran_out_for_a_tree_too(rt: HostRuntime) {
+    assert!(rt; matches!(fails_as_a_push(), Err(BuildError::Memory)));
 }

@@ -2,3 +2,4 @@ pub mod Texts
 pub mod Seen
 pub mod Listing
 pub mod RealFs
+pub mod Patient

@@ -2,6 +2,7 @@
 #![tactic(auto)]
 
 mod listing;
+pub mod patient;
 pub mod real_fs;
 mod seen;
 mod texts;

@@ -16,6 +16,9 @@ use walk_model::file_type::FileType;
 /// The most items of one listing.
 const MOST_ITEMS: usize = 4_294_967_295;
 
+/// How often one directory is opened at most, if each time before was interrupted.
+const MOST_OPENS: usize = 100;
+
 /// How many bytes of names are asked for at once: room for many names, of which none has more than 255 bytes.
 const BUFFER: usize = 8192;
 
@@ -144,6 +147,17 @@ impl<A: Allocator + Copy> Listing<A> {
     }
 }
 
+/// Opens a directory. An open that was interrupted is made again.
+fn open<R: Files>(rt: &R, dir: &str) -> io::Result<R::Dir> {
+    for _ in 1..MOST_OPENS {
+        match rt.open_dir(dir) {
+            Err(error) if error.kind() == ErrorKind::Interrupted => {}
+            opened => return opened,
+        }
+    }
+    rt.open_dir(dir)
+}
+
 /// Returns the items of a directory, in the order in which it reads.
 pub fn read_dir<R: Files, A: Allocator + Copy>(
     rt: &R,
@@ -153,7 +167,7 @@ pub fn read_dir<R: Files, A: Allocator + Copy>(
     ensures { IfOk result (λ v. length v.items ≤ 4294967295) }
 {
     let dir = slash_ended(alloc, path)?;
-    let mut names = rt.open_dir(dir.as_str()).map_err(fault)?;
+    let mut names = open(rt, dir.as_str()).map_err(fault)?;
     let mut listing = Listing::new(alloc);
     listing.add_rest(rt, dir.as_str(), &mut names)?;
     Ok(listing.items)

@@ -3,7 +3,7 @@
 //! `--tree` it walks the tree that the lines on standard input describe. With `--usage` it prints one line of totals.
 #![tactic(auto)]
 
-use jwalk::file_system::RealFs;
+use jwalk::file_system::{Patient, RealFs};
 use std::io::ErrorKind;
 use std::process::ExitCode;
 use std::{env, io};
@@ -20,9 +20,15 @@ fn words_of(rt: &HostRuntime) -> Result<Vec<String>, Failure> {
     Ok(words.skip(1).collect(rt.alloc())?)
 }
 
+/// The disk, where a directory is opened again after a moment if no descriptor was left.
+type Disk = Patient<RealFs, HostRuntime>;
+
 /// Returns the words, and the disk.
-fn call_of(rt: &HostRuntime) -> Result<(Vec<String>, RealFs), Failure> {
-    Ok((words_of(rt)?, RealFs::new(rt.clone()?)))
+fn call_of(rt: &HostRuntime) -> Result<(Vec<String>, Disk), Failure> {
+    // begin patient
+    let disk = Patient::new(RealFs::new(rt.clone()?), rt.clone()?);
+    // end patient
+    Ok((words_of(rt)?, disk))
 }
 
 fn main(rt: HostRuntime) -> ExitCode {

@@ -66,7 +66,7 @@ fn failures_told_where_they_are_met(rt: HostRuntime) {
 }
 
 #[test]
-fn want_of_memory_in_any_reading_of_a_batch(rt: HostRuntime) {
+fn memory_runs_out_in_any_reading_of_a_batch(rt: HostRuntime) {
     const COURSES: &[Course] = &[
         Course {
             settings: &[Setting::By(Width::Serial)],

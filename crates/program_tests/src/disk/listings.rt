@@ -56,13 +56,19 @@ fn a_fault_in_the_middle_of_a_listing(rt: HostRuntime) {
 }
 
 #[test]
-fn a_reading_that_was_interrupted_is_made_again(rt: HostRuntime) {
+fn an_open_or_a_reading_that_was_interrupted_is_made_again(rt: HostRuntime) {
     let wanted = "0 d /t\n1 f /t/b\n1 f /t/a\n";
     assert!(rt; is_read(rt.alloc(), Readings::Interrupted, wanted));
 }
 
 #[test]
-fn want_of_memory_while_names_are_read(rt: HostRuntime) {
+fn an_open_that_is_always_interrupted_ends(rt: HostRuntime) {
+    let told = failing(&[(Call::Open, "/t/")], ErrorKind::Interrupted);
+    assert!(rt; shows(rt.alloc(), told, false, "0 d /t ! Interrupted\n"));
+}
+
+#[test]
+fn memory_runs_out_while_names_are_read(rt: HostRuntime) {
     assert!(rt;
         is_read(
             rt.alloc(),
@@ -130,7 +136,7 @@ fn a_fault_of_each_call(rt: HostRuntime) {
 }
 
 #[test]
-fn want_of_memory_in_each_call(rt: HostRuntime) {
+fn memory_runs_out_in_each_call(rt: HostRuntime) {
     const ROWS: &[Row] = &[
         (&[(Call::Look, "/t")], "! 0 - memory\n"),
         (&[(Call::Open, "/t/")], "! 0 - memory\n"),

@@ -27,7 +27,7 @@ pub enum Readings {
     NamesThatAreNoTexts,
     /// `b` and `a`; then `c`; then an error.
     FaultAfterThreeNames,
-    /// `b`, and then `a`, with interruptions before and between.
+    /// `b`, and then `a`, with interruptions before and between. The first two opens are interrupted too.
     Interrupted,
     /// `b` and `a`; then memory runs out.
     NoMemoryAfterTwoNames,
@@ -186,6 +186,11 @@ impl ToldDisk {
         }
         Ok(())
     }
+
+    /// Whether an open is interrupted that was just counted.
+    fn is_open_interrupted(&self) -> bool {
+        matches!(self.told.readings, Readings::Interrupted) && self.calls.opens.get() <= 2
+    }
 }
 
 impl Files for ToldDisk {
@@ -199,6 +204,9 @@ impl Files for ToldDisk {
 
     fn open_dir(&self, path: &str) -> io::Result<ToldDir> {
         self.called(Call::Open, path)?;
+        if self.is_open_interrupted() {
+            return Err(io::Error::from(ErrorKind::Interrupted));
+        }
         let readings = if path == "/t/" {
             self.told.readings
         } else {

@@ -1,0 +1,68 @@
+//! Walks by name, and their answers.
+use walk_fixtures::trees::{DENIED, GROUPED, LOOPED, Step};
+use walk_ways::width::Width;
+
+/// A walk by name, and its answers.
+#[derive(Clone, Copy)]
+pub struct Row {
+    pub steps: &'static [Step],
+    pub root: &'static str,
+    /// Whether links are followed.
+    pub follow: bool,
+    pub lines: &'static [&'static str],
+}
+
+/// Groups of files.
+pub const GROUPS: Row = Row {
+    steps: GROUPED,
+    root: "/t",
+    follow: false,
+    lines: &[
+        "0 d /t",
+        "1 f /t/a.txt",
+        "1 f /t/b.txt",
+        "1 f /t/c.txt",
+        "1 d /t/group 1",
+        "2 f /t/group 1/d.txt",
+        "1 d /t/group 2",
+        "2 f /t/group 2/e.txt",
+    ],
+};
+
+/// The groups, one that can't be listed, and a loop.
+pub const ROWS: &[Row] = &[
+    GROUPS,
+    Row {
+        steps: DENIED,
+        root: "/t",
+        follow: false,
+        lines: &[
+            "0 d /t",
+            "1 f /t/a.txt",
+            "1 f /t/b.txt",
+            "1 f /t/c.txt",
+            "1 d /t/group 1",
+            "2 f /t/group 1/d.txt",
+            "1 d /t/group 2 ! PermissionDenied",
+        ],
+    },
+    Row {
+        steps: LOOPED,
+        root: "/r",
+        follow: true,
+        lines: &[
+            "0 d /r",
+            "1 d /r/a",
+            "2 d /r/a/b",
+            "3 d /r/a/b/c",
+            "! 4 /r/a/b/c/a-link loop /r/a",
+        ],
+    },
+];
+
+pub const WIDTHS: &[Width] = &[
+    Width::Serial,
+    Width::Batches(1),
+    Width::Batches(2),
+    Width::Batches(8),
+];
