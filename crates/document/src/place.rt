@@ -13,6 +13,18 @@ pub struct Place {
     pub levels: usize,
 }
 
+impl Place {
+    /// Returns a line as a place.
+    fn of(line: &Line, levels: usize) -> Self
+        ensures { result ≡ place_of levels line.now }
+    {
+        Place {
+            line: *line,
+            levels,
+        }
+    }
+}
+
 /// Returns lines as places.
 fn places<A: Allocator + Copy>(
     alloc: A,
@@ -23,10 +35,7 @@ fn places<A: Allocator + Copy>(
 {
     let mut places = Vec::with_capacity(alloc, lines.len())?;
     for line in lines {
-        places.push(Place {
-            line: *line,
-            levels,
-        })?;
+        places.push(Place::of(line, levels))?;
     }
     Ok(places)
 }
