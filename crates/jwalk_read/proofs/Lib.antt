@@ -1,5 +1,4 @@
 pub mod ListFacts
 mod ReadingFacts
 mod OrderedFacts
-mod PlanTies
 mod WalkedTrees
