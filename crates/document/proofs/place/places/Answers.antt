@@ -1,5 +1,6 @@
 use Rattle.std.proofs.Common.{◌≡◌, ◌+◌, ◌<◌, ◌++◌, ◌∷◌, [], ◌∙◌, ap, sym, map, take, length, get_or, arith, refl}
 use Rattle.std.proofs.lemmas.List.{map-append, take_more, take_all}
+use Rattle.document.specs.declared.place.Place.{Place}
 use Rattle.document.specs.Document.{place_of}
 use Rattle.document.proofs.place.places.Goals as goal
 
@@ -11,13 +12,15 @@ loop-line-preserved g c =
     let place = place_of c.args.levels in
     let xs = c.args.lines.now in
     let i = c.loop-line.line-index in
-    let x = c.line-item.result in
+    let x = c.of.result.line in
+    let same = ap (λ (p : Place). p.line) c.of.ensures in
     let lt : i < length xs = omega arith in
     let at : x ≡ get_or xs i x = cc in
+    let whole : c.of.result ≡ place x = c.of.ensures ∙ ap place (sym same) in
     let gone : map place (take (i + 1) xs) ≡ map place (take i xs) ++ place x ∷ [] = ap (map place) (take_more xs i x lt ∙ ap (λ y. take i xs ++ y ∷ []) (sym at)) ∙ map-append place (take i xs) (x ∷ []) in
     c.in_ok-push.ensures.items
     ∙ ap (λ l. l ++ c.of.result ∷ []) c.loop-line.invariant
-    ∙ ap (λ p. map place (take i xs) ++ p ∷ []) c.of.ensures
+    ∙ ap (λ p. map place (take i xs) ++ p ∷ []) whole
     ∙ sym gone
 
 pub returns : goal.returns
