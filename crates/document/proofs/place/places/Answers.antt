@@ -15,7 +15,7 @@ loop-line-preserved g c =
     let x = c.of.result.line in
     let same = ap (λ (p : Place). p.line) c.of.ensures in
     let lt : i < length xs = omega arith in
-    let at : x ≡ get_or xs i x = cc in
+    let at : x ≡ get_or xs i x = grind (arith, same, lt) in
     let whole : c.of.result ≡ place x = c.of.ensures ∙ ap place (sym same) in
     let gone : map place (take (i + 1) xs) ≡ map place (take i xs) ++ place x ∷ [] = ap (map place) (take_more xs i x lt ∙ ap (λ y. take i xs ++ y ∷ []) (sym at)) ∙ map-append place (take i xs) (x ∷ []) in
     c.in_ok-push.ensures.items
