@@ -1,6 +1,6 @@
 -- What is told of the lines of a document.
 use Rattle.std.proofs.Common.{arith}
-use Rattle.std.specs.Prelude.{◌≡◌, ◌<◌, ◌+◌, ℕ, zero, suc, List, [], ◌∷◌, map, flat_map, slice_get, Option, Some, None, option_map, All}
+use Rattle.std.specs.Prelude.{◌<◌, ℕ, zero, suc, List, [], ◌∷◌, map, flat_map, slice_get, Option, Some, None, option_map, All}
 use Rattle.std.proofs.lemmas.List.Elements.{All-nil, All-cons}
 use Rattle.jwalk_board.specs.Plan.{PlanTree, Falls}
 use Rattle.document.specs.declared.document.Document.{Document}

@@ -34,8 +34,8 @@ fn places<A: Allocator + Copy>(
     ensures { IfOk result (λ v. v.items ≡ map (place_of levels) lines.now) }
 {
     let mut places = Vec::with_capacity(alloc, lines.len())?;
-    for line in lines {
-        places.push(Place::of(line, levels))?;
+    for index in 0..lines.len() {
+        places.push(Place::of(&lines[index], levels))?;
     }
     Ok(places)
 }
