@@ -1,0 +1,137 @@
+//! Files of rules that are read.
+ghost use Rattle.std.specs.Prelude.{◌≡◌, ◌∷◌, [], OnOk, map, option_map};
+ghost use Rattle.walk_model.specs.Entry.{AtDepth};
+ghost use Rattle.walk_fs.specs.Views.{AnswersValue};
+ghost use Rattle.read_parts.specs.Entry.{item};
+ghost use Rattle.jwalk_ignore.specs.IgnoreFiles.{file_of, is_missing, rules_found, with_item, with_rules};
+ghost use Rattle.jwalk_ignore.specs.Chain.{entered};
+ghost use Rattle.jwalk_ignore.specs.ChainViews.{chain_value};
+ghost use Rattle.jwalk_ignore.specs.Sources.{made_value, source_value};
+ghost use Rattle.jwalk_ignore.specs.Rules.{rules_value};
+
+use crate::chain::Chain;
+use crate::link::Link;
+use crate::rules::Rules;
+use crate::rules_kind::RulesKind;
+use crate::texts::Texts;
+use read_parts::client_state::ClientState;
+use read_parts::dir_entry::DirEntry;
+use read_parts::error::Error;
+use std::alloc::{AllocError, Allocator};
+use std::io::ErrorKind;
+use std::mem;
+use std::sync::Arc;
+use walk_fs::fault::Fault;
+use walk_paths::path_text;
+
+/// A file of rules that is to be read.
+#[derive(Clone, Copy)]
+pub(crate) struct Source<'p> {
+    /// The kind of its rules.
+    pub(crate) kind: RulesKind,
+    /// The folder whose rules they are.
+    pub(crate) folder: &'p str,
+    /// How much of a path is before the part that they match.
+    pub(crate) before: usize,
+    /// The depth of the entry that they are read for.
+    pub(crate) depth: usize,
+    /// Whether the file may be missing.
+    pub(crate) may_miss: bool,
+}
+
+/// Returns the name of the file that has rules of a kind, below their folder.
+fn file_of(kind: RulesKind) -> &'static str
+    ensures { result.now ≡ file_of kind }
+{
+    match kind {
+        RulesKind::Ignore => ".ignore",
+        RulesKind::Gitignore => ".gitignore",
+        RulesKind::Exclude => ".git/info/exclude",
+    }
+}
+
+/// Returns whether an error says that nothing is at a path.
+fn is_missing(kind: ErrorKind) -> bool
+    ensures { result ≡ is_missing kind }
+{
+    matches!(kind, ErrorKind::NotFound | ErrorKind::NotADirectory)
+}
+
+/// Returns the rules of the file at a path. None if it may be missing and is.
+fn rules_at<T: Texts, A: Allocator + Copy>(
+    texts: &T,
+    alloc: A,
+    path: &str,
+    may_miss: bool,
+) -> Result<Option<Rules<A>>, Fault>
+    ensures { T.IsFixed texts.now → AnswersValue (option_map rules_value) result
+        (rules_found may_miss ((T.functions texts.now).bytes_of path.now)) }
+{
+    match texts.read(alloc, path) {
+        Ok(bytes) => Ok(Some(Rules::parse(alloc, &bytes)?)),
+        Err(Fault::Io(error)) if may_miss && is_missing(error.kind()) => Ok(None),
+        Err(fault) => Err(fault),
+    }
+}
+
+/// The rules in force and a list, as far as they are made.
+#[derive(Drop)]
+pub(crate) struct Made<C: ClientState, A: Allocator + Copy> {
+    pub(crate) chain: Chain<A>,
+    pub(crate) list: Vec<Result<DirEntry<C, A>, Error<A>>, A>,
+}
+
+impl<C: ClientState, A: Allocator + Copy> Made<C, A> {
+    /// Adds the rules of a file, or the error that reading it ended in.
+    pub(crate) fn add_rules<T: Texts>(
+        &mut self,
+        texts: &T,
+        source: Source<'_>,
+    ) -> Result<(), AllocError>
+        ensures value { T.IsFixed texts.now
+            → OnOk result (made_value self.new ≡ with_rules (T.functions texts.now) (source_value source) (made_value self.old)) }
+        ensures depth { (depth : _) → AtDepth depth (map item self.old.list.items)
+            → OnOk result (AtDepth depth (map item self.new.list.items)) }
+    {
+        let alloc = *self.list.allocator();
+        let path = path_text::join(alloc, source.folder, file_of(source.kind))?;
+        match rules_at(texts, alloc, path.as_str(), source.may_miss) {
+            Ok(Some(rules)) => {
+                let link = Link::new(source.before, rules);
+                self.chain = self.chain.with_link(alloc, source.kind, link)?;
+            }
+            Ok(None) => {}
+            Err(Fault::Io(error)) => {
+                let path = Arc::new(alloc, path)?;
+                self.list
+                    .push(Err(Error::from_path(source.depth, path, error)))?;
+            }
+            Err(Fault::Memory) => return Err(AllocError),
+        }
+        Ok(())
+    }
+
+    /// Goes into a directory that holds `.git`, if it does.
+    pub(crate) fn enter(&mut self, holds_git: bool) -> Result<(), AllocError>
+        ensures chain { OnOk result (chain_value self.new.chain ≡ entered holds_git (chain_value self.old.chain)) }
+        ensures list { self.new.list ≡ self.old.list }
+    {
+        let alloc = *self.list.allocator();
+        let chain = mem::take(&mut self.chain);
+        self.chain = chain.entered(alloc, holds_git)?;
+        Ok(())
+    }
+
+    /// Adds an item.
+    pub(crate) fn add_item(
+        &mut self,
+        found: Result<DirEntry<C, A>, Error<A>>,
+    ) -> Result<(), AllocError>
+        ensures value { OnOk result (made_value self.new ≡ with_item (item found) (made_value self.old)) }
+        ensures depth { (depth : _) → AtDepth depth (item found ∷ []) → AtDepth depth (map item self.old.list.items)
+            → OnOk result (AtDepth depth (map item self.new.list.items)) }
+    {
+        self.list.push(found)?;
+        Ok(())
+    }
+}
