@@ -90,8 +90,8 @@ module _ (path : List ℕ) (is_dir : Bool) where
   )
 
   unmatched : (p : Pattern) (b : Bool) → matches p path is_dir ≡ b → (Matches p path is_dir → ⊥) → pattern_says p path is_dir ≡ Unsaid
-  unmatched p true is no = absurd (no (from_matches p is))
-  unmatched p false is no = ap (λ (b : Bool). if b then decision_of p.keeps else Unsaid) is
+  unmatched p true is never = absurd (never (from_matches p is))
+  unmatched p false is never = ap (λ (b : Bool). if b then decision_of p.keeps else Unsaid) is
 
   none_says : (ps : List Pattern) → NoneMatches ps path is_dir → patterns_say ps path is_dir ≡ Unsaid
   none_says [] h = refl
@@ -103,11 +103,11 @@ module _ (path : List ℕ) (is_dir : Bool) where
 
   last_says : (before : List Pattern) (p : Pattern) (behind : List Pattern) → Matches p path is_dir → NoneMatches behind path is_dir
       → patterns_say (before ++ p ∷ behind) path is_dir ≡ decision_of p.keeps
-  last_says [] p behind yes none =
+  last_says [] p behind hit none =
       ap (λ (x : Decision). or_else x (pattern_says p path is_dir)) (none_says behind none)
-      ∙ ap (λ (b : Bool). if b then decision_of p.keeps else Unsaid) (to_matches p yes)
-  last_says (q ∷ before) p behind yes none =
-      ap (λ (x : Decision). or_else x (pattern_says q path is_dir)) (last_says before p behind yes none) ∙ said_first p.keeps (pattern_says q path is_dir)
+      ∙ ap (λ (b : Bool). if b then decision_of p.keeps else Unsaid) (to_matches p hit)
+  last_says (q ∷ before) p behind hit none =
+      ap (λ (x : Decision). or_else x (pattern_says q path is_dir)) (last_says before p behind hit none) ∙ said_first p.keeps (pattern_says q path is_dir)
 
   -- what the last match says is what is computed
   last_computed : (patterns : List Pattern) (keeps : Bool) → LastMatch patterns path is_dir keeps → decision_of keeps ≡ patterns_say patterns path is_dir

@@ -154,11 +154,12 @@ pub record Folder : Type 0 where
   pub path : List ℕ
   pub is_repository : Bool
 
--- the folders above a path, the nearest first, up to the first that holds `.git`; at most this many
 module _ (texts : Texts) where
-  abbrev folder_at : List ℕ → Folder
+  -- the folder at a path
+  abbrev pub folder_at : List ℕ → Folder
   folder_at path = record { path = path; is_repository = texts.exists (join path git) }
 
+  -- the folders above a path, the nearest first, up to the first that holds `.git`; at most this many
   abbrev pub folders_above : ℕ → List ℕ → List Folder
   folders_above zero path = []
   folders_above (suc n) path =

@@ -15,6 +15,7 @@ pub mod Pieces
 pub mod MemoryTexts
 pub mod Names
 pub mod Line
+pub mod MadeDepths
 pub mod Matching
 mod MatchingRows
 pub mod NamePattern

@@ -1,5 +1,6 @@
 //! The rules in force in a directory.
-ghost use Rattle.std.specs.Prelude.{◌≡◌, IfOk, length, string_bytes};
+ghost use Rattle.std.specs.Prelude.{◌≡◌, IfOk, OnOk, length, string_bytes};
+ghost use Rattle.std.specs.Arc.{arc_value};
 ghost use Rattle.jwalk_ignore.specs.Chain.{below_root, chain_says, entered, has_rules, ignored, links_say, no_rules, place_in, with_link};
 ghost use Rattle.jwalk_ignore.specs.ChainViews.{chain_value, in_force_value, link_value, links_value};
 
@@ -118,6 +119,18 @@ impl<A: Allocator + Copy> InForce<A> {
         })
     }
 
+    /// Adds the rules of one file.
+    fn add_link(&mut self, kind: RulesKind, link: Arc<Link<A>, A>) -> Result<(), AllocError>
+        ensures { OnOk result (in_force_value self.new
+            ≡ with_link kind (link_value (arc_value link)) (in_force_value self.old)) }
+    {
+        match kind {
+            RulesKind::Ignore => Ok(self.ignore.push(link)?),
+            RulesKind::Gitignore => Ok(self.gitignore.push(link)?),
+            RulesKind::Exclude => Ok(self.exclude.push(link)?),
+        }
+    }
+
     /// Returns what the rules say of a path.
     fn decision(&self, path: &[u8], is_dir: bool) -> Decision
         ensures { result ≡ chain_says (in_force_value self.now) path.now is_dir }
@@ -206,12 +219,7 @@ impl<A: Allocator + Copy> Chain<A> {
             ≡ with_link kind (link_value link) (chain_value self.now)) }
     {
         let mut rules = self.rules(alloc)?;
-        let link = Arc::new(alloc, link)?;
-        match kind {
-            RulesKind::Ignore => rules.ignore.push(link)?,
-            RulesKind::Gitignore => rules.gitignore.push(link)?,
-            RulesKind::Exclude => rules.exclude.push(link)?,
-        }
+        rules.add_link(kind, Arc::new(alloc, link)?)?;
         Chain::sharing(alloc, rules)
     }
 

@@ -38,7 +38,7 @@ impl<'p> Folder<'p> {
 
     /// Returns the folder's file of rules of a kind.
     pub(crate) fn source(self, kind: RulesKind) -> Source<'p>
-        ensures { source_value result ≡ source_above (folder_value self) kind }
+        ensures { source_value result ≡ source_above (folder_value self.entry) kind }
     {
         Source {
             kind,
@@ -61,7 +61,8 @@ pub(crate) fn folders_above<'p, T: Texts, A: Allocator + Copy>(
 {
     let mut folders = Vec::new(alloc);
     let mut rest = path;
-    for _ in 0..path.len() {
+    let mut left = path.len();
+    'folders: while left > 0 {
         let Some(above) = path_text::parent(rest) else {
             return Ok(folders);
         };
@@ -71,6 +72,7 @@ pub(crate) fn folders_above<'p, T: Texts, A: Allocator + Copy>(
             return Ok(folders);
         }
         rest = above;
+        left -= 1;
     }
     Ok(folders)
 }

@@ -1,5 +1,5 @@
 //! The places of a directory's entries, one after another.
-ghost use Rattle.std.specs.Prelude.{◌≡◌, ◌++◌, ◌∷◌, IfOk};
+ghost use Rattle.std.specs.Prelude.{◌≡◌, ◌++◌, ◌∷◌, IfOk, OnOk};
 
 use std::alloc::{AllocError, Allocator};
 
@@ -12,7 +12,7 @@ pub(crate) struct Places<A: Allocator + Copy> {
 }
 
 impl<A: Allocator + Copy> Places<A> {
-    ghost use Rattle.jwalk_ignore.specs.Places.{IsPlaced};
+    ghost use Rattle.jwalk_ignore.specs.Places.{IsAt, IsPlaced};
 
     /// Returns the places in a directory at this place.
     pub(crate) fn new(place: Vec<u8, A>) -> Result<Self, AllocError>
@@ -24,13 +24,20 @@ impl<A: Allocator + Copy> Places<A> {
         Ok(Places { bytes, len })
     }
 
-    /// Returns the place of a name in the directory.
-    pub(crate) fn of(&mut self, name: &str) -> Result<&[u8], AllocError>
-        ensures place { (place : _) → IsPlaced place self.old → IfOk result (λ whole. whole.now ≡ place ++ 47 ∷ name.now) }
-        ensures same { (place : _) → IsPlaced place self.old → IsPlaced place self.new }
+    /// Goes on to the place of a name in the directory.
+    pub(crate) fn set_name(&mut self, name: &str) -> Result<(), AllocError>
+        ensures named { (place : _) → IsPlaced place self.old → OnOk result (IsAt place name.now self.new) }
+        ensures placed { (place : _) → IsPlaced place self.old → IsPlaced place self.new }
     {
         self.bytes.truncate(self.len);
         self.bytes.extend_from_slice(name.as_bytes())?;
-        Ok(&self.bytes)
+        Ok(())
+    }
+
+    /// Returns the place that it is at.
+    pub(crate) fn bytes(&self) -> &[u8]
+        ensures { (place : _) → (name : _) → IsAt place name self.now → result.now ≡ place ++ 47 ∷ name }
+    {
+        &self.bytes
     }
 }

@@ -1,5 +1,5 @@
 //! What rules make of lists.
-ghost use Rattle.std.specs.Prelude.{◌≡◌, ◌++◌, ◌∷◌, [], IfOk, OnOk, map, filter};
+ghost use Rattle.std.specs.Prelude.{◌≡◌, ◌++◌, ◌∷◌, [], IfOk, OnOk, map, filter, fold};
 ghost use Rattle.walk_model.specs.Entry.{AtDepth};
 ghost use Rattle.read_parts.specs.Entry.{item};
 ghost use Rattle.jwalk_ignore.specs.Chain.{place_in};
@@ -53,8 +53,8 @@ fn is_kept<C: ClientState, A: Allocator + Copy>(
 {
     match found {
         Ok(entry) => {
-            let place = places.of(entry.file_name.as_str())?;
-            Ok(!chain.ignores(place, entry.file_type.is_dir()))
+            places.set_name(entry.file_name.as_str())?;
+            Ok(!chain.ignores(places.bytes(), entry.file_type.is_dir()))
         }
         Err(_) => Ok(true),
     }
@@ -107,7 +107,7 @@ impl<T: Texts> RulesReader<T> {
         made: &mut Made<C, A>,
     ) -> Result<(), AllocError>
         ensures value { T.IsFixed self.now.texts → OnOk result (made_value made.new
-            ≡ with_listed (T.functions self.now.texts) of.counted of.path.now of.before (made_value made.old) (item found)) }
+            ≡ with_listed (T.functions self.now.texts) of.entry.counted of.entry.path.now of.entry.before (made_value made.old) (item found)) }
         ensures depth { (depth : _) → AtDepth depth (item found ∷ []) → AtDepth depth (map item made.old.list.items)
             → OnOk result (AtDepth depth (map item made.new.list.items)) }
     {
@@ -125,6 +125,25 @@ impl<T: Texts> RulesReader<T> {
             may_miss: kind.may_miss(),
         };
         made.add_rules(&self.texts, source)
+    }
+
+    /// Adds all items of a directory's list, and the rules that are read for each.
+    fn add_all<C: ClientState, A: Allocator + Copy>(
+        &self,
+        of: Directory<'_>,
+        list: Vec<Result<DirEntry<C, A>, Error<A>>, A>,
+        made: &mut Made<C, A>,
+    ) -> Result<(), AllocError>
+        ensures value { T.IsFixed self.now.texts → OnOk result (made_value made.new
+            ≡ fold (with_listed (T.functions self.now.texts) of.entry.counted of.entry.path.now of.entry.before)
+            (made_value made.old) (map item list.items)) }
+        ensures depth { (depth : _) → AtDepth depth (map item list.items) → AtDepth depth (map item made.old.list.items)
+            → OnOk result (AtDepth depth (map item made.new.list.items)) }
+    {
+        for found in list {
+            self.add_listed(of, found, made)?;
+        }
+        Ok(())
     }
 
     /// Reads the rules that a directory's list leads to.
@@ -150,9 +169,7 @@ impl<T: Texts> RulesReader<T> {
             chain,
             list: Vec::with_capacity(alloc, list.len())?,
         };
-        for found in list {
-            self.add_listed(of, found, &mut made)?;
-        }
+        self.add_all(of, list, &mut made)?;
         Ok(made)
     }
 
@@ -183,7 +200,7 @@ impl<T: Texts> RulesReader<T> {
         made: &mut Made<C, A>,
     ) -> Result<(), AllocError>
         ensures value { T.IsFixed self.now.texts → OnOk result (made_value made.new
-            ≡ with_above self.now.settings (T.functions self.now.texts) (folder_value folder) read kind (made_value made.old)) }
+            ≡ with_above self.now.settings (T.functions self.now.texts) (folder_value folder.entry) read kind (made_value made.old)) }
         ensures depth { (depth : _) → AtDepth depth (map item made.old.list.items)
             → OnOk result (AtDepth depth (map item made.new.list.items)) }
     {
@@ -200,7 +217,7 @@ impl<T: Texts> RulesReader<T> {
         made: &mut Made<C, A>,
     ) -> Result<(), AllocError>
         ensures value { T.IsFixed self.now.texts → OnOk result (made_value made.new
-            ≡ with_folder self.now.settings (T.functions self.now.texts) (made_value made.old) (folder_value folder)) }
+            ≡ with_folder self.now.settings (T.functions self.now.texts) (made_value made.old) (folder_value folder.entry)) }
         ensures depth { (depth : _) → AtDepth depth (map item made.old.list.items)
             → OnOk result (AtDepth depth (map item made.new.list.items)) }
     {
@@ -223,11 +240,10 @@ impl<T: Texts> RulesReader<T> {
             → OnOk result (AtDepth depth (map item made.new.list.items)) }
     {
         let alloc = *made.list.allocator();
-        let folders = folders_above(&self.texts, alloc, absolute)?;
-        let mut rest = folders.as_slice();
-        'folders: while let Some((folder, nearer)) = rest.split_last() {
-            self.add_folder(*folder, made)?;
-            rest = nearer;
+        let mut folders = folders_above(&self.texts, alloc, absolute)?;
+        folders.reverse();
+        for folder in folders {
+            self.add_folder(folder, made)?;
         }
         Ok(())
     }

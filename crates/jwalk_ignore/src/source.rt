@@ -1,10 +1,12 @@
 //! Files of rules that are read.
-ghost use Rattle.std.specs.Prelude.{◌≡◌, ◌∷◌, [], OnOk, map, option_map};
+ghost use Rattle.std.specs.Prelude.{◌≡◌, ◌++◌, ◌∷◌, [], Some, Err, OnOk, map, option_map, string_bytes};
+ghost use Rattle.std.specs.IoError.{error_kind};
+ghost use Rattle.walk_model.specs.Error.{io};
 ghost use Rattle.walk_model.specs.Entry.{AtDepth};
 ghost use Rattle.walk_fs.specs.Views.{AnswersValue};
 ghost use Rattle.read_parts.specs.Entry.{item};
-ghost use Rattle.jwalk_ignore.specs.IgnoreFiles.{file_of, is_missing, rules_found, with_item, with_rules};
-ghost use Rattle.jwalk_ignore.specs.Chain.{entered};
+ghost use Rattle.jwalk_ignore.specs.IgnoreFiles.{file_of, is_missing, path_of, rules_found, with_found, with_item, with_rules};
+ghost use Rattle.jwalk_ignore.specs.Chain.{entered, with_link};
 ghost use Rattle.jwalk_ignore.specs.ChainViews.{chain_value};
 ghost use Rattle.jwalk_ignore.specs.Sources.{made_value, source_value};
 ghost use Rattle.jwalk_ignore.specs.Rules.{rules_value};
@@ -19,8 +21,8 @@ use read_parts::dir_entry::DirEntry;
 use read_parts::error::Error;
 use std::alloc::{AllocError, Allocator};
 use std::io::ErrorKind;
-use std::mem;
 use std::sync::Arc;
+use std::{io, mem};
 use walk_fs::fault::Fault;
 use walk_paths::path_text;
 
@@ -82,6 +84,57 @@ pub(crate) struct Made<C: ClientState, A: Allocator + Copy> {
 }
 
 impl<C: ClientState, A: Allocator + Copy> Made<C, A> {
+    /// Adds rules that were read.
+    fn add_read(&mut self, source: Source<'_>, rules: Rules<A>) -> Result<(), AllocError>
+        ensures chain { OnOk result (chain_value self.new.chain
+            ≡ with_link source.entry.kind (record { before = source.entry.before; patterns = rules_value rules })
+            (chain_value self.old.chain)) }
+        ensures list { OnOk result (self.new.list ≡ self.old.list) }
+    {
+        let alloc = *self.list.allocator();
+        let link = Link::new(source.before, rules);
+        self.chain = self.chain.with_link(alloc, source.kind, link)?;
+        Ok(())
+    }
+
+    /// Adds the error that reading a file at a path ended in.
+    fn add_error(
+        &mut self,
+        depth: usize,
+        path: String<A>,
+        error: io::Error,
+    ) -> Result<(), AllocError>
+        ensures list { OnOk result (map item self.new.list.items
+            ≡ map item self.old.list.items ++ Err (io depth (Some (string_bytes path)) (error_kind error)) ∷ []) }
+        ensures chain { OnOk result (self.new.chain ≡ self.old.chain) }
+    {
+        let alloc = *self.list.allocator();
+        let path = Arc::new(alloc, path)?;
+        self.list.push(Err(Error::from_path(depth, path, error)))?;
+        Ok(())
+    }
+
+    /// Adds what reading a file of rules at a path ended in.
+    fn add_found(
+        &mut self,
+        source: Source<'_>,
+        path: String<A>,
+        found: Result<Option<Rules<A>>, Fault>,
+    ) -> Result<(), AllocError>
+        requires { string_bytes path ≡ path_of (source_value source) }
+        ensures value { (by : _) → AnswersValue (option_map rules_value) found by
+            → OnOk result (made_value self.new ≡ with_found (source_value source.entry) by (made_value self.old)) }
+        ensures depth { (depth : _) → AtDepth depth (map item self.old.list.items)
+            → OnOk result (AtDepth depth (map item self.new.list.items)) }
+    {
+        match found {
+            Ok(Some(rules)) => self.add_read(source, rules),
+            Ok(None) => Ok(()),
+            Err(Fault::Io(error)) => self.add_error(source.depth, path, error),
+            Err(Fault::Memory) => Err(AllocError),
+        }
+    }
+
     /// Adds the rules of a file, or the error that reading it ended in.
     pub(crate) fn add_rules<T: Texts>(
         &mut self,
@@ -89,26 +142,14 @@ impl<C: ClientState, A: Allocator + Copy> Made<C, A> {
         source: Source<'_>,
     ) -> Result<(), AllocError>
         ensures value { T.IsFixed texts.now
-            → OnOk result (made_value self.new ≡ with_rules (T.functions texts.now) (source_value source) (made_value self.old)) }
+            → OnOk result (made_value self.new ≡ with_rules (T.functions texts.now) (source_value source.entry) (made_value self.old)) }
         ensures depth { (depth : _) → AtDepth depth (map item self.old.list.items)
             → OnOk result (AtDepth depth (map item self.new.list.items)) }
     {
         let alloc = *self.list.allocator();
         let path = path_text::join(alloc, source.folder, file_of(source.kind))?;
-        match rules_at(texts, alloc, path.as_str(), source.may_miss) {
-            Ok(Some(rules)) => {
-                let link = Link::new(source.before, rules);
-                self.chain = self.chain.with_link(alloc, source.kind, link)?;
-            }
-            Ok(None) => {}
-            Err(Fault::Io(error)) => {
-                let path = Arc::new(alloc, path)?;
-                self.list
-                    .push(Err(Error::from_path(source.depth, path, error)))?;
-            }
-            Err(Fault::Memory) => return Err(AllocError),
-        }
-        Ok(())
+        let found = rules_at(texts, alloc, path.as_str(), source.may_miss);
+        self.add_found(source, path, found)
     }
 
     /// Goes into a directory that holds `.git`, if it does.
