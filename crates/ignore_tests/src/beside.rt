@@ -1,13 +1,12 @@
 //! Rules beside other callbacks, and in crews.
-use crate::planted::{Rules, repository};
+use crate::planted::repository;
 use jwalk::file_system::BuildError;
 use jwalk::read_dir::{Size, WithSizes};
-use jwalk::{DirEntry, Error, WalkDirGeneric};
+use jwalk::WalkDirGeneric;
 use jwalk_ignore::builder::with_ignore_files;
 use jwalk_ignore::chain::Chain;
 use jwalk_ignore::ignore_files::IgnoreFiles;
-use std::alloc::{AllocError, Global};
-use std::sync::Arc;
+use std::alloc::Global;
 
 /// A repository with rules in two directories.
 const TREE: &str = ".gitignore=*.o|\na.o\nb\ns/\ns/.gitignore=c|\ns/b.o\ns/c\ns/d";

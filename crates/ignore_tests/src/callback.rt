@@ -1,6 +1,6 @@
 //! Which rules are in force where, and what a walk yields of their files.
 use crate::left::{left, left_from};
-use crate::planted::{Planted, planted, repository};
+use crate::planted::{Planted, repository, tree_of};
 use jwalk::file_system::BuildError;
 use jwalk_ignore::ignore_files::IgnoreFiles;
 use std::alloc::Global;
@@ -47,7 +47,7 @@ fn a_nested_repository_ends_the_outer_rules(rt: HostRuntime) {
 
 /// Returns what is left of a tree, by these rules.
 fn left_of(alloc: Global, lines: &str, anywhere: bool) -> Result<String, BuildError> {
-    let planted = planted(alloc, lines)?;
+    let planted = tree_of(alloc, lines)?;
     let rules = IgnoreFiles::new(&planted.texts)
         .keep_hidden(true)
         .outside_repositories(anywhere);

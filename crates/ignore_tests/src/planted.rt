@@ -1,11 +1,7 @@
 //! Trees with files of rules, from texts, and walks over them.
 use jwalk::file_system::{BuildError, MemoryFs};
-use jwalk::read_dir::ProcessReadDir;
-use jwalk::{DirEntry, WalkDirGeneric};
 use jwalk_ignore::chain::Chain;
-use jwalk_ignore::ignore_files::IgnoreFiles;
 use jwalk_ignore::memory_texts::MemoryTexts;
-use jwalk_ignore::texts::Texts;
 use std::alloc::{AllocError, Global};
 
 /// The states of a walk without states of its own.
@@ -54,7 +50,7 @@ fn plant(alloc: Global, planted: &mut Planted, line: &str) -> Result<(), BuildEr
 }
 
 /// Returns the tree of these lines, below `/r`.
-pub(crate) fn planted(alloc: Global, lines: &str) -> Result<Planted, BuildError> {
+pub(crate) fn tree_of(alloc: Global, lines: &str) -> Result<Planted, BuildError> {
     let mut planted = Planted {
         fs: MemoryFs::new(alloc),
         texts: MemoryTexts::new(alloc),
@@ -68,7 +64,7 @@ pub(crate) fn planted(alloc: Global, lines: &str) -> Result<Planted, BuildError>
 
 /// Returns the same tree, as a repository.
 pub(crate) fn repository(alloc: Global, lines: &str) -> Result<Planted, BuildError> {
-    let mut planted = planted(alloc, lines)?;
+    let mut planted = tree_of(alloc, lines)?;
     planted.fs.add_dir("/r/.git")?;
     Ok(planted)
 }

@@ -1,5 +1,5 @@
 -- The lists that rules make are at the depth of the list.
-use Rattle.std.specs.Prelude.{ℕ, Bool, true, false, cond, List, [], ◌∷◌, ◌++◌, filter, fold, length, reverse, Option, Some, None, Result, Ok, Err}
+use Rattle.std.specs.Prelude.{ℕ, Bool, true, false, cond, List, [], ◌∷◌, ◌++◌, map, filter, fold, length, reverse, Option, Some, None, Result, Ok, Err}
 use Rattle.std.specs.List.{list_any}
 use Rattle.std.specs.declared.io.ErrorKind.{ErrorKind}
 use Rattle.walk_model.specs.Counted.{Worth}
@@ -36,6 +36,13 @@ module _ {R E : Type 0} (depth : ℕ) where
   append_at [] ys h k = k
   append_at (Ok e ∷ xs) ys h k = (h.0, append_at xs ys h.1 k)
   append_at (Err f ∷ xs) ys h k = append_at xs ys h k
+
+  -- one item more of a list at a depth
+  pub more_at : {X : Type 0} (view : X → Item R E) (xs : List X) (x : X) → AtDepth depth (map view (xs ++ x ∷ [])) → AtDepth depth (map view xs) × AtDepth depth (view x ∷ [])
+  more_at view [] x h = (tt, h)
+  more_at view (y ∷ xs) x h =
+      let k = more_at view xs x (others_at (view y) (map view (xs ++ x ∷ [])) h) in
+      (joined_at (view y) (map view xs) (first_at (view y) (map view (xs ++ x ∷ [])) h) k.0, k.1)
 
   filtered_one : (test : Item R E → Bool) (x : Item R E) (xs : List (Item R E)) (b : Bool) → AtDepth depth (x ∷ []) → AtDepth depth (filter test xs) → AtDepth depth (cond b (x ∷ filter test xs) (filter test xs))
   filtered_one test x xs true h k = joined_at x (filter test xs) h k

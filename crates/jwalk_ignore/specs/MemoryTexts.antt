@@ -20,7 +20,7 @@ found_at texts path = option_map content (get_by_text texts.contents path)
 
 -- This is at a path in the new texts, and elsewhere what was there.
 abbrev pub Holds : {A : Type 0} → List ℕ → Result (List ℕ) ErrorKind → MemoryTexts A → MemoryTexts A → Type 0
-Holds path there old new = (other : List ℕ) → found_at new other ≡ (if bytes_eq other path then Some there else found_at old other)
+Holds path there old new = (other : List ℕ) → found_at new other ≡ (if bytes_eq path other then Some there else found_at old other)
 
 -- a missing file isn't found
 abbrev pub or_missing : Option (Result (List ℕ) ErrorKind) → Result (List ℕ) ErrorKind

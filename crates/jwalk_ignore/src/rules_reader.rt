@@ -228,6 +228,24 @@ impl<T: Texts> RulesReader<T> {
         self.add_above(folder, true, RulesKind::Ignore, made)
     }
 
+    /// Adds the rules of folders above the root, one after another.
+    fn add_each<C: ClientState, A: Allocator + Copy>(
+        &self,
+        folders: Vec<Folder<'_>, A>,
+        made: &mut Made<C, A>,
+    ) -> Result<(), AllocError>
+        ensures value { T.IsFixed self.now.texts → OnOk result (made_value made.new
+            ≡ fold (with_folder self.now.settings (T.functions self.now.texts)) (made_value made.old)
+            (map folder_value folders.entry.items)) }
+        ensures depth { (depth : _) → AtDepth depth (map item made.old.list.items)
+            → OnOk result (AtDepth depth (map item made.new.list.items)) }
+    {
+        for folder in folders {
+            self.add_folder(folder, made)?;
+        }
+        Ok(())
+    }
+
     /// Adds the rules of the folders above a root with this absolute path, the farthest first.
     fn add_folders<C: ClientState, A: Allocator + Copy>(
         &self,
@@ -242,10 +260,7 @@ impl<T: Texts> RulesReader<T> {
         let alloc = *made.list.allocator();
         let mut folders = folders_above(&self.texts, alloc, absolute)?;
         folders.reverse();
-        for folder in folders {
-            self.add_folder(folder, made)?;
-        }
-        Ok(())
+        self.add_each(folders, made)
     }
 
     /// Adds the rules above a root.
@@ -295,6 +310,23 @@ impl<T: Texts> RulesReader<T> {
         }
     }
 
+    /// Adds all items of the root's list, and the rules above each.
+    fn add_roots<C: ClientState, A: Allocator + Copy>(
+        &self,
+        list: Vec<Result<DirEntry<C, A>, Error<A>>, A>,
+        made: &mut Made<C, A>,
+    ) -> Result<(), AllocError>
+        ensures value { T.IsFixed self.now.texts → OnOk result (made_value made.new
+            ≡ fold (with_root_item self.now.settings (T.functions self.now.texts)) (made_value made.old) (map item list.items)) }
+        ensures depth { (depth : _) → AtDepth depth (map item list.items) → AtDepth depth (map item made.old.list.items)
+            → OnOk result (AtDepth depth (map item made.new.list.items)) }
+    {
+        for found in list {
+            self.add_root_item(found, made)?;
+        }
+        Ok(())
+    }
+
     /// Reads the rules above the root, of whose list nothing is dropped.
     fn at_root<C: ClientState, A: Allocator + Copy>(
         &self,
@@ -310,9 +342,7 @@ impl<T: Texts> RulesReader<T> {
             chain,
             list: Vec::new(*list.allocator()),
         };
-        for found in list {
-            self.add_root_item(found, &mut made)?;
-        }
+        self.add_roots(list, &mut made)?;
         Ok(made)
     }
 
