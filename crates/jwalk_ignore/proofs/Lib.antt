@@ -10,3 +10,4 @@ pub mod ListFacts
 pub mod MadeFacts
 pub mod IgnoreFacts
 pub mod ChainFacts
+pub mod FolderFacts

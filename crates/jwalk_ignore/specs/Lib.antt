@@ -7,6 +7,7 @@ pub mod ChainViews
 pub mod ChainWorth
 pub mod Fits
 pub mod Folders
+pub mod Given
 pub mod Glob
 pub mod IgnoreFiles
 pub mod IgnoreViews

@@ -2,15 +2,10 @@
 use Rattle.std.specs.Prelude.{ℕ, Bool, true, false, cond, List, [], ◌∷◌, ◌++◌, map, filter, fold, length, reverse, Option, Some, None, Result, Ok, Err}
 use Rattle.std.specs.List.{list_any}
 use Rattle.std.specs.declared.io.ErrorKind.{ErrorKind}
-use Rattle.walk_model.specs.Counted.{Worth}
 use Rattle.walk_model.specs.Error.{io}
 use Rattle.walk_model.specs.Entry.{Item, AtDepth}
-use Rattle.walk_model.specs.Job.{Processing, KeepsDepthsOf}
-use Rattle.walk_model.specs.ReadDir.{list_depth}
 use Rattle.jwalk_ignore.specs.Chain.{Chain, below_root, entered, place_in}
-use Rattle.jwalk_ignore.specs.ChainWorth.{rules_of, with_chain}
 use Rattle.jwalk_ignore.specs.IgnoreFiles.{Folder, Made, Source, by_rules, counts, depth_of, entered_above, folders_above, is_git, is_kept, is_shown, kind_of, own_rules, path_of, root_of, rules_found, source_above, source_in, with_above, with_absolute, with_folder, with_found, with_item, with_listed, with_own, with_root, with_root_item, with_rules}
-use Rattle.jwalk_ignore.specs.IgnoreViews.{ignoring}
 use Rattle.jwalk_ignore.specs.Pattern.{Pattern}
 use Rattle.jwalk_ignore.specs.Texts.{Texts}
 use Rattle.jwalk_ignore.specs.declared.rules_kind.RulesKind.{RulesKind}
@@ -119,9 +114,3 @@ module _ {R E : Type 0} (depth : ℕ) where
         (filter_at depth (is_shown settings) own.list
         (fold_at depth (with_listed texts (counts settings inside) path (length (place_in inside path))) (λ (m : Made R E). m.list)
         (listed_at texts (counts settings inside) path (length (place_in inside path))) (record { chain = inside; list = [] }) list h tt))
-
--- A callback that is given what rules leave keeps depths with them.
-pub ignoring-KeepsDepthsOf : (settings : Settings) (texts : Texts) (next : Processing Worth Worth) → KeepsDepthsOf next → KeepsDepthsOf (ignoring settings texts next)
-ignoring-KeepsDepthsOf settings texts next keeps depth path state list h =
-    let left : Made Worth Worth = by_rules settings texts depth path (rules_of state) list in
-    keeps depth path (with_chain left.chain state) left.list (by_rules_at (list_depth depth) settings texts depth path (rules_of state) list h)

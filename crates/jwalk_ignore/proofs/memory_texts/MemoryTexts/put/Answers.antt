@@ -13,7 +13,7 @@ either_side false there old = refl
 
 pub returns : goal.returns
 returns g c = λ other.
-    let key = string_bytes c.in_ok-path.field-0 in
+    let key = string_bytes c.in_ok-path.path in
     let old = get_by_text c.args.self.now.contents other in
     ap (option_map content) (btree_map_updates_text key _ _ _ c.in_ok-insert.ensures.updates other)
     ∙ either_side (bytes_eq key other) c.args.there old
