@@ -1,8 +1,8 @@
 //! Rules beside other callbacks, and in crews.
 use crate::planted::repository;
+use jwalk::WalkDirGeneric;
 use jwalk::file_system::BuildError;
 use jwalk::read_dir::{Size, WithSizes};
-use jwalk::WalkDirGeneric;
 use jwalk_ignore::builder::with_ignore_files;
 use jwalk_ignore::chain::Chain;
 use jwalk_ignore::ignore_files::IgnoreFiles;

@@ -17,9 +17,27 @@ fn leaves(alloc: Global, lines: &str, wanted: &str) -> bool {
 #[test]
 fn the_kinds_decide_in_order(rt: HostRuntime) {
     let alloc = rt.alloc();
-    assert!(rt; leaves(alloc, ".gitignore=!a|\n.ignore=a|\na", ".gitignore\n.ignore\n"));
-    assert!(rt; leaves(alloc, ".gitignore=a|\n.ignore=!a|\na", ".gitignore\n.ignore\na\n"));
-    assert!(rt; leaves(alloc, ".git/info/exclude=a|\n.gitignore=!a|\na", ".gitignore\na\n"));
+    assert!(rt;
+        leaves(
+            alloc,
+            ".gitignore=!a|\n.ignore=a|\na",
+            ".gitignore\n.ignore\n"
+        )
+    );
+    assert!(rt;
+        leaves(
+            alloc,
+            ".gitignore=a|\n.ignore=!a|\na",
+            ".gitignore\n.ignore\na\n"
+        )
+    );
+    assert!(rt;
+        leaves(
+            alloc,
+            ".git/info/exclude=a|\n.gitignore=!a|\na",
+            ".gitignore\na\n"
+        )
+    );
     assert!(rt; leaves(alloc, ".git/info/exclude=a|\na\nb", "b\n"));
     let farther = ".ignore=a|\ns/\ns/.gitignore=!a|\ns/a";
     assert!(rt; leaves(alloc, farther, ".ignore\ns\ns/.gitignore\n"));
@@ -41,8 +59,15 @@ fn nothing_below_an_ignored_directory_is_left(rt: HostRuntime) {
 
 #[test]
 fn a_nested_repository_ends_the_outer_rules(rt: HostRuntime) {
-    let tree = ".git/info/exclude=c|\n.gitignore=a|\n.ignore=b|\ns/\ns/.git/\ns/a\ns/b\ns/c\ns/t/\ns/t/a";
-    assert!(rt; leaves(rt.alloc(), tree, ".gitignore\n.ignore\ns\ns/a\ns/c\ns/t\ns/t/a\n"));
+    let tree =
+        ".git/info/exclude=c|\n.gitignore=a|\n.ignore=b|\ns/\ns/.git/\ns/a\ns/b\ns/c\ns/t/\ns/t/a";
+    assert!(rt;
+        leaves(
+            rt.alloc(),
+            tree,
+            ".gitignore\n.ignore\ns\ns/a\ns/c\ns/t\ns/t/a\n"
+        )
+    );
 }
 
 /// Returns what is left of a tree, by these rules.
@@ -58,7 +83,9 @@ fn left_of(alloc: Global, lines: &str, anywhere: bool) -> Result<String, BuildEr
 fn git_as_a_file_is_a_repository_without_exclude(rt: HostRuntime) {
     let alloc = rt.alloc();
     let tree = ".git/info/exclude=a|\n.git\n.gitignore=b|\na\nb";
-    assert!(rt; matches!(left_of(alloc, tree, false), Ok(left) if left.as_str() == ".gitignore\na\n"));
+    assert!(rt;
+        matches!(left_of(alloc, tree, false), Ok(left) if left.as_str() == ".gitignore\na\n")
+    );
 }
 
 #[test]
@@ -74,7 +101,9 @@ fn outside_repositories(rt: HostRuntime) {
 /// Returns what is left of a repository, of which the file of rules can't be read.
 fn left_unread(alloc: Global, keep_hidden: bool) -> Result<String, BuildError> {
     let mut planted = repository(alloc, ".gitignore=a|\n.h\na\ns/\ns/a")?;
-    planted.texts.deny("/r/.gitignore", ErrorKind::PermissionDenied)?;
+    planted
+        .texts
+        .deny("/r/.gitignore", ErrorKind::PermissionDenied)?;
     let rules = IgnoreFiles::new(&planted.texts).keep_hidden(keep_hidden);
     left_from(alloc, &planted, rules, "/r")
 }
@@ -122,6 +151,8 @@ fn rules_above_the_root_are_in_force(rt: HostRuntime) {
     let wanted = "s/t\ns/t/b\ns/t/d\n";
     assert!(rt; matches!(left_above(alloc, "/r/s"), Ok(left) if left.as_str() == wanted));
     assert!(rt; matches!(left_above(alloc, "/r/s/"), Ok(left) if left.as_str() == wanted));
-    assert!(rt; matches!(left_above(alloc, "r/s"), Ok(left) if left.as_str() == "r/s/t\nr/s/t/b\nr/s/t/d\n"));
+    assert!(rt;
+        matches!(left_above(alloc, "r/s"), Ok(left) if left.as_str() == "r/s/t\nr/s/t/b\nr/s/t/d\n")
+    );
     assert!(rt; matches!(left_above(alloc, "/r/s/a"), Ok(left) if left.is_empty()));
 }

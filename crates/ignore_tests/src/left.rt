@@ -13,10 +13,7 @@ fn push_path(text: &mut String, path: &str) -> Result<(), AllocError> {
 }
 
 /// Adds an item of a walk to a text: the path of an entry, or an error's with its depth behind a mark.
-fn push_item(
-    text: &mut String,
-    answer: &Result<DirEntry<Rules>, Error>,
-) -> Result<(), AllocError> {
+fn push_item(text: &mut String, answer: &Result<DirEntry<Rules>, Error>) -> Result<(), AllocError> {
     match answer {
         Ok(entry) => push_path(text, entry.path()?.as_str())?,
         Err(error) => {

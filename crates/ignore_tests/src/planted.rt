@@ -32,7 +32,9 @@ fn plant(alloc: Global, planted: &mut Planted, line: &str) -> Result<(), BuildEr
     match line.split_once('=') {
         Some((name, rules)) => {
             path.push_str(name)?;
-            planted.texts.add(path.as_str(), rules_of(alloc, rules)?.as_bytes())?;
+            planted
+                .texts
+                .add(path.as_str(), rules_of(alloc, rules)?.as_bytes())?;
             if !name.starts_with(".git/") {
                 planted.fs.add_file(path.as_str(), 1)?;
             }

@@ -1,10 +1,10 @@
 -- A list after the rules and then the other callback.
 use Rattle.std.proofs.Common.{◌≡◌, ◌∙◌, ℕ, List, map, Option, Result, Ok, Err, ap, sym}
 use Rattle.std.specs.Prelude.{OnOk}
-use Rattle.walk_model.specs.Counted.{Worth, both}
-use Rattle.walk_model.specs.Entry.{Item}
-use Rattle.walk_model.specs.Job.{Processing, KeepsDepthsOf}
-use Rattle.read_parts.specs.Given.{Given, IsProcessed, counted_item}
+use Rattle.jwalk.specs.walk_model.Counted.{Worth, both}
+use Rattle.jwalk.specs.walk_model.Entry.{Item}
+use Rattle.jwalk.specs.walk_model.Job.{Processing, KeepsDepthsOf}
+use Rattle.jwalk.specs.read_parts.Given.{Given, IsProcessed, counted_item}
 use Rattle.jwalk_ignore.specs.Chain as value
 use Rattle.jwalk_ignore.specs.ChainViews.{chain_value}
 use Rattle.jwalk_ignore.specs.ChainWorth.{chain_worth, rules_of, second_in, with_chain}

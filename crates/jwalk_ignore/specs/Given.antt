@@ -1,12 +1,12 @@
 -- What is given of a walk that honours ignore files, and has no other callback.
 use Rattle.std.specs.Prelude.{ℕ, List, Option}
-use Rattle.walk_model.specs.Counted.{Worth, blank, both}
-use Rattle.walk_model.specs.Entry.{Item}
-use Rattle.walk_model.specs.FileSystem.{Functions}
-use Rattle.walk_model.specs.Job.{Job, KeepsDepthsOf, Processing}
-use Rattle.walk_model.specs.Options.{Options}
-use Rattle.walk_model.specs.ReadDir.{list_depth}
-use Rattle.read_parts.specs.Given.{Given}
+use Rattle.jwalk.specs.walk_model.Counted.{Worth, blank, both}
+use Rattle.jwalk.specs.walk_model.Entry.{Item}
+use Rattle.jwalk.specs.walk_model.FileSystem.{Functions}
+use Rattle.jwalk.specs.walk_model.Job.{Job, KeepsDepthsOf, Processing}
+use Rattle.jwalk.specs.walk_model.Options.{Options}
+use Rattle.jwalk.specs.walk_model.ReadDir.{list_depth}
+use Rattle.jwalk.specs.read_parts.Given.{Given}
 use Rattle.jwalk_ignore.specs.Chain.{no_rules}
 use Rattle.jwalk_ignore.specs.ChainViews.{chain_value}
 use Rattle.jwalk_ignore.specs.ChainWorth.{chain_worth, rules_of, with_chain}

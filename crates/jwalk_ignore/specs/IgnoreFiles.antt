@@ -4,11 +4,11 @@ use Rattle.std.specs.Prelude.{ℕ, suc, Bool, true, false, ◌&&◌, ◌||◌, n
 use Rattle.std.specs.List.{list_any}
 use Rattle.std.specs.declared.io.ErrorKind.{ErrorKind}
 use Rattle.std.specs.declared.io.ErrorKind.TheVariants as kind
-use Rattle.walk_model.specs.FileType.{is_dir, is_file}
-use Rattle.walk_model.specs.Paths.{join, parent}
-use Rattle.walk_model.specs.Error.{io}
-use Rattle.walk_model.specs.Entry.{Children, Entry, Item, is_hidden}
-use Rattle.walk_model.specs.ReadDir.{Reading}
+use Rattle.jwalk.specs.walk_model.FileType.{is_dir, is_file}
+use Rattle.jwalk.specs.walk_model.Paths.{join, parent}
+use Rattle.jwalk.specs.walk_model.Error.{io}
+use Rattle.jwalk.specs.walk_model.Entry.{Children, Entry, Item, is_hidden}
+use Rattle.jwalk.specs.walk_model.ReadDir.{Reading}
 use Rattle.jwalk_ignore.specs.Chain.{Chain, below_root, entered, ignored, place_in, with_link}
 use Rattle.jwalk_ignore.specs.Line.{patterns_of}
 use Rattle.jwalk_ignore.specs.Pattern.{Pattern}

@@ -1,9 +1,9 @@
 -- What the callback makes of walks, by value.
 use Rattle.std.specs.Prelude.{◌≡◌, ℕ, List, Option}
-use Rattle.walk_model.specs.Counted.{Worth, both}
-use Rattle.walk_model.specs.Entry.{Item}
-use Rattle.walk_model.specs.Job.{Processing, KeepsDepthsOf}
-use Rattle.read_parts.specs.Given.{Given}
+use Rattle.jwalk.specs.walk_model.Counted.{Worth, both}
+use Rattle.jwalk.specs.walk_model.Entry.{Item}
+use Rattle.jwalk.specs.walk_model.Job.{Processing, KeepsDepthsOf}
+use Rattle.jwalk.specs.read_parts.Given.{Given}
 use Rattle.jwalk_ignore.specs.ChainViews.{chain_value}
 use Rattle.jwalk_ignore.specs.ChainWorth.{chain_worth, rules_of, with_chain}
 use Rattle.jwalk_ignore.specs.IgnoreFiles.{by_rules}

@@ -1,3 +1,4 @@
+pub mod Builder
 pub mod ByteClass
 pub mod ByteTest
 pub mod Class

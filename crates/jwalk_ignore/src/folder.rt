@@ -7,8 +7,8 @@ ghost use Rattle.jwalk_ignore.specs.Sources.{source_value};
 use crate::rules_kind::RulesKind;
 use crate::source::Source;
 use crate::texts::Texts;
+use jwalk::path_text;
 use std::alloc::{AllocError, Allocator};
-use walk_paths::path_text;
 
 /// A folder above the root.
 #[derive(Clone, Copy)]

@@ -1,6 +1,7 @@
 //! Ignore files in git's format: their rules, which paths they match, and a callback of walks that honours them.
 #![tactic(auto)]
 
+pub mod builder;
 mod byte_class;
 mod byte_test;
 pub mod chain;

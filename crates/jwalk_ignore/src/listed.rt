@@ -1,15 +1,13 @@
 //! Items of a list, as rules see them.
 ghost use Rattle.std.specs.Prelude.{◌≡◌, IfOk, map, filter, option_map, string_bytes};
 ghost use Rattle.std.specs.List.{list_any};
-ghost use Rattle.read_parts.specs.Entry.{item};
-ghost use Rattle.walk_model.specs.Entry.{is_hidden};
+ghost use Rattle.jwalk.specs.read_parts.Entry.{item};
+ghost use Rattle.jwalk.specs.walk_model.Entry.{is_hidden};
 ghost use Rattle.jwalk_ignore.specs.IgnoreFiles.{depth_of, is_git, is_shown, kind_of, kind_of_file, root_of};
 
 use crate::rules_kind::RulesKind;
 use crate::settings::Settings;
-use read_parts::client_state::ClientState;
-use read_parts::dir_entry::DirEntry;
-use read_parts::error::Error;
+use jwalk::{ClientState, DirEntry, Error};
 use std::alloc::{AllocError, Allocator};
 
 /// Returns the kind of rules that a regular file of this name has.

@@ -1,7 +1,7 @@
 //! What rules make of lists.
 ghost use Rattle.std.specs.Prelude.{◌≡◌, ◌++◌, ◌∷◌, [], IfOk, OnOk, map, filter, fold};
-ghost use Rattle.walk_model.specs.Entry.{AtDepth};
-ghost use Rattle.read_parts.specs.Entry.{item};
+ghost use Rattle.jwalk.specs.walk_model.Entry.{AtDepth};
+ghost use Rattle.jwalk.specs.read_parts.Entry.{item};
 ghost use Rattle.jwalk_ignore.specs.Chain.{place_in};
 ghost use Rattle.jwalk_ignore.specs.ChainViews.{chain_value};
 ghost use Rattle.jwalk_ignore.specs.Folders.{folder_value};
@@ -17,12 +17,10 @@ use crate::rules_kind::RulesKind;
 use crate::settings::Settings;
 use crate::source::{Made, Source};
 use crate::texts::Texts;
-use read_parts::client_state::ClientState;
-use read_parts::dir_entry::DirEntry;
-use read_parts::error::Error;
+use jwalk::file_system::Fault;
+use jwalk::{ClientState, DirEntry, Error};
 use std::alloc::{AllocError, Allocator};
 use std::sync::Arc;
-use walk_fs::fault::Fault;
 
 /// Texts, and how the rules in them are used.
 #[derive(Drop)]

@@ -1,10 +1,10 @@
 //! Files of rules that are read.
 ghost use Rattle.std.specs.Prelude.{◌≡◌, ◌++◌, ◌∷◌, [], Some, Err, OnOk, map, option_map, string_bytes};
 ghost use Rattle.std.specs.IoError.{error_kind};
-ghost use Rattle.walk_model.specs.Error.{io};
-ghost use Rattle.walk_model.specs.Entry.{AtDepth};
-ghost use Rattle.walk_fs.specs.Views.{AnswersValue};
-ghost use Rattle.read_parts.specs.Entry.{item};
+ghost use Rattle.jwalk.specs.walk_model.Error.{io};
+ghost use Rattle.jwalk.specs.walk_model.Entry.{AtDepth};
+ghost use Rattle.jwalk.specs.walk_fs.Views.{AnswersValue};
+ghost use Rattle.jwalk.specs.read_parts.Entry.{item};
 ghost use Rattle.jwalk_ignore.specs.IgnoreFiles.{file_of, is_missing, path_of, rules_found, with_found, with_item, with_rules};
 ghost use Rattle.jwalk_ignore.specs.Chain.{entered, with_link};
 ghost use Rattle.jwalk_ignore.specs.ChainViews.{chain_value};
@@ -16,15 +16,12 @@ use crate::link::Link;
 use crate::rules::Rules;
 use crate::rules_kind::RulesKind;
 use crate::texts::Texts;
-use read_parts::client_state::ClientState;
-use read_parts::dir_entry::DirEntry;
-use read_parts::error::Error;
+use jwalk::file_system::Fault;
+use jwalk::{ClientState, DirEntry, Error, path_text};
 use std::alloc::{AllocError, Allocator};
 use std::io::ErrorKind;
 use std::sync::Arc;
 use std::{io, mem};
-use walk_fs::fault::Fault;
-use walk_paths::path_text;
 
 /// A file of rules that is to be read.
 #[derive(Clone, Copy)]

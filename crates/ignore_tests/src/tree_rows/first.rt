@@ -16,10 +16,7 @@ pub(crate) fn rows() -> &'static [TreeRow] {
             ".gitignore=?|a\\a?|\na/\na/sub\nab\nc.o/\nc.o/.h",
             ".gitignore\nab\nc.o\nc.o/.h",
         ),
-        (
-            ".gitignore=*?|?|\n.h\na",
-            "",
-        ),
+        (".gitignore=*?|?|\n.h\na", ""),
         (
             ".gitignore=*.o/|\na/\na/b/\na/b/.h\na/b/c.o/\na/b/c.o/.h\na/b/k.o\na/sub/\na/sub/ab/\na/sub/ab/c.o\na/sub/k.o",
             ".gitignore\na\na/b\na/b/.h\na/b/k.o\na/sub\na/sub/ab\na/sub/ab/c.o\na/sub/k.o",
@@ -36,10 +33,7 @@ pub(crate) fn rows() -> &'static [TreeRow] {
             ".gitignore=/**|\nk.o/\nk.o/.gitignore=[ab]\\a/|\\a|\nk.o/ab/\nk.o/ab/.h\nk.o/ab/ab\nk.o/ab/sub\nk.o/b\nk.o/c.o",
             "",
         ),
-        (
-            ".gitignore=[!a]/ab/|!/**ab|/**|\nb\nk.o",
-            "",
-        ),
+        (".gitignore=[!a]/ab/|!/**ab|/**|\nb\nk.o", ""),
         (
             ".git/info/exclude=ab|!*/|[!a][ab]c.?|\n.gitignore=subab|c.?subb|!k.o*|\na\nab/\nab/b/\nab/b/.gitignore=!bab|c.?ab[!a]/|\nab/b/ab\nc.o",
             ".gitignore\na\nab\nab/b\nab/b/.gitignore\nc.o",
@@ -68,10 +62,7 @@ pub(crate) fn rows() -> &'static [TreeRow] {
             ".git/info/exclude=/**|ab|[!a]k.oab|\n.gitignore=asub|\nsub/\nsub/.h\nsub/b/\nsub/b/.gitignore=*|b|!/**|\nsub/b/a\nsub/sub",
             "",
         ),
-        (
-            ".gitignore=?ab**//|**.o|\nk.o",
-            ".gitignore",
-        ),
+        (".gitignore=?ab**//|**.o|\nk.o", ".gitignore"),
         (
             ".gitignore=!.h?/**|/**/|*.o/|\nab\nc.o\nk.o/\nk.o/.gitignore=\\a|\nk.o/.h\nk.o/c.o/\nk.o/c.o/sub/\nk.o/c.o/sub/a\nk.o/c.o/sub/ab\nk.o/c.o/sub/k.o",
             ".gitignore\nab\nc.o",
@@ -80,10 +71,7 @@ pub(crate) fn rows() -> &'static [TreeRow] {
             ".gitignore=/**/***.o/|!ab.hab|!?*.o//|\nk.o/\nk.o/.gitignore=!b.hab|\nk.o/a\nk.o/b\nsub",
             ".gitignore\nsub",
         ),
-        (
-            ".gitignore=b|*abk.o|/b*.o|\nb\nsub",
-            ".gitignore\nsub",
-        ),
+        (".gitignore=b|*abk.o|/b*.o|\nb\nsub", ".gitignore\nsub"),
         (
             ".gitignore=!/**k.o|\\ac.?b/|*/|\na\nb/\nb/k.o/\nb/k.o/.gitignore=!?c.?sub|[ab]/|\nb/k.o/c.o\nsub",
             ".gitignore\na\nsub",
@@ -112,10 +100,7 @@ pub(crate) fn rows() -> &'static [TreeRow] {
             ".gitignore=!.h*.o.h|!/**//|\nk.o/\nk.o/.h\nk.o/b/\nk.o/b/a/\nk.o/b/a/.gitignore=aasub/|\nk.o/b/a/sub\nsub/\nsub/.gitignore=.h|\nsub/.h",
             ".gitignore\nk.o\nk.o/.h\nk.o/b\nk.o/b/a\nk.o/b/a/.gitignore\nk.o/b/a/sub\nsub\nsub/.gitignore",
         ),
-        (
-            ".gitignore=k.o|c.?/|k.oab|\nk.o",
-            ".gitignore",
-        ),
+        (".gitignore=k.o|c.?/|k.oab|\nk.o", ".gitignore"),
         (
             ".gitignore=**/k.o*|!.h/|.h/|\na/\na/c.o\na/k.o",
             ".gitignore\na\na/c.o",
@@ -148,14 +133,8 @@ pub(crate) fn rows() -> &'static [TreeRow] {
             ".gitignore=*.o|k.o\\a|sub|\nb/\nb/a/\nb/a/ab/\nb/a/ab/.gitignore=*/|?/\\a|/**|\nb/a/ab/.h\nb/a/ab/c.o\nb/a/b/\nb/a/b/c.o\nb/a/b/k.o\nb/ab\nb/sub",
             ".gitignore\nb\nb/a\nb/a/ab\nb/a/b\nb/ab",
         ),
-        (
-            ".git/info/exclude=/**\\a|\n.gitignore=*|\nab\nb\nsub",
-            "",
-        ),
-        (
-            ".gitignore=b|\nb",
-            ".gitignore",
-        ),
+        (".git/info/exclude=/**\\a|\n.gitignore=*|\nab\nb\nsub", ""),
+        (".gitignore=b|\nb", ".gitignore"),
         (
             ".git/info/exclude=!ac.?|\n.gitignore=/?|\na/\na/.gitignore=**/c.?\\a|\na/b\nk.o/\nk.o/.h\nk.o/c.o/\nk.o/c.o/a\nk.o/c.o/ab\nk.o/c.o/b\nk.o/k.o",
             ".gitignore\nk.o\nk.o/.h\nk.o/c.o\nk.o/c.o/a\nk.o/c.o/ab\nk.o/c.o/b\nk.o/k.o",
@@ -176,22 +155,13 @@ pub(crate) fn rows() -> &'static [TreeRow] {
             ".gitignore=[!a]?|b\\a?|\n.h\nb/\nb/.h\nb/k.o\nb/sub\nc.o/\nc.o/c.o\nc.o/k.o/\nc.o/k.o/ab/\nc.o/k.o/ab/ab\nc.o/k.o/ab/b",
             ".gitignore\nb\nb/k.o\nb/sub\nc.o\nc.o/c.o\nc.o/k.o\nc.o/k.o/ab\nc.o/k.o/ab/ab\nc.o/k.o/ab/b",
         ),
-        (
-            ".gitignore=sub/**|ab|\nab\nb",
-            ".gitignore\nb",
-        ),
-        (
-            ".gitignore=ab|[ab]**|\na\nab",
-            ".gitignore",
-        ),
+        (".gitignore=sub/**|ab|\nab\nb", ".gitignore\nb"),
+        (".gitignore=ab|[ab]**|\na\nab", ".gitignore"),
         (
             ".gitignore=![ab]/|/***/|*[ab]a|\nb/\nb/b/\nb/b/.h\nb/b/a/\nb/b/a/.gitignore=!\\ak.o|*.o|[ab]|\nb/b/a/a\nb/b/a/ab\nb/b/sub/\nb/b/sub/.h\nb/b/sub/sub",
             ".gitignore",
         ),
-        (
-            ".gitignore=\\a?|![ab]b/|\\a/**|\nab",
-            ".gitignore",
-        ),
+        (".gitignore=\\a?|![ab]b/|\\a/**|\nab", ".gitignore"),
         (
             ".gitignore=sub/|\nab/\nab/.gitignore=[!a]b**/|?[ab]b|/**/*|\nab/ab/\nab/ab/c.o/\nab/ab/c.o/.h\nab/ab/c.o/k.o\nab/c.o",
             ".gitignore\nab",

@@ -8,10 +8,7 @@ pub(crate) fn rows() -> &'static [TreeRow] {
             ".gitignore=/.hk.o/|!.h[ab]|!/**|\nab/\nab/.gitignore=\\ak.o?|!/|k.o\\a|\nab/.h\nab/ab/\nab/ab/ab/\nab/ab/ab/.gitignore=k.o//|/**|\nab/ab/ab/a\nab/ab/ab/c.o\nab/ab/ab/k.o\nab/ab/sub",
             ".gitignore\nab\nab/.gitignore\nab/.h\nab/ab\nab/ab/ab\nab/ab/sub",
         ),
-        (
-            ".gitignore=ab|\nab/\nab/a\nsub",
-            ".gitignore\nsub",
-        ),
+        (".gitignore=ab|\nab/\nab/a\nsub", ".gitignore\nsub"),
         (
             ".git/info/exclude=**ab|\n.gitignore=c.?.h**/|\nk.o/\nk.o/.gitignore=*sub/|*.o//|\\a[ab]|\nk.o/ab",
             ".gitignore\nk.o\nk.o/.gitignore",
@@ -64,10 +61,7 @@ pub(crate) fn rows() -> &'static [TreeRow] {
             ".git/info/exclude=*.o|\n.gitignore=b.h|*|bc.?k.o|\nb/\nb/.h\nk.o",
             "",
         ),
-        (
-            ".gitignore=/**/\\a|sub|\na",
-            ".gitignore",
-        ),
+        (".gitignore=/**/\\a|sub|\na", ".gitignore"),
         (
             ".git/info/exclude=subsubb|!?k.o/|ab|\n.gitignore=b/a|\n.h\nb/\nb/ab\nb/sub/\nb/sub/.h\nb/sub/c.o/\nb/sub/c.o/.gitignore=!k.o**/|/**b|ab*.oa|\nb/sub/c.o/k.o\nb/sub/c.o/sub",
             ".gitignore\n.h\nb\nb/sub\nb/sub/.h\nb/sub/c.o\nb/sub/c.o/.gitignore\nb/sub/c.o/k.o",
@@ -112,10 +106,7 @@ pub(crate) fn rows() -> &'static [TreeRow] {
             ".gitignore=b[!a]|\n.h\nc.o/\nc.o/.h\nc.o/ab\nsub/\nsub/.gitignore=?[!a]|**/a|?|\nsub/.h\nsub/ab\nsub/b",
             ".gitignore\n.h\nc.o\nc.o/.h\nc.o/ab\nsub\nsub/.gitignore",
         ),
-        (
-            ".gitignore=*|k.o\\a/|!?.h|\nab",
-            "",
-        ),
+        (".gitignore=*|k.o\\a/|!?.h|\nab", ""),
         (
             ".gitignore=/|*.o|\na/\na/.h\na/c.o/\na/c.o/.gitignore=b|\na/c.o/k.o\na/c.o/sub/\na/c.o/sub/.gitignore=![ab]|***//|?[ab]//|\na/c.o/sub/b\na/c.o/sub/c.o\na/k.o\nb",
             ".gitignore\na\na/.h\nb",
@@ -128,10 +119,7 @@ pub(crate) fn rows() -> &'static [TreeRow] {
             ".gitignore=!k.o|\na\nk.o/\nk.o/.gitignore=[ab]*|*.o|*|\nk.o/ab",
             ".gitignore\na\nk.o",
         ),
-        (
-            ".gitignore=/|!/k.o*|/**|\n.h\nab\nsub",
-            "",
-        ),
+        (".gitignore=/|!/k.o*|/**|\n.h\nab\nsub", ""),
         (
             ".git/info/exclude=!k.ob?/|ab/sub|a|\n.gitignore=!b.h/|[ab]?a|\nb\nsub/\nsub/.gitignore=a/**|[ab]/**//|[!a]*?|\nsub/ab/\nsub/ab/.h\nsub/ab/ab/\nsub/ab/ab/.gitignore=**//|*/|**/k.o|\nsub/ab/ab/c.o",
             ".gitignore\nb\nsub\nsub/ab\nsub/ab/ab",
@@ -148,22 +136,13 @@ pub(crate) fn rows() -> &'static [TreeRow] {
             ".git/info/exclude=*.oab//|[!a][!a]|/**[!a]|\n.gitignore=*|![!a]/|\n.h\nb",
             "",
         ),
-        (
-            ".gitignore=*.o|*.o/|\n.h\nc.o/\nc.o/sub",
-            ".gitignore\n.h",
-        ),
+        (".gitignore=*.o|*.o/|\n.h\nc.o/\nc.o/sub", ".gitignore\n.h"),
         (
             ".gitignore=[ab]*|**/|\na/\na/a\na/ab\na/b\nsub",
             ".gitignore\nsub",
         ),
-        (
-            ".gitignore=*|ab*|\nab\nk.o/\nk.o/.h\nk.o/k.o\nk.o/sub",
-            "",
-        ),
-        (
-            ".gitignore=**/k.o|\nc.o\nk.o\nsub",
-            ".gitignore\nc.o\nsub",
-        ),
+        (".gitignore=*|ab*|\nab\nk.o/\nk.o/.h\nk.o/k.o\nk.o/sub", ""),
+        (".gitignore=**/k.o|\nc.o\nk.o\nsub", ".gitignore\nc.o\nsub"),
         (
             ".git/info/exclude=//|!b|/**sub|\n.gitignore=/**a*|!**/|\na\nc.o\nk.o",
             ".gitignore\nc.o\nk.o",
@@ -172,10 +151,7 @@ pub(crate) fn rows() -> &'static [TreeRow] {
             ".git/info/exclude=*.o\\a**/|k.o/sub|\n.gitignore=*|c.?k.o[!a]|ab\\a?|\na/\na/k.o/\na/k.o/.gitignore=!ab[ab]|\na/k.o/b\na/k.o/sub\nc.o",
             "",
         ),
-        (
-            ".gitignore=**/|\nab/\nab/c.o\nab/sub",
-            ".gitignore",
-        ),
+        (".gitignore=**/|\nab/\nab/c.o\nab/sub", ".gitignore"),
         (
             ".gitignore=suba/|a[ab]b/|\nc.o/\nc.o/a/\nc.o/a/.gitignore=sub|!bc.?*.o/|\nc.o/a/.h\nc.o/a/k.o/\nc.o/a/k.o/.h\nc.o/a/k.o/ab\nc.o/a/k.o/sub\nc.o/sub\nk.o",
             ".gitignore\nc.o\nc.o/a\nc.o/a/.gitignore\nc.o/a/.h\nc.o/a/k.o\nc.o/a/k.o/.h\nc.o/a/k.o/ab\nc.o/sub\nk.o",
@@ -192,10 +168,7 @@ pub(crate) fn rows() -> &'static [TreeRow] {
             ".gitignore=?\\a[ab]|!\\a\\a|\\a*|\nb/\nb/.gitignore=*.o*//|!**//|/**[!a]|\nb/c.o",
             ".gitignore\nb",
         ),
-        (
-            ".h\nb/\nb/.gitignore=**/|*|\nb/sub",
-            ".h\nb",
-        ),
+        (".h\nb/\nb/.gitignore=**/|*|\nb/sub", ".h\nb"),
         (
             ".gitignore=/|[ab]|\nc.o\nk.o/\nk.o/.h\nk.o/c.o/\nk.o/c.o/.gitignore=!c.?|\nk.o/c.o/b/\nk.o/c.o/b/sub\nk.o/c.o/sub",
             ".gitignore\nc.o\nk.o\nk.o/.h\nk.o/c.o\nk.o/c.o/.gitignore\nk.o/c.o/sub",

@@ -8,18 +8,12 @@ pub(crate) fn rows() -> &'static [TreeRow] {
             "a\nab/\nab/ab\nab/b\nsub/\nsub/.h\nsub/b/\nsub/b/.gitignore=*.oc.?sub/|!sub/|/**?|\nsub/b/c.o",
             "a\nab\nab/ab\nab/b\nsub\nsub/.h\nsub/b",
         ),
-        (
-            ".gitignore=**/*.oc.?|!sub|/**|\n.h\nab\nk.o",
-            "",
-        ),
+        (".gitignore=**/*.oc.?|!sub|/**|\n.h\nab\nk.o", ""),
         (
             "c.o/\nc.o/.gitignore=!b|/**?|!a|\nc.o/.h\nc.o/c.o\nc.o/k.o",
             "c.o",
         ),
-        (
-            ".gitignore=\\a[ab]|\n.h\nab\nk.o",
-            ".gitignore\n.h\nk.o",
-        ),
+        (".gitignore=\\a[ab]|\n.h\nab\nk.o", ".gitignore\n.h\nk.o"),
         (
             ".git/info/exclude=!subsub|!sub*.o*|![ab]subc.?/|\n.gitignore=\\ab/|k.osub/**|!c.?/**|\nb\nk.o/\nk.o/.gitignore=!k.o|.h|\nk.o/.h\nk.o/k.o",
             ".gitignore\nb\nk.o\nk.o/.gitignore\nk.o/k.o",
@@ -28,10 +22,7 @@ pub(crate) fn rows() -> &'static [TreeRow] {
             ".gitignore=[!a]|subb/|a/|\n.h\na/\na/.gitignore=!/**sub|ab|\na/.h\na/ab\na/k.o\nk.o",
             ".gitignore\n.h\nk.o",
         ),
-        (
-            ".gitignore=\\a[!a]|[ab]|c.?bsub|\na",
-            ".gitignore",
-        ),
+        (".gitignore=\\a[!a]|[ab]|c.?bsub|\na", ".gitignore"),
         (
             ".git/info/exclude=/**|?bab/|\n.gitignore=![!a]/|\nab/\nab/.gitignore=![!a]ab|\nab/a",
             "",
@@ -72,22 +63,13 @@ pub(crate) fn rows() -> &'static [TreeRow] {
             ".git/info/exclude=ab[!a]|[ab]*/|\n.gitignore=[!a]/|\\a|\na",
             ".gitignore",
         ),
-        (
-            ".git/info/exclude=.h/|\n.gitignore=!a/|*|\nab\nb",
-            "",
-        ),
-        (
-            ".gitignore=*|\na\nb",
-            "",
-        ),
+        (".git/info/exclude=.h/|\n.gitignore=!a/|*|\nab\nb", ""),
+        (".gitignore=*|\na\nb", ""),
         (
             ".gitignore=![ab]/**|sub*.o|k.o/|\n.h\nc.o\nk.o/\nk.o/.h\nk.o/ab",
             ".gitignore\n.h\nc.o",
         ),
-        (
-            ".gitignore=b|!a\\a/|ab|\nb\nk.o",
-            ".gitignore\nk.o",
-        ),
+        (".gitignore=b|!a\\a/|ab|\nb\nk.o", ".gitignore\nk.o"),
         (
             ".git/info/exclude=c.?b[ab]/|/**|\n.gitignore=!sub|/|\nab\nsub/\nsub/.h",
             "sub",
@@ -100,10 +82,7 @@ pub(crate) fn rows() -> &'static [TreeRow] {
             ".gitignore=k.o|\n.h\nk.o/\nk.o/.gitignore=!\\a[ab]sub|**//***.o|b|\nk.o/.h\nk.o/ab/\nk.o/ab/.h",
             ".gitignore\n.h",
         ),
-        (
-            ".gitignore=**/?*.o|\n.h\nc.o/\nc.o/sub",
-            ".gitignore\n.h",
-        ),
+        (".gitignore=**/?*.o|\n.h\nc.o/\nc.o/sub", ".gitignore\n.h"),
         (
             ".gitignore=/**/|!k.o|c.?/**/|\nab/\nab/.gitignore=!b.h|*|\nab/c.o/\nab/c.o/.gitignore=c.?|a|\nab/c.o/a\nc.o",
             ".gitignore\nc.o",
@@ -116,10 +95,7 @@ pub(crate) fn rows() -> &'static [TreeRow] {
             ".git/info/exclude=!k.o[ab]|k.o//**|\n.gitignore=b.h[!a]|?ab|*|\nab",
             "",
         ),
-        (
-            ".gitignore=!b|*.o.h|/[ab][ab]|\nab\nsub",
-            ".gitignore\nsub",
-        ),
+        (".gitignore=!b|*.o.h|/[ab][ab]|\nab\nsub", ".gitignore\nsub"),
         (
             ".git/info/exclude=/**/b|[!a]/|[!a]/c.?/|\n.gitignore=[ab]/|?[!a]sub|\n.h\na/\na/.gitignore=!*.o??/|\na/a\na/k.o",
             ".gitignore\n.h",
@@ -148,14 +124,8 @@ pub(crate) fn rows() -> &'static [TreeRow] {
             ".git/info/exclude=/**|!*.osub*|\n.gitignore=**/k.o[!a]|\nb/\nb/.gitignore=subb|\\a[!a]/**|?/**.h|\nb/.h",
             "",
         ),
-        (
-            ".gitignore=*?|\na\nb\nc.o",
-            "",
-        ),
-        (
-            ".gitignore=![ab]a[ab]|*|[ab].h|\nab",
-            "",
-        ),
+        (".gitignore=*?|\na\nb\nc.o", ""),
+        (".gitignore=![ab]a[ab]|*|[ab].h|\nab", ""),
         (
             ".gitignore=a|\na\nab/\nab/sub/\nab/sub/ab/\nab/sub/ab/a\nab/sub/ab/ab\nab/sub/k.o/\nab/sub/k.o/.gitignore=!*.o*/|\\a//|*/**\\a|\nab/sub/k.o/b",
             ".gitignore\nab\nab/sub\nab/sub/ab\nab/sub/ab/ab\nab/sub/k.o\nab/sub/k.o/.gitignore\nab/sub/k.o/b",
@@ -172,10 +142,7 @@ pub(crate) fn rows() -> &'static [TreeRow] {
             ".git/info/exclude=**//|!bab|b?|\n.gitignore=!ab/|b/|\nb/\nb/b\nb/c.o\nk.o/\nk.o/c.o",
             ".gitignore\nk.o\nk.o/c.o",
         ),
-        (
-            ".gitignore=?|\nb\nk.o\nsub",
-            ".gitignore\nk.o\nsub",
-        ),
+        (".gitignore=?|\nb\nk.o\nsub", ".gitignore\nk.o\nsub"),
         (
             ".gitignore=!ab|k.o|/***|\nb/\nb/.gitignore=!\\a|\nb/a/\nb/a/ab\nb/ab\nb/c.o",
             "",
@@ -184,22 +151,13 @@ pub(crate) fn rows() -> &'static [TreeRow] {
             ".gitignore=**/[!a].h/|ab[ab]|c.?|\n.h\nc.o/\nc.o/ab\nsub",
             ".gitignore\n.h\nsub",
         ),
-        (
-            ".gitignore=?|ab|!.hsub/|\nb",
-            ".gitignore",
-        ),
-        (
-            ".gitignore=!abab/|*|\n.h\nsub/\nsub/.h\nsub/sub",
-            "",
-        ),
+        (".gitignore=?|ab|!.hsub/|\nb", ".gitignore"),
+        (".gitignore=!abab/|*|\n.h\nsub/\nsub/.h\nsub/sub", ""),
         (
             ".gitignore=k.o[!a]*|!c.?c.?b/|k.ob[!a]|\nsub/\nsub/.h\nsub/c.o/\nsub/c.o/.gitignore=a*|*.o.h[!a]|**/b|\nsub/c.o/a/\nsub/c.o/a/.gitignore=![ab]ab?|!ab|!ab*.o.h/|\nsub/c.o/a/c.o",
             ".gitignore\nsub\nsub/.h\nsub/c.o\nsub/c.o/.gitignore",
         ),
-        (
-            ".gitignore=!b|?/|\n.h\nb/\nb/ab\nb/b",
-            ".gitignore\n.h",
-        ),
+        (".gitignore=!b|?/|\n.h\nb/\nb/ab\nb/b", ".gitignore\n.h"),
         (
             ".gitignore=!\\a|sub|\nab\nc.o/\nc.o/b/\nc.o/b/a/\nc.o/b/a/.h\nc.o/b/a/a\nc.o/b/a/sub\nc.o/b/ab\nc.o/b/k.o/\nc.o/b/k.o/.h\nc.o/b/k.o/sub",
             ".gitignore\nab\nc.o\nc.o/b\nc.o/b/a\nc.o/b/a/.h\nc.o/b/a/a\nc.o/b/ab\nc.o/b/k.o\nc.o/b/k.o/.h",

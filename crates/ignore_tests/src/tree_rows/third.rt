@@ -36,18 +36,12 @@ pub(crate) fn rows() -> &'static [TreeRow] {
             ".git/info/exclude=/|\n.gitignore=*.o|**/[ab]**/|\n.h\na/\na/c.o/\na/c.o/.h\na/c.o/c.o\na/c.o/k.o\nb/\nb/a",
             ".gitignore\n.h",
         ),
-        (
-            ".gitignore=.h.h|k.o|ab|\nab/\nab/b",
-            ".gitignore",
-        ),
+        (".gitignore=.h.h|k.o|ab|\nab/\nab/b", ".gitignore"),
         (
             ".git/info/exclude=ab|!sub|[ab]|\n.gitignore=/**\\a/**/|\nb\nc.o/\nc.o/.h",
             ".gitignore\nc.o\nc.o/.h",
         ),
-        (
-            ".gitignore=sub/|\nc.o\nsub/\nsub/.h",
-            ".gitignore\nc.o",
-        ),
+        (".gitignore=sub/|\nc.o\nsub/\nsub/.h", ".gitignore\nc.o"),
         (
             ".git/info/exclude=!*?|*.o|\n.gitignore=a|\na/\na/.h\na/a\nsub",
             ".gitignore\nsub",
@@ -56,18 +50,12 @@ pub(crate) fn rows() -> &'static [TreeRow] {
             ".git/info/exclude=subaab|\n.gitignore=![!a]|\n.h\na\nk.o/\nk.o/.gitignore=suba|[ab]/|*a[ab]/|\nk.o/b/\nk.o/b/.gitignore=*.o|\nk.o/b/a",
             ".gitignore\n.h\na\nk.o\nk.o/.gitignore",
         ),
-        (
-            ".gitignore=[!a]*|!ab|bc.?|\n.h\na\nb",
-            "a",
-        ),
+        (".gitignore=[!a]*|!ab|bc.?|\n.h\na\nb", "a"),
         (
             ".gitignore=\\a|**/|\nc.o/\nc.o/.gitignore=[ab]|!sub|k.oa|\nc.o/sub/\nc.o/sub/a\nc.o/sub/ab\nc.o/sub/c.o",
             ".gitignore",
         ),
-        (
-            ".gitignore=[!a]|[ab]|*/****/|\na\nb",
-            ".gitignore",
-        ),
+        (".gitignore=[!a]|[ab]|*/****/|\na\nb", ".gitignore"),
         (
             ".git/info/exclude=**/*.o/|\n.gitignore=[ab]|\n.h\nc.o/\nc.o/.h\nc.o/b/\nc.o/b/k.o\nc.o/b/sub\nc.o/sub",
             ".gitignore\n.h",
@@ -96,14 +84,8 @@ pub(crate) fn rows() -> &'static [TreeRow] {
             ".git/info/exclude=.h|[!a]|\n.gitignore=ab|\na/\na/ab\na/b/\na/b/.gitignore=/sub|\na/b/a\na/k.o\nc.o\nsub/\nsub/a",
             ".gitignore\na\na/k.o\nc.o\nsub\nsub/a",
         ),
-        (
-            ".git/info/exclude=?ab|?|a?*|\na\nk.o",
-            "k.o",
-        ),
-        (
-            ".gitignore=[!a]?|\n.h",
-            ".gitignore",
-        ),
+        (".git/info/exclude=?ab|?|a?*|\na\nk.o", "k.o"),
+        (".gitignore=[!a]?|\n.h", ".gitignore"),
         (
             ".git/info/exclude=!?c.?|*.o|\n.gitignore=*|[!a]*.ok.o|/asub|\n.h\nc.o/\nc.o/.gitignore=k.o/|/c.??|\nc.o/.h\nc.o/b\nc.o/k.o/\nc.o/k.o/.h",
             "",
@@ -136,10 +118,7 @@ pub(crate) fn rows() -> &'static [TreeRow] {
             ".gitignore=ab/**|![!a]a|c.?/|\na/\na/.gitignore=/**|\na/.h\na/sub\nab\nk.o",
             ".gitignore\na\nab\nk.o",
         ),
-        (
-            ".gitignore=*|?ak.o|\nb\nsub",
-            "",
-        ),
+        (".gitignore=*|?ak.o|\nb\nsub", ""),
         (
             ".gitignore=*.o/|\n.h\nc.o/\nc.o/.gitignore=sub|!*k.o|[ab]*.o|\nc.o/sub/\nc.o/sub/ab\nc.o/sub/sub",
             ".gitignore\n.h",
@@ -168,14 +147,8 @@ pub(crate) fn rows() -> &'static [TreeRow] {
             ".gitignore=\\a/|.h[ab]?/|?|\na/\na/.gitignore=/**|c.?/|.h*|\na/k.o/\na/k.o/ab/\na/k.o/ab/.gitignore=!ba/|[!a]/|\na/k.o/ab/c.o\nab\nsub",
             ".gitignore\nab\nsub",
         ),
-        (
-            ".gitignore=[ab]|\\a.h|\\a|\n.h\nb",
-            ".gitignore\n.h",
-        ),
-        (
-            ".gitignore=??|*c.?|\n.h",
-            ".gitignore",
-        ),
+        (".gitignore=[ab]|\\a.h|\\a|\n.h\nb", ".gitignore\n.h"),
+        (".gitignore=??|*c.?|\n.h", ".gitignore"),
         (
             ".git/info/exclude=k.o|c.?k.o?|\n.gitignore=sub/|!ab?|\\a|\n.h\na/\na/.gitignore=!**/ab|c.?|c.?/c.?/|\na/.h\na/k.o\nb",
             ".gitignore\n.h\nb",
@@ -184,22 +157,13 @@ pub(crate) fn rows() -> &'static [TreeRow] {
             ".git/info/exclude=?*.o|\n.gitignore=a**|\na/\na/.h",
             ".gitignore",
         ),
-        (
-            ".gitignore=!?sub[ab]|/[!a]|b?*/|\n.h\nb",
-            ".gitignore\n.h",
-        ),
+        (".gitignore=!?sub[ab]|/[!a]|b?*/|\n.h\nb", ".gitignore\n.h"),
         (
             ".git/info/exclude=\\ab|?|\n.gitignore=*\\a*|[!a]|b/**|\nab",
             ".gitignore",
         ),
-        (
-            ".gitignore=b|!ab|**/|\n.h\nb\nsub",
-            ".gitignore\n.h\nsub",
-        ),
-        (
-            ".gitignore=*.o|\n.h\nab\nc.o",
-            ".gitignore\n.h\nab",
-        ),
+        (".gitignore=b|!ab|**/|\n.h\nb\nsub", ".gitignore\n.h\nsub"),
+        (".gitignore=*.o|\n.h\nab\nc.o", ".gitignore\n.h\nab"),
         (
             ".gitignore=![!a]|\nc.o/\nc.o/b/\nc.o/b/b\nc.o/b/c.o\nc.o/b/sub/\nc.o/b/sub/.gitignore=*.o*/|ab|\nc.o/b/sub/a\nc.o/b/sub/ab\nc.o/b/sub/c.o",
             ".gitignore\nc.o\nc.o/b\nc.o/b/b\nc.o/b/c.o\nc.o/b/sub\nc.o/b/sub/.gitignore\nc.o/b/sub/a\nc.o/b/sub/c.o",

@@ -1,5 +1,5 @@
 use Rattle.std.proofs.Common.{◌≡◌, ◌∙◌, map, ap, sym}
-use Rattle.read_parts.specs.Entry.{item}
+use Rattle.jwalk.specs.read_parts.Entry.{item}
 use Rattle.jwalk_ignore.specs.IgnoreViews.{next_of, settings_of, texts_of}
 use Rattle.jwalk_ignore.proofs.IgnoreFacts.{then_next}
 use Rattle.jwalk_ignore.proofs.ignore_files.IgnoreFilesProcessReadDirTuple2Tuple2Chain.process.Goals as goal

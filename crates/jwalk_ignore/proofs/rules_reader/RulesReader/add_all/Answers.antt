@@ -3,8 +3,8 @@ use Rattle.std.specs.Prelude.{fold}
 use Rattle.std.proofs.lemmas.List.{map-id}
 use Rattle.std.proofs.lemmas.Iterator.Adapters.{YieldsList-from_vec}
 use Rattle.std.proofs.lemmas.Iterator.Consumers.{YieldsList-end}
-use Rattle.walk_model.specs.Entry.{AtDepth}
-use Rattle.read_parts.specs.Entry.{item}
+use Rattle.jwalk.specs.walk_model.Entry.{AtDepth}
+use Rattle.jwalk.specs.read_parts.Entry.{item}
 use Rattle.jwalk_ignore.specs.IgnoreFiles.{with_listed}
 use Rattle.jwalk_ignore.specs.MadeDepths.{more_at}
 use Rattle.jwalk_ignore.specs.Sources.{made_value}
