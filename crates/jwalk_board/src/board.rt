@@ -236,10 +236,10 @@ impl<T: Drop, R: Drop, A: Allocator + Copy> Board<T, R, A> {
     pub fn is_next_queued(&self) -> bool
         ensures { IsTrue result ↔ IsNextQueued self.now }
     {
-        let Some(least) = self.queued.least() else {
+        let Some(first) = self.queued.least() else {
             return false;
         };
-        !self.matcher.is_none() && *least == *self.matcher.looking_for()
+        !self.matcher.is_none() && *first == *self.matcher.looking_for()
     }
 
     /// Stops the board: every later step fails with `Stopped`.

@@ -5,6 +5,7 @@ ghost use Rattle.jwalk_crew.specs.Crew.{limit_of, workers_of};
 use crate::waiting::Patience;
 use crew_parts::places::Places;
 use std::alloc::{AllocError, Allocator, Global};
+use std::sync::atomic::{AtomicUsize, Ordering};
 use std::sync::{Arc, Condvar, Mutex, Wait};
 use std::time::{Clock, Duration};
 
@@ -24,6 +25,7 @@ pub struct Crew<R> {
     freed: Condvar,
     workers: usize,
     read_ahead: usize,
+    late: AtomicUsize,
 }
 
 impl<R: Drop> Drop for Crew<R> {
@@ -34,6 +36,7 @@ impl<R: Drop> Drop for Crew<R> {
             freed: _,
             workers: _,
             read_ahead: _,
+            late: _,
         } = self;
     }
 }
@@ -52,6 +55,7 @@ impl<R: Wait + Clock> Crew<R> {
             freed: Condvar::new(),
             workers: workers.clamp(1, MOST_WORKERS),
             read_ahead: READ_AHEAD,
+            late: AtomicUsize::new(0),
         }
     }
 
@@ -70,6 +74,19 @@ impl<R: Wait + Clock> Crew<R> {
     pub fn in_use(&self) -> usize {
         let places = self.places.lock(&self.rt);
         places.in_use()
+    }
+
+    /// Returns how often a worker or a walk slept until its turn of 50 milliseconds was over though there was something
+    /// to do, and nobody had called it. There are none but by a mistake of this crate.
+    pub fn late_wakes(&self) -> usize {
+        self.late.load(Ordering::SeqCst)
+    }
+
+    /// Counts one of these, if it is one.
+    pub(crate) fn count_late(&self, late: bool) {
+        if late {
+            self.late.fetch_add(1, Ordering::SeqCst);
+        }
     }
 
     /// Returns how many threads a walk is given, unless fewer can be started.

@@ -97,9 +97,10 @@ fn wait_for<
             Arrival::Memory => return Err(Missed::Memory),
             Arrival::Lost => return Err(Missed::Lost),
             Arrival::Wait => {
-                sleepers.set_walk(true);
-                sleepers = wait_a_turn(rt, &shared.arrived, sleepers);
-                sleepers.set_walk(false);
+                sleepers.add_walk();
+                let (woken, timed_out) = wait_a_turn(rt, &shared.arrived, sleepers);
+                sleepers = woken;
+                sleepers.remove_walk(timed_out);
             }
         }
     }

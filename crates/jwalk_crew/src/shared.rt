@@ -220,6 +220,7 @@ impl<
         };
         let turn = take_turn(&mut *board, pace);
         held.note_turn(&turn);
+        self.crew.count_late(held.has_overslept(turn.is_found()));
         let calls = Calls::after_turn(&*board, &turn, pace);
         (turn, calls, Ok(self.put_back(held, board, loan)))
     }
@@ -247,6 +248,7 @@ impl<
         let mut board = work.into_board();
         let arrival = arrive(&mut *board, wanted);
         let came = matches!(arrival, Arrival::Entered(_));
+        self.crew.count_late(held.has_overslept(came));
         let calls = held.after_arrival(came, &*board, self.crew.read_ahead());
         self.work.put_back_with(Work::new(board), key);
         (arrival, calls)

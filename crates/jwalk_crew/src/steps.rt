@@ -40,6 +40,16 @@ pub(crate) enum Turn<T, A: Allocator + Copy> {
     End,
 }
 
+impl<T, A: Allocator + Copy> Turn<T, A> {
+    /// Returns whether the worker found something to do, or that nothing will come.
+    pub(crate) fn is_found(&self) -> bool {
+        match self {
+            Turn::Read(_) | Turn::End => true,
+            Turn::Wait | Turn::Rest => false,
+        }
+    }
+}
+
 /// Takes the next specification, if that may be taken at this pace. If memory runs out, the board is stopped.
 pub(crate) fn take_turn<T: Drop, R: Drop, A: Allocator + Copy>(
     board: &mut Board<T, R, A>,

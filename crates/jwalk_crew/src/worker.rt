@@ -103,8 +103,9 @@ impl<
             match turn {
                 Turn::Wait | Turn::Rest if calls.is_empty() => {
                     sleepers.add_worker();
-                    sleepers = wait_a_turn(rt, &self.shared.queued, sleepers);
-                    sleepers.remove_worker();
+                    let (woken, timed_out) = wait_a_turn(rt, &self.shared.queued, sleepers);
+                    sleepers = woken;
+                    sleepers.remove_worker(timed_out);
                 }
                 Turn::Wait | Turn::Rest => {
                     drop(sleepers);

@@ -13,11 +13,11 @@ use Rattle.jwalk_board.proofs.board.Board.is_next_queued.Goals as goal
 pub returns-then-not-is_none : goal.returns-then-not-is_none
 returns-then-not-is_none g c =
     let some : c.self.inside.matcher ≢ [] = λ empty. false≢true (sym c.if-not-is_none.true ∙ c.is_none.ensures.1 empty) in
-    let same : Decides c.eq.result (address c.in-Some.least.now ≡ next_address c.self.inside.matcher) =
+    let same : Decides c.eq.result (address c.in-Some.first.now ≡ next_address c.self.inside.matcher) =
     rw (← c.looking_for.ensures) (slice_eq-Decides Decides-eqb _ _ c.eq.result c.eq.ensures) in
     rw (← c.self.view_is) (
       λ yes. (some, subst (λ a. IsAmong a (addresses_of c.self.inside.queued)) (same.0 yes) c.in-Some.ensures.some),
-      λ queued. same.1 (next_is_first_queued _ c.self.invariant (address c.in-Some.least.now) c.in-Some.ensures.some c.in-Some.ensures.least queued.1),
+      λ queued. same.1 (next_is_first_queued _ c.self.invariant (address c.in-Some.first.now) c.in-Some.ensures.some c.in-Some.ensures.least queued.1),
     )
 
 pub returns-else-not-is_none : goal.returns-else-not-is_none
