@@ -104,14 +104,6 @@ module _ {T R : Type 0} where
       let a_there : 0 < times a (on_board b) = omega (arith, times-on_board a b) in
       same_address a next (next_least b w a a_there) (first_among a next b.ready first some)
 
-  -- The least that is queued is the next one, if that is queued.
-  pub next_is_first_queued : (b : Board T R) → IsWhole b → (a : List ℕ) → 0 < times a (addresses_of b.queued) → IsFirst a b.queued → 0 < times (next_address b.frontier) (addresses_of b.queued)
-      → a ≡ next_address b.frontier
-  next_is_first_queued b w a there first some =
-      let next = next_address b.frontier in
-      let a_there : 0 < times a (on_board b) = omega (arith, times-on_board a b) in
-      same_address a next (next_least b w a a_there) (first_among a next b.queued first some)
-
   pub not_ready : (b : Board T R) → IsWhole b → (a : List ℕ) → 0 < times a (addresses_of b.ready) → IsFirst a b.ready → a ≢ next_address b.frontier
       → times (next_address b.frontier) (addresses_of b.ready) ≡ 0
   not_ready b w a there first other =

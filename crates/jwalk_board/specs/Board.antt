@@ -52,10 +52,6 @@ module _ {T R : Type 0} where
   abbrev pub IsNextReady : Board T R → Type 0
   IsNextReady b = (b.frontier ≢ []) × IsAmong (next_address b.frontier) (addresses_of b.ready)
 
-  -- There is a next address, and its specification is queued. It is then the least that is queued.
-  abbrev pub IsNextQueued : Board T R → Type 0
-  IsNextQueued b = (b.frontier ≢ []) × IsAmong (next_address b.frontier) (addresses_of b.queued)
-
   -- The roots are queued at `[0]`, `[1]` and so on.
   pub record IsNew (specs : List T) (b : Board T R) : Type 0 where
     pub queued : IsPermutation (numbered [] 0 specs) b.queued

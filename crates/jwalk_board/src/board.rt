@@ -3,7 +3,8 @@ ghost use Rattle.std.specs.Prelude.{◌≡◌, ◌+◌, ◌<◌, ◌++◌, ◌�
 ghost use Rattle.std.specs.List.Sorted.{IsPermutation};
 ghost use Rattle.jwalk_order.specs.IndexPath.{address as indices_of};
 ghost use Rattle.jwalk_order.specs.Addressed.{numbered};
-ghost use Rattle.jwalk_board.specs.Board.{Finishes, HandsOut, HoldsOpen, IsNew, IsNextQueued, IsNextReady, IsWhole, Takes};
+ghost use Rattle.jwalk_board.specs.Board.{Finishes, HandsOut, HoldsOpen, IsNew, IsNextReady, IsWhole, Takes};
+ghost use Rattle.jwalk_board.specs.Next.{IsNextQueued};
 ghost use Rattle.jwalk_board.specs.Refusal.{RefusesFinish, RefusesHandOut, RefusesTake};
 
 use jwalk_order::address_heap::AddressHeap;

@@ -7,7 +7,8 @@ use Rattle.jwalk_order.specs.Addressed.{Addressed, addressed, addresses_of}
 use Rattle.jwalk_order.specs.Frontier.{next_address}
 use Rattle.jwalk_order.specs.Ordered.{address_of}
 use Rattle.jwalk_order.specs.declared.ordered.Ordered.{Ordered}
-use Rattle.jwalk_board.specs.Board.{Board, IsNew, IsNextQueued, Takes, HandsOut, Finishes}
+use Rattle.jwalk_board.specs.Board.{Board, IsNew, Takes, HandsOut, Finishes}
+use Rattle.jwalk_board.specs.Next.{IsNextQueued}
 use Rattle.jwalk_crew.specs.Pace.{ahead_of, IsWithin, MayTake, HoldsBack, CountsTakers}
 use Rattle.jwalk_crew.specs.Steps.{Turns}
 use Rattle.jwalk_crew.specs.declared.steps.Turn.{Turn}

@@ -1,6 +1,7 @@
 -- How far ahead of a walk its workers may read.
 use Rattle.std.specs.Prelude.{◌≡◌, ◌≢◌, ◌⊎◌, ◌↔◌, ◌+◌, ◌-◌, ◌≤◌, ◌<◌, ℕ, Bool, true, false, [], length, min}
-use Rattle.jwalk_board.specs.Board.{Board, IsNextQueued}
+use Rattle.jwalk_board.specs.Board.{Board}
+use Rattle.jwalk_board.specs.Next.{IsNextQueued}
 
 module _ {T R : Type 0} where
   -- how many readings are ready or in hand

@@ -1,4 +1,4 @@
-use Rattle.std.proofs.Common.{rules, ◌≡◌, ◌≢◌, [], subst, sym, ◌∙◌}
+use Rattle.std.proofs.Common.{rules, arith, ◌≡◌, ◌≢◌, ◌<◌, ℕ, List, [], subst, sym, ◌∙◌}
 use Rattle.std.specs.Bool.{Decides}
 use Rattle.std.proofs.lemmas.Bool.{false≢true}
 use Rattle.std.proofs.lemmas.Bool.Decides.{Decides-eqb}
@@ -7,8 +7,21 @@ use Rattle.jwalk_order.specs.Frontier.{next_address}
 use Rattle.jwalk_order.specs.IndexPath.{address}
 use Rattle.jwalk_order.specs.Addresses.{IsAmong}
 use Rattle.jwalk_order.specs.Addressed.{addresses_of}
-use Rattle.jwalk_board.proofs.Steps.{next_is_first_queued}
+use Rattle.jwalk_order.specs.Addresses.{times}
+use Rattle.jwalk_order.specs.Addressed.{IsFirst}
+use Rattle.jwalk_order.proofs.AddressOrder.{same_address}
+use Rattle.jwalk_board.specs.Board.{Board, on_board, IsWhole}
+use Rattle.jwalk_board.proofs.Opens.{times-on_board, next_least}
+use Rattle.jwalk_board.proofs.Steps.{first_among}
 use Rattle.jwalk_board.proofs.board.Board.is_next_queued.Goals as goal
+
+-- The least that is queued is the next one, if that is queued.
+next_is_first_queued : {T R : Type 0} (b : Board T R) → IsWhole b → (a : List ℕ) → 0 < times a (addresses_of b.queued) → IsFirst a b.queued → 0 < times (next_address b.frontier) (addresses_of b.queued)
+    → a ≡ next_address b.frontier
+next_is_first_queued b w a there first some =
+    let next = next_address b.frontier in
+    let a_there : 0 < times a (on_board b) = omega (arith, times-on_board a b) in
+    same_address a next (next_least b w a a_there) (first_among a next b.queued first some)
 
 pub returns-then-not-is_none : goal.returns-then-not-is_none
 returns-then-not-is_none g c =
