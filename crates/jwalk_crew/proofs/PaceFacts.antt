@@ -1,93 +1,23 @@
 -- At each step on a board, what is ready or in hand stays at most the limit and one.
-use Rattle.std.proofs.Common.{◌≡◌, ◌≢◌, ◌⊎◌, ◌↔◌, ℕ, zero, suc, ◌+◌, ◌-◌, ◌≤◌, ◌<◌, Bool, true, false, List, [], ◌∷◌, length, min, inl, inr, sym, ap, ◌∙◌, subst, refl, arith, Result, Ok, Err, OnOk, OnErr, IsTrue}
+use Rattle.std.proofs.Common.{◌≡◌, ◌⊎◌, ℕ, suc, ◌≤◌, Bool, true, List, [], ◌∷◌, length, inl, inr, sym, ap, ◌∙◌, subst, arith, Result, Ok, Err, OnOk, OnErr}
 use Rattle.std.proofs.lemmas.Bool.{false≢true}
 use Rattle.std.proofs.lemmas.List.Sorted.{length_permutation}
-use Rattle.jwalk_order.specs.Addresses.{times}
-use Rattle.jwalk_order.specs.Addressed.{Addressed, addressed, addresses_of}
-use Rattle.jwalk_order.specs.Frontier.{next_address}
+use Rattle.jwalk_order.specs.Addressed.{addressed}
 use Rattle.jwalk_order.specs.Ordered.{address_of}
 use Rattle.jwalk_order.specs.declared.ordered.Ordered.{Ordered}
 use Rattle.jwalk_board.specs.Board.{Board, IsNew, Takes, HandsOut, Finishes}
-use Rattle.jwalk_board.specs.Next.{IsNextQueued}
-use Rattle.jwalk_crew.specs.Pace.{ahead_of, IsWithin, MayTake, HoldsBack, CountsTakers}
+use Rattle.jwalk_crew.specs.Pace.{ahead_of, CountsTakers, IsWithin, MayTake}
 use Rattle.jwalk_crew.specs.Steps.{Turns}
 use Rattle.jwalk_crew.specs.declared.steps.Turn.{Turn}
 use Rattle.jwalk_crew.specs.declared.steps.Turn.TheVariants as turn
 
-some_length : {X : Type 0} (xs : List X) → xs ≢ [] → 0 < length xs
-some_length [] some = absurd (some refl)
-some_length (x ∷ xs) some = omega arith
-
-module _ {T R : Type 0} (b : Board T R) where
-  next_is_some : IsNextQueued b → b.queued ≢ []
-  next_is_some next none =
-      let there : 0 < times (next_address b.frontier) (addresses_of b.queued) = next.1 in
-      let gone : 0 < times (next_address b.frontier) (addresses_of {V = T} []) = subst (λ (q : List (Addressed T)). 0 < times (next_address b.frontier) (addresses_of q)) none there in
-      absurd (omega (arith, gone))
-
-  module _ (limit : ℕ) (rests : Bool) where
-    -- where something may be taken, no more than the limit are ready or in hand
-    pub may_most : MayTake limit rests b → ahead_of b ≤ limit
-    may_most may = elim may [
-      | inl free ↦ omega (arith, free.1.1)
-      | inr next ↦ next.1
-    ]
-
-    pub may_some : MayTake limit rests b → 0 < length b.queued
-    may_some may = elim may [
-      | inl free ↦ some_length b.queued free.1.0
-      | inr next ↦ some_length b.queued (next_is_some next.0)
-    ]
-
-    -- Where there is room and the workers don't rest, as many may take something as there is room for.
-    pub takers_by_room : (room : ℕ) → room + ahead_of b ≡ limit → 0 < room → rests ≡ false → CountsTakers limit rests b (min room (length b.queued))
-    takers_by_room room is pos awake = record {
-      some = (
-        λ (count : 0 < min room (length b.queued)). inl (awake, (λ none. let empty : length b.queued ≡ 0 = ap length none in absurd (omega (arith, count, empty))), omega (arith, is, pos)),
-        λ may. let some = may_some may in omega (arith, some, pos),
-      );
-      room = λ a free. omega (arith, is);
-      full = λ why. elim why [
-        | inl resting ↦ absurd (false≢true (sym awake ∙ resting))
-        | inr over ↦ absurd (omega (arith, is, pos, over))
-      ];
-    }
-
-    -- Where there is none, or they rest, one may take the next.
-    pub takers_of_next : (room count : ℕ) (queued : Bool) → room + ahead_of b ≡ limit → (rests ≡ true) ⊎ (room ≡ 0) → IsTrue queued ↔ IsNextQueued b → (queued ≡ true → count ≡ 1) → (queued ≡ false → count ≡ 0) → CountsTakers limit rests b count
-    takers_of_next room count true is full next one none = record {
-      some = (λ pos. inr (next.0 tt, omega (arith, is)), λ may. let c = one refl in omega (arith, c));
-      room = λ awake free. elim full [
-        | inl resting ↦ absurd (false≢true (sym awake ∙ resting))
-        | inr over ↦ absurd (omega (arith, is, over, free))
-      ];
-      full = λ why. let c = one refl in omega (arith, c);
-    }
-    takers_of_next room count false is full next one none = record {
-      some = (
-        λ pos. let c = none refl in absurd (omega (arith, c, pos)),
-        λ may. elim may [
-          | inl free ↦ elim full [
-            | inl resting ↦ absurd (false≢true (sym free.0 ∙ resting))
-            | inr over ↦ absurd (omega (arith, is, over, free.1.1))
-          ]
-          | inr there ↦ absurd (next.1 there.0)
-        ],
-      );
-      room = λ awake free. elim full [
-        | inl resting ↦ absurd (false≢true (sym awake ∙ resting))
-        | inr over ↦ absurd (omega (arith, is, over, free))
-      ];
-      full = λ why. let c = none refl in omega (arith, c);
-    }
-
-    -- Where more than the limit are ready or in hand, none may.
-    pub takers_of_none : limit < ahead_of b → CountsTakers limit rests b 0
-    takers_of_none over = record {
-      some = (λ pos. absurd (omega (arith, pos)), λ may. let most = may_most may in absurd (omega (arith, over, most)));
-      room = λ awake free. absurd (omega (arith, over, free));
-      full = λ why. omega arith;
-    }
+module _ {T R : Type 0} (b : Board T R) (limit : ℕ) (rests : Bool) where
+  -- where something may be taken, no more than the limit are ready or in hand
+  pub may_most : MayTake limit rests b → ahead_of b ≤ limit
+  may_most may = elim may [
+    | inl free ↦ omega (arith, free.2)
+    | inr next ↦ next.1
+  ]
 
 module _ {T R : Type 0} (limit : ℕ) (old new : Board T R) where
   -- What is taken was queued, and so it might be.
@@ -146,3 +76,11 @@ new_within limit specs b new =
     let ready : length b.ready ≡ 0 = ap length new.ready in
     let in_hand : length b.in_hand ≡ 0 = ap length new.in_hand in
     omega (arith, ready, in_hand)
+
+module _ {T R A : Type 0} (limit own : ℕ) (rests noted : Bool) (is : limit ≡ own) (same : rests ≡ noted) (t : Turn T A) (old new : Board T R) where
+  -- A turn at a pace of this limit is one at the limit that the slot has.
+  pub turns_at : Turns limit rests old t new → Turns own noted old t new
+  turns_at turns = subst (λ l. Turns l noted old t new) is (subst (λ r. Turns limit r old t new) same turns)
+
+  pub takers_at : (count : ℕ) → CountsTakers limit rests new count → CountsTakers own noted new count
+  takers_at count counts = subst (λ l. CountsTakers l noted new count) is (subst (λ r. CountsTakers limit r new count) same counts)

@@ -270,9 +270,10 @@ impl<
             (origin_at self.now.work) (key_mark key.old) wanted.now result.0 (key_mark key.new) }
         ensures missed { (mutex_guard_value held.old).board_missed ≡ true → ¬ (result.0 ≡ Arrival.Wait) }
     {
-        match self.arrival_on_board(held, key, wanted) {
-            (Arrival::Wait, calls) if held.board_missed() => (Arrival::Memory, calls),
-            found => found,
+        let (arrival, calls) = self.arrival_on_board(held, key, wanted);
+        match arrival {
+            Arrival::Wait if held.board_missed() => (Arrival::Memory, calls),
+            arrival => (arrival, calls),
         }
     }
 
