@@ -82,5 +82,6 @@ module _ {T R A : Type 0} (limit own : ℕ) (rests noted : Bool) (is : limit ≡
   pub turns_at : Turns limit rests old t new → Turns own noted old t new
   turns_at turns = subst (λ l. Turns l noted old t new) is (subst (λ r. Turns limit r old t new) same turns)
 
-  pub takers_at : (count : ℕ) → CountsTakers limit rests new count → CountsTakers own noted new count
-  takers_at count counts = subst (λ l. CountsTakers l noted new count) is (subst (λ r. CountsTakers limit r new count) same counts)
+pub takers_at : {T R : Type 0} (limit own : ℕ) (rests noted : Bool) → limit ≡ own → rests ≡ noted → (this that : Board T R) → this ≡ that → (count : ℕ) → CountsTakers limit rests this count → CountsTakers own noted that count
+takers_at limit own rests noted is same this that board count counts =
+    subst (λ l. CountsTakers l noted that count) is (subst (λ r. CountsTakers limit r that count) same (subst (λ b. CountsTakers limit rests b count) board counts))

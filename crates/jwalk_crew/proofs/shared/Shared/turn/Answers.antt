@@ -1,7 +1,6 @@
 use Rattle.std.proofs.Common.{◌∙◌, refl, sym, ap, subst}
 use Rattle.jwalk_board.specs.Board.{IsNextReady}
 use Rattle.jwalk_crew.specs.Crew.{limit_of}
-use Rattle.jwalk_crew.specs.Pace.{CountsTakers}
 use Rattle.jwalk_crew.proofs.PaceFacts.{same_within, takers_at, turned_within, turns_at}
 use Rattle.jwalk_crew.proofs.SharedFacts.{same_of, turned_of, turned_frontier}
 use Rattle.jwalk_crew.proofs.HandledFacts.{receipt_for}
@@ -31,7 +30,6 @@ returns-clause-handled g c =
     receipt_for _ _ _ _ _ _ _ c.put_back.ensures.slot c.put_back.ensures.taken c.in-Ok.ensures.lent c.deref_mut.ensures.value c.put_back.ensures.put
     (record {
       turns = turns_at _ _ _ _ limit rests _ _ _ c.take_turn-turn.ensures;
-      calls_workers = λ going. takers_at _ _ _ _ limit rests c.take_turn-turn.result _ _ _
-          (subst (λ b. CountsTakers c.new-pace.result.limit c.new-pace.result.rests b c.after_turn-calls.result.workers) c.deref-4.ensures (c.after_turn-calls.ensures.workers going));
+      calls_workers = λ going. takers_at _ _ _ _ limit rests _ _ c.deref-4.ensures _ (c.after_turn-calls.ensures.workers going);
       calls_walk = λ ready. c.after_turn-calls.ensures.ready (subst IsNextReady (sym c.deref-4.ensures) ready);
     })
