@@ -1,5 +1,5 @@
 //! A document whose parts name other parts.
-ghost use Rattle.std.specs.Prelude.{◌≡◌, ◌≤◌, IfOk, map, option_map};
+ghost use Rattle.std.specs.Prelude.{◌≡◌, ◌≤◌, IfOk, option_map};
 ghost use Rattle.document.specs.Document.{lines_at, tells};
 
 use crate::place::Place;

@@ -1,12 +1,12 @@
 -- What is known of readings that were made, of those that are kept, and of one that is handed on.
 use Rattle.std.proofs.Common.{◌≡◌, ◌∷◌, ◌++◌, List, [], map, length, sym, ap, ◌∙◌, subst}
-use Rattle.std.specs.Prelude.{ℕ, All, Option, Some, None, Result}
+use Rattle.std.specs.Prelude.{ℕ, All, Option, Some, Result}
 use Rattle.std.specs.declared.clone.Clone as Clone
 use Rattle.std.specs.declared.default.Default as Default
 use Rattle.std.proofs.lemmas.List.{map-append, length-map}
 use Rattle.std.proofs.lemmas.List.Elements.{All-nil, All-cons, All-head, All-tail, All-append, All-map, All-weaker}
 use Rattle.std.proofs.lemmas.List.Sorted.{All-permutation}
-use Rattle.walk_model.specs.ReadDir.{Spec, Outcome, children_of}
+use Rattle.walk_model.specs.ReadDir.{Spec, children_of}
 use Rattle.walk_model.proofs.CloneFacts.{same_length}
 use Rattle.walk_fs.specs.declared.file_system.FileSystem as FileSystem
 use Rattle.jwalk_order.specs.Frontier.{passed}

@@ -1,12 +1,11 @@
 -- What is read ahead, with each directory seen as its specification.
-use Rattle.std.proofs.Common.{◌≡◌, ◌⊎◌, ℕ, ◌+◌, min, List, [], ◌∷◌, ◌++◌, map, length, refl, sym, ap, ap₂, subst, ◌∙◌, inl, inr, true}
+use Rattle.std.proofs.Common.{◌≡◌, ℕ, ◌+◌, min, List, [], ◌∷◌, ◌++◌, map, refl, sym, ap, ap₂, subst, ◌∙◌, inl, inr, true}
 use Rattle.std.specs.Prelude.{All, flat_map, Option, Some, None, option_map}
 use Rattle.std.specs.List.Sorted.{IsPermutation}
 use Rattle.std.proofs.lemmas.List.{map-append, length-map}
 use Rattle.std.proofs.lemmas.List.Elements.{All-nil, All-cons, All-head, All-tail, All-map, All-weaker}
 use Rattle.std.proofs.lemmas.List.Sorted.{IsPermutation-map}
 use Rattle.jwalk_order.specs.IndexPath.{is_before}
-use Rattle.jwalk_order.specs.Addresses.{IsAmong}
 use Rattle.jwalk_order.specs.Addressed.{Addressed, addresses_of, numbered}
 use Rattle.jwalk_board.specs.Seen.{seen}
 use Rattle.tree_walk.specs.ReadAhead.{ReadAhead, BeginsWith, StandsBefore, LeastLeave, HandsOnAt, below, Joins, unread, ReadsLeast, Enters, EntersNext}

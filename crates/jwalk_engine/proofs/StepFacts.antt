@@ -1,5 +1,5 @@
 -- What one call of a walk over a board by a job is, over its directories.
-use Rattle.std.proofs.Common.{◌≡◌, ◌≢◌, ◌≤◌, ◌+◌, ℕ, List, [], map, length, sym, ap, ◌∙◌, subst, arith}
+use Rattle.std.proofs.Common.{◌≡◌, ◌≢◌, ◌≤◌, ◌+◌, ℕ, [], map, length, sym, ap, ◌∙◌, subst, arith}
 use Rattle.std.specs.Prelude.{All, Option, Some, None, Result, Ok, Err, IfOk, OnErr, option_map}
 use Rattle.std.specs.declared.clone.Clone as Clone
 use Rattle.std.specs.declared.default.Default as Default
@@ -18,7 +18,7 @@ use Rattle.jwalk_read.specs.declared.job.Job.{Job}
 use Rattle.jwalk_read.specs.declared.read_dir.ReadDir.{ReadDir}
 use Rattle.jwalk_read.specs.PlanReading.{IsPlanReading}
 use Rattle.jwalk_read.specs.ReadDir.{outcome}
-use Rattle.jwalk_engine.specs.Reads.{Read, spec_of, IsMade, IsSound, IsSoundOver, IsSteadyWith, ReadsNext}
+use Rattle.jwalk_engine.specs.Reads.{Read, IsMade, IsSound, IsSoundOver, IsSteadyWith, ReadsNext}
 use Rattle.jwalk_engine.specs.ReadAhead.{nothing_ahead, EntersNext}
 use Rattle.jwalk_engine.specs.BatchReads.{seen_made, to_read_on, early_on, ahead_of, PassesAddress}
 use Rattle.jwalk_engine.proofs.SeenFacts.{seen_enters_next}

@@ -1,12 +1,12 @@
 -- What chains of rules say.
-use Rattle.std.proofs.Common.{◌≡◌, ◌∙◌, ℕ, Bool, true, false, List, [], ◌∷◌, ◌++◌, map, ap, refl, sym}
+use Rattle.std.proofs.Common.{◌≡◌, ◌∙◌, ℕ, Bool, true, false, List, [], ◌∷◌, ◌++◌, ap, refl, sym}
 use Rattle.std.specs.Prelude.{◌||◌}
 use Rattle.std.specs.List.{AllZip}
 use Rattle.std.specs.Arc.{arc_value}
 use Rattle.std.specs.declared.sync.Arc.{Arc}
 use Rattle.std.proofs.lemmas.List.{map-append}
 use Rattle.jwalk_ignore.specs.Chain as value
-use Rattle.jwalk_ignore.specs.Chain.{chain_says, has_any, has_rules, ignored, is_ignored, is_said, link_says, links_say}
+use Rattle.jwalk_ignore.specs.Chain.{has_any, has_rules, ignored, is_ignored, is_said, link_says, links_say}
 use Rattle.jwalk_ignore.specs.ChainViews.{link_value, links_value}
 use Rattle.jwalk_ignore.specs.Matching.{or_else}
 use Rattle.jwalk_ignore.specs.declared.decision.Decision.{Decision}

@@ -1,7 +1,7 @@
 -- What is computed of patterns is what the relations say.
 use Rattle.std.proofs.Common.{◌≡◌, ◌∙◌, ℕ, zero, suc, Bool, true, false, List, [], ◌∷◌, ◌++◌, drop, ap, sym, refl}
 use Rattle.std.specs.Prelude.{IsTrue, ◌&&◌, ◌||◌, not, if◌then◌else◌}
-use Rattle.jwalk_ignore.specs.ByteTest.{ByteTest, fits}
+use Rattle.jwalk_ignore.specs.ByteTest.{fits}
 use Rattle.jwalk_ignore.specs.Fits.{Fits}
 use Rattle.jwalk_ignore.specs.Glob.{TakesByte, IsNamed}
 use Rattle.jwalk_ignore.specs.Matching.{some_rest, takes_first, is_nil, fit, is_named, matches, or_else, pattern_says, patterns_say}

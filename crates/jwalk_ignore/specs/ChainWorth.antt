@@ -1,9 +1,8 @@
 -- What rules in force count as, and how they are read from that.
-use Rattle.std.specs.Prelude.{ℕ, Bool, true, false, List, [], ◌∷◌, map, Option, ◌==◌, if◌then◌else◌}
+use Rattle.std.specs.Prelude.{ℕ, Bool, true, false, List, [], ◌∷◌, ◌==◌, if◌then◌else◌}
 use Rattle.walk_model.specs.Counted.{Worth, blank, number, bytes, both}
 use Rattle.jwalk_ignore.specs.ByteTest.{ByteTest, Byte, Any, OneOf}
-use Rattle.jwalk_ignore.specs.Chain.{Chain, Link, no_rules}
-use Rattle.jwalk_ignore.specs.Class.{ClassValue}
+use Rattle.jwalk_ignore.specs.Chain.{Chain, Link}
 use Rattle.jwalk_ignore.specs.Pattern.{Pattern}
 use Rattle.jwalk_ignore.specs.declared.byte_class.ByteClass.{ByteClass}
 use Rattle.jwalk_ignore.specs.declared.byte_class.ByteClass.TheVariants.{Alnum, Alpha, Blank, Cntrl, Digit, Graph, Lower, Print, Punct, Space, Upper, Xdigit}

@@ -1,5 +1,5 @@
 -- What patterns say of paths, row by row.
-use Rattle.std.specs.Prelude.{◌≡◌, ℕ, Bool, true, false, List, [], ◌∷◌, codes, refl}
+use Rattle.std.specs.Prelude.{◌≡◌, ℕ, Bool, true, false, List, codes, refl}
 use Rattle.jwalk_ignore.specs.Line.{patterns_of}
 use Rattle.jwalk_ignore.specs.Matching.{patterns_say}
 use Rattle.jwalk_ignore.specs.declared.decision.Decision.{Decision}

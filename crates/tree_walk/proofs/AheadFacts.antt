@@ -9,13 +9,13 @@ use Rattle.std.specs.List.{AllZip}
 use Rattle.std.specs.List.Sorted.{IsPermutation}
 use Rattle.std.proofs.lemmas.Grind.{flat_map-append}
 use Rattle.std.proofs.lemmas.List.{append-nil, map-append, length-map}
-use Rattle.std.proofs.lemmas.List.Elements.{All-nil, All-cons, All-head, All-tail, All-append, All-map, All-weaker}
+use Rattle.std.proofs.lemmas.List.Elements.{All-nil, All-cons, All-head, All-tail, All-append, All-weaker}
 use Rattle.std.proofs.lemmas.List.Sorted.{IsPermutation-refl, IsPermutation-map, IsPermutation-trans, IsPermutation-append_right, All-permutation, length_permutation}
 use Rattle.jwalk_order.specs.IndexPath.{address, is_before}
 use Rattle.jwalk_order.specs.Ordered.{address_of, child_count_of}
 use Rattle.jwalk_order.specs.declared.ordered.Ordered.{Ordered}
 use Rattle.jwalk_board.specs.Board.{Board, IsWhole, IsNew, Takes, Finishes}
-use Rattle.jwalk_order.specs.Addressed.{Addressed, addressed, addresses_of, numbered, IsFirst}
+use Rattle.jwalk_order.specs.Addressed.{Addressed, addressed, addresses_of, IsFirst}
 use Rattle.jwalk_order.specs.Addresses.{is_same, times}
 use Rattle.jwalk_board.proofs.Opens.{times-addresses_of, times-on_board}
 use Rattle.jwalk_order.proofs.Sets.{times-itself}

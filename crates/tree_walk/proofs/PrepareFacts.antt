@@ -1,6 +1,6 @@
 -- What is prepared, and then returned.
-use Rattle.std.proofs.Common.{◌≡◌, ◌≢◌, ◌≤◌, ◌<◌, ◌+◌, ℕ, List, [], ◌∷◌, ◌++◌, length, map, refl, sym, ap, ◌∙◌, subst, arith, inl, inr, ⊎_elim}
-use Rattle.std.specs.Prelude.{Option, Some, None, Result, Ok, Err, IsErr, OnOk, ◌⊎◌}
+use Rattle.std.proofs.Common.{◌≡◌, ◌≢◌, ◌≤◌, ◌<◌, ◌+◌, ℕ, List, [], ◌∷◌, ◌++◌, length, refl, sym, ap, ◌∙◌, subst, arith, inl, inr, ⊎_elim}
+use Rattle.std.specs.Prelude.{Option, Some, None, Result, Ok, Err, IsErr, ◌⊎◌}
 use Rattle.std.specs.List.Sorted.{IsPermutation}
 use lib.ListN.{length-append}
 use Rattle.std.proofs.Math.Nat.{eq-zero-or-pos}
@@ -15,9 +15,9 @@ use Rattle.jwalk_board.specs.Board.{Board, IsWhole, HoldsOpen, IsOpen, of_fronti
 use Rattle.jwalk_board.proofs.Opens.{times-on_board, holds_open}
 use Rattle.tree_walk.specs.declared.read.Read.{Read}
 use Rattle.tree_walk.specs.ToGive.{with_below}
-use Rattle.tree_walk.specs.Reads.{spec_of, to_give, IsSound, ReadsSome}
-use Rattle.tree_walk.specs.ReadAhead.{ahead_on, Enters, HandsOnAt, ReadsLeast}
-use Rattle.tree_walk.specs.BoardWalk.{Keeps, ReadsBatch, GivesFirst, Answers, ReadsForNext, Prepares, left_on, ahead_of, frontier_on, next_on}
+use Rattle.tree_walk.specs.Reads.{spec_of, IsSound}
+use Rattle.tree_walk.specs.ReadAhead.{ahead_on, Enters, HandsOnAt}
+use Rattle.tree_walk.specs.BoardWalk.{Keeps, ReadsBatch, GivesFirst, Answers, ReadsForNext, Prepares, left_on, ahead_of, next_on}
 use Rattle.tree_walk.proofs.NextFacts.{left_first, next_is_read}
 
 module _ {T R : Type 0} (b : Board T (Read T R)) where

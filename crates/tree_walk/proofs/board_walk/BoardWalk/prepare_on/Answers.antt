@@ -1,4 +1,4 @@
-use Rattle.std.proofs.Common.{◌≡◌, false, true, refl, inl, inr, ◌∙◌}
+use Rattle.std.proofs.Common.{◌≡◌, false, true, refl, inr, ◌∙◌}
 use Rattle.tree_walk.proofs.NextFacts.{left_first}
 use Rattle.tree_walk.proofs.PrepareFacts.{frontier_some, reads_for_next}
 use Rattle.tree_walk.proofs.board_walk.BoardWalk.prepare_on.Goals as goal
