@@ -1,4 +1,4 @@
-use Rattle.std.proofs.Common.{◌∙◌, sym, ap, box_value}
+use Rattle.std.proofs.Common.{ap, box_value}
 use Rattle.jwalk_crew.proofs.OriginFacts.{new_of}
 use Rattle.jwalk_crew.proofs.PaceFacts.{new_within, same_within}
 use Rattle.jwalk_crew.proofs.SharedFacts.{same_of}
