@@ -8,6 +8,7 @@ use crate::crew_reads::error_of;
 use crate::read_dir_iter::ReadDirIter;
 use crate::threads::OnThreads;
 use jwalk_crew::pool::{Missed, Pool};
+use jwalk_read::read_dir::Outcome;
 use read_parts::client_state::ClientState;
 use read_parts::dir_entry::DirEntry;
 use read_parts::error::Error;
