@@ -6,6 +6,7 @@ use jwalk_order::ordered::Ordered;
 use std::alloc::Global;
 
 // A root 0 with the children 1 and 2, and 1 with the one child 3. A reading is the number.
+#[derive(Drop)]
 pub(crate) struct Family;
 
 impl Plan<Global> for Family {
