@@ -179,7 +179,10 @@ impl<R: Wait + Clock + Drop, A: Allocator + Copy> Place<R, A> {
         }
     }
 
-    pub(crate) fn crew(&self) -> &Arc<Crew<R>, A> {
+    /// Returns the crew that the place is of.
+    pub(crate) fn crew(&self) -> &Arc<Crew<R>, A>
+        ensures { result.now ≡ self.now.crew }
+    {
         &self.crew
     }
 }
