@@ -1,5 +1,5 @@
 //! Sizes of files, asked where directories are read.
-ghost use Rattle.walk_model.specs.Tree.{functions_of, only_root};
+ghost use Rattle.jwalk.specs.walk_model.Tree.{functions_of, only_root};
 
 use crate::program::runs::{TREE_A, Want, comes_unread, watched_over};
 use jwalk::file_system::{Fault, FileSystem, FileType, Listed, Metadata};
