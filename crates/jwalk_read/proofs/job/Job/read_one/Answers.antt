@@ -1,4 +1,4 @@
-use Rattle.std.proofs.Common.{◌≡◌, ◌+◌, ◌^◌, ◌<◌, ◌∙◌, ℕ, Bool, ap, sym, true, [], Ok, map, subst, arith}
+use Rattle.std.proofs.Common.{◌≡◌, ◌+◌, ◌^◌, ◌<◌, ◌∙◌, ℕ, Bool, ap, sym, true, false, [], Ok, map, subst, arith}
 use Rattle.std.proofs.lemmas.Bool.{lt-leb}
 use Rattle.std.proofs.lemmas.Bool.Decides.{nat_tests}
 use Rattle.std.specs.Prelude.{◌↔◌, IsTrue, nat_le, string_bytes}
@@ -18,9 +18,13 @@ is_higher greatest same test is = subst (λ d. d < greatest) same (test.0 is)
 pub processed-requires-clause-fits : goal.processed-requires-clause-fits
 processed-requires-clause-fits g c = subst (λ d. d + 1 < 2 ^ 64) c.depth.ensures (c.reads.ensures.fits c.if-not-reads.false)
 
+-- one that isn't read is at the greatest depth or below
+is_deep : {asked depth : ℕ} {reads : Bool} (greatest : ℕ) → asked ≡ depth → IsTrue reads ↔ (asked < greatest) → reads ≡ false → nat_le greatest depth ≡ true
+is_deep greatest same test is = grind (arith, nat_tests)
+
 pub returns-then-not-reads : goal.returns-then-not-reads
 returns-then-not-reads g c =
-    let deep : nat_le (greatest_depth c.args.self.now) (spec c.args.of.now).depth ≡ true = grind (arith, nat_tests) in
+    let deep : nat_le (greatest_depth c.args.self.now) (spec c.args.of.now).depth ≡ true = is_deep (greatest_depth c.args.self.now) c.depth.ensures c.reads.ensures.above c.if-not-reads.true in
     let made : reading c.new-then-not-reads.result ≡ record { state = c.in_ok-state.state; list = [] } = c.new-then-not-reads.ensures ∙ ap (λ l. record { state = c.in_ok-state.state; list = map item l }) c.new.ensures.items in
     subst (λ (r : Reading g.row.C-ReadDirState.Denot g.row.C-DirEntryState.Denot). IsReadingOf g.S.FileSystem g.P.ProcessReadDir g.C.ReadDirState.Clone g.C.DirEntryState.Default c.args.self.now (spec c.args.of.now) (Ok r)) (sym made)
     (not_read g.S.FileSystem g.P.ProcessReadDir g.C.ReadDirState.Clone g.C.DirEntryState.Default c.args.self.now (spec c.args.of.now) c.in_ok-state.state deep c.in_ok-state.ensures.cases)
