@@ -214,7 +214,7 @@ impl<
     {
         match read {
             None => Ok(found),
-            Some(Err(error)) => Ok(found.with_error(error)),
+            Some(Err(error)) => found.with_error(error),
             Some(Ok(read)) => {
                 self.receive(read)?;
                 Ok(found)

@@ -1,4 +1,5 @@
 pub mod ListFacts
+mod GatheredFacts
 mod ReadingFacts
 mod OrderedFacts
 mod WalkedTrees
