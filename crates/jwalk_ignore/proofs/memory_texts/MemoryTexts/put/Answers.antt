@@ -15,6 +15,6 @@ pub returns : goal.returns
 returns g c = λ other.
     let key = string_bytes c.in_ok-path.path in
     let old = get_by_text c.args.self.now.contents other in
-    ap (option_map content) (btree_map_updates_text key _ _ _ c.in_ok-insert.ensures.updates other)
+    ap (option_map content) (btree_map_updates_text key c.args.self.now.contents c.insert.new.self (Some c.args.there) c.in_ok-insert.ensures.updates other)
     ∙ either_side (bytes_eq key other) c.args.there old
     ∙ ap (λ k. cond (bytes_eq k other) (Some (content c.args.there)) (option_map content old)) c.in_ok-path.ensures.ok
