@@ -1,17 +1,21 @@
 -- What chains of rules say.
 use Rattle.std.proofs.Common.{◌≡◌, ◌∙◌, ℕ, Bool, true, false, List, [], ◌∷◌, ◌++◌, ap, refl, sym}
-use Rattle.std.specs.Prelude.{◌||◌}
-use Rattle.std.specs.List.{AllZip}
+use Rattle.std.specs.Prelude.{◌||◌, not, Ok, Err}
+use Rattle.std.specs.List.{AllZip, filter}
 use Rattle.std.specs.Arc.{arc_value}
 use Rattle.std.specs.declared.sync.Arc.{Arc}
 use Rattle.std.proofs.lemmas.List.{map-append}
+use Rattle.jwalk.specs.walk_model.Entry.{Item}
+use Rattle.jwalk.specs.walk_model.FileType.{is_dir}
 use Rattle.jwalk_ignore.specs.Chain as value
 use Rattle.jwalk_ignore.specs.Chain.{has_any, has_rules, ignored, is_ignored, is_said, link_says, links_say}
 use Rattle.jwalk_ignore.specs.ChainViews.{link_value, links_value}
+use Rattle.jwalk_ignore.specs.IgnoreFiles.{is_kept}
 use Rattle.jwalk_ignore.specs.Matching.{or_else}
 use Rattle.jwalk_ignore.specs.declared.decision.Decision.{Decision}
 use Rattle.jwalk_ignore.specs.declared.decision.Decision.TheVariants.{Ignored, Kept, Unsaid}
 use Rattle.jwalk_ignore.specs.declared.link.Link.{Link}
+use Rattle.jwalk_ignore.proofs.ListFacts.{filter_none}
 
 -- what is said decides
 pub said_first : (d next : Decision) → is_said d ≡ true → or_else d next ≡ d
@@ -73,3 +77,11 @@ none_ignored chain path is_dir is =
     ap (λ (d : Decision). is_ignored (or_else d (or_else (links_say chain.gitignore path is_dir) (links_say chain.exclude path is_dir)))) (none_in chain.ignore path is_dir inner.0)
     ∙ ap (λ (d : Decision). is_ignored (or_else d (links_say chain.exclude path is_dir))) (none_in chain.gitignore path is_dir inner.1)
     ∙ ap is_ignored (none_in chain.exclude path is_dir outer.1)
+
+one_kept : {R E : Type 0} (chain : value.Chain) (place : List ℕ) → has_rules chain ≡ false → (x : Item R E) → is_kept chain place x ≡ true
+one_kept chain place none (Ok e) = ap not (none_ignored chain (place ++ 47 ∷ e.file_name) (is_dir e.file_type) none)
+one_kept chain place none (Err f) = refl
+
+-- where there are no rules all is kept
+pub all_kept : {R E : Type 0} (chain : value.Chain) (place : List ℕ) (list : List (Item R E)) → has_rules chain ≡ false → filter (is_kept chain place) list ≡ list
+all_kept chain place list none = filter_none (is_kept chain place) (one_kept chain place none) list

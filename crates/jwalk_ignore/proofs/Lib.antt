@@ -6,4 +6,8 @@ pub mod RulesFacts
 pub mod LineFacts
 pub mod MatchingFacts
 pub mod WorthFacts
+pub mod ListFacts
+pub mod MadeFacts
+pub mod IgnoreFacts
 pub mod ChainFacts
+pub mod FolderFacts

@@ -1,3 +1,4 @@
+pub mod Builder
 pub mod ByteClass
 pub mod ByteTest
 pub mod Class
@@ -6,12 +7,17 @@ pub mod Chain
 pub mod ChainViews
 pub mod ChainWorth
 pub mod Fits
+pub mod Folders
+pub mod Given
 pub mod Glob
+pub mod IgnoreFiles
+pub mod IgnoreViews
 pub mod ItemRead
 pub mod Pieces
 pub mod MemoryTexts
 pub mod Names
 pub mod Line
+pub mod MadeDepths
 pub mod Matching
 mod MatchingRows
 pub mod NamePattern
@@ -20,8 +26,10 @@ mod NamesRows
 pub mod Pattern
 mod PatternRows
 pub mod PatternText
+pub mod Places
 pub mod RealTexts
 pub mod Rules
+pub mod Sources
 pub mod Taken
 pub mod Texts
 pub mod Token

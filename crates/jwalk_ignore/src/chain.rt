@@ -24,7 +24,8 @@ pub(crate) struct InForce<A: Allocator + Copy> {
     exclude: Vec<Arc<Link<A>, A>, A>,
 }
 
-/// The rules in force in a directory, which are handed down a tree.
+/// The rules in force in a directory: the state that [`IgnoreFiles`](crate::ignore_files::IgnoreFiles) hands down the
+/// tree, beside a user's own.
 ///
 /// It is a handle of one shared list, with a link for each file of rules above. A clone copies no link.
 #[derive_where(Debug)]

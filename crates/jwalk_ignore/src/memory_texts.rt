@@ -2,12 +2,12 @@
 ghost use Rattle.std.specs.Prelude.{◌≡◌, ℕ, List, None, Some, Ok, Err, IfOk, OnOk, option_map};
 
 use crate::texts::Texts;
+use jwalk::file_system::Fault;
+use jwalk::path_text;
 use std::alloc::{AllocError, Allocator, Global};
 use std::collections::BTreeMap;
 use std::io;
 use std::io::ErrorKind;
-use walk_fs::fault::Fault;
-use walk_paths::path_text;
 
 /// What is at a path: a file's bytes, or the kind of the error that reading it ends in.
 #[derive(Drop)]

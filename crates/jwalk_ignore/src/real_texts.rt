@@ -1,10 +1,10 @@
 //! The files that a runtime reaches, as texts.
 use crate::texts::Texts;
+use jwalk::file_system::Fault;
 use std::alloc::{AllocError, Allocator};
 use std::fs;
 use std::io::{self, ErrorKind, Read};
 use std::rt::{Files, HostRuntime};
-use walk_fs::fault::Fault;
 
 /// The files that a runtime reaches: the disk, if the runtime is the host's. It is made with the runtime that `main` is
 /// given, or with a `&` of it.

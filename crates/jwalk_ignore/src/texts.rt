@@ -1,12 +1,12 @@
 //! What rules are read from, as a trait.
 ghost use Rattle.std.specs.Prelude.{◌≡◌, IfOk, string_bytes};
 ghost use Rattle.std.specs.Arc.{arc_value};
-ghost use Rattle.walk_fs.specs.Views.{AnswersValue};
+ghost use Rattle.jwalk.specs.walk_fs.Views.{AnswersValue};
 ghost use Rattle.jwalk_ignore.specs.Texts.{Texts as Functions};
 
+use jwalk::file_system::Fault;
 use std::alloc::{AllocError, Allocator};
 use std::sync::Arc;
-use walk_fs::fault::Fault;
 
 /// What rules are read from: the bytes of files, whether a path exists, and absolute paths.
 ///

@@ -1,5 +1,5 @@
 //! A directory of the table. A clause sees it as a `Branch`.
-ghost use Rattle.std.specs.Prelude.{◌≡◌, [], map, None, MatchOption, OnOk, OnErr, string_bytes};
+ghost use Rattle.std.specs.Prelude.{◌≡◌, [], None, MatchOption, OnOk, OnErr, string_bytes};
 ghost use Rattle.std.specs.Option.{option_map};
 ghost use Rattle.memory_fs.specs.Branch.{child_named, with_child, without_name, with_parent, with_denied, listing_of, AreFound, PopsLast};
 ghost use Rattle.memory_fs.specs.Child.{child_seen};

@@ -1,6 +1,5 @@
 // The items of a directory while it is listed.
 ghost use Rattle.std.specs.Prelude.{◌≡◌, ◌+◌, ◌<◌, ◌^◌, [], ◌∷◌, ◌++◌, if◌then◌else◌};
-ghost use Rattle.read_parts.specs.Text.{text};
 ghost use Rattle.read_parts.specs.Ancestors.{texts};
 ghost use Rattle.read_parts.specs.ReadDirSpec.{spec};
 ghost use Rattle.jwalk_read.specs.Job.{options_of};

@@ -1,6 +1,4 @@
-use Rattle.std.proofs.Common.{◌++◌, ◌∷◌, [], cond, ap, ◌∙◌, sym, subst, map}
-use Rattle.walk_model.specs.Entry.{AtDepth}
-use Rattle.read_parts.specs.Entry.{item}
+use Rattle.std.proofs.Common.{◌++◌, ◌∷◌, [], cond, ap, ◌∙◌}
 use Rattle.read_parts.specs.Text.{text}
 use Rattle.read_parts.specs.Ancestors.{texts}
 use Rattle.read_parts.specs.Given.{counted_list}
