@@ -1,142 +1,80 @@
-//! Readings over a board, in turn and on threads.
-use crate::given::{self, Refusing, States, push_names, roots_of};
-use jwalk_engine::board_walk::BoardWalk;
-use jwalk_read::job::Job;
-use jwalk_read::read_dir::Outcome;
-use read_parts::process_read_dir::NoProcess;
+//! Walks over a plan that reads no directories.
+use crate::rehearsal::Family;
 use std::alloc::{AllocError, Global};
 use std::thread::Threads;
+use tree_walk::board_walk::BoardWalk;
+use tree_walk::whole::read_all;
 
-type Walk<'f> = BoardWalk<States, &'f Refusing, NoProcess>;
+// What a family gives in preorder.
+const PREORDER: [u8; 4] = [0, 1, 3, 2];
 
-/// Three directories with one in each.
-const TWINS: [&str; 7] = ["/r", "/r/a", "/r/a/x", "/r/b", "/r/b/x", "/r/c", "/r/c/x"];
-
-/// 33 directories with one in each, which are enough for two threads.
-const MANY: [&str; 67] = [
-    "/r", "/r/A", "/r/A/A", "/r/B", "/r/B/B", "/r/C", "/r/C/C", "/r/D", "/r/D/D", "/r/E", "/r/E/E",
-    "/r/F", "/r/F/F", "/r/G", "/r/G/G", "/r/a", "/r/a/a", "/r/b", "/r/b/b", "/r/c", "/r/c/c",
-    "/r/d", "/r/d/d", "/r/e", "/r/e/e", "/r/f", "/r/f/f", "/r/g", "/r/g/g", "/r/h", "/r/h/h",
-    "/r/i", "/r/i/i", "/r/j", "/r/j/j", "/r/k", "/r/k/k", "/r/l", "/r/l/l", "/r/m", "/r/m/m",
-    "/r/n", "/r/n/n", "/r/o", "/r/o/o", "/r/p", "/r/p/p", "/r/q", "/r/q/q", "/r/r", "/r/r/r",
-    "/r/s", "/r/s/s", "/r/t", "/r/t/t", "/r/u", "/r/u/u", "/r/v", "/r/v/v", "/r/w", "/r/w/w",
-    "/r/x", "/r/x/x", "/r/y", "/r/y/y", "/r/z", "/r/z/z",
-];
-
-/// These directories and no others. Memory runs out for the one at this path.
-fn tree(alloc: Global, dirs: &[&str], at: &'static str) -> Option<Refusing> {
-    let fs = given::tree(alloc, dirs)?;
-    Some(Refusing { fs, at })
-}
-
-/// A walk over all that is below the root, with that many directories read together; none without a width.
-fn walk(alloc: Global, fs: &Refusing, width: usize) -> Option<Walk<'_>> {
+fn whole_family(alloc: Global, width: usize) -> Option<Vec<u8>> {
     if width == 0 {
         return None;
     }
-    let job = Job::new(alloc, fs, NoProcess, true, true, false, usize::MAX);
-    let roots = roots_of(&job, "/r")?;
-    BoardWalk::try_new(alloc, job, roots, width).ok()
+    read_all(alloc, Family, vec![in alloc; 0_u8].ok()?, width).ok()
 }
 
-/// How the directories are read.
-#[derive(Clone, Copy)]
-enum By {
-    Turn,
-    Threads,
-}
-
-/// The next reading.
-fn next(
-    rt: &(impl Threads + Sync),
-    walk: &mut Walk<'_>,
-    by: By,
-) -> Result<Option<Outcome<States, Global>>, AllocError> {
-    match by {
-        By::Turn => walk.read_next(),
-        By::Threads => walk.read_next_on(rt),
+#[test]
+fn all_readings_of_a_family_however_many_together(rt: HostRuntime) {
+    for width in 1..5 {
+        let found = whole_family(rt.alloc(), width);
+        assert_eq!(rt; found.as_deref(), Some(PREORDER.as_slice()));
     }
 }
 
-/// Adds what comes next: the names in a reading, or that there is an error or that memory ran out, and after a colon
-/// how many others are ahead. None at the end.
-fn push_next(
-    text: &mut String,
-    next: Result<Option<Outcome<States, Global>>, AllocError>,
-    ahead: usize,
-) -> Option<()> {
+/// Adds a reading, or that memory ran out, and how many others are ahead. None at the end.
+fn push_next(text: &mut String, next: Result<Option<u8>, AllocError>, ahead: usize) -> Option<()> {
     match next {
-        Ok(Some(Ok(read))) => push_names(text, &read)?,
-        Ok(Some(Err(_error))) => text.push_str("error").ok()?,
-        Ok(None) => return None,
-        Err(_refused) => text.push_str("refused").ok()?,
+        Ok(read) => write!(text, "{}:{ahead} ", read?).ok(),
+        Err(_refused) => text.push_str("refused ").ok(),
     }
-    write!(text, ":{ahead} ").ok()
 }
 
-/// Whether a walk gives this: each reading, and after each how many others are ahead.
-fn gives(
-    rt: &(impl Threads + Sync),
-    alloc: Global,
-    fs: &Refusing,
-    width: usize,
-    by: By,
-    wanted: &str,
-) -> bool {
-    let Some(mut walk) = walk(alloc, fs, width) else {
-        return false;
-    };
+/// The readings of a family, two together on threads. In front of each is how many are ahead once it is prepared, and
+/// behind it how many after it was given.
+fn prepared(rt: &(impl Threads + Sync), alloc: Global) -> Option<String> {
+    let mut walk = BoardWalk::new(alloc, Family, 2);
+    walk.begin(vec![in alloc; 0_u8].ok()?).ok()?;
     let mut text = String::new(alloc);
-    for _ in 0..100 {
-        let next = next(rt, &mut walk, by);
+    for _ in 0..10 {
+        walk.prepare_on(rt).ok()?;
+        write!(text, "{}>", walk.ahead()).ok()?;
+        let next = walk.read_next();
         if push_next(&mut text, next, walk.ahead()).is_none() {
             break;
         }
     }
-    text.as_str() == wanted
+    Some(text)
 }
 
-/// Whether both ways of reading these directories give this, if memory runs out for the one at a path.
-fn both_give(
-    rt: &(impl Threads + Sync + AllocGlobal),
-    dirs: &[&str],
-    at: &'static str,
-    width: usize,
-    wanted: &str,
-) -> bool {
-    let alloc = rt.alloc();
-    match &tree(alloc, dirs, at) {
-        Some(fs) => {
-            gives(rt, alloc, fs, width, By::Turn, wanted)
-                && gives(rt, alloc, fs, width, By::Threads, wanted)
+#[test]
+fn the_next_is_ready_once_it_is_prepared(rt: HostRuntime) {
+    let text = prepared(&rt, rt.alloc());
+    assert_eq!(rt; text.as_deref(), Some("1>0:0 2>1:1 2>3:1 1>2:0 0>"));
+}
+
+/// The readings of a family, two together on threads, until the walk is stopped after some of them.
+fn stopped_after(rt: &(impl Threads + Sync), alloc: Global, count: usize) -> Option<String> {
+    let mut walk = BoardWalk::new(alloc, Family, 2);
+    walk.begin(vec![in alloc; 0_u8].ok()?).ok()?;
+    let mut text = String::new(alloc);
+    for step in 0..10 {
+        if step == count {
+            walk.stop();
         }
-        None => false,
+        let next = walk.read_next_on(rt);
+        if push_next(&mut text, next, walk.ahead()).is_none() {
+            break;
+        }
     }
+    Some(text)
 }
 
 #[test]
-fn directories_are_read_in_order_however_many_together(rt: HostRuntime) {
-    const ROWS: &[(usize, &str)] = &[
-        (1, "abc:0 x:0 :0 x:0 :0 x:0 :0 "),
-        (2, "abc:0 x:1 :2 x:1 :0 x:0 :0 "),
-        (8, "abc:0 x:2 :4 x:3 :2 x:1 :0 "),
-    ];
-    for (width, wanted) in ROWS {
-        assert!(rt; both_give(&rt, &TWINS, "", *width, wanted));
-    }
-}
-
-#[test]
-fn threads_read_a_wide_batch_in_order(rt: HostRuntime) {
-    let wanted = "ABCDEFGabcdefghijklmnopqrstuvwxyz:0 \
-                  A:32 :64 B:63 :62 C:61 :60 D:59 :58 E:57 :56 F:55 :54 G:53 :52 a:51 :50 b:49 :48 c:47 :46 d:45 :44 \
-                  e:43 :42 f:41 :40 g:39 :38 h:37 :36 i:35 :34 j:33 :32 k:31 :30 l:29 :28 m:27 :26 n:25 :24 o:23 :22 \
-                  p:21 :20 q:19 :18 r:17 :16 s:15 :14 t:13 :12 u:11 :10 v:9 :8 w:7 :6 x:5 :4 y:3 :2 z:1 :0 ";
-    assert!(rt; both_give(&rt, &MANY, "", 64, wanted));
-}
-
-#[test]
-fn a_refusal_in_the_middle_of_a_batch_ends_the_walk(rt: HostRuntime) {
-    let wanted = "ABCDEFGabcdefghijklmnopqrstuvwxyz:0 refused:0 ";
-    assert!(rt; both_give(&rt, &MANY, "/r/e", 64, wanted));
+fn a_walk_that_is_stopped_gives_nothing_more(rt: HostRuntime) {
+    let text = stopped_after(&rt, rt.alloc(), 2);
+    assert_eq!(rt; text.as_deref(), Some("0:0 1:1 "));
+    let text = stopped_after(&rt, rt.alloc(), 10);
+    assert_eq!(rt; text.as_deref(), Some("0:0 1:1 3:1 2:0 "));
 }

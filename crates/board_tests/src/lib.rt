@@ -2,6 +2,8 @@
 #![tactic(auto)]
 
 #[cfg(test)]
+mod batch_reads;
+#[cfg(test)]
 mod board;
 #[cfg(test)]
 mod board_walk;

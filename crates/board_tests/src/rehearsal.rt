@@ -6,7 +6,8 @@ use jwalk_order::ordered::Ordered;
 use std::alloc::Global;
 
 // A root 0 with the children 1 and 2, and 1 with the one child 3. A reading is the number.
-struct Family;
+#[derive(Drop)]
+pub(crate) struct Family;
 
 impl Plan<Global> for Family {
     ghost use Rattle.jwalk_board.specs.Rows.{family, family-falls};
@@ -15,7 +16,7 @@ impl Plan<Global> for Family {
 
     type Reading = u8;
 
-    ghost use Rattle.std.specs.Prelude.{ℕ};
+    ghost use Rattle.std.specs.Prelude.{ℕ, ◌≡◌, map};
 
     ghost Given = { Unit {0} };
 
@@ -29,9 +30,13 @@ impl Plan<Global> for Family {
 
     ghost IsLawful = { λ _. Unit {0} };
 
+    ghost IsReading = { λ _ s r below. (r ≡ family.reading s) × (map (λ c. c) below ≡ family.children s) };
+
     ghost IsFixed = { λ _ _. Unit {0} };
 
     ghost tree = { λ _ _. family };
+
+    ghost as_given = { λ _ _ _ _ is _ _. is };
 
     ghost falls = { λ _ _ _. family-falls };
 
@@ -50,7 +55,7 @@ struct Leaves;
 
 impl Plan<Global> for Leaves {
     ghost use Rattle.jwalk_board.specs.Rows.{family, family-falls};
-    ghost use Rattle.std.specs.Prelude.{ℕ};
+    ghost use Rattle.std.specs.Prelude.{ℕ, ◌≡◌};
 
     type Spec = u8;
 
@@ -68,9 +73,13 @@ impl Plan<Global> for Leaves {
 
     ghost IsLawful = { λ _. Unit {0} };
 
+    ghost IsReading = { λ _ s r _. r ≡ s };
+
     ghost IsFixed = { λ _ _. ⊥ };
 
     ghost tree = { λ _ _. family };
+
+    ghost as_given = { λ _ _ _ _ _ _ none. absurd none };
 
     ghost falls = { λ _ _ _. family-falls };
 

@@ -12,7 +12,7 @@ struct Levels {
 
 impl Plan<Global> for Levels {
     ghost use Rattle.jwalk_board.specs.Rows.{family, family-falls};
-    ghost use Rattle.std.specs.Prelude.{ℕ};
+    ghost use Rattle.std.specs.Prelude.{ℕ, ◌≡◌};
 
     type Spec = u8;
 
@@ -30,9 +30,13 @@ impl Plan<Global> for Levels {
 
     ghost IsLawful = { λ _. Unit {0} };
 
+    ghost IsReading = { λ _ s r _. r ≡ s };
+
     ghost IsFixed = { λ _ _. ⊥ };
 
     ghost tree = { λ _ _. family };
+
+    ghost as_given = { λ _ _ _ _ _ _ none. absurd none };
 
     ghost falls = { λ _ _ _. family-falls };
 

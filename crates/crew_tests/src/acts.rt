@@ -76,7 +76,7 @@ fn is_busy(found: Result<Vec<Answer>, AllocError>) -> bool {
 }
 
 /// Whether a walk yields that many entries.
-fn comes<S: FileSystem, L: Pool<States, S, NoProcess, Global>>(
+pub fn comes<S: FileSystem, L: Pool<States, S, NoProcess, Global>>(
     walk: &mut PoolWalk<S, L>,
     count: usize,
 ) -> bool {
@@ -89,7 +89,7 @@ fn comes<S: FileSystem, L: Pool<States, S, NoProcess, Global>>(
 }
 
 /// Whether within some seconds that many readings are ahead for a walk.
-fn come_ahead<S: FileSystem, L: Pool<States, S, NoProcess, Global>>(
+pub fn come_ahead<S: FileSystem, L: Pool<States, S, NoProcess, Global>>(
     clock: &impl Clock,
     walk: &PoolWalk<S, L>,
     count: usize,
@@ -139,7 +139,7 @@ impl CountsLists for Watched {
 }
 
 /// Whether no directory is listed any more for a while, within some seconds.
-fn rests(clock: &impl Clock, fs: &impl CountsLists) -> bool {
+pub fn rests(clock: &impl Clock, fs: &impl CountsLists) -> bool {
     let mut lists = fs.lists_so_far();
     let mut still: usize = 0;
     for _ in 0..5_000 {

@@ -4,6 +4,8 @@
 #[cfg(test)]
 mod acts;
 #[cfg(test)]
+mod bound;
+#[cfg(test)]
 mod busy;
 #[cfg(test)]
 mod crewed;

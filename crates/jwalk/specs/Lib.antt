@@ -17,6 +17,7 @@ pub use Rattle.jwalk_read.specs as jwalk_read
 pub use Rattle.jwalk_process.specs as jwalk_process
 pub use Rattle.jwalk_order.specs as jwalk_order
 pub use Rattle.jwalk_board.specs as jwalk_board
+pub use Rattle.tree_walk.specs as tree_walk
 pub use Rattle.jwalk_engine.specs as jwalk_engine
 pub use Rattle.jwalk_crew.specs as jwalk_crew
 pub use Rattle.crew_parts.specs as crew_parts

@@ -6,5 +6,6 @@ pub use real_fs::real_fs::RealFs;
 pub use walk_fs::fault::Fault;
 pub use walk_fs::file_system::FileSystem;
 pub use walk_fs::listed::Listed;
+pub use walk_fs::sink::Sink;
 pub use walk_model::file_type::FileType;
 pub use walk_model::metadata::Metadata;

@@ -7,3 +7,4 @@ pub mod Rows
 pub mod Run
 pub mod Seen
 pub mod Stage
+pub mod Next

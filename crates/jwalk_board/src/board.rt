@@ -4,6 +4,7 @@ ghost use Rattle.std.specs.List.Sorted.{IsPermutation};
 ghost use Rattle.jwalk_order.specs.IndexPath.{address as indices_of};
 ghost use Rattle.jwalk_order.specs.Addressed.{numbered};
 ghost use Rattle.jwalk_board.specs.Board.{Finishes, HandsOut, HoldsOpen, IsNew, IsNextReady, IsWhole, Takes};
+ghost use Rattle.jwalk_board.specs.Next.{IsNextQueued};
 ghost use Rattle.jwalk_board.specs.Refusal.{RefusesFinish, RefusesHandOut, RefusesTake};
 
 use jwalk_order::address_heap::AddressHeap;
@@ -229,6 +230,17 @@ impl<T: Drop, R: Drop, A: Allocator + Copy> Board<T, R, A> {
             return false;
         };
         !self.matcher.is_none() && least.index_path == *self.matcher.looking_for()
+    }
+
+    /// Returns whether the specification at the next address is queued. It is taken next, unless the board is stopped or
+    /// memory runs out.
+    pub fn is_next_queued(&self) -> bool
+        ensures { IsTrue result ↔ IsNextQueued self.now }
+    {
+        let Some(first) = self.queued.least() else {
+            return false;
+        };
+        !self.matcher.is_none() && *first == *self.matcher.looking_for()
     }
 
     /// Stops the board: every later step fails with `Stopped`.

@@ -2,3 +2,4 @@ pub mod DueFacts
 pub mod OriginFacts
 mod HandledFacts
 mod SharedFacts
+mod PaceFacts

@@ -1,5 +1,5 @@
 -- A board that comes from where a walk began stays so at each step on it. Only a hand-out changes what it still has to hand out.
-use Rattle.std.proofs.Common.{◌≡◌, true, inl, inr, sym, ap, subst, Result, Ok, Err, OnOk, OnErr, List, ℕ}
+use Rattle.std.proofs.Common.{◌≡◌, Bool, true, inl, inr, sym, ap, subst, Result, Ok, Err, OnOk, OnErr, List, ℕ}
 use Rattle.std.specs.declared.clone.Clone as Clone
 use Rattle.std.specs.declared.default.Default as Default
 use Rattle.walk_fs.specs.declared.file_system.FileSystem as FileSystem
@@ -17,16 +17,19 @@ use Rattle.crew_parts.specs.Message.{Message}
 use Rattle.jwalk_crew.specs.Origin.{Origin, IsBoardOf, IsMadeAt}
 use Rattle.jwalk_crew.specs.Shared.{IsTurnOf, IsArrivalOf}
 use Rattle.jwalk_crew.specs.Steps.{Turns}
+use Rattle.jwalk_crew.specs.Pace.{IsWithin}
+use Rattle.jwalk_crew.proofs.PaceFacts.{handed_within, same_within}
 use Rattle.jwalk_crew.proofs.OriginFacts.{taken_of, handed_of, finished_of, stopped_of}
 
 module _ {S R : Type 0} (old new : Board S R) where
   pub stopped_frontier : new ≡ record old { stopped = true } → new.frontier ≡ old.frontier
   stopped_frontier is = ap (λ b. b.frontier) is
 
-  pub turned_frontier : {A : Type 0} (t : Turn S A) → Turns old t new → new.frontier ≡ old.frontier
-  turned_frontier (turn.Read item) takes = ap (λ b. b.frontier) takes.others
-  turned_frontier turn.Wait refused = ap (λ b. b.frontier) refused.1
-  turned_frontier turn.End ends = elim ends [
+  pub turned_frontier : {A : Type 0} (limit : ℕ) (rests : Bool) (t : Turn S A) → Turns limit rests old t new → new.frontier ≡ old.frontier
+  turned_frontier limit rests (turn.Read item) takes = ap (λ b. b.frontier) takes.1.others
+  turned_frontier limit rests turn.Wait refused = ap (λ b. b.frontier) refused.1
+  turned_frontier limit rests turn.Rest held = ap (λ b. b.frontier) held.1
+  turned_frontier limit rests turn.End ends = elim ends [
     | inl refused ↦ ap (λ b. b.frontier) refused.1
     | inr stopped ↦ stopped_frontier stopped.1
   ]
@@ -40,10 +43,11 @@ module _ {C S P A R E : Type 0} (files : FileSystem.Ghosts S) (process : Process
   pub same_of : new ≡ old → IsBoardOf files process clone defaults origin new
   same_of is = subst (IsBoardOf files process clone defaults origin) (sym is) of
 
-  pub turned_of : (t : Turn (ReadDirSpec C A R E) A) → Turns old t new → IsTurnOf files process clone defaults origin t × IsBoardOf files process clone defaults origin new
-  turned_of (turn.Read item) takes = taken_of files process clone defaults origin old new of item takes
-  turned_of turn.Wait refused = (tt, same_of refused.1)
-  turned_of turn.End ends = elim ends [
+  pub turned_of : (limit : ℕ) (rests : Bool) (t : Turn (ReadDirSpec C A R E) A) → Turns limit rests old t new → IsTurnOf files process clone defaults origin t × IsBoardOf files process clone defaults origin new
+  turned_of limit rests (turn.Read item) takes = taken_of files process clone defaults origin old new of item takes.1
+  turned_of limit rests turn.Wait refused = (tt, same_of refused.1)
+  turned_of limit rests turn.Rest held = (tt, same_of held.1)
+  turned_of limit rests turn.End ends = elim ends [
     | inl refused ↦ (tt, same_of refused.1)
     | inr stopped ↦ (tt, stopped_of files process clone defaults origin old new of stopped.1)
   ]
@@ -65,6 +69,21 @@ module _ {C S P A R E : Type 0} (files : FileSystem.Ghosts S) (process : Process
     | inr gives ↦ handed_board gives.item gives.hands_out
   ]
   arrived_board wanted Wait comes = same_of comes.unchanged
+
+  pub arrived_within : (limit : ℕ) (wanted : Wanted A) (a : Arrival C S P A R E) → Arrives old wanted a new → IsWithin limit old → IsWithin limit new
+  arrived_within limit wanted (Entered item) comes within = handed_within limit old new item comes.0 within
+  arrived_within limit wanted Memory comes within = elim comes [
+    | inl refused ↦ same_within limit old new refused.unchanged within
+    | inr others ↦ elim others [
+      | inl refused ↦ same_within limit old new refused.unchanged within
+      | inr gives ↦ handed_within limit old new gives.item gives.hands_out within
+    ]
+  ]
+  arrived_within limit wanted Lost comes within = elim comes [
+    | inl refused ↦ same_within limit old new refused.unchanged within
+    | inr gives ↦ handed_within limit old new gives.item gives.hands_out within
+  ]
+  arrived_within limit wanted Wait comes within = same_within limit old new comes.unchanged within
 
   pub arrived_of : (wanted : Wanted A) (a : Arrival C S P A R E) → Arrives old wanted a new → IsArrivalOf files process clone defaults origin old.frontier wanted a new.frontier
   arrived_of wanted (Entered item) comes = record {

@@ -1,5 +1,5 @@
 -- What one hold of their lock does to the board that a walk and its workers share.
-use Rattle.std.specs.Prelude.{◌≡◌, ◌⊎◌, ℕ, true, List, Option, Some, None, option_map, Result, Ok, Err, box_value, IsTrue, length}
+use Rattle.std.specs.Prelude.{◌≡◌, ◌⊎◌, ℕ, Bool, true, List, Option, Some, None, option_map, Result, Ok, Err, box_value, IsTrue, length}
 use Rattle.keyed_slot.specs.Keyed.{receipt_of, IsReceiptOf, IsAbsenceOf}
 use Rattle.keyed_slot.specs.declared.slot.Absence.{Absence}
 use Rattle.keyed_slot.specs.declared.slot.KeyedSlot.{KeyedSlot}
@@ -16,7 +16,9 @@ use Rattle.jwalk_crew.specs.declared.hand_in.HandIn.{HandIn}
 use Rattle.jwalk_crew.specs.declared.sleepers.Sleepers.{Sleepers}
 use Rattle.jwalk_crew.specs.declared.steps.Calls.{Calls}
 use Rattle.jwalk_crew.specs.declared.steps.Turn.{Turn}
+use Rattle.jwalk_crew.specs.declared.steps.Turn.TheVariants.{End}
 use Rattle.jwalk_crew.specs.declared.work.Work.{Work}
+use Rattle.jwalk_crew.specs.Pace.{CountsTakers}
 use Rattle.jwalk_crew.specs.Steps.{Turns}
 
 module _ {T R : Type 0} where
@@ -28,9 +30,10 @@ module _ {T R : Type 0} where
   abbrev pub FinishesOrStops : List ℕ → R → List T → Board T R → Board T R → Type 0
   FinishesOrStops a reading children old new = Finishes a reading children old new ⊎ Stops old new
 
-  -- A worker's turn, which calls the walk where its next reading is ready.
-  pub record TurnsAndCalls {A : Type 0} (turn : Turn T A) (calls : Calls) (old new : Board T R) : Type 0 where
-    pub turns : Turns old turn new
+  -- A worker's turn at a pace. It calls as many workers as may take something then, if there will be another turn, and the walk where its next reading is ready.
+  pub record TurnsAndCalls {A : Type 0} (limit : ℕ) (rests : Bool) (turn : Turn T A) (calls : Calls) (old new : Board T R) : Type 0 where
+    pub turns : Turns limit rests old turn new
+    pub calls_workers : ¬ (turn ≡ End) → CountsTakers limit rests new calls.workers
     pub calls_walk : IsNextReady new → IsTrue calls.walk
 
   -- How many readings are ready.

@@ -5,3 +5,5 @@ pub mod Steps
 pub mod Crew
 pub mod Session
 pub mod Handled
+pub mod Pace
+pub mod Ground

@@ -26,6 +26,7 @@ module _ {C S P A R E : Type 0} (files : FileSystem.Ghosts S) (process : Process
   abbrev pub IsTurnOf : Turn (ReadDirSpec C A R E) A → Type 0
   IsTurnOf (turn.Read item) = IsAt files process clone defaults origin (address_of item) (spec item.value)
   IsTurnOf turn.Wait = Unit {0}
+  IsTurnOf turn.Rest = Unit {0}
   IsTurnOf turn.End = Unit {0}
 
   -- The awaited reading came, by the walk's own job and of the directory at its address. These addresses were awaited before it, and those are after it.

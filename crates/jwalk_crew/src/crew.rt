@@ -1,22 +1,31 @@
 //! A crew, which serves several walks at once.
 ghost use Rattle.std.specs.Prelude.{◌≡◌, min, max};
-ghost use Rattle.jwalk_crew.specs.Crew.{workers_of};
+ghost use Rattle.jwalk_crew.specs.Crew.{limit_of, workers_of};
 
 use crate::waiting::Patience;
 use crew_parts::places::Places;
 use std::alloc::{AllocError, Allocator, Global};
+use std::sync::atomic::{AtomicUsize, Ordering};
 use std::sync::{Arc, Condvar, Mutex, Wait};
 use std::time::{Clock, Duration};
 
 /// The most workers that a walk is given.
 const MOST_WORKERS: usize = 256;
 
+/// How many readings the workers of a walk make ahead, if nothing else is said.
+const READ_AHEAD: usize = 1024;
+
 /// Workers that read ahead for several walks at once. Each walk has the same number of workers of its own.
+///
+/// How far they read ahead is bounded: they take no directory while 1,024 readings of a walk are made and not handed on,
+/// or in hand, but for the one that the walk needs next. `with_read_ahead` sets another bound.
 pub struct Crew<R> {
     pub(crate) rt: R,
     places: Mutex<Places>,
     freed: Condvar,
     workers: usize,
+    read_ahead: usize,
+    late: AtomicUsize,
 }
 
 impl<R: Drop> Drop for Crew<R> {
@@ -26,6 +35,8 @@ impl<R: Drop> Drop for Crew<R> {
             places: _,
             freed: _,
             workers: _,
+            read_ahead: _,
+            late: _,
         } = self;
     }
 }
@@ -35,14 +46,28 @@ impl<R: Wait + Clock> Crew<R> {
     /// and more than 256 workers count as 256. (Where a walk has a crew of its own, by the builder's `workers`, 0 is the
     /// number of threads that can run side by side.)
     pub fn new(rt: R, places: usize, workers: usize) -> Self
-        ensures { workers_of result ≡ max 1 (min workers 256) }
+        ensures workers { workers_of result ≡ max 1 (min workers 256) }
+        ensures read_ahead { limit_of result ≡ 1024 }
     {
         Crew {
             rt,
             places: Mutex::new(Places::new(places)),
             freed: Condvar::new(),
             workers: workers.clamp(1, MOST_WORKERS),
+            read_ahead: READ_AHEAD,
+            late: AtomicUsize::new(0),
         }
+    }
+
+    /// Returns the same crew, whose workers take no directory while this many readings of a walk are ready or in hand,
+    /// but for the one that the walk needs next. Once that many are, they go on when half of them are handed on. A number
+    /// below that of a walk's workers counts as theirs.
+    pub fn with_read_ahead(mut self, readings: usize) -> Self
+        ensures workers { workers_of result ≡ workers_of self }
+        ensures read_ahead { limit_of result ≡ max readings (workers_of self) }
+    {
+        self.read_ahead = readings.max(self.workers);
+        self
     }
 
     /// Returns how many walks the crew serves now. It may block for a lock.
@@ -51,11 +76,31 @@ impl<R: Wait + Clock> Crew<R> {
         places.in_use()
     }
 
+    /// Returns how often a worker or a walk slept until its turn of 50 milliseconds was over though there was something
+    /// to do, and nobody had called it. There are none but by a mistake of this crate.
+    pub fn late_wakes(&self) -> usize {
+        self.late.load(Ordering::SeqCst)
+    }
+
+    /// Counts one of these, if it is one.
+    pub(crate) fn count_late(&self, late: bool) {
+        if late {
+            self.late.fetch_add(1, Ordering::SeqCst);
+        }
+    }
+
     /// Returns how many threads a walk is given, unless fewer can be started.
     pub(crate) fn workers(&self) -> usize
         ensures { result ≡ workers_of self.now }
     {
         self.workers
+    }
+
+    /// Returns how many readings of a walk may be ready or in hand. The next one may be one more.
+    pub(crate) fn read_ahead(&self) -> usize
+        ensures { result ≡ limit_of self.now }
+    {
+        self.read_ahead
     }
 
     /// Blocks until a place is free, and takes it. Returns false if none was free within the limit.
@@ -134,7 +179,10 @@ impl<R: Wait + Clock + Drop, A: Allocator + Copy> Place<R, A> {
         }
     }
 
-    pub(crate) fn crew(&self) -> &Arc<Crew<R>, A> {
+    /// Returns the crew that the place is of.
+    pub(crate) fn crew(&self) -> &Arc<Crew<R>, A>
+        ensures { result.now ≡ self.now.crew }
+    {
         &self.crew
     }
 }

@@ -2,8 +2,10 @@
 #![tactic(auto)]
 
 pub mod crew;
+mod ground;
 mod hand_in;
 pub mod origin;
+mod pace;
 pub mod pool;
 pub mod session;
 mod shared;

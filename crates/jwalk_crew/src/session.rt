@@ -1,9 +1,11 @@
 //! A walk over a crew.
 ghost use Rattle.std.specs.Prelude.{◌≡◌, false, IfOk, length, map};
 ghost use Rattle.std.specs.Arc.{arc_value};
-ghost use Rattle.keyed_slot.specs.Keyed.{tag_of, key_mark, is_out, Opens};
+ghost use Rattle.keyed_slot.specs.Keyed.{key_mark, is_out, Opens};
 ghost use Rattle.jwalk_read.specs.Job.{callback};
 ghost use Rattle.read_parts.specs.ReadDirSpec.{spec};
+ghost use Rattle.jwalk_crew.specs.Crew.{limit_of};
+ghost use Rattle.jwalk_crew.specs.Ground.{origin_at};
 ghost use Rattle.jwalk_crew.specs.Origin.{CountAlike};
 ghost use Rattle.jwalk_crew.specs.Shared.{IsAnswerOf};
 
@@ -80,19 +82,25 @@ fn wait_for<
     ensures opens { Opens key.new shared.now.work }
     ensures home { is_out key.new ≡ false }
     ensures answer { IsAnswerOf S.FileSystem P.ProcessReadDir C.ReadDirState.Clone C.DirEntryState.Default
-        (tag_of shared.now.work) (key_mark key.old) wanted.now result (key_mark key.new) }
+        (origin_at shared.now.work) (key_mark key.old) wanted.now result (key_mark key.new) }
 {
     let rt = &shared.crew.rt;
     let mut sleepers = shared.sleepers.lock(rt);
     for _ in rt.forever() {
-        match shared.arrival(&sleepers, key, wanted) {
-            Arrival::Entered(item) => return Ok(item),
+        let (arrival, calls) = shared.arrival(&mut sleepers, key, wanted);
+        match arrival {
+            Arrival::Entered(item) => {
+                drop(sleepers);
+                shared.call(calls);
+                return Ok(item);
+            }
             Arrival::Memory => return Err(Missed::Memory),
             Arrival::Lost => return Err(Missed::Lost),
             Arrival::Wait => {
-                sleepers.set_walk(true);
-                sleepers = wait_a_turn(rt, &shared.arrived, sleepers);
-                sleepers.set_walk(false);
+                sleepers.add_walk();
+                let (woken, timed_out) = wait_a_turn(rt, &shared.arrived, sleepers);
+                sleepers = woken;
+                sleepers.remove_walk(timed_out);
             }
         }
     }
@@ -106,8 +114,8 @@ impl<
     P: ProcessReadDir<C, A>,
     A: Allocator + Copy,
 > Pool<C, S, P, A> for Session<R, C, S, P, A> {
-    ghost use Rattle.std.specs.Prelude.{◌≡◌};
-    ghost use Rattle.jwalk_crew.specs.Session.{origin_of, awaited_by};
+    ghost use Rattle.std.specs.Prelude.{◌≡◌, ◌+◌, ◌≤◌};
+    ghost use Rattle.jwalk_crew.specs.Session.{origin_of, awaited_by, read_ahead_of};
 
     ghost comes_from = { λ session origin. origin_of session ≡ origin };
 
@@ -117,7 +125,9 @@ impl<
         wait_for(&*self.shared, &mut self.key, wanted)
     }
 
-    fn ahead(&self) -> usize {
+    fn ahead(&self) -> usize
+        ensures { result ≤ read_ahead_of self.now + 1 }
+    {
         let mut sleepers = self.shared.sleepers.lock(&self.shared.crew.rt);
         let (ready, _receipt) = self.shared.ready(&mut sleepers);
         drop(sleepers);
@@ -137,7 +147,7 @@ where
     C::DirEntryState: Send + 'static,
 {
     ghost use Rattle.jwalk_order.specs.Frontier.{roots as root_addresses};
-    ghost use Rattle.jwalk_crew.specs.Session.{origin_of, awaited_by};
+    ghost use Rattle.jwalk_crew.specs.Session.{origin_of, awaited_by, read_ahead_of};
 
     /// Starts the workers of a walk that has a place. From then on they read these directories, and those below them.
     /// The directories are clones of those that the walk begins with.
@@ -153,6 +163,7 @@ where
         requires lawful { P.IsLawful (callback origin.now.job) }
         requires alike { CountAlike C.ReadDirState.Clone (map spec roots.items) origin.now.roots }
         ensures origin { IfOk result (λ session. origin_of session ≡ origin.now) }
+        ensures read_ahead { IfOk result (λ session. read_ahead_of session ≡ limit_of (arc_value place.crew)) }
         ensures awaits { IfOk result (λ session. awaited_by session ≡ root_addresses (length roots.items)) }
     {
         let alloc = *roots.allocator();

@@ -1,9 +1,8 @@
 //! What a walk and its workers share, and their steps on its board.
-ghost use Rattle.std.specs.Prelude.{◌≡◌, true, false, IfOk, IfErr, box_value, length, map};
+ghost use Rattle.std.specs.Prelude.{◌≡◌, ◌+◌, ◌≤◌, true, false, IfOk, IfErr, box_value, length, map};
 ghost use Rattle.std.specs.Arc.{arc_value};
 ghost use Rattle.std.specs.Sync.Mutex.{mutex_guard_value};
 ghost use Rattle.keyed_slot.specs.Keyed.{
-  tag_of,
   key_mark,
   is_out,
   loan_mark,
@@ -18,6 +17,8 @@ ghost use Rattle.keyed_slot.specs.Keyed.{
 ghost use Rattle.jwalk_order.specs.Frontier.{roots as root_addresses};
 ghost use Rattle.jwalk_order.specs.IndexPath.{address as indices_of};
 ghost use Rattle.read_parts.specs.ReadDirSpec.{spec};
+ghost use Rattle.jwalk_crew.specs.Crew.{limit_of};
+ghost use Rattle.jwalk_crew.specs.Ground.{limit_at, origin_at};
 ghost use Rattle.jwalk_crew.specs.Handled.{
   board_in,
   ArrivesOrIsOut,
@@ -29,11 +30,14 @@ ghost use Rattle.jwalk_crew.specs.Handled.{
   TurnsAndCalls,
 };
 ghost use Rattle.jwalk_crew.specs.Origin.{CountAlike, IsBoardOf, IsMadeAt};
+ghost use Rattle.jwalk_crew.specs.Pace.{IsWithin};
 ghost use Rattle.jwalk_crew.specs.Shared.{IsArrivalOf, IsTurnOf};
 
 use crate::crew::Crew;
+use crate::ground::Ground;
 use crate::hand_in::HandIn;
 use crate::origin::Origin;
+use crate::pace::Pace;
 use crate::sleepers::Sleepers;
 use crate::steps::{Calls, Turn, new_board, take_turn};
 use crate::work::{Handled, SharedBoard, TakenOut, Work};
@@ -50,6 +54,12 @@ use std::time::Clock;
 use walk_fs::file_system::FileSystem;
 
 /// What a walk and its workers share.
+///
+/// While the walk waits somebody works. The reading that it waits for is in one of three places. It is ready: the walk
+/// takes it. Or it is in hand: its worker comes back, and calls the walk. Or it is queued: then it is the least that is,
+/// and no more than the limit are ready or in hand, since one more are only while the next reading is among them. So a
+/// worker may take it, whatever the pace is. It came next by a hand-out, which called a worker if all slept; and a worker
+/// that doesn't sleep has a turn before it does.
 pub(crate) struct Shared<
     R: Wait + Clock + Drop,
     C: ClientState,
@@ -68,7 +78,7 @@ pub(crate) struct Shared<
     pub(crate) queued: Condvar,
     /// Notified when the walk's next reading is ready, or none will be.
     pub(crate) arrived: Condvar,
-    ghost own: { arc_value job ≡ (tag_of work).job },
+    ghost own: { (arc_value job ≡ (origin_at work).job) × (limit_of (arc_value crew) ≡ limit_at work) },
 }
 
 impl<
@@ -105,7 +115,8 @@ impl<
         roots: Vec<ReadDirSpec<C, A>, A>,
     ) -> Result<(Self, Key<Work<C, S, P, A>>), AllocError>
         requires { CountAlike C.ReadDirState.Clone (map spec roots.items) origin.now.roots }
-        ensures origin { IfOk result (λ made. tag_of made.0.work ≡ origin.now) }
+        ensures origin { IfOk result (λ made. origin_at made.0.work ≡ origin.now) }
+        ensures limit { IfOk result (λ made. limit_at made.0.work ≡ limit_of (arc_value crew.now)) }
         ensures opens { IfOk result (λ made. Opens made.1 made.0.work) }
         ensures home { IfOk result (λ made. is_out made.1 ≡ false) }
         ensures mark { IfOk result (λ made. key_mark made.1 ≡ root_addresses (length roots.items)) }
@@ -114,7 +125,8 @@ impl<
         let job = origin.job().clone()?;
         let alloc = *roots.allocator();
         let board = new_board(roots)?;
-        let (work, key) = KeyedSlot::new(alloc, Work::new(board), origin)?;
+        let ground = Ground::of(origin, crew.read_ahead());
+        let (work, key) = KeyedSlot::new(alloc, Work::new(board), &ground)?;
         let shared = Shared {
             crew,
             job,
@@ -130,7 +142,8 @@ impl<
     /// board that is missed is noted under the lock, and then the walk ends.
     fn take_out(&self, held: &mut MutexGuard<'_, Sleepers>) -> TakenOut<C, S, P, A>
         ensures board { IfOk result (λ taken. IsBoardOf S.FileSystem P.ProcessReadDir C.ReadDirState.Clone
-            C.DirEntryState.Default (tag_of self.now.work) (box_value taken.0)) }
+            C.DirEntryState.Default (origin_at self.now.work) (box_value taken.0)) }
+        ensures within { IfOk result (λ taken. IsWithin (limit_at self.now.work) (box_value taken.0)) }
         ensures mark { IfOk result (λ taken. loan_mark taken.1 ≡ (box_value taken.0).frontier) }
         ensures owed { IfOk result (λ taken. IsOwed taken.1 self.now.work) }
         ensures lent { IfOk result (λ taken. board_in (lent taken.1) ≡ Some (box_value taken.0)) }
@@ -154,7 +167,8 @@ impl<
         loan: Loan<Work<C, S, P, A>>,
     ) -> Receipt<Work<C, S, P, A>>
         requires board { IsBoardOf S.FileSystem P.ProcessReadDir C.ReadDirState.Clone C.DirEntryState.Default
-            (tag_of self.now.work) (box_value board) }
+            (origin_at self.now.work) (box_value board) }
+        requires within { IsWithin (limit_at self.now.work) (box_value board) }
         requires mark { (box_value board).frontier ≡ loan_mark loan }
         requires owed { IsOwed loan self.now.work }
         ensures slot { IsReceiptOf result self.now.work }
@@ -171,7 +185,7 @@ impl<
         read: HandIn<C, S, P, A>,
     ) -> Handled<C, S, P, A>
         requires { IsMadeAt S.FileSystem P.ProcessReadDir C.ReadDirState.Clone C.DirEntryState.Default
-            (tag_of self.now.work) (indices_of read.address) read.message read.children.items }
+            (origin_at self.now.work) (indices_of read.address) read.message read.children.items }
         ensures handed_in { IfOk result (IsReceiptFor self.now.work (FinishesOrStops (indices_of read.address)
             read.message read.children.items)) }
         ensures absent { IfErr result (IsMissed self.now.work (mutex_guard_value held.new)) }
@@ -194,66 +208,78 @@ impl<
         held: &mut MutexGuard<'_, Sleepers>,
     ) -> (Turn<ReadDirSpec<C, A>, A>, Calls, Handled<C, S, P, A>)
         ensures turn { IsTurnOf S.FileSystem P.ProcessReadDir C.ReadDirState.Clone C.DirEntryState.Default
-            (tag_of self.now.work) result.0 }
-        ensures handled { IfOk result.2 (IsReceiptFor self.now.work (TurnsAndCalls result.0 result.1)) }
+            (origin_at self.now.work) result.0 }
+        ensures handled { IfOk result.2 (IsReceiptFor self.now.work (TurnsAndCalls (limit_at self.now.work)
+            (mutex_guard_value held.old).rests result.0 result.1)) }
         ensures absent { IfErr result.2 (IsMissed self.now.work (mutex_guard_value held.new)) }
     {
+        let pace = Pace::new(self.crew.read_ahead(), held.rests());
         let (mut board, loan) = match self.take_out(held) {
             Ok(taken) => taken,
             Err(absence) => return (Turn::End, Calls::all(), Err(absence)),
         };
-        let turn = take_turn(&mut *board);
-        let calls = Calls::after_turn(&*board, &turn);
+        let turn = take_turn(&mut *board, pace);
+        held.note_turn(&turn);
+        self.crew.count_late(held.has_overslept(turn.is_found()));
+        let calls = Calls::after_turn(&*board, &turn, pace);
         (turn, calls, Ok(self.put_back(held, board, loan)))
     }
 
-    /// Asks the board for the reading that is wanted, by the walk's key. Where the board is out, the walk ends.
+    /// Asks the board for the reading that is wanted, by the walk's key, and returns which workers that calls. Where the
+    /// board is out, the walk ends.
     fn arrival_on_board(
         &self,
+        held: &mut MutexGuard<'_, Sleepers>,
         key: &mut Key<Work<C, S, P, A>>,
         wanted: &Wanted<A>,
-    ) -> Arrival<C, S, P, A>
+    ) -> (Arrival<C, S, P, A>, Calls)
         requires opens { Opens key.old self.now.work }
         requires home { is_out key.old ≡ false }
         ensures opens { Opens key.new self.now.work }
         ensures home { is_out key.new ≡ false }
         ensures arrival { IsArrivalOf S.FileSystem P.ProcessReadDir C.ReadDirState.Clone C.DirEntryState.Default
-            (tag_of self.now.work) (key_mark key.old) wanted.now result (key_mark key.new) }
-        ensures handled { ArrivesOrIsOut wanted.now result (handled key.old) (handled key.new) }
+            (origin_at self.now.work) (key_mark key.old) wanted.now result.0 (key_mark key.new) }
+        ensures handled { ArrivesOrIsOut wanted.now result.0 (handled key.old) (handled key.new) }
+        ensures missed { (mutex_guard_value held.new).board_missed ≡ (mutex_guard_value held.old).board_missed }
     {
         let Some(work) = self.work.take_with(key) else {
-            return Arrival::Memory;
+            return (Arrival::Memory, Calls::none());
         };
         let mut board = work.into_board();
         let arrival = arrive(&mut *board, wanted);
+        let came = matches!(arrival, Arrival::Entered(_));
+        self.crew.count_late(held.has_overslept(came));
+        let calls = held.after_arrival(came, &*board, self.crew.read_ahead());
         self.work.put_back_with(Work::new(board), key);
-        arrival
+        (arrival, calls)
     }
 
-    /// Asks the board for the reading that is wanted, by the walk's key. Once the board was missed the walk doesn't
-    /// wait: it ends as where the board is stopped.
+    /// Asks the board for the reading that is wanted, by the walk's key, and returns which workers that calls. Once the
+    /// board was missed the walk doesn't wait: it ends as where the board is stopped.
     pub(crate) fn arrival(
         &self,
-        held: &MutexGuard<'_, Sleepers>,
+        held: &mut MutexGuard<'_, Sleepers>,
         key: &mut Key<Work<C, S, P, A>>,
         wanted: &Wanted<A>,
-    ) -> Arrival<C, S, P, A>
+    ) -> (Arrival<C, S, P, A>, Calls)
         requires opens { Opens key.old self.now.work }
         requires home { is_out key.old ≡ false }
         ensures opens { Opens key.new self.now.work }
         ensures home { is_out key.new ≡ false }
         ensures arrival { IsArrivalOf S.FileSystem P.ProcessReadDir C.ReadDirState.Clone C.DirEntryState.Default
-            (tag_of self.now.work) (key_mark key.old) wanted.now result (key_mark key.new) }
-        ensures missed { (mutex_guard_value held.now).board_missed ≡ true → ¬ (result ≡ Arrival.Wait) }
+            (origin_at self.now.work) (key_mark key.old) wanted.now result.0 (key_mark key.new) }
+        ensures missed { (mutex_guard_value held.old).board_missed ≡ true → ¬ (result.0 ≡ Arrival.Wait) }
     {
-        match self.arrival_on_board(key, wanted) {
-            Arrival::Wait if held.board_missed() => Arrival::Memory,
-            arrival => arrival,
+        let (arrival, calls) = self.arrival_on_board(held, key, wanted);
+        match arrival {
+            Arrival::Wait if held.board_missed() => (Arrival::Memory, calls),
+            arrival => (arrival, calls),
         }
     }
 
     /// How many readings are ready. The receipt is for the board as it was.
     pub(crate) fn ready(&self, held: &mut MutexGuard<'_, Sleepers>) -> (usize, Handled<C, S, P, A>)
+        ensures most { result.0 ≤ limit_at self.now.work + 1 }
         ensures handled { IfOk result.1 (IsReceiptFor self.now.work (Counts result.0)) }
         ensures absent { IfErr result.1 (IsMissed self.now.work (mutex_guard_value held.new)) }
     {

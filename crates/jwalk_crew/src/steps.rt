@@ -1,9 +1,11 @@
 //! A new board, and what a worker does on it, one step each.
-ghost use Rattle.std.specs.Prelude.{◌≡◌, ◌↔◌, length, box_value, true, IsTrue, IfOk, OnErr, OnOk};
+ghost use Rattle.std.specs.Prelude.{◌≡◌, ◌↔◌, box_value, true, IsTrue, IfOk, OnErr, OnOk};
 ghost use Rattle.jwalk_order.specs.IndexPath.{address as indices_of};
 ghost use Rattle.jwalk_board.specs.Board.{Finishes, IsNew, IsNextReady};
+ghost use Rattle.jwalk_crew.specs.Pace.{CountsTakers};
 ghost use Rattle.jwalk_crew.specs.Steps.{Turns};
 
+use crate::pace::Pace;
 use jwalk_board::board::{Board, FinishFault, TakeRefusal};
 use jwalk_order::index_path::IndexPath;
 use jwalk_order::ordered::Ordered;
@@ -32,16 +34,32 @@ pub(crate) enum Turn<T, A: Allocator + Copy> {
     Read(Ordered<T, A>),
     /// It blocks, since others may find more.
     Wait,
+    /// It blocks, since it may not take what is queued yet.
+    Rest,
     /// It ends.
     End,
 }
 
-/// Takes the next specification. If memory runs out, the board is stopped.
+impl<T, A: Allocator + Copy> Turn<T, A> {
+    /// Returns whether the worker found something to do, or that nothing will come.
+    pub(crate) fn is_found(&self) -> bool {
+        match self {
+            Turn::Read(_) | Turn::End => true,
+            Turn::Wait | Turn::Rest => false,
+        }
+    }
+}
+
+/// Takes the next specification, if that may be taken at this pace. If memory runs out, the board is stopped.
 pub(crate) fn take_turn<T: Drop, R: Drop, A: Allocator + Copy>(
     board: &mut Board<T, R, A>,
+    pace: Pace,
 ) -> Turn<T, A>
-    ensures { Turns board.old result board.new }
+    ensures { Turns pace.limit pace.rests board.old result board.new }
 {
+    if pace.holds_back(&*board) {
+        return Turn::Rest;
+    }
     match board.take() {
         Ok(item) => Turn::Read(item),
         Err(TakeRefusal::Empty) => Turn::Wait,
@@ -88,14 +106,25 @@ impl Calls {
         }
     }
 
-    /// Returns whom to call after a step that left the board at work: a worker for each specification that is queued,
-    /// and the walk if its next reading is ready.
-    pub(crate) fn after<T: Drop, R: Drop, A: Allocator + Copy>(board: &Board<T, R, A>) -> Self
-        ensures workers { result.workers ≡ length board.now.queued }
+    /// Nobody.
+    pub(crate) fn none() -> Self {
+        Calls {
+            workers: 0,
+            walk: false,
+        }
+    }
+
+    /// Returns whom to call after a step that left the board at work: as many workers as may take something, and the
+    /// walk if its next reading is ready.
+    pub(crate) fn after<T: Drop, R: Drop, A: Allocator + Copy>(
+        board: &Board<T, R, A>,
+        pace: Pace,
+    ) -> Self
+        ensures workers { CountsTakers pace.limit pace.rests board.now result.workers }
         ensures walk { IsTrue result.walk ↔ IsNextReady board.now }
     {
         Calls {
-            workers: board.queued(),
+            workers: pace.takers(board),
             walk: board.is_next_ready(),
         }
     }
@@ -104,13 +133,15 @@ impl Calls {
     pub(crate) fn after_turn<T: Drop, R: Drop, A: Allocator + Copy>(
         board: &Board<T, R, A>,
         turn: &Turn<T, A>,
+        pace: Pace,
     ) -> Self
+        ensures workers { (turn.now ≡ Turn.End → ⊥) → CountsTakers pace.limit pace.rests board.now result.workers }
         ensures ready { IsNextReady board.now → IsTrue result.walk }
         ensures end { turn.now ≡ Turn.End → IsTrue result.walk }
     {
         match turn {
             Turn::End => Calls::all(),
-            Turn::Read(_) | Turn::Wait => Calls::after(board),
+            Turn::Read(_) | Turn::Wait | Turn::Rest => Calls::after(board, pace),
         }
     }
 

@@ -1,7 +1,7 @@
 //! The board that a walk and its workers share.
 ghost use Rattle.std.specs.Prelude.{◌≡◌};
 
-use crate::origin::Origin;
+use crate::ground::Ground;
 use crew_parts::message::Message;
 use jwalk_board::board::Board;
 use jwalk_order::ordered_queue::OrderedMatcher;
@@ -17,7 +17,8 @@ use walk_fs::file_system::FileSystem;
 pub(crate) type SharedBoard<C, S, P, A> = Box<Board<ReadDirSpec<C, A>, Message<C, S, P, A>, A>, A>;
 
 /// The board of a walk while nobody works on it: all that is queued on it, and all that is ready, comes from where the
-/// walk began. Its mark is the addresses that it has still to hand out.
+/// walk began, and at most as many readings as the walk's limit, and one, are ready or in hand. Its mark is the
+/// addresses that it has still to hand out.
 pub(crate) struct Work<
     C: ClientState,
     S: FileSystem,
@@ -45,15 +46,16 @@ impl<C: ClientState, S: FileSystem, P: ProcessReadDir<C, A>, A: Allocator + Copy
 
 impl<C: ClientState, S: FileSystem, P: ProcessReadDir<C, A>, A: Allocator + Copy> Marked
     for Work<C, S, P, A> {
-    type Tag = Origin<C, S, P, A>;
+    type Tag = Ground<C, S, P, A>;
 
     type Mark = OrderedMatcher<A>;
 
     ghost use Rattle.std.specs.Prelude.{box_value};
     ghost use Rattle.jwalk_crew.specs.Origin.{IsBoardOf};
+    ghost use Rattle.jwalk_crew.specs.Pace.{IsWithin};
 
-    ghost fits = { λ origin work. IsBoardOf S.FileSystem P.ProcessReadDir C.ReadDirState.Clone C.DirEntryState.Default
-        origin (box_value work.board) };
+    ghost fits = { λ ground work. IsBoardOf S.FileSystem P.ProcessReadDir C.ReadDirState.Clone C.DirEntryState.Default
+        ground.origin.value (box_value work.board) × IsWithin ground.limit.value (box_value work.board) };
 
     ghost mark = { λ work. (box_value work.board).frontier };
 }

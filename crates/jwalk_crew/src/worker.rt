@@ -2,11 +2,12 @@
 ghost use Rattle.std.specs.Prelude.{◌≤◌, IfSome};
 ghost use Rattle.std.specs.Arc.{arc_value};
 ghost use Rattle.std.specs.Sync.Mutex.{mutex_guard_value};
-ghost use Rattle.keyed_slot.specs.Keyed.{tag_of, IsAbsenceOf};
+ghost use Rattle.keyed_slot.specs.Keyed.{IsAbsenceOf};
 ghost use Rattle.jwalk_order.specs.IndexPath.{address as indices_of};
 ghost use Rattle.jwalk_order.specs.Ordered.{address_of};
 ghost use Rattle.jwalk_read.specs.Job.{callback};
 ghost use Rattle.read_parts.specs.ReadDirSpec.{spec};
+ghost use Rattle.jwalk_crew.specs.Ground.{origin_at};
 ghost use Rattle.jwalk_crew.specs.Handled.{IsHandedIn, IsMissed};
 ghost use Rattle.jwalk_crew.specs.Origin.{IsAt, IsMadeAt};
 
@@ -65,7 +66,7 @@ impl<
         read: Option<HandIn<C, S, P, A>>,
     ) -> Option<Handled<C, S, P, A>>
         requires { IfSome read (λ h. IsMadeAt S.FileSystem P.ProcessReadDir C.ReadDirState.Clone
-            C.DirEntryState.Default (tag_of (arc_value self.now.shared).work) (indices_of h.address) h.message
+            C.DirEntryState.Default (origin_at (arc_value self.now.shared).work) (indices_of h.address) h.message
             h.children.items) }
         ensures { IsHandedIn (arc_value self.now.shared).work (IsMissed (arc_value self.now.shared).work
             (mutex_guard_value held.new)) read result }
@@ -86,10 +87,10 @@ impl<
         Option<Handled<C, S, P, A>>,
     )
         requires { IfSome read (λ h. IsMadeAt S.FileSystem P.ProcessReadDir C.ReadDirState.Clone
-            C.DirEntryState.Default (tag_of (arc_value self.now.shared).work) (indices_of h.address) h.message
+            C.DirEntryState.Default (origin_at (arc_value self.now.shared).work) (indices_of h.address) h.message
             h.children.items) }
         ensures taken { IfSome result.0 (λ item. IsAt S.FileSystem P.ProcessReadDir C.ReadDirState.Clone
-            C.DirEntryState.Default (tag_of (arc_value self.now.shared).work) (address_of item) (spec item.value)) }
+            C.DirEntryState.Default (origin_at (arc_value self.now.shared).work) (address_of item) (spec item.value)) }
         ensures handed_in { IsHandedIn (arc_value self.now.shared).work (λ absence. IsAbsenceOf absence
             (arc_value self.now.shared).work) read result.1 }
     {
@@ -100,12 +101,13 @@ impl<
             let (turn, wanted, _receipt) = self.shared.turn(&mut sleepers);
             let calls = sleepers.called_by(wanted);
             match turn {
-                Turn::Wait if calls.is_empty() => {
+                Turn::Wait | Turn::Rest if calls.is_empty() => {
                     sleepers.add_worker();
-                    sleepers = wait_a_turn(rt, &self.shared.queued, sleepers);
-                    sleepers.remove_worker();
+                    let (woken, timed_out) = wait_a_turn(rt, &self.shared.queued, sleepers);
+                    sleepers = woken;
+                    sleepers.remove_worker(timed_out);
                 }
-                Turn::Wait => {
+                Turn::Wait | Turn::Rest => {
                     drop(sleepers);
                     self.shared.call(calls);
                     sleepers = self.shared.sleepers.lock(rt);
@@ -129,9 +131,9 @@ impl<
     fn read(&self, item: Ordered<ReadDirSpec<C, A>, A>) -> Option<HandIn<C, S, P, A>>
         requires lawful { P.IsLawful (callback (arc_value (arc_value self.now.shared).job)) }
         requires at { IsAt S.FileSystem P.ProcessReadDir C.ReadDirState.Clone C.DirEntryState.Default
-            (tag_of (arc_value self.now.shared).work) (address_of item) (spec item.value) }
+            (origin_at (arc_value self.now.shared).work) (address_of item) (spec item.value) }
         ensures { IfSome result (λ h. IsMadeAt S.FileSystem P.ProcessReadDir C.ReadDirState.Clone
-            C.DirEntryState.Default (tag_of (arc_value self.now.shared).work) (indices_of h.address) h.message
+            C.DirEntryState.Default (origin_at (arc_value self.now.shared).work) (indices_of h.address) h.message
             h.children.items) }
     {
         let Ordered {

@@ -1,31 +1,27 @@
--- Readings on a board: what is still to be read, and what a reading leaves.
-use Rattle.std.specs.Prelude.{◌≡◌, ◌≤◌, ◌<◌, ◌^◌, ℕ, List, [], ◌∷◌, ◌++◌, length, All, Option, Some, None}
-use Rattle.std.specs.List.Sorted.{IsPermutation}
+-- Readings of directories: what is known of one, and what it leaves to be read.
+use Rattle.std.specs.Prelude.{◌≡◌, ◌<◌, ◌^◌, ℕ, List, [], ◌∷◌, ◌++◌, length, All, Option, Some, None, Result}
 use Rattle.std.specs.declared.clone.Clone as Clone
 use Rattle.std.specs.declared.default.Default as Default
 use Rattle.walk_model.specs.ReadDir.{Spec, Outcome, IsLawfulReading, list_of, children_of, AreClones}
 use Rattle.walk_fs.specs.declared.file_system.FileSystem as FileSystem
-use Rattle.jwalk_board.specs.Board.{Board}
-use Rattle.jwalk_order.specs.Addressed.{Addressed}
 use Rattle.read_parts.specs.declared.process_read_dir.ProcessReadDir as ProcessReadDir
 use Rattle.read_parts.specs.declared.read_dir_spec.ReadDirSpec.{ReadDirSpec}
+use Rattle.read_parts.specs.declared.error.Error.{Error}
 use Rattle.jwalk_read.specs.declared.job.Job.{Job}
+use Rattle.jwalk_read.specs.declared.read_dir.ReadDir.{ReadDir}
 use Rattle.read_parts.specs.ReadDirSpec.{spec}
 use Rattle.jwalk_read.specs.ReadDir.{outcome}
 use Rattle.read_parts.specs.Given.{Given}
 use Rattle.jwalk_read.specs.Job.{greatest_depth, IsSteadyJob, IsAsGiven, IsReadingBy, IsGivenOver, IsReadingOver}
-use Rattle.jwalk_engine.specs.declared.read.Read.{Read}
-use Rattle.jwalk_engine.specs.ToGive as board
-use Rattle.jwalk_engine.specs.ToGive.{ToGive}
+use Rattle.tree_walk.specs.declared.read.Read as tree
 
-module _ {C A R E : Type 0} where
-  -- which directory a reading is of
-  abbrev pub spec_of : Read C A R E → Spec R
-  spec_of q = spec q.of
+-- a reading, with the directory that was read
+abbrev pub Read : Type 0 → Type 0 → Type 0 → Type 0 → Type 0
+Read C A R E = tree.Read (ReadDirSpec C A R E) (Result (ReadDir C A R E) (Error A))
 
-  -- what a board still has to give, while its takers hold these
-  abbrev pub to_give : Board (ReadDirSpec C A R E) (Read C A R E) → List (Addressed (ReadDirSpec C A R E)) → ToGive (Read C A R E) (Spec R)
-  to_give = board.to_give spec spec_of
+-- which directory a reading is of
+abbrev pub spec_of : {C A R E : Type 0} → Read C A R E → Spec R
+spec_of q = spec q.of
 
 -- The specifications of an outcome's directories, with clones of their states, are put in front of the old ones.
 pub record StacksChildren {R E : Type 0} (clone : Clone.Ghosts R) (old : List (Spec R)) (read : Outcome R E) (new : List (Spec R)) : Type 0 where
@@ -57,18 +53,18 @@ module _ {C S P A R E : Type 0} (files : FileSystem.Ghosts S) (clone : Clone.Gho
 
   -- It is a reading of its directory, and comes with the directories of its list, with clones of their states.
   pub record IsSoundOver (job : Job C S P A R E) (made : Read C A R E × List (Spec R)) : Type 0 where
-    pub reading : IsReadingOver files counts job (spec_of made.0) (outcome made.0.outcome)
-    pub clones : AreClones clone.is_clone (children_of (outcome made.0.outcome)) made.1
+    pub reading : IsReadingOver files counts job (spec_of made.0) (outcome made.0.reading)
+    pub clones : AreClones clone.is_clone (children_of (outcome made.0.reading)) made.1
 
 -- Whatever the file system returns, it is a lawful outcome of its directory, and its list fits in memory. It comes with the directories of its list, with clones of their states.
 pub record IsMade {C S P A R E : Type 0} (clone : Clone.Ghosts R) (job : Job C S P A R E) (made : Read C A R E × List (Spec R)) : Type 0 where
-  pub lawful : IsLawfulReading (greatest_depth job) (spec_of made.0) (outcome made.0.outcome)
-  pub few : length (list_of (outcome made.0.outcome)) < 2 ^ 64
-  pub clones : AreClones clone.is_clone (children_of (outcome made.0.outcome)) made.1
+  pub lawful : IsLawfulReading (greatest_depth job) (spec_of made.0) (outcome made.0.reading)
+  pub few : length (list_of (outcome made.0.reading)) < 2 ^ 64
+  pub clones : AreClones clone.is_clone (children_of (outcome made.0.reading)) made.1
 
 -- It is the reading of the definition over what is given.
 abbrev pub MadeAsGiven : {C S P A R E : Type 0} → FileSystem.Ghosts S → Given R E → Job C S P A R E → Read C A R E × List (Spec R) → Type 0
-MadeAsGiven files given job made = IsAsGiven files given job (spec_of made.0) (outcome made.0.outcome)
+MadeAsGiven files given job made = IsAsGiven files given job (spec_of made.0) (outcome made.0.reading)
 
 module _ {C S P A R E : Type 0} (files : FileSystem.Ghosts S) (process : ProcessReadDir.Ghosts P C A R E) (clone : Clone.Ghosts R) (defaults : Default.Ghosts E) where
   -- It is sound, as a value over a steady job.
@@ -79,11 +75,3 @@ module _ {C S P A R E : Type 0} (files : FileSystem.Ghosts S) (process : Process
   pub record IsSteadyWith (job : Job C S P A R E) (made : List (Read C A R E × List (Spec R))) (given : Given R E) : Type 0 where
     pub steady : IsSteadyJob files process clone defaults job given
     pub early : All (MadeAsGiven files given job) made
-
-  -- Some readings are made, at most this many, and what is to be read stays the same.
-  pub record ReadsSome (job : Job C S P A R E) (width : ℕ) (old new : ToGive (Read C A R E) (Spec R)) : Type 0 where
-    pub readings : List (Read C A R E × List (Spec R))
-    pub few : length readings ≤ width
-    pub sound : All (IsSound job) readings
-    pub same : new.to_read ≡ old.to_read
-    pub join : IsPermutation (readings ++ old.made) new.made

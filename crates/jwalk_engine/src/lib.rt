@@ -1,7 +1,4 @@
-//! Readings of directories in preorder, over a board.
+//! Readings of directories in preorder, made in batches.
 #![tactic(auto)]
 
-mod batch;
-pub mod board_walk;
-mod pieces;
-pub mod read;
+pub mod batch_reads;

@@ -17,7 +17,7 @@ use Rattle.jwalk_read.specs.declared.job.Job.{Job}
 use Rattle.jwalk_read.specs.Job.{greatest_depth}
 use Rattle.jwalk_engine.specs.Reads.{ReadsFirstBy, ReadsNextBy}
 use Rattle.jwalk_engine.specs.ReadAhead.{ReadAhead, nothing_ahead, BeginsWith, HandsOnAt, ReadsLeast}
-use Rattle.jwalk_engine.specs.BoardWalk.{PassesAddress}
+use Rattle.jwalk_engine.specs.BatchReads.{PassesAddress}
 use Rattle.jwalk_crew.specs.declared.pool.Pool as Pool
 use Rattle.jwalk_entries.specs.declared.dir_entry_iter.DirEntryIter.{DirEntryIter}
 use Rattle.jwalk_readings.specs.declared.read_dir_iter.ReadDirIter.{ReadDirIter}

@@ -6,9 +6,8 @@ ghost use Rattle.jwalk_read.specs.Job.{callback};
 mod on_threads;
 
 use jwalk_crew::pool::{Missed, NoPool, Pool};
-use jwalk_engine::read::Outcome;
 use jwalk_read::job::Job;
-use jwalk_read::read_dir::ReadDir;
+use jwalk_read::read_dir::{Outcome, ReadDir};
 use jwalk_readings::crew_reads::error_of;
 use jwalk_readings::read_dir_iter::ReadDirIter;
 use jwalk_readings::threads::InTurn;
@@ -215,7 +214,7 @@ impl<
     {
         match read {
             None => Ok(found),
-            Some(Err(error)) => Ok(found.with_error(error)),
+            Some(Err(error)) => found.with_error(error),
             Some(Ok(read)) => {
                 self.receive(read)?;
                 Ok(found)

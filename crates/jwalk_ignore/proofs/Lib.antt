@@ -1,6 +1,13 @@
 pub mod FitsFacts
-pub mod NameFacts
+pub mod PiecesFacts
 pub mod ClassFacts
 pub mod PartsFacts
 pub mod RulesFacts
 pub mod LineFacts
+pub mod MatchingFacts
+pub mod WorthFacts
+pub mod ListFacts
+pub mod MadeFacts
+pub mod IgnoreFacts
+pub mod ChainFacts
+pub mod FolderFacts

@@ -1,12 +1,11 @@
--- The spaces at the end of a text, and the lines of one.
+-- The spaces at the end of a text.
 use Prim.Native.Nat.{zero}
-use Rattle.std.proofs.Common.{◌≡◌, ◌+◌, ℕ, suc, Bool, true, false, ◌≤◌, ◌<◌, get_or, List, [], ◌∷◌, ◌++◌, Option, Some, None, length, take, drop, ap, subst, refl, sym, ◌∙◌, arith, rules, tests}
+use Rattle.std.proofs.Common.{◌≡◌, ◌+◌, ℕ, suc, Bool, true, false, ◌≤◌, ◌<◌, get_or, List, [], ◌∷◌, length, take, drop, ap, subst, refl, sym, ◌∙◌, arith, rules, tests}
 use Rattle.std.specs.Bool.{◌==◌}
-use Rattle.std.specs.Prelude.{◌&&◌, ◌||◌, not, if◌then◌else◌, option_to_list}
-use Rattle.std.specs.List.{before_first, after_first, position_or_len, list_all, filter_map, cons_option}
+use Rattle.std.specs.Prelude.{◌&&◌, ◌||◌, not, if◌then◌else◌}
+use Rattle.std.specs.List.{list_all}
 use Rattle.std.proofs.lemmas.List.{drop_all, at_drop_more}
-use Rattle.jwalk_ignore.specs.Names.{onto_first}
-use Rattle.jwalk_ignore.specs.Line.{is_space, is_line_feed, lines_of, trimmed}
+use Rattle.jwalk_ignore.specs.Line.{is_space, trimmed}
 
 -- one byte in front of a beginning
 in_front : (blank : Bool) (c : ℕ) (cs short : List ℕ) → short ≡ take (length short) cs
@@ -85,45 +84,3 @@ next_end_at escaped kept escapes end place text inside is_kept is_escape =
     ∙ next_end escaped (c == 32) end place c cs refl
     ∙ ap (λ (b : Bool). whole_end (if b then place + 1 else end) (place + 1) (length (trimmed (not escaped && c == 92) cs))) (sym is_kept)
     ∙ ap (λ (b : Bool). whole_end (if kept then place + 1 else end) (place + 1) (length (trimmed b cs))) (sym is_escape)
-
-module _ {Y : Type 0} (read : List ℕ → Option Y) (none : read [] ≡ None) where
-  -- a text is a first line, and others that give what is behind the first line feed
-  abbrev Parted : List ℕ → Type 0
-  Parted text = (others : List (List ℕ)) × (lines_of text ≡ before_first is_line_feed text ∷ others)
-      × (filter_map read others ≡ filter_map read (lines_of (after_first is_line_feed text)))
-
-  -- a text that begins with a line feed
-  ended : (c : ℕ) (cs : List ℕ) → is_line_feed c ≡ true → Parted (c ∷ cs)
-  ended c cs e = (lines_of cs, simp e, simp e)
-
-  -- a text that begins with another byte
-  going_on : (c : ℕ) (cs : List ℕ) → is_line_feed c ≡ false → Parted cs → Parted (c ∷ cs)
-  going_on c cs e (others, first, same) =
-      let n : ℕ = position_or_len is_line_feed cs in
-      let one : 1 + n ≡ suc n = omega arith in
-      let two : suc n + 1 ≡ suc (n + 1) = omega arith in
-      let onto : onto_first c (lines_of cs) ≡ (c ∷ before_first is_line_feed cs) ∷ others = ap (onto_first c) first in
-      (others, simp (e, one) onto, simp (e, one, two) same)
-
-  -- one byte more
-  by_first_byte : (b : Bool) (c : ℕ) (cs : List ℕ) → is_line_feed c ≡ b → Parted cs → Parted (c ∷ cs)
-  by_first_byte true c cs e rest = ended c cs e
-  by_first_byte false c cs e rest = going_on c cs e rest
-
-  parted : (text : List ℕ) → Parted text
-  parted [] = ([], refl, sym (ap (λ (y : Option Y). cons_option y []) none))
-  parted (c ∷ cs) = by_first_byte (is_line_feed c) c cs refl (parted cs)
-
-  -- in front of others, if there is one
-  put_front : (y : Option Y) (ys : List Y) → cons_option y ys ≡ option_to_list y ++ ys
-  put_front None ys = refl
-  put_front (Some y) ys = refl
-
-  -- what the first line gives, and then the others
-  pub first_line : (text line behind : List ℕ) → line ≡ before_first is_line_feed text → behind ≡ after_first is_line_feed text
-      → filter_map read (lines_of text) ≡ option_to_list (read line) ++ filter_map read (lines_of behind)
-  first_line text line behind is rest =
-      let p = parted text in
-      ap (filter_map read) p.1 ∙ put_front (read (before_first is_line_feed text)) (filter_map read p.0)
-      ∙ ap (λ (l : List ℕ). option_to_list (read l) ++ filter_map read p.0) (sym is)
-      ∙ ap (λ (ys : List Y). option_to_list (read line) ++ ys) (p.2 ∙ ap (λ (t : List ℕ). filter_map read (lines_of t)) (sym rest))

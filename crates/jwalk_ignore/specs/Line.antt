@@ -1,16 +1,8 @@
 -- The lines of an ignore file.
 use Rattle.std.specs.Prelude.{ℕ, ◌-◌, ◌==◌, ◌&&◌, Bool, false, not, List, [], ◌∷◌, length, get_or, take, drop, bytes_eq, Option, if◌then◌else◌}
 use Rattle.std.specs.List.{before_first, filter_map, list_all}
-use Rattle.jwalk_ignore.specs.Names.{onto_first}
+use Rattle.jwalk_ignore.specs.Pieces.{is_byte, pieces}
 use Rattle.jwalk_ignore.specs.Pattern.{Pattern, pattern_in}
-
--- whether a byte ends a line
-abbrev pub is_line_feed : ℕ → Bool
-is_line_feed byte = byte == 10
-
--- whether a byte is zero
-abbrev pub is_zero : ℕ → Bool
-is_zero byte = byte == 0
 
 -- whether a byte is a space
 abbrev pub is_space : ℕ → Bool
@@ -18,8 +10,7 @@ is_space byte = byte == 32
 
 -- the lines of a text: what is between line feeds
 abbrev pub lines_of : List ℕ → List (List ℕ)
-lines_of [] = [] ∷ []
-lines_of (c ∷ cs) = if is_line_feed c then [] ∷ lines_of cs else onto_first c (lines_of cs)
+lines_of text = pieces 10 text
 
 -- a line without a carriage return at its end
 abbrev pub without_return : List ℕ → List ℕ
@@ -32,7 +23,7 @@ trimmed escaped (c ∷ cs) = if not escaped && list_all is_space (c ∷ cs) then
 
 -- the text of a line: up to the first zero byte, without the spaces at its end
 abbrev pub text_of : List ℕ → List ℕ
-text_of line = trimmed false (before_first is_zero (without_return line))
+text_of line = trimmed false (before_first (is_byte 0) (without_return line))
 
 -- a file without the byte order mark that it begins with
 abbrev pub without_mark : List ℕ → List ℕ

@@ -1,26 +1,8 @@
 //! The lines of an ignore file.
-ghost use Rattle.std.specs.Prelude.{◌≡◌, ◌<◌, ◌==◌, ◌&&◌, ◌||◌, false, not, length, position};
-ghost use Rattle.std.specs.List.{before_first, after_first};
-ghost use Rattle.jwalk_ignore.specs.Line.{is_line_feed, is_space, is_zero, text_of, trimmed, without_mark, without_return};
+ghost use Rattle.std.specs.Prelude.{◌≡◌, ◌==◌, ◌&&◌, ◌||◌, false, not};
+ghost use Rattle.jwalk_ignore.specs.Line.{is_space, text_of, trimmed, without_mark, without_return};
 
-/// Returns where the first line feed of a text is.
-fn line_end(text: &[u8]) -> Option<usize>
-    ensures { result ≡ position is_line_feed text.now }
-{
-    text.iter().position(|byte| *byte == b'\n')
-}
-
-/// Returns the first line of a text, and what is behind its line feed.
-pub(crate) fn split_line(text: &[u8]) -> (&[u8], &[u8])
-    ensures line { result.0.now ≡ before_first is_line_feed text.now }
-    ensures behind { result.1.now ≡ after_first is_line_feed text.now }
-    ensures shorter { 0 < length text.now → length result.1.now < length text.now }
-{
-    match line_end(text) {
-        Some(end) => (&text[..end], &text[end + 1..]),
-        None => (text, &[]),
-    }
-}
+use crate::pieces::split_piece;
 
 /// Returns a file's bytes without the byte order mark that they begin with.
 pub(crate) fn without_mark(bytes: &[u8]) -> &[u8]
@@ -40,23 +22,6 @@ fn without_return(line: &[u8]) -> &[u8]
         &line[..line.len() - 1]
     } else {
         line
-    }
-}
-
-/// Returns where the first zero byte of a line is.
-fn zero_in(line: &[u8]) -> Option<usize>
-    ensures { result ≡ position is_zero line.now }
-{
-    line.iter().position(|byte| *byte == 0)
-}
-
-/// Returns the bytes of a line in front of its first zero byte.
-fn before_zero(line: &[u8]) -> &[u8]
-    ensures { result.now ≡ before_first is_zero line.now }
-{
-    match zero_in(line) {
-        Some(end) => &line[..end],
-        None => line,
     }
 }
 
@@ -94,5 +59,6 @@ fn trimmed(text: &[u8]) -> &[u8]
 pub(crate) fn text_of(line: &[u8]) -> &[u8]
     ensures { result.now ≡ text_of line.now }
 {
-    trimmed(before_zero(without_return(line)))
+    let (before_zero, _) = split_piece(without_return(line), 0);
+    trimmed(before_zero)
 }

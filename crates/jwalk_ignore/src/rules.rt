@@ -4,8 +4,9 @@ ghost use Rattle.std.specs.Option.{option_map};
 ghost use Rattle.jwalk_ignore.specs.Pattern.{pattern_value};
 
 use crate::decision::Decision;
-use crate::line::{split_line, text_of, without_mark};
+use crate::line::{text_of, without_mark};
 use crate::pattern::Pattern;
+use crate::pieces::split_piece;
 use std::alloc::{AllocError, Allocator, Global};
 
 /// The rules of one ignore file in git's format.
@@ -45,7 +46,7 @@ impl<A: Allocator + Copy> Rules<A> {
         let mut patterns = Vec::new(alloc);
         let mut rest = without_mark(bytes);
         'lines: while !rest.is_empty() {
-            let (line, behind) = split_line(rest);
+            let (line, behind) = split_piece(rest, b'\n');
             let pattern = Pattern::read(alloc, text_of(line))?;
             push_some(&mut patterns, pattern)?;
             rest = behind;

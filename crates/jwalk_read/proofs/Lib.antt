@@ -1,5 +1,5 @@
 pub mod ListFacts
+mod GatheredFacts
 mod ReadingFacts
 mod OrderedFacts
-mod PlanTies
 mod WalkedTrees

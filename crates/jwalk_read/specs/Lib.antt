@@ -1,4 +1,6 @@
 pub mod ReadDir
 pub mod Job
+pub mod Gathering
 pub mod Plan
 pub mod PlanFacts
+pub mod PlanReading

@@ -1,10 +1,11 @@
 //! One reading of a directory.
-ghost use Rattle.std.specs.Prelude.{◌≡◌, ◌+◌, ◌<◌, ◌^◌, ◌++◌, Some, IfOk, OnOk, length, map, option_map, option_to_list, string_bytes};
+ghost use Rattle.std.specs.Prelude.{◌≡◌, ◌+◌, ◌<◌, ◌^◌, Some, IfOk, IfErr, length, map, option_map, option_to_list, string_bytes, if◌then◌else◌};
 ghost use Rattle.walk_model.specs.Entry.{AtDepth, children_at};
 ghost use Rattle.walk_model.specs.FileType.{is_dir};
 ghost use Rattle.walk_model.specs.Paths.{join};
+ghost use Rattle.walk_model.specs.Sorting.{arranged};
 ghost use Rattle.walk_model.specs.Job as value;
-ghost use Rattle.walk_fs.specs.Views.{listed, named};
+ghost use Rattle.walk_fs.specs.Views.{named_as, FailsAs};
 ghost use Rattle.read_parts.specs.Text.{text};
 ghost use Rattle.read_parts.specs.Ancestors.{texts};
 ghost use Rattle.read_parts.specs.Entry.{entry, item, children};
@@ -13,12 +14,15 @@ ghost use Rattle.jwalk_read.specs.ReadDir.{outcome, reading};
 ghost use Rattle.read_parts.specs.Options.{options_value, reads_by};
 ghost use Rattle.read_parts.specs.Given.{counted_spec, counted_reading, counted_list, counted_entry, DefaultsCount};
 ghost use Rattle.jwalk_read.specs.Job.{file_system, callback, options_of, job_by, IsSteadyJob, IsReadingOf};
+ghost use Rattle.jwalk_read.specs.Gathering.{IsListed};
 
+mod gathering;
 mod links;
 mod plan;
 mod root;
 
 use crate::read_dir::ReadDir;
+use gathering::Gathering;
 use links::{ancestors_below, joined};
 use read_parts::ancestors::Ancestors;
 use read_parts::client_state::ClientState;
@@ -35,7 +39,6 @@ use std::marker::PhantomData;
 use std::sync::Mutex;
 use walk_fs::fault::Fault;
 use walk_fs::file_system::FileSystem;
-use walk_fs::listed::Listed;
 use walk_model::file_type::FileType;
 
 /// What reads one directory: a file system, a callback, and the options that a reading follows.
@@ -154,12 +157,13 @@ impl<C: ClientState, S: FileSystem, P: ProcessReadDir<C, A>, A: Allocator + Copy
         ))
     }
 
-    /// Returns what an item of a listing that has a name gives: nothing if it is hidden and skipped.
-    fn named(
+    /// Returns what a name in a directory gives: nothing if it is hidden and skipped.
+    pub(super) fn named(
         &self,
         of: &ReadDirSpec<C, A>,
         inside: &Ancestors<A>,
-        found: Listed<A>,
+        name: &str,
+        file_type: io::Result<FileType>,
     ) -> Result<Option<Result<DirEntry<C, A>, Error<A>>>, AllocError>
         requires fits { (spec of.now).depth + 1 < 2 ^ 64 }
         requires inside { (g : _) → texts inside.now
@@ -167,112 +171,64 @@ impl<C: ClientState, S: FileSystem, P: ProcessReadDir<C, A>, A: Allocator + Copy
         ensures depth { IfOk result (λ o. AtDepth ((spec of.now).depth + 1) (map item (option_to_list o))) }
         ensures value { (g : _) → S.IsFixed (file_system self.now) → DefaultsCount C.DirEntryState.Default g
             → IfOk result (λ o. counted_list g (option_to_list o)
-            ≡ value.named (job_by S.FileSystem g self.now) (counted_spec g (spec of.now)) (named found)) }
+            ≡ value.named (job_by S.FileSystem g self.now) (counted_spec g (spec of.now)) (named_as name.now file_type)) }
     {
-        let Listed { name, file_type } = found;
         match file_type {
             Err(err) => {
-                let path = joined(self.alloc, of.path.as_str(), name.as_str())?;
+                let path = joined(self.alloc, of.path.as_str(), name)?;
                 Ok(Some(Err(Error::from_path(of.depth() + 1, path, err))))
             }
             Ok(file_type) => {
-                if self.options.skips(name.as_str()) {
+                if self.options.skips(name) {
                     return Ok(None);
                 }
+                let name = String::from_str(self.alloc, name)?;
                 let found = self.entry_in(of, inside, name, file_type)?;
                 Ok(Some(self.followed(found)?))
             }
         }
     }
 
-    /// Returns what one item of a listing gives.
-    fn item_of(
-        &self,
-        of: &ReadDirSpec<C, A>,
-        inside: &Ancestors<A>,
-        found: io::Result<Listed<A>>,
-    ) -> Result<Option<Result<DirEntry<C, A>, Error<A>>>, AllocError>
-        requires fits { (spec of.now).depth + 1 < 2 ^ 64 }
-        requires inside { (g : _) → texts inside.now
-            ≡ value.ancestors_in (job_by S.FileSystem g self.now) (counted_spec g (spec of.now)) }
-        ensures depth { IfOk result (λ o. AtDepth ((spec of.now).depth + 1) (map item (option_to_list o))) }
-        ensures value { (g : _) → S.IsFixed (file_system self.now) → DefaultsCount C.DirEntryState.Default g
-            → IfOk result (λ o. counted_list g (option_to_list o)
-            ≡ value.item_of (job_by S.FileSystem g self.now) (counted_spec g (spec of.now)) (listed found)) }
-    {
-        match found {
-            Err(err) => Ok(Some(Err(Error::from_io(of.depth() + 1, err)))),
-            Ok(found) => self.named(of, inside, found),
-        }
-    }
-
-    /// Adds what one item of a listing gives.
-    fn push_item(
-        &self,
-        items: &mut Vec<Result<DirEntry<C, A>, Error<A>>, A>,
-        of: &ReadDirSpec<C, A>,
-        inside: &Ancestors<A>,
-        found: io::Result<Listed<A>>,
-    ) -> Result<(), AllocError>
-        requires fits { (spec of.now).depth + 1 < 2 ^ 64 }
-        requires inside { (g : _) → texts inside.now
-            ≡ value.ancestors_in (job_by S.FileSystem g self.now) (counted_spec g (spec of.now)) }
-        ensures depth { AtDepth ((spec of.now).depth + 1) (map item items.old.items)
-            → OnOk result (AtDepth ((spec of.now).depth + 1) (map item items.new.items)) }
-        ensures value { (g : _) → S.IsFixed (file_system self.now) → DefaultsCount C.DirEntryState.Default g
-            → OnOk result (counted_list g items.new.items
-            ≡ counted_list g items.old.items ++ value.item_of (job_by S.FileSystem g self.now)
-            (counted_spec g (spec of.now)) (listed found)) }
-    {
-        match self.item_of(of, inside, found)? {
-            Some(item) => {
-                items.push(item)?;
-                Ok(())
-            }
-            None => Ok(()),
-        }
-    }
-
-    /// Returns the items of a listing in its order.
-    fn raw(
-        &self,
-        of: &ReadDirSpec<C, A>,
-        listing: Vec<io::Result<Listed<A>>, A>,
-    ) -> Result<Vec<Result<DirEntry<C, A>, Error<A>>, A>, AllocError>
+    /// Lists a directory: returns its items in the file system's order.
+    ///
+    /// # Errors
+    ///
+    /// If it can't be listed, or if memory runs out.
+    fn raw(&self, of: &ReadDirSpec<C, A>) -> Result<Vec<Result<DirEntry<C, A>, Error<A>>, A>, Fault>
         requires { (spec of.now).depth + 1 < 2 ^ 64 }
         ensures depth { IfOk result (λ v. AtDepth ((spec of.now).depth + 1) (map item v.items)) }
         ensures value { (g : _) → S.IsFixed (file_system self.now) → DefaultsCount C.DirEntryState.Default g
-            → IfOk result (λ v. counted_list g v.items
-            ≡ value.raw (job_by S.FileSystem g self.now)
-            (counted_spec g (spec of.now)) (map listed listing.items)) }
+            → IfOk result (λ v. IsListed (S.functions (file_system self.now)) (text of.now.path) (λ listing.
+            counted_list g v.items ≡ value.raw (job_by S.FileSystem g self.now) (counted_spec g (spec of.now)) listing)) }
+        ensures failed { S.IsFixed (file_system self.now) → IfErr result (λ fault.
+            FailsAs fault ((S.functions (file_system self.now)).list_of (text of.now.path))) }
     {
         let follow_links = self.options.follow_links();
         let inside = ancestors_below(self.alloc, follow_links, of.ancestors(), &of.path)?;
-        let mut items = Vec::with_capacity(self.alloc, listing.len())?;
-        for found in listing {
-            self.push_item(&mut items, of, &inside, found)?;
-        }
-        Ok(items)
+        let mut gathering = Gathering::new(self, of, inside);
+        self.fs
+            .read_dir_into(self.alloc, of.path.as_str(), &mut gathering)?;
+        Ok(gathering.into_items())
     }
 
     /// Returns the list of a directory that could be listed, after the callback.
     fn processed(
         &self,
         of: &ReadDirSpec<C, A>,
-        listing: Vec<io::Result<Listed<A>>, A>,
+        items: Vec<Result<DirEntry<C, A>, Error<A>>, A>,
     ) -> Result<ReadDir<C, A>, AllocError>
         requires lawful { P.IsLawful (callback self.now) }
         requires fits { (spec of.now).depth + 1 < 2 ^ 64 }
+        requires depth { AtDepth ((spec of.now).depth + 1) (map item items.items) }
         ensures depth { IfOk result (λ r. AtDepth ((spec of.now).depth + 1) (reading r).list) }
         ensures few { IfOk result (λ r. length (reading r).list < 2 ^ 64) }
         ensures value { (g : _)
             → IsSteadyJob S.FileSystem P.ProcessReadDir C.ReadDirState.Clone C.DirEntryState.Default self.now g
             → IfOk result (λ r. g.processed (Some (spec of.now).depth) (text of.now.path)
             (g.read_dir_state of.now.client_read_state)
-            (value.ordered (job_by S.FileSystem g self.now) (counted_spec g (spec of.now)) (map listed listing.items))
+            (if (options_of self.now).sort then arranged (counted_list g items.items) else counted_list g items.items)
             ≡ counted_reading g (reading r)) }
     {
-        let items = self.raw(of, listing)?;
         let made = processed(&self.process, self.options, of, items)?;
         Ok(ReadDir::new(made.state, made.items))
     }
@@ -296,8 +252,8 @@ impl<C: ClientState, S: FileSystem, P: ProcessReadDir<C, A>, A: Allocator + Copy
             let state = of.client_read_state.clone()?;
             return Ok(Ok(ReadDir::new(state, Vec::new(self.alloc))));
         }
-        match self.fs.read_dir(self.alloc, of.path.as_str()) {
-            Ok(listing) => Ok(Ok(self.processed(of, listing)?)),
+        match self.raw(of) {
+            Ok(items) => Ok(Ok(self.processed(of, items)?)),
             Err(Fault::Io(err)) => Ok(Err(Error::from_path(of.depth(), of.path.clone()?, err))),
             Err(Fault::Memory) => Err(AllocError),
         }

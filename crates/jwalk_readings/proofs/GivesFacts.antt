@@ -23,11 +23,11 @@ use Rattle.read_parts.specs.Given.{Given, counted_spec, counted_outcome, ClonesC
 use Rattle.jwalk_read.specs.Job.{greatest_depth, job_by, IsSteadyJob, IsAsGiven}
 use Rattle.read_parts.specs.declared.read_dir_spec.ReadDirSpec.{ReadDirSpec}
 use Rattle.jwalk_board.specs.Board.{Board}
-use Rattle.jwalk_engine.specs.declared.read.Read.{Read}
+use Rattle.jwalk_engine.specs.Reads.{Read}
 use Rattle.jwalk_engine.specs.Reads.{MadeAsGiven, ReadsFirstBy, ReadsNextBy}
 use Rattle.jwalk_engine.specs.ReadAhead.{nothing_ahead, BeginsWith}
-use Rattle.jwalk_engine.specs.BoardWalk as board
-use Rattle.jwalk_engine.specs.BoardWalk.{BoardWalk, PassesAddress, IsSteadyWalk}
+use Rattle.jwalk_engine.specs.BatchReads as board
+use Rattle.jwalk_engine.specs.BatchReads.{BatchReads, PassesAddress, IsSteadyWalk}
 use Rattle.jwalk_crew.specs.declared.pool.Pool as Pool
 use Rattle.jwalk_readings.specs.declared.read_dir_iter.ReadDirIter.{ReadDirIter}
 use Rattle.jwalk_readings.specs.declared.read_dir_iter.ReadDirIter.TheVariants.{Walk, ParWalk, CrewWalk}
@@ -68,12 +68,12 @@ module _ {C S P A R E : Type 0} (clone : Clone.Ghosts R) (known : Spec R → Out
   ]
 
 -- readings that were made and not handed on are as many as their addresses
-pub as_many : {C A R E : Type 0} (b : Option (Board (ReadDirSpec C A R E) (Read C A R E))) → length (board.left_on b).made ≡ length (board.ahead_of b).done
+pub as_many : {C A R E : Type 0} (b : Option (Board (ReadDirSpec C A R E) (Read C A R E))) → length (board.early_on b) ≡ length (board.ahead_of b).done
 as_many None = refl
-as_many (Some b) = length-map b.ready _ ∙ sym (length-map b.ready _)
+as_many (Some b) = length-map _ _ ∙ length-map b.ready _ ∙ sym (length-map b.ready _)
 
 -- so what grows by less than a width in the one does in the other
-pub fewer_done : {C S P A R E : Type 0} (old new : BoardWalk C S P A R E) (width : ℕ) → length (board.early_of new) + 1 ≤ length (board.early_of old) + width → length (board.read_ahead new).done + 1 ≤ length (board.read_ahead old).done + width
+pub fewer_done : {C S P A R E : Type 0} (old new : BatchReads C S P A R E) (width : ℕ) → length (board.early_of new) + 1 ≤ length (board.early_of old) + width → length (board.read_ahead new).done + 1 ≤ length (board.read_ahead old).done + width
 fewer_done old new width fewer = rw (sym (as_many new.board), sym (as_many old.board)) fewer
 
 module _ {C S P A T L R E : Type 0} (files : FileSystem.Ghosts S) (process : ProcessReadDir.Ghosts P C A R E) (clone : Clone.Ghosts R) (defaults : Default.Ghosts E) (pool : Pool.Ghosts L C S P A R E) (old new : ReadDirIter C S P A T L R E) where
@@ -141,7 +141,7 @@ pub some_of : {X Y : Type 0} (P : Type 0) (f : X → Y) (o : Option X) → IfSom
 some_of P f None h = tt
 some_of P f (Some x) h = h
 
-steady_board : {C S P A R E : Type 0} (files : FileSystem.Ghosts S) (process : ProcessReadDir.Ghosts P C A R E) (clone : Clone.Ghosts R) (defaults : Default.Ghosts E) (walk : BoardWalk C S P A R E) (given : Given R E) → IsSteadyJob files process clone defaults walk.job given → (board.read_ahead walk).done ≡ [] → IsSteadyWalk files process clone defaults walk given
+steady_board : {C S P A R E : Type 0} (files : FileSystem.Ghosts S) (process : ProcessReadDir.Ghosts P C A R E) (clone : Clone.Ghosts R) (defaults : Default.Ghosts E) (walk : BatchReads C S P A R E) (given : Given R E) → IsSteadyJob files process clone defaults walk.job given → (board.read_ahead walk).done ≡ [] → IsSteadyWalk files process clone defaults walk given
 steady_board files process clone defaults walk given steady none =
     let early = board.early_of walk in
     let nothing : early ≡ [] = nil_from_length early (as_many walk.board ∙ ap length none) in

@@ -17,8 +17,8 @@ use Rattle.jwalk_read.specs.ReadDir.{outcome}
 use Rattle.read_parts.specs.Given.{Given, counted_spec, counted_outcome}
 use Rattle.jwalk_read.specs.Job.{greatest_depth, job_by, IsSteadyJob, IsGivenOver}
 use Rattle.jwalk_engine.specs.ReadAhead.{ReadAhead, nothing_ahead, Enters}
-use Rattle.jwalk_engine.specs.BoardWalk as board
-use Rattle.jwalk_engine.specs.BoardWalk.{PassesAddress, IsSteadyWalk}
+use Rattle.jwalk_engine.specs.BatchReads as board
+use Rattle.jwalk_engine.specs.BatchReads.{PassesAddress, IsSteadyWalk}
 use Rattle.jwalk_engine.specs.Reads.{ReadsNextBy}
 use Rattle.jwalk_readings.specs.declared.read_dir_iter.ReadDirIter.{ReadDirIter}
 use Rattle.jwalk_readings.specs.declared.read_dir_iter.ReadDirIter.TheVariants.{Walk, ParWalk, CrewWalk}

@@ -9,7 +9,7 @@ ghost use Rattle.read_parts.specs.ReadDirSpec.{spec};
 ghost use Rattle.jwalk_read.specs.ReadDir.{outcome};
 ghost use Rattle.jwalk_read.specs.Job.{greatest_depth, IsReadingBy, IsGivenOver};
 ghost use Rattle.jwalk_engine.specs.Reads.{StacksChildren, ReadsNextBy};
-ghost use Rattle.jwalk_engine.specs.BoardWalk.{PassesAddress};
+ghost use Rattle.jwalk_engine.specs.BatchReads.{PassesAddress};
 ghost use Rattle.jwalk_readings.specs.CrewReads.{job_of, to_read, frontier_of, next_address, IsBelow, IsNextBelow, IsTold, BeginsBy, NotLost, IsSteadyOver, IsSteadyBefore, IsSteadyCrew, StartsSteady, StaysSteady, ReadsSteadily, failure_of};
 ghost use Rattle.jwalk_readings.specs.ReadDirIter.{KnownBy};
 

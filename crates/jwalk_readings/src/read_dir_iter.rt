@@ -15,10 +15,9 @@ use crate::crew_reads::{CrewReads, error_of};
 use crate::parallelism::Parallelism;
 use crate::threads::InTurn;
 use jwalk_crew::pool::{Missed, NoPool, Pool};
-use jwalk_engine::board_walk::BoardWalk;
-use jwalk_engine::read::Outcome;
+use jwalk_engine::batch_reads::BatchReads;
 use jwalk_read::job::Job;
-use jwalk_read::read_dir::ReadDir;
+use jwalk_read::read_dir::{Outcome, ReadDir};
 use read_parts::client_state::ClientState;
 use read_parts::dir_entry::DirEntry;
 use read_parts::error::Error;
@@ -47,9 +46,9 @@ pub enum ReadDirIter<
     L = NoPool,
 > {
     /// One directory is read at a time, when its reading is asked for.
-    Walk(BoardWalk<C, S, P, A>),
+    Walk(BatchReads<C, S, P, A>),
     /// Several directories are read together, when a reading is asked for that isn't there yet.
-    ParWalk(BoardWalk<C, S, P, A>, T),
+    ParWalk(BatchReads<C, S, P, A>, T),
     /// The workers of a crew read ahead.
     CrewWalk(CrewReads<C, S, P, A, L>),
 }
@@ -84,7 +83,7 @@ impl<
     ghost use Rattle.jwalk_read.specs.Job.{greatest_depth};
     ghost use Rattle.jwalk_engine.specs.Reads.{ReadsNextBy};
     ghost use Rattle.jwalk_engine.specs.ReadAhead.{nothing_ahead, BeginsWith};
-    ghost use Rattle.jwalk_engine.specs.BoardWalk.{PassesAddress};
+    ghost use Rattle.jwalk_engine.specs.BatchReads.{PassesAddress};
     ghost use Rattle.jwalk_readings.specs.CrewReads.{failure_of, IsNextBelow, NotLost};
     ghost use Rattle.jwalk_readings.specs.ReadDirIter.{by_crew, job_of, to_read, width_of, read_ahead, early_of, frontier_of, next_address, Tells, IsSteadyReads, StaysSteady, Known, EntersNextBy, Gives};
 
@@ -96,7 +95,7 @@ impl<
         ensures to_read { to_read result ≡ [] }
         ensures read_ahead { read_ahead result ≡ nothing_ahead }
     {
-        let walk = BoardWalk::new(alloc, job, mode.width());
+        let walk = BatchReads::new(alloc, job, mode.width());
         match mode {
             Mode::Batches(_) => ReadDirIter::ParWalk(walk, threads),
             Mode::Serial | Mode::Crew => ReadDirIter::Walk(walk),

@@ -155,7 +155,9 @@ fn holds_memory(entry: &DirEntry<((), ())>) -> Option<bool> {
 
 /// Whether the root's entry, which is given an error, has it.
 fn holds_error(alloc: Global) -> Option<bool> {
-    let failed = root_of_the_grouped_tree(alloc)?.with_error(Error::memory());
+    let failed = root_of_the_grouped_tree(alloc)?
+        .with_error(Error::memory())
+        .ok()?;
     holds_memory(&failed)
 }
 

@@ -1,5 +1,5 @@
 -- Totals only grow.
-use Rattle.std.proofs.Common.{◌+◌, ◌≤◌, ◌^◌, ℕ, max, List, ◌++◌, arith}
+use Rattle.std.proofs.Common.{◌≤◌, ◌^◌, ℕ, max, List, ◌++◌, arith}
 use Rattle.std.specs.List.{sum_by}
 use Rattle.std.proofs.lemmas.List.Sums.{sum_by-append}
 use Rattle.jwalk.specs.walk_model.FileType.{is_dir, is_file, is_symlink}

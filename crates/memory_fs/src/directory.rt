@@ -1,18 +1,17 @@
 //! A directory of the table. A clause sees it as a `Branch`.
-ghost use Rattle.std.specs.Prelude.{◌≡◌, [], map, None, MatchOption, IfOk, OnOk, OnErr, string_bytes};
+ghost use Rattle.std.specs.Prelude.{◌≡◌, [], None, MatchOption, OnOk, OnErr, string_bytes};
 ghost use Rattle.std.specs.Option.{option_map};
 ghost use Rattle.memory_fs.specs.Branch.{child_named, with_child, without_name, with_parent, with_denied, listing_of, AreFound, PopsLast};
 ghost use Rattle.memory_fs.specs.Child.{child_seen};
 ghost use Rattle.memory_fs.specs.Directory.{branch};
-ghost use Rattle.walk_fs.specs.Views.{listed};
+ghost use Rattle.walk_fs.specs.Views.{TakesAll};
 
 use crate::child::Child;
 use indexmap::IndexMap;
 use std::alloc::{AllocError, Allocator};
 use std::hash::{BuildHasherDefault, FoldHasher};
-use std::io;
 use std::io::ErrorKind;
-use walk_fs::listed::Listed;
+use walk_fs::sink::Sink;
 
 /// The children by name, in order of creation, and the index of the directory that holds this one. If this one was
 /// denied, also the error kind that reading it fails with.
@@ -93,22 +92,14 @@ impl<A: Allocator + Copy> Directory<A> {
         self.denied = Some(kind);
     }
 
-    /// Returns the children in order of creation, each with its type. Each name is that of one child.
-    pub(crate) fn listing<B: Allocator + Copy>(
-        &self,
-        alloc: B,
-    ) -> Result<Vec<io::Result<Listed<B>>, B>, AllocError>
-        ensures items { IfOk result (λ v. map listed v.items ≡ listing_of (branch self.now).children) }
+    /// Gives the children to `sink` in order of creation, each with its type. Each name is that of one child.
+    pub(crate) fn list_into<K: Sink>(&self, sink: &mut K) -> Result<(), AllocError>
+        ensures items { OnOk result (TakesAll K.Took (listing_of (branch self.now).children) sink.old sink.new) }
         ensures found { AreFound (branch self.now).children (branch self.now).children }
     {
-        let mut items = Vec::with_capacity(alloc, self.children.len())?;
         for (name, child) in &self.children {
-            let name = String::from_str(alloc, name.as_str())?;
-            items.push(Ok(Listed {
-                name,
-                file_type: Ok(child.file_type()),
-            }))?;
+            sink.take(name.as_str(), Ok(child.file_type()))?;
         }
-        Ok(items)
+        Ok(())
     }
 }

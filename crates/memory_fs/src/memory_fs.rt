@@ -19,6 +19,7 @@ use std::path::{Component, Components, Path};
 use walk_fs::fault::Fault;
 use walk_fs::file_system::FileSystem;
 use walk_fs::listed::Listed;
+use walk_fs::sink::{Kept, Sink};
 use walk_model::metadata::Metadata;
 
 // How many links one look-up may follow.
@@ -311,8 +312,9 @@ impl<A: Allocator + Copy> MemoryFs<A> {
 /// is no link. The kind that `deny` set, for a listing of that directory. `Other` if a look-up would follow a 41st
 /// link, or goes on below what is no directory.
 impl<A: Allocator + Copy> FileSystem for MemoryFs<A> {
-    ghost use Rattle.std.specs.Prelude.{◌≢◌, IsErr, map, string_bytes};
-    ghost use Rattle.walk_fs.specs.Views.{listed, AnswersValue};
+    ghost use Rattle.std.specs.Prelude.{◌≢◌, List, OnOk, IfErr, IsErr, map, string_bytes};
+    ghost use Rattle.walk_fs.specs.Views.{listed, AnswersValue, FailsAs, TakesAll};
+    ghost use Rattle.walk_model.specs.FileSystem as value;
     ghost use Rattle.walk_model.specs.Tree.{functions_of};
     ghost use Rattle.memory_fs.specs.MemoryFs.{tree_of};
 
@@ -330,13 +332,31 @@ impl<A: Allocator + Copy> FileSystem for MemoryFs<A> {
         ensures errors_need_no_memory { IsErr ((functions_of (tree_of self.now)).list_of path.now)
             → result ≢ Err Fault.Memory }
     {
+        let mut kept = Kept::new(alloc);
+        self.read_dir_into(alloc, path, &mut kept)?;
+        Ok(kept.items)
+    }
+
+    fn read_dir_into<B: Allocator + Copy, K: Sink>(
+        &self,
+        _alloc: B,
+        path: &str,
+        sink: &mut K,
+    ) -> Result<(), Fault>
+        ensures taken { OnOk result ((items : List value.Listed) × TakesAll K.Took items sink.old sink.new
+            × ((functions_of (tree_of self.now)).list_of path.now ≡ Ok items)) }
+        ensures failed { IfErr result (λ fault. FailsAs fault
+            ((functions_of (tree_of self.now)).list_of path.now)) }
+        ensures errors_need_no_memory { IsErr ((functions_of (tree_of self.now)).list_of path.now)
+            → result ≢ Err Fault.Memory }
+    {
         match self.look_up(path, true) {
             Ok(Hit::Dir(index)) => {
                 let directory = self.table.directory(index);
                 if let Some(kind) = directory.denied {
                     return Err(Fault::Io(io::Error::from(kind)));
                 }
-                Ok(directory.listing(alloc)?)
+                Ok(directory.list_into(sink)?)
             }
             Ok(Hit::File(_)) => Err(Fault::Io(io::Error::from(ErrorKind::InvalidInput))),
             Ok(Hit::Link(_, _)) => Err(Fault::Io(io::Error::from(ErrorKind::InvalidInput))),

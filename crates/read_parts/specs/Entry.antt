@@ -11,7 +11,7 @@ use Rattle.read_parts.specs.Error.{failure}
 
 module _ {C A R E : Type 0} where
   abbrev pub children : ReadChildren C A R E → Children R
-  children c = record { path = text c.path; error = option_map failure c.error; state = c.client_read_state }
+  children c = record { path = text c.path; error = option_map (λ boxed. failure boxed.value) c.error; state = c.client_read_state }
 
   abbrev pub entry : DirEntry C A R E → value.Entry R E
   entry e = record {

@@ -210,12 +210,16 @@ impl<C: ClientState, A: Allocator + Copy> DirEntry<C, A> {
     }
 
     /// Returns the entry with the error that reading its directory ended in. An entry without a directory is unchanged.
-    pub fn with_error(mut self, error: Error<A>) -> Self
-        ensures { Ok (entry result) ≡ with_error (failure error) (Ok (entry self)) }
+    ///
+    /// # Errors
+    ///
+    /// If memory runs out.
+    pub fn with_error(mut self, error: Error<A>) -> Result<Self, AllocError>
+        ensures { IfOk result (λ told. Ok (entry told) ≡ with_error (failure error) (Ok (entry self))) }
     {
         if let Some(children) = &mut self.read_children {
-            children.error = Some(error);
+            children.error = Some(Box::new(*children.path.allocator(), error)?);
         }
-        self
+        Ok(self)
     }
 }

@@ -10,7 +10,8 @@ use std::sync::Arc;
 #[derive_where(Debug)]
 pub struct ReadChildren<C: ClientState, A: Allocator + Copy = Global> {
     pub(crate) path: Arc<String<A>, A>,
-    pub(crate) error: Option<Error<A>>,
+    // In a box, since most directories are read: without an error an entry has no room for one.
+    pub(crate) error: Option<Box<Error<A>, A>>,
     /// The state that the directory's reading is to begin with. `None` means a clone of the state that the reading of
     /// the entry's own directory left.
     pub client_read_state: Option<C::ReadDirState>,
@@ -57,6 +58,9 @@ impl<C: ClientState, A: Allocator + Copy> ReadChildren<C, A> {
     pub fn error(&self) -> Option<&Error<A>>
         ensures { option_map failure (option_copied result) ≡ (children self.now).error }
     {
-        self.error.as_ref()
+        match &self.error {
+            Some(error) => Some(error.as_ref()),
+            None => None,
+        }
     }
 }

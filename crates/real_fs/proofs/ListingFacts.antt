@@ -1,7 +1,7 @@
 -- Items that are added to a listing.
 use Rattle.std.proofs.Common.{◌≡◌, ◌++◌, ℕ, Bool, true, false, List, [], ◌∷◌, Result, Ok, Err, map, filter, ap, sym, ◌∙◌, append-nil, refl, nat_lt, length, if◌then◌else◌, not, arith, ◌≤◌, ◌+◌}
 use Rattle.std.proofs.Math.ListN.{drop_of_length-le}
-use Rattle.std.proofs.lemmas.List.{map-append, append_assoc, take_all}
+use Rattle.std.proofs.lemmas.List.{map-append, append_assoc, length-append, take_all}
 use Rattle.std.proofs.lemmas.List.Elements.{filter-append}
 use Rattle.std.proofs.lemmas.Bool.{ltb-true, ltb-false}
 use Rattle.std.proofs.lemmas.List.Splits.{slice_split_first, slice_split-cons_no}
@@ -9,13 +9,12 @@ use Rattle.std.proofs.lemmas.Str.{IsUtf8-from_is_utf8, is_utf8-from_IsUtf8}
 use Rattle.std.specs.Str.{is_utf8, IsUtf8}
 use Rattle.std.specs.List.{before_first, after_first, position_or_len, slice_split, onto_first}
 use Rattle.std.specs.Result.{OnOk}
-use Rattle.std.specs.declared.io.Error.{Error}
 use Rattle.std.specs.declared.io.ErrorKind.TheVariants.{InvalidFilename}
-use Rattle.walk_fs.specs.Views.{listed}
-use Rattle.walk_fs.specs.declared.listed.Listed.{Listed}
+use Rattle.walk_model.specs.FileSystem.{Listed}
+use Rattle.walk_fs.proofs.SinkFacts.{takes_none, takes_on}
 use Rattle.walk_fs.specs.declared.fault.Fault.{Fault}
 use Rattle.real_fs.specs.Texts.{is_child, is_nul, children}
-use Rattle.real_fs.specs.Listing.{name_in, told, names_of, Adds}
+use Rattle.real_fs.specs.Listing.{name_in, told, Gives, Adds}
 use Rattle.real_fs.specs.declared.listing.Listing.{Listing}
 
 -- a name that is UTF-8 is itself
@@ -30,25 +29,30 @@ by_test false name e isnt = simp e
 pub told_not : (name : List ℕ) → ¬ (IsUtf8 name) → told name ≡ Err InvalidFilename
 told_not name isnt = by_test (is_utf8 name) name refl isnt
 
--- one more item, for a name
-pub adds_one : {A : Type 0} (name : List ℕ) (old new : Listing A) (item : Result (Listed A) Error) → name_in (listed item) ≡ told name → new.items.items ≡ old.items.items ++ item ∷ [] → Adds (name ∷ []) old new
-adds_one name old new item is more =
-    ap (map (λ i. name_in (listed i))) more
-    ∙ map-append (λ i. name_in (listed i)) old.items.items (item ∷ [])
-    ∙ ap (λ n. names_of old ++ n ∷ []) is
+module _ {A K : Type 0} (took : K → List Listed → K → Type 0) where
+  -- nothing is given yet
+  pub gives_none : (a : Listing A) (x : K) → Gives took [] a a x x
+  gives_none a x = (takes_none took x, omega arith)
 
--- the same where it may fail
-pub adds_one_if : {A T : Type 0} (r : Result T Fault) (name : List ℕ) (old new : Listing A) (item : Result (Listed A) Error) → name_in (listed item) ≡ told name → OnOk r (new.items.items ≡ old.items.items ++ item ∷ []) → OnOk r (Adds (name ∷ []) old new)
-adds_one_if (Ok _) name old new item is more = adds_one name old new item is more
-adds_one_if (Err _) name old new item is more = tt
+  -- some items are given and then others
+  pub gives_on : (items others : List Listed) (a b c : Listing A) (x y z : K) → Gives took items a b x y → Gives took others b c y z → Gives took (items ++ others) a c x z
+  gives_on items others a b c x y z some rest = (
+    takes_on took items others x y z some.0 rest.0,
+    (let both = length-append items others in omega (arith, some.1, rest.1, both)),
+  )
 
--- items for some names and then for others
-pub adds_on : {A : Type 0} (names others : List (List ℕ)) (a b c : Listing A) → Adds names a b → Adds others b c → Adds (names ++ others) a c
-adds_on names others a b c first second =
-    second
-    ∙ ap (λ l. l ++ map told others) first
-    ∙ append_assoc (names_of a) (map told names) (map told others)
-    ∙ ap (λ l. names_of a ++ l) (sym (map-append told names others))
+  -- one more item, for a name, where it may fail
+  pub adds_one_if : {T : Type 0} (r : Result T Fault) (name : List ℕ) (a b : Listing A) (x y : K) (item : Listed) → name_in item ≡ told name → OnOk r (Gives took (item ∷ []) a b x y) → OnOk r (Adds took (name ∷ []) a b x y)
+  adds_one_if (Ok _) name a b x y item is more = (item ∷ [], ap (λ n. n ∷ []) is, more)
+  adds_one_if (Err _) name a b x y item is more = tt
+
+  -- items for some names and then for others
+  pub adds_on : (names others : List (List ℕ)) (a b c : Listing A) (x y z : K) → Adds took names a b x y → Adds took others b c y z → Adds took (names ++ others) a c x z
+  adds_on names others a b c x y z some rest = (
+    some.0 ++ rest.0,
+    map-append name_in some.0 rest.0 ∙ ap (λ l. l ++ map name_in rest.0) some.1 ∙ ap (λ l. map told names ++ l) rest.1 ∙ sym (map-append told names others),
+    gives_on some.0 rest.0 a b c x y z some.2 rest.2,
+  )
 
 by_byte : (b : Bool) (c : ℕ) (cs : List ℕ) → is_nul c ≡ b → length (c ∷ cs) ≤ position_or_len is_nul (c ∷ cs) → (length cs ≤ position_or_len is_nul cs → slice_split is_nul cs ≡ cs ∷ []) → slice_split is_nul (c ∷ cs) ≡ (c ∷ cs) ∷ []
 by_byte true c cs e most others =

@@ -1,12 +1,12 @@
 -- A listing under way.
-use Rattle.std.specs.Prelude.{◌≡◌, ◌≢◌, ◌++◌, ◌==◌, ℕ, Bool, true, false, not, List, [], ◌∷◌, map, take, Result, Ok, Err, if◌then◌else◌}
+use Rattle.std.specs.Prelude.{◌≡◌, ◌≢◌, ◌+◌, ◌==◌, ℕ, Bool, true, false, not, List, [], ◌∷◌, length, map, take, Result, Ok, Err, if◌then◌else◌}
 use Rattle.std.specs.Str.{is_utf8}
 use Rattle.std.specs.IoError.{error_kind}
 use Rattle.std.specs.declared.io.Error.{Error}
 use Rattle.std.specs.declared.io.ErrorKind.{ErrorKind}
 use Rattle.std.specs.declared.io.ErrorKind.TheVariants.{InvalidFilename, Interrupted}
 use Rattle.walk_model.specs.FileSystem as value
-use Rattle.walk_fs.specs.Views.{listed}
+use Rattle.walk_fs.specs.Views.{TakesAll}
 use Rattle.real_fs.specs.Texts.{children}
 use Rattle.real_fs.specs.declared.listing.Listing.{Listing}
 
@@ -15,24 +15,29 @@ abbrev pub name_in : value.Listed → Result (List ℕ) ErrorKind
 name_in (Ok item) = Ok item.name
 name_in (Err kind) = Err kind
 
--- the names of the items so far, in order, with the errors in their places
-abbrev pub names_of : {A : Type 0} → Listing A → List (Result (List ℕ) ErrorKind)
-names_of listing = map (λ item. name_in (listed item)) listing.items.items
-
 -- what a name is listed as: itself, or an error if it isn't UTF-8
 abbrev pub told : List ℕ → Result (List ℕ) ErrorKind
 told name = if is_utf8 name then Ok name else Err InvalidFilename
 
--- Items are added, one for each name, in order.
-abbrev pub Adds : {A : Type 0} → List (List ℕ) → Listing A → Listing A → Type 0
-Adds names old new = names_of new ≡ names_of old ++ map told names
+-- The items are those of these names, in order, with the errors in their places.
+abbrev pub AreNamed : List (List ℕ) → List value.Listed → Type 0
+AreNamed names items = map name_in items ≡ map told names
 
--- An error adds nothing if a read was interrupted, and then there may be more. Otherwise it is the last item.
-pub record AddsError {A : Type 0} (e : Error) (more : Bool) (old new : Listing A) : Type 0 where
-  pub interrupted : error_kind e ≡ Interrupted → (more ≡ true) × (names_of new ≡ names_of old)
-  pub ended : error_kind e ≢ Interrupted → (more ≡ false) × (new.items.items ≡ old.items.items ++ Err e ∷ [])
+module _ {A K : Type 0} (took : K → List value.Listed → K → Type 0) where
+  -- A sink takes these items, and they are counted.
+  abbrev pub Gives : List value.Listed → Listing A → Listing A → K → K → Type 0
+  Gives items old new before after = TakesAll took items before after × (new.count ≡ old.count + length items)
 
--- One read into a buffer adds the names that it gave, and there may be more unless it gave nothing.
-abbrev pub AddsRead : {A : Type 0} → Result ℕ Error → List ℕ → Bool → Listing A → Listing A → Type 0
-AddsRead (Ok count) buffer more old new = (more ≡ not (count == 0)) × Adds (children (take count buffer)) old new
-AddsRead (Err e) buffer more old new = AddsError e more old new
+  -- A sink takes items, one for each name, in order.
+  abbrev pub Adds : List (List ℕ) → Listing A → Listing A → K → K → Type 0
+  Adds names old new before after = (items : List value.Listed) × AreNamed names items × Gives items old new before after
+
+-- An error gives nothing if a read was interrupted, and then there may be more. Otherwise it is the last item.
+pub record IsReadError (e : Error) (more : Bool) (items : List value.Listed) : Type 0 where
+  pub interrupted : error_kind e ≡ Interrupted → (more ≡ true) × (items ≡ [])
+  pub ended : error_kind e ≢ Interrupted → (more ≡ false) × (items ≡ Err (error_kind e) ∷ [])
+
+-- One read into a buffer gives the items of the names in it, and there may be more unless it gave nothing.
+abbrev pub IsRead : Result ℕ Error → List ℕ → Bool → List value.Listed → Type 0
+IsRead (Ok count) buffer more items = (more ≡ not (count == 0)) × AreNamed (children (take count buffer)) items
+IsRead (Err e) buffer more items = IsReadError e more items

@@ -6,6 +6,7 @@ use std::rt::{Files, HostRuntime};
 use walk_fs::fault::Fault;
 use walk_fs::file_system::FileSystem;
 use walk_fs::listed::Listed;
+use walk_fs::sink::{Kept, Sink};
 use walk_model::metadata::Metadata;
 
 /// The file system that a runtime reaches: the disk, if the runtime is the host's. It is made with the runtime that
@@ -41,7 +42,18 @@ impl<R: Files + Drop> FileSystem for RealFs<R> {
         alloc: A,
         path: &str,
     ) -> Result<Vec<io::Result<Listed<A>>, A>, Fault> {
-        listing::read_dir(&self.rt, alloc, path)
+        let mut kept = Kept::new(alloc);
+        self.read_dir_into(alloc, path, &mut kept)?;
+        Ok(kept.items)
+    }
+
+    fn read_dir_into<A: Allocator + Copy, K: Sink>(
+        &self,
+        alloc: A,
+        path: &str,
+        sink: &mut K,
+    ) -> Result<(), Fault> {
+        listing::read_dir_into(&self.rt, alloc, path, sink)
     }
 
     fn metadata(&self, path: &str) -> Result<Metadata, Fault> {

@@ -8,7 +8,7 @@ struct Family;
 
 impl<A: Allocator + Copy> Plan<A> for Family {
     ghost use Rattle.jwalk_board.specs.Rows.{family, family-falls};
-    ghost use Rattle.std.specs.Prelude.{ℕ};
+    ghost use Rattle.std.specs.Prelude.{ℕ, ◌≡◌, map};
 
     type Spec = u8;
 
@@ -26,9 +26,13 @@ impl<A: Allocator + Copy> Plan<A> for Family {
 
     ghost IsLawful = { λ _. Unit {0} };
 
+    ghost IsReading = { λ _ s r below. (r ≡ family.reading s) × (map (λ c. c) below ≡ family.children s) };
+
     ghost IsFixed = { λ _ _. Unit {0} };
 
     ghost tree = { λ _ _. family };
+
+    ghost as_given = { λ _ _ _ _ is _ _. is };
 
     ghost falls = { λ _ _ _. family-falls };
 

@@ -1,9 +1,10 @@
 -- What a file system returns, as values: an `io::Error` counts only by its kind.
-use Rattle.std.specs.Prelude.{◌≡◌, Result, Ok, Err, string_bytes}
+use Rattle.std.specs.Prelude.{◌≡◌, ℕ, List, ◌++◌, Result, Ok, Err, string_bytes}
 use Rattle.std.specs.IoError.{error_kind}
 use Rattle.std.specs.declared.io.ErrorKind.{ErrorKind}
 use Rattle.std.specs.declared.io.Error.{Error}
 use Rattle.walk_model.specs.FileSystem as value
+use Rattle.walk_model.specs.declared.file_type.FileType.{FileType}
 use Rattle.walk_fs.specs.declared.listed.Listed.{Listed}
 use Rattle.walk_fs.specs.declared.fault.Fault.{Fault}
 use Rattle.walk_fs.specs.declared.fault.Fault.TheVariants.{Io, Memory}
@@ -13,8 +14,12 @@ abbrev pub by_kind : {X Y : Type 0} → (X → Y) → Result X Error → Result 
 by_kind view (Ok x) = Ok (view x)
 by_kind view (Err e) = Err (error_kind e)
 
+-- a name with its type, or with the error in its place
+abbrev pub named_as : List ℕ → Result FileType Error → value.Named
+named_as name file_type = record { name = name; file_type = by_kind (λ t. t) file_type }
+
 abbrev pub named : {A : Type 0} → Listed A → value.Named
-named item = record { name = string_bytes item.name; file_type = by_kind (λ t. t) item.file_type }
+named item = named_as (string_bytes item.name) item.file_type
 
 -- an item of a listing
 abbrev pub listed : {A : Type 0} → Result (Listed A) Error → value.Listed
@@ -25,3 +30,12 @@ abbrev pub AnswersValue : {X Y : Type 0} → (X → Y) → Result X Fault → Re
 AnswersValue view (Ok x) value = value ≡ Ok (view x)
 AnswersValue view (Err (Io e)) value = value ≡ Err (error_kind e)
 AnswersValue view (Err Memory) value = Unit {0}
+
+-- A fault is the error in the value's place, or memory ran out.
+abbrev pub FailsAs : {Y : Type 0} → Fault → Result Y ErrorKind → Type 0
+FailsAs (Io e) value = value ≡ Err (error_kind e)
+FailsAs Memory value = Unit {0}
+
+-- What took items so far took these behind them.
+abbrev pub TakesAll : {K : Type 0} → (K → List value.Listed → K → Type 0) → List value.Listed → K → K → Type 0
+TakesAll {K} took items old new = (first : K) (before : List value.Listed) → took first before old → took first (before ++ items) new

@@ -1,15 +1,30 @@
 //! The file system as a trait.
-ghost use Rattle.std.specs.Prelude.{map, string_bytes};
+ghost use Rattle.std.specs.Prelude.{◌≡◌, List, [], ◌∷◌, Ok, OnOk, IfErr, map, string_bytes};
 ghost use Rattle.std.specs.Arc.{arc_value};
+ghost use Rattle.walk_model.specs.FileSystem as value;
 ghost use Rattle.walk_model.specs.FileSystem.{Functions};
-ghost use Rattle.walk_fs.specs.Views.{listed, AnswersValue};
+ghost use Rattle.walk_fs.specs.Views.{listed, AnswersValue, FailsAs, TakesAll};
 
 use crate::fault::Fault;
 use crate::listed::Listed;
-use std::alloc::Allocator;
+use crate::sink::Sink;
+use std::alloc::{AllocError, Allocator};
 use std::io;
 use std::sync::Arc;
 use walk_model::metadata::Metadata;
+
+/// Gives a sink one item of a list.
+fn take_item<A: Allocator + Copy, K: Sink>(
+    sink: &mut K,
+    item: io::Result<Listed<A>>,
+) -> Result<(), AllocError>
+    ensures { OnOk result (TakesAll K.Took (listed item ∷ []) sink.old sink.new) }
+{
+    match item {
+        Ok(Listed { name, file_type }) => sink.take(name.as_str(), file_type),
+        Err(error) => sink.take_error(error),
+    }
+}
 
 /// What a walk needs of a file system. Paths are texts, as `std::path` has them on Unix; relative ones start where the
 /// file system says. Each answer that needs memory is made with the caller's allocator.
@@ -50,6 +65,30 @@ pub trait FileSystem: Drop {
         ensures { IsFixed self.now
             → AnswersValue (λ v. map listed v.items) result ((functions self.now).list_of path.now) };
 
+    /// Gives `sink` the items that `read_dir` returns, one after another. A walk lists by this call. A file system that
+    /// writes a body of its own for it need not keep a list; that of the trait calls `read_dir`.
+    ///
+    /// # Errors
+    ///
+    /// Those of `read_dir`, and `Fault::Memory` if `sink` fails. By then `sink` may have been given some of the items.
+    fn read_dir_into<A: Allocator + Copy, K: Sink>(
+        &self,
+        alloc: A,
+        path: &str,
+        sink: &mut K,
+    ) -> Result<(), Fault>
+        ensures taken { OnOk result ((items : List value.Listed) × TakesAll K.Took items sink.old sink.new
+            × (IsFixed self.now → (functions self.now).list_of path.now ≡ Ok items)) }
+        ensures failed { IsFixed self.now → IfErr result (λ fault. FailsAs fault
+            ((functions self.now).list_of path.now)) }
+    {
+        let items = self.read_dir(alloc, path)?;
+        for item in items {
+            take_item(sink, item)?;
+        }
+        Ok(())
+    }
+
     /// Returns the type of what a path leads to, and its length in bytes, all links followed (`std::fs::metadata`).
     ///
     /// # Errors
@@ -89,6 +128,15 @@ impl<S: FileSystem, B: Allocator> FileSystem for Arc<S, B> {
         (**self).read_dir(alloc, path)
     }
 
+    fn read_dir_into<A: Allocator + Copy, K: Sink>(
+        &self,
+        alloc: A,
+        path: &str,
+        sink: &mut K,
+    ) -> Result<(), Fault> {
+        (**self).read_dir_into(alloc, path, sink)
+    }
+
     fn metadata(&self, path: &str) -> Result<Metadata, Fault> {
         (**self).metadata(path)
     }
@@ -114,6 +162,15 @@ impl<S: FileSystem> FileSystem for &S {
         path: &str,
     ) -> Result<Vec<io::Result<Listed<A>>, A>, Fault> {
         S::read_dir(*self, alloc, path)
+    }
+
+    fn read_dir_into<A: Allocator + Copy, K: Sink>(
+        &self,
+        alloc: A,
+        path: &str,
+        sink: &mut K,
+    ) -> Result<(), Fault> {
+        S::read_dir_into(*self, alloc, path, sink)
     }
 
     fn metadata(&self, path: &str) -> Result<Metadata, Fault> {

@@ -4,3 +4,4 @@
 pub mod fault;
 pub mod file_system;
 pub mod listed;
+pub mod sink;

@@ -1,5 +1,5 @@
 //! What a walk reads from.
-use jwalk::file_system::{Fault, FileSystem, Listed, MemoryFs, Metadata};
+use jwalk::file_system::{Fault, FileSystem, Listed, MemoryFs, Metadata, Sink};
 use std::alloc::Allocator;
 use std::io;
 
@@ -25,6 +25,18 @@ impl<S: FileSystem, A: Allocator + Copy> FileSystem for Source<S, A> {
         match self {
             Source::Disk(disk) => disk.read_dir(alloc, path),
             Source::Tree(tree) => tree.read_dir(alloc, path),
+        }
+    }
+
+    fn read_dir_into<B: Allocator + Copy, K: Sink>(
+        &self,
+        alloc: B,
+        path: &str,
+        sink: &mut K,
+    ) -> Result<(), Fault> {
+        match self {
+            Source::Disk(disk) => disk.read_dir_into(alloc, path, sink),
+            Source::Tree(tree) => tree.read_dir_into(alloc, path, sink),
         }
     }
 

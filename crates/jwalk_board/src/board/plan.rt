@@ -6,7 +6,7 @@ pub type Refused = AllocError;
 
 /// How specifications are read. A reading comes with the specifications of its children.
 pub trait Plan<A: Allocator + Copy> {
-    ghost use Rattle.std.specs.Prelude.{◌≡◌, map, IfOk};
+    ghost use Rattle.std.specs.Prelude.{◌≡◌, List, map, IfOk};
     ghost use Rattle.jwalk_board.specs.Plan.{PlanTree, Falls};
 
     type Spec: Drop;
@@ -28,6 +28,9 @@ pub trait Plan<A: Allocator + Copy> {
     // It may be asked for readings.
     ghost IsLawful: { Self → Type 0 };
 
+    // What a reading of a specification and its children are, whatever is given.
+    ghost IsReading: { Self → Self.Spec → Self.Reading → List Self.Spec → Type 0 };
+
     // Whether its readings are those of its tree, whenever it returns one, by what is given.
     ghost IsFixed: { Self → Given → Type 0 };
 
@@ -44,10 +47,18 @@ pub trait Plan<A: Allocator + Copy> {
         spec: &Self::Spec,
     ) -> Result<(Self::Reading, Vec<Self::Spec, A>), Refused>
         requires { IsLawful self.now }
+        ensures made { IfOk result (λ r. IsReading self.now spec.now r.0 r.1.items) }
         ensures reading { (given : Given) → IsFixed self.now given → IfOk result (λ r.
             reading_value given r.0 ≡ (tree self.now given).reading (spec_value given spec.now)) }
         ensures children { (given : Given) → IsFixed self.now given → IfOk result (λ r.
             map (spec_value given) r.1.items ≡ (tree self.now given).children (spec_value given spec.now)) };
 
+    // Where the plan is fixed, a reading and its children are those of its tree.
+    ghost as_given: { (p : Self) (spec : Self.Spec) (reading : Self.Reading) (children : List Self.Spec)
+        → IsReading p spec reading children → (given : Given) → IsFixed p given
+        → (reading_value given reading ≡ (tree p given).reading (spec_value given spec))
+        × (map (spec_value given) children ≡ (tree p given).children (spec_value given spec)) };
+
+    // The children of a specification have smaller heights than it.
     ghost falls: { (p : Self) (given : Given) → IsFixed p given → Falls (tree p given) };
 }

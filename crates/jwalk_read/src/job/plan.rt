@@ -6,10 +6,11 @@ ghost use Rattle.jwalk_read.specs.ReadDir.{outcome};
 ghost use Rattle.read_parts.specs.Given.{Given as GivenStates, counted_spec, counted_outcome};
 ghost use Rattle.jwalk_read.specs.Job.{callback, job_by, IsSteadyJob};
 ghost use Rattle.jwalk_read.specs.Plan.{tree_of};
+ghost use Rattle.jwalk_read.specs.PlanReading.{IsPlanReading, reads_as_given};
 ghost use Rattle.jwalk_read.specs.PlanFacts.{tree_of-falls};
 
 use super::Job;
-use crate::read_dir::ReadDir;
+use crate::read_dir::{ReadDir, directories_of};
 use jwalk_board::board::{Plan, Refused};
 use read_parts::client_state::ClientState;
 use read_parts::error::Error;
@@ -41,7 +42,11 @@ impl<C: ClientState, S: FileSystem, P: ProcessReadDir<C, A>, A: Allocator + Copy
     ghost IsFixed = { λ job given. IsSteadyJob S.FileSystem P.ProcessReadDir C.ReadDirState.Clone
         C.DirEntryState.Default job given };
 
+    ghost IsReading = { IsPlanReading S.FileSystem P.ProcessReadDir C.ReadDirState.Clone C.DirEntryState.Default };
+
     ghost tree = { λ job given. tree_of (job_by S.FileSystem given job) };
+
+    ghost as_given = { reads_as_given S.FileSystem P.ProcessReadDir C.ReadDirState.Clone C.DirEntryState.Default };
 
     ghost falls = { λ job given _. tree_of-falls (job_by S.FileSystem given job) (GivenStates.keeps_depths given) };
 
@@ -51,10 +56,7 @@ impl<C: ClientState, S: FileSystem, P: ProcessReadDir<C, A>, A: Allocator + Copy
         spec: &ReadDirSpec<C, A>,
     ) -> Result<(Self::Reading, Vec<ReadDirSpec<C, A>, A>), Refused> {
         let outcome = self.read_one(spec)?;
-        let children = match &outcome {
-            Ok(read) => read.read_children_specs()?,
-            Err(_) => Vec::new(alloc),
-        };
+        let children = directories_of(alloc, &outcome)?;
         Ok((outcome, children))
     }
 }

@@ -8,7 +8,7 @@ use crate::crew_reads::error_of;
 use crate::read_dir_iter::ReadDirIter;
 use crate::threads::OnThreads;
 use jwalk_crew::pool::{Missed, Pool};
-use jwalk_engine::read::Outcome;
+use jwalk_read::read_dir::Outcome;
 use read_parts::client_state::ClientState;
 use read_parts::dir_entry::DirEntry;
 use read_parts::error::Error;
@@ -32,7 +32,7 @@ where
     ghost use Rattle.jwalk_read.specs.Job.{greatest_depth};
     ghost use Rattle.jwalk_engine.specs.Reads.{ReadsNextBy};
     ghost use Rattle.jwalk_engine.specs.ReadAhead.{nothing_ahead};
-    ghost use Rattle.jwalk_engine.specs.BoardWalk.{PassesAddress};
+    ghost use Rattle.jwalk_engine.specs.BatchReads.{PassesAddress};
     ghost use Rattle.jwalk_readings.specs.CrewReads.{failure_of, IsNextBelow, NotLost};
     ghost use Rattle.jwalk_readings.specs.ReadDirIter.{by_crew, job_of, to_read, width_of, read_ahead, early_of, frontier_of, next_address, Tells, IsSteadyReads, StaysSteady, Known, KnownOf, EntersNextBy, GivesFirst, Gives};
 

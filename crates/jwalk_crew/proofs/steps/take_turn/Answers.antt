@@ -1,9 +1,10 @@
 use Rattle.std.proofs.Common.{inr, subst}
 use Rattle.jwalk_board.specs.Refusal.{RefusesTake}
+use Rattle.jwalk_crew.proofs.PaceFacts.{taken_may}
 use Rattle.jwalk_crew.proofs.steps.take_turn.Goals as goal
 
 pub returns-in-Ok : goal.returns-in-Ok
-returns-in-Ok g c = c.in-Ok.ensures.taken
+returns-in-Ok g c = (taken_may _ _ _ _ _ (c.holds_back.ensures.free c.if-holds_back.false) c.in-Ok.ensures.taken, c.in-Ok.ensures.taken)
 
 pub returns-in-Err-Empty : goal.returns-in-Err-Empty
 returns-in-Err-Empty g c =

@@ -1,6 +1,6 @@
 use Rattle.std.proofs.Common.{◌≡◌, ℕ, List, length, true, false, ap, ◌∙◌}
 use Rattle.std.specs.Bool.{◌==◌}
-use Rattle.jwalk_ignore.proofs.NameFacts.{first_name}
+use Rattle.jwalk_ignore.proofs.PiecesFacts.{first_name}
 use Rattle.jwalk_ignore.proofs.names.split_name.Goals as goal
 
 pub returns-then-not-is_empty-clause-names : goal.returns-then-not-is_empty-clause-names

@@ -1,4 +1,4 @@
-use Rattle.std.proofs.Common.{◌≡◌, ◌∙◌, refl, sym, ap, ap₂}
+use Rattle.std.proofs.Common.{◌∙◌, refl, sym, ap, ap₂}
 use Rattle.jwalk.specs.walk_model.Walk.{stateless_walk}
 use Rattle.jwalk.specs.jwalk_read.Job.{IsSteady}
 use Rattle.jwalk.specs.jwalk_process.WithSizes.{asks, size_worth, sizing}

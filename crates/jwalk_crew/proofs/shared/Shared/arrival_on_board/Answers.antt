@@ -1,14 +1,20 @@
 use Rattle.std.proofs.Common.{◌∙◌, sym, ap, subst, box_value}
-use Rattle.keyed_slot.specs.Keyed.{tag_of, key_mark}
+use Rattle.keyed_slot.specs.Keyed.{key_mark}
+use Rattle.jwalk_crew.specs.Ground.{origin_at}
 use Rattle.jwalk_crew.specs.Shared.{IsArrivalOf}
 use Rattle.jwalk_crew.proofs.HandledFacts.{arrives_on}
-use Rattle.jwalk_crew.proofs.SharedFacts.{same_of, arrived_board, arrived_of}
+use Rattle.jwalk_crew.proofs.PaceFacts.{same_within}
+use Rattle.jwalk_crew.proofs.SharedFacts.{same_of, arrived_board, arrived_of, arrived_within}
 use Rattle.jwalk_crew.proofs.shared.Shared.arrival_on_board.Goals as goal
 
 pub put_back_with-requires-clause-fits : goal.put_back_with-requires-clause-fits
 put_back_with-requires-clause-fits g c =
-    let own = same_of _ _ _ _ _ _ _ c.in-Some.ensures.fits (c.deref_mut.ensures.value ∙ ap box_value c.into_board-board.ensures) in
-    same_of _ _ _ _ _ _ _ (arrived_board _ _ _ _ _ _ _ own _ _ c.arrive-arrival.ensures) (ap box_value c.new.ensures)
+    let is = c.deref_mut.ensures.value ∙ ap box_value c.into_board-board.ensures in
+    let own = same_of _ _ _ _ _ _ _ c.in-Some.ensures.fits.0 is in
+    let within = same_within _ _ _ is c.in-Some.ensures.fits.1 in (
+      same_of _ _ _ _ _ _ _ (arrived_board _ _ _ _ _ _ _ own _ _ c.arrive-arrival.ensures) (ap box_value c.new.ensures),
+      same_within _ _ _ (ap box_value c.new.ensures) (arrived_within _ _ _ _ _ _ _ own _ _ _ c.arrive-arrival.ensures within),
+    )
 
 pub returns-clause-arrival : goal.returns-clause-arrival
 returns-clause-arrival g c =
@@ -16,8 +22,8 @@ returns-clause-arrival g c =
     let before = ap (λ b. b.frontier) is ∙ c.in-Some.ensures.mark in
     let back = ap box_value c.new.ensures in
     let after = sym (c.put_back_with.ensures.mark ∙ ap (λ b. b.frontier) back) in
-    let Arrived = IsArrivalOf g.S.FileSystem g.P.ProcessReadDir g.C.ReadDirState.Clone g.C.DirEntryState.Default (tag_of c.args.self.now.work) in
-    let own = same_of _ _ _ _ _ _ _ c.in-Some.ensures.fits is in
+    let Arrived = IsArrivalOf g.S.FileSystem g.P.ProcessReadDir g.C.ReadDirState.Clone g.C.DirEntryState.Default (origin_at c.args.self.now.work) in
+    let own = same_of _ _ _ _ _ _ _ c.in-Some.ensures.fits.0 is in
     subst (λ m. Arrived m c.args.wanted.now c.arrive-arrival.result (key_mark c.put_back_with.new.key)) before
     (subst (λ m. Arrived c.deref_mut.result.now.frontier c.args.wanted.now c.arrive-arrival.result m) after
     (arrived_of _ _ _ _ _ _ _ own _ _ c.arrive-arrival.ensures))

@@ -1,4 +1,5 @@
 use Rattle.std.proofs.Common.{is_some, refl, ap}
+use Rattle.std.proofs.lemmas.Result.{IfOk-weaker}
 use Rattle.jwalk_readings.specs.ReadDirIter.{job_of}
 use Rattle.jwalk_readings.proofs.ResultFacts.{none_ok, on_err}
 use Rattle.jwalk_entries.proofs.dir_entry_iter.DirEntryIter.entered.Goals as goal
@@ -10,9 +11,9 @@ pub returns-in-Some-Err : goal.returns-in-Some-Err
 returns-in-Some-Err g c = record {
   job = refl;
   refused = refl;
-  received = rw (c.in-Some-Err.is, c.in-Some-Err.field-0-is, c.with_error.ensures) (refl, refl);
+  received = IfOk-weaker c.with_error.result _ _ (λ told is. rw (c.in-Some-Err.is, c.in-Some-Err.field-0-is, is) (refl, refl)) c.with_error.ensures;
   reads = refl;
-  stopped = tt;
+  stopped = on_err c.with_error.result (ap is_some c.in-Some-Err.is);
 }
 
 pub returns-in_ok-receive-in-Some-Ok : goal.returns-in_ok-receive-in-Some-Ok

@@ -1,47 +1,10 @@
-use Rattle.std.proofs.Common.{true, Ok, Err, is_err, sym, ap, ◌∙◌}
-use Rattle.std.proofs.lemmas.Bool.{false≢true}
-use Rattle.memory_fs.specs.Hit.{answer_seen}
-use Rattle.memory_fs.specs.Branch.{Branch, branch_at}
-use Rattle.memory_fs.specs.Directory.{branch}
-use Rattle.memory_fs.specs.Table.{branches}
-use Rattle.memory_fs.proofs.AnswerLemmas.{answer-err, listing-found, no_listing-denied, no_listing-file, no_listing-link}
+use Rattle.std.proofs.Common.{◌++◌, Ok, [], map, sym, ap, ◌∙◌, append-nil}
+use Rattle.walk_fs.specs.Views.{listed}
 use Rattle.memory_fs.proofs.memory_fs.MemoryFsFileSystem.read_dir.Goals as goal
 
-pub returns-in-Some-clause-value : goal.returns-in-Some-clause-value
-returns-in-Some-clause-value g c =
-    let at = c.directory-directory.ensures ∙ ap (branch_at (branches c.args.self.now.table)) c.in-Ok-Dir.index-is in
-    no_listing-denied (branches c.args.self.now.table) c.args.self.now.sound true c.args.path.now c.in-Ok-Dir.index c.in-Some.kind
-    (sym c.look_up.ensures.value ∙ ap answer_seen (c.in-Ok-Dir.is ∙ ap (λ x. Ok x) c.in-Ok-Dir.field-0-is))
-    (ap (λ (b : Branch). b.denied) (sym at) ∙ c.in-Some.is)
-    ∙ ap (λ k. Err k) (sym c.from.ensures)
-
-pub returns-in_ok-listing-in-Ok-Dir-clause-value : goal.returns-in_ok-listing-in-Ok-Dir-clause-value
-returns-in_ok-listing-in-Ok-Dir-clause-value g c =
-    listing-found (branches c.args.self.now.table) c.args.self.now.sound true c.args.path.now c.in-Ok-Dir.index (sym c.look_up.ensures.value ∙ ap answer_seen (c.in-Ok-Dir.is ∙ ap (λ x. Ok x) c.in-Ok-Dir.field-0-is))
-    (branch c.directory-directory.result.now) (c.directory-directory.ensures ∙ ap (branch_at (branches c.args.self.now.table)) c.in-Ok-Dir.index-is) c.in_default.is
-    c.listing.ensures.found
-    ∙ ap (λ ls. Ok ls) (sym c.in_ok-listing-in-Ok-Dir.ensures.items)
-
--- a directory that may be listed is no error
-pub returns-in_err-listing-in-Ok-Dir-clause-errors_need_no_memory : goal.returns-in_err-listing-in-Ok-Dir-clause-errors_need_no_memory
-returns-in_err-listing-in-Ok-Dir-clause-errors_need_no_memory g c = λ is_error.
-    let listed = listing-found (branches c.args.self.now.table) c.args.self.now.sound true c.args.path.now c.in-Ok-Dir.index (sym c.look_up.ensures.value ∙ ap answer_seen (c.in-Ok-Dir.is ∙ ap (λ x. Ok x) c.in-Ok-Dir.field-0-is))
-    (branch c.directory-directory.result.now) (c.directory-directory.ensures ∙ ap (branch_at (branches c.args.self.now.table)) c.in-Ok-Dir.index-is) c.in_default.is
-    c.listing.ensures.found in
-    absurd (false≢true (sym (ap is_err listed) ∙ is_error))
-
-pub returns-in-Ok-File-clause-value : goal.returns-in-Ok-File-clause-value
-returns-in-Ok-File-clause-value g c =
-    no_listing-file (branches c.args.self.now.table) c.args.self.now.sound true c.args.path.now c.in-Ok-File.field-0-0 (sym c.look_up.ensures.value ∙ ap answer_seen (c.in-Ok-File.is ∙ ap (λ x. Ok x) c.in-Ok-File.field-0-is))
-    ∙ ap (λ k. Err k) (sym c.from-in-Ok-File.ensures)
-
-pub returns-in-Ok-Link-clause-value : goal.returns-in-Ok-Link-clause-value
-returns-in-Ok-Link-clause-value g c =
-    no_listing-link (branches c.args.self.now.table) c.args.self.now.sound true c.args.path.now c.in-Ok-Link.field-0-0 c.in-Ok-Link.field-0-1.now
-    (sym c.look_up.ensures.value ∙ ap answer_seen (c.in-Ok-Link.is ∙ ap (λ x. Ok x) c.in-Ok-Link.field-0-is))
-    ∙ ap (λ k. Err k) (sym c.from-in-Ok-Link.ensures)
-
-pub returns-in-Err-clause-value : goal.returns-in-Err-clause-value
-returns-in-Err-clause-value g c =
-    answer-err (branches c.args.self.now.table) c.args.self.now.sound true c.args.path.now _ c.in-Err.kind (sym c.look_up.ensures.value ∙ ap answer_seen c.in-Err.is)
-    ∙ ap (λ k. Err k) (sym c.from-in-Err.ensures)
+pub returns-clause-value : goal.returns-clause-value
+returns-clause-value g c =
+    let taken = c.in_ok-read_dir_into.ensures.taken in
+    let begun = c.new-kept.result in
+    let all = taken.1 begun [] (sym (append-nil (map listed begun.items.items))) in
+    taken.2 ∙ ap Ok (sym (all ∙ ap (λ l. map listed l ++ taken.0) c.new-kept.ensures))

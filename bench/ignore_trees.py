@@ -1,0 +1,152 @@
+#!/usr/bin/env python3
+"""Small trees with ignore files, and what git keeps of them, as in crates/ignore_tests/src/tree_rows.
+
+    python3 bench/ignore_trees.py write SEED           writes the 200 trees of the tests, 50 a file
+    python3 bench/ignore_trees.py against PROGRAM COUNT SEED
+                                                       random trees on disk: git beside what PROGRAM PATH prints
+
+Each tree is a fresh repository with an empty index and no settings of the user's. It is a text: a line that ends with a
+slash is a directory, one with `=` is a file with rules, whose lines end with `|`, and any other is an empty file. What
+is kept is each path that `git check-ignore --no-index` doesn't print, in the order of a sorted walk. PROGRAM is run with
+the tree's path, and prints the paths that it keeps below it, each ended by a zero byte; `{}` in PROGRAM stands for the
+path. A pattern with a literal text that `**` is directly behind is left out, since git 2.39 matches more there than it
+documents, and so is `**\\/`.
+"""
+import os
+import random
+import re
+import shlex
+import subprocess
+import sys
+import tempfile
+
+ENVIRONMENT = dict(os.environ, GIT_CONFIG_GLOBAL="/dev/null", GIT_CONFIG_SYSTEM="/dev/null", LC_ALL="C")
+ENVIRONMENT.pop("XDG_CONFIG_HOME", None)
+NAMES = ["a", "b", "ab", "c.o", "k.o", ".h", "sub"]
+PIECES = ["a", "b", "ab", "*", "?", "**/", "/**", "/", "*.o", "k.o", "sub", "[ab]", "[!a]", ".h", "\\a", "c.?"]
+
+
+def pattern(rng):
+    """One line of an ignore file, of which git does what it documents."""
+    while True:
+        text = "".join(rng.choice(PIECES) for _ in range(rng.randint(1, 3)))
+        literal = re.match(r"[^*?\[\\]*", text).group()
+        behind = text[len(literal):]
+        unsettled = "/" in text.rstrip("/") and behind.startswith("**") and literal.lstrip("/") and not literal.endswith("/")
+        if unsettled or "**\\/" in text:
+            continue
+        return ("!" if rng.random() < 0.3 else "") + text + ("/" if rng.random() < 0.2 else "")
+
+
+def rules(rng):
+    return "".join(pattern(rng) + "|" for _ in range(rng.randint(1, 3)))
+
+
+def tree(rng):
+    """The lines of a tree: directories before what is in them."""
+    lines = []
+
+    def fill(folder, depth):
+        if rng.random() < (0.9 if depth == 0 else 0.4):
+            lines.append(f"{folder}.gitignore={rules(rng)}")
+        for name in sorted(rng.sample(NAMES, rng.randint(1, 3))):
+            if depth < 3 and rng.random() < 0.5 and not name.startswith("."):
+                lines.append(f"{folder}{name}/")
+                fill(f"{folder}{name}/", depth + 1)
+            else:
+                lines.append(f"{folder}{name}")
+
+    if rng.random() < 0.3:
+        lines.append(f".git/info/exclude={rules(rng)}")
+    fill("", 0)
+    return lines
+
+
+def plant(folder, lines):
+    """Makes the tree on disk, in a fresh repository."""
+    subprocess.run(["git", "init", "-q", folder], env=ENVIRONMENT, check=True)
+    subprocess.run(["git", "-C", folder, "config", "core.ignorecase", "false"], env=ENVIRONMENT, check=True)
+    for line in lines:
+        path, mark, text = line.partition("=")
+        whole = os.path.join(folder, path)
+        if line.endswith("/"):
+            os.mkdir(whole)
+        else:
+            with open(whole, "w") as file:
+                file.write(text.replace("|", "\n") if mark else "")
+
+
+def paths_of(lines):
+    """The paths of a tree but those in `.git`, in the order of a sorted walk."""
+    paths = [line.partition("=")[0].rstrip("/") for line in lines if not line.startswith(".git/")]
+    return sorted(paths, key=lambda path: path.split("/"))
+
+
+def kept(folder, lines):
+    """What git keeps of them."""
+    paths = paths_of(lines)
+    asked = b"".join(path.encode() + b"\0" for path in paths)
+    answer = subprocess.run(["git", "-C", folder, "check-ignore", "--no-index", "-z", "--stdin"], env=ENVIRONMENT,
+                            input=asked, capture_output=True)
+    ignored = set(answer.stdout.decode().split("\0"))
+    return [path for path in paths if path not in ignored]
+
+
+def trees(count, seed):
+    for number in range(count):
+        rng = random.Random(f"{seed} {number}")
+        lines = tree(rng)
+        with tempfile.TemporaryDirectory() as top:
+            folder = os.path.join(top, "r")
+            plant(folder, lines)
+            yield number, folder, lines, kept(folder, lines)
+
+
+def written(text):
+    """A string of Rust, over lines."""
+    return '"' + text.replace("\\", "\\\\").replace('"', '\\"').replace("\n", "\\n") + '"'
+
+
+FILES = ["first", "second", "third", "fourth"]
+
+
+def write(seed):
+    """Writes the tables of the tests, of trees of at most 12 lines."""
+    top = os.path.join(os.path.dirname(os.path.abspath(__file__)), "..", "crates", "ignore_tests", "src", "tree_rows")
+    os.makedirs(top, exist_ok=True)
+    rows = [(lines, left) for _, _, lines, left in trees(900, seed) if len(lines) <= 12 and len(left) < len(paths_of(lines))]
+    for index, name in enumerate(FILES):
+        with open(os.path.join(top, name + ".rt"), "w") as file:
+            file.write("//! Rows of trees.\nuse crate::tree_rows::TreeRow;\n\n/// Trees, with what is kept of each.\n")
+            file.write("pub(crate) fn rows() -> &'static [TreeRow] {\n    const ROWS: &[TreeRow] = &[\n")
+            for lines, left in rows[50 * index:50 * index + 50]:
+                file.write(f"        (\n            {written(chr(10).join(lines))},\n            {written(chr(10).join(left))},\n        ),\n")
+            file.write("    ];\n    ROWS\n}\n")
+
+
+def against(program, count, seed):
+    words = shlex.split(program)
+    print(f"seed {seed}, {count} trees")
+    differences = 0
+    for number, folder, lines, left in trees(count, seed):
+        call = [word.replace("{}", folder) for word in words] if "{}" in program else words + [folder]
+        printed = subprocess.run(call, capture_output=True).stdout.decode().split("\0")
+        found = sorted(os.path.relpath(path, folder) for path in printed if path and os.path.relpath(path, folder) != ".")
+        if found != sorted(left):
+            differences += 1
+            print(f"tree {number}: git keeps {sorted(left)}, the program {found}, of\n" + "\n".join(lines))
+    print(f"{differences} differences")
+    return 1 if differences else 0
+
+
+def main():
+    match sys.argv[1:]:
+        case ["write", seed]:
+            write(seed)
+        case ["against", program, count, seed]:
+            sys.exit(against(program, int(count), seed))
+        case _:
+            sys.exit(__doc__)
+
+
+main()

@@ -1,0 +1,123 @@
+//! How far a crew reads ahead of a walk.
+use crate::acts::{come_ahead, comes, rests};
+use crate::crewed::{Asked, Host, Reader, Stand, Walk};
+use jwalk::file_system::{BuildError, MemoryFs};
+use std::alloc::Global;
+use std::thread;
+use std::time::Duration;
+use walk_fixtures::watched::{Failing, Watched};
+use walk_ways::ways::Setting;
+
+/// How many directories are below the root.
+const DIRECTORIES: usize = 40;
+
+/// The bound of the crew, which has two workers.
+const BOUND: usize = 8;
+
+/// A walk by name over the crew.
+const WALK: Asked<'static> = Asked {
+    root: "/r",
+    settings: &[Setting::Sort],
+    reader: Reader::Crew,
+    then: &[],
+};
+
+/// A root with that many empty directories below it.
+fn flat(alloc: Global) -> Result<MemoryFs, BuildError> {
+    let mut fs = MemoryFs::new(alloc);
+    fs.add_dir("/r")?;
+    for number in 0..DIRECTORIES {
+        let path = format!(in alloc; "/r/{}", number)?;
+        fs.add_dir(path.as_str())?;
+    }
+    Ok(fs)
+}
+
+/// A crew of two workers with the bound, and that tree.
+fn stand<R: Host>(rt: &R) -> Result<Stand<R, Watched>, BuildError> {
+    let fs = Watched::new(flat(rt.alloc())?, Failing::Never);
+    Ok(Stand::reading_ahead(rt, fs, 2, BOUND)?)
+}
+
+/// The walk, and why it doesn't begin.
+fn begun<R: Host>(stand: &Stand<R, Watched>) -> Option<Walk<R, Watched>> {
+    stand.tried(&WALK).ok()
+}
+
+/// Whether the walk has no more readings ahead than the bound and one, nor were more directories listed than these and
+/// those of the answers.
+fn is_within<R: Host>(stand: &Stand<R, Watched>, walk: &Walk<R, Watched>, answers: usize) -> bool {
+    let most = answers.saturating_add(BOUND + 1);
+    walk.ahead() <= BOUND + 1 && stand.fs.lists() <= most
+}
+
+/// Whether the workers read as far ahead as the bound while nobody asks, and no further; and whether that is so after
+/// each answer, with a pause of that many milliseconds. The root and all directories come.
+fn is_bounded<R: Host>(rt: &R, stand: &Stand<R, Watched>, pause: u64) -> bool {
+    let Some(mut walk) = begun(stand) else {
+        return false;
+    };
+    let ahead = come_ahead(rt, &walk, BOUND);
+    let rests = rests(rt, &*stand.fs);
+    if !ahead || !rests || stand.fs.lists() != BOUND {
+        return false;
+    }
+    for answers in 0..DIRECTORIES + 1 {
+        if !comes(&mut walk, 1) || !is_within(stand, &walk, answers.saturating_add(1)) {
+            return false;
+        }
+        thread::sleep(rt, Duration::from_millis(pause));
+    }
+    walk.next().is_none()
+}
+
+/// Whether it is so with these pauses, and nobody slept until a turn was over while there was something to do.
+fn keeps_the_bound<R: Host>(rt: &R, pauses: &[u64]) -> Result<bool, BuildError> {
+    for pause in pauses {
+        let stand = stand(rt)?;
+        if !is_bounded(rt, &stand, *pause) || stand.crew.late_wakes() != 0 {
+            return Ok(false);
+        }
+    }
+    Ok(true)
+}
+
+// Where workers take whatever is queued (the wrong body `read_ahead_without_bound`), all 41 are read at once.
+#[test]
+fn a_crew_reads_as_far_ahead_as_its_bound(rt: HostRuntime) -> Result<(), BuildError> {
+    assert!(rt; keeps_the_bound(&rt, &[0, 1])?);
+    Ok(())
+}
+
+// A pause is longer than a sleep's turn.
+#[test]
+fn nobody_sleeps_until_a_turn_is_over_while_there_is_something_to_do(
+    rt: HostRuntime,
+) -> Result<(), BuildError> {
+    assert!(rt; keeps_the_bound(&rt, &[60])?);
+    Ok(())
+}
+
+/// How many readings are ahead of a walk that nobody asks, over a crew whose bound is that many, once its two workers
+/// rest.
+fn rests_at<R: Host>(rt: &R, bound: usize) -> Result<Option<usize>, BuildError> {
+    let fs = Watched::new(flat(rt.alloc())?, Failing::Never);
+    let stand = Stand::reading_ahead(rt, fs, 2, bound)?;
+    let Some(walk) = begun(&stand) else {
+        return Ok(None);
+    };
+    if rests(rt, &*stand.fs) {
+        Ok(Some(walk.ahead()))
+    } else {
+        Ok(None)
+    }
+}
+
+#[test]
+fn a_bound_below_the_number_of_workers_counts_as_that(rt: HostRuntime) -> Result<(), BuildError> {
+    assert_eq!(rt; rests_at(&rt, 0)?, Some(2));
+    assert_eq!(rt; rests_at(&rt, 1)?, Some(2));
+    assert_eq!(rt; rests_at(&rt, 3)?, Some(3));
+    assert_eq!(rt; rests_at(&rt, usize::MAX)?, Some(41));
+    Ok(())
+}

@@ -1,0 +1,33 @@
+//! Walks that honour ignore files.
+ghost use Rattle.jwalk_ignore.specs.Builder.{SetsIgnoreFiles};
+
+use crate::chain::Chain;
+use crate::ignore_files::IgnoreFiles;
+use crate::texts::Texts;
+use jwalk::WalkDirGeneric;
+use jwalk::file_system::FileSystem;
+use jwalk::read_dir::ProcessReadDir;
+use std::alloc::Allocator;
+use std::fmt::Debug;
+
+/// Returns the same walk with these rules as its callback, which are also shown hidden names: those that the callback
+/// isn't told to keep it drops itself. `WalkDir::at(&rt, root)?.states::<(Chain, ()), ()>()` is a walk with states that
+/// fit.
+pub fn with_ignore_files<
+    B: Clone + Default + Debug + Drop,
+    E: Default + Debug + Drop,
+    S: FileSystem,
+    O: ProcessReadDir<((Chain<A>, B), E), A>,
+    A: Allocator + Copy,
+    T: Drop,
+    W: Drop,
+    X: Texts,
+    P: ProcessReadDir<((Chain<A>, B), E), A>,
+>(
+    walk: WalkDirGeneric<((Chain<A>, B), E), S, O, A, T, W>,
+    rules: IgnoreFiles<X, P>,
+) -> WalkDirGeneric<((Chain<A>, B), E), S, IgnoreFiles<X, P>, A, T, W>
+    ensures { SetsIgnoreFiles rules walk result }
+{
+    walk.skip_hidden(false).process_read_dir(rules)
+}
