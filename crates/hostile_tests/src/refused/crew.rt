@@ -1,6 +1,6 @@
 //! Walks that a crew reads for, where each request for memory is refused, or all from each on.
 use crate::by_crew::Host;
-use crate::refused::goes::{Came, goes_on};
+use crate::refused::goes::{Came, goes};
 use crate::refused::rows::GROUPS;
 use jwalk::file_system::MemoryFs;
 use jwalk::read_dir::NoProcess;
@@ -40,11 +40,11 @@ fn builder<R: Host>(
 /// How the walk comes out. A crew of which no thread could be started is busy.
 fn comes<R: Host>(alloc: Global, walk: Option<Builder<R>>) -> Came {
     let Some(walk) = walk else {
-        return Came::Refused;
+        return Came::Refused(0);
     };
     match walk.try_into_iter() {
-        Ok(walk) => goes_on(alloc, walk, GROUPS.lines),
-        Err(error) if error.is_memory() || error.is_busy() => Came::Refused,
+        Ok(walk) => goes(alloc, walk, GROUPS.lines),
+        Err(error) if error.is_memory() || error.is_busy() => Came::Refused(0),
         Err(_) => Came::Wrong,
     }
 }

@@ -1,10 +1,14 @@
 //! How walks come out whose memory may be refused.
-use crate::refused::lines::{Given, are_first, is_line, is_refusal};
+ghost use Rattle.jwalk.specs.DirEntryIter.{job_of};
+ghost use Rattle.jwalk.specs.jwalk_read.Job.{callback};
+
+use crate::refused::callbacks::{Callback, Texts, hand_on_names, move_group};
+use crate::refused::lines::{Given, Shown, are_first, is_line, is_refusal};
 use crate::refused::rows::Row;
 use jwalk::file_system::{FileSystem, MemoryFs};
-use jwalk::read_dir::NoProcess;
+use jwalk::read_dir::{ByFn, NoProcess, ProcessReadDir};
 use jwalk::threads::InTurn;
-use jwalk::{DirEntryIter, Error, Pool, WalkDirGeneric};
+use jwalk::{ClientState, DirEntryIter, Error, Pool, WalkDirGeneric};
 use std::alloc::{Allocator, Global};
 use walk_ways::width::Width;
 
@@ -13,8 +17,8 @@ use walk_ways::width::Width;
 pub enum Came {
     /// All its answers came.
     Whole,
-    /// A beginning came, and then one error that reports that memory ran out.
-    Refused,
+    /// That many of its answers came, from the first on, and then one error that reports that memory ran out.
+    Refused(usize),
     /// It came otherwise.
     Wrong,
 }
@@ -33,16 +37,21 @@ pub enum Taken {
 pub const TAKEN: &[Taken] = &[Taken::Tried, Taken::Begun, Taken::Filled];
 
 /// A walk under way, for which some pool may read.
-pub type Walk<S, A, L> = DirEntryIter<((), ()), S, NoProcess, A, InTurn, L>;
+type Walk<C, S, P, A, L> = DirEntryIter<C, S, P, A, InTurn, L>;
 
 /// A walk yet to begin.
-pub type Builder<'f, A> = WalkDirGeneric<((), ()), &'f MemoryFs, NoProcess, A>;
+pub type Builder<'f, C, P, A> = WalkDirGeneric<C, &'f MemoryFs, P, A>;
 
 /// What came if nothing follows, and that something is wrong if anything does.
-fn if_over<S: FileSystem, A: Allocator + Copy, L: Pool<((), ()), S, NoProcess, A>>(
-    mut walk: Walk<S, A, L>,
-    came: Came,
-) -> Came {
+fn if_over<
+    C: ClientState,
+    S: FileSystem,
+    P: ProcessReadDir<C, A>,
+    A: Allocator + Copy,
+    L: Pool<C, S, P, A>,
+>(mut walk: Walk<C, S, P, A, L>, came: Came) -> Came
+    requires { P.IsLawful (callback (job_of walk)) }
+{
     let is_over = walk.next().is_none();
     if is_over && walk.next().is_none() {
         came
@@ -51,95 +60,154 @@ fn if_over<S: FileSystem, A: Allocator + Copy, L: Pool<((), ()), S, NoProcess, A
     }
 }
 
-/// How a walk goes on that is to yield these lines.
-pub fn goes_on<S: FileSystem, A: Allocator + Copy, L: Pool<((), ()), S, NoProcess, A>>(
-    alloc: Global,
-    mut walk: Walk<S, A, L>,
-    lines: &[&str],
-) -> Came {
-    for line in lines {
+/// How a walk goes on that is to yield these lines, after that many that came before.
+fn goes_on<
+    C: ClientState,
+    S: FileSystem,
+    P: ProcessReadDir<C, A>,
+    A: Allocator + Copy,
+    L: Pool<C, S, P, A>,
+>(alloc: Global, mut walk: Walk<C, S, P, A, L>, lines: &[&str], before: usize) -> Came
+where
+    C::DirEntryState: Shown,
+    requires { P.IsLawful (callback (job_of walk)) }
+{
+    let mut came = before;
+    'lines: for line in lines {
         let Some(answer) = walk.next() else {
             return Came::Wrong;
         };
         if is_refusal(Some(&answer)) {
-            return if_over(walk, Came::Refused);
+            return if_over(walk, Came::Refused(came));
         }
         if !is_line(alloc, &answer, line) {
             return Came::Wrong;
         }
+        came = came.saturating_add(1);
     }
     if_over(walk, Came::Whole)
 }
 
+/// How a walk goes that is to yield these lines, taken one after another.
+pub fn goes<
+    C: ClientState,
+    S: FileSystem,
+    P: ProcessReadDir<C, A>,
+    A: Allocator + Copy,
+    L: Pool<C, S, P, A>,
+>(alloc: Global, walk: Walk<C, S, P, A, L>, lines: &[&str]) -> Came
+where
+    C::DirEntryState: Shown,
+    requires { P.IsLawful (callback (job_of walk)) }
+{
+    goes_on(alloc, walk, lines, 0)
+}
+
 /// How answers come that are asked for all at once, and the others after them.
-fn is_filled<S: FileSystem, A: Allocator + Copy, L: Pool<((), ()), S, NoProcess, A>>(
-    alloc: Global,
-    memory: A,
-    mut walk: Walk<S, A, L>,
-    lines: &[&str],
-) -> Came {
-    let mut found: Vec<Given<A>, A> = Vec::new(memory);
+fn is_filled<
+    C: ClientState,
+    S: FileSystem,
+    P: ProcessReadDir<C, A>,
+    A: Allocator + Copy,
+    L: Pool<C, S, P, A>,
+>(alloc: Global, memory: A, mut walk: Walk<C, S, P, A, L>, lines: &[&str]) -> Came
+where
+    C::DirEntryState: Shown,
+    requires { P.IsLawful (callback (job_of walk)) }
+{
+    let mut found: Vec<Given<C, A>, A> = Vec::new(memory);
     // Where memory runs out for the vector, not all are in it.
     let _ = walk.fill(100, &mut found);
-    if is_refusal(found.last()) {
+    let is_refused = is_refusal(found.last());
+    if is_refused {
         found.pop();
-        let is_beginning = are_first(alloc, found.as_slice(), lines);
-        return if_over(
-            walk,
-            if is_beginning {
-                Came::Refused
-            } else {
-                Came::Wrong
-            },
-        );
+    }
+    if !are_first(alloc, found.as_slice(), lines) {
+        return Came::Wrong;
+    }
+    if is_refused {
+        return if_over(walk, Came::Refused(found.len()));
     }
     match lines.get(found.len()..) {
-        Some(rest) if are_first(alloc, found.as_slice(), lines) => goes_on(alloc, walk, rest),
-        _ => Came::Wrong,
+        Some(rest) => goes_on(alloc, walk, rest, found.len()),
+        None => Came::Wrong,
     }
 }
 
 /// How a walk comes out that didn't begin.
 fn not_begun<A: Allocator + Copy>(error: Error<A>) -> Came {
     if error.is_memory() {
-        Came::Refused
+        Came::Refused(0)
     } else {
         Came::Wrong
     }
 }
 
-/// The walk of a row, if there is memory for its root.
-pub fn builder<'f, A: Allocator + Copy>(
-    memory: A,
-    fs: &'f MemoryFs,
-    row: &Row,
-    width: Width,
-) -> Option<Builder<'f, A>> {
-    let root = String::from_str(memory, row.root).ok()?;
-    let walk = WalkDirGeneric::new(fs, root)
-        .sort(true)
-        .follow_links(row.follow);
-    Some(walk.parallelism(width.parallelism()))
+/// A walk of a row that is made again and again: over its tree, by so many directories together.
+#[derive(Clone, Copy)]
+pub struct Play<'f> {
+    pub fs: &'f MemoryFs,
+    pub row: &'f Row,
+    pub width: Width,
 }
 
-/// How the walk of a row comes out with this memory.
-pub fn comes<A: Allocator + Copy>(
-    alloc: Global,
-    memory: A,
-    fs: &MemoryFs,
-    row: &Row,
-    width: Width,
-    taken: Taken,
-) -> Came {
-    let Some(walk) = builder(memory, fs, row, width) else {
-        return Came::Refused;
-    };
-    match taken {
-        Taken::Tried => match walk.try_into_iter() {
-            Ok(walk) => goes_on(alloc, walk, row.lines),
-            Err(error) => not_begun(error),
-        },
-        Taken::Begun => goes_on(alloc, walk.into_iter(), row.lines),
-        Taken::Filled => is_filled(alloc, memory, walk.into_iter(), row.lines),
+impl<'f> Play<'f> {
+    /// The walk with a callback, if there is memory for its root.
+    pub fn builder<C: ClientState, P: ProcessReadDir<C, A>, A: Allocator + Copy>(
+        &self,
+        memory: A,
+        process: P,
+    ) -> Option<Builder<'f, C, P, A>> {
+        let root = String::from_str(memory, self.row.root).ok()?;
+        let walk = WalkDirGeneric::new(self.fs, root)
+            .sort(true)
+            .follow_links(self.row.follow)
+            .parallelism(self.width.parallelism());
+        Some(walk.process_read_dir(process))
+    }
+
+    /// How the walk comes out with this memory and this callback.
+    pub fn comes_with<C: ClientState, P: ProcessReadDir<C, A>, A: Allocator + Copy>(
+        &self,
+        alloc: Global,
+        memory: A,
+        process: P,
+        taken: Taken,
+    ) -> Came
+    where
+        C::DirEntryState: Shown,
+        requires { P.IsLawful process }
+    {
+        let Some(walk) = self.builder::<C, P, A>(memory, process) else {
+            return Came::Refused(0);
+        };
+        match taken {
+            Taken::Tried => match walk.try_into_iter() {
+                Ok(walk) => goes(alloc, walk, self.row.lines),
+                Err(error) => not_begun(error),
+            },
+            Taken::Begun => goes(alloc, walk.into_iter(), self.row.lines),
+            Taken::Filled => is_filled(alloc, memory, walk.into_iter(), self.row.lines),
+        }
+    }
+
+    /// How the walk comes out with this memory and the row's callback.
+    pub fn comes<A: Allocator + Copy>(&self, alloc: Global, memory: A, taken: Taken) -> Came {
+        match self.row.callback {
+            Callback::Absent => {
+                self.comes_with::<((), ()), NoProcess, A>(alloc, memory, NoProcess, taken)
+            }
+            Callback::MovesGroup => {
+                self.comes_with::<((), ()), _, A>(alloc, memory, ByFn::of(move_group::<A>), taken)
+            }
+            Callback::HandsOnNames => {
+                self.comes_with::<Texts<A>, _, A>(
+                    alloc,
+                    memory,
+                    ByFn::of(hand_on_names::<A>),
+                    taken,
+                )
+            }
+        }
     }
 }

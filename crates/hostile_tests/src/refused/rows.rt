@@ -1,4 +1,5 @@
 //! Walks by name, and their answers.
+use crate::refused::callbacks::Callback;
 use walk_fixtures::trees::{DENIED, GROUPED, LOOPED, Step};
 use walk_ways::width::Width;
 
@@ -9,6 +10,7 @@ pub struct Row {
     pub root: &'static str,
     /// Whether links are followed.
     pub follow: bool,
+    pub callback: Callback,
     pub lines: &'static [&'static str],
 }
 
@@ -17,6 +19,7 @@ pub const GROUPS: Row = Row {
     steps: GROUPED,
     root: "/t",
     follow: false,
+    callback: Callback::Absent,
     lines: &[
         "0 d /t",
         "1 f /t/a.txt",
@@ -29,6 +32,37 @@ pub const GROUPS: Row = Row {
     ],
 };
 
+/// The groups, where the directory of one is moved to a file.
+pub const MOVED: Row = Row {
+    steps: GROUPED,
+    root: "/t",
+    follow: false,
+    callback: Callback::MovesGroup,
+    lines: &[
+        "0 d /t",
+        "1 f /t/a.txt",
+        "1 f /t/b.txt",
+        "1 f /t/c.txt",
+        "2 f /t/group 1/d.txt",
+        "1 d /t/group 1",
+        "1 d /t/group 2",
+        "2 f /t/group 2/e.txt",
+    ],
+};
+
+/// The directories alone, each with the name of the directory above it.
+pub const HANDED_ON: Row = Row {
+    steps: GROUPED,
+    root: "/t",
+    follow: false,
+    callback: Callback::HandsOnNames,
+    lines: &[
+        "0 d /t with none",
+        "1 d /t/group 1 with t",
+        "1 d /t/group 2 with t",
+    ],
+};
+
 /// The groups, one that can't be listed, and a loop.
 pub const ROWS: &[Row] = &[
     GROUPS,
@@ -36,6 +70,7 @@ pub const ROWS: &[Row] = &[
         steps: DENIED,
         root: "/t",
         follow: false,
+        callback: Callback::Absent,
         lines: &[
             "0 d /t",
             "1 f /t/a.txt",
@@ -50,6 +85,7 @@ pub const ROWS: &[Row] = &[
         steps: LOOPED,
         root: "/r",
         follow: true,
+        callback: Callback::Absent,
         lines: &[
             "0 d /r",
             "1 d /r/a",

@@ -1,8 +1,15 @@
 //! Walks whose batches threads read, where each request for memory is refused, or all from each on.
-use crate::refused::goes::{Came, builder};
-use crate::refused::lines::{Given, are_first, is_refusal};
-use crate::refused::rows::{GROUPS, Row};
+ghost use Rattle.jwalk.specs.DirEntryIter.{job_of};
+ghost use Rattle.jwalk.specs.jwalk_read.Job.{callback};
+
+use crate::refused::callbacks::{Callback, Texts, hand_on_names, move_group};
+use crate::refused::goes::{Came, Play};
+use crate::refused::lines::{Given, Shown, are_first, is_refusal};
+use crate::refused::rows::{GROUPS, HANDED_ON, MOVED, Row, WIDTHS};
 use jwalk::file_system::{BuildError, MemoryFs};
+use jwalk::read_dir::{ByFn, NoProcess, ProcessReadDir};
+use jwalk::threads::OnThreads;
+use jwalk::{ClientState, DirEntryIter};
 use refusing_alloc::Refusing;
 use std::alloc::Global;
 use std::thread::Threads;
@@ -22,20 +29,32 @@ fn wide(alloc: Global) -> Result<MemoryFs, BuildError> {
     Ok(fs)
 }
 
-/// How answers come that are asked for all at once, if they are to begin with these lines and be that many.
-fn comes<R: Threads + Sync>(
-    rt: &R,
+/// Memory that may be refused.
+type Memory<'m> = &'m Refusing<Global>;
+
+/// A walk under way whose directories threads read.
+type Walk<'m, 'r, C, P, R> = DirEntryIter<C, &'m MemoryFs, P, Memory<'m>, OnThreads<&'r R>>;
+
+/// How answers come that are asked for all at once, if they are to begin with the lines of a row and be that many.
+fn fills<
+    'm,
+    'r,
+    R: Threads + Sync,
+    C: ClientState + Send,
+    P: ProcessReadDir<C, Memory<'m>> + Send + Sync,
+>(
     alloc: Global,
-    memory: &Refusing<Global>,
-    fs: &MemoryFs,
+    memory: Memory<'m>,
+    mut walk: Walk<'m, 'r, C, P, R>,
     row: &Row,
     count: usize,
-) -> Came {
-    let Some(walk) = builder(memory, fs, row, WIDE) else {
-        return Came::Refused;
-    };
-    let mut walk = walk.threads(rt).into_iter();
-    let mut found: Vec<Given<&Refusing<Global>>, &Refusing<Global>> = Vec::new(memory);
+) -> Came
+where
+    C::ReadDirState: Send,
+    C::DirEntryState: Send + Shown,
+    requires { P.IsLawful (callback (job_of walk)) }
+{
+    let mut found: Vec<Given<C, Memory<'m>>, Memory<'m>> = Vec::new(memory);
     let is_filled = walk.fill(100, &mut found).is_ok();
     let is_refused = is_refusal(found.last());
     if is_refused {
@@ -48,33 +67,100 @@ fn comes<R: Threads + Sync>(
     match (is_filled && !is_refused, found.len() == count) {
         (true, true) => Came::Whole,
         (true, false) => Came::Wrong,
-        (false, _) => Came::Refused,
+        (false, _) => Came::Refused(found.len()),
     }
 }
 
-/// Whether a walk comes out right where that many requests are refused, from each number on. Else the number where it
-/// doesn't.
-fn first_wrong<R: Threads + Sync>(
-    rt: &R,
-    alloc: Global,
-    fs: &MemoryFs,
-    row: &Row,
+/// A walk that threads read again and again, and how many answers it has.
+#[derive(Clone, Copy)]
+struct Threaded<'m, 'r, R> {
+    rt: &'r R,
+    play: Play<'m>,
     count: usize,
-    many: usize,
-) -> Option<usize> {
-    let memory = Refusing::new(alloc);
-    for number in 1..10_000 {
-        memory.refuse(number, many);
-        let came = comes(rt, alloc, &memory, fs, row, count);
-        let refused = memory.refused();
-        if came == Came::Wrong || memory.pieces() != 0 || (refused == 0 && came != Came::Whole) {
-            return Some(number);
-        }
-        if refused == 0 && number > 20 {
-            return None;
+}
+
+impl<'m, 'r, R: Threads + Sync> Threaded<'m, 'r, R> {
+    /// How the walk comes out with this memory and this callback.
+    fn comes_with<C: ClientState + Send, P: ProcessReadDir<C, Memory<'m>> + Send + Sync>(
+        &self,
+        alloc: Global,
+        memory: Memory<'m>,
+        process: P,
+    ) -> Came
+    where
+        C::ReadDirState: Send,
+        C::DirEntryState: Send + Shown,
+        requires { P.IsLawful process }
+    {
+        match self.play.builder::<C, P, Memory<'m>>(memory, process) {
+            Some(walk) => {
+                let walk = walk.threads(self.rt).into_iter();
+                fills(alloc, memory, walk, self.play.row, self.count)
+            }
+            None => Came::Refused(0),
         }
     }
-    Some(usize::MAX)
+
+    /// How the walk comes out with this memory and the row's callback.
+    fn comes(&self, alloc: Global, memory: Memory<'m>) -> Came {
+        match self.play.row.callback {
+            Callback::Absent => self.comes_with::<((), ()), NoProcess>(alloc, memory, NoProcess),
+            Callback::MovesGroup => {
+                self.comes_with::<((), ()), _>(alloc, memory, ByFn::of(move_group::<Memory<'m>>))
+            }
+            Callback::HandsOnNames => self.comes_with::<Texts<Memory<'m>>, _>(
+                alloc,
+                memory,
+                ByFn::of(hand_on_names::<Memory<'m>>),
+            ),
+        }
+    }
+
+    /// Whether the walk comes out right where that many requests are refused, from each number on. Else the number where
+    /// it doesn't.
+    fn first_wrong(&self, alloc: Global, memory: Memory<'m>, many: usize) -> Option<usize> {
+        for number in 1..10_000 {
+            memory.refuse(number, many);
+            let came = self.comes(alloc, memory);
+            let refused = memory.refused();
+            if came == Came::Wrong
+                || memory.pieces() != 0
+                || (refused == 0 && came != Came::Whole)
+            {
+                return Some(number);
+            }
+            if refused == 0 && number > 20 {
+                return None;
+            }
+        }
+        Some(usize::MAX)
+    }
+}
+
+/// Whether the walk of a row with that many answers comes out right over a tree, read by so many directories together.
+fn is_right<R: Threads + AllocGlobal + Sync>(
+    rt: &R,
+    fs: &MemoryFs,
+    row: &Row,
+    width: Width,
+    count: usize,
+) -> bool {
+    let memory = Refusing::new(rt.alloc());
+    let play = Play { fs, row, width };
+    let threaded = Threaded { rt, play, count };
+    [1, usize::MAX].iter().all(|many| threaded.first_wrong(rt.alloc(), &memory, *many).is_none())
+}
+
+/// Whether the walk of a row comes out right in each width.
+fn is_right_always<R: Threads + AllocGlobal + Sync>(rt: &R, row: &Row) -> bool {
+    let Ok(fs) = tree(rt.alloc(), row.steps) else {
+        return false;
+    };
+    let count = row.lines.len();
+    WIDTHS
+        .iter()
+        .all(|width| is_right(rt, &fs, row, *width, count))
+        && is_right(rt, &fs, row, WIDE, count)
 }
 
 /// The walk over the wide directory, with its first lines.
@@ -82,19 +168,23 @@ const WIDE_ROW: Row = Row {
     steps: &[],
     root: "/w",
     follow: false,
+    callback: Callback::Absent,
     lines: &["0 d /w", "1 d /w/10", "1 d /w/11", "1 d /w/12"],
 };
 
 #[test]
-fn each_request_in_turn_on_threads(rt: HostRuntime) {
-    let groups = tree(rt.alloc(), GROUPS.steps);
+fn requests_refused_on_threads(rt: HostRuntime) {
+    assert!(rt; is_right_always(&rt, &GROUPS));
     let wide = wide(rt.alloc());
-    for many in [1, usize::MAX] {
-        assert!(rt;
-            matches!(&groups, Ok(fs) if first_wrong(&rt, rt.alloc(), fs, &GROUPS, 8, many).is_none())
-        );
-        assert!(rt;
-            matches!(&wide, Ok(fs) if first_wrong(&rt, rt.alloc(), fs, &WIDE_ROW, 41, many).is_none())
-        );
-    }
+    assert!(rt; matches!(&wide, Ok(fs) if is_right(&rt, fs, &WIDE_ROW, WIDE, 41)));
+}
+
+#[test]
+fn requests_refused_on_threads_where_a_directory_is_moved(rt: HostRuntime) {
+    assert!(rt; is_right_always(&rt, &MOVED));
+}
+
+#[test]
+fn requests_refused_on_threads_where_names_are_handed_on(rt: HostRuntime) {
+    assert!(rt; is_right_always(&rt, &HANDED_ON));
 }

@@ -1,0 +1,7 @@
+use Rattle.std.proofs.Common.{◌≡◌}
+use Rattle.jwalk.specs.DirEntryIter.{job_of}
+use Rattle.hostile_tests.proofs.refused.goes.goes_on.Given as goal
+
+-- the walk keeps its callback
+abbrev pub invariant-loop-lines : goal.invariant-loop-lines
+invariant-loop-lines g l = job_of l.walk ≡ job_of l.fn.walk
