@@ -3,7 +3,6 @@ mod bytes;
 mod callbacks;
 mod crew;
 mod goes;
-mod lines;
 mod rows;
 mod threads;
 mod turns;

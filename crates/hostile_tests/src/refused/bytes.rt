@@ -1,9 +1,9 @@
 //! Walks over heaps of every size.
-use crate::refused::goes::{Came, Play, TAKEN, Taken};
-use crate::refused::rows::{HANDED_ON, MOVED, ROWS, Row, WIDTHS};
+use crate::refused::goes::Play;
+use crate::refused::rows::{HANDED_ON, MOVED, ROWS, Row, in_each_way};
 use linked_list_allocator::LocalHeap;
+use refused_walks::came::{Came, Taken};
 use std::alloc::Global;
-use walk_fixtures::trees::tree;
 
 /// The greatest heap, in pieces of 64 bytes.
 const GREATEST: usize = 1_000;
@@ -37,39 +37,23 @@ fn first_wrong(alloc: Global, play: Play<'_>, taken: Taken) -> Option<usize> {
 }
 
 /// Whether the walk of a row comes out right in each way. Else the size of the heap where it doesn't.
-fn is_right(alloc: Global, row: &Row) -> Option<usize> {
-    let Ok(fs) = tree(alloc, row.steps) else {
-        return Some(0);
-    };
-    for width in WIDTHS {
-        for taken in TAKEN {
-            let play = Play {
-                fs: &fs,
-                row,
-                width: *width,
-            };
-            let wrong = first_wrong(alloc, play, *taken);
-            if wrong.is_some() {
-                return wrong;
-            }
-        }
-    }
-    None
+fn wrong_of(alloc: Global, row: &Row) -> Option<usize> {
+    in_each_way(alloc, row, |play, taken| first_wrong(alloc, play, taken))
 }
 
 #[test]
 fn a_limit_on_bytes(rt: HostRuntime) {
     for row in ROWS {
-        assert_eq!(rt; is_right(rt.alloc(), row), None);
+        assert_eq!(rt; wrong_of(rt.alloc(), row), None);
     }
 }
 
 #[test]
 fn a_limit_on_bytes_where_a_directory_is_moved(rt: HostRuntime) {
-    assert_eq!(rt; is_right(rt.alloc(), &MOVED), None);
+    assert_eq!(rt; wrong_of(rt.alloc(), &MOVED), None);
 }
 
 #[test]
 fn a_limit_on_bytes_where_names_are_handed_on(rt: HostRuntime) {
-    assert_eq!(rt; is_right(rt.alloc(), &HANDED_ON), None);
+    assert_eq!(rt; wrong_of(rt.alloc(), &HANDED_ON), None);
 }

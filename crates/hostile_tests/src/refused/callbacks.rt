@@ -1,6 +1,6 @@
 //! Callbacks of walks whose memory may be refused.
-use crate::refused::lines::Given;
 use jwalk::DirEntry;
+use refused_walks::lines::Given;
 use std::alloc::{AllocError, Allocator};
 use walk_fixtures::moving::move_directory;
 
@@ -31,9 +31,6 @@ pub fn move_group<A: Allocator + Copy>(
 /// States that are texts, or none: a directory's and an entry's.
 pub type Texts<A> = (Option<String<A>>, Option<String<A>>);
 
-/// A list whose entries' states are texts.
-pub type Named<A> = Vec<Given<Texts<A>, A>, A>;
-
 /// Gives an entry its list's state, and its name to its directory.
 fn hand_on<A: Allocator + Copy>(
     entry: &mut DirEntry<Texts<A>, A>,
@@ -51,7 +48,7 @@ pub fn hand_on_names<A: Allocator + Copy>(
     _depth: Option<usize>,
     _path: &str,
     state: &mut Option<String<A>>,
-    list: &mut Named<A>,
+    list: &mut Vec<Given<Texts<A>, A>, A>,
 ) -> Result<(), AllocError> {
     list.retain(|found| matches!(found, Ok(entry) if entry.read_children.is_some()));
     for found in list.iter_mut() {

@@ -1,11 +1,11 @@
 //! Walks that a crew reads for, where each request for memory is refused, or all from each on.
 use crate::by_crew::Host;
-use crate::refused::goes::{Came, goes};
 use crate::refused::rows::GROUPS;
 use jwalk::file_system::MemoryFs;
 use jwalk::read_dir::NoProcess;
 use jwalk::threads::InTurn;
 use jwalk::{Crew, Parallelism, WalkDirGeneric};
+use refused_walks::came::{Came, goes};
 use refusing_alloc::Refusing;
 use std::alloc::Global;
 use std::sync::Arc;

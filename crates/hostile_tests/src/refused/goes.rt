@@ -1,149 +1,21 @@
-//! How walks come out whose memory may be refused.
-ghost use Rattle.jwalk.specs.DirEntryIter.{job_of};
-ghost use Rattle.jwalk.specs.jwalk_read.Job.{callback};
+//! Walks of rows that are made again and again.
+ghost use Rattle.std.specs.Prelude.{◌≡◌, IfSome};
+ghost use Rattle.jwalk.specs.WalkDir.{callback_of};
 
 use crate::refused::callbacks::{Callback, Texts, hand_on_names, move_group};
-use crate::refused::lines::{Given, Shown, are_first, is_line, is_refusal};
 use crate::refused::rows::Row;
-use jwalk::file_system::{FileSystem, MemoryFs};
+use jwalk::file_system::MemoryFs;
 use jwalk::read_dir::{ByFn, NoProcess, ProcessReadDir};
-use jwalk::threads::InTurn;
-use jwalk::{ClientState, DirEntryIter, Error, Pool, WalkDirGeneric};
+use jwalk::{ClientState, WalkDirGeneric};
+use refused_walks::came::{Came, Taken, comes};
+use refused_walks::lines::Shown;
 use std::alloc::{Allocator, Global};
 use walk_ways::width::Width;
-
-/// How a walk came out.
-#[derive(Clone, Copy, PartialEq, Eq)]
-pub enum Came {
-    /// All its answers came.
-    Whole,
-    /// That many of its answers came, from the first on, and then one error that reports that memory ran out.
-    Refused(usize),
-    /// It came otherwise.
-    Wrong,
-}
-
-/// How a walk's answers are taken.
-#[derive(Clone, Copy, PartialEq, Eq)]
-pub enum Taken {
-    /// Begun by `try_into_iter`, one after another.
-    Tried,
-    /// Begun by `into_iter`, one after another.
-    Begun,
-    /// Begun by `into_iter`, many at once.
-    Filled,
-}
-
-pub const TAKEN: &[Taken] = &[Taken::Tried, Taken::Begun, Taken::Filled];
-
-/// A walk under way, for which some pool may read.
-type Walk<C, S, P, A, L> = DirEntryIter<C, S, P, A, InTurn, L>;
 
 /// A walk yet to begin.
 pub type Builder<'f, C, P, A> = WalkDirGeneric<C, &'f MemoryFs, P, A>;
 
-/// What came if nothing follows, and that something is wrong if anything does.
-fn if_over<
-    C: ClientState,
-    S: FileSystem,
-    P: ProcessReadDir<C, A>,
-    A: Allocator + Copy,
-    L: Pool<C, S, P, A>,
->(mut walk: Walk<C, S, P, A, L>, came: Came) -> Came
-    requires { P.IsLawful (callback (job_of walk)) }
-{
-    let is_over = walk.next().is_none();
-    if is_over && walk.next().is_none() {
-        came
-    } else {
-        Came::Wrong
-    }
-}
-
-/// How a walk goes on that is to yield these lines, after that many that came before.
-fn goes_on<
-    C: ClientState,
-    S: FileSystem,
-    P: ProcessReadDir<C, A>,
-    A: Allocator + Copy,
-    L: Pool<C, S, P, A>,
->(alloc: Global, mut walk: Walk<C, S, P, A, L>, lines: &[&str], before: usize) -> Came
-where
-    C::DirEntryState: Shown,
-    requires { P.IsLawful (callback (job_of walk)) }
-{
-    let mut came = before;
-    'lines: for line in lines {
-        let Some(answer) = walk.next() else {
-            return Came::Wrong;
-        };
-        if is_refusal(Some(&answer)) {
-            return if_over(walk, Came::Refused(came));
-        }
-        if !is_line(alloc, &answer, line) {
-            return Came::Wrong;
-        }
-        came = came.saturating_add(1);
-    }
-    if_over(walk, Came::Whole)
-}
-
-/// How a walk goes that is to yield these lines, taken one after another.
-pub fn goes<
-    C: ClientState,
-    S: FileSystem,
-    P: ProcessReadDir<C, A>,
-    A: Allocator + Copy,
-    L: Pool<C, S, P, A>,
->(alloc: Global, walk: Walk<C, S, P, A, L>, lines: &[&str]) -> Came
-where
-    C::DirEntryState: Shown,
-    requires { P.IsLawful (callback (job_of walk)) }
-{
-    goes_on(alloc, walk, lines, 0)
-}
-
-/// How answers come that are asked for all at once, and the others after them.
-fn is_filled<
-    C: ClientState,
-    S: FileSystem,
-    P: ProcessReadDir<C, A>,
-    A: Allocator + Copy,
-    L: Pool<C, S, P, A>,
->(alloc: Global, memory: A, mut walk: Walk<C, S, P, A, L>, lines: &[&str]) -> Came
-where
-    C::DirEntryState: Shown,
-    requires { P.IsLawful (callback (job_of walk)) }
-{
-    let mut found: Vec<Given<C, A>, A> = Vec::new(memory);
-    // Where memory runs out for the vector, not all are in it.
-    let _ = walk.fill(100, &mut found);
-    let is_refused = is_refusal(found.last());
-    if is_refused {
-        found.pop();
-    }
-    if !are_first(alloc, found.as_slice(), lines) {
-        return Came::Wrong;
-    }
-    if is_refused {
-        return if_over(walk, Came::Refused(found.len()));
-    }
-    match lines.get(found.len()..) {
-        Some(rest) => goes_on(alloc, walk, rest, found.len()),
-        None => Came::Wrong,
-    }
-}
-
-/// How a walk comes out that didn't begin.
-fn not_begun<A: Allocator + Copy>(error: Error<A>) -> Came {
-    if error.is_memory() {
-        Came::Refused(0)
-    } else {
-        Came::Wrong
-    }
-}
-
-/// A walk of a row that is made again and again: over its tree, by so many directories together.
+/// A walk of a row over its tree, read by so many directories together.
 #[derive(Clone, Copy)]
 pub struct Play<'f> {
     pub fs: &'f MemoryFs,
@@ -157,7 +29,9 @@ impl<'f> Play<'f> {
         &self,
         memory: A,
         process: P,
-    ) -> Option<Builder<'f, C, P, A>> {
+    ) -> Option<Builder<'f, C, P, A>>
+        ensures { IfSome result (λ walk. callback_of walk ≡ process) }
+    {
         let root = String::from_str(memory, self.row.root).ok()?;
         let walk = WalkDirGeneric::new(self.fs, root)
             .sort(true)
@@ -178,16 +52,9 @@ impl<'f> Play<'f> {
         C::DirEntryState: Shown,
         requires { P.IsLawful process }
     {
-        let Some(walk) = self.builder::<C, P, A>(memory, process) else {
-            return Came::Refused(0);
-        };
-        match taken {
-            Taken::Tried => match walk.try_into_iter() {
-                Ok(walk) => goes(alloc, walk, self.row.lines),
-                Err(error) => not_begun(error),
-            },
-            Taken::Begun => goes(alloc, walk.into_iter(), self.row.lines),
-            Taken::Filled => is_filled(alloc, memory, walk.into_iter(), self.row.lines),
+        match self.builder::<C, P, A>(memory, process) {
+            Some(walk) => comes(alloc, memory, walk, taken, self.row.lines),
+            None => Came::Refused(0),
         }
     }
 
@@ -195,13 +62,13 @@ impl<'f> Play<'f> {
     pub fn comes<A: Allocator + Copy>(&self, alloc: Global, memory: A, taken: Taken) -> Came {
         match self.row.callback {
             Callback::Absent => {
-                self.comes_with::<((), ()), NoProcess, A>(alloc, memory, NoProcess, taken)
+                self.comes_with::<((), ()), _, _>(alloc, memory, NoProcess, taken)
             }
             Callback::MovesGroup => {
-                self.comes_with::<((), ()), _, A>(alloc, memory, ByFn::of(move_group::<A>), taken)
+                self.comes_with::<((), ()), _, _>(alloc, memory, ByFn::of(move_group::<A>), taken)
             }
             Callback::HandsOnNames => {
-                self.comes_with::<Texts<A>, _, A>(
+                self.comes_with::<Texts<A>, _, _>(
                     alloc,
                     memory,
                     ByFn::of(hand_on_names::<A>),

@@ -1,6 +1,9 @@
 //! Walks by name, and their answers.
 use crate::refused::callbacks::Callback;
-use walk_fixtures::trees::{DENIED, GROUPED, LOOPED, Step};
+use crate::refused::goes::Play;
+use refused_walks::came::{TAKEN, Taken};
+use std::alloc::Global;
+use walk_fixtures::trees::{DENIED, GROUPED, LOOPED, Step, tree};
 use walk_ways::width::Width;
 
 /// A walk by name, and its answers.
@@ -96,9 +99,38 @@ pub const ROWS: &[Row] = &[
     },
 ];
 
+/// How many directories are read together.
 pub const WIDTHS: &[Width] = &[
     Width::Serial,
     Width::Batches(1),
     Width::Batches(2),
     Width::Batches(8),
 ];
+
+/// Returns what is wrong of the walk of a row in the first way in which anything is: in some width, and its answers
+/// taken in some way.
+pub fn in_each_way<F: Fn(Play<'_>, Taken) -> Option<usize>>(
+    alloc: Global,
+    row: &Row,
+    wrong: F,
+) -> Option<usize>
+    requires { F.IsAlwaysCallable wrong }
+{
+    let Ok(fs) = tree(alloc, row.steps) else {
+        return Some(0);
+    };
+    for width in WIDTHS {
+        let play = Play {
+            fs: &fs,
+            row,
+            width: *width,
+        };
+        for taken in TAKEN {
+            let wrong = wrong(play, *taken);
+            if wrong.is_some() {
+                return wrong;
+            }
+        }
+    }
+    None
+}

@@ -3,13 +3,15 @@ ghost use Rattle.jwalk.specs.DirEntryIter.{job_of};
 ghost use Rattle.jwalk.specs.jwalk_read.Job.{callback};
 
 use crate::refused::callbacks::{Callback, Texts, hand_on_names, move_group};
-use crate::refused::goes::{Came, Play};
-use crate::refused::lines::{Given, Shown, are_first, is_refusal};
+use crate::refused::goes::Play;
 use crate::refused::rows::{GROUPS, HANDED_ON, MOVED, Row, WIDTHS};
 use jwalk::file_system::{BuildError, MemoryFs};
 use jwalk::read_dir::{ByFn, NoProcess, ProcessReadDir};
 use jwalk::threads::OnThreads;
 use jwalk::{ClientState, DirEntryIter};
+use refused_walks::came::Came;
+use refused_walks::lines::{Given, Shown, are_first, is_refusal};
+use refused_walks::turns::first_wrong;
 use refusing_alloc::Refusing;
 use std::alloc::Global;
 use std::thread::Threads;
@@ -33,55 +35,49 @@ fn wide(alloc: Global) -> Result<MemoryFs, BuildError> {
 type Memory<'m> = &'m Refusing<Global>;
 
 /// A walk under way whose directories threads read.
-type Walk<'m, 'r, C, P, R> = DirEntryIter<C, &'m MemoryFs, P, Memory<'m>, OnThreads<&'r R>>;
-
-/// How answers come that are asked for all at once, if they are to begin with the lines of a row and be that many.
-fn fills<
-    'm,
-    'r,
-    R: Threads + Sync,
-    C: ClientState + Send,
-    P: ProcessReadDir<C, Memory<'m>> + Send + Sync,
->(
-    alloc: Global,
-    memory: Memory<'m>,
-    mut walk: Walk<'m, 'r, C, P, R>,
-    row: &Row,
-    count: usize,
-) -> Came
-where
-    C::ReadDirState: Send,
-    C::DirEntryState: Send + Shown,
-    requires { P.IsLawful (callback (job_of walk)) }
-{
-    let mut found: Vec<Given<C, Memory<'m>>, Memory<'m>> = Vec::new(memory);
-    let is_filled = walk.fill(100, &mut found).is_ok();
-    let is_refused = is_refusal(found.last());
-    if is_refused {
-        found.pop();
-    }
-    let some = found.get(..found.len().min(row.lines.len())).unwrap_or(&[]);
-    if !are_first(alloc, some, row.lines) {
-        return Came::Wrong;
-    }
-    match (is_filled && !is_refused, found.len() == count) {
-        (true, true) => Came::Whole,
-        (true, false) => Came::Wrong,
-        (false, _) => Came::Refused(found.len()),
-    }
-}
+type Walk<'f, 'm, 'r, C, P, R> = DirEntryIter<C, &'f MemoryFs, P, Memory<'m>, OnThreads<&'r R>>;
 
 /// A walk that threads read again and again, and how many answers it has.
 #[derive(Clone, Copy)]
-struct Threaded<'m, 'r, R> {
+struct Threaded<'f, 'r, R> {
     rt: &'r R,
-    play: Play<'m>,
+    play: Play<'f>,
     count: usize,
 }
 
-impl<'m, 'r, R: Threads + Sync> Threaded<'m, 'r, R> {
+impl<'f, 'r, R: Threads + Sync> Threaded<'f, 'r, R> {
+    /// How the answers come of a walk under way that are asked for all at once.
+    fn fills<'m, C: ClientState + Send, P: ProcessReadDir<C, Memory<'m>> + Send + Sync>(
+        &self,
+        alloc: Global,
+        memory: Memory<'m>,
+        mut walk: Walk<'f, 'm, 'r, C, P, R>,
+    ) -> Came
+    where
+        C::ReadDirState: Send,
+        C::DirEntryState: Send + Shown,
+        requires { P.IsLawful (callback (job_of walk)) }
+    {
+        let mut found: Vec<Given<C, Memory<'m>>, Memory<'m>> = Vec::new(memory);
+        let is_filled = walk.fill(100, &mut found).is_ok();
+        let is_refused = is_refusal(found.last());
+        if is_refused {
+            found.pop();
+        }
+        let lines = self.play.row.lines;
+        let some = found.get(..found.len().min(lines.len())).unwrap_or(&[]);
+        if !are_first(alloc, some, lines) {
+            return Came::Wrong;
+        }
+        match (is_filled && !is_refused, found.len() == self.count) {
+            (true, true) => Came::Whole,
+            (true, false) => Came::Wrong,
+            (false, _) => Came::Refused(found.len()),
+        }
+    }
+
     /// How the walk comes out with this memory and this callback.
-    fn comes_with<C: ClientState + Send, P: ProcessReadDir<C, Memory<'m>> + Send + Sync>(
+    fn comes_with<'m, C: ClientState + Send, P: ProcessReadDir<C, Memory<'m>> + Send + Sync>(
         &self,
         alloc: Global,
         memory: Memory<'m>,
@@ -93,47 +89,24 @@ impl<'m, 'r, R: Threads + Sync> Threaded<'m, 'r, R> {
         requires { P.IsLawful process }
     {
         match self.play.builder::<C, P, Memory<'m>>(memory, process) {
-            Some(walk) => {
-                let walk = walk.threads(self.rt).into_iter();
-                fills(alloc, memory, walk, self.play.row, self.count)
-            }
+            Some(walk) => self.fills(alloc, memory, walk.threads(self.rt).into_iter()),
             None => Came::Refused(0),
         }
     }
 
     /// How the walk comes out with this memory and the row's callback.
-    fn comes(&self, alloc: Global, memory: Memory<'m>) -> Came {
+    fn comes(&self, alloc: Global, memory: Memory<'_>) -> Came {
         match self.play.row.callback {
-            Callback::Absent => self.comes_with::<((), ()), NoProcess>(alloc, memory, NoProcess),
+            Callback::Absent => self.comes_with::<((), ()), _>(alloc, memory, NoProcess),
             Callback::MovesGroup => {
-                self.comes_with::<((), ()), _>(alloc, memory, ByFn::of(move_group::<Memory<'m>>))
+                self.comes_with::<((), ()), _>(alloc, memory, ByFn::of(move_group::<Memory<'_>>))
             }
-            Callback::HandsOnNames => self.comes_with::<Texts<Memory<'m>>, _>(
+            Callback::HandsOnNames => self.comes_with::<Texts<Memory<'_>>, _>(
                 alloc,
                 memory,
-                ByFn::of(hand_on_names::<Memory<'m>>),
+                ByFn::of(hand_on_names::<Memory<'_>>),
             ),
         }
-    }
-
-    /// Whether the walk comes out right where that many requests are refused, from each number on. Else the number where
-    /// it doesn't.
-    fn first_wrong(&self, alloc: Global, memory: Memory<'m>, many: usize) -> Option<usize> {
-        for number in 1..10_000 {
-            memory.refuse(number, many);
-            let came = self.comes(alloc, memory);
-            let refused = memory.refused();
-            if came == Came::Wrong
-                || memory.pieces() != 0
-                || (refused == 0 && came != Came::Whole)
-            {
-                return Some(number);
-            }
-            if refused == 0 && number > 20 {
-                return None;
-            }
-        }
-        Some(usize::MAX)
     }
 }
 
@@ -145,10 +118,15 @@ fn is_right<R: Threads + AllocGlobal + Sync>(
     width: Width,
     count: usize,
 ) -> bool {
-    let memory = Refusing::new(rt.alloc());
+    let alloc = rt.alloc();
     let play = Play { fs, row, width };
-    let threaded = Threaded { rt, play, count };
-    [1, usize::MAX].iter().all(|many| threaded.first_wrong(rt.alloc(), &memory, *many).is_none())
+    let walk = Threaded { rt, play, count };
+    [1, usize::MAX].iter().all(|many| first_wrong(
+        alloc,
+        *many,
+        true,
+        |memory| walk.comes(alloc, memory),
+    ).is_none())
 }
 
 /// Whether the walk of a row comes out right in each width.

@@ -1,13 +1,13 @@
 //! Requests for memory that are refused within a callback.
-use crate::refused::callbacks::{Named, Texts, hand_on_names};
-use crate::refused::goes::{Came, Play, TAKEN, Taken};
-use crate::refused::rows::{HANDED_ON, WIDTHS};
-use jwalk::file_system::MemoryFs;
+use crate::refused::callbacks::{Texts, hand_on_names};
+use crate::refused::goes::Play;
+use crate::refused::rows::{HANDED_ON, in_each_way};
 use jwalk::read_dir::ByFn;
+use refused_walks::came::{Came, Taken};
+use refused_walks::counting::Counting;
 use refusing_alloc::Refusing;
 use std::alloc::Global;
 use std::sync::atomic::{AtomicUsize, Ordering};
-use walk_fixtures::trees::tree;
 
 /// Memory that may be refused.
 type Memory<'m> = &'m Refusing<Global>;
@@ -15,15 +15,7 @@ type Memory<'m> = &'m Refusing<Global>;
 /// How the walk that hands names on comes out with this memory, and how often its callback ran out of it.
 fn comes(alloc: Global, memory: Memory<'_>, play: Play<'_>, taken: Taken) -> (Came, usize) {
     let within = AtomicUsize::new(0);
-    let counting = ByFn::new(|depth: Option<usize>, path: &str, state: &mut Option<
-        String<Memory<'_>>,
-    >, list: &mut Named<Memory<'_>>| {
-        let handed = hand_on_names(depth, path, state, list);
-        if handed.is_err() {
-            within.fetch_add(1, Ordering::SeqCst);
-        }
-        handed
-    });
+    let counting = Counting::new(ByFn::of(hand_on_names::<Memory<'_>>), &within);
     let came = play.comes_with::<Texts<Memory<'_>>, _, _>(alloc, memory, counting, taken);
     (came, within.load(Ordering::SeqCst))
 }
@@ -51,20 +43,21 @@ fn refused_within(alloc: Global, play: Play<'_>, taken: Taken) -> Option<usize> 
 /// a copy of the state and the name.
 const REQUESTS: usize = 5;
 
-/// Whether each of them is refused in turn, in each way.
-fn are_all_refused(alloc: Global, fs: &MemoryFs) -> bool {
-    WIDTHS.iter().all(|width| {
-        let play = Play {
-            fs,
-            row: &HANDED_ON,
-            width: *width,
-        };
-        TAKEN.iter().all(|taken| refused_within(alloc, play, *taken) == Some(REQUESTS))
-    })
+/// Whether some other number of them is refused in a way.
+fn wrong_in(alloc: Global, play: Play<'_>, taken: Taken) -> Option<usize> {
+    match refused_within(alloc, play, taken) {
+        Some(REQUESTS) => None,
+        other => Some(other.unwrap_or(0)),
+    }
 }
 
 #[test]
 fn each_request_of_a_callback_is_refused_and_reported_by_that_next(rt: HostRuntime) {
-    let fs = tree(rt.alloc(), HANDED_ON.steps);
-    assert!(rt; matches!(&fs, Ok(fs) if are_all_refused(rt.alloc(), fs)));
+    let alloc = rt.alloc();
+    let wrong = in_each_way(
+        alloc,
+        &HANDED_ON,
+        |play, taken| wrong_in(alloc, play, taken),
+    );
+    assert_eq!(rt; wrong, None);
 }

@@ -1,6 +1,6 @@
 use Rattle.std.proofs.Common.{◌≡◌}
 use Rattle.jwalk.specs.DirEntryIter.{job_of}
-use Rattle.hostile_tests.proofs.refused.goes.goes_on.Given as goal
+use Rattle.refused_walks.proofs.came.goes_on.Given as goal
 
 -- the walk keeps its callback
 abbrev pub invariant-loop-lines : goal.invariant-loop-lines
