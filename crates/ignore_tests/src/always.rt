@@ -4,7 +4,7 @@ use crate::planted::{Planted, Rules};
 use jwalk::file_system::MemoryFs;
 use jwalk::read_dir::NoProcess;
 use jwalk::threads::InTurn;
-use jwalk::{Crew, Host, Parallelism, WalkDirGeneric};
+use jwalk::{Crew, Parallelism, WalkDirGeneric};
 use jwalk_ignore::builder::with_ignore_files;
 use jwalk_ignore::ignore_files::IgnoreFiles;
 use jwalk_ignore::memory_texts::MemoryTexts;
@@ -12,10 +12,11 @@ use std::alloc::{AllocError, Global};
 use std::sync::Arc;
 use std::thread::Threads;
 use walk_fixtures::answers::Answer;
+use walk_fixtures::host::Host;
 use walk_ways::ways::{Asked, Setting, WAYS, Way, all_of};
 
 /// Returns a crew of two workers, for one walk at a time.
-pub(crate) fn crew_of_two<R: Host + AllocGlobal>(rt: &R) -> Result<Arc<Crew<R>>, AllocError> {
+pub(crate) fn crew_of_two<R: Host>(rt: &R) -> Result<Arc<Crew<R>>, AllocError> {
     Ok(Arc::new(rt.alloc(), Crew::new(rt.clone()?, 1, 2))?)
 }
 
@@ -86,11 +87,7 @@ impl Shared {
     }
 
     /// Returns whether walks from `/r` leave this, in each way and over a crew of two.
-    pub(crate) fn leaves_always<R: Host + AllocGlobal>(
-        &self,
-        rt: &R,
-        wanted: &str,
-    ) -> Result<bool, AllocError> {
+    pub(crate) fn leaves_always<R: Host>(&self, rt: &R, wanted: &str) -> Result<bool, AllocError> {
         let alloc = rt.alloc();
         let found = self.found_by_crew(alloc, crew_of_two(rt)?)?;
         let mut is_left = text_of(alloc, &found)?.as_str() == wanted;

@@ -3,19 +3,15 @@ use crate::always::{Shared, crew_of_two};
 use crate::left::text_of;
 use crate::planted::repository;
 use crate::tree_rows::{TreeRow, first, fourth, second, third};
+use jwalk::Crew;
 use jwalk::file_system::BuildError;
-use jwalk::{Crew, Host};
-use std::alloc::Global;
 use std::sync::Arc;
+use walk_fixtures::host::Host;
 use walk_ways::ways::Way;
 use walk_ways::width::Width;
 
 /// Returns whether a walk over a crew leaves what git keeps of a tree, and the same as a serial walk.
-fn is_as_git<R: Host + AllocGlobal>(
-    rt: &R,
-    pool: &Arc<Crew<R>>,
-    row: &TreeRow,
-) -> Result<bool, BuildError> {
+fn is_as_git<R: Host>(rt: &R, pool: &Arc<Crew<R>>, row: &TreeRow) -> Result<bool, BuildError> {
     let alloc = rt.alloc();
     let (tree, kept) = row;
     let shared = Shared::new(alloc, repository(alloc, tree)?)?;
@@ -25,11 +21,7 @@ fn is_as_git<R: Host + AllocGlobal>(
 }
 
 /// Returns the place of the first tree of which a walk over a crew leaves something else.
-fn first_wrong<R: Host + AllocGlobal>(
-    rt: &R,
-    pool: &Arc<Crew<R>>,
-    rows: &[TreeRow],
-) -> Option<usize> {
+fn first_wrong<R: Host>(rt: &R, pool: &Arc<Crew<R>>, rows: &[TreeRow]) -> Option<usize> {
     rows.iter()
         .position(|row| !matches!(is_as_git(rt, pool, row), Ok(true)))
 }

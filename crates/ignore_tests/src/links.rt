@@ -1,10 +1,10 @@
 //! Many links to the directory that they are in, with rules in force.
 use crate::always::{Shared, crew_of_two};
 use crate::planted::{Planted, Rules, repository};
-use jwalk::Host;
 use jwalk::file_system::BuildError;
 use std::alloc::Global;
 use walk_fixtures::answers::Answer;
+use walk_fixtures::host::Host;
 use walk_ways::ways::WAYS;
 
 /// How many links there are.
@@ -51,7 +51,7 @@ fn numbers_of(found: &[Answer<Rules>]) -> Numbers {
 }
 
 /// Returns whether these are the numbers of a walk that follows links or not, in each way and over a crew of two.
-fn has<R: Host + AllocGlobal>(rt: &R, follows: bool, wanted: Numbers) -> Result<bool, BuildError> {
+fn has<R: Host>(rt: &R, follows: bool, wanted: Numbers) -> Result<bool, BuildError> {
     let alloc = rt.alloc();
     let mut shared = Shared::new(alloc, linked(alloc)?)?;
     shared.follows = follows;

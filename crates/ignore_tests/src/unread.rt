@@ -1,13 +1,13 @@
 //! Files of rules that can't be read.
 use crate::always::Shared;
 use crate::planted::repository;
-use jwalk::Host;
 use jwalk::file_system::BuildError;
 use std::io::ErrorKind;
+use walk_fixtures::host::Host;
 
 /// Returns whether this is left of a repository of these lines, of which a file of rules can't be read, whatever reads
 /// it.
-fn leaves_unread<R: Host + AllocGlobal>(
+fn leaves_unread<R: Host>(
     rt: &R,
     lines: &str,
     denied: &str,

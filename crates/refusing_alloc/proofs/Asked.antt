@@ -53,11 +53,9 @@ module _ {M : Type 1} {𝓤 : Ura M} (𝓛 : Logic 𝓤) (at_mem : Memory → SP
       feq_i ! (List Val) (vptr at.0 at.1 ∷ []) (vptr at.0 at.1 ∷ []) refl $ fjoin ! $ nothing ! $ move ! (1 ∷ []) $ fjoin ! $
       nothing ! $ move ! (2 ∷ []) $ join ! $ join ! $ nothing ! $ move ! (1 ∷ []) $ done !
 
+  -- the same is handed to both
   pub gives : ent 𝓤 (sep 𝓤 (sem 𝓛 (shown κ at g)) (A.lft κ q)) ((TakesBack 𝓛 at_mem run).pre (to_gate 𝓛 at_mem run κ q at g))
-  gives =
-      qed 𝓛 (‵ (shown κ at g) ∷ ‵ (flft κ q) ∷ []) ∵
-      feq_i ! (List Val) (vptr at.0 at.1 ∷ []) (vptr at.0 at.1 ∷ []) refl $ fjoin ! $ nothing ! $ move ! (1 ∷ []) $ fjoin ! $
-      nothing ! $ move ! (2 ∷ []) $ join ! $ join ! $ nothing ! $ move ! (1 ∷ []) $ done !
+  gives = asks
 
   -- the token comes back, beside a truth value
   abbrev pub Told : Val → SProp 𝓤

@@ -3,5 +3,5 @@ use Rattle.jwalk.specs.DirEntryIter.{job_of}
 use Rattle.refused_walks.proofs.came.goes_on.Given as goal
 
 -- the walk keeps its callback
-abbrev pub invariant-loop-lines : goal.invariant-loop-lines
-invariant-loop-lines g l = job_of l.walk ≡ job_of l.fn.walk
+abbrev pub invariant-lines : goal.invariant-lines
+invariant-lines g l = job_of l.walk ≡ job_of l.fn.walk
