@@ -1,5 +1,5 @@
 //! Walks over a plan that reads no directories.
-use crate::rehearsal::Family;
+use board_fixtures::family::Family;
 use std::alloc::{AllocError, Global};
 use std::thread::Threads;
 use tree_walk::board_walk::BoardWalk;

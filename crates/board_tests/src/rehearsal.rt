@@ -1,54 +1,10 @@
 //! Rehearsals of a small family.
 use crate::given::{counts, is_at};
+use board_fixtures::family::{Family, MOVES};
 use jwalk_board::board::{Move, Plan, Refused, Rehearsal, rehearse};
 use jwalk_order::index_path::IndexPath;
 use jwalk_order::ordered::Ordered;
 use std::alloc::Global;
-
-// A root 0 with the children 1 and 2, and 1 with the one child 3. A reading is the number.
-#[derive(Drop)]
-pub(crate) struct Family;
-
-impl Plan<Global> for Family {
-    ghost use Rattle.jwalk_board.specs.Rows.{family, family-falls};
-
-    type Spec = u8;
-
-    type Reading = u8;
-
-    ghost use Rattle.std.specs.Prelude.{ℕ, ◌≡◌, map};
-
-    ghost Given = { Unit {0} };
-
-    ghost SpecValue = { ℕ };
-
-    ghost ReadingValue = { ℕ };
-
-    ghost spec_value = { λ _ s. s };
-
-    ghost reading_value = { λ _ r. r };
-
-    ghost IsLawful = { λ _. Unit {0} };
-
-    ghost IsReading = { λ _ s r below. (r ≡ family.reading s) × (map (λ c. c) below ≡ family.children s) };
-
-    ghost IsFixed = { λ _ _. Unit {0} };
-
-    ghost tree = { λ _ _. family };
-
-    ghost as_given = { λ _ _ _ _ is _ _. is };
-
-    ghost falls = { λ _ _ _. family-falls };
-
-    fn read(&self, alloc: Global, spec: &u8) -> Result<(u8, Vec<u8>), Refused> {
-        let children = match *spec {
-            0 => vec![in alloc; 1, 2]?,
-            1 => vec![in alloc; 3]?,
-            _ => Vec::new(alloc),
-        };
-        Ok((*spec, children))
-    }
-}
 
 // A root 0 with the leaves 1 and 2. A reading is the number. Nothing is said of its tree.
 struct Leaves;
@@ -91,25 +47,6 @@ impl Plan<Global> for Leaves {
         Ok((*spec, children))
     }
 }
-
-const MOVES: &[Move] = &[
-    Move::Take(0),
-    Move::Finish(0),
-    Move::Take(1),
-    Move::Take(0),
-    Move::Finish(0),
-    Move::HandOut,
-    Move::HandOut,
-    Move::Take(0),
-    Move::Take(2),
-    Move::Finish(1),
-    Move::HandOut,
-    Move::HandOut,
-    Move::Take(1),
-    Move::Finish(1),
-    Move::HandOut,
-    Move::HandOut,
-];
 
 // The outcome of a rehearsal.
 struct Outcome {

@@ -4,10 +4,10 @@ use jwalk::read_dir::{Size, WithSizes};
 use jwalk::{Crew, DirEntry, Parallelism, WalkDirGeneric};
 use proved_walk::by_crew::walk_by_crew;
 use std::alloc::{AllocError, Global};
-use std::sync::{Arc, Wait};
+use std::sync::Arc;
 use std::thread::Threads;
-use std::time::Clock;
 use walk_fixtures::answers::Answer;
+use walk_fixtures::host::Host;
 use walk_fixtures::trees::{GROUPED, Step, tree};
 use walk_fixtures::watched::{Failing, Watched};
 use walk_ways::ways::{Asked, Setting, WAYS, Way};
@@ -84,11 +84,7 @@ fn files_with_their_sizes(rt: HostRuntime) {
 }
 
 /// The sizes that a crew of two workers finds.
-fn sized_by_crew<R: Wait + Threads + Clock + AllocGlobal + Clone + Drop + Send + Sync + 'static>(
-    rt: &R,
-    fs: MemoryFs,
-    root: &str,
-) -> Result<String, AllocError> {
+fn sized_by_crew<R: Host>(rt: &R, fs: MemoryFs, root: &str) -> Result<String, AllocError> {
     let alloc = rt.alloc();
     let root = String::from_str(alloc, root)?;
     let fs = Arc::new(alloc, fs)?;
@@ -110,9 +106,7 @@ fn sized_by_crew<R: Wait + Threads + Clock + AllocGlobal + Clone + Drop + Send +
 }
 
 /// Whether they are those of the grouped tree.
-fn is_sized_by_crew<R: Wait + Threads + Clock + AllocGlobal + Clone + Drop + Send + Sync + 'static>(
-    rt: &R,
-) -> Result<bool, BuildError> {
+fn is_sized_by_crew<R: Host>(rt: &R) -> Result<bool, BuildError> {
     let fs = tree(rt.alloc(), GROUPED)?;
     Ok(sized_by_crew(rt, fs, "/t")?.as_str() == GROUPED_SIZES)
 }

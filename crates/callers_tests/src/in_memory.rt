@@ -7,16 +7,11 @@ use proved_walk::in_memory::{
 };
 use proved_walk::turned_by_crew::walk_turned_by_crew;
 use std::alloc::{AllocError, Global};
-use std::sync::{Arc, Wait};
-use std::thread::Threads;
-use std::time::{Clock, Duration};
+use std::sync::Arc;
+use std::time::Duration;
 use walk_fixtures::answers::are_lines;
+use walk_fixtures::host::Host;
 use walk_fixtures::trees::{GROUPED, SMALL, tree};
-
-/// What the tests ask of a runtime.
-trait Host: Wait + Threads + Clock + AllocGlobal + Clone + Drop + Send + Sync + 'static {}
-
-impl<R: Wait + Threads + Clock + AllocGlobal + Clone + Drop + Send + Sync + 'static> Host for R {}
 
 /// The lines of the small tree.
 const WHOLE: &str = "0 d /r; 1 f /r/b; 1 d /r/s; 2 f /r/s/x; 1 f /r/a";

@@ -3,17 +3,17 @@ use jwalk::file_system::FileSystem;
 use jwalk::{Crew, Parallelism, WalkDirGeneric};
 use proved_walk::by_crew::walk_by_crew;
 use std::alloc::AllocError;
-use std::sync::{Arc, Wait};
-use std::thread::Threads;
-use std::time::Clock;
+use std::sync::Arc;
 use walk_fixtures::answers::are_lines;
+use walk_fixtures::host::Host;
 use walk_fixtures::trees::{SMALL, tree};
 
 /// Whether these are the lines of a whole walk over a file system that two workers read.
-fn shows_by_crew<
-    R: Wait + Threads + Clock + AllocGlobal + Clone + Drop + Send + Sync + 'static,
-    S: FileSystem + Send + Sync + 'static,
->(rt: &R, fs: S, wanted: &str) -> Result<bool, AllocError> {
+fn shows_by_crew<R: Host, S: FileSystem + Send + Sync + 'static>(
+    rt: &R,
+    fs: S,
+    wanted: &str,
+) -> Result<bool, AllocError> {
     let alloc = rt.alloc();
     let pool = Arc::new(alloc, Crew::new(rt.clone()?, 1, 2))?;
     let by_crew = Parallelism::RayonExistingPool {

@@ -1,5 +1,5 @@
 //! What is done with walks over a crew, one act after another.
-use crate::crewed::{Asked, Host, PoolWalk, Stand, States, Taken, Walk};
+use crate::crewed::{Asked, PoolWalk, Stand, States, Taken, Walk};
 use jwalk::file_system::FileSystem;
 use jwalk::read_dir::{NoProcess, ProcessReadDir};
 use jwalk::{Crew, Pool};
@@ -9,6 +9,8 @@ use std::sync::Arc;
 use std::thread;
 use std::time::{Clock, Duration};
 use walk_fixtures::answers::{Answer, are_lines};
+use walk_fixtures::host::Host;
+use walk_fixtures::resting::{CountsLists, rests};
 use walk_fixtures::trees::{Step, tree};
 use walk_fixtures::watched::{Failing, Watched};
 use walk_ways::ways::all_of;
@@ -124,38 +126,6 @@ fn goes_on<S: FileSystem, L: Pool<States, S, NoProcess, Global>>(
         },
         Going::Drops => walks.pop().is_some(),
     }
-}
-
-/// A file system that counts its listings.
-pub trait CountsLists: FileSystem {
-    /// How many were asked for so far.
-    fn lists_so_far(&self) -> usize;
-}
-
-impl CountsLists for Watched {
-    fn lists_so_far(&self) -> usize {
-        self.lists()
-    }
-}
-
-/// Whether no directory is listed any more for a while, within some seconds.
-pub fn rests(clock: &impl Clock, fs: &impl CountsLists) -> bool {
-    let mut lists = fs.lists_so_far();
-    let mut still: usize = 0;
-    for _ in 0..5_000 {
-        thread::sleep(clock, Duration::from_millis(1));
-        let now = fs.lists_so_far();
-        still = if now == lists {
-            still.saturating_add(1)
-        } else {
-            0
-        };
-        lists = now;
-        if still >= 200 {
-            return true;
-        }
-    }
-    false
 }
 
 /// Takes a place, and gives it back a while later on another thread.

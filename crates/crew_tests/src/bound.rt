@@ -1,10 +1,12 @@
 //! How far a crew reads ahead of a walk.
-use crate::acts::{come_ahead, comes, rests};
-use crate::crewed::{Asked, Host, Reader, Stand, Walk};
+use crate::acts::{come_ahead, comes};
+use crate::crewed::{Asked, Reader, Stand, Walk};
 use jwalk::file_system::{BuildError, MemoryFs};
 use std::alloc::Global;
 use std::thread;
 use std::time::Duration;
+use walk_fixtures::host::Host;
+use walk_fixtures::resting::rests;
 use walk_fixtures::watched::{Failing, Watched};
 use walk_ways::ways::Setting;
 

@@ -1,9 +1,9 @@
 //! Answers that a builder's own calls hand to a closure, of serial walks and of walks with workers.
-use crate::crewed::Host;
 use jwalk::file_system::{BuildError, FileSystem};
 use std::alloc::AllocError;
 use std::sync::Arc;
 use walk_fixtures::answers::{Answer, are_lines};
+use walk_fixtures::host::Host;
 use walk_fixtures::trees::{GROUPED, LOOPED, tree};
 use walk_fixtures::watched::{Failing, Watched};
 use walk_ways::builders::{Builder, builder, over_tree};

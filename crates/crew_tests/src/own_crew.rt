@@ -1,7 +1,7 @@
 //! Walks that a crew of their own reads.
 ghost use Rattle.jwalk.specs.WalkDir.{callback_of};
 
-use crate::crewed::{Host, States};
+use crate::crewed::States;
 use jwalk::crew::Session;
 use jwalk::file_system::{BuildError, FileSystem, MemoryFs};
 use jwalk::read_dir::{NoProcess, ProcessReadDir};
@@ -9,6 +9,7 @@ use jwalk::threads::InTurn;
 use jwalk::{Crew, DirEntryIter, WalkDirGeneric};
 use std::alloc::{AllocError, Global};
 use walk_fixtures::answers::{Answer, are_lines};
+use walk_fixtures::host::Host;
 use walk_fixtures::trees::{DENIED, FORKED, GROUPED, LOOPED, Step, tree};
 use walk_ways::builders::over_tree;
 use walk_ways::ways::{Setting, all_looped, all_of, with_all};

@@ -1,8 +1,9 @@
 //! Walks over trees made at random, with and without a crew.
-use crate::crewed::{Asked, Host, Reader};
+use crate::crewed::{Asked, Reader};
 use crate::random_trees::random_tree;
 use crate::serial::are_serial;
 use walk_fixtures::dice::Dice;
+use walk_fixtures::host::Host;
 use walk_ways::ways::Setting;
 
 /// How many trees there are.

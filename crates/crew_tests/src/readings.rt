@@ -1,5 +1,5 @@
 //! Readings that a crew makes, without the answers of a walk.
-use crate::crewed::{Host, Stand, States};
+use crate::crewed::{Stand, States};
 use jwalk::crew::Session;
 use jwalk::file_system::FileSystem;
 use jwalk::read_dir::{Job, NoProcess};
@@ -9,6 +9,7 @@ use jwalk::{Error, Parallelism, Pool};
 use std::alloc::{AllocError, Global};
 use std::sync::Arc;
 use std::time::Duration;
+use walk_fixtures::host::Host;
 use walk_fixtures::trees::{FORKED, tree};
 use walk_ways::width::Width;
 

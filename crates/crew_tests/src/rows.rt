@@ -1,11 +1,12 @@
 //! Walks over a crew and their answers, which are those of walks without one.
 use crate::acts::{Act, Scene, first_wrong, shows_by};
-use crate::crewed::{Asked, Host, Reader, Taken};
+use crate::crewed::{Asked, Reader, Taken};
 use crate::serial::are_serial;
 use jwalk::file_system::{BuildError, MemoryFs};
 use jwalk::read_dir::ByFn;
 use std::alloc::{AllocError, Global};
 use walk_fixtures::answers::Answer;
+use walk_fixtures::host::Host;
 use walk_fixtures::moving::move_directory;
 use walk_fixtures::trees::{
     DENIED, ELSEWHERE, FORKED, GROUPED, LOOPED, LOOPED_BACK, Step, TO_EACH_OTHER, WITHIN, tree,

@@ -1,10 +1,11 @@
 //! Whether walks over a crew yield what serial walks do, item by item.
-use crate::crewed::{Asked, Host, Stand};
+use crate::crewed::{Asked, Stand};
 use jwalk::DirEntry;
 use jwalk::file_system::{BuildError, FileSystem, MemoryFs};
 use jwalk::read_dir::{ByFn, NoProcess, ProcessReadDir};
 use std::alloc::{AllocError, Global};
 use walk_fixtures::answers::Answer;
+use walk_fixtures::host::Host;
 use walk_ways::ways::{self, Way};
 use walk_ways::width::Width;
 

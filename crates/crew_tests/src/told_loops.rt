@@ -1,11 +1,12 @@
 //! Loops in trees made at random, told by the test's own way from the names of paths.
-use crate::crewed::{Asked, Host, Reader};
+use crate::crewed::{Asked, Reader};
 use crate::random_links::tree_of_links;
 use crate::serial::are_serial;
 use jwalk::file_system::{FileSystem, FileType, MemoryFs};
 use jwalk::read_dir::NoProcess;
 use std::alloc::{AllocError, Global};
 use walk_fixtures::answers::Answer;
+use walk_fixtures::host::Host;
 use walk_ways::ways::{self, Setting, Way};
 use walk_ways::width::Width;
 

@@ -4,16 +4,10 @@ use jwalk::read_dir::{NoProcess, ProcessReadDir};
 use jwalk::threads::InTurn;
 use jwalk::{Crew, Parallelism, WalkDirGeneric};
 use std::alloc::{AllocError, Global};
-use std::sync::{Arc, Wait};
-use std::thread::Threads;
-use std::time::Clock;
+use std::sync::Arc;
 use walk_fixtures::answers::{Answer, are_lines};
+use walk_fixtures::host::Host;
 use walk_ways::ways::{Setting, all_of, with_all};
-
-/// What the tests ask of a runtime.
-pub trait Host: Wait + Threads + Clock + AllocGlobal + Clone + Drop + Send + Sync + 'static {}
-
-impl<R: Wait + Threads + Clock + AllocGlobal + Clone + Drop + Send + Sync + 'static> Host for R {}
 
 /// A walk yet to begin that a crew is to read for.
 pub type CrewWalk<R, S> = WalkDirGeneric<((), ()), Arc<S>, NoProcess, Global, InTurn, Crew<R>>;

@@ -4,7 +4,6 @@ use crate::planted::{Planted, repository, tree_of};
 use jwalk::file_system::BuildError;
 use jwalk_ignore::ignore_files::IgnoreFiles;
 use std::alloc::Global;
-use std::io::ErrorKind;
 
 /// Returns whether this is left of a repository of these lines.
 fn leaves(alloc: Global, lines: &str, wanted: &str) -> bool {
@@ -96,25 +95,6 @@ fn outside_repositories(rt: HostRuntime) {
     assert!(rt; matches!(left_of(alloc, tree, false), Ok(left) if left.as_str() == alone));
     let both = ".gitignore\n.ignore\n";
     assert!(rt; matches!(left_of(alloc, tree, true), Ok(left) if left.as_str() == both));
-}
-
-/// Returns what is left of a repository, of which the file of rules can't be read.
-fn left_unread(alloc: Global, keep_hidden: bool) -> Result<String, BuildError> {
-    let mut planted = repository(alloc, ".gitignore=a|\n.h\na\ns/\ns/a")?;
-    planted
-        .texts
-        .deny("/r/.gitignore", ErrorKind::PermissionDenied)?;
-    let rules = IgnoreFiles::new(&planted.texts).keep_hidden(keep_hidden);
-    left_from(alloc, &planted, rules, "/r")
-}
-
-#[test]
-fn rules_that_cannot_be_read_are_an_error_behind_their_entry(rt: HostRuntime) {
-    let alloc = rt.alloc();
-    let shown = ".gitignore\n! 1 .gitignore\n.h\na\ns\ns/a\n";
-    assert!(rt; matches!(left_unread(alloc, true), Ok(left) if left.as_str() == shown));
-    let hidden = "! 1 .gitignore\na\ns\ns/a\n";
-    assert!(rt; matches!(left_unread(alloc, false), Ok(left) if left.as_str() == hidden));
 }
 
 /// Returns what is left of a repository without hidden names.

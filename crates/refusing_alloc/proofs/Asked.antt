@@ -1,10 +1,10 @@
 -- The two functions over a gate at a call: what each is handed, and what a caller has of it. Assumes `Logic`.
-use Rattle.std.proofs.Common.{◌≡◌, ℕ, List, [], ◌∷◌, Bool, refl, ap}
+use Rattle.std.proofs.Common.{◌≡◌, ℕ, ◌+◌, List, [], ◌∷◌, Bool, refl, ap}
 use seplogic.Ra.Ura.{Ura}
 use mir.Val.{Val, vunit, vbool, vptr}
 use base.Logic.{SProp, ent, sep, ex, guard, id⊢}
 use base.Fml.{Lft, Share, ftrue, fsep, flft}
-use prog.Memory.{Memory}
+use prog.Memory.{Memory, size, align, up}
 use prog.Routine.{Routine}
 use types.Logic.{Logic, sem}
 use contract.Monad.{Fun}
@@ -14,9 +14,18 @@ use denote.Builtin.{bool, unit}
 use denote.Steps.{nothing, only}
 use denote.Triple.Statement.{Contract}
 use denote.Triple.Spec.{triple_of}
+use Rattle.std.proofs.alloc.Calls.{Al, α}
 use Rattle.refusing_alloc.specs.contracts.Gate as G
 use Rattle.refusing_alloc.specs.contracts.refuses as R
 use Rattle.refusing_alloc.specs.contracts.takes_back as B
+
+-- where the inner allocator is of one at a place
+abbrev pub inner_at : Al → ℕ × ℕ → ℕ × ℕ
+inner_at Z at = (at.0, at.1 + up (align (α Z)) 0)
+
+-- where its gate is
+abbrev pub gate_at : Al → ℕ × ℕ → ℕ × ℕ
+gate_at Z at = (at.0, at.1 + up 8 (up (align (α Z)) 0 + size (α Z)))
 
 -- a gate, shared
 abbrev pub shown : Lft → ℕ × ℕ → G.the_row.Denot → base.Fml.Fml
@@ -44,11 +53,9 @@ module _ {M : Type 1} {𝓤 : Ura M} (𝓛 : Logic 𝓤) (at_mem : Memory → SP
       feq_i ! (List Val) (vptr at.0 at.1 ∷ []) (vptr at.0 at.1 ∷ []) refl $ fjoin ! $ nothing ! $ move ! (1 ∷ []) $ fjoin ! $
       nothing ! $ move ! (2 ∷ []) $ join ! $ join ! $ nothing ! $ move ! (1 ∷ []) $ done !
 
+  -- the same is handed to both
   pub gives : ent 𝓤 (sep 𝓤 (sem 𝓛 (shown κ at g)) (A.lft κ q)) ((TakesBack 𝓛 at_mem run).pre (to_gate 𝓛 at_mem run κ q at g))
-  gives =
-      qed 𝓛 (‵ (shown κ at g) ∷ ‵ (flft κ q) ∷ []) ∵
-      feq_i ! (List Val) (vptr at.0 at.1 ∷ []) (vptr at.0 at.1 ∷ []) refl $ fjoin ! $ nothing ! $ move ! (1 ∷ []) $ fjoin ! $
-      nothing ! $ move ! (2 ∷ []) $ join ! $ join ! $ nothing ! $ move ! (1 ∷ []) $ done !
+  gives = asks
 
   -- the token comes back, beside a truth value
   abbrev pub Told : Val → SProp 𝓤

@@ -1,17 +1,18 @@
 //! Directories without end: each lists one directory.
 ghost use Rattle.jwalk.specs.walk_model.Tree.{functions_of, only_root};
 
-use crate::by_crew::{ByCrew, Host};
+use crate::by_crew::ByCrew;
 use jwalk::Crew;
 use jwalk::file_system::{Fault, FileSystem, FileType, Listed, Metadata};
 use jwalk::read_dir::NoProcess;
 use std::alloc::{AllocError, Allocator, Global};
+use std::io;
 use std::io::ErrorKind;
 use std::sync::Arc;
 use std::sync::atomic::{AtomicUsize, Ordering};
-use std::time::{Clock, Duration};
-use std::{io, thread};
 use walk_fixtures::answers::{Answer, are_lines};
+use walk_fixtures::host::Host;
+use walk_fixtures::resting::{CountsLists, rests};
 use walk_ways::builders::builder;
 use walk_ways::ways::{Asked, Setting, WAYS};
 
@@ -41,6 +42,12 @@ fn listing<A: Allocator + Copy>(alloc: A) -> Result<Vec<io::Result<Listed<A>>, A
         file_type: Ok(FileType::Dir),
     }))?;
     Ok(items)
+}
+
+impl CountsLists for Endless {
+    fn lists_so_far(&self) -> usize {
+        self.lists()
+    }
 }
 
 impl FileSystem for Endless {
@@ -127,26 +134,6 @@ fn a_hundred_answers_of_an_endless_walk(rt: HostRuntime) {
     assert!(rt; gives_a_hundred(rt.alloc()) == Ok(true));
 }
 
-/// Whether no directory is listed any more for 200 milliseconds, within some seconds.
-fn rests(clock: &impl Clock, fs: &Endless) -> bool {
-    let mut lists = fs.lists();
-    let mut still: usize = 0;
-    for _ in 0..5_000 {
-        thread::sleep(clock, Duration::from_millis(1));
-        let now = fs.lists();
-        still = if now == lists {
-            still.saturating_add(1)
-        } else {
-            0
-        };
-        lists = now;
-        if still >= 200 {
-            return true;
-        }
-    }
-    false
-}
-
 /// The first answers of a walk that a crew of two reads for, which is dropped then.
 fn first_of_crew<R: Host>(
     rt: &R,
@@ -169,7 +156,7 @@ fn gives_a_hundred_and_rests<R: Host>(rt: &R) -> Result<bool, AllocError> {
         settings: &[],
     };
     let found = first_of_crew(rt, &asked, 100)?;
-    Ok(are_a_hundred(found.as_slice()) && rests(rt, &asked.fs))
+    Ok(are_a_hundred(found.as_slice()) && rests(rt, &*asked.fs))
 }
 
 #[test]
@@ -186,7 +173,7 @@ fn rests_after_five<R: Host>(rt: &R) -> Result<bool, AllocError> {
     };
     let found = first_of_crew(rt, &asked, 5)?;
     let wanted = "0 d /; 1 d /d; 2 d /d/d; 3 d /d/d/d; 4 d /d/d/d/d";
-    Ok(are_lines(rt.alloc(), found.as_slice(), wanted) && rests(rt, &asked.fs))
+    Ok(are_lines(rt.alloc(), found.as_slice(), wanted) && rests(rt, &*asked.fs))
 }
 
 #[test]

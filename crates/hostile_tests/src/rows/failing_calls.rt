@@ -1,12 +1,12 @@
 //! A tree whose call of one number fails.
 ghost use Rattle.jwalk.specs.walk_model.Tree.{functions_of, only_root};
 
-use crate::by_crew::Host;
 use jwalk::file_system::{Fault, FileSystem, Listed, MemoryFs, Metadata};
 use std::alloc::{Allocator, Global};
 use std::io;
 use std::io::ErrorKind;
 use std::sync::atomic::{AtomicUsize, Ordering};
+use walk_fixtures::host::Host;
 use walk_fixtures::texts::texts;
 use walk_fixtures::trees::{SMALL, Step, tree};
 use walk_run::run::run;

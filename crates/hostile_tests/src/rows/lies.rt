@@ -1,13 +1,14 @@
 //! Listings that lie: of names that are none, and of types that aren't so.
 ghost use Rattle.jwalk.specs.walk_model.Tree.{functions_of, only_root};
 
-use crate::by_crew::{ByCrew, Host};
+use crate::by_crew::ByCrew;
 use jwalk::file_system::{Fault, FileSystem, FileType, Listed, MemoryFs, Metadata};
 use jwalk::read_dir::NoProcess;
 use std::alloc::{AllocError, Allocator};
 use std::io;
 use std::sync::Arc;
-use walk_fixtures::listed_directory::{Item, ListedDirectory};
+use walk_fixtures::host::Host;
+use walk_fixtures::listed_directory::MISNAMED;
 use walk_fixtures::trees::{Step, tree};
 use walk_ways::ways::{Asked, Setting, WAYS};
 
@@ -36,25 +37,12 @@ fn shows_always<R: Host, S: FileSystem + Send + Sync + 'static>(
     Ok(are_shown)
 }
 
-/// A directory whose files have odd names.
-const ODD: ListedDirectory<'static> = ListedDirectory {
-    path: "/d",
-    file_type: FileType::Dir,
-    target: Some(FileType::Dir),
-    items: &[
-        Item::Typed("/x", FileType::File),
-        Item::Typed("", FileType::File),
-        Item::Typed("..", FileType::File),
-        Item::Typed("a/b", FileType::File),
-    ],
-};
-
 #[test]
 fn odd_names_hidden_or_not(rt: HostRuntime) {
     let hidden = "0 d /d; 1 f /x; 1 f /d/; 1 f /d/a/b";
     let all = "0 d /d; 1 f /x; 1 f /d/; 1 f /d/..; 1 f /d/a/b";
-    assert!(rt; shows_always(&rt, ODD, "/d", &[], hidden) == Ok(true));
-    assert!(rt; shows_always(&rt, ODD, "/d", &[Setting::Hidden], all) == Ok(true));
+    assert!(rt; shows_always(&rt, MISNAMED, "/d", &[], hidden) == Ok(true));
+    assert!(rt; shows_always(&rt, MISNAMED, "/d", &[Setting::Hidden], all) == Ok(true));
 }
 
 /// A tree whose listings say that all are directories.

@@ -1,7 +1,7 @@
 //! A directory that is gone from some moment on.
 ghost use Rattle.jwalk.specs.walk_model.Tree.{functions_of, only_root};
 
-use crate::by_crew::{ByCrew, Host};
+use crate::by_crew::ByCrew;
 use jwalk::Crew;
 use jwalk::file_system::{BuildError, Fault, FileSystem, Listed, MemoryFs, Metadata};
 use std::alloc::{AllocError, Allocator, Global};
@@ -10,6 +10,7 @@ use std::io::ErrorKind;
 use std::sync::Arc;
 use std::sync::atomic::{AtomicBool, Ordering};
 use walk_fixtures::answers::{Answer, are_lines};
+use walk_fixtures::host::Host;
 use walk_fixtures::trees::{GROUPED, tree};
 use walk_ways::builders::builder;
 use walk_ways::ways::Setting;

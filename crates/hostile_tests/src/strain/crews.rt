@@ -1,5 +1,5 @@
 //! A thousand walks on one crew, and two crews at once.
-use crate::by_crew::{ByCrew, CrewWalk, Host};
+use crate::by_crew::{ByCrew, CrewWalk};
 use jwalk::Crew;
 use jwalk::file_system::{FileSystem, MemoryFs, RealFs};
 use std::alloc::Global;
@@ -8,6 +8,7 @@ use std::sync::Arc;
 use std::thread;
 use std::time::Duration;
 use walk_fixtures::answers::{Answer, are_lines};
+use walk_fixtures::host::Host;
 use walk_fixtures::trees::{FORKED, tree};
 
 /// The lines of the tree.

@@ -1,7 +1,7 @@
 //! A tree whose calls take their time.
 ghost use Rattle.jwalk.specs.walk_model.Tree.{functions_of, only_root};
 
-use crate::by_crew::{ByCrew, Host};
+use crate::by_crew::ByCrew;
 use jwalk::file_system::{Fault, FileSystem, Listed, MemoryFs, Metadata};
 use jwalk::read_dir::NoProcess;
 use std::alloc::Allocator;
@@ -11,6 +11,7 @@ use std::time::{Clock, Duration};
 use std::{io, thread};
 use walk_fixtures::answers::are_lines;
 use walk_fixtures::dice::Dice;
+use walk_fixtures::host::Host;
 use walk_fixtures::trees::{FORKED, tree};
 
 /// The tree, with what it waits by and how often it was called.

@@ -1,7 +1,7 @@
 //! A call of a worker that doesn't return while its walk is dropped.
 ghost use Rattle.jwalk.specs.walk_model.Tree.{functions_of, only_root};
 
-use crate::by_crew::{ByCrew, Host};
+use crate::by_crew::ByCrew;
 use jwalk::Crew;
 use jwalk::file_system::{Fault, FileSystem, Listed, MemoryFs, Metadata};
 use std::alloc::Allocator;
@@ -9,6 +9,7 @@ use std::sync::Arc;
 use std::sync::atomic::{AtomicBool, Ordering};
 use std::time::{Clock, Duration};
 use std::{io, thread};
+use walk_fixtures::host::Host;
 use walk_fixtures::trees::{FORKED, tree};
 
 /// A tree in which the call for one directory blocks until it is let go.

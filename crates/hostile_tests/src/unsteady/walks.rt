@@ -1,5 +1,5 @@
 //! Walks over file systems of many seeds.
-use crate::by_crew::{ByCrew, Host};
+use crate::by_crew::ByCrew;
 use crate::unsteady::counts::Counts;
 use crate::unsteady::disk::Unsteady;
 use crate::unsteady::seen::{End, end_of};
@@ -9,6 +9,7 @@ use std::sync::Arc;
 use std::sync::atomic::{AtomicUsize, Ordering};
 use walk_fixtures::answers::Answer;
 use walk_fixtures::dice::Dice;
+use walk_fixtures::host::Host;
 use walk_ways::ways::{Asked, Setting, WAYS, Way};
 
 /// How many seeds are played.

@@ -1,31 +1,17 @@
 //! Walks over file systems that fail, or whose names are odd.
 use crate::rows::courses::{Course, Seen, all_take};
 use crate::rows::row::{Over, Row, all_hold};
-use jwalk::file_system::FileType;
 use std::io::ErrorKind;
-use walk_fixtures::listed_directory::{Item, ListedDirectory};
+use walk_fixtures::listed_directory::MISNAMED;
 use walk_fixtures::trees::{GROUPED, SMALL};
 use walk_fixtures::watched::Failing;
 use walk_ways::ways::Setting;
 use walk_ways::width::Width;
 
-/// A directory whose files have odd names.
-const ODD: ListedDirectory<'static> = ListedDirectory {
-    path: "/d",
-    file_type: FileType::Dir,
-    target: Some(FileType::Dir),
-    items: &[
-        Item::Typed("/x", FileType::File),
-        Item::Typed("", FileType::File),
-        Item::Typed("..", FileType::File),
-        Item::Typed("a/b", FileType::File),
-    ],
-};
-
 #[test]
 fn odd_names_are_joined_as_texts(rt: HostRuntime) {
     const ROWS: &[Row] = &[Row {
-        over: Over::Listed(ODD),
+        over: Over::Listed(MISNAMED),
         root: "/d",
         settings: &[],
         answers: "0 d /d; 1 f /x; 1 f /d/; 1 f /d/a/b",

@@ -2,7 +2,7 @@
 use crate::rows::row::{Over, Row, all_hold};
 use jwalk::file_system::FileType;
 use std::io::ErrorKind;
-use walk_fixtures::listed_directory::{Item, ListedDirectory};
+use walk_fixtures::listed_directory::{FAULTY, Item, ListedDirectory};
 use walk_fixtures::trees::{DENIED, FORKED, GROUPED};
 use walk_ways::ways::Setting;
 
@@ -108,19 +108,6 @@ fn a_denied_directory(rt: HostRuntime) {
     ];
     all_hold(&rt, ROWS);
 }
-
-/// A directory of two files and two errors.
-const FAULTY: ListedDirectory<'static> = ListedDirectory {
-    path: "/d",
-    file_type: FileType::Dir,
-    target: Some(FileType::Dir),
-    items: &[
-        Item::Untyped(".x", ErrorKind::PermissionDenied),
-        Item::Unread(ErrorKind::InvalidData),
-        Item::Typed("b", FileType::File),
-        Item::Typed("a", FileType::File),
-    ],
-};
 
 #[test]
 fn errors_after_entries_and_whatever_their_depth(rt: HostRuntime) {

@@ -1,8 +1,7 @@
 //! Walks with the default options, from roots of every kind.
 use crate::rows::row::{Over, Row, all_hold};
 use jwalk::file_system::FileType;
-use std::io::ErrorKind;
-use walk_fixtures::listed_directory::{Item, ListedDirectory};
+use walk_fixtures::listed_directory::{FAULTY, Item, ListedDirectory};
 use walk_fixtures::trees::{GROUPED, SMALL, Step};
 
 #[test]
@@ -216,19 +215,6 @@ fn roots_that_are_links(rt: HostRuntime) {
     ];
     all_hold(&rt, ROWS);
 }
-
-/// A directory with errors among its files.
-const FAULTY: ListedDirectory<'static> = ListedDirectory {
-    path: "/d",
-    file_type: FileType::Dir,
-    target: Some(FileType::Dir),
-    items: &[
-        Item::Untyped(".x", ErrorKind::PermissionDenied),
-        Item::Unread(ErrorKind::InvalidData),
-        Item::Typed("b", FileType::File),
-        Item::Typed("a", FileType::File),
-    ],
-};
 
 #[test]
 fn errors_stand_where_their_items_were_listed(rt: HostRuntime) {

@@ -8,11 +8,10 @@ use jwalk::read_dir::NoProcess;
 use jwalk::threads::OnThreads;
 use jwalk::{Parallelism, WalkDir, WalkDirGeneric};
 use std::alloc::{AllocError, Global};
-use std::sync::Wait;
 use std::test::Fail;
 use std::thread::Threads;
-use std::time::Clock;
 use std::{env, io};
+use walk_fixtures::host::Host;
 
 /// Files and two groups of files, one of which has a hidden name.
 const GROUPED: &[Step] = &[
@@ -40,7 +39,7 @@ const READ_BY: &[&[&str]] = &[&[], &["--batch", "1"], &["--batch", "8"], &["--cr
 
 /// Whether a run by name over a folder of this disk prints these lines, with some words in front.
 fn prints<S: FileSystem + Send + Sync + 'static>(
-    rt: &(impl Wait + Threads + Clock + Clone + Drop + Send + Sync + AllocGlobal + 'static),
+    rt: &impl Host,
     disk: S,
     front: &[&str],
     folder: &str,

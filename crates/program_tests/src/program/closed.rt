@@ -3,9 +3,8 @@ use crate::program::runs::{ends, watched_over};
 use std::alloc::{AllocError, Global};
 use std::io;
 use std::io::{ErrorKind, Write};
-use std::sync::{Arc, Wait};
-use std::thread::Threads;
-use std::time::Clock;
+use std::sync::Arc;
+use walk_fixtures::host::Host;
 use walk_fixtures::watched::{Failing, Watched};
 use walk_text::failure::Failure;
 
@@ -60,12 +59,7 @@ fn is_left(out: &Closed<'_>, before: usize) -> bool {
 
 /// Whether nothing is written once a write has failed; and the disk isn't called then, and isn't walked to its end,
 /// unless workers read ahead.
-fn stops(
-    rt: &(impl Wait + Threads + Clock + Clone + Drop + Send + Sync + AllocGlobal + 'static),
-    words: &[&str],
-    disk: &Arc<Watched>,
-    ahead: bool,
-) -> bool {
+fn stops(rt: &impl Host, words: &[&str], disk: &Arc<Watched>, ahead: bool) -> bool {
     let before = asked(disk);
     let mut out = Closed {
         takes: 2,

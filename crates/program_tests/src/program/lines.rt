@@ -6,10 +6,8 @@ use jwalk::file_system::{Fault, FileSystem, FileType, Listed, Metadata};
 use std::alloc::{AllocError, Allocator};
 use std::io;
 use std::io::ErrorKind;
-use std::sync::Wait;
-use std::thread::Threads;
-use std::time::Clock;
-use walk_fixtures::listed_directory::{Item, ListedDirectory};
+use walk_fixtures::host::Host;
+use walk_fixtures::listed_directory::{FAULTY, Item, ListedDirectory};
 
 /// A link, a socket, a directory that can't be read and an item that has no name.
 const ODD: ListedDirectory<'static> = ListedDirectory {
@@ -21,19 +19,6 @@ const ODD: ListedDirectory<'static> = ListedDirectory {
         Item::Typed("socket", FileType::Other),
         Item::Typed("denied", FileType::Dir),
         Item::Unread(ErrorKind::TimedOut),
-    ],
-};
-
-/// A hidden name without a type, an item that has no name, and two files.
-const FAULTY: ListedDirectory<'static> = ListedDirectory {
-    path: "/d",
-    file_type: FileType::Dir,
-    target: Some(FileType::Dir),
-    items: &[
-        Item::Untyped(".x", ErrorKind::PermissionDenied),
-        Item::Unread(ErrorKind::InvalidData),
-        Item::Typed("b", FileType::File),
-        Item::Typed("a", FileType::File),
     ],
 };
 
@@ -98,10 +83,7 @@ impl FileSystem for Odd {
 type Row = (&'static [&'static str], Want<'static>);
 
 /// The number of the first row whose outcome is another, or whose call reads the input.
-fn first_wrong(
-    rt: &(impl Wait + Threads + Clock + Clone + Drop + Send + Sync + AllocGlobal + 'static),
-    rows: &[Row],
-) -> Option<usize> {
+fn first_wrong(rt: &impl Host, rows: &[Row]) -> Option<usize> {
     for (number, (words, want)) in rows.iter().enumerate() {
         if !comes_unread(rt, Odd, &[], words, want) {
             return Some(number);

@@ -4,9 +4,8 @@ use std::alloc::{AllocError, Global};
 use std::io;
 use std::io::{Read, Write};
 use std::process::Abort;
-use std::sync::{Arc, Wait};
-use std::thread::Threads;
-use std::time::Clock;
+use std::sync::Arc;
+use walk_fixtures::host::Host;
 use walk_fixtures::texts::texts;
 use walk_fixtures::watched::{Failing, Watched};
 use walk_run::run::run;
@@ -27,7 +26,7 @@ pub type Row<'a> = (&'a [&'a str], &'a str, Want<'a>);
 
 /// Whether this is the outcome over this disk of some words and then others.
 pub fn comes<S: FileSystem + Send + Sync + 'static, R: Read>(
-    rt: &(impl Wait + Threads + Clock + Clone + Drop + Send + Sync + AllocGlobal + 'static),
+    rt: &impl Host,
     disk: S,
     front: &[&str],
     words: &[&str],
@@ -53,7 +52,7 @@ pub fn comes<S: FileSystem + Send + Sync + 'static, R: Read>(
 
 /// Whether a call over this disk that writes there ends with this status and reports nothing.
 pub fn ends<S: FileSystem + Send + Sync + 'static, W: Write>(
-    rt: &(impl Wait + Threads + Clock + Clone + Drop + Send + Sync + AllocGlobal + 'static),
+    rt: &impl Host,
     disk: S,
     words: &[&str],
     input: &str,
@@ -91,7 +90,7 @@ impl Read for Unread {
 
 /// Whether this is the outcome over this disk of some words and then others, and the input isn't read.
 pub fn comes_unread<S: FileSystem + Send + Sync + 'static>(
-    rt: &(impl Wait + Threads + Clock + Clone + Drop + Send + Sync + AllocGlobal + 'static),
+    rt: &impl Host,
     disk: S,
     front: &[&str],
     words: &[&str],
@@ -141,11 +140,7 @@ const WAYS: &[Way] = &[
 ];
 
 /// Whether a row has its outcome in one of the ways. If its tree is the disk, the input isn't read.
-fn comes_by(
-    rt: &(impl Wait + Threads + Clock + Clone + Drop + Send + Sync + AllocGlobal + 'static),
-    (front, is_on_disk): &Way,
-    (words, lines, want): &Row<'_>,
-) -> bool {
+fn comes_by(rt: &impl Host, (front, is_on_disk): &Way, (words, lines, want): &Row<'_>) -> bool {
     let alloc = rt.alloc();
     if !*is_on_disk {
         return comes(
@@ -164,11 +159,7 @@ fn comes_by(
 }
 
 /// The number of the first row whose outcome is another in one of these ways.
-fn first_wrong(
-    rt: &(impl Wait + Threads + Clock + Clone + Drop + Send + Sync + AllocGlobal + 'static),
-    ways: &[Way],
-    rows: &[Row<'_>],
-) -> Option<usize> {
+fn first_wrong(rt: &impl Host, ways: &[Way], rows: &[Row<'_>]) -> Option<usize> {
     for (number, row) in rows.iter().enumerate() {
         for way in ways {
             if !comes_by(rt, way, row) {
@@ -180,18 +171,12 @@ fn first_wrong(
 }
 
 /// Each row has the outcome of its words, where the lines are the input and the disk is empty.
-pub fn all_come(
-    rt: &(impl Abort + Wait + Threads + Clock + Clone + Drop + Send + Sync + AllocGlobal + 'static),
-    rows: &[Row<'_>],
-) {
+pub fn all_come(rt: &(impl Abort + Host), rows: &[Row<'_>]) {
     assert_eq!(rt; first_wrong(rt, INPUT, rows), None);
 }
 
 /// Each row has its outcome over the tree of its lines, whatever its directories are read by. It is called with
 /// `--tree` in front of its words and the lines on the input, and without it over a disk that is the same tree.
-pub fn all_come_over_tree(
-    rt: &(impl Abort + Wait + Threads + Clock + Clone + Drop + Send + Sync + AllocGlobal + 'static),
-    rows: &[Row<'_>],
-) {
+pub fn all_come_over_tree(rt: &(impl Abort + Host), rows: &[Row<'_>]) {
     assert_eq!(rt; first_wrong(rt, WAYS, rows), None);
 }

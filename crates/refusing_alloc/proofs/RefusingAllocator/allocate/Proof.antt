@@ -1,12 +1,12 @@
 -- A refused request is an `Err`, and any other is the inner allocator's. Assumes `Logic`.
-use Rattle.std.proofs.Common.{◌≡◌, ℕ, ◌+◌, ◌^◌, ◌<◌, Bool, true, false, List, [], ◌∷◌, Ok, Err, refl, w64, Bor}
+use Rattle.std.proofs.Common.{◌≡◌, ℕ, ◌^◌, ◌<◌, Bool, true, false, List, [], ◌∷◌, Ok, Err, refl, w64, Bor}
 use seplogic.Ra.Ura.{Ura}
 use mir.Syntax.{Ty, Args, Fn, a_type, dnil, dcons}
 use mir.Val.{Val, vbool, vint, vptr}
 use mir.MapTy.{inst_fn}
 use base.Logic.{SProp, ent, id⊢}
 use base.Fml.{Lft, Share, ftrue, flft}
-use prog.Memory.{Memory, size, align, capped, up}
+use prog.Memory.{Memory, size, align, capped}
 use prog.Routine.{Routine}
 use prog.Wp.{WpFn, Tables}
 use types.Logic.{Logic}
@@ -34,9 +34,9 @@ use types.ByLocal.{alloc_all, pass_all, free_all, look_at, get, through, sets, l
 use denote.RawPtr.{block_ptr}
 use denote.Builtin.{usize, RefOf}
 use denote.Triple.Call.{calls_at}
-use Rattle.std.proofs.alloc.Calls.{Al, α, seen, token, got, Answer, answer_val, Answer-typed, Answer-Ok, Answer-err, takes_key, Takes, at_takes, Answered, Takes-goes, Takes-gives, answers}
+use Rattle.std.proofs.alloc.Calls.{Al, seen, token, got, Answer, answer_val, Answer-typed, Answer-Ok, Answer-err, takes_key, Takes, at_takes, Answered, Takes-goes, Takes-gives, answers}
 use Rattle.std.proofs.VecSteps.Shapes.{after}
-use Rattle.refusing_alloc.proofs.Asked.{Refuses, of_gate, asks, tells}
+use Rattle.refusing_alloc.proofs.Asked.{inner_at, gate_at, Refuses, of_gate, asks, tells}
 use Rattle.refusing_alloc.proofs.refuses.Symbol as gate_symbol
 use Rattle.refusing_alloc.proofs.refuses.Met as gate_met
 use Rattle.refusing_alloc.specs.contracts.Refusing as S
@@ -80,13 +80,6 @@ module _ (Z : Al) {M : Type 1} {𝓤 : Ura M} (𝓛 : Logic 𝓤) (at_mem : Memo
     abbrev passed : List Val
     passed = vptr me.ref_ptr.0 me.ref_ptr.1 ∷ vint w64 n ∷ vint w64 a ∷ []
 
-    -- where the inner allocator is, and where the gate
-    abbrev inner_at : ℕ × ℕ
-    inner_at = (me.ref_ptr.0, me.ref_ptr.1 + up (align (α Z)) 0)
-
-    abbrev gate_at : ℕ × ℕ
-    gate_at = (me.ref_ptr.0, me.ref_ptr.1 + up 8 (up (align (α Z)) 0 + size (α Z)))
-
     abbrev Asks : Type 0
     Asks = (capped (size τ) ≡ n) × (capped (align τ) ≡ a)
 
@@ -109,18 +102,20 @@ module _ (Z : Al) {M : Type 1} {𝓤 : Ura M} (𝓛 : Logic 𝓤) (at_mem : Memo
         → ent 𝓤 ((walk_of 𝓛 (ended Z) (stays Z) said).pre bound) (WpFn 𝓤 H 𝓣.C 𝓣.Λ (fn Z) passed Post)
     walk takes gate small slim =
         let h = me.now.inner in
+        let inner = inner_at Z me.ref_ptr in
+        let place = gate_at Z me.ref_ptr in
         let g = me.now.gate in
-        let y = at_takes Z 𝓛 at_mem run κ q inner_at h n a τ in
+        let y = at_takes Z 𝓛 at_mem run κ q inner h n a τ in
         qed 𝓛 (((‵ (flft κ q) ⊛ ‵ (flft ρ s) ⊛ ‵ ftrue) ⊛ ‵ (owns (types_at (ended Z).signature.params bound.0.0) bound.0.3 bound.0.4)) ∷ (raw (fact 𝓤 (ρ ⊑ Z.row.lives)) ⊛ raw (fact 𝓤 Asks)) ∷ []) ∵
         move ! (1 ∷ []) $ split ! $ heard ! (ρ ⊑ Z.row.lives) (λ long. heard ! Asks (λ asked.
         split ! $ split ! $ move ! (2 ∷ []) $ fsplit ! $ fsplit ! $ move ! (1 ∷ []) $ unhide ! $ fsplit ! $ fsplit ! $
-        use1 𝓛 (‵ (seen Z κ inner_at h)) (id⊢ 𝓤 _) $ move ! (1 ∷ []) $ fsplit ! $ keep ! (0 ∷ 6 ∷ 2 ∷ 7 ∷ []) $
+        use1 𝓛 (‵ (seen Z κ inner h)) (id⊢ 𝓤 _) $ move ! (1 ∷ []) $ fsplit ! $ keep ! (0 ∷ 6 ∷ 2 ∷ 7 ∷ []) $
         enter ! 𝓣.C 𝓣.Λ (fn Z) passed Post $ alloc_all ! (λ l. pass_all ! refl ((tt, tt), ((tt, record { fits = small }), ((tt, record { fits = slim }), tt))) $
         -- [the gate; the token of κ; the inner allocator; the other tokens]
         sets ! (addr ! (through ! refl (fld ! refl (stop !)))) refl (tt, tt) $
-        use2 𝓛 (raw ((Refuses 𝓛 at_mem run).pre (of_gate 𝓛 at_mem run κ q gate_at g))) (asks 𝓛 at_mem run κ q gate_at g) $
-        calls_at ! (fm_of 𝓤 H 𝓛.laws 𝓣) (Refuses 𝓛 at_mem run) gate (of_gate 𝓛 at_mem run κ q gate_at g) (and_then ! (get ! refl) (no_more !)) (λ u.
-        use1 𝓛 (later (some (λ (t : Bool). given (u ≡ vbool t) (‵ (flft κ q))))) (tells 𝓛 at_mem run κ q gate_at g u) $ await ! tt $ pick ! (λ t. learn ! (λ is.
+        use2 𝓛 (raw ((Refuses 𝓛 at_mem run).pre (of_gate 𝓛 at_mem run κ q place g))) (asks 𝓛 at_mem run κ q place g) $
+        calls_at ! (fm_of 𝓤 H 𝓛.laws 𝓣) (Refuses 𝓛 at_mem run) gate (of_gate 𝓛 at_mem run κ q place g) (and_then ! (get ! refl) (no_more !)) (λ u.
+        use1 𝓛 (later (some (λ (t : Bool). given (u ≡ vbool t) (‵ (flft κ q))))) (tells 𝓛 at_mem run κ q place g u) $ await ! tt $ pick ! (λ t. learn ! (λ is.
         lands_as ! is refl (tt, tt) $
         -- [the token of κ; the inner allocator; the other tokens]
         first ! $ branches ! (get ! refl)
@@ -128,9 +123,9 @@ module _ (Z : Al) {M : Type 1} {𝓤 : Ura M} (𝓛 : Logic 𝓤) (at_mem : Memo
         returns_within ! Post refl (look_at ! 0 refl) $ free_all ! refl $ keep ! (0 ∷ 2 ∷ []) $ nothing ! $ by ! with_none)
         (λ _. skips ! $ exec ! 𝓣.C 𝓣.Λ (env (fn Z).locals l) (after 3 (fn Z).body) (at_ret _ Post) $ move ! (1 ∷ []) $
         sets ! (addr ! (through ! refl (fld ! refl (stop !)))) refl (tt, tt) $
-        use2 𝓛 (raw ((Takes Z 𝓛 at_mem run).pre y)) (Takes-goes Z 𝓛 at_mem run κ q inner_at h (⊑_trans κ ρ Z.row.lives out long) n a τ asked.0 asked.1 small slim) $
+        use2 𝓛 (raw ((Takes Z 𝓛 at_mem run).pre y)) (Takes-goes Z 𝓛 at_mem run κ q inner h (⊑_trans κ ρ Z.row.lives out long) n a τ asked.0 asked.1 small slim) $
         calls_at ! (fm_of 𝓤 H 𝓛.laws 𝓣) (Takes Z 𝓛 at_mem run) takes y (and_then ! (get ! refl) (and_then ! (get ! refl) (and_then ! (get ! refl) (no_more !)))) (λ v.
-        use1 𝓛 (later (raw (Answered Z 𝓛 at_mem run h τ v) ⊛ ‵ (flft κ q))) (Takes-gives Z 𝓛 at_mem run κ q inner_at h n a τ v) $ await ! tt $ split ! $
+        use1 𝓛 (later (raw (Answered Z 𝓛 at_mem run h τ v) ⊛ ‵ (flft κ q))) (Takes-gives Z 𝓛 at_mem run κ q inner h n a τ v) $ await ! tt $ split ! $
         answers Z ! at_mem run h τ v
         (λ b o e. lands_as ! e refl (Answer-typed true b o) $ returns ! (look_at ! 0 refl) $ free_all ! refl $ fjoin ! $ by ! (with_block b o))
         (λ e. nothing ! $ lands_as ! e refl (Answer-typed false 0 0) $ returns ! (look_at ! 0 refl) $ free_all ! refl $ by ! with_none)))))))))

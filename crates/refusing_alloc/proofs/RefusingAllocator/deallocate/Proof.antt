@@ -1,12 +1,12 @@
 -- The piece is counted, and goes back to the inner allocator. Assumes `Logic`.
-use Rattle.std.proofs.Common.{◌≡◌, ℕ, ◌+◌, ◌^◌, ◌<◌, List, [], ◌∷◌, refl, w64, Bor}
+use Rattle.std.proofs.Common.{◌≡◌, ℕ, ◌^◌, ◌<◌, List, [], ◌∷◌, refl, w64, Bor}
 use seplogic.Ra.Ura.{Ura}
 use mir.Syntax.{Ty, Args, Fn, a_type, dnil, dcons}
 use mir.Val.{Val, vunit, vint, vptr}
 use mir.MapTy.{inst_fn}
 use base.Logic.{SProp, ent, id⊢, never_e}
 use base.Fml.{Lft, Share, ftrue, ffalse, fsep, froom, flft}
-use prog.Memory.{Memory, size, align, capped, up}
+use prog.Memory.{Memory, size, align, capped}
 use prog.Routine.{Routine}
 use prog.Wp.{WpFn, Tables}
 use types.Logic.{Logic}
@@ -33,8 +33,8 @@ use types.ByLocal.{alloc_all, pass_all, free_all, look_at, get, through, sets, l
 use denote.RawPtr.{Ptr, block_ptr, null_ptr, ptr_val, rawptr_vals, rawptr_Tells}
 use denote.Builtin.{usize, RawPtr, RefOf}
 use denote.Triple.Call.{calls_at}
-use Rattle.std.proofs.alloc.Calls.{Al, α, seen, token, gives_key, Gives, at_gives, Gives-goes, Gives-Gives}
-use Rattle.refusing_alloc.proofs.Asked.{TakesBack, to_gate, gives, back}
+use Rattle.std.proofs.alloc.Calls.{Al, seen, token, gives_key, Gives, at_gives, Gives-goes, Gives-Gives}
+use Rattle.refusing_alloc.proofs.Asked.{inner_at, gate_at, TakesBack, to_gate, gives, back}
 use Rattle.refusing_alloc.proofs.takes_back.Symbol as gate_symbol
 use Rattle.refusing_alloc.proofs.takes_back.Met as gate_met
 use Rattle.refusing_alloc.specs.contracts.Refusing as S
@@ -84,13 +84,6 @@ module _ (Z : Al) {M : Type 1} {𝓤 : Ura M} (𝓛 : Logic 𝓤) (at_mem : Memo
     abbrev given_in : Ptr → Item 𝓤
     given_in p = (‵ (flft κ q) ⊛ ‵ (flft ρ s) ⊛ ‵ ftrue) ⊛ ‵ (owns (types_at (ended Z).signature.params (bound p).0.0) (bound p).0.3 (bound p).0.4)
 
-    -- where the inner allocator is, and where the gate
-    abbrev inner_at : ℕ × ℕ
-    inner_at = (me.ref_ptr.0, me.ref_ptr.1 + up (align (α Z)) 0)
-
-    abbrev gate_at : ℕ × ℕ
-    gate_at = (me.ref_ptr.0, me.ref_ptr.1 + up 8 (up (align (α Z)) 0 + size (α Z)))
-
     abbrev Asks : Type 0
     Asks = (capped (size τ) ≡ n) × (capped (align τ) ≡ a)
 
@@ -101,25 +94,27 @@ module _ (Z : Al) {M : Type 1} {𝓤 : Ura M} (𝓛 : Logic 𝓤) (at_mem : Memo
         move ! (1 ∷ []) $ split3 ! $ move ! (2 ∷ []) $ fsplit ! $ keep ! (0 ∷ []) $ by ! (never_e 𝓤 _)
     walk frees gate small slim (block_ptr b o) =
         let h = me.now.inner in
+        let inner = inner_at Z me.ref_ptr in
+        let place = gate_at Z me.ref_ptr in
         let g = me.now.gate in
-        let y = at_gives Z 𝓛 at_mem run κ q inner_at h b o n a τ in
+        let y = at_gives Z 𝓛 at_mem run κ q inner h b o n a τ in
         let p = block_ptr b o in
         qed 𝓛 (given_in p ∷ (raw (fact 𝓤 (ρ ⊑ Z.row.lives)) ⊛ raw (fact 𝓤 Asks) ⊛ ‵ (fsep (froom τ b o) (token Z h τ p))) ∷ []) ∵
         move ! (1 ∷ []) $ split3 ! $ heard ! (ρ ⊑ Z.row.lives) (λ long. heard ! Asks (λ asked. move ! (1 ∷ []) $
         split ! $ split ! $ move ! (2 ∷ []) $ fsplit ! $ fsplit ! $ move ! (1 ∷ []) $ unhide ! $ fsplit ! $ fsplit ! $
-        use1 𝓛 (‵ (seen Z κ inner_at h)) (id⊢ 𝓤 _) $ move ! (1 ∷ []) $ fsplit ! $ keep ! (0 ∷ 6 ∷ 2 ∷ 7 ∷ 8 ∷ []) $
+        use1 𝓛 (‵ (seen Z κ inner h)) (id⊢ 𝓤 _) $ move ! (1 ∷ []) $ fsplit ! $ keep ! (0 ∷ 6 ∷ 2 ∷ 7 ∷ 8 ∷ []) $
         enter ! 𝓣.C 𝓣.Λ (fn Z) (passed p) (Post p) $ alloc_all ! (λ l. pass_all ! refl ((tt, tt), ((tt, tt), ((tt, record { fits = small }), ((tt, record { fits = slim }), tt)))) $
         -- [the gate; the token of κ; the inner allocator; the other tokens; the piece]
         sets ! (addr ! (through ! refl (fld ! refl (stop !)))) refl (tt, tt) $
-        use2 𝓛 (raw ((TakesBack 𝓛 at_mem run).pre (to_gate 𝓛 at_mem run κ q gate_at g))) (gives 𝓛 at_mem run κ q gate_at g) $
-        calls_at ! (fm_of 𝓤 H 𝓛.laws 𝓣) (TakesBack 𝓛 at_mem run) gate (to_gate 𝓛 at_mem run κ q gate_at g) (and_then ! (get ! refl) (no_more !)) (λ u.
-        use1 𝓛 (later (given (u ≡ vunit) (‵ (flft κ q)))) (back 𝓛 at_mem run κ q gate_at g u) $ await ! tt $ learn ! (λ is. lands_as ! is refl (tt, tt) $ move ! (1 ∷ []) $
+        use2 𝓛 (raw ((TakesBack 𝓛 at_mem run).pre (to_gate 𝓛 at_mem run κ q place g))) (gives 𝓛 at_mem run κ q place g) $
+        calls_at ! (fm_of 𝓤 H 𝓛.laws 𝓣) (TakesBack 𝓛 at_mem run) gate (to_gate 𝓛 at_mem run κ q place g) (and_then ! (get ! refl) (no_more !)) (λ u.
+        use1 𝓛 (later (given (u ≡ vunit) (‵ (flft κ q)))) (back 𝓛 at_mem run κ q place g u) $ await ! tt $ learn ! (λ is. lands_as ! is refl (tt, tt) $ move ! (1 ∷ []) $
         -- [the inner allocator; the token of κ; the other tokens; the piece]
         sets ! (addr ! (through ! refl (fld ! refl (stop !)))) refl (tt, tt) $
         join ! $ move ! (2 ∷ []) $ fsplit ! $ move ! (1 ∷ 2 ∷ []) $ join ! $ move ! (1 ∷ 0 ∷ []) $ join ! $
-        use1 𝓛 (raw ((Gives Z 𝓛 at_mem run).pre y)) (Gives-goes Z 𝓛 at_mem run κ q inner_at h (⊑_trans κ ρ Z.row.lives out long) b o n a τ asked.0 asked.1 small slim) $
+        use1 𝓛 (raw ((Gives Z 𝓛 at_mem run).pre y)) (Gives-goes Z 𝓛 at_mem run κ q inner h (⊑_trans κ ρ Z.row.lives out long) b o n a τ asked.0 asked.1 small slim) $
         calls_at ! (fm_of 𝓤 H 𝓛.laws 𝓣) (Gives Z 𝓛 at_mem run) frees y (and_then ! (get ! refl) (and_then ! (get ! refl) (and_then ! (get ! refl) (and_then ! (get ! refl) (no_more !))))) (λ v.
-        use1 𝓛 (later (given (v ≡ vunit) (‵ (flft κ q)))) (Gives-Gives Z 𝓛 at_mem run κ q inner_at h b o n a τ v) $ await ! tt $ learn ! (λ e.
+        use1 𝓛 (later (given (v ≡ vunit) (‵ (flft κ q)))) (Gives-Gives Z 𝓛 at_mem run κ q inner h b o n a τ v) $ await ! tt $ learn ! (λ e.
         lands_as ! e refl (tt, tt) $ sets ! (of_opd ! (unit_lit !)) refl (tt, tt) $ returns ! (look_at ! 0 refl) $ free_all ! refl $
         suffices ! _ (ends_at 𝓛 (ended Z) (stays Z) said (bound p) vunit tt (tt, (tt, (tt, (tt, tt)))) (tt, (tt, (tt, (tt, tt))))) $
         nothing ! $ feq_i ! (List Val) (vunit ∷ []) (vunit ∷ []) refl $ nothing ! $ nothing ! $ fjoin ! $ nothing ! $ fjoin ! $ nothing ! $ fjoin ! $ nothing ! $ fjoin ! $ join ! $
