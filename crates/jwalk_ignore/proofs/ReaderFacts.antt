@@ -3,9 +3,10 @@ use Rattle.std.proofs.Common.{◌≡◌, ◌∙◌, ℕ, Bool, List, [], ◌∷�
 use Rattle.std.specs.Prelude.{fold}
 use Rattle.std.specs.List.{filter, list_any}
 use Rattle.std.proofs.lemmas.List.{map-append, reverse-append}
-use Rattle.jwalk.specs.walk_model.Entry.{Item}
+use Rattle.jwalk.specs.walk_model.Entry.{AtDepth, Item}
 use Rattle.jwalk_ignore.specs.Chain.{Chain, entered, place_in}
 use Rattle.jwalk_ignore.specs.IgnoreFiles.{Made, counts, in_directory, is_git, is_kept, is_shown, own_rules, with_listed}
+use Rattle.jwalk_ignore.specs.MadeDepths.{filter_at}
 use Rattle.jwalk_ignore.specs.Texts.{Texts}
 use Rattle.jwalk_ignore.specs.declared.settings.Settings.{Settings}
 
@@ -38,3 +39,7 @@ module _ {R E : Type 0} where
     left_from own shown kept is shown_is kept_is =
         ap (begun own.chain) (kept_is ∙ ap (filter (is_kept own.chain (place_in own.chain directory))) shown_is)
         ∙ ap (λ (o : Made R E). begun o.chain (filter (is_kept o.chain (place_in o.chain directory)) (filter (is_shown settings) o.list))) is
+
+  -- what is left of a list at a depth is at it
+  pub left_at : (depth : ℕ) (shows keeps : Item R E → Bool) (own shown kept : List (Item R E)) → shown ≡ filter shows own → kept ≡ filter keeps shown → AtDepth depth own → AtDepth depth kept
+  left_at depth shows keeps own shown kept shown_is kept_is at = rw (kept_is, shown_is) (filter_at depth keeps (filter shows own) (filter_at depth shows own at))
