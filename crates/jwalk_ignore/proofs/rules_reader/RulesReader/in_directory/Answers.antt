@@ -1,6 +1,7 @@
 use Rattle.std.proofs.Common.{map}
 use Rattle.jwalk.specs.read_parts.Entry.{item}
 use Rattle.jwalk_ignore.specs.ChainViews.{chain_value}
+use Rattle.jwalk_ignore.specs.IgnoreFiles.{is_shown}
 use Rattle.jwalk_ignore.proofs.ReaderFacts.{left_at, left_from}
 use Rattle.jwalk_ignore.proofs.rules_reader.RulesReader.in_directory.Goals as goal
 
@@ -10,4 +11,5 @@ returns-clause-value g c = λ fixed.
     _ _ _ (c.in_ok-chain.ensures.value fixed) c.drop_hidden.ensures c.in_ok-list.ensures
 
 pub returns-clause-depth : goal.returns-clause-depth
-returns-clause-depth g c = λ depth all. left_at depth _ _ _ _ _ c.drop_hidden.ensures c.in_ok-list.ensures (c.in_ok-chain.ensures.depth depth all)
+returns-clause-depth g c = λ depth all.
+    left_at depth (is_shown c.args.self.now.settings) _ (map item c.in_ok-chain.field-0.list.items) _ _ c.drop_hidden.ensures c.in_ok-list.ensures (c.in_ok-chain.ensures.depth depth all)
