@@ -40,6 +40,6 @@ module _ {R E : Type 0} where
         ap (begun own.chain) (kept_is ∙ ap (filter (is_kept own.chain (place_in own.chain directory))) shown_is)
         ∙ ap (λ (o : Made R E). begun o.chain (filter (is_kept o.chain (place_in o.chain directory)) (filter (is_shown settings) o.list))) is
 
-  -- what is left of a list at a depth is at it
+  -- what is left once what is hidden or ignored is dropped is at the depth of the list
   pub left_at : (depth : ℕ) (shows keeps : Item R E → Bool) (own shown kept : List (Item R E)) → shown ≡ filter shows own → kept ≡ filter keeps shown → AtDepth depth own → AtDepth depth kept
   left_at depth shows keeps own shown kept shown_is kept_is at = rw (kept_is, shown_is) (filter_at depth keeps (filter shows own) (filter_at depth shows own at))

@@ -1,5 +1,4 @@
-use Rattle.std.proofs.Common.{◌≡◌, ◌∙◌, ◌++◌, ◌∷◌, [], ◌-◌, None, true, false, map, length, ap, sym, rules, arith}
-use Rattle.std.specs.Option.{option_copied}
+use Rattle.std.proofs.Common.{◌≡◌, ◌∙◌, ◌++◌, ◌-◌, None, true, false, map, length, ap, sym, rules, arith}
 use Rattle.jwalk.specs.walk_model.Paths.{join, parent}
 use Rattle.jwalk_ignore.specs.Folders.{folder_value}
 use Rattle.jwalk_ignore.specs.IgnoreFiles.{folders_above, git}

@@ -1,4 +1,4 @@
-use Rattle.std.proofs.Common.{◌≡◌, ◌∙◌, map, length, reverse, ap}
+use Rattle.std.proofs.Common.{◌∙◌, map, reverse, ap}
 use Rattle.std.specs.Prelude.{fold}
 use Rattle.std.proofs.lemmas.Result.{on_ok_weaker}
 use Rattle.jwalk_ignore.specs.Folders.{folder_value}
