@@ -11,3 +11,4 @@ pub mod MadeFacts
 pub mod IgnoreFacts
 pub mod ChainFacts
 pub mod FolderFacts
+pub mod ReaderFacts

@@ -1,0 +1,45 @@
+-- What the reader of rules makes of a list.
+use Rattle.std.proofs.Common.{◌≡◌, ◌∙◌, ℕ, Bool, List, [], ◌∷◌, ◌++◌, map, length, reverse, ap, refl, sym}
+use Rattle.std.specs.Prelude.{fold}
+use Rattle.std.specs.List.{filter, list_any}
+use Rattle.std.proofs.lemmas.List.{map-append, reverse-append}
+use Rattle.jwalk.specs.walk_model.Entry.{AtDepth, Item}
+use Rattle.jwalk_ignore.specs.Chain.{Chain, entered, place_in}
+use Rattle.jwalk_ignore.specs.IgnoreFiles.{Made, counts, in_directory, is_git, is_kept, is_shown, own_rules, with_listed}
+use Rattle.jwalk_ignore.specs.MadeDepths.{filter_at}
+use Rattle.jwalk_ignore.specs.Texts.{Texts}
+use Rattle.jwalk_ignore.specs.declared.settings.Settings.{Settings}
+
+-- what is shown of a list, the last first
+pub map_reverse : {X Y : Type 0} (view : X → Y) (xs : List X) → map view (reverse xs) ≡ reverse (map view xs)
+map_reverse view [] = refl
+map_reverse view (x ∷ xs) =
+    ap (map view) (reverse-append (x ∷ []) xs) ∙ map-append view (reverse xs) (x ∷ []) ∙ ap (λ (ys : List _). ys ++ view x ∷ []) (map_reverse view xs)
+    ∙ sym (reverse-append (view x ∷ []) (map view xs))
+
+module _ {R E : Type 0} where
+  abbrev pub begun : Chain → List (Item R E) → Made R E
+  begun chain list = record { chain = chain; list = list }
+
+  module _ (settings : Settings) (texts : Texts) (directory : List ℕ) (chain : Chain) (list : List (Item R E)) where
+    -- all of a list is gone over in the directory that was entered
+    pub own_from : (inside : Chain) (counted : Bool) (before : ℕ) (start : List (Item R E))
+        → inside ≡ entered (list_any is_git list) chain → counted ≡ counts settings inside → before ≡ length (place_in inside directory) → start ≡ []
+        → fold (with_listed texts counted directory before) (begun inside start) list ≡ own_rules settings texts directory chain list
+    own_from inside counted before start is counts_is before_is none =
+        ap (λ (b : Bool). fold (with_listed texts b directory before) (begun inside start) list) counts_is
+        ∙ ap (λ (n : ℕ). fold (with_listed texts (counts settings inside) directory n) (begun inside start) list) before_is
+        ∙ ap (λ (l : List (Item R E)). fold (with_listed texts (counts settings inside) directory (length (place_in inside directory))) (begun inside l) list) none
+        ∙ ap (λ (i : Chain). fold (with_listed texts (counts settings i) directory (length (place_in i directory))) (begun i []) list) is
+
+    -- of what its own rules make of a list, what is hidden or ignored is dropped
+    pub left_from : (own : Made R E) (shown kept : List (Item R E)) → own ≡ own_rules settings texts directory chain list
+        → shown ≡ filter (is_shown settings) own.list → kept ≡ filter (is_kept own.chain (place_in own.chain directory)) shown
+        → begun own.chain kept ≡ in_directory settings texts directory chain list
+    left_from own shown kept is shown_is kept_is =
+        ap (begun own.chain) (kept_is ∙ ap (filter (is_kept own.chain (place_in own.chain directory))) shown_is)
+        ∙ ap (λ (o : Made R E). begun o.chain (filter (is_kept o.chain (place_in o.chain directory)) (filter (is_shown settings) o.list))) is
+
+  -- what is left once what is hidden or ignored is dropped is at the depth of the list
+  pub left_at : (depth : ℕ) (shows keeps : Item R E → Bool) (own shown kept : List (Item R E)) → shown ≡ filter shows own → kept ≡ filter keeps shown → AtDepth depth own → AtDepth depth kept
+  left_at depth shows keeps own shown kept shown_is kept_is at = rw (kept_is, shown_is) (filter_at depth keeps (filter shows own) (filter_at depth shows own at))
