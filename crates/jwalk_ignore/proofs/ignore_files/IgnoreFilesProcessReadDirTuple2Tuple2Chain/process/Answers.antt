@@ -15,4 +15,4 @@ returns-clause-made g c = λ given ignores.
     then_next given (g.T.Texts.IsFixed (texts_of it)) (g.T.Texts.functions (texts_of it)) (settings_of it) (g.P.ProcessReadDir.Makes (next_of it)) ignores c.args.depth c.args.path.now _
     c.args.state.now.0 _ _ _ (map item c.args.list.now.items) _ _
     (c.process.ensures.made (with_processed given ignores.3 ignores.4) ignores.5)
-    (rw (← c.in_ok-chain.chain-is, ← c.in_ok-chain.left-is) (rw (c.take-chain.ensures.value, c.replace-items.ensures.value) at c.in_ok-chain.ensures.value ignores.0))
+    (rw (c.take-chain.ensures.value, c.replace-items.ensures.value) at c.in_ok-chain.ensures.value ignores.0)
