@@ -42,10 +42,10 @@ module _ {A B E : Type 0} (given : Given (Chain A × B) E) (own : B → Worth) (
 -- what is made of a list by rules, and then by the other callback, is what is given
 pub then_next : {A B E F : Type 0} (given : Given (Chain A × B) E) (fixed : Type 0) (texts : Texts) (settings : Settings) (makes : Given (Chain A × B) E → Type 0) (is : Ignores fixed texts settings makes given)
     (depth : Option ℕ) (path : List ℕ) (answer : Result (Unit {0}) F) (chain left : Chain A) (state : B) (after : Chain A × B) (old new list : List (Item (Chain A × B) E))
-    → (let made : Made (Chain A × B) E = record { chain = chain_value left; list = new } in made) ≡ by_rules settings texts depth path (chain_value chain) old
     → OnOk answer (IsProcessed (with_processed given is.3 is.4) depth path (left, state) new after list)
+    → (let made : Made (Chain A × B) E = record { chain = chain_value left; list = new } in made) ≡ by_rules settings texts depth path (chain_value chain) old
     → OnOk answer (IsProcessed given depth path (chain, state) old after list)
-then_next given fixed texts settings makes is depth path (Ok done) chain left state after old new list made processed =
+then_next given fixed texts settings makes is depth path (Ok done) chain left state after old new list processed made =
     is.6 depth path (given.read_dir_state (chain, state)) (map (counted_item given) old)
     ∙ by_next given is.1 is.2 settings texts is.3 depth path chain left state old new made ∙ processed
-then_next given fixed texts settings makes is depth path (Err failed) chain left state after old new list made processed = tt
+then_next given fixed texts settings makes is depth path (Err failed) chain left state after old new list processed made = tt

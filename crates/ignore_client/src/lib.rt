@@ -1,0 +1,4 @@
+//! Functions over walks that honour ignore files, with contracts of their own.
+#![tactic(auto)]
+
+pub mod ignoring;
