@@ -1,5 +1,5 @@
 -- How the items of a class are read.
-use Rattle.std.specs.Prelude.{ℕ, Bool, ◌<◌, ◌≤◌, ◌+◌, ◌-◌, ◌==◌, List, [], ◌∷◌, Option, Some, None, position, length, take, get_or, if◌then◌else◌}
+use Rattle.std.specs.Prelude.{ℕ, Bool, ◌<◌, ◌≤◌, ◌+◌, ◌-◌, ◌==◌, List, [], ◌∷◌, Option, Some, None, position, take, get_or, if◌then◌else◌}
 use Rattle.std.specs.Option.{option_and_then}
 use Rattle.jwalk_ignore.specs.ByteClass.{class_by_name}
 use Rattle.jwalk_ignore.specs.declared.byte_class.ByteClass.{ByteClass}
