@@ -46,11 +46,10 @@ fn begun<R: Host>(stand: &Stand<R, Watched>) -> Option<Walk<R, Watched>> {
     stand.tried(&WALK).ok()
 }
 
-/// Whether the walk has no more readings ahead than the bound and one, nor were more directories listed than these and
-/// those of the answers.
-fn is_within<R: Host>(stand: &Stand<R, Watched>, walk: &Walk<R, Watched>, answers: usize) -> bool {
-    let most = answers.saturating_add(BOUND + 1);
-    walk.ahead() <= BOUND + 1 && stand.fs.lists() <= most
+/// Whether there are no more readings ahead of a walk than the bound and one, nor were more directories listed than these
+/// and those of the answers.
+fn is_within(ahead: usize, lists: usize, answers: usize) -> bool {
+    ahead <= BOUND + 1 && lists <= answers.saturating_add(BOUND + 1)
 }
 
 /// Whether the workers read as far ahead as the bound while nobody asks, and no further; and whether that is so after
@@ -65,7 +64,11 @@ fn is_bounded<R: Host>(rt: &R, stand: &Stand<R, Watched>, pause: u64) -> bool {
         return false;
     }
     for answers in 0..DIRECTORIES + 1 {
-        if !comes(&mut walk, 1) || !is_within(stand, &walk, answers.saturating_add(1)) {
+        if !comes(&mut walk, 1) {
+            return false;
+        }
+        let (ahead, lists) = (walk.ahead(), stand.fs.lists());
+        if !is_within(ahead, lists, answers.saturating_add(1)) {
             return false;
         }
         thread::sleep(rt, Duration::from_millis(pause));
