@@ -1,0 +1,7 @@
+pub mod Case
+pub mod Depths
+pub mod Kinds
+pub mod Extension
+pub mod Expression
+pub mod Paths
+pub mod Subject

@@ -1,0 +1,10 @@
+//! Which entries of a walk are looked for, over plain values, and how one is written.
+#![tactic(auto)]
+
+pub mod case;
+pub mod depths;
+pub mod expression;
+pub mod extension;
+pub mod kinds;
+pub mod paths;
+pub mod subject;
