@@ -1,14 +1,14 @@
 //! The text that a pattern is compared with.
-ghost use Rattle.std.specs.Prelude.{◌≡◌, IfOk, string_bytes};
-ghost use Rattle.walk_model.specs.Paths.{starts_with_slash, with_slash};
+ghost use Rattle.std.specs.Prelude.{◌≡◌, [], IfOk, OnOk};
+ghost use Rattle.walk_model.specs.Paths.{join, starts_with_slash};
 
 use crate::paths::without_here;
 use std::alloc::{AllocError, Global};
-use walk_paths::path_text::join_parts;
+use walk_paths::path_text::{self, join_parts};
 
-/// The absolute paths of entries, made one after another in the same memory.
+/// The absolute path of an entry, and of one after another in the same memory.
 #[derive(Drop)]
-pub struct AbsolutePaths {
+pub struct AbsolutePath {
     /// The folder that relative paths begin at, ended by a slash.
     front: String,
     text: String,
@@ -21,33 +21,30 @@ fn is_absolute(path: &str) -> bool
     matches!(path.as_bytes(), [b'/', ..])
 }
 
-impl AbsolutePaths {
-    ghost use Rattle.seek_filter.specs.Subject.{front_of, absolute_path};
+impl AbsolutePath {
+    ghost use Rattle.seek_filter.specs.Subject.{front_of, text_of, absolute_path};
 
-    /// Returns the absolute paths of what is below a folder with this absolute path.
+    /// Returns no path yet, below a folder with this absolute path.
     ///
     /// # Errors
     ///
     /// If memory runs out.
-    pub fn new(alloc: Global, folder: &str) -> Result<Self, AllocError>
-        ensures { IfOk result (λ it. front_of it ≡ with_slash folder.now) }
+    pub fn below(alloc: Global, folder: &str) -> Result<Self, AllocError>
+        ensures { IfOk result (λ it. front_of it ≡ join folder.now []) }
     {
-        let (path, slash, _) = join_parts(folder, "");
-        let mut front = String::from_str(alloc, path)?;
-        front.push_str(slash)?;
-        Ok(AbsolutePaths {
-            front,
+        Ok(AbsolutePath {
+            front: path_text::join(alloc, folder, "")?,
             text: String::new(alloc),
         })
     }
 
-    /// Returns the absolute path of a name in a folder.
+    /// Makes it that of a name in a folder.
     ///
     /// # Errors
     ///
     /// If memory runs out.
-    pub fn of(&mut self, folder: &str, name: &str) -> Result<&str, AllocError>
-        ensures path { IfOk result (λ text. text.now ≡ absolute_path (front_of self.old) folder.now name.now) }
+    pub fn set(&mut self, folder: &str, name: &str) -> Result<(), AllocError>
+        ensures path { OnOk result (text_of self.new ≡ absolute_path (front_of self.old) folder.now name.now) }
         ensures front { front_of self.new ≡ front_of self.old }
     {
         let (folder, slash, name) = join_parts(without_here(folder), name);
@@ -58,6 +55,13 @@ impl AbsolutePaths {
         self.text.push_str(folder)?;
         self.text.push_str(slash)?;
         self.text.push_str(name)?;
-        Ok(self.text.as_str())
+        Ok(())
+    }
+
+    /// Returns it as a text.
+    pub fn as_str(&self) -> &str
+        ensures { result.now ≡ text_of self.now }
+    {
+        self.text.as_str()
     }
 }

@@ -1,0 +1,189 @@
+//! A call of the program.
+ghost use Rattle.std.specs.Prelude.{◌≡◌, ◌≤◌, IfOk};
+ghost use Rattle.std.specs.Arc.{arc_value};
+
+use crate::failure::Failure;
+use crate::filter::Filter;
+use crate::name_test::NameTest;
+use crate::printer::Printer;
+use crate::search::Search;
+use crate::sought::Sought;
+use jwalk::Crew;
+use jwalk::file_system::{Fault, FileSystem};
+use jwalk_ignore::texts::Texts;
+use seek_filter::paths::Style;
+use seek_filter::subject::AbsolutePath;
+use seek_words::asked::Asked;
+use seek_words::refusal::Refusal;
+use seek_words::words::read_words;
+use std::alloc::{AllocError, Global};
+use std::io::Write;
+use std::sync::{Arc, Wait};
+use std::thread::{Threads, available_parallelism};
+use std::time::Clock;
+
+/// Returns how many threads read: as many as are asked for, or as can run at a time.
+fn threads_of<T: Threads>(rt: &T, asked: &Asked<'_>) -> usize {
+    match asked.threads {
+        Some(threads) => threads,
+        None => match available_parallelism(rt) {
+            Ok(threads) => threads.get(),
+            Err(_) => 1,
+        },
+    }
+}
+
+/// Returns the crew that reads, which is none for one thread.
+fn crew_of<T: Wait + Threads + Clock + Clone + Drop>(
+    rt: &T,
+    alloc: Global,
+    asked: &Asked<'_>,
+) -> Result<Option<Arc<Crew<T>>>, AllocError> {
+    let threads = threads_of(rt, asked);
+    if threads < 2 {
+        return Ok(None);
+    }
+    Ok(Some(Arc::new(alloc, Crew::new(rt.clone()?, 1, threads))?))
+}
+
+/// Returns what threads may share.
+fn shared<V: Drop>(alloc: Global, value: V) -> Result<Arc<V>, AllocError>
+    ensures { IfOk result (λ it. arc_value it ≡ value) }
+{
+    Ok(Arc::new(alloc, value)?)
+}
+
+/// Returns the absolute path that entries are tested by, if they are.
+fn path_of<X: Texts>(
+    alloc: Global,
+    asked: &Asked<'_>,
+    texts: &X,
+) -> Result<Option<AbsolutePath>, AllocError> {
+    if !asked.full_path {
+        return Ok(None);
+    }
+    match texts.absolute(alloc, ".") {
+        Ok(here) => Ok(Some(AbsolutePath::below(alloc, here.as_str())?)),
+        Err(Fault::Io(_)) => Ok(Some(AbsolutePath::below(alloc, "")?)),
+        Err(Fault::Memory) => Err(AllocError),
+    }
+}
+
+/// Returns how paths are written.
+fn style_of(asked: &Asked<'_>) -> Style {
+    Style {
+        here: asked.roots.is_empty(),
+        separator: if asked.print0 { 0 } else { b'\n' },
+    }
+}
+
+/// Searches below all roots that are asked for. Returns whether there was no error.
+fn search_roots<
+    T: Wait + Threads + Clock + Clone + Drop + Send + Sync + 'static,
+    S: FileSystem + Send + Sync + 'static,
+    X: Texts + Send + Sync + 'static,
+    W: Write,
+    E: Write,
+>(
+    alloc: Global,
+    search: &Search<'_, '_, T, S, X>,
+    printer: &mut Printer<'_>,
+    out: &mut W,
+    err: &mut E,
+) -> Result<bool, Failure> {
+    if search.asked.roots.is_empty() {
+        return search.below(alloc, ".", printer, out, err);
+    }
+    let mut clean = true;
+    for root in search.asked.roots.as_slice() {
+        clean &= search.below(alloc, root, printer, out, err)?;
+    }
+    Ok(clean)
+}
+
+/// Searches as is asked for. Returns whether there was no error.
+fn search_asked<
+    T: Wait + Threads + Clock + Clone + Drop + Send + Sync + 'static,
+    S: FileSystem + Send + Sync + 'static,
+    X: Texts + Send + Sync + 'static,
+    W: Write,
+    E: Write,
+>(
+    rt: &T,
+    alloc: Global,
+    disk: S,
+    texts: X,
+    asked: &Asked<'_>,
+    out: &mut W,
+    err: &mut E,
+) -> Result<bool, Failure> {
+    let sought = Sought::read(alloc, asked)?;
+    let filter = Filter {
+        depths: asked.depths,
+        kinds: asked.kinds,
+        extensions: asked.extensions.as_slice(),
+        test: NameTest::new(alloc, &sought)?,
+        path: path_of(alloc, asked, &texts)?,
+    };
+    let mut printer = Printer::new(alloc, filter, style_of(asked))?;
+    let search = Search {
+        rt,
+        asked,
+        disk: shared(alloc, disk)?,
+        texts: shared(alloc, texts)?,
+        crew: crew_of(rt, alloc, asked)?,
+    };
+    let clean = search_roots(alloc, &search, &mut printer, out, err)?;
+    printer.finish(out)?;
+    Ok(clean)
+}
+
+/// Prints what is asked for by words that ask for no search, and returns the status.
+fn refuse<W: Write, E: Write>(refusal: &Refusal, out: &mut W, err: &mut E) -> u8 {
+    if refusal.is_wish() {
+        return u8::from(write!(out, "{refusal}").is_err() || out.flush().is_err());
+    }
+    let _ = writeln!(err, "{refusal}");
+    refusal.status()
+}
+
+/// Returns the status of a search that ended so. What ended it is reported, unless the output can't be written.
+fn status_of<E: Write>(ended: Result<bool, Failure>, err: &mut E) -> u8 {
+    match ended {
+        Ok(clean) => u8::from(!clean),
+        Err(Failure::Output) => Failure::Output.status(),
+        Err(failure) => {
+            let _ = writeln!(err, "seek: {failure}");
+            failure.status()
+        }
+    }
+}
+
+/// Searches the disk as the words ask, of which the first is the program's name. Prints the path of each entry that is
+/// looked for, and reports errors on `err`. Returns the status.
+///
+/// The status is 0 if all was searched and there was no error. It is 1 if there was one, if memory ran out, or if the
+/// output can't be written. It is 2 for bad words, and then nothing is printed.
+pub fn run<
+    T: Wait + Threads + Clock + Clone + Drop + Send + Sync + 'static,
+    S: FileSystem + Send + Sync + 'static,
+    X: Texts + Send + Sync + 'static,
+    W: Write,
+    E: Write,
+>(
+    rt: &T,
+    alloc: Global,
+    disk: S,
+    texts: X,
+    words: &[String],
+    out: &mut W,
+    err: &mut E,
+) -> u8 {
+    match read_words(alloc, words) {
+        Ok(asked) => {
+            let ended = search_asked(rt, alloc, disk, texts, &asked, out, err);
+            status_of(ended, err)
+        }
+        Err(refusal) => refuse(&refusal, out, err),
+    }
+}

@@ -1,0 +1,113 @@
+//! A search below roots.
+use crate::excluding::Excluding;
+use crate::failure::Failure;
+use crate::printer::Printer;
+use crate::walk::walk_of;
+use jwalk::file_system::FileSystem;
+use jwalk::read_dir::ProcessReadDir;
+use jwalk::threads::OnThreads;
+use jwalk::{ClientState, Crew, DirEntryIter, Pool};
+use jwalk_ignore::builder::with_ignore_files;
+use jwalk_ignore::chain::Chain;
+use jwalk_ignore::ignore_files::IgnoreFiles;
+use jwalk_ignore::texts::Texts;
+use seek_words::asked::Asked;
+use std::alloc::Global;
+use std::io::Write;
+use std::sync::{Arc, Wait};
+use std::thread::Threads;
+use std::time::Clock;
+
+/// Prints what is found of a walk's answers, and reports its errors. Returns whether there was none.
+fn print_all<
+    T: Threads + Sync + Drop,
+    C: ClientState + Send,
+    S: FileSystem + Send + Sync,
+    P: ProcessReadDir<C, Global> + Send + Sync,
+    L: Pool<C, S, P, Global>,
+    W: Write,
+    E: Write,
+>(
+    mut walk: DirEntryIter<C, S, P, Global, OnThreads<T>, L>,
+    printer: &mut Printer<'_>,
+    out: &mut W,
+    err: &mut E,
+) -> Result<bool, Failure>
+where
+    C::ReadDirState: Send,
+    C::DirEntryState: Send,
+{
+    let mut clean = true;
+    while let Some(answer) = walk.next() {
+        clean &= printer.print(&answer, out, err)?;
+    }
+    Ok(clean)
+}
+
+/// What is asked for, and what it is looked for in.
+#[derive(Drop)]
+pub(crate) struct Search<'a, 'w, T: Drop, S: FileSystem, X: Texts> {
+    pub(crate) rt: &'a T,
+    pub(crate) asked: &'a Asked<'w>,
+    pub(crate) disk: Arc<S>,
+    pub(crate) texts: Arc<X>,
+    pub(crate) crew: Option<Arc<Crew<T>>>,
+}
+
+impl<
+    'a,
+    'w,
+    T: Wait + Threads + Clock + Clone + Drop + Send + Sync + 'static,
+    S: FileSystem + Send + Sync + 'static,
+    X: Texts + Send + Sync + 'static,
+> Search<'a, 'w, T, S, X> {
+    /// Searches below a root without ignore files.
+    fn search_all<W: Write, E: Write>(
+        &self,
+        alloc: Global,
+        root: &str,
+        printer: &mut Printer<'_>,
+        out: &mut W,
+        err: &mut E,
+    ) -> Result<bool, Failure> {
+        let excluding = Excluding::new(alloc, self.asked.excludes.as_slice(), root)?;
+        let root = String::from_str(alloc, root)?;
+        let disk = self.disk.clone()?;
+        let walk = walk_of::<((), ()), _, _>(self.rt, disk, root, self.asked, &self.crew)?;
+        print_all(walk.process_read_dir(excluding).into_iter(), printer, out, err)
+    }
+
+    /// Searches below a root, with its ignore files.
+    fn search_kept<W: Write, E: Write>(
+        &self,
+        alloc: Global,
+        root: &str,
+        printer: &mut Printer<'_>,
+        out: &mut W,
+        err: &mut E,
+    ) -> Result<bool, Failure> {
+        let excluding = Excluding::new(alloc, self.asked.excludes.as_slice(), root)?;
+        let rules = IgnoreFiles::new(self.texts.clone()?)
+            .keep_hidden(self.asked.hidden)
+            .then(excluding);
+        let root = String::from_str(alloc, root)?;
+        let disk = self.disk.clone()?;
+        let walk = walk_of::<((Chain, ()), ()), _, _>(self.rt, disk, root, self.asked, &self.crew)?;
+        print_all(with_ignore_files(walk, rules).into_iter(), printer, out, err)
+    }
+
+    /// Searches below a root, prints what is found and reports errors. Returns whether there was none.
+    pub(crate) fn below<W: Write, E: Write>(
+        &self,
+        alloc: Global,
+        root: &str,
+        printer: &mut Printer<'_>,
+        out: &mut W,
+        err: &mut E,
+    ) -> Result<bool, Failure> {
+        if self.asked.no_ignore {
+            return self.search_all(alloc, root, printer, out, err);
+        }
+        self.search_kept(alloc, root, printer, out, err)
+    }
+}

@@ -1,0 +1,66 @@
+//! Why words are refused.
+use clap::Error;
+use clap::error::ErrorKind;
+use std::alloc::AllocError;
+use std::fmt;
+
+/// Why there is nothing to look for.
+#[derive(Debug, Drop)]
+pub enum Refusal {
+    /// The words are bad, or ask for help or the version, which is then the text.
+    Words(Error),
+    /// The pattern has a slash, and isn't compared with paths.
+    Slash,
+    /// Memory ran out.
+    Memory,
+}
+
+impl Refusal {
+    ghost use Rattle.std.specs.Prelude.{◌≡◌};
+    ghost use Rattle.seek_words.specs.Refusal.{is_wish, status_of};
+
+    /// Returns whether the words are good, and ask for help or for the version.
+    pub fn is_wish(&self) -> bool
+        ensures { result ≡ is_wish self.now }
+    {
+        match self {
+            Refusal::Words(error) => !error.use_stderr(),
+            Refusal::Slash | Refusal::Memory => false,
+        }
+    }
+
+    /// Returns the status that the program ends with.
+    pub fn status(&self) -> u8
+        ensures { result ≡ status_of self.now }
+    {
+        match self {
+            Refusal::Words(error) if error.kind() == ErrorKind::OutOfMemory => 1,
+            Refusal::Words(error) if error.use_stderr() => 2,
+            Refusal::Words(_) => 0,
+            Refusal::Slash => 2,
+            Refusal::Memory => 1,
+        }
+    }
+}
+
+impl From<AllocError> for Refusal {
+    ghost use Rattle.seek_words.specs.declared.refusal.Refusal.TheVariants.{Memory};
+
+    ghost from_gives = { λ _ refusal. refusal ≡ Memory };
+
+    fn from(_refused: AllocError) -> Refusal {
+        Refusal::Memory
+    }
+}
+
+impl fmt::Display for Refusal {
+    fn fmt<W: fmt::Write>(&self, f: &mut fmt::Formatter<W>) -> fmt::Result {
+        match self {
+            Refusal::Words(error) => write!(f, "{error}"),
+            Refusal::Slash => f.write_str(
+                "seek: a name has no slash, and the pattern has one. Write `seek . /usr` to list a folder, and --full-path to look in paths",
+            ),
+            Refusal::Memory => f.write_str("seek: memory refused"),
+        }
+    }
+}
