@@ -26,5 +26,8 @@ pub fn has_extension(name: &str, extension: &str) -> bool
 pub fn has_one(name: &str, extensions: &[&str]) -> bool
     ensures { result ≡ has_one name.now (map (λ it. it.now) extensions.now) }
 {
-    extensions.is_empty() || extensions.iter().any(|extension| has_extension(name, extension))
+    extensions.is_empty()
+        || extensions
+            .iter()
+            .any(|extension| has_extension(name, extension))
 }

@@ -36,7 +36,11 @@ impl Style {
     fn folder(self, folder: &str) -> &str
         ensures { result.now ≡ shown_folder self folder.now }
     {
-        if self.here { without_here(folder) } else { folder }
+        if self.here {
+            without_here(folder)
+        } else {
+            folder
+        }
     }
 
     /// Writes the path of a name in a folder behind these bytes, and the separator.

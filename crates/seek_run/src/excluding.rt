@@ -61,7 +61,9 @@ impl Excluding {
         };
         let len = place.len();
         place.extend_from_slice(entry.file_name().as_bytes())?;
-        let decision = self.rules.decision(place.as_slice(), entry.file_type().is_dir());
+        let decision = self
+            .rules
+            .decision(place.as_slice(), entry.file_type().is_dir());
         place.truncate(len);
         Ok(!decision.is_ignored())
     }

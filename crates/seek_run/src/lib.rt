@@ -1,10 +1,11 @@
 //! What the program `seek` does with its words, a disk and texts of rules.
 #![tactic(auto)]
 
+mod bad_pattern;
 mod excluding;
-mod failure;
 mod filter;
 mod glob;
+mod halt;
 mod name_test;
 mod printer;
 mod report;

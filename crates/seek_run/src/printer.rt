@@ -1,6 +1,6 @@
 //! What is found, printed.
-use crate::failure::Failure;
 use crate::filter::Filter;
+use crate::halt::Halt;
 use crate::report::report_error;
 use jwalk::error::Result as Answer;
 use jwalk::{ClientState, DirEntry};
@@ -22,7 +22,7 @@ pub(crate) struct Printer<'s> {
 
 impl<'s> Printer<'s> {
     /// Returns one that has printed nothing.
-    pub(crate) fn new(alloc: Global, filter: Filter<'s>, style: Style) -> Result<Self, Failure> {
+    pub(crate) fn new(alloc: Global, filter: Filter<'s>, style: Style) -> Result<Self, Halt> {
         Ok(Printer {
             filter,
             style,
@@ -31,9 +31,9 @@ impl<'s> Printer<'s> {
     }
 
     /// Writes the lines that were gathered.
-    fn write_gathered<W: Write>(&mut self, out: &mut W) -> Result<(), Failure> {
+    fn write_gathered<W: Write>(&mut self, out: &mut W) -> Result<(), Halt> {
         if out.write_all(self.gathered.as_slice()).is_err() {
-            return Err(Failure::Output);
+            return Err(Halt::Output);
         }
         self.gathered.clear();
         Ok(())
@@ -44,11 +44,12 @@ impl<'s> Printer<'s> {
         &mut self,
         found: &DirEntry<C, Global>,
         out: &mut W,
-    ) -> Result<(), Failure> {
+    ) -> Result<(), Halt> {
         if !self.filter.passes(found)? {
             return Ok(());
         }
-        self.style.write(found.parent_path(), found.file_name(), &mut self.gathered)?;
+        self.style
+            .write(found.parent_path(), found.file_name(), &mut self.gathered)?;
         if self.gathered.len() < GATHERED {
             return Ok(());
         }
@@ -62,7 +63,7 @@ impl<'s> Printer<'s> {
         answer: &Answer<DirEntry<C, Global>, Global>,
         out: &mut W,
         err: &mut E,
-    ) -> Result<bool, Failure> {
+    ) -> Result<bool, Halt> {
         let error = match answer {
             Ok(found) => {
                 self.print_entry(found, out)?;
@@ -77,10 +78,10 @@ impl<'s> Printer<'s> {
     }
 
     /// Writes the lines that are left, and flushes the output.
-    pub(crate) fn finish<W: Write>(&mut self, out: &mut W) -> Result<(), Failure> {
+    pub(crate) fn finish<W: Write>(&mut self, out: &mut W) -> Result<(), Halt> {
         self.write_gathered(out)?;
         if out.flush().is_err() {
-            return Err(Failure::Output);
+            return Err(Halt::Output);
         }
         Ok(())
     }

@@ -1,9 +1,9 @@
 //! A call of the program.
-ghost use Rattle.std.specs.Prelude.{◌≡◌, ◌≤◌, IfOk};
+ghost use Rattle.std.specs.Prelude.{◌≡◌, ◌↔◌, ◌≤◌, true, Ok, IfOk};
 ghost use Rattle.std.specs.Arc.{arc_value};
 
-use crate::failure::Failure;
 use crate::filter::Filter;
+use crate::halt::Halt;
 use crate::name_test::NameTest;
 use crate::printer::Printer;
 use crate::search::Search;
@@ -90,7 +90,7 @@ fn search_roots<
     printer: &mut Printer<'_>,
     out: &mut W,
     err: &mut E,
-) -> Result<bool, Failure> {
+) -> Result<bool, Halt> {
     if search.asked.roots.is_empty() {
         return search.below(alloc, ".", printer, out, err);
     }
@@ -114,15 +114,15 @@ fn search_asked<
     disk: S,
     texts: X,
     asked: &Asked<'_>,
+    sought: &Sought,
     out: &mut W,
     err: &mut E,
-) -> Result<bool, Failure> {
-    let sought = Sought::read(alloc, asked)?;
+) -> Result<bool, Halt> {
     let filter = Filter {
         depths: asked.depths,
         kinds: asked.kinds,
         extensions: asked.extensions.as_slice(),
-        test: NameTest::new(alloc, &sought)?,
+        test: NameTest::new(alloc, sought)?,
         path: path_of(alloc, asked, &texts)?,
     };
     let mut printer = Printer::new(alloc, filter, style_of(asked))?;
@@ -139,22 +139,23 @@ fn search_asked<
 }
 
 /// Prints what is asked for by words that ask for no search, and returns the status.
-fn refuse<W: Write, E: Write>(refusal: &Refusal, out: &mut W, err: &mut E) -> u8 {
+fn refuse<W: Write, E: Write>(refusal: &Refusal<'_>, out: &mut W, err: &mut E) -> u8 {
     if refusal.is_wish() {
         return u8::from(write!(out, "{refusal}").is_err() || out.flush().is_err());
     }
-    let _ = writeln!(err, "{refusal}");
+    let _ = write!(err, "{refusal}");
     refusal.status()
 }
 
-/// Returns the status of a search that ended so. What ended it is reported, unless the output can't be written.
-fn status_of<E: Write>(ended: Result<bool, Failure>, err: &mut E) -> u8 {
+/// Returns the status of a search that ended so. What ended it before its end is reported.
+fn status_of<E: Write>(ended: Result<bool, Halt>, err: &mut E) -> u8
+    ensures { (result ≡ 0) ↔ (ended ≡ Ok true) }
+{
     match ended {
         Ok(clean) => u8::from(!clean),
-        Err(Failure::Output) => Failure::Output.status(),
-        Err(failure) => {
-            let _ = writeln!(err, "seek: {failure}");
-            failure.status()
+        Err(halt) => {
+            halt.report(err);
+            1
         }
     }
 }
@@ -170,20 +171,16 @@ pub fn run<
     X: Texts + Send + Sync + 'static,
     W: Write,
     E: Write,
->(
-    rt: &T,
-    alloc: Global,
-    disk: S,
-    texts: X,
-    words: &[String],
-    out: &mut W,
-    err: &mut E,
-) -> u8 {
-    match read_words(alloc, words) {
-        Ok(asked) => {
-            let ended = search_asked(rt, alloc, disk, texts, &asked, out, err);
+>(rt: &T, alloc: Global, disk: S, texts: X, words: &[String], out: &mut W, err: &mut E) -> u8 {
+    let asked = match read_words(alloc, words) {
+        Ok(asked) => asked,
+        Err(refusal) => return refuse(&refusal, out, err),
+    };
+    match Sought::read(alloc, &asked) {
+        Ok(sought) => {
+            let ended = search_asked(rt, alloc, disk, texts, &asked, &sought, out, err);
             status_of(ended, err)
         }
-        Err(refusal) => refuse(&refusal, out, err),
+        Err(bad) => bad.report(err),
     }
 }

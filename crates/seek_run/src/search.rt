@@ -1,6 +1,6 @@
 //! A search below roots.
 use crate::excluding::Excluding;
-use crate::failure::Failure;
+use crate::halt::Halt;
 use crate::printer::Printer;
 use crate::walk::walk_of;
 use jwalk::file_system::FileSystem;
@@ -32,7 +32,7 @@ fn print_all<
     printer: &mut Printer<'_>,
     out: &mut W,
     err: &mut E,
-) -> Result<bool, Failure>
+) -> Result<bool, Halt>
 where
     C::ReadDirState: Send,
     C::DirEntryState: Send,
@@ -69,12 +69,17 @@ impl<
         printer: &mut Printer<'_>,
         out: &mut W,
         err: &mut E,
-    ) -> Result<bool, Failure> {
+    ) -> Result<bool, Halt> {
         let excluding = Excluding::new(alloc, self.asked.excludes.as_slice(), root)?;
         let root = String::from_str(alloc, root)?;
         let disk = self.disk.clone()?;
         let walk = walk_of::<((), ()), _, _>(self.rt, disk, root, self.asked, &self.crew)?;
-        print_all(walk.process_read_dir(excluding).into_iter(), printer, out, err)
+        print_all(
+            walk.process_read_dir(excluding).into_iter(),
+            printer,
+            out,
+            err,
+        )
     }
 
     /// Searches below a root, with its ignore files.
@@ -85,7 +90,7 @@ impl<
         printer: &mut Printer<'_>,
         out: &mut W,
         err: &mut E,
-    ) -> Result<bool, Failure> {
+    ) -> Result<bool, Halt> {
         let excluding = Excluding::new(alloc, self.asked.excludes.as_slice(), root)?;
         let rules = IgnoreFiles::new(self.texts.clone()?)
             .keep_hidden(self.asked.hidden)
@@ -93,7 +98,12 @@ impl<
         let root = String::from_str(alloc, root)?;
         let disk = self.disk.clone()?;
         let walk = walk_of::<((Chain, ()), ()), _, _>(self.rt, disk, root, self.asked, &self.crew)?;
-        print_all(with_ignore_files(walk, rules).into_iter(), printer, out, err)
+        print_all(
+            with_ignore_files(walk, rules).into_iter(),
+            printer,
+            out,
+            err,
+        )
     }
 
     /// Searches below a root, prints what is found and reports errors. Returns whether there was none.
@@ -104,7 +114,7 @@ impl<
         printer: &mut Printer<'_>,
         out: &mut W,
         err: &mut E,
-    ) -> Result<bool, Failure> {
+    ) -> Result<bool, Halt> {
         if self.asked.no_ignore {
             return self.search_all(alloc, root, printer, out, err);
         }

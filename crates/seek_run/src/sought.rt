@@ -1,5 +1,5 @@
 //! What names are looked for.
-use crate::failure::Failure;
+use crate::bad_pattern::BadPattern;
 use crate::glob::Glob;
 use regex::{Error, Regex};
 use seek_filter::expression::read_expression;
@@ -24,7 +24,7 @@ fn takes_any(asked: &Asked<'_>) -> bool {
 
 impl Sought {
     /// Reads the pattern that is asked for. The empty one takes any name, and so does `.`, unless it is a glob.
-    pub(crate) fn read(alloc: Global, asked: &Asked<'_>) -> Result<Self, Failure> {
+    pub(crate) fn read<'w>(alloc: Global, asked: &Asked<'w>) -> Result<Self, BadPattern<'w>> {
         if takes_any(asked) {
             return Ok(Sought::Any);
         }
@@ -32,13 +32,13 @@ impl Sought {
             let folds = asked.case.is_ignored(asked.pattern);
             return match Glob::read(alloc, asked.pattern, folds)? {
                 Some(glob) => Ok(Sought::Glob(glob)),
-                None => Err(Failure::BadGlob),
+                None => Err(BadPattern::Glob(asked.pattern)),
             };
         }
         match read_expression(alloc, asked.pattern, asked.case) {
             Ok(expression) => Ok(Sought::Expression(expression)),
-            Err(Error::OutOfMemory) => Err(Failure::Memory),
-            Err(error) => Err(Failure::BadPattern(error)),
+            Err(Error::OutOfMemory) => Err(BadPattern::Memory),
+            Err(error) => Err(BadPattern::Expression(asked.pattern, error)),
         }
     }
 }

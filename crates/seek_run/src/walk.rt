@@ -10,12 +10,7 @@ use std::thread::Threads;
 use std::time::Clock;
 
 /// Returns the walk that is asked for below a root, without a callback. If there is a crew, it reads the directories.
-pub(crate) fn walk_of<
-    't,
-    C: ClientState,
-    T: Wait + Threads + Clock + Clone + Drop,
-    S: FileSystem,
->(
+pub(crate) fn walk_of<'t, C: ClientState, T: Wait + Threads + Clock + Clone + Drop, S: FileSystem>(
     rt: &'t T,
     fs: S,
     root: String,

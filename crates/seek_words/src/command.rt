@@ -5,7 +5,16 @@ use std::alloc::{AllocError, Global};
 
 /// The names of types.
 static KINDS: [&str; 10] = [
-    "f", "file", "d", "dir", "directory", "l", "link", "symlink", "o", "other",
+    "f",
+    "file",
+    "d",
+    "dir",
+    "directory",
+    "l",
+    "link",
+    "symlink",
+    "o",
+    "other",
 ];
 
 /// Returns an option of one word, which may be repeated.
@@ -33,26 +42,65 @@ fn depth<'a>(alloc: Global, id: &'a str, help: &'a str) -> Arg<'a> {
 
 /// Adds what says how a name is compared.
 fn with_patterns(alloc: Global, command: Command<'_>) -> Result<Command<'_>, AllocError> {
-    let ignored = flag(alloc, "ignore-case", 'i', "The case of letters doesn't count");
-    let kept = flag(alloc, "case-sensitive", 's', "The case of letters counts [default: if the pattern has an upper-case letter]");
+    let ignored = flag(
+        alloc,
+        "ignore-case",
+        'i',
+        "The case of letters doesn't count",
+    );
+    let kept = flag(
+        alloc,
+        "case-sensitive",
+        's',
+        "The case of letters counts [default: if the pattern has an upper-case letter]",
+    );
     command
-        .arg(flag(alloc, "glob", 'g', "The pattern is a glob, which takes the whole name"))?
-        .arg(flag(alloc, "full-path", 'p', "The pattern is compared with the absolute path"))?
+        .arg(flag(
+            alloc,
+            "glob",
+            'g',
+            "The pattern is a glob, which takes the whole name",
+        ))?
+        .arg(flag(
+            alloc,
+            "full-path",
+            'p',
+            "The pattern is compared with the absolute path",
+        ))?
         .arg(ignored.conflicts_with("case-sensitive")?)?
         .arg(kept)
 }
 
 /// Adds what says which entries are walked.
 fn with_walk(alloc: Global, command: Command<'_>) -> Result<Command<'_>, AllocError> {
-    let exclude = valued(alloc, "exclude", "LINE", "Leave out what this line of an ignore file names");
-    let threads = valued(alloc, "threads", "N", "Threads that read directories [default: as many as can run at a time]");
+    let exclude = valued(
+        alloc,
+        "exclude",
+        "LINE",
+        "Leave out what this line of an ignore file names",
+    );
+    let threads = valued(
+        alloc,
+        "threads",
+        "N",
+        "Threads that read directories [default: as many as can run at a time]",
+    );
     command
         .arg(flag(alloc, "hidden", 'H', "Hidden names come too"))?
         .arg(flag(alloc, "no-ignore", 'I', "Read no ignore files"))?
         .arg(exclude.short('E').action(ArgAction::Append))?
         .arg(flag(alloc, "follow", 'L', "Follow links"))?
-        .arg(Arg::new(alloc, "sort").long("sort").action(ArgAction::Count).help("The entries of a directory by their names"))?
-        .arg(threads.short('j').value_parser(clap::value_parser!(usize).range(1..)))
+        .arg(
+            Arg::new(alloc, "sort")
+                .long("sort")
+                .action(ArgAction::Count)
+                .help("The entries of a directory by their names"),
+        )?
+        .arg(
+            threads
+                .short('j')
+                .value_parser(clap::value_parser!(usize).range(1..)),
+        )
 }
 
 /// Adds what says which of them are looked for.
@@ -63,16 +111,36 @@ fn with_filters(alloc: Global, command: Command<'_>) -> Result<Command<'_>, Allo
     command
         .arg(depth(alloc, "min-depth", "The least depth"))?
         .arg(depth(alloc, "max-depth", "The greatest depth").short('d'))?
-        .arg(exact.conflicts_with("min-depth")?.conflicts_with("max-depth")?)?
-        .arg(kind.short('t').action(ArgAction::Append).value_parser(KINDS.as_slice()).hide_possible_values(true))?
+        .arg(
+            exact
+                .conflicts_with("min-depth")?
+                .conflicts_with("max-depth")?,
+        )?
+        .arg(
+            kind.short('t')
+                .action(ArgAction::Append)
+                .value_parser(KINDS.as_slice())
+                .hide_possible_values(true),
+        )?
         .arg(extension.short('e').action(ArgAction::Append))?
-        .arg(flag(alloc, "print0", '0', "A zero byte behind each path, in place of a line feed"))
+        .arg(flag(
+            alloc,
+            "print0",
+            '0',
+            "A zero byte behind each path, in place of a line feed",
+        ))
 }
 
 /// Returns the command line.
 pub(crate) fn command(alloc: Global) -> Result<Command<'static>, AllocError> {
-    let pattern = Arg::new(alloc, "pattern").value_name("PATTERN").help("What a name has in it: a regular expression [default: any name]");
-    let roots = Arg::new(alloc, "root").value_name("ROOT").action(ArgAction::Append).num_args(0..).help("Where to look [default: the folder that it runs in]");
+    let pattern = Arg::new(alloc, "pattern").value_name("PATTERN").help(
+        "What a name has in it: a regular expression [default: any name]",
+    );
+    let roots = Arg::new(alloc, "root")
+        .value_name("ROOT")
+        .action(ArgAction::Append)
+        .num_args(0..)
+        .help("Where to look [default: the folder that it runs in]");
     let command = Command::new(alloc, "seek")
         .version("1.0")
         .about("Prints the paths of entries by their names")

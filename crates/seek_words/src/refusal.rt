@@ -6,16 +6,16 @@ use std::fmt;
 
 /// Why there is nothing to look for.
 #[derive(Debug, Drop)]
-pub enum Refusal {
+pub enum Refusal<'w> {
     /// The words are bad, or ask for help or the version, which is then the text.
     Words(Error),
-    /// The pattern has a slash, and isn't compared with paths.
-    Slash,
+    /// This pattern has a slash, and isn't compared with paths.
+    Slash(&'w str),
     /// Memory ran out.
     Memory,
 }
 
-impl Refusal {
+impl<'w> Refusal<'w> {
     ghost use Rattle.std.specs.Prelude.{◌≡◌};
     ghost use Rattle.seek_words.specs.Refusal.{is_wish, status_of};
 
@@ -25,7 +25,7 @@ impl Refusal {
     {
         match self {
             Refusal::Words(error) => !error.use_stderr(),
-            Refusal::Slash | Refusal::Memory => false,
+            Refusal::Slash(_) | Refusal::Memory => false,
         }
     }
 
@@ -37,30 +37,32 @@ impl Refusal {
             Refusal::Words(error) if error.kind() == ErrorKind::OutOfMemory => 1,
             Refusal::Words(error) if error.use_stderr() => 2,
             Refusal::Words(_) => 0,
-            Refusal::Slash => 2,
+            Refusal::Slash(_) => 2,
             Refusal::Memory => 1,
         }
     }
 }
 
-impl From<AllocError> for Refusal {
+impl<'w> From<AllocError> for Refusal<'w> {
     ghost use Rattle.seek_words.specs.declared.refusal.Refusal.TheVariants.{Memory};
 
     ghost from_gives = { λ _ refusal. refusal ≡ Memory };
 
-    fn from(_refused: AllocError) -> Refusal {
+    fn from(_refused: AllocError) -> Refusal<'w> {
         Refusal::Memory
     }
 }
 
-impl fmt::Display for Refusal {
+/// It is printed as lines, each ended by a line feed.
+impl<'w> fmt::Display for Refusal<'w> {
     fn fmt<W: fmt::Write>(&self, f: &mut fmt::Formatter<W>) -> fmt::Result {
         match self {
             Refusal::Words(error) => write!(f, "{error}"),
-            Refusal::Slash => f.write_str(
-                "seek: a name has no slash, and the pattern has one. Write `seek . /usr` to list a folder, and --full-path to look in paths",
+            Refusal::Slash(pattern) => writeln!(
+                f,
+                "seek: no name has a slash, and the pattern '{pattern}' has one: write `seek . {pattern}` to list that folder, or add --full-path"
             ),
-            Refusal::Memory => f.write_str("seek: memory refused"),
+            Refusal::Memory => f.write_str("seek: memory refused\n"),
         }
     }
 }

@@ -15,7 +15,11 @@ fn is_named(found: &ArgMatches<'_>, id: &str) -> bool {
 }
 
 /// Returns the values of an option.
-fn values_of<'w>(alloc: Global, found: &ArgMatches<'w>, id: &str) -> Result<Vec<&'w str>, AllocError> {
+fn values_of<'w>(
+    alloc: Global,
+    found: &ArgMatches<'w>,
+    id: &str,
+) -> Result<Vec<&'w str>, AllocError> {
     match found.get_strs(id) {
         Some(values) => values.to_vec(alloc),
         None => Ok(Vec::new(alloc)),
@@ -49,7 +53,9 @@ fn depths_of(found: &ArgMatches<'_>) -> Depths {
 
 /// Returns whether a name of types is one of these.
 fn has_one_of(names: &[&str], wanted: &[&str]) -> bool {
-    names.iter().any(|name| wanted.iter().any(|other| *name == *other))
+    names
+        .iter()
+        .any(|name| wanted.iter().any(|other| *name == *other))
 }
 
 /// Returns the types of these names.
@@ -95,14 +101,14 @@ fn has_slash(text: &str) -> bool {
 ///
 /// If the words are bad or ask for help or the version; if the pattern has a slash and isn't compared with paths; or if
 /// memory runs out.
-pub fn read_words<'w, S: AsStr>(alloc: Global, words: &'w [S]) -> Result<Asked<'w>, Refusal> {
+pub fn read_words<'w, S: AsStr>(alloc: Global, words: &'w [S]) -> Result<Asked<'w>, Refusal<'w>> {
     let found = match command(alloc)?.try_get_matches_from(words) {
         Ok(found) => found,
         Err(error) => return Err(Refusal::Words(error)),
     };
     let asked = asked_of(alloc, &found)?;
     if !asked.full_path && has_slash(asked.pattern) {
-        return Err(Refusal::Slash);
+        return Err(Refusal::Slash(asked.pattern));
     }
     Ok(asked)
 }
