@@ -62,7 +62,7 @@ fn path_of<X: Texts>(
     if !asked.full_path {
         return Ok(None);
     }
-    match texts.absolute(alloc, ".") {
+    match texts.absolute(alloc, "") {
         Ok(here) => Ok(Some(AbsolutePath::below(alloc, here.as_str())?)),
         Err(Fault::Io(_)) => Ok(Some(AbsolutePath::below(alloc, "")?)),
         Err(Fault::Memory) => Err(AllocError),
