@@ -1,5 +1,5 @@
 -- Extensions of names.
-use Rattle.std.specs.Prelude.{ℕ, ◌+◌, ◌-◌, ◌==◌, Bool, true, false, ◌&&◌, nat_lt, List, [], ◌∷◌, length, drop, map, bytes_eq}
+use Rattle.std.specs.Prelude.{ℕ, ◌+◌, ◌-◌, ◌==◌, Bool, true, false, ◌&&◌, ◌||◌, nat_lt, List, [], ◌∷◌, length, drop, map, bytes_eq}
 use Rattle.std.specs.Char.{to_ascii_lowercase}
 use Rattle.std.specs.List.{list_any}
 
@@ -15,5 +15,4 @@ has_extension name extension =
 
 -- whether a name has one of these extensions, or there are none
 abbrev pub has_one : List ℕ → List (List ℕ) → Bool
-has_one name [] = true
-has_one name (first ∷ others) = list_any (has_extension name) (first ∷ others)
+has_one name extensions = (length extensions == 0) || list_any (has_extension name) extensions

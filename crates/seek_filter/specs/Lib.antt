@@ -4,4 +4,5 @@ pub mod Kinds
 pub mod Extension
 pub mod Expression
 pub mod Paths
+pub mod Absolute
 pub mod Subject

@@ -1,6 +1,7 @@
 //! The text that a pattern is compared with.
 ghost use Rattle.std.specs.Prelude.{◌≡◌, [], IfOk, OnOk};
 ghost use Rattle.walk_model.specs.Paths.{join, starts_with_slash};
+ghost use Rattle.seek_filter.specs.Absolute.{front_before};
 
 use crate::paths::without_here;
 use std::alloc::{AllocError, Global};
@@ -21,8 +22,21 @@ fn is_absolute(path: &str) -> bool
     matches!(path.as_bytes(), [b'/', ..])
 }
 
+#[tactic(auto, using(crate::proofs::PathFacts::slashes))]
+/// Returns what is in front of a path, which is given by its folder and its name: nothing if it is absolute.
+fn front_before<'f>(front: &'f str, folder: &str, name: &str) -> &'f str
+    ensures { result.now ≡ front_before front.entry.now (join folder.now name.now) }
+{
+    if is_absolute(folder) || is_absolute(name) {
+        ""
+    } else {
+        front
+    }
+}
+
 impl AbsolutePath {
-    ghost use Rattle.seek_filter.specs.Subject.{front_of, text_of, absolute_path};
+    ghost use Rattle.seek_filter.specs.Absolute.{absolute_path};
+    ghost use Rattle.seek_filter.specs.Subject.{front_of, text_of};
 
     /// Returns no path yet, below a folder with this absolute path.
     ///
@@ -47,14 +61,14 @@ impl AbsolutePath {
         ensures path { OnOk result (text_of self.new ≡ absolute_path (front_of self.old) folder.now name.now) }
         ensures front { front_of self.new ≡ front_of self.old }
     {
-        let (folder, slash, name) = join_parts(without_here(folder), name);
+        let folder = without_here(folder);
+        let (path, slash, end) = join_parts(folder, name);
         self.text.clear();
-        if !is_absolute(folder) && !is_absolute(name) {
-            self.text.push_str(self.front.as_str())?;
-        }
-        self.text.push_str(folder)?;
+        self.text
+            .push_str(front_before(self.front.as_str(), folder, name))?;
+        self.text.push_str(path)?;
         self.text.push_str(slash)?;
-        self.text.push_str(name)?;
+        self.text.push_str(end)?;
         Ok(())
     }
 
