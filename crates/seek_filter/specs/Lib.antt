@@ -6,3 +6,5 @@ pub mod Expression
 pub mod Paths
 pub mod Absolute
 pub mod Subject
+pub mod Lines
+pub mod Wanted

@@ -1,18 +1,14 @@
 //! Which entries of a walk are printed.
 use crate::name_test::NameTest;
 use jwalk::{ClientState, DirEntry};
-use seek_filter::depths::Depths;
-use seek_filter::extension::has_one;
-use seek_filter::kinds::Kinds;
 use seek_filter::subject::AbsolutePath;
+use seek_filter::wanted::Wanted;
 use std::alloc::{AllocError, Global};
 
 /// Which entries of a walk are printed.
 #[derive(Drop)]
 pub(crate) struct Filter<'s> {
-    pub(crate) depths: Depths,
-    pub(crate) kinds: Kinds,
-    pub(crate) extensions: &'s [&'s str],
+    pub(crate) wanted: Wanted<'s>,
     pub(crate) test: NameTest<'s>,
     /// The absolute path of an entry, if it is what is tested in place of its name.
     pub(crate) path: Option<AbsolutePath>,
@@ -36,10 +32,7 @@ impl<'s> Filter<'s> {
         found: &DirEntry<C, Global>,
     ) -> Result<bool, AllocError> {
         let (file_type, name) = (found.file_type(), found.file_name());
-        if !self.depths.has(found.depth())
-            || !self.kinds.has(file_type)
-            || !has_one(name, self.extensions)
-        {
+        if !self.wanted.has(found.depth(), file_type, name) {
             return Ok(false);
         }
         self.passes_test(found.parent_path(), name, file_type.is_dir())

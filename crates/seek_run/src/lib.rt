@@ -5,7 +5,6 @@ mod bad_pattern;
 mod excluding;
 mod filter;
 mod glob;
-mod halt;
 mod name_test;
 mod printer;
 mod report;

@@ -1,45 +1,22 @@
 //! What is found, printed.
 use crate::filter::Filter;
-use crate::halt::Halt;
 use crate::report::report_error;
 use jwalk::error::Result as Answer;
 use jwalk::{ClientState, DirEntry};
-use seek_filter::paths::Style;
+use seek_filter::halt::Halt;
+use seek_filter::lines::Lines;
 use std::alloc::Global;
 use std::io::Write;
 
-/// How many bytes of lines are gathered before they are written. A buffer of twice the length takes the last line too.
-/// It stays below 64 KiB, at which a free makes the C library's allocator put all its small pieces together.
-const GATHERED: usize = 16384;
-
-/// Prints what passes a filter. Lines are gathered, and written once there are enough.
+/// Prints what passes a filter.
 #[derive(Drop)]
 pub(crate) struct Printer<'s> {
-    filter: Filter<'s>,
-    style: Style,
-    gathered: Vec<u8>,
+    pub(crate) filter: Filter<'s>,
+    pub(crate) lines: Lines,
 }
 
 impl<'s> Printer<'s> {
-    /// Returns one that has printed nothing.
-    pub(crate) fn new(alloc: Global, filter: Filter<'s>, style: Style) -> Result<Self, Halt> {
-        Ok(Printer {
-            filter,
-            style,
-            gathered: Vec::with_capacity(alloc, 2 * GATHERED)?,
-        })
-    }
-
-    /// Writes the lines that were gathered.
-    fn write_gathered<W: Write>(&mut self, out: &mut W) -> Result<(), Halt> {
-        if out.write_all(self.gathered.as_slice()).is_err() {
-            return Err(Halt::Output);
-        }
-        self.gathered.clear();
-        Ok(())
-    }
-
-    /// Prints the line of an entry that passes.
+    /// Prints the line of an entry, if it passes.
     fn print_entry<C: ClientState, W: Write>(
         &mut self,
         found: &DirEntry<C, Global>,
@@ -48,12 +25,7 @@ impl<'s> Printer<'s> {
         if !self.filter.passes(found)? {
             return Ok(());
         }
-        self.style
-            .write(found.parent_path(), found.file_name(), &mut self.gathered)?;
-        if self.gathered.len() < GATHERED {
-            return Ok(());
-        }
-        self.write_gathered(out)
+        self.lines.print(found.parent_path(), found.file_name(), out)
     }
 
     /// Prints the line of an answer, if it is an entry that passes, and reports its error, if there is one. Returns
@@ -75,14 +47,5 @@ impl<'s> Printer<'s> {
             report_error(error, err);
         }
         Ok(error.is_none())
-    }
-
-    /// Writes the lines that are left, and flushes the output.
-    pub(crate) fn finish<W: Write>(&mut self, out: &mut W) -> Result<(), Halt> {
-        self.write_gathered(out)?;
-        if out.flush().is_err() {
-            return Err(Halt::Output);
-        }
-        Ok(())
     }
 }

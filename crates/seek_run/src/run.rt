@@ -3,7 +3,6 @@ ghost use Rattle.std.specs.Prelude.{◌≡◌, ◌↔◌, ◌≤◌, true, Ok, I
 ghost use Rattle.std.specs.Arc.{arc_value};
 
 use crate::filter::Filter;
-use crate::halt::Halt;
 use crate::name_test::NameTest;
 use crate::printer::Printer;
 use crate::search::Search;
@@ -11,8 +10,11 @@ use crate::sought::Sought;
 use jwalk::Crew;
 use jwalk::file_system::{Fault, FileSystem};
 use jwalk_ignore::texts::Texts;
+use seek_filter::halt::Halt;
+use seek_filter::lines::Lines;
 use seek_filter::paths::Style;
 use seek_filter::subject::AbsolutePath;
+use seek_filter::wanted::Wanted;
 use seek_words::asked::Asked;
 use seek_words::refusal::Refusal;
 use seek_words::words::read_words;
@@ -118,14 +120,18 @@ fn search_asked<
     out: &mut W,
     err: &mut E,
 ) -> Result<bool, Halt> {
-    let filter = Filter {
+    let wanted = Wanted {
         depths: asked.depths,
         kinds: asked.kinds,
         extensions: asked.extensions.as_slice(),
+    };
+    let filter = Filter {
+        wanted,
         test: NameTest::new(alloc, sought)?,
         path: path_of(alloc, asked, &texts)?,
     };
-    let mut printer = Printer::new(alloc, filter, style_of(asked))?;
+    let lines = Lines::new(alloc, style_of(asked))?;
+    let mut printer = Printer { filter, lines };
     let search = Search {
         rt,
         asked,
@@ -134,7 +140,7 @@ fn search_asked<
         crew: crew_of(rt, alloc, asked)?,
     };
     let clean = search_roots(alloc, &search, &mut printer, out, err)?;
-    printer.finish(out)?;
+    printer.lines.finish(out)?;
     Ok(clean)
 }
 

@@ -1,6 +1,5 @@
 //! A search below roots.
 use crate::excluding::Excluding;
-use crate::halt::Halt;
 use crate::printer::Printer;
 use crate::walk::walk_of;
 use jwalk::file_system::FileSystem;
@@ -11,6 +10,7 @@ use jwalk_ignore::builder::with_ignore_files;
 use jwalk_ignore::chain::Chain;
 use jwalk_ignore::ignore_files::IgnoreFiles;
 use jwalk_ignore::texts::Texts;
+use seek_filter::halt::Halt;
 use seek_words::asked::Asked;
 use std::alloc::Global;
 use std::io::Write;

@@ -6,7 +6,7 @@ use std::io::Write;
 
 /// What ends a search before its end.
 #[derive(Clone, Copy, Debug, PartialEq, Eq)]
-pub(crate) enum Halt {
+pub enum Halt {
     /// Memory ran out.
     Memory,
     /// Standard output can't be written.
@@ -15,7 +15,7 @@ pub(crate) enum Halt {
 
 impl Halt {
     /// Reports it on standard error, unless it is that the output can't be written.
-    pub(crate) fn report<E: Write>(self, err: &mut E) {
+    pub fn report<E: Write>(self, err: &mut E) {
         if self == Halt::Memory {
             let _ = writeln!(err, "seek: memory refused");
         }
@@ -23,7 +23,7 @@ impl Halt {
 }
 
 impl From<AllocError> for Halt {
-    ghost use Rattle.seek_run.specs.declared.halt.Halt.TheVariants.{Memory};
+    ghost use Rattle.seek_filter.specs.declared.halt.Halt.TheVariants.{Memory};
 
     ghost from_gives = { λ _ halt. halt ≡ Memory };
 
