@@ -1,17 +1,15 @@
 //! The command line.
-use clap::builder::PossibleValue;
 use clap::{Arg, ArgAction, Command};
 use std::alloc::{AllocError, Global};
 
 /// The names of types.
-static KINDS: [&str; 10] = [
+static KINDS: [&str; 9] = [
     "f",
     "file",
     "d",
     "dir",
     "directory",
     "l",
-    "link",
     "symlink",
     "o",
     "other",
@@ -41,7 +39,7 @@ fn depth<'a>(alloc: Global, id: &'a str, help: &'a str) -> Arg<'a> {
 }
 
 /// Adds what says how a name is compared.
-fn with_patterns(alloc: Global, command: Command<'_>) -> Result<Command<'_>, AllocError> {
+fn with_patterns<'a>(alloc: Global, command: Command<'a>) -> Result<Command<'a>, AllocError> {
     let ignored = flag(
         alloc,
         "ignore-case",
@@ -72,7 +70,7 @@ fn with_patterns(alloc: Global, command: Command<'_>) -> Result<Command<'_>, All
 }
 
 /// Adds what says which entries are walked.
-fn with_walk(alloc: Global, command: Command<'_>) -> Result<Command<'_>, AllocError> {
+fn with_walk<'a>(alloc: Global, command: Command<'a>) -> Result<Command<'a>, AllocError> {
     let exclude = valued(
         alloc,
         "exclude",
@@ -104,7 +102,7 @@ fn with_walk(alloc: Global, command: Command<'_>) -> Result<Command<'_>, AllocEr
 }
 
 /// Adds what says which of them are looked for.
-fn with_filters(alloc: Global, command: Command<'_>) -> Result<Command<'_>, AllocError> {
+fn with_filters<'a>(alloc: Global, command: Command<'a>) -> Result<Command<'a>, AllocError> {
     let exact = depth(alloc, "exact-depth", "The depth, where a root has depth 0");
     let kind = valued(alloc, "type", "TYPE", "The type: file, dir, link or other");
     let extension = valued(alloc, "extension", "EXT", "The name's extension");
@@ -132,7 +130,7 @@ fn with_filters(alloc: Global, command: Command<'_>) -> Result<Command<'_>, Allo
 }
 
 /// Returns the command line.
-pub(crate) fn command(alloc: Global) -> Result<Command<'static>, AllocError> {
+pub(crate) fn command<'a>(alloc: Global) -> Result<Command<'a>, AllocError> {
     let pattern = Arg::new(alloc, "pattern").value_name("PATTERN").help(
         "What a name has in it: a regular expression [default: any name]",
     );

@@ -1,4 +1,7 @@
 //! Why words are refused.
+ghost use Rattle.std.specs.Prelude.{◌≡◌};
+ghost use Rattle.seek_words.specs.Status.{status_of_kind};
+
 use clap::Error;
 use clap::error::ErrorKind;
 use std::alloc::AllocError;
@@ -15,28 +18,27 @@ pub enum Refusal<'w> {
     Memory,
 }
 
-impl<'w> Refusal<'w> {
-    ghost use Rattle.std.specs.Prelude.{◌≡◌};
-    ghost use Rattle.seek_words.specs.Refusal.{is_wish, status_of};
-
-    /// Returns whether the words are good, and ask for help or for the version.
-    pub fn is_wish(&self) -> bool
-        ensures { result ≡ is_wish self.now }
-    {
-        match self {
-            Refusal::Words(error) => !error.use_stderr(),
-            Refusal::Slash(_) | Refusal::Memory => false,
-        }
+/// Returns the status that an error of words ends the program with: 0 for help and for the version.
+fn status_of_kind(kind: ErrorKind) -> u8
+    ensures { result ≡ status_of_kind kind }
+{
+    match kind {
+        ErrorKind::DisplayHelp | ErrorKind::DisplayVersion => 0,
+        ErrorKind::OutOfMemory => 1,
+        _ => 2,
     }
+}
 
-    /// Returns the status that the program ends with.
+impl<'w> Refusal<'w> {
+    ghost use Rattle.seek_words.specs.Refusal.{status_of};
+
+    /// Returns the status that the program ends with: 0 if the words ask for help or for the version, 1 if memory ran
+    /// out, and 2 for bad words.
     pub fn status(&self) -> u8
         ensures { result ≡ status_of self.now }
     {
         match self {
-            Refusal::Words(error) if error.kind() == ErrorKind::OutOfMemory => 1,
-            Refusal::Words(error) if error.use_stderr() => 2,
-            Refusal::Words(_) => 0,
+            Refusal::Words(error) => status_of_kind(error.kind()),
             Refusal::Slash(_) => 2,
             Refusal::Memory => 1,
         }
