@@ -313,7 +313,7 @@ impl<A: Allocator + Copy> MemoryFs<A> {
 /// link, or goes on below what is no directory.
 impl<A: Allocator + Copy> FileSystem for MemoryFs<A> {
     ghost use Rattle.std.specs.Prelude.{◌≢◌, List, OnOk, IfErr, IsErr, map, string_bytes};
-    ghost use Rattle.walk_fs.specs.Views.{listed, AnswersValue, FailsAs, TakesAll};
+    ghost use Rattle.walk_fs.specs.Views.{listed, AnswersValue, FailsAs, IfIo, TakesAll};
     ghost use Rattle.walk_model.specs.FileSystem as value;
     ghost use Rattle.walk_model.specs.Tree.{functions_of};
     ghost use Rattle.memory_fs.specs.MemoryFs.{tree_of};
@@ -347,6 +347,7 @@ impl<A: Allocator + Copy> FileSystem for MemoryFs<A> {
             × ((functions_of (tree_of self.now)).list_of path.now ≡ Ok items)) }
         ensures failed { IfErr result (λ fault. FailsAs fault
             ((functions_of (tree_of self.now)).list_of path.now)) }
+        ensures unchanged { IfErr result (λ fault. IfIo fault (sink.new ≡ sink.old)) }
         ensures errors_need_no_memory { IsErr ((functions_of (tree_of self.now)).list_of path.now)
             → result ≢ Err Fault.Memory }
     {

@@ -7,6 +7,8 @@ mod file_system;
 #[cfg(test)]
 mod path_text;
 #[cfg(test)]
+mod sinks;
+#[cfg(test)]
 mod slot;
 #[cfg(test)]
 mod texts;

@@ -1,7 +1,7 @@
 -- Items that are added to a listing.
 use Rattle.std.proofs.Common.{◌≡◌, ◌++◌, ℕ, Bool, true, false, List, [], ◌∷◌, Result, Ok, Err, map, filter, ap, sym, ◌∙◌, append-nil, refl, nat_lt, length, if◌then◌else◌, not, arith, ◌≤◌, ◌+◌}
 use Rattle.std.proofs.Math.ListN.{drop_of_length-le}
-use Rattle.std.proofs.lemmas.List.{map-append, append_assoc, length-append, take_all}
+use Rattle.std.proofs.lemmas.List.{map-append, append_assoc, take_all}
 use Rattle.std.proofs.lemmas.List.Elements.{filter-append}
 use Rattle.std.proofs.lemmas.Bool.{ltb-true, ltb-false}
 use Rattle.std.proofs.lemmas.List.Splits.{slice_split_first, slice_split-cons_no}
@@ -11,11 +11,10 @@ use Rattle.std.specs.List.{before_first, after_first, position_or_len, slice_spl
 use Rattle.std.specs.Result.{OnOk}
 use Rattle.std.specs.declared.io.ErrorKind.TheVariants.{InvalidFilename}
 use Rattle.walk_model.specs.FileSystem.{Listed}
-use Rattle.walk_fs.proofs.SinkFacts.{takes_none, takes_on}
-use Rattle.walk_fs.specs.declared.fault.Fault.{Fault}
+use Rattle.walk_fs.proofs.SinkFacts.{takes_on}
+use Rattle.walk_fs.specs.Views.{TakesAll}
 use Rattle.real_fs.specs.Texts.{is_child, is_nul, children}
-use Rattle.real_fs.specs.Listing.{name_in, told, Gives, Adds}
-use Rattle.real_fs.specs.declared.listing.Listing.{Listing}
+use Rattle.real_fs.specs.Listing.{name_in, told, Adds}
 
 -- a name that is UTF-8 is itself
 pub told_is : (name : List ℕ) → IsUtf8 name → told name ≡ Ok name
@@ -29,29 +28,28 @@ by_test false name e isnt = simp e
 pub told_not : (name : List ℕ) → ¬ (IsUtf8 name) → told name ≡ Err InvalidFilename
 told_not name isnt = by_test (is_utf8 name) name refl isnt
 
-module _ {A K : Type 0} (took : K → List Listed → K → Type 0) where
-  -- nothing is given yet
-  pub gives_none : (a : Listing A) (x : K) → Gives took [] a a x x
-  gives_none a x = (takes_none took x, omega arith)
+module _ {K : Type 0} (took : K → List Listed → K → Type 0) where
+  -- what a sink's call may fail at is taken if it doesn't
+  pub takes_if : {T E : Type 0} (r : Result T E) (items : List Listed) (x y : K) → ((first : K) (before : List Listed) → took first before x → OnOk r (took first (before ++ items) y)) → OnOk r (TakesAll took items x y)
+  takes_if (Ok _) items x y more = more
+  takes_if (Err _) items x y more = tt
 
-  -- some items are given and then others
-  pub gives_on : (items others : List Listed) (a b c : Listing A) (x y z : K) → Gives took items a b x y → Gives took others b c y z → Gives took (items ++ others) a c x z
-  gives_on items others a b c x y z some rest = (
-    takes_on took items others x y z some.0 rest.0,
-    (let both = length-append items others in omega (arith, some.1, rest.1, both)),
-  )
+  -- some items and then others, where the others may fail
+  pub takes_on_if : {T E : Type 0} (r : Result T E) (items others : List Listed) (x y z : K) → TakesAll took items x y → OnOk r (TakesAll took others y z) → OnOk r ((all : List Listed) × TakesAll took all x z)
+  takes_on_if (Ok _) items others x y z some rest = (items ++ others, takes_on took items others x y z some rest)
+  takes_on_if (Err _) items others x y z some rest = tt
 
   -- one more item, for a name, where it may fail
-  pub adds_one_if : {T : Type 0} (r : Result T Fault) (name : List ℕ) (a b : Listing A) (x y : K) (item : Listed) → name_in item ≡ told name → OnOk r (Gives took (item ∷ []) a b x y) → OnOk r (Adds took (name ∷ []) a b x y)
-  adds_one_if (Ok _) name a b x y item is more = (item ∷ [], ap (λ n. n ∷ []) is, more)
-  adds_one_if (Err _) name a b x y item is more = tt
+  pub adds_one_if : {T E : Type 0} (r : Result T E) (name : List ℕ) (x y : K) (item : Listed) → name_in item ≡ told name → OnOk r (TakesAll took (item ∷ []) x y) → OnOk r (Adds took (name ∷ []) x y)
+  adds_one_if (Ok _) name x y item is more = (item ∷ [], ap (λ n. n ∷ []) is, more)
+  adds_one_if (Err _) name x y item is more = tt
 
   -- items for some names and then for others
-  pub adds_on : (names others : List (List ℕ)) (a b c : Listing A) (x y z : K) → Adds took names a b x y → Adds took others b c y z → Adds took (names ++ others) a c x z
-  adds_on names others a b c x y z some rest = (
+  pub adds_on : (names others : List (List ℕ)) (x y z : K) → Adds took names x y → Adds took others y z → Adds took (names ++ others) x z
+  adds_on names others x y z some rest = (
     some.0 ++ rest.0,
     map-append name_in some.0 rest.0 ∙ ap (λ l. l ++ map name_in rest.0) some.1 ∙ ap (λ l. map told names ++ l) rest.1 ∙ sym (map-append told names others),
-    gives_on some.0 rest.0 a b c x y z some.2 rest.2,
+    takes_on took some.0 rest.0 x y z some.2 rest.2,
   )
 
 by_byte : (b : Bool) (c : ℕ) (cs : List ℕ) → is_nul c ≡ b → length (c ∷ cs) ≤ position_or_len is_nul (c ∷ cs) → (length cs ≤ position_or_len is_nul cs → slice_split is_nul cs ≡ cs ∷ []) → slice_split is_nul (c ∷ cs) ≡ (c ∷ cs) ∷ []

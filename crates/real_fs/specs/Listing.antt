@@ -1,5 +1,5 @@
 -- A listing under way.
-use Rattle.std.specs.Prelude.{◌≡◌, ◌≢◌, ◌+◌, ◌==◌, ℕ, Bool, true, false, not, List, [], ◌∷◌, length, map, take, Result, Ok, Err, if◌then◌else◌}
+use Rattle.std.specs.Prelude.{◌≡◌, ◌≢◌, ◌==◌, ℕ, Bool, true, false, not, List, [], ◌∷◌, map, take, Result, Ok, Err, if◌then◌else◌}
 use Rattle.std.specs.Str.{is_utf8}
 use Rattle.std.specs.IoError.{error_kind}
 use Rattle.std.specs.declared.io.Error.{Error}
@@ -8,7 +8,6 @@ use Rattle.std.specs.declared.io.ErrorKind.TheVariants.{InvalidFilename, Interru
 use Rattle.walk_model.specs.FileSystem as value
 use Rattle.walk_fs.specs.Views.{TakesAll}
 use Rattle.real_fs.specs.Texts.{children}
-use Rattle.real_fs.specs.declared.listing.Listing.{Listing}
 
 -- the name of an item, or the kind of the error in its place
 abbrev pub name_in : value.Listed → Result (List ℕ) ErrorKind
@@ -23,14 +22,9 @@ told name = if is_utf8 name then Ok name else Err InvalidFilename
 abbrev pub AreNamed : List (List ℕ) → List value.Listed → Type 0
 AreNamed names items = map name_in items ≡ map told names
 
-module _ {A K : Type 0} (took : K → List value.Listed → K → Type 0) where
-  -- A sink takes these items, and they are counted.
-  abbrev pub Gives : List value.Listed → Listing A → Listing A → K → K → Type 0
-  Gives items old new before after = TakesAll took items before after × (new.count ≡ old.count + length items)
-
-  -- A sink takes items, one for each name, in order.
-  abbrev pub Adds : List (List ℕ) → Listing A → Listing A → K → K → Type 0
-  Adds names old new before after = (items : List value.Listed) × AreNamed names items × Gives items old new before after
+-- A sink takes items, one for each name, in order.
+abbrev pub Adds : {K : Type 0} → (K → List value.Listed → K → Type 0) → List (List ℕ) → K → K → Type 0
+Adds took names before after = (items : List value.Listed) × AreNamed names items × TakesAll took items before after
 
 -- An error gives nothing if a read was interrupted, and then there may be more. Otherwise it is the last item.
 pub record IsReadError (e : Error) (more : Bool) (items : List value.Listed) : Type 0 where

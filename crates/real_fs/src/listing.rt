@@ -2,12 +2,12 @@
 ghost use Rattle.std.specs.Prelude.{◌≡◌, ◌≢◌, ◌≤◌, ◌+◌, List, [], ◌∷◌, length, Err, IfOk, IfErr, OnOk};
 ghost use Rattle.std.specs.IoError.{error_kind};
 ghost use Rattle.walk_model.specs.FileSystem as value;
-ghost use Rattle.walk_fs.specs.Views.{TakesAll};
+ghost use Rattle.walk_fs.specs.Views.{IfIo, TakesAll};
 ghost use Rattle.real_fs.specs.Texts.{children};
 
 use crate::seen::{fault, file_type};
 use crate::texts::{is_child, slash_ended, split_name};
-use std::alloc::Allocator;
+use std::alloc::{AllocError, Allocator};
 use std::io::{ErrorKind, Read};
 use std::rt::Files;
 use std::{io, str};
@@ -15,70 +15,50 @@ use walk_fs::fault::Fault;
 use walk_fs::sink::Sink;
 use walk_model::file_type::FileType;
 
-/// The most items of one listing.
-const MOST_ITEMS: usize = 4_294_967_295;
-
 /// How often one directory is opened at most, if each time before was interrupted.
 const MOST_OPENS: usize = 100;
 
 /// How many bytes of names are asked for at once: room for many names, of which none has more than 255 bytes.
 const BUFFER: usize = 8192;
 
-/// A listing under way: how many items it gave so far, and room for the path of an entry.
+/// A listing under way: room for the path of an entry.
 #[derive(Drop)]
 struct Listing<A: Allocator + Copy> {
-    count: usize,
     path: String<A>,
-    ghost within: { count ≤ 4294967295 },
 }
 
 /// Returns the type of what is at a path, no link followed. Fails only if memory runs out: any other error is returned
 /// as the answer.
-fn type_at<R: Files>(rt: &R, path: &str) -> Result<io::Result<FileType>, Fault>
-    ensures answer { IfOk result (λ found. IfErr found (λ e. error_kind e ≢ ErrorKind.OutOfMemory)) }
-    ensures memory { IfErr result (λ f. f ≡ Fault.Memory) }
+fn type_at<R: Files>(rt: &R, path: &str) -> Result<io::Result<FileType>, AllocError>
+    ensures { IfOk result (λ found. IfErr found (λ e. error_kind e ≢ ErrorKind.OutOfMemory)) }
 {
     match rt.symlink_metadata(path) {
         Ok(found) => Ok(Ok(file_type(&found))),
         Err(error) => match fault(error) {
             Fault::Io(error) => Ok(Err(error)),
-            Fault::Memory => Err(Fault::Memory),
+            Fault::Memory => Err(AllocError),
         },
+    }
+}
+
+/// Gives an error that ended the reading. Fails if the error is that memory ran out.
+fn end<K: Sink>(sink: &mut K, error: io::Error) -> Result<(), AllocError>
+    ensures { OnOk result (TakesAll K.Took (Err (error_kind error) ∷ []) sink.old sink.new) }
+{
+    match fault(error) {
+        Fault::Io(error) => sink.take_error(error),
+        Fault::Memory => Err(AllocError),
     }
 }
 
 impl<A: Allocator + Copy> Listing<A> {
     ghost use Rattle.std.specs.Io.{ReadsAtMost};
-    ghost use Rattle.real_fs.specs.Listing.{Gives, Adds, IsRead};
+    ghost use Rattle.real_fs.specs.Listing.{Adds, IsRead};
 
-    fn new(alloc: A) -> Self
-        ensures { result.count ≡ 0 }
-    {
+    fn new(alloc: A) -> Self {
         Listing {
-            count: 0,
             path: String::new(alloc),
         }
-    }
-
-    /// Counts one more item. Fails if there are as many as there may be.
-    #[inline]
-    fn count_one(&mut self) -> Result<(), Fault>
-        ensures { OnOk result (self.new.count ≡ self.old.count + 1) }
-    {
-        if self.count >= MOST_ITEMS {
-            return Err(Fault::Io(io::Error::from(ErrorKind::Other)));
-        }
-        self.count += 1;
-        Ok(())
-    }
-
-    /// Gives an error in the place of an item.
-    fn add_error<K: Sink>(&mut self, sink: &mut K, error: io::Error) -> Result<(), Fault>
-        ensures { OnOk result (Gives K.Took (Err (error_kind error) ∷ []) self.old self.new sink.old sink.new) }
-    {
-        self.count_one()?;
-        sink.take_error(error)?;
-        Ok(())
     }
 
     /// Gives the item of a name in a directory: an error if the name isn't UTF-8.
@@ -88,19 +68,17 @@ impl<A: Allocator + Copy> Listing<A> {
         sink: &mut K,
         dir: &str,
         name: &[u8],
-    ) -> Result<(), Fault>
-        ensures { OnOk result (Adds K.Took (name.now ∷ []) self.old self.new sink.old sink.new) }
+    ) -> Result<(), AllocError>
+        ensures { OnOk result (Adds K.Took (name.now ∷ []) sink.old sink.new) }
     {
         let Ok(name) = str::from_utf8(name) else {
-            return self.add_error(sink, io::Error::from(ErrorKind::InvalidFilename));
+            return sink.take_error(io::Error::from(ErrorKind::InvalidFilename));
         };
         self.path.clear();
         self.path.push_str(dir)?;
         self.path.push_str(name)?;
         let file_type = type_at(rt, self.path.as_str())?;
-        self.count_one()?;
-        sink.take(name, file_type)?;
-        Ok(())
+        sink.take(name, file_type)
     }
 
     /// Gives the items of names that were read together, each ended by a NUL.
@@ -110,8 +88,8 @@ impl<A: Allocator + Copy> Listing<A> {
         sink: &mut K,
         dir: &str,
         names: &[u8],
-    ) -> Result<(), Fault>
-        ensures { OnOk result (Adds K.Took (children names.now) self.old self.new sink.old sink.new) }
+    ) -> Result<(), AllocError>
+        ensures { OnOk result (Adds K.Took (children names.now) sink.old sink.new) }
     {
         let mut left = names;
         while !left.is_empty() {
@@ -124,16 +102,6 @@ impl<A: Allocator + Copy> Listing<A> {
         Ok(())
     }
 
-    /// Gives an error that ended the reading. Fails if the error is that memory ran out.
-    fn end<K: Sink>(&mut self, sink: &mut K, error: io::Error) -> Result<(), Fault>
-        ensures { OnOk result (Gives K.Took (Err (error_kind error) ∷ []) self.old self.new sink.old sink.new) }
-    {
-        match fault(error) {
-            Fault::Io(error) => self.add_error(sink, error),
-            Fault::Memory => Err(Fault::Memory),
-        }
-    }
-
     /// Gives what one read of a directory's names gave, and returns whether there may be more. An error ends the reading
     /// and is its last item. A read that was interrupted gave nothing and doesn't end it.
     fn add_read<R: Files, K: Sink>(
@@ -143,10 +111,10 @@ impl<A: Allocator + Copy> Listing<A> {
         dir: &str,
         names: &[u8],
         read: io::Result<usize>,
-    ) -> Result<bool, Fault>
+    ) -> Result<bool, AllocError>
         requires { ReadsAtMost read names.now }
         ensures { IfOk result (λ more. (items : List value.Listed) × IsRead read names.now more items
-            × Gives K.Took items self.old self.new sink.old sink.new) }
+            × TakesAll K.Took items sink.old sink.new) }
     {
         match read {
             Ok(count) => {
@@ -155,7 +123,7 @@ impl<A: Allocator + Copy> Listing<A> {
             }
             Err(error) if error.kind() == ErrorKind::Interrupted => Ok(true),
             Err(error) => {
-                self.end(sink, error)?;
+                end(sink, error)?;
                 Ok(false)
             }
         }
@@ -169,9 +137,9 @@ impl<A: Allocator + Copy> Listing<A> {
         sink: &mut K,
         dir: &str,
         names: &mut R::Dir,
-    ) -> Result<(), Fault>
+    ) -> Result<(), AllocError>
         ensures { OnOk result ((items : List value.Listed)
-            × Gives K.Took items self.old self.new sink.old sink.new) }
+            × TakesAll K.Took items sink.old sink.new) }
     {
         let mut buffer = [0; BUFFER];
         for _ in 0..u64::MAX {
@@ -180,7 +148,7 @@ impl<A: Allocator + Copy> Listing<A> {
                 return Ok(());
             }
         }
-        Err(Fault::Io(io::Error::from(ErrorKind::Other)))
+        end(sink, io::Error::from(ErrorKind::Other))
     }
 }
 
@@ -202,11 +170,12 @@ pub fn read_dir_into<R: Files, A: Allocator + Copy, K: Sink>(
     path: &str,
     sink: &mut K,
 ) -> Result<(), Fault>
-    ensures { OnOk result ((items : List value.Listed) × TakesAll K.Took items sink.old sink.new
-        × (length items ≤ 4294967295)) }
+    ensures taken { OnOk result ((items : List value.Listed) × TakesAll K.Took items sink.old sink.new) }
+    ensures unchanged { IfErr result (λ fault. IfIo fault (sink.new ≡ sink.old)) }
 {
     let dir = slash_ended(alloc, path)?;
     let mut names = open(rt, dir.as_str()).map_err(fault)?;
     let mut listing = Listing::new(alloc);
-    listing.add_rest(rt, sink, dir.as_str(), &mut names)
+    listing.add_rest(rt, sink, dir.as_str(), &mut names)?;
+    Ok(())
 }

@@ -9,6 +9,7 @@ use std::{io, thread};
 use walk_fs::fault::Fault;
 use walk_fs::file_system::FileSystem;
 use walk_fs::listed::Listed;
+use walk_fs::sink::{Kept, Sink};
 use walk_model::metadata::Metadata;
 
 /// The system's number of an error that the process has as many descriptors as it may have (`EMFILE`).
@@ -95,15 +96,26 @@ impl<S: FileSystem, R: Clock + Drop> FileSystem for Patient<S, R> {
         alloc: A,
         path: &str,
     ) -> Result<Vec<io::Result<Listed<A>>, A>, Fault> {
+        let mut kept = Kept::new(alloc);
+        self.read_dir_into(alloc, path, &mut kept)?;
+        Ok(kept.items)
+    }
+
+    fn read_dir_into<A: Allocator + Copy, K: Sink>(
+        &self,
+        alloc: A,
+        path: &str,
+        sink: &mut K,
+    ) -> Result<(), Fault> {
         for _ in 0..self.tries() {
-            let found = self.fs.read_dir(alloc, path);
+            let found = self.fs.read_dir_into(alloc, path, sink);
             if !lacks_descriptor(&found) {
                 self.note(false);
                 return found;
             }
             thread::sleep(&self.clock, Duration::from_micros(PAUSE));
         }
-        let found = self.fs.read_dir(alloc, path);
+        let found = self.fs.read_dir_into(alloc, path, sink);
         self.note(lacks_descriptor(&found));
         found
     }

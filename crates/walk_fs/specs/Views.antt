@@ -36,6 +36,11 @@ abbrev pub FailsAs : {Y : Type 0} → Fault → Result Y ErrorKind → Type 0
 FailsAs (Io e) value = value ≡ Err (error_kind e)
 FailsAs Memory value = Unit {0}
 
+-- What holds if a fault is an error, and not that memory ran out.
+abbrev pub IfIo : Fault → Type 0 → Type 0
+IfIo (Io e) P = P
+IfIo Memory P = Unit {0}
+
 -- What took items so far took these behind them.
 abbrev pub TakesAll : {K : Type 0} → (K → List value.Listed → K → Type 0) → List value.Listed → K → K → Type 0
 TakesAll {K} took items old new = (first : K) (before : List value.Listed) → took first before old → took first (before ++ items) new

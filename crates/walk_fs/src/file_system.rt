@@ -3,7 +3,7 @@ ghost use Rattle.std.specs.Prelude.{◌≡◌, List, [], ◌∷◌, Ok, OnOk, If
 ghost use Rattle.std.specs.Arc.{arc_value};
 ghost use Rattle.walk_model.specs.FileSystem as value;
 ghost use Rattle.walk_model.specs.FileSystem.{Functions};
-ghost use Rattle.walk_fs.specs.Views.{listed, AnswersValue, FailsAs, TakesAll};
+ghost use Rattle.walk_fs.specs.Views.{listed, AnswersValue, FailsAs, IfIo, TakesAll};
 
 use crate::fault::Fault;
 use crate::listed::Listed;
@@ -70,7 +70,8 @@ pub trait FileSystem: Drop {
     ///
     /// # Errors
     ///
-    /// Those of `read_dir`, and `Fault::Memory` if `sink` fails. By then `sink` may have been given some of the items.
+    /// Those of `read_dir`, and `Fault::Memory` if `sink` fails. With `Fault::Io` it has given nothing. If memory runs
+    /// out, `sink` may have been given some of the items.
     fn read_dir_into<A: Allocator + Copy, K: Sink>(
         &self,
         alloc: A,
@@ -81,6 +82,7 @@ pub trait FileSystem: Drop {
             × (IsFixed self.now → (functions self.now).list_of path.now ≡ Ok items)) }
         ensures failed { IsFixed self.now → IfErr result (λ fault. FailsAs fault
             ((functions self.now).list_of path.now)) }
+        ensures unchanged { IfErr result (λ fault. IfIo fault (sink.new ≡ sink.old)) }
     {
         let items = self.read_dir(alloc, path)?;
         for item in items {

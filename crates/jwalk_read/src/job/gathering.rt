@@ -53,7 +53,7 @@ impl<'g, C: ClientState, S, P, A: Allocator + Copy> Gathering<'g, C, S, P, A> {
 
     /// Returns the items.
     pub(super) fn into_items(self) -> Vec<Result<DirEntry<C, A>, Error<A>>, A>
-        ensures { result ≡ self.items }
+        ensures { result ≡ self.entry.items }
     {
         self.items
     }

@@ -11,7 +11,7 @@ pub returns-in-Some-Err : goal.returns-in-Some-Err
 returns-in-Some-Err g c = record {
   job = refl;
   refused = refl;
-  received = IfOk-weaker c.with_error.result _ _ (λ told is. rw (c.in-Some-Err.is, c.in-Some-Err.field-0-is, is) (refl, refl)) c.with_error.ensures;
+  received = IfOk-weaker c.with_error.result _ _ (λ told is. rw (c.in-Some-Err.is, c.in-Some-Err.field-0-is) (is, refl)) c.with_error.ensures;
   reads = refl;
   stopped = on_err c.with_error.result (ap is_some c.in-Some-Err.is);
 }

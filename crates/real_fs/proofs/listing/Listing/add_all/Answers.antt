@@ -1,10 +1,11 @@
 use Rattle.std.proofs.Common.{◌++◌, [], ◌∷◌, sym, ◌∙◌, refl}
+use Rattle.walk_fs.proofs.SinkFacts.{takes_none}
 use Rattle.real_fs.proofs.FaultFacts.{on_ok_at_err}
-use Rattle.real_fs.proofs.ListingFacts.{gives_none, adds_on, gone_child, gone_other}
+use Rattle.real_fs.proofs.ListingFacts.{adds_on, gone_child, gone_other}
 use Rattle.real_fs.proofs.listing.Listing.add_all.Goals as goal
 
 pub loop-left-init : goal.loop-left-init
-loop-left-init g c = ([], (([], refl, gives_none g.K.Sink.Took c.args.self.now c.args.sink.now), refl))
+loop-left-init g c = ([], (([], refl, takes_none g.K.Sink.Took c.args.sink.now), refl))
 
 pub loop-left-preserved-in_ok-add : goal.loop-left-preserved-in_ok-add
 loop-left-preserved-in_ok-add g c =
@@ -13,7 +14,7 @@ loop-left-preserved-in_ok-add g c =
     let test = sym c.is_child.ensures ∙ c.if-is_child.true in (
       so_far.0 ++ name ∷ [],
       (
-        adds_on g.K.Sink.Took so_far.0 (name ∷ []) c.args.self.now c.loop-left.self c.add.new.self c.args.sink.now c.loop-left.sink c.add.new.sink so_far.1.0 c.in_ok-add.ensures,
+        adds_on g.K.Sink.Took so_far.0 (name ∷ []) c.args.sink.now c.loop-left.sink c.add.new.sink so_far.1.0 c.in_ok-add.ensures,
         gone_child so_far.0 c.args.names.now c.loop-left.left.now name c.split_name.result.1.now so_far.1.1 c.split_name.ensures.name c.split_name.ensures.rest test,
       ),
     )

@@ -2,9 +2,9 @@ use Rattle.std.proofs.Common.{◌≡◌, ◌≢◌, ◌==◌, ℕ, Bool, true, f
 use Rattle.std.proofs.lemmas.Bool.{ltb-true, ltb-false, eqb-false}
 use Rattle.std.specs.IoError.{error_kind}
 use Rattle.std.specs.declared.io.ErrorKind.TheVariants.{Interrupted}
+use Rattle.walk_fs.proofs.SinkFacts.{takes_none}
 use Rattle.real_fs.specs.Listing.{IsReadError}
 use Rattle.real_fs.proofs.FaultFacts.{if_ok_at_err}
-use Rattle.real_fs.proofs.ListingFacts.{gives_none}
 use Rattle.real_fs.proofs.listing.Listing.add_read.Goals as goal
 
 -- a read gave something unless it gave nothing
@@ -29,7 +29,7 @@ pub returns-in-Err : goal.returns-in-Err
 returns-in-Err g c =
     let kind : error_kind c.in-Err.error ≡ Interrupted = search rules in
     let told : IsReadError c.in-Err.error true [] = record { interrupted = λ _. (refl, refl); ended = λ other. absurd (other kind) } in
-    ([], rw c.in-Err.is told, gives_none g.K.Sink.Took c.args.self.now c.args.sink.now)
+    ([], rw c.in-Err.is told, takes_none g.K.Sink.Took c.args.sink.now)
 
 pub returns-in_ok-end-in-Err-2 : goal.returns-in_ok-end-in-Err-2
 returns-in_ok-end-in-Err-2 g c =

@@ -1,5 +1,6 @@
 use Rattle.std.proofs.Common.{◌++◌}
-use Rattle.real_fs.proofs.ListingFacts.{gives_on}
+use Rattle.walk_fs.proofs.SinkFacts.{takes_on}
+use Rattle.real_fs.proofs.ListingFacts.{takes_on_if}
 use Rattle.real_fs.proofs.listing.Listing.add_rest.Goals as goal
 
 pub returns-then-not-branch : goal.returns-then-not-branch
@@ -7,7 +8,7 @@ returns-then-not-branch g c =
     let so_far = c.loop.invariant in
     let read = c.in_ok-add_read.ensures in (
       so_far.0 ++ read.0,
-      gives_on g.K.Sink.Took so_far.0 read.0 c.args.self.now c.loop.self c.add_read.new.self c.args.sink.now c.loop.sink c.add_read.new.sink so_far.1 read.2,
+      takes_on g.K.Sink.Took so_far.0 read.0 c.args.sink.now c.loop.sink c.add_read.new.sink so_far.1 read.2,
     )
 
 pub loop-preserved : goal.loop-preserved
@@ -15,5 +16,10 @@ loop-preserved g c =
     let so_far = c.loop.invariant in
     let read = c.in_ok-add_read.ensures in (
       so_far.0 ++ read.0,
-      gives_on g.K.Sink.Took so_far.0 read.0 c.args.self.now c.loop.self c.add_read.new.self c.args.sink.now c.loop.sink c.add_read.new.sink so_far.1 read.2,
+      takes_on g.K.Sink.Took so_far.0 read.0 c.args.sink.now c.loop.sink c.add_read.new.sink so_far.1 read.2,
     )
+
+pub returns : goal.returns
+returns g c =
+    let so_far = c.loop.invariant in
+    takes_on_if g.K.Sink.Took c.end.result so_far.0 _ c.args.sink.now c.loop.sink c.end.new.sink so_far.1 c.end.ensures
