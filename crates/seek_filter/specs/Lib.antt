@@ -8,3 +8,5 @@ pub mod Absolute
 pub mod Subject
 pub mod Lines
 pub mod Wanted
+pub mod Sought
+pub mod Filter

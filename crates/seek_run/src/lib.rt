@@ -3,12 +3,9 @@
 
 mod bad_pattern;
 mod excluding;
-mod filter;
 mod glob;
-mod name_test;
-mod printer;
-mod report;
 pub mod run;
 mod search;
 mod sought;
+mod sought_test;
 mod walk;

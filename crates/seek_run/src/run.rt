@@ -2,19 +2,19 @@
 ghost use Rattle.std.specs.Prelude.{◌≡◌, ◌↔◌, ◌≤◌, true, Ok, IfOk};
 ghost use Rattle.std.specs.Arc.{arc_value};
 
-use crate::filter::Filter;
-use crate::name_test::NameTest;
-use crate::printer::Printer;
 use crate::search::Search;
 use crate::sought::Sought;
+use crate::sought_test::SoughtTest;
 use jwalk::Crew;
 use jwalk::file_system::{Fault, FileSystem};
 use jwalk_ignore::texts::Texts;
+use seek_filter::filter::Filter;
 use seek_filter::halt::Halt;
 use seek_filter::lines::Lines;
 use seek_filter::paths::Style;
 use seek_filter::subject::AbsolutePath;
 use seek_filter::wanted::Wanted;
+use seek_walk::printer::Printer;
 use seek_words::asked::Asked;
 use seek_words::refusal::Refusal;
 use seek_words::words::read_words;
@@ -89,7 +89,7 @@ fn search_roots<
 >(
     alloc: Global,
     search: &Search<'_, '_, T, S, X>,
-    printer: &mut Printer<'_>,
+    printer: &mut Printer<'_, SoughtTest<'_>>,
     out: &mut W,
     err: &mut E,
 ) -> Result<bool, Halt> {
@@ -127,7 +127,7 @@ fn search_asked<
     };
     let filter = Filter {
         wanted,
-        test: NameTest::new(alloc, sought)?,
+        test: SoughtTest::new(alloc, sought)?,
         path: path_of(alloc, asked, &texts)?,
     };
     let lines = Lines::new(alloc, style_of(asked))?;

@@ -1,48 +1,22 @@
 //! A search below roots.
 use crate::excluding::Excluding;
-use crate::printer::Printer;
+use crate::sought_test::SoughtTest;
 use crate::walk::walk_of;
+use jwalk::Crew;
 use jwalk::file_system::FileSystem;
-use jwalk::read_dir::ProcessReadDir;
-use jwalk::threads::OnThreads;
-use jwalk::{ClientState, Crew, DirEntryIter, Pool};
 use jwalk_ignore::builder::with_ignore_files;
 use jwalk_ignore::chain::Chain;
 use jwalk_ignore::ignore_files::IgnoreFiles;
 use jwalk_ignore::texts::Texts;
 use seek_filter::halt::Halt;
+use seek_walk::found::print_found;
+use seek_walk::printer::Printer;
 use seek_words::asked::Asked;
 use std::alloc::Global;
 use std::io::Write;
 use std::sync::{Arc, Wait};
 use std::thread::Threads;
 use std::time::Clock;
-
-/// Prints what is found of a walk's answers, and reports its errors. Returns whether there was none.
-fn print_all<
-    T: Threads + Sync + Drop,
-    C: ClientState + Send,
-    S: FileSystem + Send + Sync,
-    P: ProcessReadDir<C, Global> + Send + Sync,
-    L: Pool<C, S, P, Global>,
-    W: Write,
-    E: Write,
->(
-    mut walk: DirEntryIter<C, S, P, Global, OnThreads<T>, L>,
-    printer: &mut Printer<'_>,
-    out: &mut W,
-    err: &mut E,
-) -> Result<bool, Halt>
-where
-    C::ReadDirState: Send,
-    C::DirEntryState: Send,
-{
-    let mut clean = true;
-    while let Some(answer) = walk.next() {
-        clean &= printer.print(&answer, out, err)?;
-    }
-    Ok(clean)
-}
 
 /// What is asked for, and what it is looked for in.
 #[derive(Drop)]
@@ -66,7 +40,7 @@ impl<
         &self,
         alloc: Global,
         root: &str,
-        printer: &mut Printer<'_>,
+        printer: &mut Printer<'_, SoughtTest<'_>>,
         out: &mut W,
         err: &mut E,
     ) -> Result<bool, Halt> {
@@ -74,8 +48,8 @@ impl<
         let root = String::from_str(alloc, root)?;
         let disk = self.disk.clone()?;
         let walk = walk_of::<((), ()), _, _>(self.rt, disk, root, self.asked, &self.crew)?;
-        print_all(
-            walk.process_read_dir(excluding).into_iter(),
+        print_found(
+            &mut walk.process_read_dir(excluding).into_iter(),
             printer,
             out,
             err,
@@ -87,7 +61,7 @@ impl<
         &self,
         alloc: Global,
         root: &str,
-        printer: &mut Printer<'_>,
+        printer: &mut Printer<'_, SoughtTest<'_>>,
         out: &mut W,
         err: &mut E,
     ) -> Result<bool, Halt> {
@@ -98,8 +72,8 @@ impl<
         let root = String::from_str(alloc, root)?;
         let disk = self.disk.clone()?;
         let walk = walk_of::<((Chain, ()), ()), _, _>(self.rt, disk, root, self.asked, &self.crew)?;
-        print_all(
-            with_ignore_files(walk, rules).into_iter(),
+        print_found(
+            &mut with_ignore_files(walk, rules).into_iter(),
             printer,
             out,
             err,
@@ -111,7 +85,7 @@ impl<
         &self,
         alloc: Global,
         root: &str,
-        printer: &mut Printer<'_>,
+        printer: &mut Printer<'_, SoughtTest<'_>>,
         out: &mut W,
         err: &mut E,
     ) -> Result<bool, Halt> {

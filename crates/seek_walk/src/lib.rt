@@ -1,0 +1,6 @@
+//! What a walk yields, filtered and printed.
+#![tactic(auto)]
+
+pub mod found;
+pub mod printer;
+mod report;
