@@ -22,3 +22,11 @@ values_some values items r all is found copy = ap texts_of copy ∙ ap (λ o. un
 -- and of none
 pub values_none : (r : Option (Bor (List (Bor (List ℕ))))) (all : Option (List (List ℕ))) → r ≡ None → option_map (λ s. map (λ v. v.now) s.now) r ≡ all → [] ≡ unwrap_or all []
 values_none r all is found = ap (λ o. unwrap_or o []) (ap (option_map (λ s. map (λ v. v.now) s.now)) (sym is) ∙ found)
+
+-- the text of a value that is there
+pub value_some : (value : Bor (List ℕ)) (r : Option (Bor (List ℕ))) (first : Option (List ℕ)) → r ≡ Some value → option_map (λ s. s.now) r ≡ first → value.now ≡ unwrap_or first []
+value_some value r first is found = ap (λ o. unwrap_or o []) (ap (option_map (λ s. s.now)) (sym is) ∙ found)
+
+-- and of none
+pub value_none : (r : Option (Bor (List ℕ))) (first : Option (List ℕ)) → r ≡ None → option_map (λ s. s.now) r ≡ first → [] ≡ unwrap_or first []
+value_none r first is found = ap (λ o. unwrap_or o []) (ap (option_map (λ s. s.now)) (sym is) ∙ found)

@@ -1,3 +1,5 @@
+use Rattle.std.proofs.Common.{◌∙◌, ap}
+use Rattle.seek_words.specs.Asks.{kinds_in, texts_of}
 use Rattle.seek_words.proofs.words.asked_of.Goals as goal
 
 pub returns : goal.returns
@@ -12,7 +14,7 @@ returns c = record {
   follow = c.is_named-5.ensures;
   sort = c.is_named-6.ensures;
   depths = c.depths_of.ensures;
-  kinds = ?;
+  kinds = c.kinds_of.ensures ∙ ap kinds_in (ap texts_of c.as_slice.ensures ∙ c.in_ok-kinds.ensures);
   extensions = c.in_ok-extensions.ensures;
   excludes = c.in_ok-excludes.ensures;
   print0 = c.is_named-7.ensures;
