@@ -8,4 +8,3 @@ pub mod run;
 mod search;
 mod sought;
 mod sought_test;
-mod walk;

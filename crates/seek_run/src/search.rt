@@ -1,7 +1,6 @@
 //! A search below roots.
 use crate::excluding::Excluding;
 use crate::sought_test::SoughtTest;
-use crate::walk::walk_of;
 use jwalk::Crew;
 use jwalk::file_system::FileSystem;
 use jwalk_ignore::builder::with_ignore_files;
@@ -9,7 +8,8 @@ use jwalk_ignore::chain::Chain;
 use jwalk_ignore::ignore_files::IgnoreFiles;
 use jwalk_ignore::texts::Texts;
 use seek_filter::halt::Halt;
-use seek_walk::found::print_found;
+use seek_walk::begun::print_begun;
+use seek_walk::options::WalkOptions;
 use seek_walk::printer::Printer;
 use seek_words::asked::Asked;
 use std::alloc::Global;
@@ -35,6 +35,16 @@ impl<
     S: FileSystem + Send + Sync + 'static,
     X: Texts + Send + Sync + 'static,
 > Search<'a, 'w, T, S, X> {
+    /// Returns what is asked of the walks.
+    fn options(&self) -> WalkOptions {
+        WalkOptions {
+            sort: self.asked.sort,
+            hidden: self.asked.hidden,
+            follow: self.asked.follow,
+            greatest: self.asked.depths.greatest,
+        }
+    }
+
     /// Searches below a root without ignore files.
     fn search_all<W: Write, E: Write>(
         &self,
@@ -47,13 +57,10 @@ impl<
         let excluding = Excluding::new(alloc, self.asked.excludes.as_slice(), root)?;
         let root = String::from_str(alloc, root)?;
         let disk = self.disk.clone()?;
-        let walk = walk_of::<((), ()), _, _>(self.rt, disk, root, self.asked, &self.crew)?;
-        print_found(
-            &mut walk.process_read_dir(excluding).into_iter(),
-            printer,
-            out,
-            err,
-        )
+        let walk = self
+            .options()
+            .walk_of::<((), ()), _, _, _>(self.rt, disk, root, &self.crew)?;
+        print_begun(walk.process_read_dir(excluding), printer, out, err)
     }
 
     /// Searches below a root, with its ignore files.
@@ -71,13 +78,10 @@ impl<
             .then(excluding);
         let root = String::from_str(alloc, root)?;
         let disk = self.disk.clone()?;
-        let walk = walk_of::<((Chain, ()), ()), _, _>(self.rt, disk, root, self.asked, &self.crew)?;
-        print_found(
-            &mut with_ignore_files(walk, rules).into_iter(),
-            printer,
-            out,
-            err,
-        )
+        let walk = self
+            .options()
+            .walk_of::<((Chain, ()), ()), _, _, _>(self.rt, disk, root, &self.crew)?;
+        print_begun(with_ignore_files(walk, rules), printer, out, err)
     }
 
     /// Searches below a root, prints what is found and reports errors. Returns whether there was none.
