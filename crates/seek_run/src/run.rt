@@ -146,11 +146,12 @@ fn search_asked<
 
 /// Prints what is asked for by words that ask for no search, and returns the status.
 fn refuse<W: Write, E: Write>(refusal: &Refusal<'_>, out: &mut W, err: &mut E) -> u8 {
-    if refusal.is_wish() {
-        return u8::from(write!(out, "{refusal}").is_err() || out.flush().is_err());
+    let status = refusal.status();
+    if status > 0 {
+        let _ = write!(err, "{refusal}");
+        return status;
     }
-    let _ = write!(err, "{refusal}");
-    refusal.status()
+    u8::from(write!(out, "{refusal}").is_err() || out.flush().is_err())
 }
 
 /// Returns the status of a search that ended so. What ended it before its end is reported.

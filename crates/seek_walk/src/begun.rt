@@ -27,6 +27,8 @@ use std::time::Clock;
 ///
 /// If memory runs out outside the walk, or if the output can't be written.
 pub fn print_begun<
+    'r,
+    'w,
     R: Wait + Threads + Clock + Clone + Drop + Send + Sync + 'static,
     T: NameTest,
     W: Write,
@@ -36,8 +38,8 @@ pub fn print_begun<
     P: ProcessReadDir<C, A> + Send + Sync + 'static,
     A: Allocator + Copy + Send + Sync + 'static,
 >(
-    walk: WalkDirGeneric<C, S, P, A, OnThreads<&R>, Crew<R>>,
-    printer: &mut Printer<'_, T>,
+    walk: WalkDirGeneric<C, S, P, A, OnThreads<&'r R>, Crew<R>>,
+    printer: &mut Printer<'w, T>,
     out: &mut W,
     err: &mut E,
 ) -> Result<bool, Halt>

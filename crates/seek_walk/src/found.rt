@@ -52,7 +52,7 @@ where
 {
     let mut clean = true;
     while let Some(answer) = walk.next() {
-        clean &= printer.print(&answer, out, err)?;
+        clean &= printer.print(answer, out, err)?;
     }
     Ok(clean)
 }

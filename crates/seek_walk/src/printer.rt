@@ -54,18 +54,18 @@ impl<'w, T: NameTest> Printer<'w, T> {
     /// If memory runs out, or if the output can't be written.
     pub fn print<C: ClientState, A: Allocator + Copy, W: Write, E: Write>(
         &mut self,
-        answer: &Answer<DirEntry<C, A>, A>,
+        answer: Answer<DirEntry<C, A>, A>,
         out: &mut W,
         err: &mut E,
     ) -> Result<bool, Halt>
-        ensures clean { IfOk result (λ clean. clean ≡ is_clean (item answer.now)) }
+        ensures clean { IfOk result (λ clean. clean ≡ is_clean (item answer)) }
         ensures printed { OnOk result (Appends (append_known (W.contents out.old) (gathered_of self.old.lines))
             (append_known (W.contents out.new) (gathered_of self.new.lines))
-            (found_line (sought_of T.takes self.old.filter) (style_of self.old.lines) (item answer.now))) }
+            (found_line (sought_of T.takes self.old.filter) (style_of self.old.lines) (item answer))) }
         ensures sought { sought_of T.takes self.new.filter ≡ sought_of T.takes self.old.filter }
         ensures style { style_of self.new.lines ≡ style_of self.old.lines }
     {
-        let found = match answer {
+        let found = match &answer {
             Ok(found) => found,
             Err(error) => {
                 report_error(error, err);

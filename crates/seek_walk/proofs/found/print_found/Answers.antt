@@ -18,8 +18,8 @@ loop-answer-init g c = record {
   style = refl;
 }
 
-pub loop-answer-preserved-in_ok-clean : goal.loop-answer-preserved-in_ok-clean
-loop-answer-preserved-in_ok-clean g c =
+pub loop-answer-preserved : goal.loop-answer-preserved
+loop-answer-preserved g c =
     let held = c.loop-answer.invariant in
     let old = append_known (g.W.Write.contents c.loop-answer.out) (gathered_of c.loop-answer.printer.lines) in
     let new = append_known (g.W.Write.contents c.print.new.out) (gathered_of c.print.new.self.lines) in
