@@ -47,7 +47,7 @@ where
     C::ReadDirState: Send + 'static,
     C::DirEntryState: Send + 'static,
     requires { P.IsLawful (callback_of walk) }
-    ensures printed { IfOk result (PrintsBegun S.FileSystem P.ProcessReadDir C.ReadDirState.Clone C.DirEntryState.Default
+    ensures printed { IfOk result (PrintsBegun R S.FileSystem P.ProcessReadDir C.ReadDirState.Clone C.DirEntryState.Default
         ⟦<Session<R, C, S, P, A> as Pool<C, S, P, A>>⟧ walk (sought_of T.takes printer.old.filter) (style_of printer.old.lines)
         (append_known (W.contents out.old) (gathered_of printer.old.lines))
         (append_known (W.contents out.new) (gathered_of printer.new.lines))) }
@@ -55,5 +55,5 @@ where
     ensures style { style_of printer.new.lines ≡ style_of printer.old.lines }
 {
     let mut answers = walk.into_iter();
-    print_found(&mut answers, printer, out, err)
+    print_found(&mut answers, &mut *printer, out, err)
 }
