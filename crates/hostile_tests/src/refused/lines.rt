@@ -1,0 +1,69 @@
+//! The lines of answers whose memory is of any allocator.
+use jwalk::path_text::join;
+use jwalk::{DirEntry, Error};
+use std::alloc::{AllocError, Allocator, Global};
+use walk_fixtures::answers::letter;
+
+/// What a walk yields.
+pub type Given<A> = Result<DirEntry<((), ()), A>, Error<A>>;
+
+/// Adds the kind of an error: that of the file system, or the directory that a loop leads to.
+fn push_kind<A: Allocator + Copy>(text: &mut String, error: &Error<A>) -> Result<(), AllocError> {
+    if let Some(ancestor) = error.loop_ancestor() {
+        return write!(text, "loop {ancestor}");
+    }
+    match error.io_error() {
+        Some(err) => {
+            let kind = err.kind();
+            write!(text, "{kind:?}")
+        }
+        None => text.push_str("none"),
+    }
+}
+
+fn error_line<A: Allocator + Copy>(alloc: Global, error: &Error<A>) -> Result<String, AllocError> {
+    let depth = error.depth();
+    let path = error.path().unwrap_or("-");
+    let mut text = format!(in alloc; "! {depth} {path} ")?;
+    push_kind(&mut text, error)?;
+    Ok(text)
+}
+
+fn entry_line<A: Allocator + Copy>(
+    alloc: Global,
+    entry: &DirEntry<((), ()), A>,
+) -> Result<String, AllocError> {
+    let depth = entry.depth();
+    let letter = letter(entry);
+    let path = join(alloc, entry.parent_path(), entry.file_name())?;
+    let mut text = format!(in alloc; "{depth} {letter} {path}")?;
+    if let Some(error) = entry.read_children.as_ref().and_then(|c| c.error()) {
+        text.push_str(" ! ")?;
+        push_kind(&mut text, error)?;
+    }
+    Ok(text)
+}
+
+/// Whether this is the line of an answer, made with other memory than the answer's.
+pub fn is_line<A: Allocator + Copy>(alloc: Global, answer: &Given<A>, wanted: &str) -> bool {
+    let line = match answer {
+        Ok(entry) => entry_line(alloc, entry),
+        Err(error) => error_line(alloc, error),
+    };
+    matches!(&line, Ok(line) if line.as_str() == wanted)
+}
+
+/// Whether answers are a beginning of these lines.
+pub fn are_first<A: Allocator + Copy>(alloc: Global, answers: &[Given<A>], lines: &[&str]) -> bool {
+    for (answer, wanted) in answers.iter().zip(lines) {
+        if !is_line(alloc, answer, wanted) {
+            return false;
+        }
+    }
+    answers.len() <= lines.len()
+}
+
+/// Whether an answer reports that memory ran out.
+pub fn is_refusal<A: Allocator + Copy>(answer: Option<&Given<A>>) -> bool {
+    matches!(answer, Some(Err(error)) if error.is_memory())
+}
