@@ -1,5 +1,4 @@
 //! Walks that a crew reads for, where each request for memory is refused, or all from each on.
-use crate::by_crew::Host;
 use crate::refused::goes::{Came, goes_on};
 use crate::refused::rows::GROUPS;
 use jwalk::file_system::MemoryFs;
@@ -11,6 +10,7 @@ use std::alloc::Global;
 use std::sync::Arc;
 use std::thread;
 use std::time::Duration;
+use walk_fixtures::host::Host;
 use walk_fixtures::trees::tree;
 
 /// Memory that lives as long as the process, since a crew's threads may.

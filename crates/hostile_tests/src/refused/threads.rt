@@ -9,7 +9,7 @@ use std::thread::Threads;
 use walk_fixtures::trees::tree;
 use walk_ways::width::Width;
 
-/// So many directories are read together that two threads do.
+/// How many directories are read together: enough for two threads.
 const WIDE: Width = Width::Batches(64);
 
 /// A directory with 40 directories.
