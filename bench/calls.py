@@ -8,7 +8,7 @@ Build the program first: (cd crates/walk && rt run). It needs `cc`. FOLDER holds
 of 200,000 files, 10,000 directories of 20 files, and 40 chains of 100 directories (a temporary folder where none is given);
 /usr is the last tree. The programs take turns, each with its output in a file, and the first turn doesn't count. A time is
 the median of nine turns. The ratio of processor times is the median of the turns' ratios. Peaks of memory are those of the
-last turn, in MiB. In brackets is the most that the ratio is to be.
+last turn, in MiB, and no less than this script's own. In brackets is the most that the ratio is to be.
 """
 import os
 import subprocess
