@@ -2,7 +2,7 @@
 use crate::crewed::{Stand, States};
 use jwalk::crew::Session;
 use jwalk::file_system::FileSystem;
-use jwalk::read_dir::{Job, NoProcess};
+use jwalk::read_dir::{Job, NoProcess, Options};
 use jwalk::read_dir_iter::ReadDirIter;
 use jwalk::threads::InTurn;
 use jwalk::{Error, Parallelism, Pool};
@@ -33,15 +33,7 @@ fn tried<R: Host, S: FileSystem + Send + Sync + 'static>(
             busy_timeout: Some(Duration::from_millis(0)),
         },
     };
-    let job: Job<States, Arc<S>, NoProcess> = Job::new(
-        stand.alloc,
-        fs,
-        NoProcess,
-        false,
-        true,
-        false,
-        usize::MAX,
-    );
+    let job: Job<States, Arc<S>, NoProcess> = Job::new(stand.alloc, fs, NoProcess, Options::new());
     let roots = job.root_list("/r", ())?.read_children_specs()?;
     Ok(ReadDirIter::try_with_crew(InTurn, job, roots, parallelism))
 }

@@ -310,7 +310,7 @@ impl<
             threads,
             crew: _,
         } = self;
-        let job = Job::with_options(alloc, fs, process, options);
+        let job = Job::new(alloc, fs, process, options);
         let read = job.root_list(root.as_str(), root_read_dir_state);
         DirEntryIter::from_root(alloc, threads, job, read.ok())
     }

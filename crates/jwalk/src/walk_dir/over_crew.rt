@@ -93,7 +93,7 @@ where
             threads,
             crew,
         } = self;
-        let job = Job::with_options(alloc, fs, process, options);
+        let job = Job::new(alloc, fs, process, options);
         let read = job.root_list(root.as_str(), root_read_dir_state).ok();
         match crew_to_ask(options.mode(), crew) {
             Some((crew, busy_timeout)) => {

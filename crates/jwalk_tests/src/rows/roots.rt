@@ -1,6 +1,6 @@
 //! Readings of directories and of all below them, without the answers of a walk.
 use jwalk::file_system::FileSystem;
-use jwalk::read_dir::{Job, NoProcess, ReadDir};
+use jwalk::read_dir::{Job, NoProcess, Options, ReadDir};
 use jwalk::read_dir_iter::ReadDirIter;
 use jwalk::threads::{InTurn, OnThreads};
 use jwalk::{DirEntry, Error};
@@ -29,7 +29,7 @@ const WIDTHS: &[Width] = &[
 
 /// What reads the directories of a file system.
 fn job<S: FileSystem>(alloc: Global, fs: &S) -> Job<((), ()), &S, NoProcess> {
-    Job::new(alloc, fs, NoProcess, false, true, false, usize::MAX)
+    Job::new(alloc, fs, NoProcess, Options::new())
 }
 
 /// Whether what comes is a reading or an error, if anything comes.

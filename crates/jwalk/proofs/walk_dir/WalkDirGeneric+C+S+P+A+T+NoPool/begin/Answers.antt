@@ -14,7 +14,7 @@ use Rattle.jwalk.proofs.walk_dir.WalkDirGeneric+C+S+P+A+T+NoPool.begin.Goals as 
 
 pub returns-clause-starts : goal.returns-clause-starts
 returns-clause-starts g c =
-    let jobs = c.with_options-job.ensures in
+    let jobs = c.new-job.ensures in
     record {
       file_system = ap file_system c.from_root.ensures.job ∙ jobs.file_system;
       callback = ap callback c.from_root.ensures.job ∙ jobs.callback;
@@ -29,8 +29,8 @@ returns-clause-starts g c =
 pub returns-clause-holds : goal.returns-clause-holds
 returns-clause-holds g c = λ started given steady.
     let walk = c.args.self in
-    let made = c.with_options-job.result in
-    let jobs = c.with_options-job.ensures in
+    let made = c.new-job.result in
+    let jobs = c.new-job.ensures in
     let over : g.row.S.Denot → Options → value.Job Worth Worth = λ fs options. record { fs = g.S.FileSystem.functions fs; options = options; processed = given.processed; default = given.new_entry } in
     let same : job_by g.S.FileSystem given made ≡ job_for g.S.FileSystem given walk
     = ap (λ fs. over fs (options_of made)) jobs.file_system ∙ ap (over (file_system_of walk)) jobs.options in
