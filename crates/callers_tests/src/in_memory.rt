@@ -42,7 +42,7 @@ fn a_tree_in_memory(rt: HostRuntime) {
 fn shows_on_threads<R: Host>(rt: &R, wanted: &str) -> Result<bool, BuildError> {
     let alloc = rt.alloc();
     let (fs, root) = small(alloc)?;
-    let found = walk_tree_on_threads(alloc, rt.clone()?, fs, root)?;
+    let found = walk_tree_on_threads(alloc, rt, fs, root)?;
     Ok(are_lines(alloc, found.as_slice(), wanted))
 }
 
