@@ -52,12 +52,7 @@ pub struct WalkDirGeneric<
 /// A walk of the file system that a runtime reaches, without states beside directories and entries.
 pub type WalkDir<R = HostRuntime, A = Global> = WalkDirGeneric<((), ()), RealFs<R>, NoProcess, A>;
 
-impl<C: ClientState, S: FileSystem, A: Allocator + Copy> WalkDirGeneric<
-    C,
-    S,
-    NoProcess,
-    A,
-> {
+impl<C: ClientState, S: FileSystem, A: Allocator + Copy> WalkDirGeneric<C, S, NoProcess, A> {
     ghost use Rattle.walk_model.specs.Options.{defaults};
     ghost use Rattle.jwalk.specs.WalkDir.{file_system_of, root_of, state_of, options_of};
 
@@ -103,12 +98,7 @@ impl<C: ClientState, S: FileSystem, A: Allocator + Copy, W: Drop> WalkDirGeneric
     }
 }
 
-impl<R: Files + Alloc + Clone + Drop> WalkDirGeneric<
-    ((), ()),
-    RealFs<R>,
-    NoProcess,
-    R::A,
->
+impl<R: Files + Alloc + Clone + Drop> WalkDirGeneric<((), ()), RealFs<R>, NoProcess, R::A>
 where
     R::A: Copy,
 {
@@ -250,12 +240,13 @@ impl<
     }
 }
 
-impl<
-    C: ClientState,
-    S: FileSystem,
-    P: ProcessReadDir<C, A>,
-    A: Allocator + Copy,
-> WalkDirGeneric<C, S, P, A, NoPool> {
+impl<C: ClientState, S: FileSystem, P: ProcessReadDir<C, A>, A: Allocator + Copy> WalkDirGeneric<
+    C,
+    S,
+    P,
+    A,
+    NoPool,
+> {
     ghost use Rattle.jwalk.specs.WalkDir.{callback_of, Starts, Holds};
     ghost use Rattle.jwalk_entries.specs.DirEntryIter.{by_crew, is_refused, IsRefused};
 

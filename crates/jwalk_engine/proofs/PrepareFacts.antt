@@ -1,5 +1,5 @@
 -- What a call that prepares the next reading of a walk by a job is, over its directories.
-use Rattle.std.proofs.Common.{◌≡◌, ◌≢◌, ◌⊎◌, ◌∙◌, ℕ, [], map, length, sym, ap, subst, inl, inr, ⊎_elim}
+use Rattle.std.proofs.Common.{◌≡◌, ◌≢◌, ◌⊎◌, ◌∙◌, ℕ, List, [], map, length, sym, ap, subst, inl, inr, ⊎_elim}
 use Rattle.std.specs.Prelude.{All, Option, Result, Ok, Err, OnOk, OnErr}
 use Rattle.std.specs.declared.clone.Clone as Clone
 use Rattle.std.specs.declared.default.Default as Default
@@ -28,8 +28,11 @@ none_left : {C A R E : Type 0} (b : Option (Board (ReadDirSpec C A R E) (Read C 
 none_left b none = nil_from_length (left_on b).to_read (sym (length-map (left_on b).to_read spec) ∙ ap length none)
 
 -- readings are the same where their parts are
+same_parts : {C S P A R E : Type 0} {job its : Job C S P A R E} {width many : ℕ} {board other : Option (Board (ReadDirSpec C A R E) (Read C A R E))} → job ≡ its → width ≡ many → board ≡ other → ◌≡◌ {A = BatchReads C S P A R E} (record { job = job; width = width; board = board }) (record { job = its; width = many; board = other })
+same_parts these those others = cc
+
 same_reads : {C S P A R E : Type 0} (these those : BatchReads C S P A R E) → these.job ≡ those.job → these.width ≡ those.width → these.board ≡ those.board → these ≡ those
-same_reads these those job width board = cc
+same_reads these those job width board = same_parts job width board
 
 module _ {C S P A R E : Type 0} (files : FileSystem.Ghosts S) (process : ProcessReadDir.Ghosts P C A R E) (clone : Clone.Ghosts R) (defaults : Default.Ghosts E) (job : Job C S P A R E) (width : ℕ) where
   -- a directory that was made ready and is entered then is entered by what was read for it
@@ -39,7 +42,7 @@ module _ {C S P A R E : Type 0} (files : FileSystem.Ghosts S) (process : Process
     | inr more ↦ absurd (more.0 ready.read)
   ]
 
-  module _ {F : Type 0} (old new : Option (Board (ReadDirSpec C A R E) (Read C A R E))) (early : All (IsMade clone job) (early_on old)) where
+  module _ (old new : Option (Board (ReadDirSpec C A R E) (Read C A R E))) (early : All (IsMade clone job) (early_on old)) where
     abbrev Counts : Given R E → Type 0
     Counts = IsSteadyWith files process clone defaults job (early_on old)
 
@@ -49,7 +52,7 @@ module _ {C S P A R E : Type 0} (files : FileSystem.Ghosts S) (process : Process
     abbrev Reads : Type 0
     Reads = tree.ReadsForNext (IsPlanReading files process clone defaults job) width old new
 
-    abbrev Prepares : Result (Unit {0}) F → Type 0
+    abbrev Prepares : {F : Type 0} → Result (Unit {0}) F → Type 0
     Prepares result = tree.Prepares (IsPlanReading files process clone defaults job) width old result new
 
     sound_after : (new ≡ old) ⊎ Reads → All (IsSoundOver files clone Counts job) (early_on new)
@@ -59,30 +62,30 @@ module _ {C S P A R E : Type 0} (files : FileSystem.Ghosts S) (process : Process
         (λ (r : Reads). joins_sound files process clone defaults job Counts (λ given steady. steady.steady) r.reads.readings old new r.reads.sound r.reads.join was_sound)
         reads
 
-    sound : (result : Result (Unit {0}) F) → Prepares result → All (IsSoundOver files clone Counts job) (early_on new)
+    sound : {F : Type 0} (result : Result (Unit {0}) F) → Prepares result → All (IsSoundOver files clone Counts job) (early_on new)
     sound (Ok done) p = sound_after p.reads
     sound (Err e) p = subst (λ b. All (IsSoundOver files clone Counts job) (early_on b)) (sym p.stopped) (All-nil _)
 
     -- what is kept was made lawfully
-    pub made_prepared : (result : Result (Unit {0}) F) → Prepares result → All (IsMade clone job) (early_on new)
+    pub made_prepared : {F : Type 0} (result : Result (Unit {0}) F) → Prepares result → All (IsMade clone job) (early_on new)
     made_prepared result p = all_made files clone Counts job (early_on new) (sound result p)
 
-    pub steady_prepared : (result : Result (Unit {0}) F) → Prepares result → (given : Given R E) → IsSteadyWith files process clone defaults job (early_on old) given → IsSteadyWith files process clone defaults job (early_on new) given
+    pub steady_prepared : {F : Type 0} (result : Result (Unit {0}) F) → Prepares result → (given : Given R E) → IsSteadyWith files process clone defaults job (early_on old) given → IsSteadyWith files process clone defaults job (early_on new) given
     steady_prepared result p given steady = record { steady = steady.steady; early = all_as_given files clone Counts job (early_on new) (sound result p) given steady }
 
-    pub stopped_prepared : (result : Result (Unit {0}) F) → Prepares result → OnErr result (to_read_on new ≡ [])
+    pub stopped_prepared : {F : Type 0} (result : Result (Unit {0}) F) → Prepares result → OnErr result (to_read_on new ≡ [])
     stopped_prepared (Ok done) p = tt
     stopped_prepared (Err e) p = ap to_read_on p.stopped
 
-    pub nothing_prepared : (result : Result (Unit {0}) F) → Prepares result → OnErr result (ahead_of new ≡ nothing_ahead)
+    pub nothing_prepared : {F : Type 0} (result : Result (Unit {0}) F) → Prepares result → OnErr result (ahead_of new ≡ nothing_ahead)
     nothing_prepared (Ok done) p = tt
     nothing_prepared (Err e) p = ap ahead_of p.stopped
 
-    pub some_unprepared : (result : Result (Unit {0}) F) → Prepares result → OnErr result (to_read_on old ≢ [])
+    pub some_unprepared : {F : Type 0} (result : Result (Unit {0}) F) → Prepares result → OnErr result (to_read_on old ≢ [])
     some_unprepared (Ok done) p = tt
     some_unprepared (Err e) p = λ none. p.some (none_left old none)
 
-    pub ready_prepared : (result : Result (Unit {0}) F) → Prepares result → OnOk result ((to_read_on new ≡ []) ⊎ IsAmong (next_on new) (ahead_of new).done)
+    pub ready_prepared : {F : Type 0} (result : Result (Unit {0}) F) → Prepares result → OnOk result ((to_read_on new ≡ []) ⊎ IsAmong (next_on new) (ahead_of new).done)
     ready_prepared (Err e) p = tt
     ready_prepared (Ok done) p = elim p.ready [
       | inl none ↦ inl (ap (map spec) none)
@@ -95,13 +98,13 @@ module _ {C S P A R E : Type 0} (files : FileSystem.Ghosts S) (process : Process
   reads_prepared old new (Ok done) was many is_job is_width p = elim p.reads [
     | inl same ↦ inl (same_reads new old (is_job ∙ sym was) (is_width ∙ sym many) same)
     | inr r ↦ inr (record {
-        some = λ none. r.some (none_left old.board none);
-        same = ap (map spec) r.reads.same;
-        frontier = r.frontier;
-        ready = rw (was, many) (record {
-          unread = r.unread;
-          least = seen_least spec (λ (q : Read C A R E). q.of) _ (IsSound files process clone defaults job) (plan_sound files process clone defaults job) width (tree.ahead_of old.board) (tree.ahead_of new.board) r.least;
-          read = subst (λ l. IsAmong (next_address l) (ahead_of new.board).done) r.frontier r.read;
-        });
-      })
+      some = λ none. r.some (none_left old.board none);
+      same = ap (map spec) r.reads.same;
+      frontier = r.frontier;
+      ready = rw (was, many) (record {
+        unread = r.unread;
+        least = seen_least spec (λ (q : Read C A R E). q.of) _ (IsSound files process clone defaults job) (plan_sound files process clone defaults job) width (tree.ahead_of old.board) (tree.ahead_of new.board) r.least;
+        read = subst (λ l. IsAmong (next_address l) (ahead_of new.board).done) r.frontier r.read;
+      });
+    })
   ]

@@ -41,13 +41,8 @@ pub struct DirEntryIter<
     refused: bool,
 }
 
-impl<
-    C: ClientState,
-    S: FileSystem,
-    P: ProcessReadDir<C, A>,
-    A: Allocator + Copy,
-    L: Drop,
-> Drop for DirEntryIter<C, S, P, A, L> {
+impl<C: ClientState, S: FileSystem, P: ProcessReadDir<C, A>, A: Allocator + Copy, L: Drop> Drop
+    for DirEntryIter<C, S, P, A, L> {
     fn drop(self) {
         let DirEntryIter {
             reads: _,
@@ -133,11 +128,7 @@ impl<
 
     /// Returns the walk that begins with the root's list. If memory ran out, it yields the error that reports it, and
     /// nothing else.
-    pub fn from_root(
-        alloc: A,
-        job: Job<C, S, P, A>,
-        read: Option<ReadDir<C, A>>,
-    ) -> Self
+    pub fn from_root(alloc: A, job: Job<C, S, P, A>, read: Option<ReadDir<C, A>>) -> Self
         requires { IfSome read (λ r. AtDepth 0 (reading r).list) }
         ensures own { by_crew result ≡ false }
         ensures job { job_of result ≡ job }

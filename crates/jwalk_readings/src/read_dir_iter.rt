@@ -49,13 +49,8 @@ pub enum ReadDirIter<
     CrewWalk(CrewReads<C, S, P, A, L>),
 }
 
-impl<
-    C: ClientState,
-    S: FileSystem,
-    P: ProcessReadDir<C, A>,
-    A: Allocator + Copy,
-    L: Drop,
-> Drop for ReadDirIter<C, S, P, A, L> {
+impl<C: ClientState, S: FileSystem, P: ProcessReadDir<C, A>, A: Allocator + Copy, L: Drop> Drop
+    for ReadDirIter<C, S, P, A, L> {
     fn drop(self) {
         match self {
             ReadDirIter::Walk(_) => (),
@@ -252,12 +247,13 @@ impl<
     }
 }
 
-impl<
-    C: ClientState,
-    S: FileSystem,
-    P: ProcessReadDir<C, A>,
-    A: Allocator + Copy,
-> ReadDirIter<C, S, P, A, NoPool> {
+impl<C: ClientState, S: FileSystem, P: ProcessReadDir<C, A>, A: Allocator + Copy> ReadDirIter<
+    C,
+    S,
+    P,
+    A,
+    NoPool,
+> {
     ghost use Rattle.read_parts.specs.Options as options;
     ghost use Rattle.jwalk_engine.specs.ReadAhead.{BeginsWith};
     ghost use Rattle.jwalk_readings.specs.Parallelism.{parallelism_value};

@@ -198,7 +198,7 @@ where
     /// it. If memory ran out, the walk yields the error that reports it, and nothing else.
     pub(super) fn from_root_by(
         alloc: A,
-            job: Job<C, S, P, A>,
+        job: Job<C, S, P, A>,
         read: Option<ReadDir<C, A>>,
         crew: &Arc<Crew<R>, A>,
         busy_timeout: Option<Duration>,
@@ -212,17 +212,11 @@ where
             ⟦<Session<R, C, S, P, A> as Pool<C, S, P, A>>⟧ result.0 }
     {
         let Some(read) = read else {
-            return (
-                DirEntryIter::refused(alloc, job),
-                Some(NotStarted::Memory),
-            );
+            return (DirEntryIter::refused(alloc, job), Some(NotStarted::Memory));
         };
         match CrewReads::new(alloc, job) {
             Ok(reads) => WalkDirGeneric::with_reads(reads, read, crew, busy_timeout),
-            Err(job) => (
-                DirEntryIter::refused(alloc, job),
-                Some(NotStarted::Memory),
-            ),
+            Err(job) => (DirEntryIter::refused(alloc, job), Some(NotStarted::Memory)),
         }
     }
 }

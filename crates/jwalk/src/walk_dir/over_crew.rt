@@ -106,9 +106,7 @@ where
     ///
     /// An error whose `is_busy` is true, if no place was free in time, or no worker could be started. An error whose
     /// `is_memory` is true, if memory runs out. After an error no place is taken.
-    pub fn try_into_iter(
-        self,
-    ) -> Result<DirEntryIter<C, S, P, A, Session<R, C, S, P, A>>, Error<A>>
+    pub fn try_into_iter(self) -> Result<DirEntryIter<C, S, P, A, Session<R, C, S, P, A>>, Error<A>>
         requires { P.IsLawful (callback_of self) }
         ensures starts { IfOk result (Starts self) }
         ensures begins { IfOk result (Begins S.FileSystem P.ProcessReadDir C.ReadDirState.Clone

@@ -26,12 +26,13 @@ fn threads_for<R: Threads>(rt: &R, count: usize) -> usize
     }
 }
 
-impl<
-    C: ClientState,
-    S: FileSystem,
-    P: ProcessReadDir<C, A>,
-    A: Allocator + Copy,
-> WalkDirGeneric<C, S, P, A, NoPool> {
+impl<C: ClientState, S: FileSystem, P: ProcessReadDir<C, A>, A: Allocator + Copy> WalkDirGeneric<
+    C,
+    S,
+    P,
+    A,
+    NoPool,
+> {
     ghost use Rattle.jwalk.specs.WalkDir.{SetsCrew, SetsWorkers};
 
     /// Returns the same walk, which a crew of `count` threads of its own reads ahead. The threads are started when the
