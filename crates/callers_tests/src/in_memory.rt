@@ -142,7 +142,7 @@ fn shows_while_busy<R: Host>(rt: &R, wanted: &str) -> Result<bool, BuildError> {
         busy_timeout: None,
     };
     let (fs, root) = small(alloc)?;
-    let other = WalkDirGeneric::<((), ()), _, _, _, _, _>::with_crew(fs, root)
+    let other = WalkDirGeneric::<((), ()), _, _, _, _>::with_crew(fs, root)
         .parallelism(by_crew)
         .try_into_iter();
     let is_shown = shows_unless_busy(alloc, pool, wanted)?;
