@@ -1,6 +1,6 @@
 -- The next reading is prepared, and then read.
-use Rattle.std.proofs.Common.{◌≡◌, ◌≢◌, ◌⊎◌, ◌∙◌, ◌≤◌, ℕ, ◌+◌, Bool, true, false, List, [], ◌∷◌, ◌++◌, map, length, Option, Some, None, Result, Ok, Err, inl, inr, refl, sym, ap, subst, arith, ⊎_elim}
-use Rattle.std.specs.Prelude.{option_map, OnOk}
+use Rattle.std.proofs.Common.{◌≡◌, ◌≢◌, ◌⊎◌, ◌∙◌, ◌≤◌, ℕ, ◌+◌, Bool, true, false, List, [], ◌∷◌, ◌++◌, map, length, Option, Some, None, Result, Ok, Err, inl, inr, sym, ap, subst, arith, ⊎_elim}
+use Rattle.std.specs.Prelude.{option_map}
 use Rattle.std.proofs.Math.Nat.{min-le_left}
 use Rattle.std.proofs.lemmas.List.{length-map}
 use Rattle.std.proofs.lemmas.List.Sorted.{length_permutation}
@@ -23,10 +23,7 @@ use Rattle.jwalk_read.specs.ReadDir.{outcome}
 use Rattle.jwalk_engine.specs.Reads.{ReadsNextBy}
 use Rattle.jwalk_engine.specs.ReadAhead.{ReadAhead, HandsOnAt, ReadsLeast, MakesReady}
 use Rattle.jwalk_engine.proofs.PrepareFacts.{ready_enters}
-use Rattle.jwalk_engine.specs.BatchReads as board
-use Rattle.jwalk_engine.specs.BatchReads.{BatchReads}
 use Rattle.jwalk_crew.specs.declared.pool.Pool as Pool
-use Rattle.jwalk_readings.specs.declared.read_dir_iter.ReadDirIter.TheVariants.{Walk}
 use Rattle.jwalk_readings.specs.declared.read_dir_iter.ReadDirIter.{ReadDirIter}
 use Rattle.jwalk_readings.specs.ReadDirIter.{by_crew, job_of, to_read, width_of, read_ahead, early_of, frontier_of, next_address, GivesError, GivesFirst, Known, EntersBy, EntersFirst, EntersNextBy, IsSteadyReads, StaysSteady, ReadsForNext, Prepares, Gives}
 use Rattle.jwalk_readings.proofs.KnownFacts.{tells_memory, known_by}
@@ -54,14 +51,6 @@ module _ {C S P A R E : Type 0} (files : FileSystem.Ghosts S) (process : Process
   enters_prepared b own its many at there old mid new none same is_job is_width is_at ready enters =
       let alone : EntersBy files process clone defaults false job width at mid new = rw (same ∙ none, is_job, is_width, is_at) at enters in
       rw none (ready_enters files process clone defaults job width at old mid new ready alone)
-
--- a walk that prepares its next reading does so as the board below it
-pub walk_prepared : {C S P A L R E F : Type 0} (files : FileSystem.Ghosts S) (process : ProcessReadDir.Ghosts P C A R E) (clone : Clone.Ghosts R) (defaults : Default.Ghosts E) (pool : Pool.Ghosts L C S P A R E) (old new : BatchReads C S P A R E) (result : Result (Unit {0}) F) → OnOk result ((new ≡ old) ⊎ board.ReadsForNext files process clone defaults old new) → OnOk result (◌≡◌ {A = ReadDirIter C S P A L R E} (Walk new) (Walk old) ⊎ ReadsForNext files process clone defaults pool (Walk old) (Walk new))
-walk_prepared files process clone defaults pool old new (Err e) reads = tt
-walk_prepared files process clone defaults pool old new (Ok done) reads = elim reads [
-  | inl same ↦ inl (ap Walk same)
-  | inr r ↦ inr (record { own = refl; some = r.some; same = r.same; frontier = r.frontier; ready = r.ready })
-]
 
 -- what is read of the same specifications is known where more is known
 reads_known : {R E : Type 0} (clone : Clone.Ghosts R) (known more : Spec R → Outcome R E → Type 0) → ((s : Spec R) (o : Outcome R E) → known s o → more s o) → (deep depth : ℕ) → deep ≡ depth → (old mid new : List (Spec R)) → mid ≡ old → (read : Option (Outcome R E)) → ReadsNextBy clone known deep mid read new → ReadsNextBy clone more depth old read new

@@ -4,7 +4,7 @@ use Rattle.std.specs.Arc.{arc_value}
 use Rattle.jwalk_order.specs.Frontier.{roots}
 use Rattle.read_parts.specs.ReadDirSpec.{spec}
 use Rattle.jwalk_readings.proofs.CrewSteadyFacts.{begins_by, starts_steady}
-use Rattle.jwalk_readings.proofs.read_dir_iter.over_pool.ReadDirIter.over_pool.Goals as goal
+use Rattle.jwalk_readings.proofs.read_dir_iter.ReadDirIter.over_pool.Goals as goal
 
 pub returns-in-Ok-clause-steady : goal.returns-in-Ok-clause-steady
 returns-in-Ok-clause-steady g c = λ comes.

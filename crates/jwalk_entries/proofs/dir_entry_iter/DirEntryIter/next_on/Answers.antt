@@ -3,7 +3,7 @@ use Rattle.jwalk_readings.specs.ReadDirIter.{Tells}
 use Rattle.jwalk_entries.specs.DirEntryIter.{by_crew}
 use Rattle.jwalk_readings.proofs.KnownFacts.{told_refused}
 use Rattle.jwalk_entries.proofs.AnswerFacts.{answers_refusal, answers_reads, answers_stopped}
-use Rattle.jwalk_entries.proofs.dir_entry_iter.on_threads.DirEntryIter.next_on.Goals as goal
+use Rattle.jwalk_entries.proofs.dir_entry_iter.DirEntryIter.next_on.Goals as goal
 
 pub returns-then-self : goal.returns-then-self
 returns-then-self g c =

@@ -1,5 +1,5 @@
 use Rattle.jwalk_readings.proofs.PrepareFacts.{prepared_gives, not_prepared_gives}
-use Rattle.jwalk_readings.proofs.read_dir_iter.on_threads.ReadDirIter.next_on.Goals as goal
+use Rattle.jwalk_readings.proofs.read_dir_iter.ReadDirIter.next_on.Goals as goal
 
 pub returns-in-Ok : goal.returns-in-Ok
 returns-in-Ok g c =

@@ -6,7 +6,7 @@ use Rattle.jwalk_read.specs.Job.{greatest_depth}
 use Rattle.jwalk_readings.specs.ReadDirIter.{by_crew, job_of, to_read}
 use Rattle.jwalk_readings.proofs.KnownFacts.{gives_of}
 use Rattle.jwalk_readings.proofs.GivesFacts.{gives_any}
-use Rattle.jwalk_readings.proofs.read_dir_iter.on_threads.ReadDirIter.next_of_on.Goals as goal
+use Rattle.jwalk_readings.proofs.read_dir_iter.ReadDirIter.next_of_on.Goals as goal
 
 pub returns-clause-of : goal.returns-clause-of
 returns-clause-of g c =

@@ -1,6 +1,6 @@
 use Rattle.std.proofs.Common.{refl, inl}
 use Rattle.jwalk_entries.proofs.PrepareFacts.{reads_prepared, reads_unprepared}
-use Rattle.jwalk_entries.proofs.dir_entry_iter.on_threads.DirEntryIter.prepare_on.Goals as goal
+use Rattle.jwalk_entries.proofs.dir_entry_iter.DirEntryIter.prepare_on.Goals as goal
 
 pub returns-then-not-is_at_directory : goal.returns-then-not-is_at_directory
 returns-then-not-is_at_directory g c = record { crew = refl; job = refl; refused = refl; width = refl; steady = λ given steady. steady; prepared = inl refl; stopped = tt }

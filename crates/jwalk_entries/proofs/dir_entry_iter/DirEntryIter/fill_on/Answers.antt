@@ -1,6 +1,6 @@
 use Rattle.std.proofs.Common.{sym, subst, arith}
 use Rattle.jwalk_entries.proofs.FillFacts.{Filled, none_filled, one_filled, fills_up, fills_in_part, fills_all}
-use Rattle.jwalk_entries.proofs.dir_entry_iter.on_threads.DirEntryIter.fill_on.Goals as goal
+use Rattle.jwalk_entries.proofs.dir_entry_iter.DirEntryIter.fill_on.Goals as goal
 
 pub loop-filled-init : goal.loop-filled-init
 loop-filled-init g c = record { lawful = c.requires; sofar = none_filled g.S.FileSystem g.P.ProcessReadDir g.C.ReadDirState.Clone g.C.DirEntryState.Default g.L.Pool c.args.n c.args.self.now c.args.out.now.items }

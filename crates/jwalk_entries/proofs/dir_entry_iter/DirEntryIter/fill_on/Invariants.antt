@@ -2,7 +2,7 @@ use Rattle.std.proofs.Common.{◌-◌}
 use Rattle.jwalk_read.specs.Job.{callback}
 use Rattle.jwalk_entries.specs.DirEntryIter.{job_of}
 use Rattle.jwalk_entries.proofs.FillFacts.{Filled}
-use Rattle.jwalk_entries.proofs.dir_entry_iter.on_threads.DirEntryIter.fill_on.Given as goal
+use Rattle.jwalk_entries.proofs.dir_entry_iter.DirEntryIter.fill_on.Given as goal
 
 -- what was filled in so far
 abbrev pub invariant-loop-filled : goal.invariant-loop-filled

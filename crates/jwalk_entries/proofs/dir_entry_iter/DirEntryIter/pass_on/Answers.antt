@@ -1,5 +1,5 @@
 use Rattle.jwalk_entries.proofs.PrepareFacts.{prepared_passes, unprepared_passes}
-use Rattle.jwalk_entries.proofs.dir_entry_iter.on_threads.DirEntryIter.pass_on.Goals as goal
+use Rattle.jwalk_entries.proofs.dir_entry_iter.DirEntryIter.pass_on.Goals as goal
 
 pub returns : goal.returns
 returns g c = prepared_passes g.S.FileSystem g.P.ProcessReadDir g.C.ReadDirState.Clone g.C.DirEntryState.Default g.L.Pool c.args.self.now c.prepare_on.new.self c.pass.new.self tt c.pass.result c.in_ok-prepare_on.ensures c.pass.ensures

@@ -2,7 +2,7 @@ use Rattle.walk_model.specs.Held.{pair_up, weight}
 use Rattle.jwalk_read.specs.Job.{greatest_depth}
 use Rattle.jwalk_entries.specs.DirEntryIter.{job_of, items_of, unread_of}
 use Rattle.jwalk_entries.proofs.StepFacts.{PassedOver}
-use Rattle.jwalk_entries.proofs.dir_entry_iter.on_threads.DirEntryIter.next_kept_on.Given as goal
+use Rattle.jwalk_entries.proofs.dir_entry_iter.DirEntryIter.next_kept_on.Given as goal
 
 -- what was passed over is left out
 abbrev pub invariant-loop-passed : goal.invariant-loop-passed

@@ -2,7 +2,7 @@ use Rattle.std.proofs.Common.{◌∙◌, Ok, map, reverse, sym, ap}
 use Rattle.read_parts.specs.Entry.{entry, item, children}
 use Rattle.jwalk_readings.proofs.ListFacts.{last_first, is_some-map}
 use Rattle.jwalk_entries.proofs.PrepareFacts.{at_entry}
-use Rattle.jwalk_entries.proofs.dir_entry_iter.on_threads.DirEntryIter.is_at_directory.Goals as goal
+use Rattle.jwalk_entries.proofs.dir_entry_iter.DirEntryIter.is_at_directory.Goals as goal
 
 pub returns-in-Some-Ok : goal.returns-in-Some-Ok
 returns-in-Some-Ok g c = λ yes some.

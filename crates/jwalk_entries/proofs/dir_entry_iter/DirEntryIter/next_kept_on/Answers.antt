@@ -1,5 +1,5 @@
 use Rattle.jwalk_entries.proofs.StepFacts.{none_passed_over, one_passed_over, passes_lighter, goes_to_answer, goes_to_end, goes_to_missed}
-use Rattle.jwalk_entries.proofs.dir_entry_iter.on_threads.DirEntryIter.next_kept_on.Goals as goal
+use Rattle.jwalk_entries.proofs.dir_entry_iter.DirEntryIter.next_kept_on.Goals as goal
 
 pub loop-passed-init : goal.loop-passed-init
 loop-passed-init g c = none_passed_over g.S.FileSystem g.P.ProcessReadDir g.C.ReadDirState.Clone g.C.DirEntryState.Default g.L.Pool c.args.self.now
