@@ -8,6 +8,7 @@ use Rattle.walk_model.specs.ReadDir.{Spec, Outcome}
 use Rattle.walk_model.specs.Preorder.{preorder}
 use Rattle.walk_model.specs.Job.{reading}
 use Rattle.walk_fs.specs.declared.file_system.FileSystem as FileSystem
+use Rattle.jwalk_order.specs.Addresses.{IsAmong}
 use Rattle.jwalk_order.specs.Frontier as frontier
 use Rattle.read_parts.specs.declared.process_read_dir.ProcessReadDir as ProcessReadDir
 use Rattle.read_parts.specs.declared.error.Error.{Error}
@@ -142,7 +143,7 @@ module _ {C S P A L R E : Type 0} (files : FileSystem.Ghosts S) (process : Proce
     pub frontier : frontier_of new ≡ frontier_of old
     pub ready : MakesReady files process clone defaults (job_of old) (width_of old) (next_address old) (read_ahead old) (read_ahead new)
 
-  -- One call that prepares the next reading: some are read for it, or all stays as it is. The call fails only if something was left to be read, and then nothing is left.
+  -- One call that prepares the next reading: some are read for it, or all stays as it is. If no crew reads, it is ready then, or nothing is left. The call fails only if something was left to be read, and then nothing is left.
   pub record Prepares {F : Type 0} (old : ReadDirIter C S P A L R E) (result : Result (Unit {0}) F) (new : ReadDirIter C S P A L R E) : Type 0 where
     pub crew : by_crew new ≡ by_crew old
     pub job : job_of new ≡ job_of old
@@ -150,6 +151,7 @@ module _ {C S P A L R E : Type 0} (files : FileSystem.Ghosts S) (process : Proce
     pub wide : 1 ≤ width_of old
     pub steady : StaysSteady old new
     pub prepared : OnOk result ((new ≡ old) ⊎ ReadsForNext old new)
+    pub ready : OnOk result (by_crew old ≡ false → (to_read new ≡ []) ⊎ IsAmong (next_address new) (early_of new))
     pub some : OnErr result (to_read old ≢ [])
     pub stopped : OnErr result (to_read new ≡ [])
     pub nothing : OnErr result (read_ahead new ≡ nothing_ahead)
