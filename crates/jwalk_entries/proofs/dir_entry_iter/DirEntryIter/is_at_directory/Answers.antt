@@ -6,11 +6,5 @@ use Rattle.jwalk_entries.proofs.dir_entry_iter.DirEntryIter.is_at_directory.Goal
 
 pub returns-in-Some-Ok : goal.returns-in-Some-Ok
 returns-in-Some-Ok g c = λ yes some.
-    let first = ap (λ l. map item (reverse l)) (sym c.deref.ensures.value) ∙ last_first item c.deref.result.now (Ok c.in-Some-Ok.found.now) c.in-Some-Ok.ensures.value in
-    at_entry _ _ _ _ first (is_some-map children c.in-Some-Ok.found.now.read_children ∙ yes) some
-
-pub returns-in-Some-Err : goal.returns-in-Some-Err
-returns-in-Some-Err g c = λ yes. absurd cc
-
-pub returns-in-None : goal.returns-in-None
-returns-in-None g c = λ yes. absurd cc
+    let first = ap (λ l. map item (reverse l)) (sym c.deref.ensures.value) ∙ last_first item c.deref.result.now (Ok c.in-Some-Ok.found) (rw c.in-Some-Ok.field-0-is at c.in-Some-Ok.ensures.value) in
+    at_entry _ _ _ _ first (is_some-map children c.in-Some-Ok.found.read_children ∙ sym c.is_some.ensures ∙ yes) some
