@@ -55,7 +55,10 @@ fn next(
 ) -> Result<Option<Outcome<States, Global>>, AllocError> {
     match by {
         By::Turn => walk.read_next(),
-        By::Threads => walk.read_next_on(rt),
+        By::Threads => {
+            walk.prepare_on(rt)?;
+            walk.read_next()
+        }
     }
 }
 
