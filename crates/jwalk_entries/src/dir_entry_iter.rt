@@ -258,6 +258,25 @@ impl<
         Ok(None)
     }
 
+    /// Returns what came; or the error that reports why nothing did, and then nothing is left.
+    fn answer(
+        &mut self,
+        came: Result<Option<Result<DirEntry<C, A>, Error<A>>>, Missed>,
+    ) -> Option<Result<DirEntry<C, A>, Error<A>>>
+        ensures { (start : _) → start.refused ≡ false
+            → GoesOn S.FileSystem P.ProcessReadDir C.ReadDirState.Clone C.DirEntryState.Default L.Pool
+            start came self.old → Answers S.FileSystem P.ProcessReadDir C.ReadDirState.Clone C.DirEntryState.Default
+            L.Pool start result self.new }
+    {
+        match came {
+            Ok(answer) => answer,
+            Err(missed) => {
+                self.stop();
+                Some(Err(error_of(missed)))
+            }
+        }
+    }
+
     /// Returns the next answer; or the error that reports why it won't come, and then nothing is left.
     fn next_answer(&mut self) -> Option<Result<DirEntry<C, A>, Error<A>>>
         requires { P.IsLawful (callback (job_of self.old)) }
@@ -268,13 +287,8 @@ impl<
             self.refused = false;
             return Some(Err(Error::memory()));
         }
-        match self.next_kept() {
-            Ok(answer) => answer,
-            Err(missed) => {
-                self.stop();
-                Some(Err(error_of(missed)))
-            }
-        }
+        let came = self.next_kept();
+        self.answer(came)
     }
 
     /// Appends up to `n` answers to `out`, fewer if the walk ends before that, and returns how many.
