@@ -26,7 +26,8 @@ use walk_fs::file_system::FileSystem;
 /// A walk over a crew ends in the same way if a reading is lost: it yields one error whose `is_lost` is true. No
 /// reading is lost if the file system's answers stay the same and the callback always does the same.
 ///
-/// Over a crew, calls may block: `next`, `fill` and `count` for a reading, and these, `ahead` and the drop for a lock.
+/// Over a crew, calls may block: `next` and `fill`, on threads or not, and `count` for a reading, and these, `ahead` and
+/// the drop for a lock.
 pub struct DirEntryIter<
     C: ClientState,
     S: FileSystem,
