@@ -69,7 +69,7 @@ impl<
     ghost use Rattle.read_parts.specs.Options as options;
     ghost use Rattle.jwalk_read.specs.Job.{options_of};
     ghost use Rattle.jwalk_engine.specs.ReadAhead.{nothing_ahead, BeginsWith};
-    ghost use Rattle.jwalk_entries.specs.DirEntryIter.{reads_of, by_crew, is_refused, job_of, min_depth_of, items_of, unread_of, width_of, read_ahead, early_of, held_by, IsWithin, IsSourced, IsRefused, ReadsStaySteady, Passes, GoesOn, Answers, Fills, Counts};
+    ghost use Rattle.jwalk_entries.specs.DirEntryIter.{reads_of, by_crew, is_refused, job_of, min_depth_of, items_of, unread_of, width_of, read_ahead, early_of, held_by, IsWithin, IsSourced, IsRefused, ReadsStaySteady, Passes, GoesOn, Answers, AnswersWhatCame, Fills, Counts};
     ghost use Rattle.jwalk_entries.specs.Step.{Receives};
 
     /// Returns a walk whose start ran out of memory: it yields the error that reports it, and nothing else. The call
@@ -264,10 +264,8 @@ impl<
         &mut self,
         came: Result<Option<Result<DirEntry<C, A>, Error<A>>>, Missed>,
     ) -> Option<Result<DirEntry<C, A>, Error<A>>>
-        ensures { (start : _) → start.refused ≡ false
-            → GoesOn S.FileSystem P.ProcessReadDir C.ReadDirState.Clone C.DirEntryState.Default L.Pool
-            start came self.old → Answers S.FileSystem P.ProcessReadDir C.ReadDirState.Clone C.DirEntryState.Default
-            L.Pool start result self.new }
+        ensures { AnswersWhatCame S.FileSystem P.ProcessReadDir C.ReadDirState.Clone C.DirEntryState.Default L.Pool
+            came self.old result self.new }
     {
         match came {
             Ok(answer) => answer,
