@@ -18,7 +18,7 @@ use Rattle.read_parts.specs.Given.{Given}
 use Rattle.jwalk_read.specs.declared.job.Job.{Job}
 use Rattle.jwalk_read.specs.PlanReading.{IsPlanReading}
 use Rattle.jwalk_engine.specs.Reads.{Read, IsMade, IsSound, IsSoundOver, IsSteadyWith}
-use Rattle.jwalk_engine.specs.ReadAhead.{ReadAhead, nothing_ahead, HandsOnAt, ReadsLeast, Enters, MakesReady}
+use Rattle.jwalk_engine.specs.ReadAhead.{ReadAhead, nothing_ahead, Enters, MakesReady}
 use Rattle.jwalk_engine.specs.BatchReads.{BatchReads, to_read_on, early_on, ahead_of, ReadsForNext}
 use Rattle.jwalk_engine.proofs.SeenFacts.{seen_least}
 use Rattle.jwalk_engine.proofs.ReadFacts.{all_sound_over, all_made, all_as_given, plan_sound, joins_sound}

@@ -1,5 +1,5 @@
 -- The next item is prepared, and then passed.
-use Rattle.std.proofs.Common.{◌≡◌, ◌≢◌, ◌⊎◌, ◌∙◌, Bool, true, List, [], ◌∷◌, ◌++◌, ℕ, map, reverse, length, Option, Some, None, Result, Ok, Err, IsErr, IsErrAnd, IfErr, OnErr, inl, inr, refl, sym, ap, subst, ⊎_elim}
+use Rattle.std.proofs.Common.{◌≡◌, ◌≢◌, ◌⊎◌, ◌∙◌, Bool, true, List, [], ◌∷◌, ℕ, map, reverse, length, Option, Some, None, Result, Ok, Err, IsErr, IsErrAnd, OnErr, inl, inr, refl, sym, ap, subst, ⊎_elim}
 use Rattle.std.specs.Prelude.{OnOk}
 use Rattle.std.specs.declared.clone.Clone as Clone
 use Rattle.std.specs.declared.default.Default as Default

@@ -309,6 +309,10 @@ module _ {C S P A L R E : Type 0} (files : FileSystem.Ghosts S) (process : Proce
     pub steady : StaysSteady old new
     pub coming : (given : Given R E) → IsSteadyWalk old given → AnswersFirst files given old (option_map item answer) new
 
+  -- Where a walk went on from its start to what came, that is told as one call of `next` tells it.
+  abbrev pub AnswersWhatCame : Result (Option (Result (DirEntry C A R E) (Error A))) Missed → DirEntryIter C S P A L R E → Option (Result (DirEntry C A R E) (Error A)) → DirEntryIter C S P A L R E → Type 0
+  AnswersWhatCame came between answer new = (start : DirEntryIter C S P A L R E) → start.refused ≡ false → GoesOn start came between → Answers start answer new
+
   -- Calls of `next` returned these: all n that were asked for, or fewer, and the next call returned `None`. Or there was no memory for one more.
   abbrev pub FillCalls : ℕ → DirEntryIter C S P A L R E → List (Result (DirEntry C A R E) (Error A)) → Result ℕ AllocError → DirEntryIter C S P A L R E → Type 0
   FillCalls n old answered (Ok told) new = ((told ≡ n) × Yields Answers old answered new) ⊎ ((told < n) × YieldsThen Answers old answered None new)

@@ -26,7 +26,8 @@ use walk_fs::file_system::FileSystem;
 /// A walk over a crew ends in the same way if a reading is lost: it yields one error whose `is_lost` is true. No
 /// reading is lost if the file system's answers stay the same and the callback always does the same.
 ///
-/// Over a crew, calls may block: `next`, `fill` and `count` for a reading, and these, `ahead` and the drop for a lock.
+/// Over a crew, calls may block: `next` and `fill`, on threads or not, and `count` for a reading, and these, `ahead` and
+/// the drop for a lock.
 pub struct DirEntryIter<
     C: ClientState,
     S: FileSystem,
@@ -68,7 +69,7 @@ impl<
     ghost use Rattle.read_parts.specs.Options as options;
     ghost use Rattle.jwalk_read.specs.Job.{options_of};
     ghost use Rattle.jwalk_engine.specs.ReadAhead.{nothing_ahead, BeginsWith};
-    ghost use Rattle.jwalk_entries.specs.DirEntryIter.{reads_of, by_crew, is_refused, job_of, min_depth_of, items_of, unread_of, width_of, read_ahead, early_of, held_by, IsWithin, IsSourced, IsRefused, ReadsStaySteady, Passes, GoesOn, Answers, Fills, Counts};
+    ghost use Rattle.jwalk_entries.specs.DirEntryIter.{reads_of, by_crew, is_refused, job_of, min_depth_of, items_of, unread_of, width_of, read_ahead, early_of, held_by, IsWithin, IsSourced, IsRefused, ReadsStaySteady, Passes, GoesOn, Answers, AnswersWhatCame, Fills, Counts};
     ghost use Rattle.jwalk_entries.specs.Step.{Receives};
 
     /// Returns a walk whose start ran out of memory: it yields the error that reports it, and nothing else. The call
@@ -258,6 +259,23 @@ impl<
         Ok(None)
     }
 
+    /// Returns what came; or the error that reports why nothing did, and then nothing is left.
+    fn answer(
+        &mut self,
+        came: Result<Option<Result<DirEntry<C, A>, Error<A>>>, Missed>,
+    ) -> Option<Result<DirEntry<C, A>, Error<A>>>
+        ensures { AnswersWhatCame S.FileSystem P.ProcessReadDir C.ReadDirState.Clone C.DirEntryState.Default L.Pool
+            came self.old result self.new }
+    {
+        match came {
+            Ok(answer) => answer,
+            Err(missed) => {
+                self.stop();
+                Some(Err(error_of(missed)))
+            }
+        }
+    }
+
     /// Returns the next answer; or the error that reports why it won't come, and then nothing is left.
     fn next_answer(&mut self) -> Option<Result<DirEntry<C, A>, Error<A>>>
         requires { P.IsLawful (callback (job_of self.old)) }
@@ -268,13 +286,8 @@ impl<
             self.refused = false;
             return Some(Err(Error::memory()));
         }
-        match self.next_kept() {
-            Ok(answer) => answer,
-            Err(missed) => {
-                self.stop();
-                Some(Err(error_of(missed)))
-            }
-        }
+        let came = self.next_kept();
+        self.answer(came)
     }
 
     /// Appends up to `n` answers to `out`, fewer if the walk ends before that, and returns how many.

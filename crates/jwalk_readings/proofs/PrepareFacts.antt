@@ -1,6 +1,5 @@
 -- The next reading is prepared, and then read.
-use Rattle.std.proofs.Common.{◌≡◌, ◌≢◌, ◌⊎◌, ◌∙◌, ◌≤◌, ℕ, ◌+◌, Bool, true, false, List, [], ◌∷◌, ◌++◌, map, length, Option, Some, None, Result, Ok, Err, inl, inr, sym, ap, subst, arith, ⊎_elim}
-use Rattle.std.specs.Prelude.{option_map}
+use Rattle.std.proofs.Common.{◌≡◌, ◌∙◌, ◌≤◌, ℕ, ◌+◌, Bool, true, false, List, ◌∷◌, ◌++◌, length, Option, Some, None, Result, Ok, Err, inl, inr, sym, ap, subst, arith, ⊎_elim}
 use Rattle.std.proofs.Math.Nat.{min-le_left}
 use Rattle.std.proofs.lemmas.List.{length-map}
 use Rattle.std.proofs.lemmas.List.Sorted.{length_permutation}
@@ -15,7 +14,6 @@ use Rattle.jwalk_order.specs.Frontier as order
 use Rattle.read_parts.specs.declared.process_read_dir.ProcessReadDir as ProcessReadDir
 use Rattle.read_parts.specs.declared.error.Error.{Error}
 use Rattle.read_parts.specs.Error.{failure}
-use Rattle.read_parts.specs.Given.{Given}
 use Rattle.jwalk_read.specs.declared.job.Job.{Job}
 use Rattle.jwalk_read.specs.declared.read_dir.ReadDir.{ReadDir}
 use Rattle.jwalk_read.specs.Job.{greatest_depth}
@@ -25,7 +23,7 @@ use Rattle.jwalk_engine.specs.ReadAhead.{ReadAhead, HandsOnAt, ReadsLeast, Makes
 use Rattle.jwalk_engine.proofs.PrepareFacts.{ready_enters}
 use Rattle.jwalk_crew.specs.declared.pool.Pool as Pool
 use Rattle.jwalk_readings.specs.declared.read_dir_iter.ReadDirIter.{ReadDirIter}
-use Rattle.jwalk_readings.specs.ReadDirIter.{by_crew, job_of, to_read, width_of, read_ahead, early_of, frontier_of, next_address, GivesError, GivesFirst, Known, EntersBy, EntersFirst, EntersNextBy, IsSteadyReads, StaysSteady, ReadsForNext, Prepares, Gives}
+use Rattle.jwalk_readings.specs.ReadDirIter.{by_crew, job_of, to_read, width_of, read_ahead, early_of, next_address, GivesError, GivesFirst, Known, EntersBy, EntersFirst, IsSteadyReads, StaysSteady, ReadsForNext, Prepares, Gives}
 use Rattle.jwalk_readings.proofs.KnownFacts.{tells_memory, known_by}
 use Rattle.jwalk_readings.proofs.GivesFacts.{gives_stopped}
 

@@ -35,7 +35,8 @@ use walk_fs::file_system::FileSystem;
 /// No reading is lost if three things hold. The file system's answers stay the same, the callback always does the same,
 /// and the iterator is asked for no other directory than the next one.
 ///
-/// Over a crew, calls may block: `next` and `next_of` for a reading, and these, `ahead` and the drop for a lock.
+/// Over a crew, calls may block: `next` and `next_of`, on threads or not, for a reading, and these, `ahead` and the drop
+/// for a lock.
 pub enum ReadDirIter<
     C: ClientState,
     S: FileSystem,

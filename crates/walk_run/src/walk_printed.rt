@@ -40,11 +40,9 @@ where
 {
     let mut gathered = room(alloc)?;
     let mut clean = true;
-    // begin loop
     while let Some(answer) = walk.next_on(rt) {
         clean &= print_one(answer, &mut gathered, out)?;
     }
-    // end loop
     write_rest(&mut gathered, out)?;
     Ok(clean)
 }

@@ -4,7 +4,6 @@ ghost use Rattle.jwalk_read.specs.Job.{callback};
 
 use crate::dir_entry_iter::DirEntryIter;
 use jwalk_crew::pool::{Missed, Pool};
-use jwalk_readings::crew_reads::error_of;
 use read_parts::client_state::ClientState;
 use read_parts::dir_entry::DirEntry;
 use read_parts::error::Error;
@@ -95,13 +94,8 @@ where
             self.refused = false;
             return Some(Err(Error::memory()));
         }
-        match self.next_kept_on(rt) {
-            Ok(answer) => answer,
-            Err(missed) => {
-                self.stop();
-                Some(Err(error_of(missed)))
-            }
-        }
+        let came = self.next_kept_on(rt);
+        self.answer(came)
     }
 
     /// Appends up to `n` answers to `out`, like [`fill`](DirEntryIter::fill), with threads of this runtime to read the

@@ -11,8 +11,5 @@ invariant-loop-answer g l =
       so_far : PrintsSoFar (Answers g.S.FileSystem g.P.ProcessReadDir g.C.ReadDirState.Clone g.C.DirEntryState.Default g.L.Pool) l.fn.walk l.walk (g.W.Write.contents l.fn.out) (append_known (g.W.Write.contents l.out) l.gathered.items) l.clean;
     }
 
--- begin measure
 abbrev pub decreases-loop-answer : goal.decreases-loop-answer
 decreases-loop-answer g l = weight_of l.walk
-
--- end measure
