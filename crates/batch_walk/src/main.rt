@@ -13,10 +13,7 @@ fn main(rt: HostRuntime) -> anyhow::Result<()> {
         .into_iter();
     // end walk
     // begin loop
-    for _ in 0..u64::MAX {
-        let Some(answer) = walk.next() else {
-            break;
-        };
+    while let Some(answer) = walk.next_on(&rt) {
         println!(rt; "{}", answer?.path()?)?;
     }
     // end loop

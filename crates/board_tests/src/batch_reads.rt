@@ -3,6 +3,7 @@ use crate::given::{self, Refusing, States, push_names, roots_of};
 use jwalk_engine::batch_reads::BatchReads;
 use jwalk_read::job::Job;
 use jwalk_read::read_dir::Outcome;
+use read_parts::options::Options;
 use read_parts::process_read_dir::NoProcess;
 use std::alloc::{AllocError, Global};
 use std::thread::Threads;
@@ -34,7 +35,7 @@ fn walk(alloc: Global, fs: &Refusing, width: usize) -> Option<Walk<'_>> {
     if width == 0 {
         return None;
     }
-    let job = Job::new(alloc, fs, NoProcess, true, true, false, usize::MAX);
+    let job = Job::new(alloc, fs, NoProcess, Options::new().with_sort(true));
     let roots = roots_of(&job, "/r")?;
     BatchReads::try_new(alloc, job, roots, width).ok()
 }
@@ -54,7 +55,10 @@ fn next(
 ) -> Result<Option<Outcome<States, Global>>, AllocError> {
     match by {
         By::Turn => walk.read_next(),
-        By::Threads => walk.read_next_on(rt),
+        By::Threads => {
+            walk.prepare_on(rt)?;
+            walk.read_next()
+        }
     }
 }
 

@@ -39,7 +39,7 @@ fn options() -> Options {
 }
 
 fn job_by(alloc: Global, fs: &Refusing, options: Options) -> Option<Arc<TreeJob<'_>>> {
-    Arc::new(alloc, Job::with_options(alloc, fs, NoProcess, options)).ok()
+    Arc::new(alloc, Job::new(alloc, fs, NoProcess, options)).ok()
 }
 
 // Messages.
@@ -313,7 +313,7 @@ fn root_has_list_of_directory(job: &TreeJob<'_>, ancestors: &Ancestors) -> Optio
 /// Whether both have the list of the root's path alone.
 fn root_is_its_own_ancestor(alloc: Global, root: &Ancestors) -> Option<bool> {
     let fs = tree(alloc, "")?;
-    let job = Job::with_options(alloc, &fs, NoProcess, options().with_follow_links(true));
+    let job = Job::new(alloc, &fs, NoProcess, options().with_follow_links(true));
     root_has_list_of_directory(&job, root)
 }
 

@@ -17,6 +17,7 @@ use jwalk_read::read_dir::ReadDir;
 use memory_fs::memory_fs::MemoryFs;
 use read_parts::client_state::ClientState;
 use read_parts::error::Error;
+use read_parts::options::Options;
 use read_parts::process_read_dir::{NoProcess, ProcessReadDir};
 use read_parts::read_dir_spec::ReadDirSpec;
 use std::alloc::{Allocator, Global};
@@ -34,7 +35,7 @@ fn tree(alloc: Global) -> Option<MemoryFs> {
 type TreeJob<'f> = Job<States, &'f MemoryFs, NoProcess>;
 
 fn job_of(alloc: Global, fs: &MemoryFs) -> TreeJob<'_> {
-    Job::new(alloc, fs, NoProcess, true, true, false, usize::MAX)
+    Job::new(alloc, fs, NoProcess, Options::new().with_sort(true))
 }
 
 /// What a job's rehearsal promises, in a job's own words. Over a steady job, however its workers take turns, the

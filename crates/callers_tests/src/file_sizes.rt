@@ -94,7 +94,7 @@ fn sized_by_crew<R: Host>(rt: &R, fs: MemoryFs, root: &str) -> Result<String, Al
     };
     // begin with-sizes
     let sizes = WithSizes::new(fs.clone()?);
-    let walk = WalkDirGeneric::<((), Size), _, _, _, _, _>::with_crew(fs, root)
+    let walk = WalkDirGeneric::<((), Size), _, _, _, _>::with_crew(fs, root)
         .sort(true)
         .parallelism(by_crew)
         .process_read_dir(sizes);

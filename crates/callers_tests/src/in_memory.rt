@@ -42,7 +42,7 @@ fn a_tree_in_memory(rt: HostRuntime) {
 fn shows_on_threads<R: Host>(rt: &R, wanted: &str) -> Result<bool, BuildError> {
     let alloc = rt.alloc();
     let (fs, root) = small(alloc)?;
-    let found = walk_tree_on_threads(alloc, rt.clone()?, fs, root)?;
+    let found = walk_tree_on_threads(alloc, rt, fs, root)?;
     Ok(are_lines(alloc, found.as_slice(), wanted))
 }
 
@@ -142,7 +142,7 @@ fn shows_while_busy<R: Host>(rt: &R, wanted: &str) -> Result<bool, BuildError> {
         busy_timeout: None,
     };
     let (fs, root) = small(alloc)?;
-    let other = WalkDirGeneric::<((), ()), _, _, _, _, _>::with_crew(fs, root)
+    let other = WalkDirGeneric::<((), ()), _, _, _, _>::with_crew(fs, root)
         .parallelism(by_crew)
         .try_into_iter();
     let is_shown = shows_unless_busy(alloc, pool, wanted)?;

@@ -1,6 +1,6 @@
 //! Readings by a pool of one's own, by the functions of `proved_walk`.
 use jwalk::file_system::MemoryFs;
-use jwalk::read_dir::{Job, NoProcess};
+use jwalk::read_dir::{Job, NoProcess, Options};
 use proved_walk::own_pool::read_all_when_asked;
 use std::alloc::Global;
 use walk_fixtures::answers::{Answer, are_lines};
@@ -8,7 +8,7 @@ use walk_fixtures::trees::{GROUPED, tree};
 
 /// The lists of all readings from a root on, by name and without hidden names, one list behind the other.
 fn found_below(alloc: Global, fs: MemoryFs, root: &str) -> Option<Vec<Answer>> {
-    let job = Job::new(alloc, fs, NoProcess, true, true, false, usize::MAX);
+    let job = Job::new(alloc, fs, NoProcess, Options::new().with_sort(true));
     let roots = job.root_list(root, ()).ok()?.read_children_specs().ok()?;
     let mut found = Vec::new(alloc);
     for read in read_all_when_asked(job, roots).ok()? {

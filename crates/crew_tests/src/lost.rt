@@ -5,7 +5,7 @@ use crew_parts::wanted::Wanted;
 use jwalk::board::Board;
 use jwalk::file_system::FileSystem;
 use jwalk::ordered::Ordered;
-use jwalk::read_dir::{Job, NoProcess, ReadDirSpec};
+use jwalk::read_dir::{Job, NoProcess, Options, ReadDirSpec};
 use jwalk::read_dir_iter::ReadDirIter;
 use jwalk::{DirEntryIter, Error};
 use jwalk_crew::pool::{Missed, Pool};
@@ -54,7 +54,7 @@ impl<'f, S: FileSystem> Pool<States, &'f S, NoProcess, Global> for Prepared<'f, 
 const TWO_ROOTS: &[Step] = &[Step::Dir("/r"), Step::Dir("/r/a"), Step::Dir("/s")];
 
 fn job_over<S: FileSystem>(alloc: Global, fs: &S) -> TreeJob<'_, S> {
-    Job::new(alloc, fs, NoProcess, true, true, false, usize::MAX)
+    Job::new(alloc, fs, NoProcess, Options::new().with_sort(true))
 }
 
 /// The directory at a root.

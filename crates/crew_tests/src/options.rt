@@ -128,7 +128,7 @@ fn a_for_loop_over_a_walk(rt: HostRuntime) {
 }
 
 #[test]
-fn a_walk_that_has_threads_of_its_own_too(rt: HostRuntime) {
+fn a_walk_whose_calls_may_use_threads_too(rt: HostRuntime) {
     const ACTS: &[Act<'static>] = &[Act::Answers(Taken::OnThreads, BY_CREW, ALL)];
     assert_eq!(rt; first_wrong(&rt, &TWO_WORKERS, ACTS), None);
 }

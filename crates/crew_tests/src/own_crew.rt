@@ -5,7 +5,6 @@ use crate::crewed::States;
 use jwalk::crew::Session;
 use jwalk::file_system::{BuildError, FileSystem, MemoryFs};
 use jwalk::read_dir::{NoProcess, ProcessReadDir};
-use jwalk::threads::InTurn;
 use jwalk::{Crew, DirEntryIter, WalkDirGeneric};
 use std::alloc::{AllocError, Global};
 use walk_fixtures::answers::{Answer, are_lines};
@@ -20,7 +19,6 @@ type Walk<R> = DirEntryIter<
     MemoryFs,
     NoProcess,
     Global,
-    InTurn,
     Session<R, States, MemoryFs, NoProcess>,
 >;
 
@@ -215,8 +213,7 @@ fn first_two<
     R: jwalk::Host,
     S: FileSystem + Send + Sync + 'static,
     P: ProcessReadDir<((), ()), Global> + Send + Sync + 'static,
-    T: Drop,
->(walk: WalkDirGeneric<((), ()), S, P, Global, T, Crew<R>>) -> (Option<Answer>, Option<Answer>)
+>(walk: WalkDirGeneric<((), ()), S, P, Global, Crew<R>>) -> (Option<Answer>, Option<Answer>)
     requires { P.IsLawful (callback_of walk) }
 {
     let mut walk = walk.into_iter();

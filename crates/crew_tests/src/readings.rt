@@ -2,9 +2,8 @@
 use crate::crewed::{Stand, States};
 use jwalk::crew::Session;
 use jwalk::file_system::FileSystem;
-use jwalk::read_dir::{Job, NoProcess};
+use jwalk::read_dir::{Job, NoProcess, Options};
 use jwalk::read_dir_iter::ReadDirIter;
-use jwalk::threads::InTurn;
 use jwalk::{Error, Parallelism, Pool};
 use std::alloc::{AllocError, Global};
 use std::sync::Arc;
@@ -14,7 +13,7 @@ use walk_fixtures::trees::{FORKED, tree};
 use walk_ways::width::Width;
 
 /// Readings over some file system that some pool may give.
-type PoolReads<S, L> = ReadDirIter<States, S, NoProcess, Global, InTurn, L>;
+type PoolReads<S, L> = ReadDirIter<States, S, NoProcess, Global, L>;
 
 /// Readings that a crew may make.
 type Reads<R, S> = PoolReads<Arc<S>, Session<R, States, Arc<S>, NoProcess>>;
@@ -33,17 +32,9 @@ fn tried<R: Host, S: FileSystem + Send + Sync + 'static>(
             busy_timeout: Some(Duration::from_millis(0)),
         },
     };
-    let job: Job<States, Arc<S>, NoProcess> = Job::new(
-        stand.alloc,
-        fs,
-        NoProcess,
-        false,
-        true,
-        false,
-        usize::MAX,
-    );
+    let job: Job<States, Arc<S>, NoProcess> = Job::new(stand.alloc, fs, NoProcess, Options::new());
     let roots = job.root_list("/r", ())?.read_children_specs()?;
-    Ok(ReadDirIter::try_with_crew(InTurn, job, roots, parallelism))
+    Ok(ReadDirIter::try_with_crew(job, roots, parallelism))
 }
 
 /// Whether seven readings come, and then none.

@@ -13,7 +13,7 @@ fn main(rt: HostRuntime) -> anyhow::Result<()> {
     };
     // begin walk
     let crew = Arc::new(rt.alloc(), Crew::new(rt.clone()?, 1, 4))?;
-    let walk = WalkDirGeneric::<((), ()), _, _, _, _, _>::with_crew(RealFs::new(rt.clone()?), root)
+    let walk = WalkDirGeneric::<((), ()), _, _, _, _>::with_crew(RealFs::new(rt.clone()?), root)
         .sort(true)
         .parallelism(Parallelism::RayonExistingPool {
             pool: crew.clone()?,

@@ -1,7 +1,6 @@
 //! Walks that a crew reads for, over one file system that tests look at too.
 use jwalk::file_system::FileSystem;
 use jwalk::read_dir::{NoProcess, ProcessReadDir};
-use jwalk::threads::InTurn;
 use jwalk::{Crew, Parallelism, WalkDirGeneric};
 use std::alloc::{AllocError, Global};
 use std::sync::Arc;
@@ -10,7 +9,7 @@ use walk_fixtures::host::Host;
 use walk_ways::ways::{Setting, all_of, with_all};
 
 /// A walk yet to begin that a crew is to read for.
-pub type CrewWalk<R, S> = WalkDirGeneric<((), ()), Arc<S>, NoProcess, Global, InTurn, Crew<R>>;
+pub type CrewWalk<R, S> = WalkDirGeneric<((), ()), Arc<S>, NoProcess, Global, Crew<R>>;
 
 /// A walk that is asked for: its root in a file system, and its options.
 #[derive(Drop)]

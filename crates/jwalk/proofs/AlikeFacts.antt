@@ -28,9 +28,9 @@ pub stateless_however_read : (p : Parallelism) (fs : Functions) (options : Optio
 unfolding whole_walk
 stateless_however_read p fs options root = refl
 
-module _ {C S P A T U V W L M R E : Type 0} (files : FileSystem.Ghosts S) (process : ProcessReadDir.Ghosts P C A R E) (clone : Clone.Ghosts R) (defaults : Default.Ghosts E) (pool : Pool.Ghosts L C S P A R E) (others : Pool.Ghosts M C S P A R E) (given : Given R E) where
+module _ {C S P A V W L M R E : Type 0} (files : FileSystem.Ghosts S) (process : ProcessReadDir.Ghosts P C A R E) (clone : Clone.Ghosts R) (defaults : Default.Ghosts E) (pool : Pool.Ghosts L C S P A R E) (others : Pool.Ghosts M C S P A R E) (given : Given R E) where
   -- Two walks have the same to come if they begin with the root's list, over what is steady, and their builders differ only in how directories are read. So they yield the same, call by call, as long as neither says that memory ran out (`same_answer`).
-  pub same_start : (walk : WalkDirGeneric C S P A T V R E) (it : DirEntryIter C S P A T L R E) (other : WalkDirGeneric C S P A U W R E) (its : DirEntryIter C S P A U M R E) → Starts walk it → Starts other its → Holds files process clone defaults walk it → Holds files process clone defaults other its → IsSteady files process clone defaults (file_system_of walk) (callback_of walk) given
+  pub same_start : (walk : WalkDirGeneric C S P A V R E) (it : DirEntryIter C S P A L R E) (other : WalkDirGeneric C S P A W R E) (its : DirEntryIter C S P A M R E) → Starts walk it → Starts other its → Holds files process clone defaults walk it → Holds files process clone defaults other its → IsSteady files process clone defaults (file_system_of walk) (callback_of walk) given
       → file_system_of other ≡ file_system_of walk → callback_of other ≡ callback_of walk → root_of other ≡ root_of walk → state_of other ≡ state_of walk → (p : Parallelism) → options_of other ≡ with_parallelism p (options_of walk) → to_come files given it ≡ to_come files given its
   same_start walk it other its starts begins holds held steady fs by root state p options =
       let steadily : IsSteady files process clone defaults (file_system_of other) (callback_of other) given = rw (fs, by) steady in

@@ -44,7 +44,7 @@ pub fails_by : (Told : Type 0) (why_not : NotStarted) (f : Failure) → f ≡ st
 fails_by Told Busy f is told = inr (is, told refl)
 fails_by Told Memory f is told = inl is
 
-module _ {C S P A T W L R E : Type 0} (files : FileSystem.Ghosts S) (process : ProcessReadDir.Ghosts P C A R E) (clone : Clone.Ghosts R) (defaults : Default.Ghosts E) (walk : WalkDirGeneric C S P A T W R E) (it : DirEntryIter C S P A T L R E) where
+module _ {C S P A W L R E : Type 0} (files : FileSystem.Ghosts S) (process : ProcessReadDir.Ghosts P C A R E) (clone : Clone.Ghosts R) (defaults : Default.Ghosts E) (walk : WalkDirGeneric C S P A W R E) (it : DirEntryIter C S P A L R E) where
   -- what a job of the builder's file system and options makes of the builder's root
   same_root : (made : Job C S P A R E) → file_system made ≡ file_system_of walk → job.options_of made ≡ options_of walk → (given : Given R E) (path : List ℕ) → path ≡ root_of walk
       → root_list (job_by files given made) path (given.read_dir_state (state_of walk)) ≡ root_list (job_for files given walk) (root_of walk) (given.read_dir_state (state_of walk))

@@ -125,7 +125,7 @@ entries_free (Ok e ∷ xs) all = (λ is. is, entries_free xs all)
 entries_free (Err f ∷ xs) all = let no : false ≡ true = all in absurd cc
 
 -- what a walk holds whose crew was busy, by value
-pub busy_by_value : {C S P A T W L R E : Type 0} (files : FileSystem.Ghosts S) (process : ProcessReadDir.Ghosts P C A R E) (clone : Clone.Ghosts R) (defaults : Default.Ghosts E) (walk : WalkDirGeneric C S P A T W R E) (it : DirEntryIter C S P A T L R E) → HoldsBusy files process clone defaults walk it → (given : Given R E) → IsSteady files process clone defaults (file_system_of walk) (callback_of walk) given
+pub busy_by_value : {C S P A W L R E : Type 0} (files : FileSystem.Ghosts S) (process : ProcessReadDir.Ghosts P C A R E) (clone : Clone.Ghosts R) (defaults : Default.Ghosts E) (walk : WalkDirGeneric C S P A W R E) (it : DirEntryIter C S P A L R E) → HoldsBusy files process clone defaults walk it → (given : Given R E) → IsSteady files process clone defaults (file_system_of walk) (callback_of walk) given
     → held_by given it ≡ map busy_pair (root_list (job_for files given walk) (root_of walk) (given.read_dir_state (state_of walk))).list
 busy_by_value files process clone defaults walk it left given steady =
     counted_held given it.refused (items_of it) (unread_of it)
@@ -133,7 +133,7 @@ busy_by_value files process clone defaults walk it left given steady =
     ∙ counted_busy given left.list
     ∙ ap (map busy_pair) (left.value given steady)
 
-module _ {C S P A T W L R E : Type 0} (files : FileSystem.Ghosts S) (process : ProcessReadDir.Ghosts P C A R E) (clone : Clone.Ghosts R) (defaults : Default.Ghosts E) (pool : Pool.Ghosts L C S P A R E) (given : Given R E) (walk : WalkDirGeneric C S P A T W R E) (it : DirEntryIter C S P A T L R E) (xs : List (Result (DirEntry C A R E) (Error A))) where
+module _ {C S P A W L R E : Type 0} (files : FileSystem.Ghosts S) (process : ProcessReadDir.Ghosts P C A R E) (clone : Clone.Ghosts R) (defaults : Default.Ghosts E) (pool : Pool.Ghosts L C S P A R E) (given : Given R E) (walk : WalkDirGeneric C S P A W R E) (it : DirEntryIter C S P A L R E) (xs : List (Result (DirEntry C A R E) (Error A))) where
   answered_unless : (why_not : Option NotStarted) → HoldsUnless files process clone defaults why_not walk it → Starts walk it → IsSteady files process clone defaults (file_system_of walk) (callback_of walk) given → NoneRefused xs → NoneBusy xs → to_come files given it ≡ counted_list given xs
       → counted_list given xs ≡ whole_walk (job_for files given walk) (root_of walk) (given.read_dir_state (state_of walk))
   answered_unless None holds starts steady none free came = answered_whole files process clone defaults pool given walk it xs starts (inr holds) steady none came
@@ -154,7 +154,7 @@ module _ {C S P A T W L R E : Type 0} (files : FileSystem.Ghosts S) (process : P
   whole_unless_busy why_not held steadily starts steady drains none free = answered_unless why_not held starts steady none free (all_answered files process clone defaults pool given xs it steadily drains none)
 
   -- So did a call of `fill` into an empty vector, which holds fewer items then than were asked for.
-  pub filled_unless_busy : (why_not : Option NotStarted) (new : DirEntryIter C S P A T L R E) (n k : ℕ) (before : List (Result (DirEntry C A R E) (Error A))) → HoldsUnless files process clone defaults why_not walk it → IsSteadyWalk files process clone defaults pool it given → Starts walk it → IsSteady files process clone defaults (file_system_of walk) (callback_of walk) given → Fills files process clone defaults pool n it before (Ok k) xs new → before ≡ [] → length xs < n → NoneRefused xs → NoneBusy xs
+  pub filled_unless_busy : (why_not : Option NotStarted) (new : DirEntryIter C S P A L R E) (n k : ℕ) (before : List (Result (DirEntry C A R E) (Error A))) → HoldsUnless files process clone defaults why_not walk it → IsSteadyWalk files process clone defaults pool it given → Starts walk it → IsSteady files process clone defaults (file_system_of walk) (callback_of walk) given → Fills files process clone defaults pool n it before (Ok k) xs new → before ≡ [] → length xs < n → NoneRefused xs → NoneBusy xs
       → counted_list given xs ≡ whole_walk (job_for files given walk) (root_of walk) (given.read_dir_state (state_of walk))
   filled_unless_busy why_not new n k before held steadily starts steady fills empty fewer none free = answered_unless why_not held starts steady none free (filled_came files process clone defaults pool given it new n k before xs steadily fills empty fewer none)
 

@@ -29,7 +29,7 @@ use Rattle.jwalk_readings.specs.CrewReads as reads_by
 use Rattle.jwalk_readings.specs.declared.crew_reads.CrewReads.{CrewReads}
 use Rattle.jwalk_readings.specs.ReadDirIter as readings
 use Rattle.jwalk_readings.specs.declared.read_dir_iter.ReadDirIter.{ReadDirIter}
-use Rattle.jwalk_readings.specs.declared.read_dir_iter.ReadDirIter.TheVariants.{Walk, ParWalk, CrewWalk}
+use Rattle.jwalk_readings.specs.declared.read_dir_iter.ReadDirIter.TheVariants.{Walk, CrewWalk}
 use Rattle.jwalk_entries.specs.declared.dir_entry_iter.DirEntryIter.{DirEntryIter}
 use Rattle.jwalk_readings.proofs.CrewSteadyFacts.{starts_steady}
 use Rattle.jwalk_entries.proofs.PlacedFacts.{list_placed, unread_placed}
@@ -74,48 +74,47 @@ module _ {R E : Type 0} where
   busy_pairs [] = refl
   busy_pairs (x ∷ l) = ap (λ t. busy_pair x ∷ t) (busy_pairs l)
 
-width_by : {C S P A T L R E : Type 0} (reads : ReadDirIter C S P A T L R E) → readings.by_crew reads ≡ true → readings.width_of reads ≡ 1
+width_by : {C S P A L R E : Type 0} (reads : ReadDirIter C S P A L R E) → readings.by_crew reads ≡ true → readings.width_of reads ≡ 1
 width_by (Walk walk) by = absurd cc
-width_by (ParWalk walk threads) by = absurd cc
 width_by (CrewWalk reads) by = refl
 
-module _ {C S P A T L R E : Type 0} where
-  holds_started : (it : DirEntryIter C S P A T L R E) → is_refused it ≡ false → held it ≡ pair_up (items_of it) (unread_of it)
+module _ {C S P A L R E : Type 0} where
+  holds_started : (it : DirEntryIter C S P A L R E) → is_refused it ≡ false → held it ≡ pair_up (items_of it) (unread_of it)
   holds_started it started = rw started refl
 
-  holds_refusal : (it : DirEntryIter C S P A T L R E) → is_refused it ≡ true → items_of it ≡ [] → held it ≡ record { item = Err memory; source = nothing } ∷ []
+  holds_refusal : (it : DirEntryIter C S P A L R E) → is_refused it ≡ true → items_of it ≡ [] → held it ≡ record { item = Err memory; source = nothing } ∷ []
   holds_refusal it refused none = held_refused it refused ∙ ap (λ l. record { item = Err memory; source = nothing } ∷ pair_up l (unread_of it)) none
 
-  refusal_sourced : (it : DirEntryIter C S P A T L R E) → is_refused it ≡ true → items_of it ≡ [] → unread_of it ≡ [] → IsSourced it
+  refusal_sourced : (it : DirEntryIter C S P A L R E) → is_refused it ≡ true → items_of it ≡ [] → unread_of it ≡ [] → IsSourced it
   refusal_sourced it refused none nothing_unread =
       let alone = holds_refusal it refused none in
       record { each = rw alone (refl, tt); unread = nothing_unread ∙ sym (ap sources alone) }
 
   module _ (clone : Clone.Ghosts R) where
     -- what it holds is at the root's depth
-    pub begun_depth : (read : Option (Reading R E)) (why_not : Option NotStarted) (it : DirEntryIter C S P A T L R E) → IfSome read (λ r. AtDepth 0 r.list) → IsBegun clone read why_not it → AtDepth 0 (items_of it)
+    pub begun_depth : (read : Option (Reading R E)) (why_not : Option NotStarted) (it : DirEntryIter C S P A L R E) → IfSome read (λ r. AtDepth 0 r.list) → IsBegun clone read why_not it → AtDepth 0 (items_of it)
     begun_depth None why_not it depth begun = rw begun.2 tt
     begun_depth (Some r) why_not it depth begun = rw begun.1 (left_depth why_not r.list depth)
 
     -- and what is to be read are its directories
-    pub begun_sourced : (read : Option (Reading R E)) (why_not : Option NotStarted) (it : DirEntryIter C S P A T L R E) → IsBegun clone read why_not it → IsSourced it
+    pub begun_sourced : (read : Option (Reading R E)) (why_not : Option NotStarted) (it : DirEntryIter C S P A L R E) → IsBegun clone read why_not it → IsSourced it
     begun_sourced None why_not it begun = refusal_sourced it begun.1 begun.2 begun.3
     begun_sourced (Some r) None it begun = list_sourced clone r it begun.0 begun.1 begun.2
     begun_sourced (Some r) (Some Busy) it begun = rest_sourced it begun.0 (ap length begun.2 ∙ sym (none_below r.list) ∙ ap directories (sym begun.1))
     begun_sourced (Some r) (Some Memory) it begun = refusal_sourced it begun.0 begun.1 begun.2
 
     -- where memory ran out, it holds only the error that says so
-    pub begun_refused : (read : Option (Reading R E)) (it : DirEntryIter C S P A T L R E) → IsBegun clone read (Some Memory) it → IsRefused it
+    pub begun_refused : (read : Option (Reading R E)) (it : DirEntryIter C S P A L R E) → IsBegun clone read (Some Memory) it → IsRefused it
     begun_refused None it begun = record { tells = holds_refusal it begun.1 begun.2; nothing_unread = begun.3 }
     begun_refused (Some r) it begun = record { tells = holds_refusal it begun.0 begun.1; nothing_unread = begun.2 }
 
     -- where the readings began, it holds the root's list
-    pub begun_holds : (given : Given R E) (read : Option (Reading R E)) (it : DirEntryIter C S P A T L R E) → ClonesCount clone given → IsBegun clone read None it → IsSomeAnd read (λ r. held_by given it ≡ paired (counted_reading given r))
+    pub begun_holds : (given : Given R E) (read : Option (Reading R E)) (it : DirEntryIter C S P A L R E) → ClonesCount clone given → IsBegun clone read None it → IsSomeAnd read (λ r. held_by given it ≡ paired (counted_reading given r))
     begun_holds given None it counts begun = absurd (let no : ◌≡◌ {A = Option NotStarted} None (Some Memory) = begun.0 in cc)
     begun_holds given (Some r) it counts begun = holds_list clone r it given counts begun.0 begun.1 begun.2
 
     -- and where the crew was busy, the errors that report it in the place of entries with directories
-    pub begun_busy : (read : Option (Reading R E)) (it : DirEntryIter C S P A T L R E) → IfSome read (λ r. AtDepth 0 r.list) → IsBegun clone read (Some Busy) it → IsSomeAnd read (λ r. AtDepth 0 r.list × (held it ≡ map busy_pair r.list))
+    pub begun_busy : (read : Option (Reading R E)) (it : DirEntryIter C S P A L R E) → IfSome read (λ r. AtDepth 0 r.list) → IsBegun clone read (Some Busy) it → IsSomeAnd read (λ r. AtDepth 0 r.list × (held it ≡ map busy_pair r.list))
     begun_busy None it depth begun = absurd (let no : ◌≡◌ {A = Option NotStarted} (Some Busy) (Some Memory) = begun.0 in cc)
     begun_busy (Some r) it depth begun = (
       depth,
@@ -127,16 +126,16 @@ module _ {C S P A T L R E : Type 0} where
     )
 
     -- so it holds what it is to, by why its readings didn't begin
-    pub begun_list : (read : Option (Reading R E)) (why_not : Option NotStarted) (it : DirEntryIter C S P A T L R E) → IfSome read (λ r. AtDepth 0 r.list) → IsBegun clone read why_not it → HoldsList clone read why_not it
+    pub begun_list : (read : Option (Reading R E)) (why_not : Option NotStarted) (it : DirEntryIter C S P A L R E) → IfSome read (λ r. AtDepth 0 r.list) → IsBegun clone read why_not it → HoldsList clone read why_not it
     begun_list read None it depth begun = λ given counts. begun_holds given read it counts begun
     begun_list read (Some Busy) it depth begun = begun_busy read it depth begun
     begun_list read (Some Memory) it depth begun = begun_refused read it begun
 
   -- a crew's width is one
-  crew_width : (it : DirEntryIter C S P A T L R E) → by_crew it ≡ true → width_of it ≡ 1
+  crew_width : (it : DirEntryIter C S P A L R E) → by_crew it ≡ true → width_of it ≡ 1
   crew_width it by = width_by (reads_of it) by
 
-  module _ (clone : Clone.Ghosts R) (read : Option (Reading R E)) (begun : Job C S P A R E) (it : DirEntryIter C S P A T L R E) where
+  module _ (clone : Clone.Ghosts R) (read : Option (Reading R E)) (begun : Job C S P A R E) (it : DirEntryIter C S P A L R E) where
     -- a start at which memory ran out
     pub refused_from_root : by_crew it ≡ false → job_of it ≡ begun → is_refused it ≡ true → items_of it ≡ [] → unread_of it ≡ [] → width_of it ≡ options.width_of (options_of begun).parallelism → BeginsWith (unread_of it) (read_ahead it) → IsFromRoot clone read begun (Some Memory) it
     refused_from_root own job refused none nothing_unread width ahead =
@@ -190,7 +189,7 @@ some_and_map : {X Y : Type 0} (view : X → Y) (P : Y → Type 0) (o : Option X)
 some_and_map view P None h = h
 some_and_map view P (Some x) h = h
 
-pub held_of : {C S P A T L R E : Type 0} (given : Given R E) (read : Option (ReadDir C A R E)) (it : DirEntryIter C S P A T L R E) → IsSomeAnd read (λ r. held_by given it ≡ paired (counted_reading given (reading r))) → IsSomeAnd (option_map reading read) (λ r. held_by given it ≡ paired (counted_reading given r))
+pub held_of : {C S P A L R E : Type 0} (given : Given R E) (read : Option (ReadDir C A R E)) (it : DirEntryIter C S P A L R E) → IsSomeAnd read (λ r. held_by given it ≡ paired (counted_reading given (reading r))) → IsSomeAnd (option_map reading read) (λ r. held_by given it ≡ paired (counted_reading given r))
 held_of given read it h = some_and_map reading (λ r. held_by given it ≡ paired (counted_reading given r)) read h
 
 -- what is left of a root's list is paired with the directories that are to be read

@@ -42,22 +42,22 @@ abbrev pub IsToRead : {R E : Type 0} → Clone.Ghosts R → Reading R E → Opti
 IsToRead clone read None specs = AreClones clone.is_clone (children read) specs
 IsToRead clone read (Some why_not) specs = specs ≡ []
 
-module _ {C S P A T L R E : Type 0} (clone : Clone.Ghosts R) (read : Option (Reading R E)) where
+module _ {C S P A L R E : Type 0} (clone : Clone.Ghosts R) (read : Option (Reading R E)) where
   -- The walk holds what is left of a root's list. Without a list, memory ran out.
-  abbrev pub IsBegun : Option NotStarted → DirEntryIter C S P A T L R E → Type 0
+  abbrev pub IsBegun : Option NotStarted → DirEntryIter C S P A L R E → Type 0
   IsBegun why_not it =
       MatchOption read
       ((why_not ≡ Some Memory) × (is_refused it ≡ true) × (items_of it ≡ []) × (unread_of it ≡ []))
       (λ r. (is_refused it ≡ is_refusal why_not) × (items_of it ≡ left_of why_not r.list) × IsToRead clone r why_not (unread_of it))
 
   -- what it holds of the root's list, by why its readings didn't begin
-  abbrev pub HoldsList : Option NotStarted → DirEntryIter C S P A T L R E → Type 0
+  abbrev pub HoldsList : Option NotStarted → DirEntryIter C S P A L R E → Type 0
   HoldsList None it = (given : Given R E) → ClonesCount clone given → IsSomeAnd read (λ r. held_by given it ≡ paired (counted_reading given r))
   HoldsList (Some Busy) it = IsSomeAnd read (λ r. AtDepth 0 r.list × (held it ≡ map busy_pair r.list))
   HoldsList (Some Memory) it = IsRefused it
 
   -- The walk of a job that begins with a root's list. It holds no entry that is too deep, and what it has to read are the directories of what it holds. Where no crew reads, only these are queued, in order, and none is read yet. Only a walk that a crew is to read for finds the crew busy.
-  pub record IsFromRoot (begun : Job C S P A R E) (why_not : Option NotStarted) (it : DirEntryIter C S P A T L R E) : Type 0 where
+  pub record IsFromRoot (begun : Job C S P A R E) (why_not : Option NotStarted) (it : DirEntryIter C S P A L R E) : Type 0 where
     pub job : job_of it ≡ begun
     pub within : IsWithin it
     pub sourced : IsSourced it

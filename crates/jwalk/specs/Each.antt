@@ -13,15 +13,15 @@ use Rattle.jwalk_entries.specs.DirEntryIter.{by_crew, IsRefused, StartsSteady}
 use Rattle.jwalk.specs.declared.walk_dir.WalkDirGeneric.{WalkDirGeneric}
 use Rattle.jwalk.specs.WalkDir.{Starts, Holds, Begins}
 
-module _ {C S P A T W L R E : Type 0} (files : FileSystem.Ghosts S) (process : ProcessReadDir.Ghosts P C A R E) (clone : Clone.Ghosts R) (defaults : Default.Ghosts E) where
+module _ {C S P A W L R E : Type 0} (files : FileSystem.Ghosts S) (process : ProcessReadDir.Ghosts P C A R E) (clone : Clone.Ghosts R) (defaults : Default.Ghosts E) where
   -- The walk of a builder that has no crew, as `into_iter` begins it.
-  pub record BeginsAlone (walk : WalkDirGeneric C S P A T W R E) (it : DirEntryIter C S P A T L R E) : Type 0 where
+  pub record BeginsAlone (walk : WalkDirGeneric C S P A W R E) (it : DirEntryIter C S P A L R E) : Type 0 where
     pub own : by_crew it ≡ false
     pub starts : Starts walk it
     pub holds : IsRefused it ⊎ Holds files process clone defaults walk it
 
   -- The walk of a builder over a crew, as `into_iter` begins it.
-  pub record BeginsOver (pool : Pool.Ghosts L C S P A R E) (walk : WalkDirGeneric C S P A T W R E) (it : DirEntryIter C S P A T L R E) : Type 0 where
+  pub record BeginsOver (pool : Pool.Ghosts L C S P A R E) (walk : WalkDirGeneric C S P A W R E) (it : DirEntryIter C S P A L R E) : Type 0 where
     pub starts : Starts walk it
     pub begins : (why_not : _) × Begins files process clone defaults walk why_not it
     pub steady : StartsSteady files process clone defaults pool it

@@ -52,27 +52,27 @@ stateless = record {
   new_entry = blank;
 }
 
-module _ {C S P A T W R E : Type 0} where
-  abbrev pub file_system_of : WalkDirGeneric C S P A T W R E → S
+module _ {C S P A W R E : Type 0} where
+  abbrev pub file_system_of : WalkDirGeneric C S P A W R E → S
   file_system_of walk = walk.fs
 
-  abbrev pub callback_of : WalkDirGeneric C S P A T W R E → P
+  abbrev pub callback_of : WalkDirGeneric C S P A W R E → P
   callback_of walk = walk.process
 
   -- the root's path
-  abbrev pub root_of : WalkDirGeneric C S P A T W R E → List ℕ
+  abbrev pub root_of : WalkDirGeneric C S P A W R E → List ℕ
   root_of walk = string_bytes walk.root
 
   -- the state that the root's list is given
-  abbrev pub state_of : WalkDirGeneric C S P A T W R E → R
+  abbrev pub state_of : WalkDirGeneric C S P A W R E → R
   state_of walk = walk.root_read_dir_state
 
   -- the options
-  abbrev pub options_of : WalkDirGeneric C S P A T W R E → Options
+  abbrev pub options_of : WalkDirGeneric C S P A W R E → Options
   options_of walk = options_value walk.options
 
   -- One call of the builder: it changes only the options.
-  pub record Sets (set : Options) (old new : WalkDirGeneric C S P A T W R E) : Type 0 where
+  pub record Sets (set : Options) (old new : WalkDirGeneric C S P A W R E) : Type 0 where
     pub options : options_of new ≡ set
     pub file_system : file_system_of new ≡ file_system_of old
     pub callback : callback_of new ≡ callback_of old
@@ -81,7 +81,7 @@ module _ {C S P A T W R E : Type 0} where
     pub crew : new.crew ≡ old.crew
 
   -- A call of the builder that changes only how directories are read: the option, and the crew that is to read.
-  pub record SetsParallelism (set : Parallelism W A) (old new : WalkDirGeneric C S P A T W R E) : Type 0 where
+  pub record SetsParallelism (set : Parallelism W A) (old new : WalkDirGeneric C S P A W R E) : Type 0 where
     pub options : options_of new ≡ with_parallelism (parallelism_value set) (options_of old)
     pub crew : new.crew ≡ crew_of set
     pub file_system : file_system_of new ≡ file_system_of old
@@ -90,7 +90,7 @@ module _ {C S P A T W R E : Type 0} where
     pub state : state_of new ≡ state_of old
 
   -- A call of the builder that changes only the root's state.
-  pub record SetsState (set : R) (old new : WalkDirGeneric C S P A T W R E) : Type 0 where
+  pub record SetsState (set : R) (old new : WalkDirGeneric C S P A W R E) : Type 0 where
     pub state : state_of new ≡ set
     pub options : options_of new ≡ options_of old
     pub file_system : file_system_of new ≡ file_system_of old
@@ -99,7 +99,7 @@ module _ {C S P A T W R E : Type 0} where
     pub crew : new.crew ≡ old.crew
 
   -- what its readings are made of, over a fixed file system and what is given
-  abbrev pub job_for : FileSystem.Ghosts S → Given R E → WalkDirGeneric C S P A T W R E → Job Worth Worth
+  abbrev pub job_for : FileSystem.Ghosts S → Given R E → WalkDirGeneric C S P A W R E → Job Worth Worth
   job_for files given walk = record {
     fs = files.functions (file_system_of walk);
     options = options_of walk;
@@ -108,7 +108,7 @@ module _ {C S P A T W R E : Type 0} where
   }
 
   -- A walk that begins, whatever its file system returns. It is over the builder's file system, callback and options, and no entry it holds is too deep. What it has to read are the directories of what it holds, as many together as the options say. Where no crew reads, only these are queued, in order, and none is read yet. It holds a list of the root's depth, or the error that says that memory ran out at the start.
-  pub record Starts {L : Type 0} (walk : WalkDirGeneric C S P A T W R E) (it : DirEntryIter C S P A T L R E) : Type 0 where
+  pub record Starts {L : Type 0} (walk : WalkDirGeneric C S P A W R E) (it : DirEntryIter C S P A L R E) : Type 0 where
     pub file_system : file_system (job_of it) ≡ file_system_of walk
     pub callback : callback (job_of it) ≡ callback_of walk
     pub options : job.options_of (job_of it) ≡ options_of walk
@@ -119,7 +119,7 @@ module _ {C S P A T W R E : Type 0} where
     pub ahead : iter.by_crew it ≡ false → BeginsWith (iter.unread_of it) (iter.read_ahead it)
 
 -- A call of the builder that makes room for a crew, and changes nothing else.
-pub record SetsCrew {C S P A T V W R E : Type 0} (old : WalkDirGeneric C S P A T V R E) (new : WalkDirGeneric C S P A T W R E) : Type 0 where
+pub record SetsCrew {C S P A V W R E : Type 0} (old : WalkDirGeneric C S P A V R E) (new : WalkDirGeneric C S P A W R E) : Type 0 where
   pub options : options_of new ≡ options_of old
   pub file_system : file_system_of new ≡ file_system_of old
   pub callback : callback_of new ≡ callback_of old
@@ -127,7 +127,7 @@ pub record SetsCrew {C S P A T V W R E : Type 0} (old : WalkDirGeneric C S P A T
   pub state : state_of new ≡ state_of old
 
 -- A call of the builder that has a crew of the walk's own read it, and changes nothing else. The crew has this many threads, and 0 leaves their number open; the walk waits for its place without limit.
-pub record SetsWorkers {H C S P A T V R E : Type 0} (count : ℕ) (old : WalkDirGeneric C S P A T V R E) (new : WalkDirGeneric C S P A T (Crew H) R E) : Type 0 where
+pub record SetsWorkers {H C S P A V R E : Type 0} (count : ℕ) (old : WalkDirGeneric C S P A V R E) (new : WalkDirGeneric C S P A (Crew H) R E) : Type 0 where
   pub options : options_of new ≡ with_parallelism crew (options_of old)
   pub threads : IsSomeAnd new.crew (λ own. 0 < count → workers_of (arc_value own.0) ≡ min count 256)
   pub limit : IsSomeAnd new.crew (λ own. own.1 ≡ None)
@@ -137,7 +137,7 @@ pub record SetsWorkers {H C S P A T V R E : Type 0} (count : ℕ) (old : WalkDir
   pub state : state_of new ≡ state_of old
 
 -- A call of the builder that changes the types of the states, of a walk without a callback. The root's state is a default then, and nothing else changes.
-pub record SetsStates {C D S A T W R E Q F : Type 0} (is_default : Q → Type 0) (old : WalkDirGeneric C S NoProcess A T W R E) (new : WalkDirGeneric D S NoProcess A T W Q F) : Type 0 where
+pub record SetsStates {C D S A W R E Q F : Type 0} (is_default : Q → Type 0) (old : WalkDirGeneric C S NoProcess A W R E) (new : WalkDirGeneric D S NoProcess A W Q F) : Type 0 where
   pub state : is_default (state_of new)
   pub options : options_of new ≡ options_of old
   pub file_system : file_system_of new ≡ file_system_of old
@@ -145,7 +145,7 @@ pub record SetsStates {C D S A T W R E Q F : Type 0} (is_default : Q → Type 0)
   pub crew : new.crew ≡ old.crew
 
 -- A call of the builder that replaces the walk's callback, and changes nothing else.
-pub record SetsCallback {C S P Q A T W R E : Type 0} (process : Q) (old : WalkDirGeneric C S P A T W R E) (new : WalkDirGeneric C S Q A T W R E) : Type 0 where
+pub record SetsCallback {C S P Q A W R E : Type 0} (process : Q) (old : WalkDirGeneric C S P A W R E) (new : WalkDirGeneric C S Q A W R E) : Type 0 where
   pub callback : callback_of new ≡ process
   pub options : options_of new ≡ options_of old
   pub file_system : file_system_of new ≡ file_system_of old
@@ -153,23 +153,14 @@ pub record SetsCallback {C S P Q A T W R E : Type 0} (process : Q) (old : WalkDi
   pub state : state_of new ≡ state_of old
   pub crew : new.crew ≡ old.crew
 
--- A call of the builder that replaces the walk's threads, and changes nothing else.
-pub record SetsThreads {C S P A T U W R E : Type 0} (old : WalkDirGeneric C S P A T W R E) (new : WalkDirGeneric C S P A U W R E) : Type 0 where
-  pub options : options_of new ≡ options_of old
-  pub file_system : file_system_of new ≡ file_system_of old
-  pub callback : callback_of new ≡ callback_of old
-  pub root : root_of new ≡ root_of old
-  pub state : state_of new ≡ state_of old
-  pub crew : new.crew ≡ old.crew
-
-module _ {C S P A T W L R E : Type 0} (files : FileSystem.Ghosts S) (process : ProcessReadDir.Ghosts P C A R E) (clone : Clone.Ghosts R) (defaults : Default.Ghosts E) where
+module _ {C S P A W L R E : Type 0} (files : FileSystem.Ghosts S) (process : ProcessReadDir.Ghosts P C A R E) (clone : Clone.Ghosts R) (defaults : Default.Ghosts E) where
   -- The iterator holds the root's list.
-  abbrev pub Holds : WalkDirGeneric C S P A T W R E → DirEntryIter C S P A T L R E → Type 0
+  abbrev pub Holds : WalkDirGeneric C S P A W R E → DirEntryIter C S P A L R E → Type 0
   Holds walk it = (given : Given R E) → IsSteady files process clone defaults (file_system_of walk) (callback_of walk) given
       → held_by given it ≡ paired (root_list (job_for files given walk) (root_of walk) (given.read_dir_state (state_of walk)))
 
   -- The iterator holds the root's list, where the crew was busy: the error that reports it is in the place of each entry with a directory, and nothing is below it. It is so whatever that list is; by value it is the definition's.
-  pub record HoldsBusy (walk : WalkDirGeneric C S P A T W R E) (it : DirEntryIter C S P A T L R E) : Type 0 where
+  pub record HoldsBusy (walk : WalkDirGeneric C S P A W R E) (it : DirEntryIter C S P A L R E) : Type 0 where
     pub list : List (Item R E)
     pub depth : AtDepth 0 list
     pub holds : held it ≡ map busy_pair list
@@ -177,13 +168,13 @@ module _ {C S P A T W L R E : Type 0} (files : FileSystem.Ghosts S) (process : P
         → map (counted_item given) list ≡ (root_list (job_for files given walk) (root_of walk) (given.read_dir_state (state_of walk))).list
 
   -- what it holds, by why its readings didn't begin, if they didn't
-  abbrev pub HoldsUnless : Option NotStarted → WalkDirGeneric C S P A T W R E → DirEntryIter C S P A T L R E → Type 0
+  abbrev pub HoldsUnless : Option NotStarted → WalkDirGeneric C S P A W R E → DirEntryIter C S P A L R E → Type 0
   HoldsUnless None walk it = Holds walk it
   HoldsUnless (Some Busy) walk it = HoldsBusy walk it
   HoldsUnless (Some Memory) walk it = IsRefused it
 
   -- A walk begins, or fails to for this reason. Only a walk that a crew is to read for finds the crew busy. Its crew reads for it, unless memory ran out.
-  pub record Begins (walk : WalkDirGeneric C S P A T W R E) (why_not : Option NotStarted) (it : DirEntryIter C S P A T L R E) : Type 0 where
+  pub record Begins (walk : WalkDirGeneric C S P A W R E) (why_not : Option NotStarted) (it : DirEntryIter C S P A L R E) : Type 0 where
     pub holds : HoldsUnless why_not walk it
     pub busy : why_not ≡ Some Busy → (options_of walk).parallelism ≡ crew
     pub by : by_crew it ≡ true → (options_of walk).parallelism ≡ crew

@@ -23,7 +23,7 @@ pub use jwalk_entries::dir_entry_iter;
 pub use jwalk_entries::dir_entry_iter::DirEntryIter;
 pub use jwalk_order::{index_path, ordered, ordered_queue};
 pub use jwalk_readings::parallelism::Parallelism;
-pub use jwalk_readings::{read_dir_iter, threads};
+pub use jwalk_readings::read_dir_iter;
 pub use read_parts::client_state::ClientState;
 pub use read_parts::dir_entry::{DirEntry, ReadChildren};
 pub use read_parts::error::{Error, Result};

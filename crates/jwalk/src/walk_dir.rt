@@ -15,7 +15,6 @@ use jwalk_process::by_fn::ByFn;
 use jwalk_process::calls::Closure;
 use jwalk_read::job::Job;
 use jwalk_readings::parallelism::Parallelism;
-use jwalk_readings::threads::{InTurn, OnThreads};
 use read_parts::client_state::ClientState;
 use read_parts::dir_entry::DirEntry;
 use read_parts::error::Error;
@@ -31,16 +30,14 @@ use walk_fs::file_system::FileSystem;
 /// A walk that has not begun: a root in a file system, and options.
 ///
 /// `C` is the pair of states that a user keeps beside directories and entries, `((), ())` for none. `S` is the file
-/// system, `P` the callback (`NoProcess` for none), and `A` the allocator. `T` is what reads directories that are read
-/// together: `InTurn`, one after another, or `OnThreads` of a runtime. `W` is the crew that reads ahead, `NoPool` for
-/// none.
+/// system, `P` the callback (`NoProcess` for none), and `A` the allocator. `W` is the crew that reads ahead, `NoPool`
+/// for none.
 #[derive(Drop)]
 pub struct WalkDirGeneric<
     C: ClientState,
     S: FileSystem,
     P: ProcessReadDir<C, A>,
     A: Allocator + Copy = Global,
-    T = InTurn,
     W = NoPool,
 > {
     fs: S,
@@ -48,27 +45,14 @@ pub struct WalkDirGeneric<
     process: P,
     options: Options,
     root_read_dir_state: C::ReadDirState,
-    threads: T,
     // The crew that reads ahead, and how long the walk blocks for a place of it.
     crew: Option<(Arc<W, A>, Option<Duration>)>,
 }
 
 /// A walk of the file system that a runtime reaches, without states beside directories and entries.
-pub type WalkDir<R = HostRuntime, A = Global, T = OnThreads<R>> = WalkDirGeneric<
-    ((), ()),
-    RealFs<R>,
-    NoProcess,
-    A,
-    T,
->;
+pub type WalkDir<R = HostRuntime, A = Global> = WalkDirGeneric<((), ()), RealFs<R>, NoProcess, A>;
 
-impl<C: ClientState, S: FileSystem, A: Allocator + Copy> WalkDirGeneric<
-    C,
-    S,
-    NoProcess,
-    A,
-    InTurn,
-> {
+impl<C: ClientState, S: FileSystem, A: Allocator + Copy> WalkDirGeneric<C, S, NoProcess, A> {
     ghost use Rattle.walk_model.specs.Options.{defaults};
     ghost use Rattle.jwalk.specs.WalkDir.{file_system_of, root_of, state_of, options_of};
 
@@ -90,7 +74,6 @@ impl<C: ClientState, S: FileSystem, A: Allocator + Copy, W: Drop> WalkDirGeneric
     S,
     NoProcess,
     A,
-    InTurn,
     W,
 > {
     ghost use Rattle.walk_model.specs.Options.{defaults};
@@ -110,19 +93,12 @@ impl<C: ClientState, S: FileSystem, A: Allocator + Copy, W: Drop> WalkDirGeneric
             process: NoProcess,
             options: Options::new(),
             root_read_dir_state: C::ReadDirState::default(),
-            threads: InTurn,
             crew: None,
         }
     }
 }
 
-impl<R: Files + Alloc + Clone + Drop> WalkDirGeneric<
-    ((), ()),
-    RealFs<R>,
-    NoProcess,
-    R::A,
-    OnThreads<R>,
->
+impl<R: Files + Alloc + Clone + Drop> WalkDirGeneric<((), ()), RealFs<R>, NoProcess, R::A>
 where
     R::A: Copy,
 {
@@ -130,8 +106,8 @@ where
     ghost use Rattle.real_fs.specs.RealFs.{runtime_of};
     ghost use Rattle.jwalk.specs.WalkDir.{file_system_of, root_of, options_of};
 
-    /// Returns a walk of the file system that a runtime reaches, from a root: `WalkDir::at(&rt, "/usr")?`. It holds
-    /// clones of the runtime, so it can cross threads where the runtime can.
+    /// Returns a walk of the file system that a runtime reaches, from a root: `WalkDir::at(&rt, "/usr")?`. It holds a
+    /// clone of the runtime, so it can cross threads where the runtime can.
     ///
     /// # Errors
     ///
@@ -142,7 +118,7 @@ where
         ensures options { IfOk result (λ walk. options_of walk ≡ defaults) }
     {
         let root = String::from_str(rt.alloc(), root)?;
-        Ok(WalkDirGeneric::new(RealFs::new(rt.clone()?), root).threads(rt.clone()?))
+        Ok(WalkDirGeneric::new(RealFs::new(rt.clone()?), root))
     }
 }
 
@@ -151,11 +127,10 @@ impl<
     S: FileSystem,
     P: ProcessReadDir<C, A>,
     A: Allocator + Copy,
-    T: Drop,
     W: Drop,
-> WalkDirGeneric<C, S, P, A, T, W> {
+> WalkDirGeneric<C, S, P, A, W> {
     ghost use Rattle.walk_model.specs.Options.{with_sort, with_skip_hidden, with_follow_links, with_min_depth, with_max_depth};
-    ghost use Rattle.jwalk.specs.WalkDir.{root_of, options_of, Sets, SetsParallelism, SetsState, SetsCallback, SetsThreads};
+    ghost use Rattle.jwalk.specs.WalkDir.{root_of, options_of, Sets, SetsParallelism, SetsState, SetsCallback};
 
     /// Returns the root's path as it was given.
     pub fn root(&self) -> &str
@@ -221,30 +196,15 @@ impl<
     /// Sets how directories are read, one at a time by default. It changes neither the answers nor their order. It
     /// changes which directories have been read when an entry is yielded, and how fast the walk is.
     ///
-    /// Several threads read directories together if the walk was made by `at` or `threads`, and if its answers are
-    /// taken by the walk's own `next` or `fill`. `while let Some(answer) = walk.next()` does so. A `for` loop and
-    /// adapters call `Iterator::next`, which reads the same directories one after another.
+    /// Several threads read the directories that are read together if the answers are taken by `next_on` or `fill_on`:
+    /// `while let Some(answer) = walk.next_on(&rt)` does so. A `for` loop and adapters call `Iterator::next`, which reads
+    /// the same directories one after another.
     pub fn parallelism(mut self, parallelism: Parallelism<W, A>) -> Self
         ensures { SetsParallelism parallelism self result }
     {
         self.options = self.options.with_mode(parallelism.mode());
         self.crew = parallelism.into_crew();
         self
-    }
-
-    /// Returns the same walk, with threads of this runtime to read the directories that are read together.
-    pub fn threads<R>(self, rt: R) -> WalkDirGeneric<C, S, P, A, OnThreads<R>, W>
-        ensures { SetsThreads self result }
-    {
-        WalkDirGeneric {
-            fs: self.fs,
-            root: self.root,
-            process: self.process,
-            options: self.options,
-            root_read_dir_state: self.root_read_dir_state,
-            threads: OnThreads::new(rt),
-            crew: self.crew,
-        }
     }
 
     /// Sets the state with which the root's list begins, the default state by default. States are handed down the tree:
@@ -266,7 +226,7 @@ impl<
     pub fn process_read_dir<Q: ProcessReadDir<C, A>>(
         self,
         process: Q,
-    ) -> WalkDirGeneric<C, S, Q, A, T, W>
+    ) -> WalkDirGeneric<C, S, Q, A, W>
         ensures { SetsCallback process self result }
     {
         WalkDirGeneric {
@@ -275,24 +235,23 @@ impl<
             process,
             options: self.options,
             root_read_dir_state: self.root_read_dir_state,
-            threads: self.threads,
             crew: self.crew,
         }
     }
 }
 
-impl<
-    C: ClientState,
-    S: FileSystem,
-    P: ProcessReadDir<C, A>,
-    A: Allocator + Copy,
-    T: Drop,
-> WalkDirGeneric<C, S, P, A, T, NoPool> {
+impl<C: ClientState, S: FileSystem, P: ProcessReadDir<C, A>, A: Allocator + Copy> WalkDirGeneric<
+    C,
+    S,
+    P,
+    A,
+    NoPool,
+> {
     ghost use Rattle.jwalk.specs.WalkDir.{callback_of, Starts, Holds};
     ghost use Rattle.jwalk_entries.specs.DirEntryIter.{by_crew, is_refused, IsRefused};
 
     /// Begins the walk, whether memory runs out or not.
-    fn begin(self) -> DirEntryIter<C, S, P, A, T>
+    fn begin(self) -> DirEntryIter<C, S, P, A>
         requires { P.IsLawful (callback_of self) }
         ensures own { by_crew result ≡ false }
         ensures starts { Starts self result }
@@ -307,12 +266,11 @@ impl<
             process,
             options,
             root_read_dir_state,
-            threads,
             crew: _,
         } = self;
-        let job = Job::with_options(alloc, fs, process, options);
+        let job = Job::new(alloc, fs, process, options);
         let read = job.root_list(root.as_str(), root_read_dir_state);
-        DirEntryIter::from_root(alloc, threads, job, read.ok())
+        DirEntryIter::from_root(alloc, job, read.ok())
     }
 
     /// Begins the walk: makes its root's list, and reads no directory yet.
@@ -320,7 +278,7 @@ impl<
     /// # Errors
     ///
     /// An error whose `is_memory` is true, if memory runs out.
-    pub fn try_into_iter(self) -> Result<DirEntryIter<C, S, P, A, T>, Error<A>>
+    pub fn try_into_iter(self) -> Result<DirEntryIter<C, S, P, A>, Error<A>>
         requires { P.IsLawful (callback_of self) }
         ensures own { IfOk result (λ walk. by_crew walk ≡ false) }
         ensures starts { IfOk result (Starts self) }
@@ -338,7 +296,7 @@ impl<
     /// Begins the walk: makes its root's list, and reads no directory yet.
     ///
     /// If memory runs out, the iterator yields one error whose `is_memory` is true, and nothing else.
-    pub fn into_iter(self) -> DirEntryIter<C, S, P, A, T>
+    pub fn into_iter(self) -> DirEntryIter<C, S, P, A>
         requires { P.IsLawful (callback_of self) }
         ensures own { by_crew result ≡ false }
         ensures starts { Starts self result }
@@ -349,12 +307,11 @@ impl<
     }
 }
 
-impl<C: ClientState, S: FileSystem, P: ProcessReadDir<C, Global>, T: Drop, W: Drop> WalkDirGeneric<
+impl<C: ClientState, S: FileSystem, P: ProcessReadDir<C, Global>, W: Drop> WalkDirGeneric<
     C,
     S,
     P,
     Global,
-    T,
     W,
 > {
     ghost use Rattle.jwalk_process.specs.ByFn.{closure_of};
@@ -376,7 +333,7 @@ impl<C: ClientState, S: FileSystem, P: ProcessReadDir<C, Global>, T: Drop, W: Dr
             &mut Vec<Result<DirEntry<C, Global>, Error<Global>>, Global>,
         ) -> Result<(), AllocError>
             + Drop,
-    >(self, f: F) -> WalkDirGeneric<C, S, ByFn<Closure<F>>, Global, T, W>
+    >(self, f: F) -> WalkDirGeneric<C, S, ByFn<Closure<F>>, Global, W>
         ensures closure { closure_of (callback_of result) ≡ f }
         ensures rest { SetsCallback (callback_of result) self result }
     {
@@ -386,17 +343,16 @@ impl<C: ClientState, S: FileSystem, P: ProcessReadDir<C, Global>, T: Drop, W: Dr
             process: ByFn::of(f),
             options: self.options,
             root_read_dir_state: self.root_read_dir_state,
-            threads: self.threads,
             crew: self.crew,
         }
     }
 }
 
-impl<C: ClientState, S: FileSystem, A: Allocator + Copy, T: Drop> IntoIterator
-    for WalkDirGeneric<C, S, NoProcess, A, T> {
+impl<C: ClientState, S: FileSystem, A: Allocator + Copy> IntoIterator
+    for WalkDirGeneric<C, S, NoProcess, A> {
     type Item = Result<DirEntry<C, A>, Error<A>>;
 
-    type IntoIter = DirEntryIter<C, S, NoProcess, A, T>;
+    type IntoIter = DirEntryIter<C, S, NoProcess, A>;
 
     ghost use Rattle.jwalk.specs.WalkDir.{Starts, Holds};
     ghost use Rattle.jwalk_entries.specs.DirEntryIter.{by_crew, IsRefused};
@@ -404,7 +360,7 @@ impl<C: ClientState, S: FileSystem, A: Allocator + Copy, T: Drop> IntoIterator
     ghost into_iter_gives = { λ walk it. (by_crew it ≡ false) × Starts walk it × (IsRefused it ⊎ Holds S.FileSystem
         ⟦<NoProcess as ProcessReadDir<C, A>>⟧ C.ReadDirState.Clone C.DirEntryState.Default walk it) };
 
-    fn into_iter(self) -> DirEntryIter<C, S, NoProcess, A, T> {
-        WalkDirGeneric::<C, S, NoProcess, A, T, NoPool>::into_iter(self)
+    fn into_iter(self) -> DirEntryIter<C, S, NoProcess, A> {
+        WalkDirGeneric::<C, S, NoProcess, A, NoPool>::into_iter(self)
     }
 }

@@ -8,7 +8,7 @@ use Rattle.jwalk_order.specs.IndexPath.{address}
 use Rattle.jwalk_board.specs.Board.{Board, Finishes, IsNextReady}
 use Rattle.read_parts.specs.declared.read_dir_spec.ReadDirSpec.{ReadDirSpec}
 use Rattle.crew_parts.specs.declared.arrival.Arrival.{Arrival}
-use Rattle.crew_parts.specs.declared.arrival.Arrival.TheVariants.{Memory}
+use Rattle.crew_parts.specs.declared.arrival.Arrival.TheVariants.{Entered, Lost, Memory, Wait}
 use Rattle.crew_parts.specs.declared.wanted.Wanted.{Wanted}
 use Rattle.crew_parts.specs.Arrival.{Arrives}
 use Rattle.crew_parts.specs.Message.{Message}
@@ -19,6 +19,7 @@ use Rattle.jwalk_crew.specs.declared.steps.Turn.{Turn}
 use Rattle.jwalk_crew.specs.declared.steps.Turn.TheVariants.{End}
 use Rattle.jwalk_crew.specs.declared.work.Work.{Work}
 use Rattle.jwalk_crew.specs.Pace.{CountsTakers}
+use Rattle.jwalk_crew.specs.Sleepers.{CallsNobody, CallsTakers}
 use Rattle.jwalk_crew.specs.Steps.{Turns}
 
 module _ {T R : Type 0} where
@@ -54,9 +55,20 @@ module _ {C S P A R E : Type 0} where
     pub put : board_in works.1 ≡ Some new
     pub steps : step old new
 
+  -- Whom the walk calls: where a reading came, as many workers as may take something then, and else nobody.
+  abbrev pub CallsIfEntered : ℕ → Arrival C S P A R E → Board (ReadDirSpec C A R E) (Message C S P A R E) → Sleepers → Sleepers → Calls → Type 0
+  CallsIfEntered limit (Entered item) board before after calls = CallsTakers limit board before after calls
+  CallsIfEntered limit Memory board before after calls = CallsNobody calls
+  CallsIfEntered limit Lost board before after calls = CallsNobody calls
+  CallsIfEntered limit Wait board before after calls = CallsNobody calls
+
   -- What the walk finds is what came of the board, which was taken and put back by the key. Or the board is out: the walk ends, and the key did nothing.
   abbrev pub ArrivesOrIsOut : Wanted A → Arrival C S P A R E → Option (Work C S P A R E) × Option (Work C S P A R E) → Option (Work C S P A R E) × Option (Work C S P A R E) → Type 0
   ArrivesOrIsOut wanted arrival before after = IsHandled (λ old new. Arrives old wanted arrival new) after ⊎ ((arrival ≡ Memory) × (after ≡ before))
+
+  -- Whom the walk calls goes by the board that it put back by the key; or the board is out, and it calls nobody.
+  abbrev pub CallsOrIsOut : ℕ → Arrival C S P A R E → Sleepers → Sleepers → Calls → Option (Work C S P A R E) × Option (Work C S P A R E) → Type 0
+  CallsOrIsOut limit arrival before after calls works = IsHandled (λ _ board. CallsIfEntered limit arrival board before after calls) works ⊎ CallsNobody calls
 
   -- The receipt is for the board of this slot, which was taken and put back after this step on it.
   pub record IsReceiptFor {T M : Type 0} (slot : KeyedSlot (Work C S P A R E) A T M) (step : Board (ReadDirSpec C A R E) (Message C S P A R E) → Board (ReadDirSpec C A R E) (Message C S P A R E) → Type 0) (receipt : Receipt (Work C S P A R E) T M) : Type 0 where

@@ -7,3 +7,4 @@ pub mod Session
 pub mod Handled
 pub mod Pace
 pub mod Ground
+pub mod Sleepers

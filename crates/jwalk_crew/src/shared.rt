@@ -22,6 +22,7 @@ ghost use Rattle.jwalk_crew.specs.Ground.{limit_at, origin_at};
 ghost use Rattle.jwalk_crew.specs.Handled.{
   board_in,
   ArrivesOrIsOut,
+  CallsOrIsOut,
   Counts,
   FinishesOrStops,
   IsMissed,
@@ -240,6 +241,8 @@ impl<
         ensures arrival { IsArrivalOf S.FileSystem P.ProcessReadDir C.ReadDirState.Clone C.DirEntryState.Default
             (origin_at self.now.work) (key_mark key.old) wanted.now result.0 (key_mark key.new) }
         ensures handled { ArrivesOrIsOut wanted.now result.0 (handled key.old) (handled key.new) }
+        ensures calls { CallsOrIsOut (limit_at self.now.work) result.0 (mutex_guard_value held.old)
+            (mutex_guard_value held.new) result.1 (handled key.new) }
         ensures missed { (mutex_guard_value held.new).board_missed ≡ (mutex_guard_value held.old).board_missed }
     {
         let Some(work) = self.work.take_with(key) else {

@@ -3,6 +3,7 @@ ghost use Rattle.std.specs.Prelude.{◌≡◌, ◌↔◌, box_value, true, IsTru
 ghost use Rattle.jwalk_order.specs.IndexPath.{address as indices_of};
 ghost use Rattle.jwalk_board.specs.Board.{Finishes, IsNew, IsNextReady};
 ghost use Rattle.jwalk_crew.specs.Pace.{CountsTakers};
+ghost use Rattle.jwalk_crew.specs.Sleepers.{CallsNobody};
 ghost use Rattle.jwalk_crew.specs.Steps.{Turns};
 
 use crate::pace::Pace;
@@ -107,7 +108,9 @@ impl Calls {
     }
 
     /// Nobody.
-    pub(crate) fn none() -> Self {
+    pub(crate) fn none() -> Self
+        ensures { CallsNobody result }
+    {
         Calls {
             workers: 0,
             walk: false,

@@ -3,6 +3,7 @@ use Rattle.std.proofs.Common.{◌≡◌, ◌∷◌, ◌++◌, List, [], map, len
 use Rattle.std.specs.Prelude.{ℕ, All, Option, Some, Result}
 use Rattle.std.specs.declared.clone.Clone as Clone
 use Rattle.std.specs.declared.default.Default as Default
+use Rattle.std.specs.List.Sorted.{IsPermutation}
 use Rattle.std.proofs.lemmas.List.{map-append, length-map}
 use Rattle.std.proofs.lemmas.List.Elements.{All-nil, All-cons, All-head, All-tail, All-append, All-map, All-weaker}
 use Rattle.std.proofs.lemmas.List.Sorted.{All-permutation}
@@ -56,40 +57,49 @@ module _ {C S P A R E : Type 0} (files : FileSystem.Ghosts S) (process : Process
   pub plan_sound : (m : Read C A R E × List (ReadDirSpec C A R E)) → IsPlanSound m → IsSound files process clone defaults job (seen_made m)
   plan_sound m s = record { reading = s.reading; clones = s.clones }
 
-  -- A reading is given, of those that were made now or before.
-  module _ (counts : Given R E → Type 0) (steady : (given : Given R E) → counts given → IsSteadyJob files process clone defaults job given) (width : ℕ) (old new : Option (Board (ReadDirSpec C A R E) (Read C A R E))) (read : Result (ReadDir C A R E) (Error A))
-      (g : GivesFirst (IsPlanReading files process clone defaults job) width old read new) (early : All (IsSoundOver files clone counts job) (early_on old)) where
+  module _ (counts : Given R E → Type 0) (steady : (given : Given R E) → counts given → IsSteadyJob files process clone defaults job given) where
     abbrev IsSeenSound : Read C A R E × List (ReadDirSpec C A R E) → Type 0
     IsSeenSound m = IsSoundOver files clone counts job (seen_made m)
 
-    all_seen : All IsSeenSound ((g.read, g.children) ∷ (left_on new).made)
-    all_seen =
-        All-permutation IsSeenSound (g.fresh ++ (left_on old).made) ((g.read, g.children) ∷ (left_on new).made) g.leaves
-        (All-append IsSeenSound g.fresh (left_on old).made
-        (All-weaker IsPlanSound IsSeenSound (λ m s. record { reading = record { lawful = s.reading.lawful; few = s.reading.few; value = λ given c. s.reading.value given (steady given c) }; clones = s.clones }) g.fresh g.sound)
-        (All-seen (IsSoundOver files clone counts job) seen_made (left_on old).made early))
+    -- what is made now is as sound as what was made before
+    fresh_sound : (fresh made : List (Read C A R E × List (ReadDirSpec C A R E))) → All IsPlanSound fresh → All (IsSoundOver files clone counts job) (map seen_made made) → All IsSeenSound (fresh ++ made)
+    fresh_sound fresh made sound early =
+        All-append IsSeenSound fresh made
+        (All-weaker IsPlanSound IsSeenSound (λ m s. record { reading = record { lawful = s.reading.lawful; few = s.reading.few; value = λ given c. s.reading.value given (steady given c) }; clones = s.clones }) fresh sound)
+        (All-seen (IsSoundOver files clone counts job) seen_made made early)
 
-    -- what is kept stays sound
-    pub keeps_sound : All (IsSoundOver files clone counts job) (early_on new)
-    keeps_sound = All-map (IsSoundOver files clone counts job) seen_made (left_on new).made (All-tail IsSeenSound (g.read, g.children) (left_on new).made all_seen)
+    -- where more are made, and none is given, all stay sound
+    pub joins_sound : (fresh : List (Read C A R E × List (ReadDirSpec C A R E))) (old new : Option (Board (ReadDirSpec C A R E) (Read C A R E))) → All IsPlanSound fresh → IsPermutation (fresh ++ (left_on old).made) (left_on new).made → All (IsSoundOver files clone counts job) (early_on old) → All (IsSoundOver files clone counts job) (early_on new)
+    joins_sound fresh old new sound join early =
+        All-map (IsSoundOver files clone counts job) seen_made (left_on new).made
+        (All-permutation IsSeenSound (fresh ++ (left_on old).made) (left_on new).made join (fresh_sound fresh (left_on old).made sound early))
 
-    mine : IsSeenSound (g.read, g.children)
-    mine = All-head IsSeenSound (g.read, g.children) (left_on new).made all_seen
+    -- A reading is given, of those that were made now or before.
+    module _ (width : ℕ) (old new : Option (Board (ReadDirSpec C A R E) (Read C A R E))) (read : Result (ReadDir C A R E) (Error A)) (g : GivesFirst (IsPlanReading files process clone defaults job) width old read new) (early : All (IsSoundOver files clone counts job) (early_on old)) where
+      all_seen : All IsSeenSound ((g.read, g.children) ∷ (left_on new).made)
+      all_seen = All-permutation IsSeenSound (g.fresh ++ (left_on old).made) ((g.read, g.children) ∷ (left_on new).made) g.leaves (fresh_sound g.fresh (left_on old).made g.sound early)
 
-    -- what is given is a reading of the first
-    pub gives_first : ReadsFirst files clone counts job (to_read_on old) (outcome read) (to_read_on new)
-    gives_first =
-        subst (λ r. ReadsFirst files clone counts job (to_read_on old) (outcome r) (to_read_on new)) g.of
-        (record {
-          first = spec g.read.of;
-          rest = map spec g.rest;
-          took = ap (map spec) g.took;
-          reading = mine.reading;
-          stacks = record { front = map spec g.children; left = ap (map spec) g.left ∙ map-append spec g.children g.rest; clones = mine.clones };
-        })
+      -- what is kept stays sound
+      pub keeps_sound : All (IsSoundOver files clone counts job) (early_on new)
+      keeps_sound = All-map (IsSoundOver files clone counts job) seen_made (left_on new).made (All-tail IsSeenSound (g.read, g.children) (left_on new).made all_seen)
 
-    -- the addresses of the directories in it take the place of the first
-    pub passes_first : PassesAddress (frontier_on old) (Some (outcome read)) (frontier_on new)
-    passes_first =
-        let many : length g.children ≡ length (children_of (outcome read)) = sym (length-map g.children spec) ∙ same_length clone.is_clone (children_of (outcome g.read.reading)) (map spec g.children) mine.clones ∙ ap (λ r. length (children_of (outcome r))) g.of in
-        g.passes ∙ ap (passed (frontier_on old)) many
+      mine : IsSeenSound (g.read, g.children)
+      mine = All-head IsSeenSound (g.read, g.children) (left_on new).made all_seen
+
+      -- what is given is a reading of the first
+      pub gives_first : ReadsFirst files clone counts job (to_read_on old) (outcome read) (to_read_on new)
+      gives_first =
+          subst (λ r. ReadsFirst files clone counts job (to_read_on old) (outcome r) (to_read_on new)) g.of
+          (record {
+            first = spec g.read.of;
+            rest = map spec g.rest;
+            took = ap (map spec) g.took;
+            reading = mine.reading;
+            stacks = record { front = map spec g.children; left = ap (map spec) g.left ∙ map-append spec g.children g.rest; clones = mine.clones };
+          })
+
+      -- the addresses of the directories in it take the place of the first
+      pub passes_first : PassesAddress (frontier_on old) (Some (outcome read)) (frontier_on new)
+      passes_first =
+          let many : length g.children ≡ length (children_of (outcome read)) = sym (length-map g.children spec) ∙ same_length clone.is_clone (children_of (outcome g.read.reading)) (map spec g.children) mine.clones ∙ ap (λ r. length (children_of (outcome r))) g.of in
+          g.passes ∙ ap (passed (frontier_on old)) many

@@ -70,7 +70,7 @@ module _ {T V : Type 0} (v : T → V) where
     seen_unread (x ∷ batch) = ap (λ l. record { at = x.at; value = v (w x.value.0); child_count = 0 } ∷ l) (seen_unread batch)
 
     module _ (IsSound : Q × List T → Type 0) (IsSeenSound : Q × List V → Type 0) (sound : (m : Q × List T) → IsSound m → IsSeenSound (sees m)) where
-      seen_least : (width : ℕ) (old new : ReadAhead T) → ReadsLeast w IsSound width old new → ReadsLeast (λ q. v (w q)) IsSeenSound width (seen_as old) (seen_as new)
+      pub seen_least : (width : ℕ) (old new : ReadAhead T) → ReadsLeast w IsSound width old new → ReadsLeast (λ q. v (w q)) IsSeenSound width (seen_as old) (seen_as new)
       seen_least width old new r = record {
         batch = map (seen sees) r.batch;
         left = seen_as r.left;

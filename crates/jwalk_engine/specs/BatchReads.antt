@@ -1,5 +1,5 @@
 -- Readings of directories in preorder, made in batches, as a value.
-use Rattle.std.specs.Prelude.{◌≡◌, ℕ, Option, None, Some, List, length, map}
+use Rattle.std.specs.Prelude.{◌≡◌, ◌≢◌, ℕ, Option, None, Some, List, [], length, map}
 use Rattle.std.specs.declared.clone.Clone as Clone
 use Rattle.std.specs.declared.default.Default as Default
 use Rattle.walk_model.specs.ReadDir.{Spec, Outcome, children_of}
@@ -13,7 +13,7 @@ use Rattle.read_parts.specs.ReadDirSpec.{spec}
 use Rattle.read_parts.specs.Given.{Given}
 use Rattle.jwalk_read.specs.declared.job.Job.{Job}
 use Rattle.jwalk_engine.specs.Reads.{Read, IsSteadyWith}
-use Rattle.jwalk_engine.specs.ReadAhead.{ReadAhead, seen_ahead}
+use Rattle.jwalk_engine.specs.ReadAhead.{ReadAhead, seen_ahead, MakesReady}
 
 -- What reads, how many directories are read together, and the board, which is gone once they were stopped.
 pub record BatchReads (C S P A R E : Type 0) : Type 0 where
@@ -69,3 +69,10 @@ module _ {C S P A R E : Type 0} (files : FileSystem.Ghosts S) (process : Process
   -- They stay steady over all that they were steady over.
   abbrev pub StaysSteady : BatchReads C S P A R E → BatchReads C S P A R E → Type 0
   StaysSteady old new = (given : Given R E) → IsSteadyWalk old given → IsSteadyWalk new given
+
+  -- The next reading isn't made yet, and is made together with others. What is still to be given stays the same.
+  pub record ReadsForNext (old new : BatchReads C S P A R E) : Type 0 where
+    pub some : to_read old ≢ []
+    pub same : to_read new ≡ to_read old
+    pub frontier : frontier_of new ≡ frontier_of old
+    pub ready : MakesReady files process clone defaults old.job old.width (next_of old) (read_ahead old) (read_ahead new)

@@ -4,6 +4,7 @@ use Rattle.std.specs.declared.clone.Clone as Clone
 use Rattle.std.specs.declared.default.Default as Default
 use Rattle.walk_model.specs.ReadDir.{Spec}
 use Rattle.walk_fs.specs.declared.file_system.FileSystem as FileSystem
+use Rattle.jwalk_order.specs.Addresses.{IsAmong}
 use Rattle.jwalk_board.specs.Seen.{seen}
 use Rattle.tree_walk.specs.ReadAhead as tree
 use Rattle.read_parts.specs.declared.process_read_dir.ProcessReadDir as ProcessReadDir
@@ -44,3 +45,9 @@ module _ {C S P A R E : Type 0} (files : FileSystem.Ghosts S) (process : Process
   -- A directory is entered, or nothing was left to be read and all stays as it is.
   abbrev pub EntersNext : {X : Type 0} → ℕ → List ℕ → ReadAhead R → Option X → ReadAhead R → Type 0
   EntersNext width at old read new = tree.EntersNext spec_of (IsSound files process clone defaults job) width at old read new
+
+  -- The directory at an address isn't read yet, and is read with the others that are among the least of the queue. Nothing is handed on.
+  pub record MakesReady (width : ℕ) (at : List ℕ) (old new : ReadAhead R) : Type 0 where
+    pub unread : ¬ IsAmong at old.done
+    pub least : ReadsLeast width old new
+    pub read : IsAmong at new.done

@@ -170,36 +170,32 @@ where
     C::ReadDirState: Send,
     C::DirEntryState: Send,
 {
-    ghost use Rattle.jwalk_engine.specs.BatchReads.{to_read, early_of, read_ahead, frontier_of, next_of, PassesAddress, IsSteadyWalk, StaysSteady};
+    ghost use Rattle.std.specs.Prelude.{◌⊎◌};
+    ghost use Rattle.jwalk_order.specs.Addresses.{IsAmong};
+    ghost use Rattle.jwalk_engine.specs.BatchReads.{to_read, read_ahead, next_of, StaysSteady, ReadsForNext};
 
-    /// Does the same as [`read_next`](BatchReads::read_next), with the directories read on several threads if there are
-    /// enough of them to be worth it.
+    /// Makes sure that the next reading is made, if any is left. If it isn't made yet, the least of the unread directories
+    /// are read, as many as are read together, on several threads if there are enough of them to be worth it. The call of
+    /// [`read_next`](BatchReads::read_next) that follows then reads nothing.
     ///
     /// # Errors
     ///
     /// If memory runs out in any of these readings. Then nothing is left to be read.
-    pub fn read_next_on<R: Threads + Sync>(
-        &mut self,
-        rt: &R,
-    ) -> Result<Option<Outcome<C, A>>, AllocError>
+    pub fn prepare_on<R: Threads + Sync>(&mut self, rt: &R) -> Result<(), AllocError>
         requires { P.IsLawful (callback self.old.job) }
         ensures job { self.new.job ≡ self.old.job }
         ensures width { self.new.width ≡ self.old.width }
-        ensures ahead { length (early_of self.new) + 1 ≤ length (early_of self.old) + self.old.width }
+        ensures wide { 1 ≤ self.old.width }
         ensures stopped { OnErr result (to_read self.new ≡ []) }
         ensures nothing_ahead { OnErr result (read_ahead self.new ≡ nothing_ahead) }
         ensures some { OnErr result (to_read self.old ≢ []) }
         ensures steady { StaysSteady S.FileSystem P.ProcessReadDir C.ReadDirState.Clone C.DirEntryState.Default
             self.old self.new }
-        ensures next { IfOk result (λ o. ReadsNext S.FileSystem C.ReadDirState.Clone
-            (IsSteadyWalk S.FileSystem P.ProcessReadDir C.ReadDirState.Clone C.DirEntryState.Default self.old)
-            self.old.job (to_read self.old) (option_map outcome o) (to_read self.new)) }
-        ensures enters { IfOk result (λ o. EntersNext S.FileSystem P.ProcessReadDir C.ReadDirState.Clone
-            C.DirEntryState.Default self.old.job self.old.width (next_of self.old) (read_ahead self.old)
-            (option_map outcome o) (read_ahead self.new)) }
-        ensures passes { IfOk result (λ o. PassesAddress (frontier_of self.old) (option_map outcome o)
-            (frontier_of self.new)) }
+        ensures prepared { OnOk result ((self.new ≡ self.old) ⊎ ReadsForNext S.FileSystem P.ProcessReadDir
+            C.ReadDirState.Clone C.DirEntryState.Default self.old self.new) }
+        ensures ready { OnOk result ((to_read self.new ≡ [])
+            ⊎ IsAmong (next_of self.new) (read_ahead self.new).done) }
     {
-        self.walk.read_next_on(rt)
+        self.walk.prepare_on(rt)
     }
 }

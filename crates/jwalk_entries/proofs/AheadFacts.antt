@@ -1,28 +1,24 @@
 -- What passing items does to what was read ahead.
 use Rattle.std.proofs.Common.{◌≡◌, ◌∙◌, ◌≤◌, ℕ, suc, ◌+◌, ◌*◌, Bool, false, true, List, [], ◌∷◌, ◌++◌, length, Option, Some, None, IsSome, Result, Ok, Err, OnErr, inl, inr, refl, sym, ap, subst, arith}
 use Rattle.std.specs.Prelude.{option_map}
-use Rattle.std.proofs.Math.Nat.{min-le_left}
-use Rattle.std.proofs.lemmas.List.{length-map}
-use Rattle.std.proofs.lemmas.List.Sorted.{length_permutation}
-use lib.ListN.{length-append}
 use Rattle.std.specs.declared.clone.Clone as Clone
 use Rattle.std.specs.declared.default.Default as Default
 use Rattle.walk_model.specs.Entry.{Item, has_directory}
 use Rattle.walk_model.specs.ReadDir.{Spec, Outcome, IsLawfulReading}
 use Rattle.walk_fs.specs.declared.file_system.FileSystem as FileSystem
-use Rattle.jwalk_order.specs.Addressed.{addresses_of}
 use Rattle.jwalk_order.specs.Frontier.{next_address}
 use Rattle.read_parts.specs.declared.process_read_dir.ProcessReadDir as ProcessReadDir
 use Rattle.jwalk_read.specs.declared.job.Job.{Job}
 use Rattle.jwalk_read.specs.Job.{greatest_depth}
 use Rattle.jwalk_engine.specs.Reads.{ReadsFirstBy, ReadsNextBy}
-use Rattle.jwalk_engine.specs.ReadAhead.{ReadAhead, nothing_ahead, BeginsWith, HandsOnAt, ReadsLeast}
+use Rattle.jwalk_engine.specs.ReadAhead.{ReadAhead, nothing_ahead, BeginsWith}
 use Rattle.jwalk_engine.specs.BatchReads.{PassesAddress}
 use Rattle.jwalk_crew.specs.declared.pool.Pool as Pool
 use Rattle.jwalk_entries.specs.declared.dir_entry_iter.DirEntryIter.{DirEntryIter}
 use Rattle.jwalk_readings.specs.declared.read_dir_iter.ReadDirIter.{ReadDirIter}
 use Rattle.jwalk_readings.specs.ReadDirIter as readings
 use Rattle.jwalk_readings.specs.ReadDirIter.{EntersBy, EntersNextBy}
+use Rattle.jwalk_readings.proofs.PrepareFacts.{enters_fewer}
 use Rattle.jwalk_entries.specs.Step.{IsAtDirectory, Receives}
 use Rattle.jwalk_entries.specs.DirEntryIter.{Position, by_crew, job_of, items_of, unread_of, width_of, frontier_of, read_ahead, position_of, KnownAt, ReadsStaySteady, PassesOne, PassesMany, none_passed, one_passed, one_entered}
 use Rattle.jwalk_entries.proofs.ItemFacts.{known_before}
@@ -53,30 +49,13 @@ module _ {R : Type 0} where
   pub begins_with_none : (specs : List (Spec R)) (ahead : ReadAhead R) → specs ≡ [] → ahead ≡ nothing_ahead → BeginsWith specs ahead
   begins_with_none specs ahead none nothing = rw (none, nothing) (record { queue = record { moves = []; below = tt; is = refl }; done = refl })
 
-  -- the reading that is handed on leaves those that are done
-  one_leaves : (at : List ℕ) (old new : ReadAhead R) → HandsOnAt at old new → length old.done ≡ length new.done + 1
-  one_leaves at old new hands = omega (arith, length_permutation old.done (at ∷ new.done) hands.done)
-
-module _ {C S P A R E : Type 0} (files : FileSystem.Ghosts S) (process : ProcessReadDir.Ghosts P C A R E) (clone : Clone.Ghosts R) (defaults : Default.Ghosts E) (job : Job C S P A R E) (width : ℕ) where
-  least_join : (old new : ReadAhead R) → ReadsLeast files process clone defaults job width old new → length new.done ≤ length old.done + width
-  least_join old new reads =
-      omega (arith, length_permutation (addresses_of reads.batch ++ reads.left.done) new.done reads.join.done, length-append (addresses_of reads.batch) reads.left.done, length-map reads.batch (λ x. x.at), ap length reads.leave.done, reads.number, min-le_left width (length old.queue))
-
-  -- A directory that is entered leaves those that are done, and at most the width of others join them.
-  pub enters_fewer : (b : Bool) (at : List ℕ) (old new : ReadAhead R) → EntersBy files process clone defaults b job width at old new → length new.done + 1 ≤ length old.done + width
-  enters_fewer true at old new enters = omega (arith, ap (λ a. length a.done) enters.0, enters.1)
-  enters_fewer false at old new enters = elim enters [
-    | inl before ↦ omega (arith, one_leaves at old new before.1)
-    | inr reads ↦ omega (arith, least_join old reads.1.0 reads.1.1, one_leaves at reads.1.0 new reads.1.2)
-  ]
-
 -- positions are the same where their parts are
 pub same_position : {R E : Type 0} {items others : List (Item R E)} {unread left : List (Spec R)} {frontier addresses : List (List ℕ)} {ahead then : ReadAhead R} → items ≡ others → unread ≡ left → frontier ≡ addresses → ahead ≡ then
     → ◌≡◌ {A = Position R E} (record { items = items; unread = unread; frontier = frontier; ahead = ahead }) (record { items = others; unread = left; frontier = addresses; ahead = then })
 same_position these those addresses ahead = cc
 
-module _ {C S P A T L R E : Type 0} (files : FileSystem.Ghosts S) (process : ProcessReadDir.Ghosts P C A R E) (clone : Clone.Ghosts R) (defaults : Default.Ghosts E) (pool : Pool.Ghosts L C S P A R E) where
-  module _ (it : DirEntryIter C S P A T L R E) where
+module _ {C S P A L R E : Type 0} (files : FileSystem.Ghosts S) (process : ProcessReadDir.Ghosts P C A R E) (clone : Clone.Ghosts R) (defaults : Default.Ghosts E) (pool : Pool.Ghosts L C S P A R E) where
+  module _ (it : DirEntryIter C S P A L R E) where
     abbrev Many : Position R E → List (Item R E) → ℕ → Position R E → Type 0
     Many = PassesMany files process clone defaults pool it
 
@@ -99,7 +78,7 @@ module _ {C S P A T L R E : Type 0} (files : FileSystem.Ghosts S) (process : Pro
     one_more (one_entered enters rest) one = let more = one_more rest one in (suc more.0, one_entered enters more.1)
 
   -- what is passed later is so by the walk as it was before
-  pub passed_before : (old mid : DirEntryIter C S P A T L R E) → by_crew mid ≡ by_crew old → job_of mid ≡ job_of old → width_of mid ≡ width_of old → ReadsStaySteady files process clone defaults pool old mid
+  pub passed_before : (old mid : DirEntryIter C S P A L R E) → by_crew mid ≡ by_crew old → job_of mid ≡ job_of old → width_of mid ≡ width_of old → ReadsStaySteady files process clone defaults pool old mid
       → {from to : Position R E} {x : Item R E} → PassesOne files process clone defaults pool mid from x to → PassesOne files process clone defaults pool old from x to
   passed_before old mid crew job width steady {from} {to} one = elim one [
     | inl plain ↦ inl plain
@@ -132,7 +111,7 @@ module _ {C S P A T L R E : Type 0} (files : FileSystem.Ghosts S) (process : Pro
   ]
 
   -- a directory's entry is passed, where this came of its reading
-  pub passed_by_reading : (old new : DirEntryIter C S P A T L R E) (x : Item R E) (rest : List (Item R E)) (read : Option (Outcome R E)) (answer : Item R E) (mid : ReadDirIter C S P A T L R E) → items_of old ≡ x ∷ rest → has_directory x ≡ true → new.reads ≡ mid
+  pub passed_by_reading : (old new : DirEntryIter C S P A L R E) (x : Item R E) (rest : List (Item R E)) (read : Option (Outcome R E)) (answer : Item R E) (mid : ReadDirIter C S P A L R E) → items_of old ≡ x ∷ rest → has_directory x ≡ true → new.reads ≡ mid
       → ReadsNextBy clone (KnownAt files process clone defaults pool old (next_address (frontier_of old)) x) (greatest_depth (job_of old)) (unread_of old) read (readings.to_read mid)
       → EntersNextBy files process clone defaults (by_crew old) (job_of old) (width_of old) (next_address (frontier_of old)) (read_ahead old) read (readings.read_ahead mid)
       → PassesAddress (frontier_of old) read (readings.frontier_of mid)
@@ -150,13 +129,13 @@ module _ {C S P A T L R E : Type 0} (files : FileSystem.Ghosts S) (process : Pro
     first = items;
     has = dir;
     outcome = outcome;
-    reads = subst (λ (r : ReadDirIter C S P A T L R E). ReadsFirstBy clone (KnownAt files process clone defaults pool old (next_address (frontier_of old)) x) (greatest_depth (job_of old)) (unread_of old) outcome (readings.to_read r)) (sym same) reads;
+    reads = subst (λ (r : ReadDirIter C S P A L R E). ReadsFirstBy clone (KnownAt files process clone defaults pool old (next_address (frontier_of old)) x) (greatest_depth (job_of old)) (unread_of old) outcome (readings.to_read r)) (sym same) reads;
     told = received.0;
     items = received.1;
     frontier = ap readings.frontier_of same ∙ passes;
-    ahead = subst (λ (r : ReadDirIter C S P A T L R E). EntersBy files process clone defaults (by_crew old) (job_of old) (width_of old) (next_address (frontier_of old)) (read_ahead old) (readings.read_ahead r)) (sym same) enters;
+    ahead = subst (λ (r : ReadDirIter C S P A L R E). EntersBy files process clone defaults (by_crew old) (job_of old) (width_of old) (next_address (frontier_of old)) (read_ahead old) (readings.read_ahead r)) (sym same) enters;
   })
 
   -- an item without a directory is passed
-  pub passed_alone : (old : DirEntryIter C S P A T L R E) (from : Position R E) (x : Item R E) (rest : List (Item R E)) → from.items ≡ x ∷ rest → has_directory x ≡ false → PassesOne files process clone defaults pool old from x (record from { items = rest })
+  pub passed_alone : (old : DirEntryIter C S P A L R E) (from : Position R E) (x : Item R E) (rest : List (Item R E)) → from.items ≡ x ∷ rest → has_directory x ≡ false → PassesOne files process clone defaults pool old from x (record from { items = rest })
   passed_alone old from x rest items none = inl (record { rest = rest; first = items; none_below = alone_at from.items rest x from.unread items none; others = refl })

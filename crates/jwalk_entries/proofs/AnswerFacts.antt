@@ -52,35 +52,35 @@ nothing_by given true items specs h = absurd cc
 nothing_by given false [] specs h = refl
 nothing_by given false (x ∷ items) specs h = absurd cc
 
-module _ {C S P A T L R E : Type 0} where
-  held_rest : (it : DirEntryIter C S P A T L R E) → it.refused ≡ false → held it ≡ pair_up (items_of it) (unread_of it)
+module _ {C S P A L R E : Type 0} where
+  held_rest : (it : DirEntryIter C S P A L R E) → it.refused ≡ false → held it ≡ pair_up (items_of it) (unread_of it)
   held_rest it started = rw started refl
 
-  held_nothing : (it : DirEntryIter C S P A T L R E) → it.refused ≡ false → items_of it ≡ [] → held it ≡ []
+  held_nothing : (it : DirEntryIter C S P A L R E) → it.refused ≡ false → items_of it ≡ [] → held it ≡ []
   held_nothing it started none = held_rest it started ∙ ap (λ l. pair_up l (unread_of it)) none
 
-  pub held_refused : (it : DirEntryIter C S P A T L R E) → it.refused ≡ true → held it ≡ record { item = Err memory; source = nothing } ∷ pair_up (items_of it) (unread_of it)
+  pub held_refused : (it : DirEntryIter C S P A L R E) → it.refused ≡ true → held it ≡ record { item = Err memory; source = nothing } ∷ pair_up (items_of it) (unread_of it)
   held_refused it refused = rw refused refl
 
-  pub held_by_rest : (given : Given R E) (it : DirEntryIter C S P A T L R E) → it.refused ≡ false → held_by given it ≡ pair_up (map (counted_item given) (items_of it)) (map (counted_spec given) (unread_of it))
+  pub held_by_rest : (given : Given R E) (it : DirEntryIter C S P A L R E) → it.refused ≡ false → held_by given it ≡ pair_up (map (counted_item given) (items_of it)) (map (counted_spec given) (unread_of it))
   held_by_rest given it started = rw started refl
 
-  held_by_refused : (given : Given R E) (it : DirEntryIter C S P A T L R E) → it.refused ≡ true → held_by given it ≡ record { item = Err memory; source = nothing } ∷ pair_up (map (counted_item given) (items_of it)) (map (counted_spec given) (unread_of it))
+  held_by_refused : (given : Given R E) (it : DirEntryIter C S P A L R E) → it.refused ≡ true → held_by given it ≡ record { item = Err memory; source = nothing } ∷ pair_up (map (counted_item given) (items_of it)) (map (counted_spec given) (unread_of it))
   held_by_refused given it refused = rw refused refl
 
   -- where nothing is held, nothing counts
-  pub held_by_nothing : (given : Given R E) (it : DirEntryIter C S P A T L R E) → held it ≡ [] → held_by given it ≡ []
+  pub held_by_nothing : (given : Given R E) (it : DirEntryIter C S P A L R E) → held it ≡ [] → held_by given it ≡ []
   held_by_nothing given it none = nothing_by given it.refused (items_of it) (unread_of it) none
 
-  sourced_rest : (it : DirEntryIter C S P A T L R E) → it.refused ≡ false → IsSourced it → length (unread_of it) ≡ directories (items_of it)
+  sourced_rest : (it : DirEntryIter C S P A L R E) → it.refused ≡ false → IsSourced it → length (unread_of it) ≡ directories (items_of it)
   sourced_rest it started is = sourced_count (items_of it) (unread_of it) (rw (held_rest it started) at is.each) (rw (held_rest it started) at is.unread)
 
-  pub rest_sourced : (it : DirEntryIter C S P A T L R E) → it.refused ≡ false → length (unread_of it) ≡ directories (items_of it) → IsSourced it
+  pub rest_sourced : (it : DirEntryIter C S P A L R E) → it.refused ≡ false → length (unread_of it) ≡ directories (items_of it) → IsSourced it
   rest_sourced it started count =
       let both = sourced (items_of it) (unread_of it) count in
       record { each = rw (held_rest it started) both.0; unread = rw (held_rest it started) both.1 }
 
-module _ {C S P A T L R E : Type 0} (files : FileSystem.Ghosts S) (process : ProcessReadDir.Ghosts P C A R E) (clone : Clone.Ghosts R) (defaults : Default.Ghosts E) (pool : Pool.Ghosts L C S P A R E) (old new : DirEntryIter C S P A T L R E) where
+module _ {C S P A L R E : Type 0} (files : FileSystem.Ghosts S) (process : ProcessReadDir.Ghosts P C A R E) (clone : Clone.Ghosts R) (defaults : Default.Ghosts E) (pool : Pool.Ghosts L C S P A R E) (old new : DirEntryIter C S P A L R E) where
   -- what is listed of items and specifications over the old walk's job
   abbrev Listing : Given R E → List (Item R E) → List (Spec R) → List (Item Worth Worth)
   Listing given items specs = listing (reading (job_by files given (job_of old))) (greatest_depth (job_of old)) (pair_up (map (counted_item given) items) (map (counted_spec given) specs))
@@ -224,10 +224,10 @@ module _ {C S P A T L R E : Type 0} (files : FileSystem.Ghosts S) (process : Pro
       }
 
 -- a walk that no crew reads for is steady over a steady job, if nothing was read early
-pub alone_steady : {C S P A T L R E : Type 0} (files : FileSystem.Ghosts S) (process : ProcessReadDir.Ghosts P C A R E) (clone : Clone.Ghosts R) (defaults : Default.Ghosts E) (pool : Pool.Ghosts L C S P A R E) (it : DirEntryIter C S P A T L R E) (given : Given R E) → by_crew it ≡ false → IsSteadyJob files process clone defaults (job_of it) given → (read_ahead it).done ≡ [] → IsSteadyWalk files process clone defaults pool it given
+pub alone_steady : {C S P A L R E : Type 0} (files : FileSystem.Ghosts S) (process : ProcessReadDir.Ghosts P C A R E) (clone : Clone.Ghosts R) (defaults : Default.Ghosts E) (pool : Pool.Ghosts L C S P A R E) (it : DirEntryIter C S P A L R E) (given : Given R E) → by_crew it ≡ false → IsSteadyJob files process clone defaults (job_of it) given → (read_ahead it).done ≡ [] → IsSteadyWalk files process clone defaults pool it given
 alone_steady files process clone defaults pool it given own steady none = record { reads = steady_at_rest files process clone defaults pool it.reads given own steady none; placed = rw own tt }
 
-module _ {C S P A T L R E : Type 0} (clone : Clone.Ghosts R) (r : Reading R E) (it : DirEntryIter C S P A T L R E) where
+module _ {C S P A L R E : Type 0} (clone : Clone.Ghosts R) (r : Reading R E) (it : DirEntryIter C S P A L R E) where
   -- a walk that has only a list, with its directories, holds the pairs of that list
   pub holds_list : (given : Given R E) → ClonesCount clone given → it.refused ≡ false → items_of it ≡ r.list → AreClones clone.is_clone (children r) (unread_of it) → held_by given it ≡ paired (counted_reading given r)
   holds_list given counts started all clones =
@@ -246,7 +246,7 @@ module _ {C S P A T L R E : Type 0} (clone : Clone.Ghosts R) (r : Reading R E) (
   list_sourced started all clones = rest_sourced it started (same_length clone.is_clone (children r) (unread_of it) clones ∙ as_many_of (Ok r) ∙ ap directories (sym all))
 
 -- a walk that took over its root's list holds the pairs of that list
-pub holds_root : {C S P A T L R E : Type 0} (clone : Clone.Ghosts R) (given : Given R E) (r : Reading R E) (before after begun : DirEntryIter C S P A T L R E) → ClonesCount clone given → begun.refused ≡ false → items_of begun ≡ items_of after → unread_of begun ≡ unread_of after → items_of before ≡ [] → items_of after ≡ r.list ++ items_of before → AreClones clone.is_clone (children r) (unread_of after) → held_by given begun ≡ paired (counted_reading given r)
+pub holds_root : {C S P A L R E : Type 0} (clone : Clone.Ghosts R) (given : Given R E) (r : Reading R E) (before after begun : DirEntryIter C S P A L R E) → ClonesCount clone given → begun.refused ≡ false → items_of begun ≡ items_of after → unread_of begun ≡ unread_of after → items_of before ≡ [] → items_of after ≡ r.list ++ items_of before → AreClones clone.is_clone (children r) (unread_of after) → held_by given begun ≡ paired (counted_reading given r)
 holds_root clone given r before after begun counts started same_items same_unread no_items items clones =
     holds_list clone r begun given counts started (same_items ∙ items ∙ ap (λ l. r.list ++ l) no_items ∙ append-nil r.list) (subst (AreClones clone.is_clone (children r)) (sym same_unread) clones)
 
@@ -258,6 +258,6 @@ pub within_root : {R E : Type 0} (greatest : ℕ) (items : List (Item R E)) → 
 within_root greatest items depth = at_depth 0 greatest items (omega arith) depth
 
 -- and only its directories are to be read
-pub root_sourced : {C S P A T L R E : Type 0} (clone : Clone.Ghosts R) (r : Reading R E) (before after begun : DirEntryIter C S P A T L R E) → begun.refused ≡ false → items_of begun ≡ items_of after → unread_of begun ≡ unread_of after → items_of before ≡ [] → items_of after ≡ r.list ++ items_of before → AreClones clone.is_clone (children r) (unread_of after) → IsSourced begun
+pub root_sourced : {C S P A L R E : Type 0} (clone : Clone.Ghosts R) (r : Reading R E) (before after begun : DirEntryIter C S P A L R E) → begun.refused ≡ false → items_of begun ≡ items_of after → unread_of begun ≡ unread_of after → items_of before ≡ [] → items_of after ≡ r.list ++ items_of before → AreClones clone.is_clone (children r) (unread_of after) → IsSourced begun
 root_sourced clone r before after begun started same_items same_unread no_items items clones =
     list_sourced clone r begun started (same_items ∙ items ∙ ap (λ l. r.list ++ l) no_items ∙ append-nil r.list) (subst (AreClones clone.is_clone (children r)) (sym same_unread) clones)

@@ -29,7 +29,7 @@ module _ {C S P A R E : Type 0} (files : FileSystem.Ghosts S) (process : Process
   coming_from None rest = rest
   coming_from (Some answer) rest = answer ∷ rest
 
-  answered_first : {T L : Type 0} (pool : Pool.Ghosts L C S P A R E) (old new : DirEntryIter C S P A T L R E) (answer : Option (Result (DirEntry C A R E) (Error A))) → IsSteadyWalk files process clone defaults pool old given → Answers files process clone defaults pool old answer new → IfSome (option_map item answer) (λ a. ¬ TellsMemory a)
+  answered_first : {L : Type 0} (pool : Pool.Ghosts L C S P A R E) (old new : DirEntryIter C S P A L R E) (answer : Option (Result (DirEntry C A R E) (Error A))) → IsSteadyWalk files process clone defaults pool old given → Answers files process clone defaults pool old answer new → IfSome (option_map item answer) (λ a. ¬ TellsMemory a)
       → (to_come files given old ≡ coming_from (counted_answer answer) (to_come files given new)) × (answer ≡ None → to_come files given new ≡ [])
   answered_first pool old new None steady call told =
       let nothing_left : to_come files given new ≡ [] = ap (value.to_come (reading (job_by files given (job_of new))) (min_depth_of new) (greatest_depth (job_of new))) (held_by_nothing given new call.ended) in
@@ -50,7 +50,7 @@ module _ {C S P A R E : Type 0} (files : FileSystem.Ghosts S) (process : Process
   same_by (Some x) (Some y) rest others same ends end = (cc, cc)
 
   -- Two walks have the same to come, whatever reads their directories and however many together. They yield the same if neither says that memory ran out, and the same is to come then.
-  pub same_answer : {T U L M : Type 0} (pool : Pool.Ghosts L C S P A R E) (its : Pool.Ghosts M C S P A R E) (old new : DirEntryIter C S P A T L R E) (other next : DirEntryIter C S P A U M R E) (answer told : Option (Result (DirEntry C A R E) (Error A)))
+  pub same_answer : {L M : Type 0} (pool : Pool.Ghosts L C S P A R E) (its : Pool.Ghosts M C S P A R E) (old new : DirEntryIter C S P A L R E) (other next : DirEntryIter C S P A M R E) (answer told : Option (Result (DirEntry C A R E) (Error A)))
       → IsSteadyWalk files process clone defaults pool old given → IsSteadyWalk files process clone defaults its other given → Answers files process clone defaults pool old answer new → Answers files process clone defaults its other told next
       → IfSome (option_map item answer) (λ a. ¬ TellsMemory a) → IfSome (option_map item told) (λ a. ¬ TellsMemory a)
       → to_come files given old ≡ to_come files given other → (counted_answer answer ≡ counted_answer told) × (to_come files given new ≡ to_come files given next)

@@ -1,5 +1,5 @@
 -- One item is passed, and items are passed one after another.
-use Rattle.std.proofs.Common.{◌≡◌, ◌≢◌, ℕ, ◌+◌, ◌<◌, ◌≤◌, Bool, true, false, List, [], ◌∷◌, ◌++◌, map, length, append-nil, Option, Some, None, Result, Ok, Err, IfErr, IsErrAnd, inl, inr, refl, sym, ap, ◌∙◌, subst, arith}
+use Rattle.std.proofs.Common.{◌≡◌, ◌≢◌, ℕ, ◌+◌, ◌<◌, ◌≤◌, Bool, true, false, List, [], ◌∷◌, ◌++◌, map, length, append-nil, Option, Some, None, Result, Ok, Err, IfErr, IsErr, IsErrAnd, inl, inr, refl, sym, ap, ◌∙◌, subst, arith}
 use Rattle.std.specs.Prelude.{if◌then◌else◌, All}
 use Rattle.std.proofs.lemmas.List.Elements.{All-nil, All-cons, All-append}
 use Rattle.std.proofs.lemmas.List.{map-append}
@@ -30,9 +30,10 @@ use Rattle.jwalk_crew.specs.declared.pool.Pool as Pool
 use Rattle.jwalk_crew.specs.declared.pool.Missed.{Missed}
 use Rattle.jwalk_readings.specs.CrewReads.{failure_of}
 use Rattle.jwalk_readings.specs.ReadDirIter.{Tells}
+use Rattle.jwalk_readings.proofs.ResultFacts.{none_ok, on_err, fewer_not_lost, passed_not_lost}
 use Rattle.jwalk_entries.specs.declared.dir_entry_iter.DirEntryIter.{DirEntryIter}
 use Rattle.jwalk_entries.specs.Step.{IsAtDirectory, PassesNext, passed_plainly, passed_entering, LeavesOut, none_left_out, one_left_out, ReadsUpTo}
-use Rattle.jwalk_entries.specs.DirEntryIter.{Position, by_crew, job_of, min_depth_of, items_of, unread_of, width_of, frontier_of, position_of, Known, KnownAt, IsSteadyWalk, ReadsStaySteady, PassesOne, PassesMany, none_passed, GrowsAhead}
+use Rattle.jwalk_entries.specs.DirEntryIter.{Position, by_crew, job_of, min_depth_of, items_of, unread_of, width_of, frontier_of, position_of, Known, KnownAt, IsSteadyWalk, ReadsStaySteady, PassesOne, PassesMany, none_passed, GrowsAhead, Passes, GoesOn}
 use Rattle.jwalk_entries.proofs.PlacedFacts.{left_placed}
 use Rattle.jwalk_entries.proofs.AheadFacts.{grows, one_more, passed_before}
 
@@ -174,9 +175,14 @@ plain_if E false specs none = refl
 plain_if E true [] none = refl
 plain_if E true (s ∷ specs) none = absurd (none (refl, λ is. cc))
 
-module _ {C S P A T L R E : Type 0} (files : FileSystem.Ghosts S) (process : ProcessReadDir.Ghosts P C A R E) (clone : Clone.Ghosts R) (defaults : Default.Ghosts E) (pool : Pool.Ghosts L C S P A R E) where
+-- a reading that is missed says why the walk ends early, by the crew that it had before
+passed_tells : {T : Type 0} (before now : Bool) (missed : Missed) (r : Result T Missed) → IsErrAnd r (λ m. m ≡ missed) → now ≡ before → Tells now (failure_of missed) → IfErr r (λ m. Tells before (failure_of m))
+passed_tells before now missed (Ok x) same crew tells = tt
+passed_tells before now missed (Err m) same crew tells = subst (λ b. Tells b (failure_of m)) crew (subst (λ f. Tells now (failure_of f)) (sym same) tells)
+
+module _ {C S P A L R E : Type 0} (files : FileSystem.Ghosts S) (process : ProcessReadDir.Ghosts P C A R E) (clone : Clone.Ghosts R) (defaults : Default.Ghosts E) (pool : Pool.Ghosts L C S P A R E) where
   -- one item that is passed, by what is held
-  next_of : (it : DirEntryIter C S P A T L R E) {from to : Position R E} {x : Item R E} → PassesOne files process clone defaults pool it from x to → PassesNext clone (KnownAt files process clone defaults pool it (next_address from.frontier)) (job_of it) from.items from.unread x to.items to.unread
+  next_of : (it : DirEntryIter C S P A L R E) {from to : Position R E} {x : Item R E} → PassesOne files process clone defaults pool it from x to → PassesNext clone (KnownAt files process clone defaults pool it (next_address from.frontier)) (job_of it) from.items from.unread x to.items to.unread
   next_of it {from} {to} {x} one = elim one [
     | inl plain ↦
         let Next : List (Item R E) → Position R E → Type 0 = λ items after. PassesNext clone (KnownAt files process clone defaults pool it (next_address from.frontier)) (job_of it) items from.unread x after.items after.unread in
@@ -186,7 +192,7 @@ module _ {C S P A T L R E : Type 0} (files : FileSystem.Ghosts S) (process : Pro
   ]
 
   -- What was passed over so far is left out.
-  pub record PassedOver (old new : DirEntryIter C S P A T L R E) : Type 0 where
+  pub record PassedOver (old new : DirEntryIter C S P A L R E) : Type 0 where
     pub crew : by_crew new ≡ by_crew old
     pub job : job_of new ≡ job_of old
     pub refused : new.refused ≡ old.refused
@@ -198,44 +204,35 @@ module _ {C S P A T L R E : Type 0} (files : FileSystem.Ghosts S) (process : Pro
     pub entered : ℕ
     pub passes : PassesMany files process clone defaults pool old (position_of old) left_out entered (position_of new)
 
-  -- One call of a walk's `pass`.
-  pub record Passes (old : DirEntryIter C S P A T L R E) (passed : Result (DirEntry C A R E) (Error A)) (new : DirEntryIter C S P A T L R E) : Type 0 where
-    pub crew : by_crew new ≡ by_crew old
-    pub job : job_of new ≡ job_of old
-    pub refused : new.refused ≡ old.refused
-    pub steady : ReadsStaySteady files process clone defaults pool old new
-    pub next : PassesOne files process clone defaults pool old (position_of old) (item passed) (position_of new)
-    pub width : width_of new ≡ width_of old
-
-  pub none_passed_over : (it : DirEntryIter C S P A T L R E) → PassedOver it it
+  pub none_passed_over : (it : DirEntryIter C S P A L R E) → PassedOver it it
   none_passed_over it = record { crew = refl; job = refl; refused = refl; width = refl; steady = λ given steady. steady; leaves = none_left_out; left_out = []; too_high = All-nil _; entered = 0; passes = none_passed }
 
-  passes_by : (old mid new : DirEntryIter C S P A T L R E) (passed : Result (DirEntry C A R E) (Error A)) → PassedOver old mid → Passes mid passed new → PassesOne files process clone defaults pool old (position_of mid) (item passed) (position_of new)
-  passes_by old mid new passed over passes = passed_before files process clone defaults pool old mid over.crew over.job over.width over.steady passes.next
+  passes_by : (old mid new : DirEntryIter C S P A L R E) (passed : Result (DirEntry C A R E) (Error A)) → PassedOver old mid → Passes files process clone defaults pool mid (Ok (Some passed)) new → PassesOne files process clone defaults pool old (position_of mid) (item passed) (position_of new)
+  passes_by old mid new passed over passes = passed_before files process clone defaults pool old mid over.crew over.job over.width over.steady passes.passed
 
-  passes_on : (old mid new : DirEntryIter C S P A T L R E) (passed : Result (DirEntry C A R E) (Error A)) → PassedOver old mid → Passes mid passed new → PassesNext clone (Known files process clone defaults pool old) (job_of old) (items_of mid) (unread_of mid) (item passed) (items_of new) (unread_of new)
+  passes_on : (old mid new : DirEntryIter C S P A L R E) (passed : Result (DirEntry C A R E) (Error A)) → PassedOver old mid → Passes files process clone defaults pool mid (Ok (Some passed)) new → PassesNext clone (Known files process clone defaults pool old) (job_of old) (items_of mid) (unread_of mid) (item passed) (items_of new) (unread_of new)
   passes_on old mid new passed over passes =
       let at = next_address (frontier_of mid) in
       next_over clone (KnownAt files process clone defaults pool old at) (job_of old) (Known files process clone defaults pool old) (λ x s o known. (at, known)) (next_of old (passes_by old mid new passed over passes))
 
-  many_on : (old mid new : DirEntryIter C S P A T L R E) (passed : Result (DirEntry C A R E) (Error A)) (over : PassedOver old mid) → Passes mid passed new → (n : ℕ) × PassesMany files process clone defaults pool old (position_of old) (over.left_out ++ item passed ∷ []) n (position_of new)
+  many_on : (old mid new : DirEntryIter C S P A L R E) (passed : Result (DirEntry C A R E) (Error A)) (over : PassedOver old mid) → Passes files process clone defaults pool mid (Ok (Some passed)) new → (n : ℕ) × PassesMany files process clone defaults pool old (position_of old) (over.left_out ++ item passed ∷ []) n (position_of new)
   many_on old mid new passed over passes = one_more files process clone defaults pool old over.passes (passes_by old mid new passed over passes)
 
   -- if the walk was steady, it still is once items were passed over
-  pub over_steady : (old mid : DirEntryIter C S P A T L R E) → PassedOver old mid → (given : Given R E) → IsSteadyWalk files process clone defaults pool old given → IsSteadyWalk files process clone defaults pool mid given
+  over_steady : (old mid : DirEntryIter C S P A L R E) → PassedOver old mid → (given : Given R E) → IsSteadyWalk files process clone defaults pool old given → IsSteadyWalk files process clone defaults pool mid given
   over_steady old mid over given steady = record {
     reads = over.steady given steady.reads;
     placed = rw over.crew (left_placed clone (Known files process clone defaults pool old) (job_of old) (items_of old) (unread_of old) (by_crew old) (items_of mid) (unread_of mid) over.leaves steady.placed);
   }
 
   -- the directories that are entered up to the first item that is yielded
-  pub grows_to_answer : (old mid new : DirEntryIter C S P A T L R E) (passed : Result (DirEntry C A R E) (Error A)) → PassedOver old mid → Passes mid passed new → GrowsAhead files process clone defaults pool old (Some (item passed)) new
+  grows_to_answer : (old mid new : DirEntryIter C S P A L R E) (passed : Result (DirEntry C A R E) (Error A)) → PassedOver old mid → Passes files process clone defaults pool mid (Ok (Some passed)) new → GrowsAhead files process clone defaults pool old (Some (item passed)) new
   grows_to_answer old mid new passed over passes =
       let more = many_on old mid new passed over passes in
       record { left_out = over.left_out; too_high = over.too_high; entered = more.0; passes = more.1; ahead = grows files process clone defaults pool old more.1 }
 
   -- and up to the end
-  pub grows_to_end : (old mid new : DirEntryIter C S P A T L R E) → PassedOver old mid → position_of new ≡ position_of mid → GrowsAhead files process clone defaults pool old None new
+  grows_to_end : (old mid new : DirEntryIter C S P A L R E) → PassedOver old mid → position_of new ≡ position_of mid → GrowsAhead files process clone defaults pool old None new
   grows_to_end old mid new over same =
       let all = subst (λ p. PassesMany files process clone defaults pool old (position_of old) over.left_out over.entered p) (sym same) over.passes in
       record {
@@ -246,7 +243,7 @@ module _ {C S P A T L R E : Type 0} (files : FileSystem.Ghosts S) (process : Pro
         ahead = grows files process clone defaults pool old all;
       }
 
-  pub one_passed_over : (old mid new : DirEntryIter C S P A T L R E) (passed : Result (DirEntry C A R E) (Error A)) → PassedOver old mid → Passes mid passed new → is_answered (min_depth_of new) (item passed) ≡ false → PassedOver old new
+  pub one_passed_over : (old mid new : DirEntryIter C S P A L R E) (passed : Result (DirEntry C A R E) (Error A)) → PassedOver old mid → Passes files process clone defaults pool mid (Ok (Some passed)) new → is_answered (min_depth_of new) (item passed) ≡ false → PassedOver old new
   one_passed_over old mid new passed over passes out =
       let more = many_on old mid new passed over passes in
       let Out : Item R E → Type 0 = λ x. is_answered (min_depth_of old) x ≡ false in
@@ -265,18 +262,58 @@ module _ {C S P A T L R E : Type 0} (files : FileSystem.Ghosts S) (process : Pro
       }
 
   -- the first item that is yielded after what was passed over
-  pub one_answered : (old mid new : DirEntryIter C S P A T L R E) (passed : Result (DirEntry C A R E) (Error A)) → PassedOver old mid → Passes mid passed new → is_answered (min_depth_of new) (item passed) ≡ true → ReadsUpTo clone (Known files process clone defaults pool old) (job_of old) (items_of old) (unread_of old) (Some (item passed)) (items_of new) (unread_of new)
+  one_answered : (old mid new : DirEntryIter C S P A L R E) (passed : Result (DirEntry C A R E) (Error A)) → PassedOver old mid → Passes files process clone defaults pool mid (Ok (Some passed)) new → is_answered (min_depth_of new) (item passed) ≡ true → ReadsUpTo clone (Known files process clone defaults pool old) (job_of old) (items_of old) (unread_of old) (Some (item passed)) (items_of new) (unread_of new)
   one_answered old mid new passed over passes kept =
       (items_of mid, unread_of mid, over.leaves, (passes_on old mid new passed over passes, subst (λ j. is_answered (options_of j).min_depth (item passed) ≡ true) (passes.job ∙ over.job) kept))
 
   -- and where nothing is held then
-  pub none_answered : (old mid new : DirEntryIter C S P A T L R E) → PassedOver old mid → items_of mid ≡ [] → position_of new ≡ position_of mid → ReadsUpTo clone (Known files process clone defaults pool old) (job_of old) (items_of old) (unread_of old) None (items_of new) (unread_of new)
+  none_answered : (old mid new : DirEntryIter C S P A L R E) → PassedOver old mid → items_of mid ≡ [] → position_of new ≡ position_of mid → ReadsUpTo clone (Known files process clone defaults pool old) (job_of old) (items_of old) (unread_of old) None (items_of new) (unread_of new)
   none_answered old mid new over none same = (items_of mid, unread_of mid, over.leaves, (none, ap (λ p. p.items) same ∙ none, ap (λ p. p.unread) same))
 
-  pub passes_lighter : (old new : DirEntryIter C S P A T L R E) (passed : Result (DirEntry C A R E) (Error A)) → Passes old passed new → weight (greatest_depth (job_of new)) (pair_up (items_of new) (unread_of new)) < weight (greatest_depth (job_of old)) (pair_up (items_of old) (unread_of old))
-  passes_lighter old new passed passes = rw passes.job (next_lighter clone (KnownAt files process clone defaults pool old (next_address (frontier_of old))) (job_of old) (next_of old passes.next))
+  pub passes_lighter : (old new : DirEntryIter C S P A L R E) (passed : Result (DirEntry C A R E) (Error A)) → Passes files process clone defaults pool old (Ok (Some passed)) new → weight (greatest_depth (job_of new)) (pair_up (items_of new) (unread_of new)) < weight (greatest_depth (job_of old)) (pair_up (items_of old) (unread_of old))
+  passes_lighter old new passed passes = rw passes.job (next_lighter clone (KnownAt files process clone defaults pool old (next_address (frontier_of old))) (job_of old) (next_of old passes.passed))
 
--- a reading that is missed says why the walk ends early, by the crew that it had before
-pub passed_tells : {T : Type 0} (before now : Bool) (missed : Missed) (r : Result T Missed) → IsErrAnd r (λ m. m ≡ missed) → now ≡ before → Tells now (failure_of missed) → IfErr r (λ m. Tells before (failure_of m))
-passed_tells before now missed (Ok x) same crew tells = tt
-passed_tells before now missed (Err m) same crew tells = subst (λ b. Tells b (failure_of m)) crew (subst (λ f. Tells now (failure_of f)) (sym same) tells)
+  -- what was passed over, and then one item that is yielded
+  pub goes_to_answer : (old mid new : DirEntryIter C S P A L R E) (passed : Result (DirEntry C A R E) (Error A)) → PassedOver old mid → Passes files process clone defaults pool mid (Ok (Some passed)) new → is_answered (min_depth_of new) (item passed) ≡ true → GoesOn files process clone defaults pool old (Ok (Some passed)) new
+  goes_to_answer old mid new passed over passes kept = record {
+    crew = passes.crew ∙ over.crew;
+    job = passes.job ∙ over.job;
+    refused = passes.refused ∙ over.refused;
+    width = passes.width ∙ over.width;
+    steady = λ given steady. passes.steady given (over.steady given steady);
+    reads = one_answered old mid new passed over passes kept;
+    ahead = grows_to_answer old mid new passed over passes;
+    tells = tt;
+    comes = tt;
+    stopped = tt;
+  }
+
+  -- or nothing that is left
+  pub goes_to_end : (old mid new : DirEntryIter C S P A L R E) → PassedOver old mid → Passes files process clone defaults pool mid (Ok None) new → GoesOn files process clone defaults pool old (Ok None) new
+  goes_to_end old mid new over passes = record {
+    crew = passes.crew ∙ over.crew;
+    job = passes.job ∙ over.job;
+    refused = passes.refused ∙ over.refused;
+    width = passes.width ∙ over.width;
+    steady = λ given steady. passes.steady given (over.steady given steady);
+    reads = none_answered old mid new over passes.end.0 passes.end.1;
+    ahead = grows_to_end old mid new over passes.end.1;
+    tells = tt;
+    comes = tt;
+    stopped = tt;
+  }
+
+  -- or a directory whose reading is missed
+  pub goes_to_missed : (old mid new : DirEntryIter C S P A L R E) (missed : Missed) (told : Result (Option (Result (DirEntry C A R E) (Error A))) Missed) → IsErr told → IsErrAnd told (λ m. m ≡ missed) → PassedOver old mid → Passes files process clone defaults pool mid (Err missed) new → GoesOn files process clone defaults pool old told new
+  goes_to_missed old mid new missed told failed why over passes = record {
+    crew = passes.crew ∙ over.crew;
+    job = passes.job ∙ over.job;
+    refused = passes.refused ∙ over.refused;
+    width = passes.width ∙ over.width;
+    steady = λ given steady. passes.steady given (over.steady given steady);
+    reads = none_ok _ told failed;
+    ahead = none_ok _ told failed;
+    tells = passed_tells (by_crew old) (by_crew mid) missed told why over.crew passes.tells;
+    comes = passed_not_lost _ missed told why (fewer_not_lost _ _ missed (over_steady old mid over) passes.comes);
+    stopped = on_err told (items_of mid, unread_of mid, over.leaves, passes.stopped);
+  }

@@ -1,5 +1,5 @@
 //! A walk's answers.
-ghost use Rattle.std.specs.Prelude.{◌≡◌, true, Ok, IfOk, IfErr, OnErr};
+ghost use Rattle.std.specs.Prelude.{◌≡◌, true, Ok, IfOk, OnErr};
 ghost use Rattle.read_parts.specs.Entry.{entry, item};
 ghost use Rattle.jwalk_read.specs.Job.{callback};
 
@@ -10,7 +10,6 @@ use jwalk_read::job::Job;
 use jwalk_read::read_dir::{Outcome, ReadDir};
 use jwalk_readings::crew_reads::error_of;
 use jwalk_readings::read_dir_iter::ReadDirIter;
-use jwalk_readings::threads::InTurn;
 use read_parts::client_state::ClientState;
 use read_parts::dir_entry::DirEntry;
 use read_parts::error::Error;
@@ -33,24 +32,17 @@ pub struct DirEntryIter<
     S: FileSystem,
     P: ProcessReadDir<C, A>,
     A: Allocator + Copy = Global,
-    T = InTurn,
     L = NoPool,
 > {
-    reads: ReadDirIter<C, S, P, A, T, L>,
+    reads: ReadDirIter<C, S, P, A, L>,
     // What was received and not yet passed on, the next one last.
     items: Vec<Result<DirEntry<C, A>, Error<A>>, A>,
     // Memory ran out at the start, and the error was not yielded yet.
     refused: bool,
 }
 
-impl<
-    C: ClientState,
-    S: FileSystem,
-    P: ProcessReadDir<C, A>,
-    A: Allocator + Copy,
-    T: Drop,
-    L: Drop,
-> Drop for DirEntryIter<C, S, P, A, T, L> {
+impl<C: ClientState, S: FileSystem, P: ProcessReadDir<C, A>, A: Allocator + Copy, L: Drop> Drop
+    for DirEntryIter<C, S, P, A, L> {
     fn drop(self) {
         let DirEntryIter {
             reads: _,
@@ -65,9 +57,8 @@ impl<
     S: FileSystem,
     P: ProcessReadDir<C, A>,
     A: Allocator + Copy,
-    T: Drop,
     L: Pool<C, S, P, A>,
-> DirEntryIter<C, S, P, A, T, L> {
+> DirEntryIter<C, S, P, A, L> {
     ghost use Rattle.std.specs.Prelude.{◌++◌, [], false, length, OnOk, IsSome, IfSome, IfNone, IsSomeAnd, option_map, map};
     ghost use Rattle.walk_model.specs.Entry.{AtDepth};
     ghost use Rattle.walk_model.specs.ReadDir.{children, AreClones};
@@ -77,14 +68,12 @@ impl<
     ghost use Rattle.read_parts.specs.Options as options;
     ghost use Rattle.jwalk_read.specs.Job.{options_of};
     ghost use Rattle.jwalk_engine.specs.ReadAhead.{nothing_ahead, BeginsWith};
-    ghost use Rattle.jwalk_readings.specs.CrewReads.{failure_of, NotLost};
-    ghost use Rattle.jwalk_readings.specs.ReadDirIter.{Tells};
-    ghost use Rattle.jwalk_entries.specs.DirEntryIter.{reads_of, by_crew, is_refused, job_of, min_depth_of, items_of, unread_of, width_of, read_ahead, early_of, position_of, held_by, IsWithin, IsSourced, IsRefused, Known, IsSteadyWalk, ReadsStaySteady, PassesOne, GrowsAhead, Answers, Counts};
-    ghost use Rattle.jwalk_entries.specs.Step.{IsAtDirectory, Receives, ReadsUpTo, StopsAtDirectory};
+    ghost use Rattle.jwalk_entries.specs.DirEntryIter.{reads_of, by_crew, is_refused, job_of, min_depth_of, items_of, unread_of, width_of, read_ahead, early_of, held_by, IsWithin, IsSourced, IsRefused, ReadsStaySteady, Passes, GoesOn, Answers, Fills, Counts};
+    ghost use Rattle.jwalk_entries.specs.Step.{Receives};
 
     /// Returns a walk whose start ran out of memory: it yields the error that reports it, and nothing else. The call
     /// itself needs no memory.
-    pub fn refused(alloc: A, threads: T, job: Job<C, S, P, A>) -> Self
+    pub fn refused(alloc: A, job: Job<C, S, P, A>) -> Self
         ensures own { by_crew result ≡ false }
         ensures job { job_of result ≡ job }
         ensures refused { is_refused result ≡ true }
@@ -95,7 +84,7 @@ impl<
     {
         let mode = job.options().mode();
         DirEntryIter {
-            reads: ReadDirIter::new(alloc, threads, job, mode),
+            reads: ReadDirIter::new(alloc, job, mode),
             items: Vec::new(alloc),
             refused: true,
         }
@@ -103,7 +92,7 @@ impl<
 
     /// Returns the walk over these readings that holds a root's list, and whose start may have run out of memory.
     pub fn with_list(
-        reads: ReadDirIter<C, S, P, A, T, L>,
+        reads: ReadDirIter<C, S, P, A, L>,
         list: Vec<Result<DirEntry<C, A>, Error<A>>, A>,
         refused: bool,
     ) -> Self
@@ -139,12 +128,7 @@ impl<
 
     /// Returns the walk that begins with the root's list. If memory ran out, it yields the error that reports it, and
     /// nothing else.
-    pub fn from_root(
-        alloc: A,
-        threads: T,
-        job: Job<C, S, P, A>,
-        read: Option<ReadDir<C, A>>,
-    ) -> Self
+    pub fn from_root(alloc: A, job: Job<C, S, P, A>, read: Option<ReadDir<C, A>>) -> Self
         requires { IfSome read (λ r. AtDepth 0 (reading r).list) }
         ensures own { by_crew result ≡ false }
         ensures job { job_of result ≡ job }
@@ -157,7 +141,7 @@ impl<
         ensures held { (g : _) → ClonesCount C.ReadDirState.Clone g → is_refused result ≡ false
             → IsSomeAnd read (λ r. held_by g result ≡ paired (counted_reading g (reading r))) }
     {
-        let mut walk = DirEntryIter::refused(alloc, threads, job);
+        let mut walk = DirEntryIter::refused(alloc, job);
         let Some(read) = read else {
             return walk;
         };
@@ -225,21 +209,8 @@ impl<
     /// Passes the next item on.
     fn pass(&mut self) -> Result<Option<Result<DirEntry<C, A>, Error<A>>>, Missed>
         requires { P.IsLawful (callback (job_of self.old)) }
-        ensures crew { by_crew self.new ≡ by_crew self.old }
-        ensures job { job_of self.new ≡ job_of self.old }
-        ensures refused { self.new.refused ≡ self.old.refused }
-        ensures end { IfOk result (λ o. IfNone o
-            ((items_of self.old ≡ []) × (position_of self.new ≡ position_of self.old))) }
-        ensures steady { ReadsStaySteady S.FileSystem P.ProcessReadDir C.ReadDirState.Clone C.DirEntryState.Default
-            L.Pool self.old self.new }
-        ensures passed { IfOk result (λ o. IfSome o (λ passed. PassesOne S.FileSystem P.ProcessReadDir
-            C.ReadDirState.Clone C.DirEntryState.Default L.Pool self.old (position_of self.old) (item passed)
-            (position_of self.new))) }
-        ensures width { width_of self.new ≡ width_of self.old }
-        ensures tells { IfErr result (λ missed. Tells (by_crew self.old) (failure_of missed)) }
-        ensures comes { IfErr result (NotLost (IsSteadyWalk S.FileSystem P.ProcessReadDir C.ReadDirState.Clone
-            C.DirEntryState.Default L.Pool self.old)) }
-        ensures stopped { OnErr result (IsAtDirectory (items_of self.old) (unread_of self.old)) }
+        ensures { Passes S.FileSystem P.ProcessReadDir C.ReadDirState.Clone C.DirEntryState.Default L.Pool
+            self.old result self.new }
     {
         match self.items.pop() {
             None => Ok(None),
@@ -276,24 +247,8 @@ impl<
     /// Returns the next item that is yielded.
     fn next_kept(&mut self) -> Result<Option<Result<DirEntry<C, A>, Error<A>>>, Missed>
         requires { P.IsLawful (callback (job_of self.old)) }
-        ensures crew { by_crew self.new ≡ by_crew self.old }
-        ensures job { job_of self.new ≡ job_of self.old }
-        ensures refused { self.new.refused ≡ self.old.refused }
-        ensures steady { ReadsStaySteady S.FileSystem P.ProcessReadDir C.ReadDirState.Clone C.DirEntryState.Default
-            L.Pool self.old self.new }
-        ensures reads { IfOk result (λ answer. ReadsUpTo C.ReadDirState.Clone
-            (Known S.FileSystem P.ProcessReadDir C.ReadDirState.Clone C.DirEntryState.Default L.Pool self.old)
-            (job_of self.old) (items_of self.old) (unread_of self.old)
-            (option_map item answer) (items_of self.new) (unread_of self.new)) }
-        ensures width { width_of self.new ≡ width_of self.old }
-        ensures ahead { IfOk result (λ answer. GrowsAhead S.FileSystem P.ProcessReadDir C.ReadDirState.Clone
-            C.DirEntryState.Default L.Pool self.old (option_map item answer) self.new) }
-        ensures tells { IfErr result (λ missed. Tells (by_crew self.old) (failure_of missed)) }
-        ensures comes { IfErr result (NotLost (IsSteadyWalk S.FileSystem P.ProcessReadDir C.ReadDirState.Clone
-            C.DirEntryState.Default L.Pool self.old)) }
-        ensures stopped { OnErr result (StopsAtDirectory C.ReadDirState.Clone
-            (Known S.FileSystem P.ProcessReadDir C.ReadDirState.Clone C.DirEntryState.Default L.Pool self.old)
-            (job_of self.old) (items_of self.old) (unread_of self.old)) }
+        ensures { GoesOn S.FileSystem P.ProcessReadDir C.ReadDirState.Clone C.DirEntryState.Default L.Pool
+            self.old result self.new }
     {
         while let Some(passed) = self.pass()? {
             if let Some(answer) = self.kept(passed) {
@@ -320,6 +275,36 @@ impl<
                 Some(Err(error_of(missed)))
             }
         }
+    }
+
+    /// Appends up to `n` answers to `out`, fewer if the walk ends before that, and returns how many.
+    ///
+    /// An answer is taken from the walk only once `out` has a free place. Over a crew the call may block for a reading
+    /// or for a lock.
+    ///
+    /// # Errors
+    ///
+    /// If memory runs out for the place. No answer is lost then: `out` has those that were appended, and another call
+    /// appends the next ones. If the walk itself runs out of memory, the error is one of the answers.
+    pub fn fill(
+        &mut self,
+        n: usize,
+        out: &mut Vec<Result<DirEntry<C, A>, Error<A>>, A>,
+    ) -> Result<usize, AllocError>
+        requires { P.IsLawful (callback (job_of self.old)) }
+        ensures { Fills S.FileSystem P.ProcessReadDir C.ReadDirState.Clone C.DirEntryState.Default L.Pool
+            n self.old out.old.items result out.new.items self.new }
+    {
+        let mut filled = 0;
+        while filled < n {
+            out.reserve(1)?;
+            let Some(answer) = self.next() else {
+                return Ok(filled);
+            };
+            out.push_reserved(answer);
+            filled += 1;
+        }
+        Ok(filled)
     }
 
     /// Returns whether memory ran out at the start, and the error that reports it was not yielded yet.
@@ -357,48 +342,7 @@ impl<
     P: ProcessReadDir<C, A>,
     A: Allocator + Copy,
     L: Pool<C, S, P, A>,
-> DirEntryIter<C, S, P, A, InTurn, L> {
-    ghost use Rattle.jwalk_entries.specs.DirEntryIter.{job_of, Fills};
-
-    /// Appends up to `n` answers to `out`, fewer if the walk ends before that, and returns how many.
-    ///
-    /// An answer is taken from the walk only once `out` has a free place. Over a crew the call may block for a reading
-    /// or for a lock.
-    ///
-    /// # Errors
-    ///
-    /// If memory runs out for the place. No answer is lost then: `out` has those that were appended, and another call
-    /// appends the next ones. If the walk itself runs out of memory, the error is one of the answers.
-    pub fn fill(
-        &mut self,
-        n: usize,
-        out: &mut Vec<Result<DirEntry<C, A>, Error<A>>, A>,
-    ) -> Result<usize, AllocError>
-        requires { P.IsLawful (callback (job_of self.old)) }
-        ensures { Fills S.FileSystem P.ProcessReadDir C.ReadDirState.Clone C.DirEntryState.Default L.Pool
-            n self.old out.old.items result out.new.items self.new }
-    {
-        let mut filled = 0;
-        while filled < n {
-            out.reserve(1)?;
-            let Some(answer) = self.next() else {
-                return Ok(filled);
-            };
-            out.push_reserved(answer);
-            filled += 1;
-        }
-        Ok(filled)
-    }
-}
-
-impl<
-    C: ClientState,
-    S: FileSystem,
-    P: ProcessReadDir<C, A>,
-    A: Allocator + Copy,
-    T: Drop,
-    L: Pool<C, S, P, A>,
-> Iterator for DirEntryIter<C, S, P, A, T, L> {
+> Iterator for DirEntryIter<C, S, P, A, L> {
     type Item = Result<DirEntry<C, A>, Error<A>>;
 
     ghost use Rattle.std.specs.Iterator.{at_most};

@@ -19,14 +19,13 @@ pub fn with_ignore_files<
     S: FileSystem,
     O: ProcessReadDir<((Chain<A>, B), E), A>,
     A: Allocator + Copy,
-    T: Drop,
     W: Drop,
     X: Texts,
     P: ProcessReadDir<((Chain<A>, B), E), A>,
 >(
-    walk: WalkDirGeneric<((Chain<A>, B), E), S, O, A, T, W>,
+    walk: WalkDirGeneric<((Chain<A>, B), E), S, O, A, W>,
     rules: IgnoreFiles<X, P>,
-) -> WalkDirGeneric<((Chain<A>, B), E), S, IgnoreFiles<X, P>, A, T, W>
+) -> WalkDirGeneric<((Chain<A>, B), E), S, IgnoreFiles<X, P>, A, W>
     ensures { SetsIgnoreFiles rules walk result }
 {
     walk.skip_hidden(false).process_read_dir(rules)

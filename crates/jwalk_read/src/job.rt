@@ -11,7 +11,7 @@ ghost use Rattle.read_parts.specs.Ancestors.{texts};
 ghost use Rattle.read_parts.specs.Entry.{entry, item, children};
 ghost use Rattle.read_parts.specs.ReadDirSpec.{spec};
 ghost use Rattle.jwalk_read.specs.ReadDir.{outcome, reading};
-ghost use Rattle.read_parts.specs.Options.{options_value, reads_by};
+ghost use Rattle.read_parts.specs.Options.{options_value};
 ghost use Rattle.read_parts.specs.Given.{counted_spec, counted_reading, counted_list, counted_entry, DefaultsCount};
 ghost use Rattle.jwalk_read.specs.Job.{file_system, callback, options_of, job_by, IsSteadyJob, IsReadingOf};
 ghost use Rattle.jwalk_read.specs.Gathering.{IsListed};
@@ -80,32 +80,9 @@ fn children_in<C: ClientState, A: Allocator + Copy>(
 }
 
 impl<C: ClientState, S: FileSystem, P: ProcessReadDir<C, A>, A: Allocator + Copy> Job<C, S, P, A> {
-    /// Returns a job over a file system and a callback. It sorts each list by name if `sort` is true, leaves out hidden
-    /// names if `skip_hidden` is, and follows links if `follow_links` is. It reads no directory whose depth is
-    /// `max_depth` or more.
-    pub fn new(
-        alloc: A,
-        fs: S,
-        process: P,
-        sort: bool,
-        skip_hidden: bool,
-        follow_links: bool,
-        max_depth: usize,
-    ) -> Self
-        ensures file_system { file_system result ≡ fs }
-        ensures callback { callback result ≡ process }
-        ensures options { options_of result ≡ reads_by sort skip_hidden follow_links max_depth }
-    {
-        Job::with_options(
-            alloc,
-            fs,
-            process,
-            Options::for_readings(sort, skip_hidden, follow_links, max_depth),
-        )
-    }
-
-    /// Returns a job over a file system and a callback, by the options of a walk.
-    pub fn with_options(alloc: A, fs: S, process: P, options: Options) -> Self
+    /// Returns a job over a file system and a callback, by the options of a walk. A reading goes by all of them but the
+    /// least depth and how directories are read.
+    pub fn new(alloc: A, fs: S, process: P, options: Options) -> Self
         ensures file_system { file_system result ≡ fs }
         ensures callback { callback result ≡ process }
         ensures options { options_of result ≡ options_value options }

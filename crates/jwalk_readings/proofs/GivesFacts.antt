@@ -30,7 +30,7 @@ use Rattle.jwalk_engine.specs.BatchReads as board
 use Rattle.jwalk_engine.specs.BatchReads.{BatchReads, PassesAddress, IsSteadyWalk}
 use Rattle.jwalk_crew.specs.declared.pool.Pool as Pool
 use Rattle.jwalk_readings.specs.declared.read_dir_iter.ReadDirIter.{ReadDirIter}
-use Rattle.jwalk_readings.specs.declared.read_dir_iter.ReadDirIter.TheVariants.{Walk, ParWalk, CrewWalk}
+use Rattle.jwalk_readings.specs.declared.read_dir_iter.ReadDirIter.TheVariants.{Walk, CrewWalk}
 use Rattle.jwalk_readings.specs.ReadDirIter.{by_crew, job_of, to_read, width_of, read_ahead, early_of, frontier_of, next_address, Tells, GivesError, GivesFirst, GivesPreorder, Known, EntersNextBy, IsSteadyReads, StartsSteady, StaysSteady, Gives}
 use Rattle.jwalk_readings.proofs.KnownFacts.{tells_memory, clones_if_steady, known_if_steady}
 
@@ -76,7 +76,7 @@ as_many (Some b) = length-map _ _ ∙ length-map b.ready _ ∙ sym (length-map b
 pub fewer_done : {C S P A R E : Type 0} (old new : BatchReads C S P A R E) (width : ℕ) → length (board.early_of new) + 1 ≤ length (board.early_of old) + width → length (board.read_ahead new).done + 1 ≤ length (board.read_ahead old).done + width
 fewer_done old new width fewer = rw (sym (as_many new.board), sym (as_many old.board)) fewer
 
-module _ {C S P A T L R E : Type 0} (files : FileSystem.Ghosts S) (process : ProcessReadDir.Ghosts P C A R E) (clone : Clone.Ghosts R) (defaults : Default.Ghosts E) (pool : Pool.Ghosts L C S P A R E) (old new : ReadDirIter C S P A T L R E) where
+module _ {C S P A L R E : Type 0} (files : FileSystem.Ghosts S) (process : ProcessReadDir.Ghosts P C A R E) (clone : Clone.Ghosts R) (defaults : Default.Ghosts E) (pool : Pool.Ghosts L C S P A R E) (old new : ReadDirIter C S P A L R E) where
   -- one call that read on
   pub gives_read : (may_lose : Bool) (read : Option (Result (ReadDir C A R E) (Error A))) → by_crew new ≡ by_crew old → job_of new ≡ job_of old → width_of new ≡ width_of old → length (early_of new) + 1 ≤ length (early_of old) + width_of old
       → StaysSteady files process clone defaults pool old new
@@ -123,7 +123,7 @@ none_lost b reading max_depth old new (Some given) gives = elim gives [
 ]
 
 -- so what is given where no reading may be lost may also be given where one may
-pub gives_any : {C S P A T L R E : Type 0} (files : FileSystem.Ghosts S) (process : ProcessReadDir.Ghosts P C A R E) (clone : Clone.Ghosts R) (defaults : Default.Ghosts E) (pool : Pool.Ghosts L C S P A R E) (b : Bool) (old new : ReadDirIter C S P A T L R E) (read : Option (Result (ReadDir C A R E) (Error A))) → Gives files process clone defaults pool false old read new → Gives files process clone defaults pool b old read new
+pub gives_any : {C S P A L R E : Type 0} (files : FileSystem.Ghosts S) (process : ProcessReadDir.Ghosts P C A R E) (clone : Clone.Ghosts R) (defaults : Default.Ghosts E) (pool : Pool.Ghosts L C S P A R E) (b : Bool) (old new : ReadDirIter C S P A L R E) (read : Option (Result (ReadDir C A R E) (Error A))) → Gives files process clone defaults pool false old read new → Gives files process clone defaults pool b old read new
 gives_any files process clone defaults pool b old new read gives = record {
   crew = gives.crew;
   job = gives.job;
@@ -148,12 +148,11 @@ steady_board files process clone defaults walk given steady none =
     record { steady = steady; early = rw nothing (All-nil (MadeAsGiven files given walk.job)) }
 
 -- where nothing was read early over a steady job, it is steady
-pub steady_at_rest : {C S P A T L R E : Type 0} (files : FileSystem.Ghosts S) (process : ProcessReadDir.Ghosts P C A R E) (clone : Clone.Ghosts R) (defaults : Default.Ghosts E) (pool : Pool.Ghosts L C S P A R E) (it : ReadDirIter C S P A T L R E) (given : Given R E) → by_crew it ≡ false → IsSteadyJob files process clone defaults (job_of it) given → (read_ahead it).done ≡ [] → IsSteadyReads files process clone defaults pool it given
+pub steady_at_rest : {C S P A L R E : Type 0} (files : FileSystem.Ghosts S) (process : ProcessReadDir.Ghosts P C A R E) (clone : Clone.Ghosts R) (defaults : Default.Ghosts E) (pool : Pool.Ghosts L C S P A R E) (it : ReadDirIter C S P A L R E) (given : Given R E) → by_crew it ≡ false → IsSteadyJob files process clone defaults (job_of it) given → (read_ahead it).done ≡ [] → IsSteadyReads files process clone defaults pool it given
 steady_at_rest files process clone defaults pool (Walk walk) given own steady none = steady_board files process clone defaults walk given steady none
-steady_at_rest files process clone defaults pool (ParWalk walk threads) given own steady none = steady_board files process clone defaults walk given steady none
 steady_at_rest files process clone defaults pool (CrewWalk reads) given own steady none = absurd cc
 
 -- so readings that begin with their roots are steady, if no crew makes them
-pub alone_steady : {C S P A T L R E F : Type 0} (files : FileSystem.Ghosts S) (process : ProcessReadDir.Ghosts P C A R E) (clone : Clone.Ghosts R) (defaults : Default.Ghosts E) (pool : Pool.Ghosts L C S P A R E) (roots : List (Spec R)) (made : Result (ReadDirIter C S P A T L R E) F) → IfOk made (λ it. by_crew it ≡ false) → IfOk made (λ it. BeginsWith roots (read_ahead it)) → IfOk made (StartsSteady files process clone defaults pool)
+pub alone_steady : {C S P A L R E F : Type 0} (files : FileSystem.Ghosts S) (process : ProcessReadDir.Ghosts P C A R E) (clone : Clone.Ghosts R) (defaults : Default.Ghosts E) (pool : Pool.Ghosts L C S P A R E) (roots : List (Spec R)) (made : Result (ReadDirIter C S P A L R E) F) → IfOk made (λ it. by_crew it ≡ false) → IfOk made (λ it. BeginsWith roots (read_ahead it)) → IfOk made (StartsSteady files process clone defaults pool)
 alone_steady files process clone defaults pool roots (Ok it) own begins = λ given steady. steady_at_rest files process clone defaults pool it given own steady begins.done
 alone_steady files process clone defaults pool roots (Err f) own begins = tt

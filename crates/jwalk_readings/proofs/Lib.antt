@@ -5,3 +5,4 @@ pub mod KnownFacts
 mod CrewFacts
 pub mod CrewSteadyFacts
 pub mod GivesFacts
+pub mod PrepareFacts

@@ -1,4 +1,3 @@
-pub mod Threads
 pub mod Parallelism
 pub mod CrewReads
 pub mod ReadDirIter

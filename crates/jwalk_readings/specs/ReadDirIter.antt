@@ -1,5 +1,5 @@
 -- What an iterator over readings still has to read, and what it gives.
-use Rattle.std.specs.Prelude.{◌≡◌, ◌≢◌, ◌≤◌, ◌+◌, ◌⊎◌, ℕ, Bool, true, false, length, List, [], ◌∷◌, map, Option, Some, None, option_map, Result, Err}
+use Rattle.std.specs.Prelude.{◌≡◌, ◌≢◌, ◌≤◌, ◌+◌, ◌⊎◌, ℕ, Bool, true, false, length, List, [], ◌∷◌, map, Option, Some, None, option_map, Result, Err, OnOk, OnErr}
 use Rattle.std.specs.declared.clone.Clone as Clone
 use Rattle.std.specs.declared.default.Default as Default
 use Rattle.walk_model.specs.Error.{Failure, memory, lost}
@@ -8,6 +8,7 @@ use Rattle.walk_model.specs.ReadDir.{Spec, Outcome}
 use Rattle.walk_model.specs.Preorder.{preorder}
 use Rattle.walk_model.specs.Job.{reading}
 use Rattle.walk_fs.specs.declared.file_system.FileSystem as FileSystem
+use Rattle.jwalk_order.specs.Addresses.{IsAmong}
 use Rattle.jwalk_order.specs.Frontier as frontier
 use Rattle.read_parts.specs.declared.process_read_dir.ProcessReadDir as ProcessReadDir
 use Rattle.read_parts.specs.declared.error.Error.{Error}
@@ -16,59 +17,53 @@ use Rattle.jwalk_read.specs.declared.job.Job.{Job}
 use Rattle.jwalk_read.specs.ReadDir.{outcome}
 use Rattle.read_parts.specs.Given.{Given, counted_spec, counted_outcome}
 use Rattle.jwalk_read.specs.Job.{greatest_depth, job_by, IsSteadyJob, IsGivenOver}
-use Rattle.jwalk_engine.specs.ReadAhead.{ReadAhead, nothing_ahead, Enters}
+use Rattle.jwalk_engine.specs.ReadAhead.{ReadAhead, nothing_ahead, Enters, MakesReady}
 use Rattle.jwalk_engine.specs.BatchReads as board
 use Rattle.jwalk_engine.specs.BatchReads.{PassesAddress, IsSteadyWalk}
 use Rattle.jwalk_engine.specs.Reads.{ReadsNextBy}
 use Rattle.jwalk_readings.specs.declared.read_dir_iter.ReadDirIter.{ReadDirIter}
-use Rattle.jwalk_readings.specs.declared.read_dir_iter.ReadDirIter.TheVariants.{Walk, ParWalk, CrewWalk}
+use Rattle.jwalk_readings.specs.declared.read_dir_iter.ReadDirIter.TheVariants.{Walk, CrewWalk}
 use Rattle.jwalk_readings.specs.CrewReads as crew
 use Rattle.jwalk_readings.specs.CrewReads.{IsTold, IsNextBelow, IsSteadyCrew}
 use Rattle.jwalk_crew.specs.declared.pool.Pool as Pool
 
-module _ {C S P A T L R E : Type 0} where
+module _ {C S P A L R E : Type 0} where
   -- whether a crew makes the readings
-  abbrev pub by_crew : ReadDirIter C S P A T L R E → Bool
+  abbrev pub by_crew : ReadDirIter C S P A L R E → Bool
   by_crew (Walk walk) = false
-  by_crew (ParWalk walk threads) = false
   by_crew (CrewWalk reads) = true
 
   -- what it reads with
-  abbrev pub job_of : ReadDirIter C S P A T L R E → Job C S P A R E
+  abbrev pub job_of : ReadDirIter C S P A L R E → Job C S P A R E
   job_of (Walk walk) = walk.job
-  job_of (ParWalk walk threads) = walk.job
   job_of (CrewWalk reads) = crew.job_of reads
 
   -- the specifications whose readings are still to be given, the next one first, without those below them
-  abbrev pub to_read : ReadDirIter C S P A T L R E → List (Spec R)
+  abbrev pub to_read : ReadDirIter C S P A L R E → List (Spec R)
   to_read (Walk walk) = board.to_read walk
-  to_read (ParWalk walk threads) = board.to_read walk
   to_read (CrewWalk reads) = crew.to_read reads
 
   -- how many directories are read together, by the walk or by each worker
-  abbrev pub width_of : ReadDirIter C S P A T L R E → ℕ
+  abbrev pub width_of : ReadDirIter C S P A L R E → ℕ
   width_of (Walk walk) = walk.width
-  width_of (ParWalk walk threads) = walk.width
   width_of (CrewWalk reads) = 1
 
   -- What isn't read yet, and what was read and not handed on, by address. Of a crew nothing is said.
-  abbrev pub read_ahead : ReadDirIter C S P A T L R E → ReadAhead R
+  abbrev pub read_ahead : ReadDirIter C S P A L R E → ReadAhead R
   read_ahead (Walk walk) = board.read_ahead walk
-  read_ahead (ParWalk walk threads) = board.read_ahead walk
   read_ahead (CrewWalk reads) = nothing_ahead
 
   -- the addresses of the readings that were made and not handed on
-  abbrev pub early_of : ReadDirIter C S P A T L R E → List (List ℕ)
+  abbrev pub early_of : ReadDirIter C S P A L R E → List (List ℕ)
   early_of it = (read_ahead it).done
 
   -- the addresses of the directories that are still to be entered, the next one first
-  abbrev pub frontier_of : ReadDirIter C S P A T L R E → List (List ℕ)
+  abbrev pub frontier_of : ReadDirIter C S P A L R E → List (List ℕ)
   frontier_of (Walk walk) = board.frontier_of walk
-  frontier_of (ParWalk walk threads) = board.frontier_of walk
   frontier_of (CrewWalk reads) = crew.frontier_of reads
 
   -- the address of the directory that is entered next
-  abbrev pub next_address : ReadDirIter C S P A T L R E → List ℕ
+  abbrev pub next_address : ReadDirIter C S P A L R E → List ℕ
   next_address it = frontier.next_address (frontier_of it)
 
 -- The error says why the readings end early: memory ran out, or a crew's reading won't come.
@@ -113,36 +108,56 @@ module _ {C S P A R E : Type 0} (files : FileSystem.Ghosts S) (process : Process
   EntersNextBy by_crew job width at old None new = new ≡ old
 
   -- A directory is entered, or nothing is left to be read. Or the readings end early, and nothing is left.
-  abbrev pub EntersFirst : {T L : Type 0} → ReadDirIter C S P A T L R E → Option (Outcome R E) → ReadDirIter C S P A T L R E → Type 0
+  abbrev pub EntersFirst : {L : Type 0} → ReadDirIter C S P A L R E → Option (Outcome R E) → ReadDirIter C S P A L R E → Type 0
   EntersFirst old given new =
       (GivesError (by_crew old) given × (read_ahead new ≡ nothing_ahead))
       ⊎ EntersNextBy (by_crew old) (job_of old) (width_of old) (next_address old) (read_ahead old) given (read_ahead new)
 
 module _ {C S P A L R E : Type 0} (files : FileSystem.Ghosts S) (process : ProcessReadDir.Ghosts P C A R E) (clone : Clone.Ghosts R) (defaults : Default.Ghosts E) (pool : Pool.Ghosts L C S P A R E) where
   -- It is steady over what is given: its job is, and what it read early, or its crew gives, is what the definition gives.
-  abbrev pub IsSteadyReads : {T : Type 0} → ReadDirIter C S P A T L R E → Given R E → Type 0
+  abbrev pub IsSteadyReads : ReadDirIter C S P A L R E → Given R E → Type 0
   IsSteadyReads (Walk walk) given = IsSteadyWalk files process clone defaults walk given
-  IsSteadyReads (ParWalk walk threads) given = IsSteadyWalk files process clone defaults walk given
   IsSteadyReads (CrewWalk reads) given = IsSteadyCrew files process clone defaults pool reads given
 
   -- It is steady over all that its job is steady over.
-  abbrev pub StartsSteady : {T : Type 0} → ReadDirIter C S P A T L R E → Type 0
+  abbrev pub StartsSteady : ReadDirIter C S P A L R E → Type 0
   StartsSteady it = (value : Given R E) → IsSteadyJob files process clone defaults (job_of it) value → IsSteadyReads it value
 
   -- It stays steady over all that it was steady over.
-  abbrev pub StaysSteady : {T : Type 0} → ReadDirIter C S P A T L R E → ReadDirIter C S P A T L R E → Type 0
+  abbrev pub StaysSteady : ReadDirIter C S P A L R E → ReadDirIter C S P A L R E → Type 0
   StaysSteady old new = (value : Given R E) → IsSteadyReads old value → IsSteadyReads new value
 
   -- What is known of the reading that comes next.
-  abbrev pub Known : {T : Type 0} → ReadDirIter C S P A T L R E → Spec R → Outcome R E → Type 0
+  abbrev pub Known : ReadDirIter C S P A L R E → Spec R → Outcome R E → Type 0
   Known it = KnownBy files process clone defaults (by_crew it) (IsSteadyReads it) (job_of it) (next_address it)
 
   -- What is known of the reading by which an item's directory is entered. A crew's reading is also that of the directory below this item.
-  abbrev pub KnownOf : {T : Type 0} → ReadDirIter C S P A T L R E → Item R E → Spec R → Outcome R E → Type 0
+  abbrev pub KnownOf : ReadDirIter C S P A L R E → Item R E → Spec R → Outcome R E → Type 0
   KnownOf it x spec outcome = Known it spec outcome × IsNextBelow (by_crew it) x (spec ∷ [])
 
+  -- The next reading isn't made yet, and is made together with others, by no crew. What is still to be given stays the same.
+  pub record ReadsForNext (old new : ReadDirIter C S P A L R E) : Type 0 where
+    pub own : by_crew old ≡ false
+    pub some : to_read old ≢ []
+    pub same : to_read new ≡ to_read old
+    pub frontier : frontier_of new ≡ frontier_of old
+    pub ready : MakesReady files process clone defaults (job_of old) (width_of old) (next_address old) (read_ahead old) (read_ahead new)
+
+  -- One call that prepares the next reading: some are read for it, or all stays as it is. If no crew reads, it is ready then, or nothing is left. The call fails only if something was left to be read, and then nothing is left.
+  pub record Prepares {F : Type 0} (old : ReadDirIter C S P A L R E) (result : Result (Unit {0}) F) (new : ReadDirIter C S P A L R E) : Type 0 where
+    pub crew : by_crew new ≡ by_crew old
+    pub job : job_of new ≡ job_of old
+    pub width : width_of new ≡ width_of old
+    pub wide : 1 ≤ width_of old
+    pub steady : StaysSteady old new
+    pub prepared : OnOk result ((new ≡ old) ⊎ ReadsForNext old new)
+    pub ready : OnOk result (by_crew old ≡ false → (to_read new ≡ []) ⊎ IsAmong (next_address new) (early_of new))
+    pub some : OnErr result (to_read old ≢ [])
+    pub stopped : OnErr result (to_read new ≡ [])
+    pub nothing : OnErr result (read_ahead new ≡ nothing_ahead)
+
   -- One call of an iterator over readings. By value, what it gives comes in preorder. A crew's readings may end with one that won't come only if another directory than the next one is asked for.
-  pub record Gives {T : Type 0} (may_lose : Bool) (old : ReadDirIter C S P A T L R E) (given : Option (Result (ReadDir C A R E) (Error A))) (new : ReadDirIter C S P A T L R E) : Type 0 where
+  pub record Gives (may_lose : Bool) (old : ReadDirIter C S P A L R E) (given : Option (Result (ReadDir C A R E) (Error A))) (new : ReadDirIter C S P A L R E) : Type 0 where
     pub crew : by_crew new ≡ by_crew old
     pub job : job_of new ≡ job_of old
     pub width : width_of new ≡ width_of old

@@ -1,8 +1,6 @@
 //! Readings of a walk's directories in preorder: one at a time, in batches or by a crew, and how to choose among these.
-//! these.
 #![tactic(auto)]
 
 pub mod crew_reads;
 pub mod parallelism;
 pub mod read_dir_iter;
-pub mod threads;

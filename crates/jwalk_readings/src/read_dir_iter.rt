@@ -13,7 +13,6 @@ mod over_pool;
 
 use crate::crew_reads::{CrewReads, error_of};
 use crate::parallelism::Parallelism;
-use crate::threads::InTurn;
 use jwalk_crew::pool::{Missed, NoPool, Pool};
 use jwalk_engine::batch_reads::BatchReads;
 use jwalk_read::job::Job;
@@ -42,29 +41,19 @@ pub enum ReadDirIter<
     S: FileSystem,
     P: ProcessReadDir<C, A>,
     A: Allocator + Copy = Global,
-    T = InTurn,
     L = NoPool,
 > {
-    /// One directory is read at a time, when its reading is asked for.
+    /// One directory or several are read together, when a reading is asked for that isn't there yet.
     Walk(BatchReads<C, S, P, A>),
-    /// Several directories are read together, when a reading is asked for that isn't there yet.
-    ParWalk(BatchReads<C, S, P, A>, T),
     /// The workers of a crew read ahead.
     CrewWalk(CrewReads<C, S, P, A, L>),
 }
 
-impl<
-    C: ClientState,
-    S: FileSystem,
-    P: ProcessReadDir<C, A>,
-    A: Allocator + Copy,
-    T: Drop,
-    L: Drop,
-> Drop for ReadDirIter<C, S, P, A, T, L> {
+impl<C: ClientState, S: FileSystem, P: ProcessReadDir<C, A>, A: Allocator + Copy, L: Drop> Drop
+    for ReadDirIter<C, S, P, A, L> {
     fn drop(self) {
         match self {
             ReadDirIter::Walk(_) => (),
-            ReadDirIter::ParWalk(_, _) => (),
             ReadDirIter::CrewWalk(_) => (),
         }
     }
@@ -75,9 +64,8 @@ impl<
     S: FileSystem,
     P: ProcessReadDir<C, A>,
     A: Allocator + Copy,
-    T: Drop,
     L: Pool<C, S, P, A>,
-> ReadDirIter<C, S, P, A, T, L> {
+> ReadDirIter<C, S, P, A, L> {
     ghost use Rattle.read_parts.specs.Options as options;
     ghost use Rattle.read_parts.specs.Options.{mode_value};
     ghost use Rattle.jwalk_read.specs.Job.{greatest_depth};
@@ -85,21 +73,17 @@ impl<
     ghost use Rattle.jwalk_engine.specs.ReadAhead.{nothing_ahead, BeginsWith};
     ghost use Rattle.jwalk_engine.specs.BatchReads.{PassesAddress};
     ghost use Rattle.jwalk_readings.specs.CrewReads.{failure_of, IsNextBelow, NotLost};
-    ghost use Rattle.jwalk_readings.specs.ReadDirIter.{by_crew, job_of, to_read, width_of, read_ahead, early_of, frontier_of, next_address, Tells, IsSteadyReads, StaysSteady, Known, EntersNextBy, Gives};
+    ghost use Rattle.jwalk_readings.specs.ReadDirIter.{by_crew, job_of, to_read, width_of, read_ahead, early_of, frontier_of, next_address, Tells, IsSteadyReads, StaysSteady, Known, KnownOf, EntersNextBy, GivesFirst, Gives};
 
     /// Returns readings with nothing to read yet, by no crew.
-    pub fn new(alloc: A, threads: T, job: Job<C, S, P, A>, mode: Mode) -> Self
+    pub fn new(alloc: A, job: Job<C, S, P, A>, mode: Mode) -> Self
         ensures own { by_crew result ≡ false }
         ensures job { job_of result ≡ job }
         ensures width { width_of result ≡ options.width_of (mode_value mode) }
         ensures to_read { to_read result ≡ [] }
         ensures read_ahead { read_ahead result ≡ nothing_ahead }
     {
-        let walk = BatchReads::new(alloc, job, mode.width());
-        match mode {
-            Mode::Batches(_) => ReadDirIter::ParWalk(walk, threads),
-            Mode::Serial | Mode::Crew => ReadDirIter::Walk(walk),
-        }
+        ReadDirIter::Walk(BatchReads::new(alloc, job, mode.width()))
     }
 
     /// Puts these directories in place of what was to be read, if no crew reads. They alone are queued, in their order,
@@ -120,14 +104,12 @@ impl<
     {
         match self {
             ReadDirIter::Walk(walk) => walk.begin(roots),
-            ReadDirIter::ParWalk(walk, _) => walk.begin(roots),
             ReadDirIter::CrewWalk(_) => unreachable!(),
         }
     }
 
     /// Returns the readings of these directories and of all that is below them, by no crew.
     fn alone(
-        threads: T,
         job: Job<C, S, P, A>,
         roots: Vec<ReadDirSpec<C, A>, A>,
         mode: Mode,
@@ -139,7 +121,7 @@ impl<
         ensures read_ahead { IfOk result (λ reads. BeginsWith (map spec roots.items) (read_ahead reads)) }
         ensures memory { IfErr result (λ error. failure error ≡ memory) }
     {
-        let mut reads = ReadDirIter::new(*roots.allocator(), threads, job, mode);
+        let mut reads = ReadDirIter::new(*roots.allocator(), job, mode);
         match reads.begin(roots) {
             Ok(()) => Ok(reads),
             Err(_) => Err(Error::memory()),
@@ -172,7 +154,6 @@ impl<
     {
         match self {
             ReadDirIter::Walk(walk) => Ok(walk.read_next()?),
-            ReadDirIter::ParWalk(walk, _) => Ok(walk.read_next()?),
             ReadDirIter::CrewWalk(reads) => reads.read_next(),
         }
     }
@@ -187,7 +168,6 @@ impl<
     {
         match self {
             ReadDirIter::Walk(_) => true,
-            ReadDirIter::ParWalk(_, _) => true,
             ReadDirIter::CrewWalk(reads) => reads.is_next(found),
         }
     }
@@ -203,92 +183,6 @@ impl<
             Err(missed) => Some(Err(error_of(missed))),
         }
     }
-
-    /// Returns the job that it reads with.
-    pub fn job(&self) -> &Job<C, S, P, A>
-        ensures { result.now ≡ job_of self.now }
-    {
-        match self {
-            ReadDirIter::Walk(walk) => walk.job(),
-            ReadDirIter::ParWalk(walk, _) => walk.job(),
-            ReadDirIter::CrewWalk(reads) => reads.job(),
-        }
-    }
-
-    /// Returns how many readings were made and not handed on. Over a crew it changes while the workers read, and the
-    /// call may block for a lock.
-    pub fn ahead(&self) -> usize
-        ensures { by_crew self.now ≡ false → result ≡ length (early_of self.now) }
-    {
-        match self {
-            ReadDirIter::Walk(walk) => walk.ahead(),
-            ReadDirIter::ParWalk(walk, _) => walk.ahead(),
-            ReadDirIter::CrewWalk(reads) => reads.ahead(),
-        }
-    }
-
-    /// Drops what is not read yet, and what was read early.
-    pub fn stop(&mut self)
-        ensures crew { by_crew self.new ≡ by_crew self.old }
-        ensures job { job_of self.new ≡ job_of self.old }
-        ensures width { width_of self.new ≡ width_of self.old }
-        ensures to_read { to_read self.new ≡ [] }
-        ensures read_ahead { read_ahead self.new ≡ nothing_ahead }
-        ensures steady { StaysSteady S.FileSystem P.ProcessReadDir C.ReadDirState.Clone C.DirEntryState.Default L.Pool
-            self.old self.new }
-    {
-        match self {
-            ReadDirIter::Walk(walk) => walk.stop(),
-            ReadDirIter::ParWalk(walk, _) => walk.stop(),
-            ReadDirIter::CrewWalk(reads) => reads.stop(),
-        }
-    }
-}
-
-impl<
-    C: ClientState,
-    S: FileSystem,
-    P: ProcessReadDir<C, A>,
-    A: Allocator + Copy,
-    T: Drop,
-> ReadDirIter<C, S, P, A, T, NoPool> {
-    ghost use Rattle.read_parts.specs.Options as options;
-    ghost use Rattle.jwalk_engine.specs.ReadAhead.{BeginsWith};
-    ghost use Rattle.jwalk_readings.specs.Parallelism.{parallelism_value};
-    ghost use Rattle.jwalk_readings.specs.ReadDirIter.{by_crew, job_of, to_read, width_of, read_ahead};
-
-    /// Returns the readings of these directories and of all that is below them.
-    ///
-    /// # Errors
-    ///
-    /// If memory runs out.
-    pub fn try_new(
-        threads: T,
-        job: Job<C, S, P, A>,
-        roots: Vec<ReadDirSpec<C, A>, A>,
-        parallelism: Parallelism<NoPool, A>,
-    ) -> Result<Self, Error<A>>
-        ensures own { IfOk result (λ reads. by_crew reads ≡ false) }
-        ensures job { IfOk result (λ reads. job_of reads ≡ job) }
-        ensures width { IfOk result (λ reads. width_of reads ≡ options.width_of (parallelism_value parallelism)) }
-        ensures to_read { IfOk result (λ reads. to_read reads ≡ map spec roots.items) }
-        ensures read_ahead { IfOk result (λ reads. BeginsWith (map spec roots.items) (read_ahead reads)) }
-        ensures memory { IfErr result (λ error. failure error ≡ memory) }
-    {
-        ReadDirIter::alone(threads, job, roots, parallelism.mode())
-    }
-}
-
-impl<
-    C: ClientState,
-    S: FileSystem,
-    P: ProcessReadDir<C, A>,
-    A: Allocator + Copy,
-    L: Pool<C, S, P, A>,
-> ReadDirIter<C, S, P, A, InTurn, L> {
-    ghost use Rattle.jwalk_read.specs.Job.{greatest_depth};
-    ghost use Rattle.jwalk_readings.specs.CrewReads.{IsNextBelow};
-    ghost use Rattle.jwalk_readings.specs.ReadDirIter.{by_crew, job_of, to_read, KnownOf, GivesFirst, Gives};
 
     /// Returns the reading of an entry's directory. It is the next one if the entries are those of the readings so far
     /// in the walk's order. The entry must have `read_children`. `None` means that nothing is left to be read.
@@ -314,6 +208,76 @@ impl<
         }
         self.next_or_stop()
     }
+
+    /// Returns the job that it reads with.
+    pub fn job(&self) -> &Job<C, S, P, A>
+        ensures { result.now ≡ job_of self.now }
+    {
+        match self {
+            ReadDirIter::Walk(walk) => walk.job(),
+            ReadDirIter::CrewWalk(reads) => reads.job(),
+        }
+    }
+
+    /// Returns how many readings were made and not handed on. Over a crew it changes while the workers read, and the
+    /// call may block for a lock.
+    pub fn ahead(&self) -> usize
+        ensures { by_crew self.now ≡ false → result ≡ length (early_of self.now) }
+    {
+        match self {
+            ReadDirIter::Walk(walk) => walk.ahead(),
+            ReadDirIter::CrewWalk(reads) => reads.ahead(),
+        }
+    }
+
+    /// Drops what is not read yet, and what was read early.
+    pub fn stop(&mut self)
+        ensures crew { by_crew self.new ≡ by_crew self.old }
+        ensures job { job_of self.new ≡ job_of self.old }
+        ensures width { width_of self.new ≡ width_of self.old }
+        ensures to_read { to_read self.new ≡ [] }
+        ensures read_ahead { read_ahead self.new ≡ nothing_ahead }
+        ensures steady { StaysSteady S.FileSystem P.ProcessReadDir C.ReadDirState.Clone C.DirEntryState.Default L.Pool
+            self.old self.new }
+    {
+        match self {
+            ReadDirIter::Walk(walk) => walk.stop(),
+            ReadDirIter::CrewWalk(reads) => reads.stop(),
+        }
+    }
+}
+
+impl<C: ClientState, S: FileSystem, P: ProcessReadDir<C, A>, A: Allocator + Copy> ReadDirIter<
+    C,
+    S,
+    P,
+    A,
+    NoPool,
+> {
+    ghost use Rattle.read_parts.specs.Options as options;
+    ghost use Rattle.jwalk_engine.specs.ReadAhead.{BeginsWith};
+    ghost use Rattle.jwalk_readings.specs.Parallelism.{parallelism_value};
+    ghost use Rattle.jwalk_readings.specs.ReadDirIter.{by_crew, job_of, to_read, width_of, read_ahead};
+
+    /// Returns the readings of these directories and of all that is below them.
+    ///
+    /// # Errors
+    ///
+    /// If memory runs out.
+    pub fn try_new(
+        job: Job<C, S, P, A>,
+        roots: Vec<ReadDirSpec<C, A>, A>,
+        parallelism: Parallelism<NoPool, A>,
+    ) -> Result<Self, Error<A>>
+        ensures own { IfOk result (λ reads. by_crew reads ≡ false) }
+        ensures job { IfOk result (λ reads. job_of reads ≡ job) }
+        ensures width { IfOk result (λ reads. width_of reads ≡ options.width_of (parallelism_value parallelism)) }
+        ensures to_read { IfOk result (λ reads. to_read reads ≡ map spec roots.items) }
+        ensures read_ahead { IfOk result (λ reads. BeginsWith (map spec roots.items) (read_ahead reads)) }
+        ensures memory { IfErr result (λ error. failure error ≡ memory) }
+    {
+        ReadDirIter::alone(job, roots, parallelism.mode())
+    }
 }
 
 impl<
@@ -321,9 +285,8 @@ impl<
     S: FileSystem,
     P: ProcessReadDir<C, A>,
     A: Allocator + Copy,
-    T: Drop,
     L: Pool<C, S, P, A>,
-> Iterator for ReadDirIter<C, S, P, A, T, L> {
+> Iterator for ReadDirIter<C, S, P, A, L> {
     type Item = Result<ReadDir<C, A>, Error<A>>;
 
     ghost use Rattle.std.specs.Iterator.{at_most};

@@ -2,7 +2,7 @@
 ghost use Rattle.jwalk.specs.jwalk_read.Job.{callback};
 
 use jwalk::file_system::FileSystem;
-use jwalk::read_dir::{Job, NoProcess, ProcessReadDir, ReadDirSpec};
+use jwalk::read_dir::{Job, NoProcess, Options, ProcessReadDir, ReadDirSpec};
 use jwalk::{ClientState, DirEntry, Error};
 use std::alloc::{AllocError, Global};
 use walk_fixtures::trees::{GROUPED, tree};
@@ -88,7 +88,7 @@ fn has_groups<S: FileSystem>(job: &Job<Noted, S, NotesNames>) -> Option<bool> {
 /// Whether the root of the grouped tree has the two groups.
 fn tree_has_groups(alloc: Global) -> Option<bool> {
     let fs = tree(alloc, GROUPED).ok()?;
-    has_groups(&Job::new(alloc, fs, NotesNames, false, true, false, usize::MAX))
+    has_groups(&Job::new(alloc, fs, NotesNames, Options::new()))
 }
 
 #[test]
@@ -101,7 +101,12 @@ type Plain<S> = Job<((), ()), S, NoProcess>;
 
 /// A reading as far as this depth.
 fn plain<S: FileSystem>(alloc: Global, fs: S, max_depth: usize) -> Plain<S> {
-    Job::new(alloc, fs, NoProcess, false, true, false, max_depth)
+    Job::new(
+        alloc,
+        fs,
+        NoProcess,
+        Options::new().with_max_depth(max_depth),
+    )
 }
 
 // How many directories the root has, as far as a job reads.

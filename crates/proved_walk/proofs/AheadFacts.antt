@@ -46,14 +46,14 @@ one_answer : {X : Type 0} (answer : Option X) → length (option_to_list answer)
 one_answer None = omega arith
 one_answer (Some x) = omega arith
 
-module _ {C S P A T L R E : Type 0} (files : FileSystem.Ghosts S) (process : ProcessReadDir.Ghosts P C A R E) (clone : Clone.Ghosts R) (defaults : Default.Ghosts E) (pool : Pool.Ghosts L C S P A R E) where
+module _ {C S P A L R E : Type 0} (files : FileSystem.Ghosts S) (process : ProcessReadDir.Ghosts P C A R E) (clone : Clone.Ghosts R) (defaults : Default.Ghosts E) (pool : Pool.Ghosts L C S P A R E) where
   -- no more directories are entered than items are passed
-  as_passed : (it : DirEntryIter C S P A T L R E) {from to : Position R E} {passed : List (Item R E)} {entered : ℕ} → PassesMany files process clone defaults pool it from passed entered to → entered ≤ length passed
+  as_passed : (it : DirEntryIter C S P A L R E) {from to : Position R E} {passed : List (Item R E)} {entered : ℕ} → PassesMany files process clone defaults pool it from passed entered to → entered ≤ length passed
   as_passed it none_passed = omega arith
   as_passed it (one_passed plain rest) = omega (arith, as_passed it rest)
   as_passed it (one_entered enters rest) = omega (arith, as_passed it rest)
 
-  module _ (old new : DirEntryIter C S P A T L R E) (answer : Option (Result (DirEntry C A R E) (Error A))) where
+  module _ (old new : DirEntryIter C S P A L R E) (answer : Option (Result (DirEntry C A R E) (Error A))) where
     abbrev pub HasStopped : Bool → Type 0
     HasStopped crew = IsSomeAnd (option_map item answer) (λ a. Stops crew a new)
 

@@ -19,9 +19,9 @@ use Rattle.jwalk.proofs.WholeFacts.{steady_start}
 use Rattle.jwalk.proofs.AlikeFacts.{same_start}
 use Rattle.proved_walk.specs.Alike.{counted_answer, IsPlain}
 
-module _ {C S P A T U V W L M R E : Type 0} (files : FileSystem.Ghosts S) (process : ProcessReadDir.Ghosts P C A R E) (clone : Clone.Ghosts R) (defaults : Default.Ghosts E) (pool : Pool.Ghosts L C S P A R E) (its : Pool.Ghosts M C S P A R E) (given : Given R E) where
+module _ {C S P A V W L M R E : Type 0} (files : FileSystem.Ghosts S) (process : ProcessReadDir.Ghosts P C A R E) (clone : Clone.Ghosts R) (defaults : Default.Ghosts E) (pool : Pool.Ghosts L C S P A R E) (its : Pool.Ghosts M C S P A R E) (given : Given R E) where
   -- They have the same to come, so their first answers are the same, if neither says that memory ran out.
-  pub first_same : (walk : WalkDirGeneric C S P A T V R E) (old new : DirEntryIter C S P A T L R E) (beside : WalkDirGeneric C S P A U W R E) (other next : DirEntryIter C S P A U M R E) (answer told : Option (Result (DirEntry C A R E) (Error A)))
+  pub first_same : (walk : WalkDirGeneric C S P A V R E) (old new : DirEntryIter C S P A L R E) (beside : WalkDirGeneric C S P A W R E) (other next : DirEntryIter C S P A M R E) (answer told : Option (Result (DirEntry C A R E) (Error A)))
       → by_crew old ≡ false → by_crew other ≡ false → Starts walk old → Starts beside other → Holds files process clone defaults walk old → Holds files process clone defaults beside other → IsSteady files process clone defaults (file_system_of walk) (callback_of walk) given
       → file_system_of beside ≡ file_system_of walk → callback_of beside ≡ callback_of walk → root_of beside ≡ root_of walk → state_of beside ≡ state_of walk → (p : Parallelism) → options_of beside ≡ with_parallelism p (options_of walk)
       → Answers files process clone defaults pool old answer new → Answers files process clone defaults its other told next → IsPlain answer → IsPlain told → counted_answer given answer ≡ counted_answer given told

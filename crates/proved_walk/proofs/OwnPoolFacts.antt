@@ -175,13 +175,13 @@ refused_outcome : {R E : Type 0} (given : Given R E) (o : Outcome R E) → count
 refused_outcome given (Ok r) is = absurd cc
 refused_outcome given (Err f) is = let told : f ≡ memory = cc in ap Err told
 
-module _ {C S P A T L R E : Type 0} (files : FileSystem.Ghosts S) (process : ProcessReadDir.Ghosts P C A R E) (clone : Clone.Ghosts R) (defaults : Default.Ghosts E) (pool : Pool.Ghosts L C S P A R E) (given : Given R E) where
+module _ {C S P A L R E : Type 0} (files : FileSystem.Ghosts S) (process : ProcessReadDir.Ghosts P C A R E) (clone : Clone.Ghosts R) (defaults : Default.Ghosts E) (pool : Pool.Ghosts L C S P A R E) (given : Given R E) where
   -- the readings of what is to be read, by a job
-  abbrev Readings : Job C S P A R E → ReadDirIter C S P A T L R E → List (Outcome Worth Worth)
+  abbrev Readings : Job C S P A R E → ReadDirIter C S P A L R E → List (Outcome Worth Worth)
   Readings job it = preorder (reading (job_by files given job)) (greatest_depth job) (map (counted_spec given) (to_read it))
 
   -- calls give the readings in preorder, as long as memory doesn't run out
-  read_on : (xs : List (Result (ReadDir C A R E) (Error A))) (s t : ReadDirIter C S P A T L R E) → IsSteadyReads files process clone defaults pool s given → Yields (Gives files process clone defaults pool false) s xs t → All (λ r. outcome r ≢ Err memory) xs
+  read_on : (xs : List (Result (ReadDir C A R E) (Error A))) (s t : ReadDirIter C S P A L R E) → IsSteadyReads files process clone defaults pool s given → Yields (Gives files process clone defaults pool false) s xs t → All (λ r. outcome r ≢ Err memory) xs
       → (Readings (job_of s) s ≡ map (λ r. counted_outcome given (outcome r)) xs ++ Readings (job_of s) t) × (job_of t ≡ job_of s) × IsSteadyReads files process clone defaults pool t given
   read_on [] s t steady same none = (ap (Readings (job_of s)) same, ap job_of (sym same), subst (λ k. IsSteadyReads files process clone defaults pool k given) same steady)
   read_on (x ∷ xs) s t steady (j, step, rest) none =
@@ -198,7 +198,7 @@ module _ {C S P A T L R E : Type 0} (files : FileSystem.Ghosts S) (process : Pro
       ]
 
   -- so calls up to `None` gave all of them
-  pub read_all : (xs : List (Result (ReadDir C A R E) (Error A))) (s t u : ReadDirIter C S P A T L R E) → IsSteadyReads files process clone defaults pool s given → Yields (Gives files process clone defaults pool false) s xs t → Gives files process clone defaults pool false t None u → All (λ r. outcome r ≢ Err memory) xs
+  pub read_all : (xs : List (Result (ReadDir C A R E) (Error A))) (s t u : ReadDirIter C S P A L R E) → IsSteadyReads files process clone defaults pool s given → Yields (Gives files process clone defaults pool false) s xs t → Gives files process clone defaults pool false t None u → All (λ r. outcome r ≢ Err memory) xs
       → map (λ r. counted_outcome given (outcome r)) xs ≡ Readings (job_of s) s
   read_all xs s t u steady calls last none =
       let read = read_on xs s t steady calls none in

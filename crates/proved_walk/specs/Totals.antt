@@ -12,7 +12,7 @@ abbrev pub IsFixedAs : {S : Type 0} → FileSystem.Ghosts S → Functions → S 
 IsFixedAs files functions fs = files.IsFixed fs × (files.functions fs ≡ functions)
 
 -- Two builders differ in this alone: the sizes of files are asked of one file system when they are counted, or by a callback. All file systems always return the same, each as the others do, and the builders have one root and the same options.
-pub record DifferInSizes {F S G H C D P A T U V W Q R E X : Type 0} (counting : FileSystem.Ghosts F) (walking : FileSystem.Ghosts S) (beside : FileSystem.Ghosts G) (asking : FileSystem.Ghosts H) (fs : F) (plain : WalkDirGeneric C S P A T V R E) (sized : WalkDirGeneric D G (WithSizes H) A U W Q X) : Type 0 where
+pub record DifferInSizes {F S G H C D P A V W Q R E X : Type 0} (counting : FileSystem.Ghosts F) (walking : FileSystem.Ghosts S) (beside : FileSystem.Ghosts G) (asking : FileSystem.Ghosts H) (fs : F) (plain : WalkDirGeneric C S P A V R E) (sized : WalkDirGeneric D G (WithSizes H) A W Q X) : Type 0 where
   pub functions : Functions
   pub counted_by : IsFixedAs counting functions fs
   pub plain_over : IsFixedAs walking functions (file_system_of plain)

@@ -20,9 +20,8 @@ pub fn next_and_ahead<
     S: FileSystem,
     P: ProcessReadDir<C, A>,
     A: Allocator + Copy,
-    T: Drop,
     L: Pool<C, S, P, A>,
->(walk: &mut DirEntryIter<C, S, P, A, T, L>) -> (usize, Option<Answer<DirEntry<C, A>, A>>, usize)
+>(walk: &mut DirEntryIter<C, S, P, A, L>) -> (usize, Option<Answer<DirEntry<C, A>, A>>, usize)
     requires lawful { P.IsLawful (callback (job_of walk.old)) }
     requires alone { by_crew walk.old ≡ false }
     ensures fewer { min_depth_of walk.old ≡ 0 → result.2 ≤ result.0 + (width_of walk.old - 1) }

@@ -5,7 +5,6 @@ ghost use Rattle.jwalk.specs.DirEntryIter.{job_of, Counts};
 
 use jwalk::file_system::FileSystem;
 use jwalk::read_dir::ProcessReadDir;
-use jwalk::threads::InTurn;
 use jwalk::{ClientState, DirEntryIter, Pool};
 use std::alloc::{AllocError, Allocator};
 
@@ -16,7 +15,7 @@ pub fn count_in_batches<
     P: ProcessReadDir<C, A>,
     A: Allocator + Copy,
     L: Pool<C, S, P, A>,
->(alloc: A, mut walk: DirEntryIter<C, S, P, A, InTurn, L>) -> Result<usize, AllocError>
+>(alloc: A, mut walk: DirEntryIter<C, S, P, A, L>) -> Result<usize, AllocError>
     requires { P.IsLawful (callback (job_of walk)) }
     ensures { IfOk result (Counts S.FileSystem P.ProcessReadDir C.ReadDirState.Clone C.DirEntryState.Default L.Pool
         walk) }

@@ -11,7 +11,6 @@ ghost use Rattle.jwalk.specs.DirEntryIter.{NoneRefused};
 use jwalk::error::Result as Answer;
 use jwalk::file_system::FileSystem;
 use jwalk::read_dir::ProcessReadDir;
-use jwalk::threads::InTurn;
 use jwalk::{ClientState, Crew, DirEntry, Error, WalkDirGeneric};
 use std::alloc::Allocator;
 use std::sync::Wait;
@@ -33,7 +32,7 @@ pub fn walk_by_crew<
     A: Allocator + Copy + Send + Sync + 'static,
 >(
     alloc: A,
-    walk: WalkDirGeneric<C, S, P, A, InTurn, Crew<R>>,
+    walk: WalkDirGeneric<C, S, P, A, Crew<R>>,
 ) -> Answer<Vec<Answer<DirEntry<C, A>, A>, A>, A>
 where
     C::ReadDirState: Send + 'static,

@@ -15,7 +15,6 @@ use crate::whole::walk_whole;
 use jwalk::error::Result as Answer;
 use jwalk::file_system::MemoryFs;
 use jwalk::read_dir::NoProcess;
-use jwalk::threads::InTurn;
 use jwalk::{Crew, DirEntry, Host, Parallelism, WalkDirGeneric};
 use std::alloc::{AllocError, Global};
 use std::sync::{Arc, Wait};
@@ -42,9 +41,9 @@ pub fn walk_tree(alloc: Global, fs: MemoryFs, root: String) -> Result<Vec<Found>
 /// # Errors
 ///
 /// If memory runs out for the list.
-pub fn walk_tree_on_threads<R: Threads + Sync + Drop>(
+pub fn walk_tree_on_threads<R: Threads + Sync>(
     alloc: Global,
-    rt: R,
+    rt: &R,
     fs: MemoryFs,
     root: String,
 ) -> Result<Vec<Found>, AllocError>
@@ -52,10 +51,9 @@ pub fn walk_tree_on_threads<R: Threads + Sync + Drop>(
         ≡ stateless_walk (functions_of (tree_of fs)) defaults (string_bytes root)) }
 {
     let walk = WalkDirGeneric::<((), ()), _, _, _>::new(fs, root)
-        .threads(rt)
         .parallelism(Parallelism::RayonNewPool(256));
     let mut found = Vec::new(alloc);
-    walk.into_iter().fill(usize::MAX, &mut found)?;
+    walk.into_iter().fill_on(rt, usize::MAX, &mut found)?;
     Ok(found)
 }
 
@@ -65,7 +63,7 @@ fn by_crew<R: Wait + Clock + Drop>(
     busy_timeout: Option<Duration>,
     fs: MemoryFs,
     root: String,
-) -> WalkDirGeneric<((), ()), MemoryFs, NoProcess, Global, InTurn, Crew<R>>
+) -> WalkDirGeneric<((), ()), MemoryFs, NoProcess, Global, Crew<R>>
     ensures file_system { file_system_of result ≡ fs }
     ensures options { options_of result ≡ with_parallelism crew defaults }
     ensures root { root_of result ≡ string_bytes root }

@@ -21,7 +21,6 @@ use jwalk::index_path::IndexPath;
 use jwalk::ordered::Ordered;
 use jwalk::read_dir::{Job, NoProcess, ProcessReadDir, ReadDir, ReadDirSpec};
 use jwalk::read_dir_iter::ReadDirIter;
-use jwalk::threads::InTurn;
 use std::alloc::{AllocError, Global};
 use std::sync::Arc;
 
@@ -141,7 +140,7 @@ fn made_for<S: FileSystem>(
 pub fn read_when_asked<S: FileSystem>(
     job: TreeJob<S>,
     roots: Vec<ReadDirSpec<States>>,
-) -> Result<ReadDirIter<States, S, NoProcess, Global, InTurn, OwnPool<S>>, Error>
+) -> Result<ReadDirIter<States, S, NoProcess, Global, OwnPool<S>>, Error>
     ensures by { IfOk result (λ reads. by_crew reads ≡ true) }
     ensures job { IfOk result (λ reads. job_of reads ≡ job) }
     ensures to_read { IfOk result (λ reads. to_read reads ≡ map spec roots.items) }

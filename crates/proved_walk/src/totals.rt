@@ -47,12 +47,10 @@ pub fn totals_of_both<
     G: FileSystem,
     H: FileSystem,
     A: Allocator + Copy,
-    T: Drop,
-    U: Drop,
 >(
     fs: &F,
-    plain: WalkDirGeneric<C, S, NoProcess, A, T>,
-    sized: WalkDirGeneric<(B, Size), G, WithSizes<H>, A, U>,
+    plain: WalkDirGeneric<C, S, NoProcess, A>,
+    sized: WalkDirGeneric<(B, Size), G, WithSizes<H>, A>,
 ) -> Result<(Usage, Usage), UsageFault>
     ensures { IfOk result (λ both. DifferInSizes F.FileSystem S.FileSystem G.FileSystem H.FileSystem fs.now plain sized
         → both.0 ≡ both.1) }

@@ -41,7 +41,7 @@ pub fn walk_turned_by_crew<
         pool,
         busy_timeout: None,
     };
-    let walk = WalkDirGeneric::<((), ()), _, _, _, _, _>::with_crew(fs, root)
+    let walk = WalkDirGeneric::<((), ()), _, _, _, _>::with_crew(fs, root)
         .parallelism(by_crew)
         .process_read_dir_by(
             |_depth, _path, state, list|

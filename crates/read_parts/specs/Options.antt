@@ -1,7 +1,7 @@
 -- The options of a walk as a value.
 use Rattle.std.specs.Prelude.{ℕ, Bool, ◌==◌, if◌then◌else◌}
 use Rattle.walk_model.specs.Options as value
-use Rattle.walk_model.specs.Options.{serial, batches, crew, defaults}
+use Rattle.walk_model.specs.Options.{serial, batches, crew}
 use Rattle.read_parts.specs.declared.mode.Mode.{Mode}
 use Rattle.read_parts.specs.declared.mode.Mode.TheVariants.{Serial, Batches, Crew}
 use Rattle.read_parts.specs.declared.options.Options.{Options}
@@ -27,8 +27,3 @@ options_value it = record {
   max_depth = it.max_depth;
   parallelism = mode_value it.mode;
 }
-
--- the options that readings use
-abbrev pub reads_by : Bool → Bool → Bool → ℕ → value.Options
-reads_by sort skip_hidden follow_links max_depth =
-    record defaults { sort = sort; skip_hidden = skip_hidden; follow_links = follow_links; max_depth = max_depth }

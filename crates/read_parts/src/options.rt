@@ -32,7 +32,7 @@ impl Options {
     ghost use Rattle.walk_model.specs.Options.{defaults, with_sort, with_skip_hidden, with_follow_links, with_min_depth, with_max_depth, with_parallelism, ReadsAs};
     ghost use Rattle.walk_model.specs.Listing.{is_answered};
     ghost use Rattle.read_parts.specs.Entry.{item};
-    ghost use Rattle.read_parts.specs.Options.{mode_value, options_value, reads_by};
+    ghost use Rattle.read_parts.specs.Options.{mode_value, options_value};
 
     /// Returns the defaults.
     pub fn new() -> Self
@@ -44,20 +44,6 @@ impl Options {
             follow_links: false,
             min_depth: 0,
             max_depth: usize::MAX,
-            mode: Mode::Serial,
-        }
-    }
-
-    /// Returns the options that readings follow, with the least depth of the defaults.
-    pub fn for_readings(sort: bool, skip_hidden: bool, follow_links: bool, max_depth: usize) -> Self
-        ensures { options_value result ≡ reads_by sort skip_hidden follow_links max_depth }
-    {
-        Options {
-            sort,
-            skip_hidden,
-            follow_links,
-            min_depth: 0,
-            max_depth,
             mode: Mode::Serial,
         }
     }

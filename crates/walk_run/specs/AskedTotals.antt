@@ -1,7 +1,6 @@
 -- What a walk that is asked for totals prints.
 use Rattle.std.specs.Prelude.{◌≡◌, ℕ, true, List, Option}
 use Rattle.std.specs.Arc.{arc_value}
-use Rattle.std.specs.Borrow.{Bor}
 use Rattle.std.specs.declared.sync.Arc.{Arc}
 use Rattle.std.specs.declared.clone.Clone as Clone
 use Rattle.std.specs.declared.default.Default as Default
@@ -12,7 +11,6 @@ use Rattle.jwalk.specs.jwalk_process.declared.with_sizes.WithSizes.{WithSizes}
 use Rattle.jwalk.specs.jwalk_process.WithSizes.{asks}
 use Rattle.jwalk.specs.declared.crew.Pool as Pool
 use Rattle.jwalk.specs.declared.crew.Crew.{Crew}
-use Rattle.jwalk.specs.declared.threads.OnThreads.{OnThreads}
 use Rattle.jwalk.specs.declared.dir_entry_iter.DirEntryIter.{DirEntryIter}
 use Rattle.jwalk.specs.declared.walk_dir.WalkDirGeneric.{WalkDirGeneric}
 use Rattle.jwalk.specs.DirEntryIter.{Answers}
@@ -21,13 +19,13 @@ use Rattle.walk_text.specs.declared.asked.Asked.{Asked}
 use Rattle.walk_text.specs.Asked.{options_for}
 use Rattle.walk_run.specs.Totals.{PrintsTotals}
 
--- A walk with threads of a runtime, over a file system that is shared and from a root, began as is asked for, with a callback that asks that file system for sizes. It was called until it ended, the line of its totals was written, and no answer was an error.
+-- A walk over a file system that is shared and from a root, which may have a crew, began as is asked for, with a callback that asks that file system for sizes. It was called until it ended, the line of its totals was written, and no answer was an error.
 pub record CountsBegun (T : Type 0) {C S A L R : Type 0} (files : FileSystem.Ghosts (Arc S A)) (process : ProcessReadDir.Ghosts (WithSizes (Arc S A)) C A R Size) (clone : Clone.Ghosts R) (defaults : Default.Ghosts Size) (pool : Pool.Ghosts L C (Arc S A) (WithSizes (Arc S A)) A R Size) (fs : S) (asked : Asked) (root : List ℕ) (old new : Option (List ℕ)) : Type 0 where
-  pub walk : WalkDirGeneric C (Arc S A) (WithSizes (Arc S A)) A (OnThreads (Bor T)) (Crew T) R Size
+  pub walk : WalkDirGeneric C (Arc S A) (WithSizes (Arc S A)) A (Crew T) R Size
   pub file_system : arc_value (file_system_of walk) ≡ fs
   pub sizes : arc_value (asks (callback_of walk)) ≡ fs
   pub root_of_it : root_of walk ≡ root
   pub options : options_of walk ≡ options_for asked
-  pub it : DirEntryIter C (Arc S A) (WithSizes (Arc S A)) A (OnThreads (Bor T)) L R Size
+  pub it : DirEntryIter C (Arc S A) (WithSizes (Arc S A)) A L R Size
   pub starts : Starts walk it
   pub prints : PrintsTotals (Answers files process clone defaults pool) it old new true

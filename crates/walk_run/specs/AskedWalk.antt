@@ -2,14 +2,12 @@
 use Rattle.std.specs.Prelude.{◌≡◌, ℕ, true, List, Option, is_ok, if◌then◌else◌}
 use Rattle.std.specs.List.{list_all}
 use Rattle.std.specs.Io.KnownBytes.{Appends}
-use Rattle.std.specs.Borrow.{Bor}
 use Rattle.std.specs.declared.clone.Clone as Clone
 use Rattle.std.specs.declared.default.Default as Default
 use Rattle.walk_fs.specs.declared.file_system.FileSystem as FileSystem
 use Rattle.read_parts.specs.declared.process_read_dir.ProcessReadDir as ProcessReadDir
 use Rattle.jwalk.specs.declared.crew.Pool as Pool
 use Rattle.jwalk.specs.declared.crew.Crew.{Crew}
-use Rattle.jwalk.specs.declared.threads.OnThreads.{OnThreads}
 use Rattle.jwalk.specs.declared.dir_entry_iter.DirEntryIter.{DirEntryIter}
 use Rattle.jwalk.specs.declared.walk_dir.WalkDirGeneric.{WalkDirGeneric}
 use Rattle.jwalk.specs.DirEntryIter.{Answers}
@@ -37,12 +35,12 @@ pub record PrintsOver (fs : Functions) (asked : Asked) (root : List ℕ) (old ne
   pub prints : Appends old new (written fs asked (answers_over fs asked root))
   pub clean : list_all is_ok (answers_over fs asked root) ≡ true
 
--- A walk with threads of a runtime, over a file system and from a root, began as is asked for. It was called until it ended, the line of each answer was written, and no answer was an error.
+-- A walk over a file system and from a root, which may have a crew, began as is asked for. It was called until it ended, the line of each answer was written, and no answer was an error.
 pub record PrintsBegun (T : Type 0) {C S P A L R E : Type 0} (files : FileSystem.Ghosts S) (process : ProcessReadDir.Ghosts P C A R E) (clone : Clone.Ghosts R) (defaults : Default.Ghosts E) (pool : Pool.Ghosts L C S P A R E) (fs : S) (asked : Asked) (root : List ℕ) (old new : Option (List ℕ)) : Type 0 where
-  pub walk : WalkDirGeneric C S P A (OnThreads (Bor T)) (Crew T) R E
+  pub walk : WalkDirGeneric C S P A (Crew T) R E
   pub file_system : file_system_of walk ≡ fs
   pub root_of_it : root_of walk ≡ root
   pub options : options_of walk ≡ options_for asked
-  pub it : DirEntryIter C S P A (OnThreads (Bor T)) L R E
+  pub it : DirEntryIter C S P A L R E
   pub starts : Starts walk it
   pub prints : PrintsAll (Answers files process clone defaults pool) it old new true

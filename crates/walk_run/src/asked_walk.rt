@@ -10,7 +10,6 @@ use crate::walk_printed::print_walked;
 use jwalk::crew::Session;
 use jwalk::file_system::FileSystem;
 use jwalk::read_dir::{NoProcess, ProcessReadDir};
-use jwalk::threads::OnThreads;
 use jwalk::{ClientState, Crew, Parallelism, Pool, WalkDirGeneric};
 use std::alloc::{AllocError, Allocator};
 use std::io::Write;
@@ -46,24 +45,22 @@ fn parallelism_of<T: Wait + Clock + Clone + Drop, A: Allocator + Copy>(
 /// names, links, the least depth, the greatest, and last what directories are read by. The last holds whatever the
 /// greatest depth is.
 pub fn walk_of<
-    't,
     C: ClientState,
     T: Wait + Threads + Clock + Clone + Drop,
     S: FileSystem,
     A: Allocator + Copy,
 >(
-    rt: &'t T,
+    rt: &T,
     fs: S,
     root: String<A>,
     asked: Asked,
-) -> Result<WalkDirGeneric<C, S, NoProcess, A, OnThreads<&'t T>, Crew<T>>, AllocError>
+) -> Result<WalkDirGeneric<C, S, NoProcess, A, Crew<T>>, AllocError>
     ensures file_system { IfOk result (λ walk. file_system_of walk ≡ fs) }
     ensures root { IfOk result (λ walk. root_of walk ≡ string_bytes root) }
     ensures options { IfOk result (λ walk. options_of walk ≡ options_for asked) }
 {
     let alloc = *root.allocator();
     let mut walk = WalkDirGeneric::with_crew(fs, root)
-        .threads(rt)
         .sort(asked.sort)
         .skip_hidden(!asked.hidden)
         .follow_links(asked.follow);
@@ -107,5 +104,5 @@ pub fn print_walk<
     let root = String::from_str(alloc, request.root)?;
     let walk = walk_of::<((), ()), _, _, _>(rt, fs, root, request.asked)?;
     let mut answers = walk.into_iter();
-    Ok(status_once(print_walked(alloc, &mut answers, out), err))
+    Ok(status_once(print_walked(rt, alloc, &mut answers, out), err))
 }

@@ -1,4 +1,4 @@
-//! A walk's answers, printed, if threads read its directories.
+//! A walk's answers, printed, while threads read its directories.
 ghost use Rattle.std.specs.Prelude.{◌≡◌, IfOk, IfErr};
 ghost use Rattle.jwalk_read.specs.Job.{callback};
 ghost use Rattle.jwalk.specs.DirEntryIter.{job_of, Answers};
@@ -8,17 +8,16 @@ ghost use Rattle.walk_run.specs.Answers.{PrintsAll};
 use crate::answers::{print_one, room, write_rest};
 use jwalk::file_system::FileSystem;
 use jwalk::read_dir::ProcessReadDir;
-use jwalk::threads::OnThreads;
 use jwalk::{ClientState, DirEntryIter, Pool};
 use std::alloc::Allocator;
 use std::io::Write;
 use std::thread::Threads;
 use walk_text::failure::Failure;
 
-/// Prints a line for each answer of a walk, and returns whether none was an error. It calls the walk's own `next`,
-/// which has threads read a batch; that of an iterator, which a `for` calls, can start none.
+/// Prints a line for each answer of a walk, and returns whether none was an error. It calls `next_on`, which has threads
+/// read a batch; `next`, which a `for` calls, can start none.
 pub fn print_walked<
-    T: Threads + Sync + Drop,
+    T: Threads + Sync,
     W: Write,
     C: ClientState + Send,
     S: FileSystem + Send + Sync,
@@ -26,8 +25,9 @@ pub fn print_walked<
     A: Allocator + Copy + Send + Sync,
     L: Pool<C, S, P, A>,
 >(
+    rt: &T,
     alloc: A,
-    walk: &mut DirEntryIter<C, S, P, A, OnThreads<T>, L>,
+    walk: &mut DirEntryIter<C, S, P, A, L>,
     out: &mut W,
 ) -> Result<bool, Failure>
 where
@@ -41,7 +41,7 @@ where
     let mut gathered = room(alloc)?;
     let mut clean = true;
     // begin loop
-    while let Some(answer) = walk.next() {
+    while let Some(answer) = walk.next_on(rt) {
         clean &= print_one(answer, &mut gathered, out)?;
     }
     // end loop

@@ -3,7 +3,6 @@ use crate::refused::goes::{Came, goes_on};
 use crate::refused::rows::GROUPS;
 use jwalk::file_system::MemoryFs;
 use jwalk::read_dir::NoProcess;
-use jwalk::threads::InTurn;
 use jwalk::{Crew, Parallelism, WalkDirGeneric};
 use refusing_alloc::Refusing;
 use std::alloc::Global;
@@ -17,7 +16,7 @@ use walk_fixtures::trees::tree;
 type Memory = &'static Refusing<Global>;
 
 /// A walk yet to begin that a crew is to read for.
-type Builder<R> = WalkDirGeneric<((), ()), Arc<MemoryFs>, NoProcess, Memory, InTurn, Crew<R>>;
+type Builder<R> = WalkDirGeneric<((), ()), Arc<MemoryFs>, NoProcess, Memory, Crew<R>>;
 
 /// Returns the walk, if there is memory for its root.
 fn builder<R: Host>(

@@ -3,7 +3,6 @@ use crate::refused::lines::{Given, are_first, is_line, is_refusal};
 use crate::refused::rows::Row;
 use jwalk::file_system::{FileSystem, MemoryFs};
 use jwalk::read_dir::NoProcess;
-use jwalk::threads::InTurn;
 use jwalk::{DirEntryIter, Error, Pool, WalkDirGeneric};
 use std::alloc::{Allocator, Global};
 use walk_ways::width::Width;
@@ -33,7 +32,7 @@ pub enum Taken {
 pub const TAKEN: &[Taken] = &[Taken::Tried, Taken::Begun, Taken::Filled];
 
 /// A walk under way, for which some pool may read.
-pub type Walk<S, A, L> = DirEntryIter<((), ()), S, NoProcess, A, InTurn, L>;
+pub type Walk<S, A, L> = DirEntryIter<((), ()), S, NoProcess, A, L>;
 
 /// A walk yet to begin.
 pub type Builder<'f, A> = WalkDirGeneric<((), ()), &'f MemoryFs, NoProcess, A>;

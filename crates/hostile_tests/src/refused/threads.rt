@@ -34,9 +34,9 @@ fn comes<R: Threads + Sync>(
     let Some(walk) = builder(memory, fs, row, WIDE) else {
         return Came::Refused;
     };
-    let mut walk = walk.threads(rt).into_iter();
+    let mut walk = walk.into_iter();
     let mut found: Vec<Given<&Refusing<Global>>, &Refusing<Global>> = Vec::new(memory);
-    let is_filled = walk.fill(100, &mut found).is_ok();
+    let is_filled = walk.fill_on(rt, 100, &mut found).is_ok();
     let is_refused = is_refusal(found.last());
     if is_refused {
         found.pop();

@@ -31,7 +31,7 @@ use std::time::{Clock, Duration};
 use walk_fs::file_system::FileSystem;
 
 /// A walk that a crew may read for.
-pub(super) type CrewWalk<R, C, S, P, A, T> = DirEntryIter<C, S, P, A, T, Session<R, C, S, P, A>>;
+pub(super) type CrewWalk<R, C, S, P, A> = DirEntryIter<C, S, P, A, Session<R, C, S, P, A>>;
 
 /// Puts the error that reports a busy crew in place of an entry whose directory is to be read.
 fn make_busy<C: ClientState, A: Allocator + Copy>(found: &mut Result<DirEntry<C, A>, Error<A>>)
@@ -91,13 +91,12 @@ fn begun<
     S: FileSystem,
     P: ProcessReadDir<C, A>,
     A: Allocator + Copy,
-    T: Drop,
     L: Pool<C, S, P, A>,
 >(
     reads: CrewReads<C, S, P, A, L>,
     read: ReadDir<C, A>,
     why_not: Option<NotStarted>,
-) -> DirEntryIter<C, S, P, A, T, L>
+) -> DirEntryIter<C, S, P, A, L>
     ensures reads { reads_of result ≡ ReadDirIter.CrewWalk reads }
     ensures items { items_of result ≡ left_of why_not (reading read).list }
     ensures refused { is_refused result ≡ is_refusal why_not }
@@ -112,20 +111,18 @@ pub(super) fn from_root_alone<
     S: FileSystem,
     P: ProcessReadDir<C, A>,
     A: Allocator + Copy,
-    T: Drop,
     L: Pool<C, S, P, A>,
 >(
     alloc: A,
-    threads: T,
     job: Job<C, S, P, A>,
     read: Option<ReadDir<C, A>>,
-) -> (DirEntryIter<C, S, P, A, T, L>, Option<NotStarted>)
+) -> (DirEntryIter<C, S, P, A, L>, Option<NotStarted>)
     requires { IfSome read (λ r. AtDepth 0 (reading r).list) }
     ensures from_root { IsFromRoot C.ReadDirState.Clone (option_map reading read) job result.1 result.0 }
     ensures steady { StartsSteady S.FileSystem P.ProcessReadDir C.ReadDirState.Clone C.DirEntryState.Default
         L.Pool result.0 }
 {
-    let walk = DirEntryIter::from_root(alloc, threads, job, read);
+    let walk = DirEntryIter::from_root(alloc, job, read);
     if walk.is_refused() {
         return (walk, Some(NotStarted::Memory));
     }
@@ -167,8 +164,7 @@ impl<
     S: FileSystem + Send + Sync + 'static,
     P: ProcessReadDir<C, A> + Send + Sync + 'static,
     A: Allocator + Copy + Send + Sync + 'static,
-    T: Drop,
-> WalkDirGeneric<C, S, P, A, T, Crew<R>>
+> WalkDirGeneric<C, S, P, A, Crew<R>>
 where
     C::ReadDirState: Send + 'static,
     C::DirEntryState: Send + 'static,
@@ -182,7 +178,7 @@ where
         read: ReadDir<C, A>,
         crew: &Arc<Crew<R>, A>,
         busy_timeout: Option<Duration>,
-    ) -> (CrewWalk<R, C, S, P, A, T>, Option<NotStarted>)
+    ) -> (CrewWalk<R, C, S, P, A>, Option<NotStarted>)
         requires lawful { P.IsLawful (callback (reads_by.job_of reads)) }
         requires nothing { reads_by.to_read reads ≡ [] }
         requires steady { reads_by.StartsSteady S.FileSystem P.ProcessReadDir C.ReadDirState.Clone
@@ -202,12 +198,11 @@ where
     /// it. If memory ran out, the walk yields the error that reports it, and nothing else.
     pub(super) fn from_root_by(
         alloc: A,
-        threads: T,
         job: Job<C, S, P, A>,
         read: Option<ReadDir<C, A>>,
         crew: &Arc<Crew<R>, A>,
         busy_timeout: Option<Duration>,
-    ) -> (CrewWalk<R, C, S, P, A, T>, Option<NotStarted>)
+    ) -> (CrewWalk<R, C, S, P, A>, Option<NotStarted>)
         requires lawful { P.IsLawful (callback job) }
         requires mode { (options_of job).parallelism ≡ parallelism.crew }
         requires depth { IfSome read (λ r. AtDepth 0 (reading r).list) }
@@ -217,17 +212,11 @@ where
             ⟦<Session<R, C, S, P, A> as Pool<C, S, P, A>>⟧ result.0 }
     {
         let Some(read) = read else {
-            return (
-                DirEntryIter::refused(alloc, threads, job),
-                Some(NotStarted::Memory),
-            );
+            return (DirEntryIter::refused(alloc, job), Some(NotStarted::Memory));
         };
         match CrewReads::new(alloc, job) {
             Ok(reads) => WalkDirGeneric::with_reads(reads, read, crew, busy_timeout),
-            Err(job) => (
-                DirEntryIter::refused(alloc, threads, job),
-                Some(NotStarted::Memory),
-            ),
+            Err(job) => (DirEntryIter::refused(alloc, job), Some(NotStarted::Memory)),
         }
     }
 }

@@ -17,12 +17,11 @@ use std::thread::Threads;
 use std::time::Clock;
 use walk_fs::file_system::FileSystem;
 
-impl<C: ClientState, S: FileSystem, P: ProcessReadDir<C, Global>, T: Drop> WalkDirGeneric<
+impl<C: ClientState, S: FileSystem, P: ProcessReadDir<C, Global>> WalkDirGeneric<
     C,
     S,
     P,
     Global,
-    T,
     NoPool,
 > {
     /// Begins the walk as `into_iter` does, and calls a closure with each of its answers, in order.
@@ -82,8 +81,7 @@ impl<
     C: ClientState + Send + 'static,
     S: FileSystem + Send + Sync + 'static,
     P: ProcessReadDir<C, Global> + Send + Sync + 'static,
-    T: Drop,
-> WalkDirGeneric<C, S, P, Global, T, Crew<R>>
+> WalkDirGeneric<C, S, P, Global, Crew<R>>
 where
     C::ReadDirState: Send + 'static,
     C::DirEntryState: Send + 'static,

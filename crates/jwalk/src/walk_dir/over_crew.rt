@@ -13,7 +13,6 @@ use jwalk_crew::session::Session;
 use jwalk_entries::dir_entry_iter::DirEntryIter;
 use jwalk_read::job::Job;
 use jwalk_readings::crew_reads::started::error_of;
-use jwalk_readings::threads::InTurn;
 use read_parts::client_state::ClientState;
 use read_parts::error::Error;
 use read_parts::mode::Mode;
@@ -29,7 +28,6 @@ impl<C: ClientState, S: FileSystem, A: Allocator + Copy, R: Wait + Clock + Drop>
     S,
     NoProcess,
     A,
-    InTurn,
     Crew<R>,
 > {
     ghost use Rattle.walk_model.specs.Options.{defaults};
@@ -65,8 +63,7 @@ impl<
     S: FileSystem + Send + Sync + 'static,
     P: ProcessReadDir<C, A> + Send + Sync + 'static,
     A: Allocator + Copy + Send + Sync + 'static,
-    T: Drop,
-> WalkDirGeneric<C, S, P, A, T, Crew<R>>
+> WalkDirGeneric<C, S, P, A, Crew<R>>
 where
     C::ReadDirState: Send + 'static,
     C::DirEntryState: Send + 'static,
@@ -75,7 +72,7 @@ where
     ghost use Rattle.jwalk_entries.specs.DirEntryIter.{StartsSteady};
 
     /// Begins the walk, and returns why it doesn't begin, if so.
-    fn begin_by(self) -> (CrewWalk<R, C, S, P, A, T>, Option<NotStarted>)
+    fn begin_by(self) -> (CrewWalk<R, C, S, P, A>, Option<NotStarted>)
         requires { P.IsLawful (callback_of self) }
         ensures starts { Starts self result.0 }
         ensures begins { Begins S.FileSystem P.ProcessReadDir C.ReadDirState.Clone C.DirEntryState.Default
@@ -90,16 +87,15 @@ where
             process,
             options,
             root_read_dir_state,
-            threads,
             crew,
         } = self;
-        let job = Job::with_options(alloc, fs, process, options);
+        let job = Job::new(alloc, fs, process, options);
         let read = job.root_list(root.as_str(), root_read_dir_state).ok();
         match crew_to_ask(options.mode(), crew) {
             Some((crew, busy_timeout)) => {
-                WalkDirGeneric::from_root_by(alloc, threads, job, read, &crew, busy_timeout)
+                WalkDirGeneric::from_root_by(alloc, job, read, &crew, busy_timeout)
             }
-            None => from_root_alone(alloc, threads, job, read),
+            None => from_root_alone(alloc, job, read),
         }
     }
 
@@ -110,9 +106,7 @@ where
     ///
     /// An error whose `is_busy` is true, if no place was free in time, or no worker could be started. An error whose
     /// `is_memory` is true, if memory runs out. After an error no place is taken.
-    pub fn try_into_iter(
-        self,
-    ) -> Result<DirEntryIter<C, S, P, A, T, Session<R, C, S, P, A>>, Error<A>>
+    pub fn try_into_iter(self) -> Result<DirEntryIter<C, S, P, A, Session<R, C, S, P, A>>, Error<A>>
         requires { P.IsLawful (callback_of self) }
         ensures starts { IfOk result (Starts self) }
         ensures begins { IfOk result (Begins S.FileSystem P.ProcessReadDir C.ReadDirState.Clone
@@ -131,7 +125,7 @@ where
     /// Begins the walk, like `try_into_iter`. If the crew is busy, the walk yields the items of the root's list. Each
     /// entry whose directory would be read is then replaced by an error whose `is_busy` is true. If memory runs out,
     /// the walk yields one error whose `is_memory` is true, and nothing else.
-    pub fn into_iter(self) -> DirEntryIter<C, S, P, A, T, Session<R, C, S, P, A>>
+    pub fn into_iter(self) -> DirEntryIter<C, S, P, A, Session<R, C, S, P, A>>
         requires { P.IsLawful (callback_of self) }
         ensures starts { Starts self result }
         ensures begins { (why_not : _) × Begins S.FileSystem P.ProcessReadDir C.ReadDirState.Clone

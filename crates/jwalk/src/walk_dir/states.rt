@@ -7,12 +7,11 @@ use std::alloc::Allocator;
 use std::fmt::Debug;
 use walk_fs::file_system::FileSystem;
 
-impl<C: ClientState, S: FileSystem, A: Allocator + Copy, T: Drop, W: Drop> WalkDirGeneric<
+impl<C: ClientState, S: FileSystem, A: Allocator + Copy, W: Drop> WalkDirGeneric<
     C,
     S,
     NoProcess,
     A,
-    T,
     W,
 > {
     ghost use Rattle.jwalk.specs.WalkDir.{SetsStates};
@@ -22,7 +21,7 @@ impl<C: ClientState, S: FileSystem, A: Allocator + Copy, T: Drop, W: Drop> WalkD
     /// afterwards, since it is one for its states.
     pub fn states<B: Clone + Default + Debug + Drop, E: Default + Debug + Drop>(
         self,
-    ) -> WalkDirGeneric<(B, E), S, NoProcess, A, T, W>
+    ) -> WalkDirGeneric<(B, E), S, NoProcess, A, W>
         ensures { SetsStates B.is_default self result }
     {
         WalkDirGeneric {
@@ -31,7 +30,6 @@ impl<C: ClientState, S: FileSystem, A: Allocator + Copy, T: Drop, W: Drop> WalkD
             process: NoProcess,
             options: self.options,
             root_read_dir_state: B::default(),
-            threads: self.threads,
             crew: self.crew,
         }
     }

@@ -26,13 +26,13 @@ fn threads_for<R: Threads>(rt: &R, count: usize) -> usize
     }
 }
 
-impl<
-    C: ClientState,
-    S: FileSystem,
-    P: ProcessReadDir<C, A>,
-    A: Allocator + Copy,
-    T: Drop,
-> WalkDirGeneric<C, S, P, A, T, NoPool> {
+impl<C: ClientState, S: FileSystem, P: ProcessReadDir<C, A>, A: Allocator + Copy> WalkDirGeneric<
+    C,
+    S,
+    P,
+    A,
+    NoPool,
+> {
     ghost use Rattle.jwalk.specs.WalkDir.{SetsCrew, SetsWorkers};
 
     /// Returns the same walk, which a crew of `count` threads of its own reads ahead. The threads are started when the
@@ -52,7 +52,7 @@ impl<
         self,
         rt: &R,
         count: usize,
-    ) -> Result<WalkDirGeneric<C, S, P, A, T, Crew<R>>, AllocError>
+    ) -> Result<WalkDirGeneric<C, S, P, A, Crew<R>>, AllocError>
         ensures { IfOk result (SetsWorkers count self) }
     {
         let alloc = *self.root.allocator();
@@ -67,7 +67,7 @@ impl<
     }
 
     /// Returns the same walk, with room for a crew.
-    fn for_crew<W: Drop>(self) -> WalkDirGeneric<C, S, P, A, T, W>
+    fn for_crew<W: Drop>(self) -> WalkDirGeneric<C, S, P, A, W>
         ensures { SetsCrew self result }
     {
         WalkDirGeneric {
@@ -76,7 +76,6 @@ impl<
             process: self.process,
             options: self.options,
             root_read_dir_state: self.root_read_dir_state,
-            threads: self.threads,
             crew: None,
         }
     }

@@ -1,12 +1,10 @@
 //! A walk's answers, where threads read the directories that are read together.
-ghost use Rattle.std.specs.Prelude.{◌≡◌, [], IfOk, IfErr, IfSome, IfNone, OnErr, option_map};
-ghost use Rattle.read_parts.specs.Entry.{item};
+ghost use Rattle.std.specs.Prelude.{◌≡◌, ◌≢◌, true, []};
 ghost use Rattle.jwalk_read.specs.Job.{callback};
 
 use crate::dir_entry_iter::DirEntryIter;
 use jwalk_crew::pool::{Missed, Pool};
 use jwalk_readings::crew_reads::error_of;
-use jwalk_readings::threads::OnThreads;
 use read_parts::client_state::ClientState;
 use read_parts::dir_entry::DirEntry;
 use read_parts::error::Error;
@@ -16,80 +14,65 @@ use std::thread::Threads;
 use walk_fs::file_system::FileSystem;
 
 impl<
-    R: Threads + Sync + Drop,
     C: ClientState + Send,
     S: FileSystem + Send + Sync,
     P: ProcessReadDir<C, A> + Send + Sync,
     A: Allocator + Copy + Send + Sync,
     L: Pool<C, S, P, A>,
-> DirEntryIter<C, S, P, A, OnThreads<R>, L>
+> DirEntryIter<C, S, P, A, L>
 where
     C::ReadDirState: Send,
     C::DirEntryState: Send,
 {
-    ghost use Rattle.jwalk_readings.specs.CrewReads.{failure_of, NotLost};
-    ghost use Rattle.jwalk_readings.specs.ReadDirIter.{Tells};
-    ghost use Rattle.jwalk_entries.specs.DirEntryIter.{by_crew, job_of, items_of, unread_of, width_of, position_of, Known, IsSteadyWalk, ReadsStaySteady, PassesOne, GrowsAhead, Answers, Fills};
-    ghost use Rattle.jwalk_entries.specs.Step.{IsAtDirectory, ReadsUpTo, StopsAtDirectory};
+    ghost use Rattle.jwalk_entries.specs.DirEntryIter.{job_of, items_of, unread_of, Prepares, Passes, GoesOn, Answers, Fills};
+    ghost use Rattle.jwalk_entries.specs.Step.{IsAtDirectory};
 
-    /// Passes the next item on.
-    fn pass_on(&mut self) -> Result<Option<Result<DirEntry<C, A>, Error<A>>>, Missed>
-        requires { P.IsLawful (callback (job_of self.old)) }
-        ensures crew { by_crew self.new ≡ by_crew self.old }
-        ensures job { job_of self.new ≡ job_of self.old }
-        ensures refused { self.new.refused ≡ self.old.refused }
-        ensures end { IfOk result (λ o. IfNone o
-            ((items_of self.old ≡ []) × (position_of self.new ≡ position_of self.old))) }
-        ensures steady { ReadsStaySteady S.FileSystem P.ProcessReadDir C.ReadDirState.Clone C.DirEntryState.Default
-            L.Pool self.old self.new }
-        ensures passed { IfOk result (λ o. IfSome o (λ passed. PassesOne S.FileSystem P.ProcessReadDir
-            C.ReadDirState.Clone C.DirEntryState.Default L.Pool self.old (position_of self.old) (item passed)
-            (position_of self.new))) }
-        ensures width { width_of self.new ≡ width_of self.old }
-        ensures tells { IfErr result (λ missed. Tells (by_crew self.old) (failure_of missed)) }
-        ensures comes { IfErr result (NotLost (IsSteadyWalk S.FileSystem P.ProcessReadDir C.ReadDirState.Clone
-            C.DirEntryState.Default L.Pool self.old)) }
-        ensures stopped { OnErr result (IsAtDirectory (items_of self.old) (unread_of self.old)) }
+    /// Returns whether the next item is a directory's entry, which is to be read if any is left.
+    fn is_at_directory(&self) -> bool
+        ensures { result ≡ true → unread_of self.now ≢ [] → IsAtDirectory (items_of self.now) (unread_of self.now) }
     {
-        match self.items.pop() {
-            None => Ok(None),
-            Some(Err(error)) => Ok(Some(Err(error))),
-            Some(Ok(found)) => {
-                if found.read_children.is_none() {
-                    return Ok(Some(Ok(found)));
-                }
-                if !self.reads.is_next(&found) {
-                    return Err(Missed::Lost);
-                }
-                let read = self.reads.read_next_on()?;
-                Ok(Some(Ok(self.entered(found, read)?)))
-            }
+        match self.items.last() {
+            Some(Ok(found)) => found.read_children.is_some(),
+            Some(Err(_)) | None => false,
         }
     }
 
-    /// Returns the next item that is yielded.
-    fn next_kept_on(&mut self) -> Result<Option<Result<DirEntry<C, A>, Error<A>>>, Missed>
+    /// Makes sure that the next item can be passed without a reading. Nothing is read unless that item enters a
+    /// directory.
+    fn prepare_on<R: Threads + Sync>(&mut self, rt: &R) -> Result<(), AllocError>
         requires { P.IsLawful (callback (job_of self.old)) }
-        ensures crew { by_crew self.new ≡ by_crew self.old }
-        ensures job { job_of self.new ≡ job_of self.old }
-        ensures refused { self.new.refused ≡ self.old.refused }
-        ensures steady { ReadsStaySteady S.FileSystem P.ProcessReadDir C.ReadDirState.Clone C.DirEntryState.Default
-            L.Pool self.old self.new }
-        ensures reads { IfOk result (λ answer. ReadsUpTo C.ReadDirState.Clone
-            (Known S.FileSystem P.ProcessReadDir C.ReadDirState.Clone C.DirEntryState.Default L.Pool self.old)
-            (job_of self.old) (items_of self.old) (unread_of self.old)
-            (option_map item answer) (items_of self.new) (unread_of self.new)) }
-        ensures width { width_of self.new ≡ width_of self.old }
-        ensures ahead { IfOk result (λ answer. GrowsAhead S.FileSystem P.ProcessReadDir C.ReadDirState.Clone
-            C.DirEntryState.Default L.Pool self.old (option_map item answer) self.new) }
-        ensures tells { IfErr result (λ missed. Tells (by_crew self.old) (failure_of missed)) }
-        ensures comes { IfErr result (NotLost (IsSteadyWalk S.FileSystem P.ProcessReadDir C.ReadDirState.Clone
-            C.DirEntryState.Default L.Pool self.old)) }
-        ensures stopped { OnErr result (StopsAtDirectory C.ReadDirState.Clone
-            (Known S.FileSystem P.ProcessReadDir C.ReadDirState.Clone C.DirEntryState.Default L.Pool self.old)
-            (job_of self.old) (items_of self.old) (unread_of self.old)) }
+        ensures { Prepares S.FileSystem P.ProcessReadDir C.ReadDirState.Clone C.DirEntryState.Default L.Pool
+            self.old result self.new }
     {
-        while let Some(passed) = self.pass_on()? {
+        if !self.is_at_directory() {
+            return Ok(());
+        }
+        self.reads.prepare_on(rt)
+    }
+
+    /// Passes the next item on, like `pass`.
+    fn pass_on<R: Threads + Sync>(
+        &mut self,
+        rt: &R,
+    ) -> Result<Option<Result<DirEntry<C, A>, Error<A>>>, Missed>
+        requires { P.IsLawful (callback (job_of self.old)) }
+        ensures { Passes S.FileSystem P.ProcessReadDir C.ReadDirState.Clone C.DirEntryState.Default L.Pool
+            self.old result self.new }
+    {
+        self.prepare_on(rt)?;
+        self.pass()
+    }
+
+    /// Returns the next item that is yielded, like `next_kept`.
+    fn next_kept_on<R: Threads + Sync>(
+        &mut self,
+        rt: &R,
+    ) -> Result<Option<Result<DirEntry<C, A>, Error<A>>>, Missed>
+        requires { P.IsLawful (callback (job_of self.old)) }
+        ensures { GoesOn S.FileSystem P.ProcessReadDir C.ReadDirState.Clone C.DirEntryState.Default L.Pool
+            self.old result self.new }
+    {
+        while let Some(passed) = self.pass_on(rt)? {
             if let Some(answer) = self.kept(passed) {
                 return Ok(Some(answer));
             }
@@ -97,12 +80,13 @@ where
         Ok(None)
     }
 
-    /// Returns the next answer, like `Iterator::next`, with threads to read the directories that are read together.
+    /// Returns the next answer, like `Iterator::next`, with threads of this runtime to read the directories that are
+    /// read together.
     ///
-    /// `while let Some(answer) = walk.next()` is the loop that uses several threads. A `for` loop, and an iterator's
-    /// adapters, call `Iterator::next`: the answers and their order are the same there. Over a crew both may block for
-    /// a reading or for a lock.
-    pub fn next(&mut self) -> Option<Result<DirEntry<C, A>, Error<A>>>
+    /// `while let Some(answer) = walk.next_on(&rt)` is the loop that uses several threads. A `for` loop, and an
+    /// iterator's adapters, call `Iterator::next`: the answers and their order are the same there. Over a crew both may
+    /// block for a reading or for a lock.
+    pub fn next_on<R: Threads + Sync>(&mut self, rt: &R) -> Option<Result<DirEntry<C, A>, Error<A>>>
         requires { P.IsLawful (callback (job_of self.old)) }
         ensures { Answers S.FileSystem P.ProcessReadDir C.ReadDirState.Clone C.DirEntryState.Default L.Pool
             self.old result self.new }
@@ -111,7 +95,7 @@ where
             self.refused = false;
             return Some(Err(Error::memory()));
         }
-        match self.next_kept_on() {
+        match self.next_kept_on(rt) {
             Ok(answer) => answer,
             Err(missed) => {
                 self.stop();
@@ -120,18 +104,15 @@ where
         }
     }
 
-    /// Appends up to `n` answers to `out`, fewer if the walk ends before that, and returns how many. Threads read the
+    /// Appends up to `n` answers to `out`, like [`fill`](DirEntryIter::fill), with threads of this runtime to read the
     /// directories that are read together.
-    ///
-    /// An answer is taken from the walk only once `out` has a free place. Over a crew the call may block for a reading
-    /// or for a lock.
     ///
     /// # Errors
     ///
-    /// If memory runs out for the place. No answer is lost then: `out` has those that were appended, and another call
-    /// appends the next ones. If the walk itself runs out of memory, the error is one of the answers.
-    pub fn fill(
+    /// If memory runs out for the place, as with `fill`.
+    pub fn fill_on<R: Threads + Sync>(
         &mut self,
+        rt: &R,
         n: usize,
         out: &mut Vec<Result<DirEntry<C, A>, Error<A>>, A>,
     ) -> Result<usize, AllocError>
@@ -142,7 +123,7 @@ where
         let mut filled = 0;
         while filled < n {
             out.reserve(1)?;
-            let Some(answer) = self.next() else {
+            let Some(answer) = self.next_on(rt) else {
                 return Ok(filled);
             };
             out.push_reserved(answer);

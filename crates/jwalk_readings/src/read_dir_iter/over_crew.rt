@@ -30,8 +30,7 @@ impl<
     S: FileSystem + Send + Sync + 'static,
     P: ProcessReadDir<C, A> + Send + Sync + 'static,
     A: Allocator + Copy + Send + Sync + 'static,
-    T: Drop,
-> ReadDirIter<C, S, P, A, T, Session<R, C, S, P, A>>
+> ReadDirIter<C, S, P, A, Session<R, C, S, P, A>>
 where
     C::ReadDirState: Send + 'static,
     C::DirEntryState: Send + 'static,
@@ -50,7 +49,6 @@ where
     /// An error whose `is_busy` is true, if a crew is to read, and no place was free in time or no worker could be
     /// started. An error whose `is_memory` is true, if memory runs out. After an error no place is taken.
     pub fn try_with_crew(
-        threads: T,
         job: Job<C, S, P, A>,
         roots: Vec<ReadDirSpec<C, A>, A>,
         parallelism: Parallelism<Crew<R>, A>,
@@ -75,7 +73,7 @@ where
                     Err(why_not) => Err(error_of(why_not)),
                 }
             }
-            None => ReadDirIter::alone(threads, job, roots, mode),
+            None => ReadDirIter::alone(job, roots, mode),
         }
     }
 }

@@ -7,7 +7,6 @@ ghost use Rattle.read_parts.specs.ReadDirSpec.{spec};
 
 use crate::crew_reads::CrewReads;
 use crate::read_dir_iter::ReadDirIter;
-use crate::threads::InTurn;
 use jwalk_crew::pool::Pool;
 use jwalk_read::job::Job;
 use read_parts::client_state::ClientState;
@@ -24,7 +23,7 @@ impl<
     P: ProcessReadDir<C, A>,
     A: Allocator + Copy,
     L: Pool<C, S, P, A>,
-> ReadDirIter<C, S, P, A, InTurn, L> {
+> ReadDirIter<C, S, P, A, L> {
     ghost use Rattle.jwalk_order.specs.Frontier.{roots as root_addresses};
     ghost use Rattle.jwalk_readings.specs.CrewReads.{IsMadeFor};
     ghost use Rattle.jwalk_readings.specs.ReadDirIter.{by_crew, job_of, to_read, StartsSteady};

@@ -1,22 +1,19 @@
 //! Readings of directories and of all below them, without the answers of a walk.
 use jwalk::file_system::FileSystem;
-use jwalk::read_dir::{Job, NoProcess, ReadDir};
+use jwalk::read_dir::{Job, NoProcess, Options, ReadDir};
 use jwalk::read_dir_iter::ReadDirIter;
-use jwalk::threads::{InTurn, OnThreads};
 use jwalk::{DirEntry, Error};
 use std::alloc::Global;
 use std::thread::Threads;
 use walk_fixtures::trees::{FORKED, tree};
 use walk_ways::width::Width;
 
-/// Readings that are made in some way.
-type ReadsBy<'a, S, T> = ReadDirIter<((), ()), &'a S, NoProcess, Global, T>;
-
 /// Readings, made one after another or by threads.
 #[derive(Drop)]
-enum Reads<'a, S: FileSystem, R> {
-    InTurn(ReadsBy<'a, S, InTurn>),
-    OnThreads(ReadsBy<'a, S, OnThreads<&'a R>>),
+struct Reads<'a, S: FileSystem, R> {
+    rt: &'a R,
+    reads: ReadDirIter<((), ()), &'a S, NoProcess>,
+    on_threads: bool,
 }
 
 /// The widths at which directories are read.
@@ -29,7 +26,7 @@ const WIDTHS: &[Width] = &[
 
 /// What reads the directories of a file system.
 fn job<S: FileSystem>(alloc: Global, fs: &S) -> Job<((), ()), &S, NoProcess> {
-    Job::new(alloc, fs, NoProcess, false, true, false, usize::MAX)
+    Job::new(alloc, fs, NoProcess, Options::new())
 }
 
 /// Whether what comes is a reading or an error, if anything comes.
@@ -53,28 +50,30 @@ impl<'a, S: FileSystem + Send + Sync, R: Threads + Sync> Reads<'a, S, R> {
     fn new(rt: &'a R, alloc: Global, fs: &'a S, width: Width, on_threads: bool) -> Option<Self> {
         let job = job(alloc, fs);
         let roots = job.root_list("/r", ()).ok()?.read_children_specs().ok()?;
-        let width = width.parallelism();
-        if on_threads {
-            let reads = ReadDirIter::try_new(OnThreads::new(rt), job, roots, width).ok()?;
-            return Some(Reads::OnThreads(reads));
-        }
-        Some(Reads::InTurn(ReadDirIter::try_new(InTurn, job, roots, width).ok()?))
+        let reads = ReadDirIter::try_new(job, roots, width.parallelism()).ok()?;
+        Some(Reads {
+            rt,
+            reads,
+            on_threads,
+        })
     }
 
     /// Whether what comes next is a reading or an error, if anything comes.
     fn next(&mut self) -> Option<bool> {
-        is_read(&match self {
-            Reads::InTurn(reads) => reads.next(),
-            Reads::OnThreads(reads) => reads.next(),
+        is_read(&if self.on_threads {
+            self.reads.next_on(self.rt)
+        } else {
+            self.reads.next()
         })
     }
 
     /// Whether the reading of an entry's directory comes, and has three items.
     fn has_three_in(&mut self, entry: &DirEntry<((), ())>) -> bool {
         entry.read_children.is_some()
-            && is_three(&match self {
-                Reads::InTurn(reads) => reads.next_of(entry),
-                Reads::OnThreads(reads) => reads.next_of(entry),
+            && is_three(&if self.on_threads {
+                self.reads.next_of_on(self.rt, entry)
+            } else {
+                self.reads.next_of(entry)
             })
     }
 }

@@ -5,7 +5,6 @@ use crate::disk::real::{shows, shows_from};
 use crate::program::runs::comes_unread;
 use jwalk::file_system::{Fault, FileSystem, RealFs};
 use jwalk::read_dir::NoProcess;
-use jwalk::threads::OnThreads;
 use jwalk::{Parallelism, WalkDir, WalkDirGeneric};
 use std::alloc::{AllocError, Global};
 use std::test::Fail;
@@ -65,25 +64,25 @@ fn the_same_lines_of_a_folder_one_at_a_time_in_batches_and_by_a_crew(
 }
 
 /// What a walk yields by name whose directories are read several at a time, with `/t` for the folder.
-fn found_in_batches<R: Threads + Drop + Sync, S: FileSystem + Send + Sync>(
-    alloc: Global,
-    walk: WalkDirGeneric<((), ()), S, NoProcess, Global, OnThreads<R>>,
+fn found_in_batches<R: Threads + AllocGlobal + Sync, S: FileSystem + Send + Sync>(
+    rt: &R,
+    walk: WalkDirGeneric<((), ()), S, NoProcess>,
     folder: &str,
 ) -> Result<String, AllocError> {
     let mut walk = walk
         .sort(true)
         .parallelism(Parallelism::RayonNewPool(2))
         .into_iter();
-    let mut found = Vec::new(alloc);
-    walk.fill(usize::MAX, &mut found)?;
-    lines(alloc, found.as_slice(), folder)
+    let mut found = Vec::new(rt.alloc());
+    walk.fill_on(rt, usize::MAX, &mut found)?;
+    lines(rt.alloc(), found.as_slice(), folder)
 }
 
 #[test]
 fn a_folder_of_groups_in_batches(rt: HostRuntime) -> Result<(), Fail> {
     let folder = make(&rt, "batches", GROUPED)?;
     let walk = WalkDir::at(&rt, folder.as_str())?;
-    let found = found_in_batches(rt.alloc(), walk, folder.as_str());
+    let found = found_in_batches(&rt, walk, folder.as_str());
     remove(&rt, folder.as_str())?;
     assert_eq!(rt; found?.as_str(), BY_NAME);
     Ok(())

@@ -1,11 +1,13 @@
 use Rattle.std.proofs.Common.{◌∙◌, sym, ap, subst, box_value}
 use Rattle.keyed_slot.specs.Keyed.{key_mark}
-use Rattle.jwalk_crew.specs.Ground.{origin_at}
+use Rattle.jwalk_crew.specs.Crew.{limit_of}
+use Rattle.jwalk_crew.specs.Ground.{limit_at, origin_at}
 use Rattle.jwalk_crew.specs.Shared.{IsArrivalOf}
-use Rattle.jwalk_crew.proofs.HandledFacts.{arrives_on}
+use Rattle.jwalk_crew.proofs.HandledFacts.{arrives_on, calls_entered, calls_nobody, calls_on, not_overslept}
 use Rattle.jwalk_crew.proofs.PaceFacts.{same_within}
 use Rattle.jwalk_crew.proofs.SharedFacts.{same_of, arrived_board, arrived_of, arrived_within}
 use Rattle.jwalk_crew.proofs.shared.Shared.arrival_on_board.Goals as goal
+use Rattle.jwalk_crew.proofs.shared.Shared.arrival_on_board.Goals.{in-Entered, in_default-matches}
 
 pub put_back_with-requires-clause-fits : goal.put_back_with-requires-clause-fits
 put_back_with-requires-clause-fits g c =
@@ -32,3 +34,15 @@ pub returns-clause-handled : goal.returns-clause-handled
 returns-clause-handled g c =
     arrives_on c.args.wanted.now c.arrive-arrival.result _ _ _ _ _ _ _ c.in-Some.ensures.taken c.put_back_with.ensures.put
     (c.deref_mut.ensures.value ∙ ap box_value c.into_board-board.ensures) (ap box_value c.new.ensures) c.arrive-arrival.ensures
+
+pub returns-clause-calls : goal.returns-clause-calls
+returns-clause-calls g c =
+    let limit = c.read_ahead.ensures ∙ (ap limit_of c.deref-3.ensures ∙ c.args.self.now.own.1) in
+    let noted = c.deref_mut-3.ensures.value ∙ (c.has_overslept.ensures ∙ ap not_overslept c.deref_mut-2.ensures.value) in
+    let calls = c.after_arrival-calls in
+    calls_on (limit_at c.args.self.now.work) _ _ _ _ _ _ _ _ _ _ c.in-Some.ensures.taken c.put_back_with.ensures.put
+    (c.deref_mut.ensures.value ∙ ap box_value c.into_board-board.ensures) (ap box_value c.new.ensures)
+    (elim c.match-matches.branch [
+      | in-Entered w ↦ calls_entered _ _ _ _ _ _ _ _ _ _ w.in-Entered.is limit c.deref-2.ensures noted (calls.ensures.calls w.matches-is)
+      | in_default-matches w ↦ calls_nobody _ _ w.in_default-matches.not-Entered _ _ _ _ (calls.ensures.nobody w.matches-is)
+    ])

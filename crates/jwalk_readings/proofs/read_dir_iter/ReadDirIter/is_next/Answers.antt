@@ -4,9 +4,6 @@ use Rattle.jwalk_readings.proofs.read_dir_iter.ReadDirIter.is_next.Goals as goal
 pub returns-in-Walk : goal.returns-in-Walk
 returns-in-Walk g c = record { own = λ no. absurd cc; some = λ no. absurd cc; below = λ yes. rw c.in-Walk.is tt; other = λ no. absurd cc }
 
-pub returns-in-ParWalk : goal.returns-in-ParWalk
-returns-in-ParWalk g c = record { own = λ no. absurd cc; some = λ no. absurd cc; below = λ yes. rw c.in-ParWalk.is tt; other = λ no. absurd cc }
-
 pub returns-in-CrewWalk : goal.returns-in-CrewWalk
 returns-in-CrewWalk g c = record {
   own = λ no. rw c.in-CrewWalk.is refl;

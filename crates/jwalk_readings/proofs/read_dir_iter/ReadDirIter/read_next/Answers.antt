@@ -51,51 +51,6 @@ returns-in_ok-read_next-in-Walk g c =
       comes = tt;
     })
 
-pub returns-in_err-read_next-in-ParWalk : goal.returns-in_err-read_next-in-ParWalk
-returns-in_err-read_next-in-ParWalk g c =
-    let old = c.in-ParWalk.walk in
-    let read = c.read_next-in-ParWalk in
-    let refused = c.in_err-read_next-in-ParWalk.ensures in
-    let told = c.from_residual-in_err-read_next-in-ParWalk in
-    rw c.in-ParWalk.is
-    (record {
-      crew = refl;
-      job = read.ensures.job;
-      width = read.ensures.width;
-      ahead = fewer_done old read.new.self old.width read.ensures.ahead;
-      tells = tells_refusal false told.result told.ensures.1;
-      some = on_err told.result refused.some;
-      stopped = on_err told.result refused.stopped;
-      nothing_ahead = on_err told.result refused.nothing_ahead;
-      steady = read.ensures.steady;
-      next = none_ok _ told.result told.ensures.0;
-      enters = none_ok _ told.result told.ensures.0;
-      passes = none_ok _ told.result told.ensures.0;
-      comes = refused_not_lost _ told.result told.ensures.1;
-    })
-
-pub returns-in_ok-read_next-in-ParWalk : goal.returns-in_ok-read_next-in-ParWalk
-returns-in_ok-read_next-in-ParWalk g c =
-    let old = c.in-ParWalk.walk in
-    let read = c.read_next-in-ParWalk in
-    let came = c.in_ok-read_next-in-ParWalk.ensures in
-    rw c.in-ParWalk.is
-    (record {
-      crew = refl;
-      job = read.ensures.job;
-      width = read.ensures.width;
-      ahead = fewer_done old read.new.self old.width read.ensures.ahead;
-      tells = tt;
-      some = tt;
-      stopped = tt;
-      nothing_ahead = tt;
-      steady = read.ensures.steady;
-      next = came.next;
-      enters = came.enters;
-      passes = came.passes;
-      comes = tt;
-    })
-
 pub returns-in-CrewWalk : goal.returns-in-CrewWalk
 returns-in-CrewWalk g c =
     let reads = c.in-CrewWalk.reads in

@@ -7,11 +7,6 @@ returns-in-Walk g c =
     let stopped = c.stop.ensures in
     rw c.in-Walk.is (record { crew = refl; job = stopped.job; width = stopped.width; to_read = stopped.to_read; read_ahead = stopped.read_ahead; steady = stopped.steady })
 
-pub returns-in-ParWalk : goal.returns-in-ParWalk
-returns-in-ParWalk g c =
-    let stopped = c.stop-in-ParWalk.ensures in
-    rw c.in-ParWalk.is (record { crew = refl; job = stopped.job; width = stopped.width; to_read = stopped.to_read; read_ahead = stopped.read_ahead; steady = stopped.steady })
-
 pub returns-in-CrewWalk : goal.returns-in-CrewWalk
 returns-in-CrewWalk g c =
     let stopped = c.stop-in-CrewWalk.ensures in
