@@ -11,9 +11,9 @@ use Rattle.jwalk.specs.walk_model.Job.{Job}
 use Rattle.jwalk.specs.walk_model.Options.{with_skip_hidden}
 use Rattle.jwalk.specs.walk_model.Walk.{whole_walk}
 
-module _ {C S P A T W R E : Type 0} (files : FileSystem.Ghosts S) (given : Given R E) where
+module _ {C S P A W R E : Type 0} (files : FileSystem.Ghosts S) (given : Given R E) where
   -- what the readings of a walk are made of, where hidden names are shown to its callback
-  abbrev pub job_showing : WalkDirGeneric C S P A T W R E → Job Worth Worth
+  abbrev pub job_showing : WalkDirGeneric C S P A W R E → Job Worth Worth
   job_showing walk = record {
     fs = files.functions (file_system_of walk);
     options = with_skip_hidden false (options_of walk);
@@ -22,5 +22,5 @@ module _ {C S P A T W R E : Type 0} (files : FileSystem.Ghosts S) (given : Given
   }
 
   -- The answers are the whole walk of the definition, as their states count.
-  abbrev pub IsWholeWalk : WalkDirGeneric C S P A T W R E → List (Result (DirEntry C A R E) (Error A)) → Type 0
+  abbrev pub IsWholeWalk : WalkDirGeneric C S P A W R E → List (Result (DirEntry C A R E) (Error A)) → Type 0
   IsWholeWalk walk found = counted_list given found ≡ whole_walk (job_showing walk) (root_of walk) (given.read_dir_state (state_of walk))
