@@ -1,1 +1,2 @@
+mod PackageFacts
 mod YieldedFacts

@@ -11,11 +11,11 @@ ghost use Rattle.jwalk_ignore.specs.Given.{first_settings, ignoring_alone, job_i
 ghost use Rattle.jwalk_ignore.specs.IgnoreViews.{settings_of, texts_of};
 ghost use Rattle.jwalk_ignore.specs.MemoryTexts.{texts_of as texts_in};
 
+use crate::given::walk_ignoring_given;
 use jwalk::error::Result as Answer;
 use jwalk::file_system::{FileSystem, MemoryFs};
 use jwalk::read_dir::NoProcess;
 use jwalk::{DirEntry, WalkDirGeneric};
-use jwalk_ignore::builder::with_ignore_files;
 use jwalk_ignore::chain::Chain;
 use jwalk_ignore::ignore_files::IgnoreFiles;
 use jwalk_ignore::memory_texts::MemoryTexts;
@@ -48,11 +48,7 @@ pub fn walk_ignoring<S: FileSystem, X: Texts, A: Allocator + Copy>(
         (S.functions (file_system_of walk)) (with_skip_hidden false (options_of walk)))
         (root_of walk) (rules_alone (state_of walk))) }
 {
-    let mut found = Vec::new(alloc);
-    with_ignore_files(walk, rules)
-        .into_iter()
-        .fill(usize::MAX, &mut found)?;
-    Ok(found)
+    walk_ignoring_given(alloc, walk, rules)
 }
 
 /// Returns all that such a walk from a root yields over a tree and texts in memory. What it yields is known of these,
