@@ -1,8 +1,17 @@
 //! Walks whose batches threads read, where each request for memory is refused, or all from each on.
-use crate::refused::goes::{Came, builder};
-use crate::refused::lines::{Given, are_first, is_refusal};
-use crate::refused::rows::{GROUPS, Row};
+ghost use Rattle.jwalk.specs.DirEntryIter.{job_of};
+ghost use Rattle.jwalk.specs.jwalk_read.Job.{callback};
+
+use crate::refused::callbacks::{Callback, Texts, hand_on_names, move_group};
+use crate::refused::goes::Play;
+use crate::refused::rows::{GROUPS, HANDED_ON, MOVED, Row, WIDTHS};
 use jwalk::file_system::{BuildError, MemoryFs};
+use jwalk::read_dir::{ByFn, NoProcess, ProcessReadDir};
+use jwalk::threads::OnThreads;
+use jwalk::{ClientState, DirEntryIter};
+use refused_walks::came::Came;
+use refused_walks::lines::{Given, Shown, are_first, is_refusal};
+use refused_walks::turns::first_wrong;
 use refusing_alloc::Refusing;
 use std::alloc::Global;
 use std::thread::Threads;
@@ -22,59 +31,114 @@ fn wide(alloc: Global) -> Result<MemoryFs, BuildError> {
     Ok(fs)
 }
 
-/// How answers come that are asked for all at once, if they are to begin with these lines and be that many.
-fn comes<R: Threads + Sync>(
-    rt: &R,
-    alloc: Global,
-    memory: &Refusing<Global>,
-    fs: &MemoryFs,
-    row: &Row,
+/// Memory that may be refused.
+type Memory<'m> = &'m Refusing<Global>;
+
+/// A walk under way whose directories threads read.
+type Walk<'f, 'm, 'r, C, P, R> = DirEntryIter<C, &'f MemoryFs, P, Memory<'m>, OnThreads<&'r R>>;
+
+/// A walk that threads read again and again, and how many answers it has.
+#[derive(Clone, Copy)]
+struct Threaded<'f, 'r, R> {
+    rt: &'r R,
+    play: Play<'f>,
     count: usize,
-) -> Came {
-    let Some(walk) = builder(memory, fs, row, WIDE) else {
-        return Came::Refused;
-    };
-    let mut walk = walk.threads(rt).into_iter();
-    let mut found: Vec<Given<&Refusing<Global>>, &Refusing<Global>> = Vec::new(memory);
-    let is_filled = walk.fill(100, &mut found).is_ok();
-    let is_refused = is_refusal(found.last());
-    if is_refused {
-        found.pop();
+}
+
+impl<'f, 'r, R: Threads + Sync> Threaded<'f, 'r, R> {
+    /// How the answers come of a walk under way that are asked for all at once.
+    fn fills<'m, C: ClientState + Send, P: ProcessReadDir<C, Memory<'m>> + Send + Sync>(
+        &self,
+        alloc: Global,
+        memory: Memory<'m>,
+        mut walk: Walk<'f, 'm, 'r, C, P, R>,
+    ) -> Came
+    where
+        C::ReadDirState: Send,
+        C::DirEntryState: Send + Shown,
+        requires { P.IsLawful (callback (job_of walk)) }
+    {
+        let mut found: Vec<Given<C, Memory<'m>>, Memory<'m>> = Vec::new(memory);
+        let is_filled = walk.fill(100, &mut found).is_ok();
+        let is_refused = is_refusal(found.last());
+        if is_refused {
+            found.pop();
+        }
+        let lines = self.play.row.lines;
+        let some = found.get(..found.len().min(lines.len())).unwrap_or(&[]);
+        if !are_first(alloc, some, lines) {
+            return Came::Wrong;
+        }
+        match (is_filled && !is_refused, found.len() == self.count) {
+            (true, true) => Came::Whole,
+            (true, false) => Came::Wrong,
+            (false, _) => Came::Refused(found.len()),
+        }
     }
-    let some = found.get(..found.len().min(row.lines.len())).unwrap_or(&[]);
-    if !are_first(alloc, some, row.lines) {
-        return Came::Wrong;
+
+    /// How the walk comes out with this memory and this callback.
+    fn comes_with<'m, C: ClientState + Send, P: ProcessReadDir<C, Memory<'m>> + Send + Sync>(
+        &self,
+        alloc: Global,
+        memory: Memory<'m>,
+        process: P,
+    ) -> Came
+    where
+        C::ReadDirState: Send,
+        C::DirEntryState: Send + Shown,
+        requires { P.IsLawful process }
+    {
+        match self.play.builder::<C, P, Memory<'m>>(memory, process) {
+            Some(walk) => self.fills(alloc, memory, walk.threads(self.rt).into_iter()),
+            None => Came::Refused(0),
+        }
     }
-    match (is_filled && !is_refused, found.len() == count) {
-        (true, true) => Came::Whole,
-        (true, false) => Came::Wrong,
-        (false, _) => Came::Refused,
+
+    /// How the walk comes out with this memory and the row's callback.
+    fn comes(&self, alloc: Global, memory: Memory<'_>) -> Came {
+        match self.play.row.callback {
+            Callback::Absent => self.comes_with::<((), ()), _>(alloc, memory, NoProcess),
+            Callback::MovesGroup => {
+                self.comes_with::<((), ()), _>(alloc, memory, ByFn::of(move_group::<Memory<'_>>))
+            }
+            Callback::HandsOnNames => self.comes_with::<Texts<Memory<'_>>, _>(
+                alloc,
+                memory,
+                ByFn::of(hand_on_names::<Memory<'_>>),
+            ),
+        }
     }
 }
 
-/// Whether a walk comes out right where that many requests are refused, from each number on. Else the number where it
-/// doesn't.
-fn first_wrong<R: Threads + Sync>(
+/// Whether the walk of a row with that many answers comes out right over a tree, read by so many directories together.
+fn is_right<R: Threads + AllocGlobal + Sync>(
     rt: &R,
-    alloc: Global,
     fs: &MemoryFs,
     row: &Row,
+    width: Width,
     count: usize,
-    many: usize,
-) -> Option<usize> {
-    let memory = Refusing::new(alloc);
-    for number in 1..10_000 {
-        memory.refuse(number, many);
-        let came = comes(rt, alloc, &memory, fs, row, count);
-        let refused = memory.refused();
-        if came == Came::Wrong || memory.pieces() != 0 || (refused == 0 && came != Came::Whole) {
-            return Some(number);
-        }
-        if refused == 0 && number > 20 {
-            return None;
-        }
-    }
-    Some(usize::MAX)
+) -> bool {
+    let alloc = rt.alloc();
+    let play = Play { fs, row, width };
+    let walk = Threaded { rt, play, count };
+    [1, usize::MAX].iter().all(|many| first_wrong(
+        alloc,
+        *many,
+        true,
+        |memory| walk.comes(alloc, memory),
+    ).is_none())
+}
+
+/// Whether the walk of a row comes out right in each width.
+fn is_right_always<R: Threads + AllocGlobal + Sync>(rt: &R, row: &Row) -> bool {
+    let Ok(fs) = tree(rt.alloc(), row.steps) else {
+        return false;
+    };
+    let count = row.lines.len();
+    WIDTHS
+        .iter()
+        .all(|width| is_right(rt, &fs, row, *width, count))
+        && is_right(rt, &fs, row, WIDE, count)
 }
 
 /// The walk over the wide directory, with its first lines.
@@ -82,19 +146,23 @@ const WIDE_ROW: Row = Row {
     steps: &[],
     root: "/w",
     follow: false,
+    callback: Callback::Absent,
     lines: &["0 d /w", "1 d /w/10", "1 d /w/11", "1 d /w/12"],
 };
 
 #[test]
-fn each_request_in_turn_on_threads(rt: HostRuntime) {
-    let groups = tree(rt.alloc(), GROUPS.steps);
+fn requests_refused_on_threads(rt: HostRuntime) {
+    assert!(rt; is_right_always(&rt, &GROUPS));
     let wide = wide(rt.alloc());
-    for many in [1, usize::MAX] {
-        assert!(rt;
-            matches!(&groups, Ok(fs) if first_wrong(&rt, rt.alloc(), fs, &GROUPS, 8, many).is_none())
-        );
-        assert!(rt;
-            matches!(&wide, Ok(fs) if first_wrong(&rt, rt.alloc(), fs, &WIDE_ROW, 41, many).is_none())
-        );
-    }
+    assert!(rt; matches!(&wide, Ok(fs) if is_right(&rt, fs, &WIDE_ROW, WIDE, 41)));
+}
+
+#[test]
+fn requests_refused_on_threads_where_a_directory_is_moved(rt: HostRuntime) {
+    assert!(rt; is_right_always(&rt, &MOVED));
+}
+
+#[test]
+fn requests_refused_on_threads_where_names_are_handed_on(rt: HostRuntime) {
+    assert!(rt; is_right_always(&rt, &HANDED_ON));
 }
