@@ -1,6 +1,5 @@
 //! Walks whose requests for memory are refused: each in turn, all from each on, or all beyond a number of bytes.
 mod bytes;
-mod callbacks;
 mod crew;
 mod goes;
 mod rows;

@@ -9,6 +9,7 @@ use jwalk::read_dir::ProcessReadDir;
 use jwalk::threads::InTurn;
 use jwalk::{ClientState, DirEntryIter, Error, Pool, WalkDirGeneric};
 use std::alloc::{Allocator, Global};
+use walk_ways::width::Width;
 
 /// How a walk came out.
 #[derive(Clone, Copy, PartialEq, Eq)]
@@ -35,17 +36,31 @@ pub enum Taken {
 /// Each way to take them.
 pub const TAKEN: &[Taken] = &[Taken::Tried, Taken::Begun, Taken::Filled];
 
-/// A walk under way, for which some pool may read.
-pub type Walk<C, S, P, A, L> = DirEntryIter<C, S, P, A, InTurn, L>;
+/// Each number of directories that are read together, with each way to take the answers.
+pub const WAYS: &[(Width, Taken)] = &[
+    (Width::Serial, Taken::Tried),
+    (Width::Serial, Taken::Begun),
+    (Width::Serial, Taken::Filled),
+    (Width::Batches(1), Taken::Tried),
+    (Width::Batches(1), Taken::Begun),
+    (Width::Batches(1), Taken::Filled),
+    (Width::Batches(2), Taken::Tried),
+    (Width::Batches(2), Taken::Begun),
+    (Width::Batches(2), Taken::Filled),
+    (Width::Batches(8), Taken::Tried),
+    (Width::Batches(8), Taken::Begun),
+    (Width::Batches(8), Taken::Filled),
+];
 
 /// What came if nothing follows, and that something is wrong if anything does.
-fn if_over<
+pub(crate) fn if_over<
     C: ClientState,
     S: FileSystem,
     P: ProcessReadDir<C, A>,
     A: Allocator + Copy,
+    T: Drop,
     L: Pool<C, S, P, A>,
->(mut walk: Walk<C, S, P, A, L>, came: Came) -> Came
+>(mut walk: DirEntryIter<C, S, P, A, T, L>, came: Came) -> Came
     requires { P.IsLawful (callback (job_of walk)) }
 {
     let is_over = walk.next().is_none();
@@ -62,8 +77,9 @@ fn goes_on<
     S: FileSystem,
     P: ProcessReadDir<C, A>,
     A: Allocator + Copy,
+    T: Drop,
     L: Pool<C, S, P, A>,
->(alloc: Global, mut walk: Walk<C, S, P, A, L>, lines: &[&str], before: usize) -> Came
+>(alloc: Global, mut walk: DirEntryIter<C, S, P, A, T, L>, lines: &[&str], before: usize) -> Came
 where
     C::DirEntryState: Shown,
     requires { P.IsLawful (callback (job_of walk)) }
@@ -91,7 +107,7 @@ pub fn goes<
     P: ProcessReadDir<C, A>,
     A: Allocator + Copy,
     L: Pool<C, S, P, A>,
->(alloc: Global, walk: Walk<C, S, P, A, L>, lines: &[&str]) -> Came
+>(alloc: Global, walk: DirEntryIter<C, S, P, A, InTurn, L>, lines: &[&str]) -> Came
 where
     C::DirEntryState: Shown,
     requires { P.IsLawful (callback (job_of walk)) }
@@ -99,21 +115,23 @@ where
     goes_on(alloc, walk, lines, 0)
 }
 
-/// How answers come that are asked for all at once, and the others after them.
-fn is_filled<
+/// How a walk goes on that is to yield these lines, of which these answers came at once.
+pub(crate) fn goes_after<
     C: ClientState,
     S: FileSystem,
     P: ProcessReadDir<C, A>,
     A: Allocator + Copy,
-    L: Pool<C, S, P, A>,
->(alloc: Global, memory: A, mut walk: Walk<C, S, P, A, L>, lines: &[&str]) -> Came
+    T: Drop,
+>(
+    alloc: Global,
+    walk: DirEntryIter<C, S, P, A, T>,
+    mut found: Vec<Given<C, A>, A>,
+    lines: &[&str],
+) -> Came
 where
     C::DirEntryState: Shown,
     requires { P.IsLawful (callback (job_of walk)) }
 {
-    let mut found: Vec<Given<C, A>, A> = Vec::new(memory);
-    // Where memory runs out for the vector, not all are in it.
-    let _ = walk.fill(100, &mut found);
     let is_refused = is_refusal(found.last());
     if is_refused {
         found.pop();
@@ -130,8 +148,25 @@ where
     }
 }
 
+/// How answers come that are asked for all at once, and the others after them.
+fn is_filled<C: ClientState, S: FileSystem, P: ProcessReadDir<C, A>, A: Allocator + Copy>(
+    alloc: Global,
+    memory: A,
+    mut walk: DirEntryIter<C, S, P, A>,
+    lines: &[&str],
+) -> Came
+where
+    C::DirEntryState: Shown,
+    requires { P.IsLawful (callback (job_of walk)) }
+{
+    let mut found: Vec<Given<C, A>, A> = Vec::new(memory);
+    // Where memory runs out for the vector, not all are in it.
+    let _ = walk.fill(100, &mut found);
+    goes_after(alloc, walk, found, lines)
+}
+
 /// How a walk comes out that didn't begin.
-fn not_begun<A: Allocator + Copy>(error: Error<A>) -> Came {
+pub(crate) fn not_begun<A: Allocator + Copy>(error: Error<A>) -> Came {
     if error.is_memory() {
         Came::Refused(0)
     } else {

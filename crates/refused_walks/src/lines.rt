@@ -20,12 +20,12 @@ impl Shown for () {
     }
 }
 
-/// The text is added, or that there is none.
+/// The text is added, if there is one.
 impl<A: Allocator + Copy> Shown for Option<String<A>> {
     fn push_to(&self, line: &mut String) -> Result<(), AllocError> {
         match self {
             Some(text) => write!(line, " with {text}"),
-            None => line.push_str(" with none"),
+            None => Ok(()),
         }
     }
 }

@@ -1,15 +1,12 @@
 //! Walks that a crew reads for, where each request for memory is refused, or all from each on.
-ghost use Rattle.std.specs.Prelude.{◌≡◌, IfSome};
-ghost use Rattle.jwalk.specs.WalkDir.{callback_of};
-
-use crate::refused::callbacks::{Callback, Texts, hand_on_names, move_group};
 use crate::refused::rows::{GROUPS, HANDED_ON, MOVED, Row};
 use jwalk::file_system::MemoryFs;
-use jwalk::read_dir::{ByFn, NoProcess, ProcessReadDir};
+use jwalk::read_dir::NoProcess;
 use jwalk::threads::InTurn;
-use jwalk::{ClientState, Crew, Parallelism, WalkDirGeneric};
+use jwalk::{Crew, Error, Parallelism, WalkDirGeneric};
+use refused_walks::callbacks::{Callback, Texts};
 use refused_walks::came::{Came, goes};
-use refused_walks::lines::Shown;
+use refused_walks::turns::MOST;
 use refusing_alloc::Refusing;
 use std::alloc::Global;
 use std::sync::Arc;
@@ -24,79 +21,91 @@ type Memory = &'static Refusing<Global>;
 /// A walk yet to begin that a crew is to read for.
 type Builder<R, C, P> = WalkDirGeneric<C, Arc<MemoryFs>, P, Memory, InTurn, Crew<R>>;
 
-/// A walk of a row over its tree, for which a crew reads.
-#[derive(Drop)]
-struct ByPool<R: Host> {
-    fs: Arc<MemoryFs>,
-    row: &'static Row,
-    pool: Arc<Crew<R>, Memory>,
+/// One without a callback.
+type Plain<R> = Builder<R, ((), ()), NoProcess>;
+
+/// One with a callback.
+type Called<R> = Builder<R, Texts<Memory>, Callback>;
+
+/// That a crew reads, as soon as it has a place.
+fn by_crew<R: Host>(pool: Arc<Crew<R>, Memory>) -> Parallelism<Crew<R>, Memory> {
+    Parallelism::RayonExistingPool {
+        pool,
+        busy_timeout: None,
+    }
 }
 
-impl<R: Host> ByPool<R> {
-    /// Returns a walk like this one.
-    fn again(&self) -> Option<Self> {
-        Some(ByPool {
-            fs: self.fs.clone().ok()?,
-            row: self.row,
-            pool: self.pool.clone().ok()?,
-        })
-    }
+/// Returns the walk of a row without a callback, if there is memory for its root.
+fn plain<R: Host>(
+    memory: Memory,
+    fs: Arc<MemoryFs>,
+    pool: Arc<Crew<R>, Memory>,
+    row: &Row,
+) -> Option<Plain<R>> {
+    let root = String::from_str(memory, row.root).ok()?;
+    let walk = WalkDirGeneric::with_crew(fs, root)
+        .sort(true)
+        .follow_links(row.follow);
+    Some(walk.parallelism(by_crew(pool)))
+}
 
-    /// Returns the walk with a callback, if there is memory for its root.
-    fn builder<C: ClientState, P: ProcessReadDir<C, Memory>>(
-        self,
-        memory: Memory,
-        process: P,
-    ) -> Option<Builder<R, C, P>>
-        ensures { IfSome result (λ walk. callback_of walk ≡ process) }
-    {
-        let ByPool { fs, row, pool } = self;
-        let root = String::from_str(memory, row.root).ok()?;
-        let by_crew = Parallelism::RayonExistingPool {
-            pool,
-            busy_timeout: None,
-        };
-        let walk = WalkDirGeneric::with_crew(fs, root)
-            .sort(true)
-            .follow_links(row.follow)
-            .parallelism(by_crew);
-        Some(walk.process_read_dir(process))
-    }
+/// Returns the walk of a row with this callback, if there is memory for its root.
+fn called<R: Host>(
+    memory: Memory,
+    fs: Arc<MemoryFs>,
+    pool: Arc<Crew<R>, Memory>,
+    row: &Row,
+    callback: Callback,
+) -> Option<Called<R>> {
+    let root = String::from_str(memory, row.root).ok()?;
+    let walk = WalkDirGeneric::with_crew(fs, root)
+        .sort(true)
+        .follow_links(row.follow);
+    Some(walk.parallelism(by_crew(pool)).process_read_dir(callback))
+}
 
-    /// How the walk comes out with this callback. A crew of which no thread could be started is busy.
-    fn comes_with<
-        C: ClientState + Send + 'static,
-        P: ProcessReadDir<C, Memory> + Send + Sync + 'static,
-    >(self, alloc: Global, memory: Memory, process: P) -> Came
-    where
-        C::ReadDirState: Send + 'static,
-        C::DirEntryState: Shown + Send + 'static,
-        requires { P.IsLawful process }
-    {
-        let lines = self.row.lines;
-        let Some(walk) = self.builder::<C, P>(memory, process) else {
-            return Came::Refused(0);
-        };
-        match walk.try_into_iter() {
-            Ok(walk) => goes(alloc, walk, lines),
-            Err(error) if error.is_memory() || error.is_busy() => Came::Refused(0),
-            Err(_) => Came::Wrong,
-        }
+/// How a walk comes out that didn't begin. A crew of which no thread could be started is busy.
+fn not_begun(error: &Error<Memory>) -> Came {
+    if error.is_memory() || error.is_busy() {
+        Came::Refused(0)
+    } else {
+        Came::Wrong
     }
+}
 
-    /// How the walk comes out with the row's callback.
-    fn comes(self, alloc: Global, memory: Memory) -> Came {
-        match self.row.callback {
-            Callback::Absent => self.comes_with::<((), ()), _>(alloc, memory, NoProcess),
-            Callback::MovesGroup => {
-                self.comes_with::<((), ()), _>(alloc, memory, ByFn::of(move_group::<Memory>))
-            }
-            Callback::HandsOnNames => self.comes_with::<Texts<Memory>, _>(
-                alloc,
-                memory,
-                ByFn::of(hand_on_names::<Memory>),
-            ),
-        }
+/// How a walk without a callback comes out.
+fn plain_comes<R: Host>(alloc: Global, walk: Option<Plain<R>>, row: &Row) -> Came {
+    let Some(walk) = walk else {
+        return Came::Refused(0);
+    };
+    match walk.try_into_iter() {
+        Ok(walk) => goes(alloc, walk, row.lines),
+        Err(error) => not_begun(&error),
+    }
+}
+
+/// How a walk with a callback comes out.
+fn called_comes<R: Host>(alloc: Global, walk: Option<Called<R>>, row: &Row) -> Came {
+    let Some(walk) = walk else {
+        return Came::Refused(0);
+    };
+    match walk.try_into_iter() {
+        Ok(walk) => goes(alloc, walk, row.lines),
+        Err(error) => not_begun(&error),
+    }
+}
+
+/// How the walk of a row comes out.
+fn comes<R: Host>(
+    alloc: Global,
+    memory: Memory,
+    fs: Arc<MemoryFs>,
+    pool: Arc<Crew<R>, Memory>,
+    row: &Row,
+) -> Came {
+    match row.callback {
+        Some(callback) => called_comes(alloc, called(memory, fs, pool, row, callback), row),
+        None => plain_comes(alloc, plain(memory, fs, pool, row), row),
     }
 }
 
@@ -111,21 +120,31 @@ fn are_back<R: Host>(rt: &R, memory: Memory, before: usize) -> bool {
     false
 }
 
-/// Whether a walk comes out right where that many requests are refused from one on, no place is in use after it, and all
+/// Which requests are refused.
+#[derive(Clone, Copy)]
+struct Refusals {
+    /// The number of the first.
+    first: usize,
+    /// How many.
+    many: usize,
+}
+
+/// Whether the walk of a row comes out right where these requests are refused, no place is in use after it, and all
 /// pieces are back soon. Then how many were refused.
 fn refused<R: Host>(
     rt: &R,
     memory: Memory,
-    walk: &ByPool<R>,
-    number: usize,
-    many: usize,
+    fs: &Arc<MemoryFs>,
+    pool: &Arc<Crew<R>, Memory>,
+    row: &Row,
+    refusals: Refusals,
 ) -> Option<usize> {
     memory.refuse(0, 0);
     let before = memory.pieces();
-    let own = walk.again()?;
-    memory.refuse(number, many);
-    let came = own.comes(rt.alloc(), memory);
-    let is_free = walk.pool.in_use() == 0;
+    let (fs, own) = (fs.clone().ok()?, pool.clone().ok()?);
+    memory.refuse(refusals.first, refusals.many);
+    let came = comes(rt.alloc(), memory, fs, own, row);
+    let is_free = pool.in_use() == 0;
     let is_right = came != Came::Wrong && is_free && are_back(rt, memory, before);
     let refused = memory.refused();
     if is_right && (refused > 0 || came == Came::Whole) {
@@ -137,30 +156,33 @@ fn refused<R: Host>(
 
 /// How many requests were refused one after another, until five walks of a row met no refusal; none if one came out
 /// wrong.
-fn plays<R: Host>(rt: &R, row: &'static Row, many: usize) -> Option<usize> {
+fn plays<R: Host>(rt: &R, row: &Row, many: usize) -> Option<usize> {
     let memory: Memory = Box::leak(Box::new(rt.alloc(), Refusing::new(rt.alloc())).ok()?);
-    let walk = ByPool {
-        fs: Arc::new(rt.alloc(), tree(rt.alloc(), row.steps).ok()?).ok()?,
-        row,
-        pool: Arc::new(memory, Crew::new(rt.clone().ok()?, 1, 2)).ok()?,
-    };
+    let fs = Arc::new(rt.alloc(), tree(rt.alloc(), row.steps).ok()?).ok()?;
+    let pool = Arc::new(memory, Crew::new(rt.clone().ok()?, 1, 2)).ok()?;
     let mut quiet: usize = 0;
-    for number in 1..10_000 {
-        if refused(rt, memory, &walk, number, many)? > 0 {
+    for first in 1..MOST {
+        let refusals = Refusals { first, many };
+        if refused(rt, memory, &fs, &pool, row, refusals)? > 0 {
             quiet = 0;
         } else {
             quiet = quiet.saturating_add(1);
         }
         if quiet >= 5 {
-            return Some(number);
+            return Some(first);
         }
     }
     None
 }
 
 /// Whether a row comes out right, where each request is refused and where all are from each on.
-fn is_right<R: Host>(rt: &R, row: &'static Row) -> bool {
-    [1, usize::MAX].iter().all(|many| matches!(plays(rt, row, *many), Some(number) if number > 20))
+fn is_right<R: Host>(rt: &R, row: &Row) -> bool {
+    for many in [1, usize::MAX] {
+        if !matches!(plays(rt, row, many), Some(number) if number > 20) {
+            return false;
+        }
+    }
+    true
 }
 
 #[test]

@@ -2,25 +2,28 @@
 ghost use Rattle.std.specs.Prelude.{◌≡◌, IfSome};
 ghost use Rattle.jwalk.specs.WalkDir.{callback_of};
 
-use crate::refused::callbacks::{Callback, Texts, hand_on_names, move_group};
 use crate::refused::rows::Row;
 use jwalk::file_system::MemoryFs;
-use jwalk::read_dir::{ByFn, NoProcess, ProcessReadDir};
+use jwalk::read_dir::{NoProcess, ProcessReadDir};
 use jwalk::{ClientState, WalkDirGeneric};
+use refused_walks::callbacks::Texts;
 use refused_walks::came::{Came, Taken, comes};
 use refused_walks::lines::Shown;
+use refused_walks::turns::Repeated;
+use refusing_alloc::Refusing;
 use std::alloc::{Allocator, Global};
 use walk_ways::width::Width;
 
 /// A walk yet to begin.
 pub type Builder<'f, C, P, A> = WalkDirGeneric<C, &'f MemoryFs, P, A>;
 
-/// A walk of a row over its tree, read by so many directories together.
+/// A walk of a row over its tree, read by so many directories together, whose answers are taken in some way.
 #[derive(Clone, Copy)]
 pub struct Play<'f> {
     pub fs: &'f MemoryFs,
     pub row: &'f Row,
     pub width: Width,
+    pub taken: Taken,
 }
 
 impl<'f> Play<'f> {
@@ -46,35 +49,33 @@ impl<'f> Play<'f> {
         alloc: Global,
         memory: A,
         process: P,
-        taken: Taken,
     ) -> Came
     where
         C::DirEntryState: Shown,
         requires { P.IsLawful process }
     {
         match self.builder::<C, P, A>(memory, process) {
-            Some(walk) => comes(alloc, memory, walk, taken, self.row.lines),
+            Some(walk) => comes(alloc, memory, walk, self.taken, self.row.lines),
             None => Came::Refused(0),
         }
     }
 
     /// How the walk comes out with this memory and the row's callback.
-    pub fn comes<A: Allocator + Copy>(&self, alloc: Global, memory: A, taken: Taken) -> Came {
+    pub fn comes_over<A: Allocator + Copy>(&self, alloc: Global, memory: A) -> Came {
         match self.row.callback {
-            Callback::Absent => {
-                self.comes_with::<((), ()), _, _>(alloc, memory, NoProcess, taken)
-            }
-            Callback::MovesGroup => {
-                self.comes_with::<((), ()), _, _>(alloc, memory, ByFn::of(move_group::<A>), taken)
-            }
-            Callback::HandsOnNames => {
-                self.comes_with::<Texts<A>, _, _>(
-                    alloc,
-                    memory,
-                    ByFn::of(hand_on_names::<A>),
-                    taken,
-                )
-            }
+            Some(callback) => self.comes_with::<Texts<A>, _, _>(alloc, memory, callback),
+            None => self.comes_with::<((), ()), _, _>(alloc, memory, NoProcess),
         }
+    }
+}
+
+/// What is asked for all at once may come whole after a refusal, as more is asked for then.
+impl Repeated for Play<'_> {
+    fn comes(&self, alloc: Global, memory: &Refusing<Global>) -> Came {
+        self.comes_over(alloc, memory)
+    }
+
+    fn may_be_whole(&self) -> bool {
+        self.taken == Taken::Filled
     }
 }

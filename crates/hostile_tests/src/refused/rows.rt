@@ -1,10 +1,6 @@
 //! Walks by name, and their answers.
-use crate::refused::callbacks::Callback;
-use crate::refused::goes::Play;
-use refused_walks::came::{TAKEN, Taken};
-use std::alloc::Global;
-use walk_fixtures::trees::{DENIED, GROUPED, LOOPED, Step, tree};
-use walk_ways::width::Width;
+use refused_walks::callbacks::Callback;
+use walk_fixtures::trees::{DENIED, GROUPED, LOOPED, Step};
 
 /// A walk by name, and its answers.
 #[derive(Clone, Copy)]
@@ -13,7 +9,7 @@ pub struct Row {
     pub root: &'static str,
     /// Whether links are followed.
     pub follow: bool,
-    pub callback: Callback,
+    pub callback: Option<Callback>,
     pub lines: &'static [&'static str],
 }
 
@@ -22,7 +18,7 @@ pub const GROUPS: Row = Row {
     steps: GROUPED,
     root: "/t",
     follow: false,
-    callback: Callback::Absent,
+    callback: None,
     lines: &[
         "0 d /t",
         "1 f /t/a.txt",
@@ -40,7 +36,7 @@ pub const MOVED: Row = Row {
     steps: GROUPED,
     root: "/t",
     follow: false,
-    callback: Callback::MovesGroup,
+    callback: Some(Callback::MovesGroup),
     lines: &[
         "0 d /t",
         "1 f /t/a.txt",
@@ -58,12 +54,8 @@ pub const HANDED_ON: Row = Row {
     steps: GROUPED,
     root: "/t",
     follow: false,
-    callback: Callback::HandsOnNames,
-    lines: &[
-        "0 d /t with none",
-        "1 d /t/group 1 with t",
-        "1 d /t/group 2 with t",
-    ],
+    callback: Some(Callback::HandsOnNames),
+    lines: &["0 d /t", "1 d /t/group 1 with t", "1 d /t/group 2 with t"],
 };
 
 /// The groups, one that can't be listed, and a loop.
@@ -73,7 +65,7 @@ pub const ROWS: &[Row] = &[
         steps: DENIED,
         root: "/t",
         follow: false,
-        callback: Callback::Absent,
+        callback: None,
         lines: &[
             "0 d /t",
             "1 f /t/a.txt",
@@ -88,7 +80,7 @@ pub const ROWS: &[Row] = &[
         steps: LOOPED,
         root: "/r",
         follow: true,
-        callback: Callback::Absent,
+        callback: None,
         lines: &[
             "0 d /r",
             "1 d /r/a",
@@ -98,39 +90,3 @@ pub const ROWS: &[Row] = &[
         ],
     },
 ];
-
-/// How many directories are read together.
-pub const WIDTHS: &[Width] = &[
-    Width::Serial,
-    Width::Batches(1),
-    Width::Batches(2),
-    Width::Batches(8),
-];
-
-/// Returns what is wrong of the walk of a row in the first way in which anything is: in some width, and its answers
-/// taken in some way.
-pub fn in_each_way<F: Fn(Play<'_>, Taken) -> Option<usize>>(
-    alloc: Global,
-    row: &Row,
-    wrong: F,
-) -> Option<usize>
-    requires { F.IsAlwaysCallable wrong }
-{
-    let Ok(fs) = tree(alloc, row.steps) else {
-        return Some(0);
-    };
-    for width in WIDTHS {
-        let play = Play {
-            fs: &fs,
-            row,
-            width: *width,
-        };
-        for taken in TAKEN {
-            let wrong = wrong(play, *taken);
-            if wrong.is_some() {
-                return wrong;
-            }
-        }
-    }
-    None
-}

@@ -1,17 +1,12 @@
 //! Walks whose batches threads read, where each request for memory is refused, or all from each on.
-ghost use Rattle.jwalk.specs.DirEntryIter.{job_of};
-ghost use Rattle.jwalk.specs.jwalk_read.Job.{callback};
-
-use crate::refused::callbacks::{Callback, Texts, hand_on_names, move_group};
 use crate::refused::goes::Play;
-use crate::refused::rows::{GROUPS, HANDED_ON, MOVED, Row, WIDTHS};
+use crate::refused::rows::{GROUPS, HANDED_ON, MOVED, Row};
 use jwalk::file_system::{BuildError, MemoryFs};
-use jwalk::read_dir::{ByFn, NoProcess, ProcessReadDir};
-use jwalk::threads::OnThreads;
-use jwalk::{ClientState, DirEntryIter};
-use refused_walks::came::Came;
-use refused_walks::lines::{Given, Shown, are_first, is_refusal};
-use refused_walks::turns::first_wrong;
+use jwalk::read_dir::NoProcess;
+use refused_walks::callbacks::{Callback, Texts};
+use refused_walks::came::{Came, TAKEN, WAYS};
+use refused_walks::on_threads::comes;
+use refused_walks::turns::{MOST, Repeated, Run, run_of};
 use refusing_alloc::Refusing;
 use std::alloc::Global;
 use std::thread::Threads;
@@ -20,6 +15,9 @@ use walk_ways::width::Width;
 
 /// How many directories are read together: enough for two threads.
 const WIDE: Width = Width::Batches(64);
+
+/// From how many directories on threads share a batch.
+const SHARED: usize = 32;
 
 /// A directory with 40 directories.
 fn wide(alloc: Global) -> Result<MemoryFs, BuildError> {
@@ -31,130 +29,161 @@ fn wide(alloc: Global) -> Result<MemoryFs, BuildError> {
     Ok(fs)
 }
 
-/// Memory that may be refused.
-type Memory<'m> = &'m Refusing<Global>;
-
-/// A walk under way whose directories threads read.
-type Walk<'f, 'm, 'r, C, P, R> = DirEntryIter<C, &'f MemoryFs, P, Memory<'m>, OnThreads<&'r R>>;
-
-/// A walk that threads read again and again, and how many answers it has.
-#[derive(Clone, Copy)]
-struct Threaded<'f, 'r, R> {
-    rt: &'r R,
-    play: Play<'f>,
-    count: usize,
-}
-
-impl<'f, 'r, R: Threads + Sync> Threaded<'f, 'r, R> {
-    /// How the answers come of a walk under way that are asked for all at once.
-    fn fills<'m, C: ClientState + Send, P: ProcessReadDir<C, Memory<'m>> + Send + Sync>(
-        &self,
-        alloc: Global,
-        memory: Memory<'m>,
-        mut walk: Walk<'f, 'm, 'r, C, P, R>,
-    ) -> Came
-    where
-        C::ReadDirState: Send,
-        C::DirEntryState: Send + Shown,
-        requires { P.IsLawful (callback (job_of walk)) }
-    {
-        let mut found: Vec<Given<C, Memory<'m>>, Memory<'m>> = Vec::new(memory);
-        let is_filled = walk.fill(100, &mut found).is_ok();
-        let is_refused = is_refusal(found.last());
-        if is_refused {
-            found.pop();
-        }
-        let lines = self.play.row.lines;
-        let some = found.get(..found.len().min(lines.len())).unwrap_or(&[]);
-        if !are_first(alloc, some, lines) {
-            return Came::Wrong;
-        }
-        match (is_filled && !is_refused, found.len() == self.count) {
-            (true, true) => Came::Whole,
-            (true, false) => Came::Wrong,
-            (false, _) => Came::Refused(found.len()),
-        }
-    }
-
-    /// How the walk comes out with this memory and this callback.
-    fn comes_with<'m, C: ClientState + Send, P: ProcessReadDir<C, Memory<'m>> + Send + Sync>(
-        &self,
-        alloc: Global,
-        memory: Memory<'m>,
-        process: P,
-    ) -> Came
-    where
-        C::ReadDirState: Send,
-        C::DirEntryState: Send + Shown,
-        requires { P.IsLawful process }
-    {
-        match self.play.builder::<C, P, Memory<'m>>(memory, process) {
-            Some(walk) => self.fills(alloc, memory, walk.threads(self.rt).into_iter()),
-            None => Came::Refused(0),
-        }
-    }
-
-    /// How the walk comes out with this memory and the row's callback.
-    fn comes(&self, alloc: Global, memory: Memory<'_>) -> Came {
-        match self.play.row.callback {
-            Callback::Absent => self.comes_with::<((), ()), _>(alloc, memory, NoProcess),
-            Callback::MovesGroup => {
-                self.comes_with::<((), ()), _>(alloc, memory, ByFn::of(move_group::<Memory<'_>>))
-            }
-            Callback::HandsOnNames => self.comes_with::<Texts<Memory<'_>>, _>(
-                alloc,
-                memory,
-                ByFn::of(hand_on_names::<Memory<'_>>),
-            ),
-        }
-    }
-}
-
-/// Whether the walk of a row with that many answers comes out right over a tree, read by so many directories together.
-fn is_right<R: Threads + AllocGlobal + Sync>(
+/// How a walk without a callback comes out with this memory.
+fn plain_comes<R: Threads + Sync>(
     rt: &R,
-    fs: &MemoryFs,
-    row: &Row,
-    width: Width,
-    count: usize,
-) -> bool {
-    let alloc = rt.alloc();
-    let play = Play { fs, row, width };
-    let walk = Threaded { rt, play, count };
-    [1, usize::MAX].iter().all(|many| first_wrong(
-        alloc,
-        *many,
-        true,
-        |memory| walk.comes(alloc, memory),
-    ).is_none())
+    alloc: Global,
+    memory: &Refusing<Global>,
+    play: Play<'_>,
+) -> Came {
+    match play.builder::<((), ()), _, _>(memory, NoProcess) {
+        Some(walk) => comes(alloc, memory, walk.threads(rt), play.taken, play.row.lines),
+        None => Came::Refused(0),
+    }
 }
 
-/// Whether the walk of a row comes out right in each width.
+/// How a walk with this callback comes out with this memory.
+fn called_comes<R: Threads + Sync>(
+    rt: &R,
+    alloc: Global,
+    memory: &Refusing<Global>,
+    play: Play<'_>,
+    callback: Callback,
+) -> Came {
+    match play.builder::<Texts<&Refusing<Global>>, _, _>(memory, callback) {
+        Some(walk) => comes(alloc, memory, walk.threads(rt), play.taken, play.row.lines),
+        None => Came::Refused(0),
+    }
+}
+
+/// Whether a walk may come whole after a refusal: what is asked for all at once, and what threads share.
+fn may_be_whole(play: Play<'_>) -> bool {
+    play.may_be_whole() || play.row.lines.len() > SHARED
+}
+
+/// The number from which on a walk comes out wrong where that many requests are refused. A trait's method can't start
+/// threads, so the runs are here.
+fn first_wrong<R: Threads + AllocGlobal + Sync>(
+    rt: &R,
+    play: Play<'_>,
+    many: usize,
+) -> Option<usize> {
+    let memory = Refusing::new(rt.alloc());
+    for number in 1..MOST {
+        memory.refuse(number, many);
+        let came = match play.row.callback {
+            Some(callback) => called_comes(rt, rt.alloc(), &memory, play, callback),
+            None => plain_comes(rt, rt.alloc(), &memory, play),
+        };
+        match run_of(&memory, number, came, may_be_whole(play)) {
+            Run::Refused => {}
+            Run::Quiet => return None,
+            Run::Wrong => return Some(number),
+        }
+    }
+    Some(MOST)
+}
+
+/// Whether a walk comes out right where each request is refused, and where all are from each on.
+fn is_right<R: Threads + AllocGlobal + Sync>(rt: &R, play: Play<'_>) -> bool {
+    first_wrong(rt, play, 1).is_none() && first_wrong(rt, play, usize::MAX).is_none()
+}
+
+/// Whether the walk of a row comes out right over a tree, if many directories are read together.
+fn is_right_widely<R: Threads + AllocGlobal + Sync>(rt: &R, fs: &MemoryFs, row: &Row) -> bool {
+    for taken in TAKEN {
+        let play = Play {
+            fs,
+            row,
+            width: WIDE,
+            taken: *taken,
+        };
+        if !is_right(rt, play) {
+            return false;
+        }
+    }
+    true
+}
+
+/// Whether the walk of a row comes out right, however many directories are read together.
 fn is_right_always<R: Threads + AllocGlobal + Sync>(rt: &R, row: &Row) -> bool {
     let Ok(fs) = tree(rt.alloc(), row.steps) else {
         return false;
     };
-    let count = row.lines.len();
-    WIDTHS
-        .iter()
-        .all(|width| is_right(rt, &fs, row, *width, count))
-        && is_right(rt, &fs, row, WIDE, count)
+    for (width, taken) in WAYS {
+        let play = Play {
+            fs: &fs,
+            row,
+            width: *width,
+            taken: *taken,
+        };
+        if !is_right(rt, play) {
+            return false;
+        }
+    }
+    is_right_widely(rt, &fs, row)
 }
 
-/// The walk over the wide directory, with its first lines.
+/// The walk over the wide directory.
 const WIDE_ROW: Row = Row {
     steps: &[],
     root: "/w",
     follow: false,
-    callback: Callback::Absent,
-    lines: &["0 d /w", "1 d /w/10", "1 d /w/11", "1 d /w/12"],
+    callback: None,
+    lines: &[
+        "0 d /w",
+        "1 d /w/10",
+        "1 d /w/11",
+        "1 d /w/12",
+        "1 d /w/13",
+        "1 d /w/14",
+        "1 d /w/15",
+        "1 d /w/16",
+        "1 d /w/17",
+        "1 d /w/18",
+        "1 d /w/19",
+        "1 d /w/20",
+        "1 d /w/21",
+        "1 d /w/22",
+        "1 d /w/23",
+        "1 d /w/24",
+        "1 d /w/25",
+        "1 d /w/26",
+        "1 d /w/27",
+        "1 d /w/28",
+        "1 d /w/29",
+        "1 d /w/30",
+        "1 d /w/31",
+        "1 d /w/32",
+        "1 d /w/33",
+        "1 d /w/34",
+        "1 d /w/35",
+        "1 d /w/36",
+        "1 d /w/37",
+        "1 d /w/38",
+        "1 d /w/39",
+        "1 d /w/40",
+        "1 d /w/41",
+        "1 d /w/42",
+        "1 d /w/43",
+        "1 d /w/44",
+        "1 d /w/45",
+        "1 d /w/46",
+        "1 d /w/47",
+        "1 d /w/48",
+        "1 d /w/49",
+    ],
 };
 
 #[test]
 fn requests_refused_on_threads(rt: HostRuntime) {
     assert!(rt; is_right_always(&rt, &GROUPS));
+}
+
+#[test]
+fn requests_refused_on_threads_that_share_a_batch(rt: HostRuntime) {
     let wide = wide(rt.alloc());
-    assert!(rt; matches!(&wide, Ok(fs) if is_right(&rt, fs, &WIDE_ROW, WIDE, 41)));
+    assert!(rt; matches!(&wide, Ok(fs) if is_right_widely(&rt, fs, &WIDE_ROW)));
 }
 
 #[test]

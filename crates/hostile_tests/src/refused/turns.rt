@@ -1,17 +1,30 @@
 //! Walks that read in turn, where each request for memory is refused, or all from each on.
-use crate::refused::rows::{HANDED_ON, MOVED, ROWS, Row, in_each_way};
-use refused_walks::came::Taken;
+use crate::refused::goes::Play;
+use crate::refused::rows::{HANDED_ON, MOVED, ROWS, Row};
+use refused_walks::came::WAYS;
 use refused_walks::turns::first_wrong;
 use std::alloc::Global;
+use walk_fixtures::trees::tree;
 
 /// Whether the walk of a row comes out right in each way where that many requests are refused. Else the number of the
-/// first where it doesn't. What is asked for all at once may come whole even so, as more is asked for after a refusal.
+/// first where it doesn't.
 fn wrong_of(alloc: Global, row: &Row, many: usize) -> Option<usize> {
-    in_each_way(alloc, row, |play, taken| {
-        first_wrong(alloc, many, taken == Taken::Filled, |memory| {
-            play.comes(alloc, memory, taken)
-        })
-    })
+    let Ok(fs) = tree(alloc, row.steps) else {
+        return Some(0);
+    };
+    for (width, taken) in WAYS {
+        let play = Play {
+            fs: &fs,
+            row,
+            width: *width,
+            taken: *taken,
+        };
+        let wrong = first_wrong(alloc, many, &play);
+        if wrong.is_some() {
+            return wrong;
+        }
+    }
+    None
 }
 
 #[test]
