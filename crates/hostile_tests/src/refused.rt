@@ -2,7 +2,7 @@
 mod bytes;
 mod crew;
 mod goes;
-mod lines;
 mod rows;
 mod threads;
 mod turns;
+mod within;

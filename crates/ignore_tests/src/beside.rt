@@ -1,25 +1,26 @@
-//! Rules beside other callbacks, and in crews.
-use crate::planted::repository;
-use jwalk::WalkDirGeneric;
+//! Rules beside other callbacks.
+use crate::always::BY_NAME;
+use crate::planted::{Planted, repository};
+use jwalk::DirEntry;
 use jwalk::file_system::BuildError;
-use jwalk::read_dir::{Size, WithSizes};
-use jwalk_ignore::builder::with_ignore_files;
+use jwalk::read_dir::{ByFn, Size, WithSizes};
 use jwalk_ignore::chain::Chain;
 use jwalk_ignore::ignore_files::IgnoreFiles;
-use std::alloc::Global;
+use std::alloc::{AllocError, Global};
+use std::thread::Threads;
+use walk_fixtures::answers::Answer;
+use walk_fixtures::watched::{Calls, Failing, Watched};
+use walk_ways::ways::{Asked, WAYS, Way};
 
 /// A repository with rules in two directories.
-const TREE: &str = ".gitignore=*.o|\na.o\nb\ns/\ns/.gitignore=c|\ns/b.o\ns/c\ns/d";
+const TREE: &str =
+    ".gitignore=*.o|\na.o\nb\ns/\ns/.gitignore=c|\ns/b.o\ns/c\ns/d\ns/t/\ns/t/c\ns/t/e";
 
-/// Returns the names and sizes that a walk yields with rules and sizes.
-fn sized(alloc: Global) -> Result<String, BuildError> {
-    let planted = repository(alloc, TREE)?;
-    let root = String::from_str(alloc, "/r")?;
-    let walk = WalkDirGeneric::<((Chain, ()), Size), _, _, _>::new(&planted.fs, root).sort(true);
-    let rules = IgnoreFiles::new(&planted.texts).then(WithSizes::new(&planted.fs));
+/// Returns the names and sizes of answers.
+fn sizes_of(alloc: Global, found: &[Answer<((Chain, ()), Size)>]) -> Result<String, AllocError> {
     let mut text = String::new(alloc);
-    for answer in with_ignore_files(walk, rules).into_iter() {
-        if let Ok(entry) = &answer {
+    for answer in found {
+        if let Ok(entry) = answer {
             let name = entry.file_name();
             match entry.client_state {
                 Size::Len(len) => write!(text, "{name} {len}; ")?,
@@ -30,7 +31,161 @@ fn sized(alloc: Global) -> Result<String, BuildError> {
     Ok(text)
 }
 
+/// Returns whether a walk with rules and sizes, read in a way, has the sizes of what is left, and asks for no others.
+fn sizes_are_of_what_is_left<R: Threads + AllocGlobal + Sync>(
+    rt: &R,
+    way: Way,
+) -> Result<bool, BuildError> {
+    let alloc = rt.alloc();
+    let Planted { fs, texts } = repository(alloc, TREE)?;
+    let watched = Watched::new(fs, Failing::Never);
+    let rules = IgnoreFiles::new(&texts).then(WithSizes::new(&watched));
+    let asked = Asked {
+        fs: &watched,
+        root: "/r",
+        settings: BY_NAME,
+    };
+    let found = asked.found(rt, rules, way)?;
+    // The three directories are listed. The root is looked at, and each of the three files.
+    let calls = Calls {
+        lists: 3,
+        looks: 4,
+        follows: 0,
+    };
+    let sizes = sizes_of(alloc, &found)?;
+    Ok(sizes.as_str() == "r; b 1; s; d 1; t; e 1; " && watched.calls() == calls)
+}
+
 #[test]
-fn sizes_beside_rules(rt: HostRuntime) {
-    assert!(rt; matches!(sized(rt.alloc()), Ok(text) if text.as_str() == "r; b 1; s; d 1; "));
+fn sizes_of_what_rules_leave(rt: HostRuntime) {
+    for way in WAYS {
+        assert!(rt; matches!(sizes_are_of_what_is_left(&rt, *way), Ok(true)));
+    }
+}
+
+/// Rules beside states of a user: a directory's, and an entry's.
+type Beside<B, E> = ((Chain, B), E);
+
+/// Counts lists on the way down, and tells each entry that number, and how many entries its list has.
+fn count(
+    _depth: Option<usize>,
+    _path: &str,
+    state: &mut (Chain, usize),
+    list: &mut Vec<Answer<Beside<usize, (usize, usize)>>>,
+) -> Result<(), AllocError> {
+    state.1 = state.1.saturating_add(1);
+    let counts = (state.1, list.len());
+    for found in list.iter_mut() {
+        if let Ok(entry) = found {
+            entry.client_state = counts;
+        }
+    }
+    Ok(())
+}
+
+/// Returns the names of answers and what they were told.
+fn counts_of(
+    alloc: Global,
+    found: &[Answer<Beside<usize, (usize, usize)>>],
+) -> Result<String, AllocError> {
+    let mut text = String::new(alloc);
+    for answer in found {
+        if let Ok(entry) = answer {
+            let name = entry.file_name();
+            let (level, len) = entry.client_state;
+            write!(text, "{name} {level} {len}; ")?;
+        }
+    }
+    Ok(text)
+}
+
+/// Returns whether a walk with rules and such a callback, read in a way, tells this.
+fn tells<R: Threads + AllocGlobal + Sync>(
+    rt: &R,
+    way: Way,
+    wanted: &str,
+) -> Result<bool, BuildError> {
+    let planted = repository(rt.alloc(), TREE)?;
+    let asked = Asked {
+        fs: &planted.fs,
+        root: "/r",
+        settings: BY_NAME,
+    };
+    let rules = IgnoreFiles::new(&planted.texts).then(ByFn::of(count));
+    let found = asked.found(rt, rules, way)?;
+    Ok(counts_of(rt.alloc(), &found)?.as_str() == wanted)
+}
+
+#[test]
+fn a_callback_behind_rules_is_given_what_they_leave(rt: HostRuntime) {
+    let wanted = "r 1 1; b 2 2; s 2 2; d 3 2; t 3 2; e 4 1; ";
+    for way in WAYS {
+        assert!(rt; matches!(tells(&rt, *way, wanted), Ok(true)));
+    }
+}
+
+/// States that are texts, or none.
+type Named = Beside<Option<String>, Option<String>>;
+
+/// Gives an entry its list's text. Its directory begins with the entry's name, and with the rules in force.
+fn hand_on(entry: &mut DirEntry<Named>, state: &(Chain, Option<String>)) -> Result<(), AllocError> {
+    let (chain, name) = state;
+    entry.client_state = name.clone()?;
+    if let Some(children) = &mut entry.read_children {
+        children.client_read_state = Some((chain.clone()?, Some(entry.file_name.clone()?)));
+    }
+    Ok(())
+}
+
+/// Does so with each entry of a list.
+fn hand_on_names(
+    _depth: Option<usize>,
+    _path: &str,
+    state: &mut (Chain, Option<String>),
+    list: &mut Vec<Answer<Named>>,
+) -> Result<(), AllocError> {
+    for found in list.iter_mut() {
+        if let Ok(entry) = found {
+            hand_on(entry, state)?;
+        }
+    }
+    Ok(())
+}
+
+/// Returns the names of answers and what they were handed.
+fn names_of(alloc: Global, found: &[Answer<Named>]) -> Result<String, AllocError> {
+    let mut text = String::new(alloc);
+    for answer in found {
+        if let Ok(entry) = answer {
+            let name = entry.file_name();
+            let above = entry.client_state.as_deref().unwrap_or("none");
+            write!(text, "{name} {above}; ")?;
+        }
+    }
+    Ok(text)
+}
+
+/// Returns whether a walk with rules that hands names on, read in a way, has handed on these.
+fn hands_on<R: Threads + AllocGlobal + Sync>(
+    rt: &R,
+    way: Way,
+    wanted: &str,
+) -> Result<bool, BuildError> {
+    let planted = repository(rt.alloc(), TREE)?;
+    let asked = Asked {
+        fs: &planted.fs,
+        root: "/r",
+        settings: BY_NAME,
+    };
+    let rules = IgnoreFiles::new(&planted.texts).then(ByFn::of(hand_on_names));
+    let found = asked.found(rt, rules, way)?;
+    Ok(names_of(rt.alloc(), &found)?.as_str() == wanted)
+}
+
+#[test]
+fn names_handed_on_beside_rules(rt: HostRuntime) {
+    let wanted = "r none; b r; s r; d s; t s; e t; ";
+    for way in WAYS {
+        assert!(rt; matches!(hands_on(&rt, *way, wanted), Ok(true)));
+    }
 }

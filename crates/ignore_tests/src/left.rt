@@ -6,6 +6,7 @@ use jwalk_ignore::builder::with_ignore_files;
 use jwalk_ignore::ignore_files::IgnoreFiles;
 use jwalk_ignore::memory_texts::MemoryTexts;
 use std::alloc::{AllocError, Global};
+use walk_ways::ways::all_of;
 
 /// Adds a path below `/r` to a text.
 fn push_path(text: &mut String, path: &str) -> Result<(), AllocError> {
@@ -25,6 +26,21 @@ fn push_item(text: &mut String, answer: &Result<DirEntry<Rules>, Error>) -> Resu
     text.push_str("\n")
 }
 
+/// Returns what answers are behind the root, each on a line.
+pub(crate) fn text_of(
+    alloc: Global,
+    answers: &[Result<DirEntry<Rules>, Error>],
+) -> Result<String, AllocError> {
+    let mut text = String::new(alloc);
+    for answer in answers {
+        match answer {
+            Ok(entry) if entry.depth == 0 => {}
+            _ => push_item(&mut text, answer)?,
+        }
+    }
+    Ok(text)
+}
+
 /// Returns what a walk by name from a root yields behind the root, each item on a line.
 pub(crate) fn left_from(
     alloc: Global,
@@ -34,14 +50,8 @@ pub(crate) fn left_from(
 ) -> Result<String, BuildError> {
     let root = String::from_str(alloc, root)?;
     let walk = WalkDirGeneric::<Rules, _, _, _>::new(&planted.fs, root).sort(true);
-    let mut text = String::new(alloc);
-    for answer in with_ignore_files(walk, rules).into_iter() {
-        match &answer {
-            Ok(entry) if entry.depth == 0 => {}
-            _ => push_item(&mut text, &answer)?,
-        }
-    }
-    Ok(text)
+    let found = all_of(alloc, with_ignore_files(walk, rules).into_iter())?;
+    Ok(text_of(alloc, &found)?)
 }
 
 /// Returns what is left of a tree, hidden names too.

@@ -2,13 +2,21 @@
 #![tactic(auto)]
 
 #[cfg(test)]
+mod always;
+#[cfg(test)]
 mod beside;
+#[cfg(test)]
+mod by_crew;
 #[cfg(test)]
 mod callback;
 #[cfg(test)]
 mod left;
 #[cfg(test)]
+mod links;
+#[cfg(test)]
 mod planted;
+#[cfg(test)]
+mod refused;
 #[cfg(test)]
 mod rows;
 #[cfg(test)]
@@ -17,3 +25,5 @@ mod rules;
 mod tree_rows;
 #[cfg(test)]
 mod trees;
+#[cfg(test)]
+mod unread;

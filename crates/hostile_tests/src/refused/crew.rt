@@ -1,9 +1,11 @@
 //! Walks that a crew reads for, where each request for memory is refused, or all from each on.
-use crate::refused::goes::{Came, goes_on};
-use crate::refused::rows::GROUPS;
+use crate::refused::rows::{GROUPS, HANDED_ON, MOVED, Row};
 use jwalk::file_system::MemoryFs;
 use jwalk::read_dir::NoProcess;
-use jwalk::{Crew, Parallelism, WalkDirGeneric};
+use jwalk::{Crew, Error, Parallelism, WalkDirGeneric};
+use refused_walks::callbacks::{Callback, Texts};
+use refused_walks::came::{Came, goes};
+use refused_walks::turns::MOST;
 use refusing_alloc::Refusing;
 use std::alloc::Global;
 use std::sync::Arc;
@@ -16,35 +18,93 @@ use walk_fixtures::trees::tree;
 type Memory = &'static Refusing<Global>;
 
 /// A walk yet to begin that a crew is to read for.
-type Builder<R> = WalkDirGeneric<((), ()), Arc<MemoryFs>, NoProcess, Memory, Crew<R>>;
+type Builder<R, C, P> = WalkDirGeneric<C, Arc<MemoryFs>, P, Memory, Crew<R>>;
 
-/// Returns the walk, if there is memory for its root.
-fn builder<R: Host>(
+/// One without a callback.
+type Plain<R> = Builder<R, ((), ()), NoProcess>;
+
+/// One with a callback.
+type Called<R> = Builder<R, Texts<Memory>, Callback>;
+
+/// That a crew reads, as soon as it has a place.
+fn by_crew<R: Host>(pool: Arc<Crew<R>, Memory>) -> Parallelism<Crew<R>, Memory> {
+    Parallelism::RayonExistingPool {
+        pool,
+        busy_timeout: None,
+    }
+}
+
+/// Returns the walk of a row without a callback, if there is memory for its root.
+fn plain<R: Host>(
     memory: Memory,
     fs: Arc<MemoryFs>,
     pool: Arc<Crew<R>, Memory>,
-) -> Option<Builder<R>> {
-    let root = String::from_str(memory, GROUPS.root).ok()?;
-    let by_crew = Parallelism::RayonExistingPool {
-        pool,
-        busy_timeout: None,
-    };
-    Some(
-        WalkDirGeneric::with_crew(fs, root)
-            .sort(true)
-            .parallelism(by_crew),
-    )
+    row: &Row,
+) -> Option<Plain<R>> {
+    let root = String::from_str(memory, row.root).ok()?;
+    let walk = WalkDirGeneric::with_crew(fs, root)
+        .sort(true)
+        .follow_links(row.follow);
+    Some(walk.parallelism(by_crew(pool)))
 }
 
-/// How the walk comes out. A crew of which no thread could be started is busy.
-fn comes<R: Host>(alloc: Global, walk: Option<Builder<R>>) -> Came {
+/// Returns the walk of a row with this callback, if there is memory for its root.
+fn called<R: Host>(
+    memory: Memory,
+    fs: Arc<MemoryFs>,
+    pool: Arc<Crew<R>, Memory>,
+    row: &Row,
+    callback: Callback,
+) -> Option<Called<R>> {
+    let root = String::from_str(memory, row.root).ok()?;
+    let walk = WalkDirGeneric::with_crew(fs, root)
+        .sort(true)
+        .follow_links(row.follow);
+    Some(walk.parallelism(by_crew(pool)).process_read_dir(callback))
+}
+
+/// How a walk comes out that didn't begin. A crew of which no thread could be started is busy.
+fn not_begun(error: &Error<Memory>) -> Came {
+    if error.is_memory() || error.is_busy() {
+        Came::Refused(0)
+    } else {
+        Came::Wrong
+    }
+}
+
+/// How a walk without a callback comes out.
+fn plain_comes<R: Host>(alloc: Global, walk: Option<Plain<R>>, row: &Row) -> Came {
     let Some(walk) = walk else {
-        return Came::Refused;
+        return Came::Refused(0);
     };
     match walk.try_into_iter() {
-        Ok(walk) => goes_on(alloc, walk, GROUPS.lines),
-        Err(error) if error.is_memory() || error.is_busy() => Came::Refused,
-        Err(_) => Came::Wrong,
+        Ok(walk) => goes(alloc, walk, row.lines),
+        Err(error) => not_begun(&error),
+    }
+}
+
+/// How a walk with a callback comes out.
+fn called_comes<R: Host>(alloc: Global, walk: Option<Called<R>>, row: &Row) -> Came {
+    let Some(walk) = walk else {
+        return Came::Refused(0);
+    };
+    match walk.try_into_iter() {
+        Ok(walk) => goes(alloc, walk, row.lines),
+        Err(error) => not_begun(&error),
+    }
+}
+
+/// How the walk of a row comes out.
+fn comes<R: Host>(
+    alloc: Global,
+    memory: Memory,
+    fs: Arc<MemoryFs>,
+    pool: Arc<Crew<R>, Memory>,
+    row: &Row,
+) -> Came {
+    match row.callback {
+        Some(callback) => called_comes(alloc, called(memory, fs, pool, row, callback), row),
+        None => plain_comes(alloc, plain(memory, fs, pool, row), row),
     }
 }
 
@@ -59,21 +119,30 @@ fn are_back<R: Host>(rt: &R, memory: Memory, before: usize) -> bool {
     false
 }
 
-/// Whether a walk comes out right where that many requests are refused from one on, no place is in use after it, and all
+/// Which requests are refused.
+#[derive(Clone, Copy)]
+struct Refusals {
+    /// The number of the first.
+    first: usize,
+    /// How many.
+    many: usize,
+}
+
+/// Whether the walk of a row comes out right where these requests are refused, no place is in use after it, and all
 /// pieces are back soon. Then how many were refused.
 fn refused<R: Host>(
     rt: &R,
     memory: Memory,
     fs: &Arc<MemoryFs>,
     pool: &Arc<Crew<R>, Memory>,
-    number: usize,
-    many: usize,
+    row: &Row,
+    refusals: Refusals,
 ) -> Option<usize> {
     memory.refuse(0, 0);
     let before = memory.pieces();
     let (fs, own) = (fs.clone().ok()?, pool.clone().ok()?);
-    memory.refuse(number, many);
-    let came = comes(rt.alloc(), builder(memory, fs, own));
+    memory.refuse(refusals.first, refusals.many);
+    let came = comes(rt.alloc(), memory, fs, own, row);
     let is_free = pool.in_use() == 0;
     let is_right = came != Came::Wrong && is_free && are_back(rt, memory, before);
     let refused = memory.refused();
@@ -84,28 +153,48 @@ fn refused<R: Host>(
     }
 }
 
-/// How many requests were refused one after another, until five walks met no refusal; none if one came out wrong.
-fn plays<R: Host>(rt: &R, many: usize) -> Option<usize> {
+/// How many requests were refused one after another, until five walks of a row met no refusal; none if one came out
+/// wrong.
+fn plays<R: Host>(rt: &R, row: &Row, many: usize) -> Option<usize> {
     let memory: Memory = Box::leak(Box::new(rt.alloc(), Refusing::new(rt.alloc())).ok()?);
-    let fs = Arc::new(rt.alloc(), tree(rt.alloc(), GROUPS.steps).ok()?).ok()?;
+    let fs = Arc::new(rt.alloc(), tree(rt.alloc(), row.steps).ok()?).ok()?;
     let pool = Arc::new(memory, Crew::new(rt.clone().ok()?, 1, 2)).ok()?;
     let mut quiet: usize = 0;
-    for number in 1..10_000 {
-        if refused(rt, memory, &fs, &pool, number, many)? > 0 {
+    for first in 1..MOST {
+        let refusals = Refusals { first, many };
+        if refused(rt, memory, &fs, &pool, row, refusals)? > 0 {
             quiet = 0;
         } else {
             quiet = quiet.saturating_add(1);
         }
         if quiet >= 5 {
-            return Some(number);
+            return Some(first);
         }
     }
     None
 }
 
-#[test]
-fn each_request_in_turn_with_a_crew(rt: HostRuntime) {
+/// Whether a row comes out right, where each request is refused and where all are from each on.
+fn is_right<R: Host>(rt: &R, row: &Row) -> bool {
     for many in [1, usize::MAX] {
-        assert!(rt; matches!(plays(&rt, many), Some(number) if number > 20));
+        if !matches!(plays(rt, row, many), Some(number) if number > 20) {
+            return false;
+        }
     }
+    true
+}
+
+#[test]
+fn requests_refused_with_a_crew(rt: HostRuntime) {
+    assert!(rt; is_right(&rt, &GROUPS));
+}
+
+#[test]
+fn requests_refused_with_a_crew_where_a_directory_is_moved(rt: HostRuntime) {
+    assert!(rt; is_right(&rt, &MOVED));
+}
+
+#[test]
+fn requests_refused_with_a_crew_where_names_are_handed_on(rt: HostRuntime) {
+    assert!(rt; is_right(&rt, &HANDED_ON));
 }

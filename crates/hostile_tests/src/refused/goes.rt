@@ -1,144 +1,81 @@
-//! How walks come out whose memory may be refused.
-use crate::refused::lines::{Given, are_first, is_line, is_refusal};
+//! Walks of rows that are made again and again.
+ghost use Rattle.std.specs.Prelude.{◌≡◌, IfSome};
+ghost use Rattle.jwalk.specs.WalkDir.{callback_of};
+
 use crate::refused::rows::Row;
-use jwalk::file_system::{FileSystem, MemoryFs};
-use jwalk::read_dir::NoProcess;
-use jwalk::{DirEntryIter, Error, Pool, WalkDirGeneric};
+use jwalk::file_system::MemoryFs;
+use jwalk::read_dir::{NoProcess, ProcessReadDir};
+use jwalk::{ClientState, WalkDirGeneric};
+use refused_walks::callbacks::Texts;
+use refused_walks::came::{Came, Taken, comes};
+use refused_walks::lines::Shown;
+use refused_walks::turns::Repeated;
+use refusing_alloc::Refusing;
 use std::alloc::{Allocator, Global};
 use walk_ways::width::Width;
 
-/// How a walk came out.
-#[derive(Clone, Copy, PartialEq, Eq)]
-pub enum Came {
-    /// All its answers came.
-    Whole,
-    /// A beginning came, and then one error that reports that memory ran out.
-    Refused,
-    /// It came otherwise.
-    Wrong,
-}
-
-/// How a walk's answers are taken.
-#[derive(Clone, Copy, PartialEq, Eq)]
-pub enum Taken {
-    /// Begun by `try_into_iter`, one after another.
-    Tried,
-    /// Begun by `into_iter`, one after another.
-    Begun,
-    /// Begun by `into_iter`, many at once.
-    Filled,
-}
-
-pub const TAKEN: &[Taken] = &[Taken::Tried, Taken::Begun, Taken::Filled];
-
-/// A walk under way, for which some pool may read.
-pub type Walk<S, A, L> = DirEntryIter<((), ()), S, NoProcess, A, L>;
-
 /// A walk yet to begin.
-pub type Builder<'f, A> = WalkDirGeneric<((), ()), &'f MemoryFs, NoProcess, A>;
+pub type Builder<'f, C, P, A> = WalkDirGeneric<C, &'f MemoryFs, P, A>;
 
-/// What came if nothing follows, and that something is wrong if anything does.
-fn if_over<S: FileSystem, A: Allocator + Copy, L: Pool<((), ()), S, NoProcess, A>>(
-    mut walk: Walk<S, A, L>,
-    came: Came,
-) -> Came {
-    let is_over = walk.next().is_none();
-    if is_over && walk.next().is_none() {
-        came
-    } else {
-        Came::Wrong
-    }
+/// A walk of a row over its tree, read by so many directories together, whose answers are taken in some way.
+#[derive(Clone, Copy)]
+pub struct Play<'f> {
+    pub fs: &'f MemoryFs,
+    pub row: &'f Row,
+    pub width: Width,
+    pub taken: Taken,
 }
 
-/// How a walk goes on that is to yield these lines.
-pub fn goes_on<S: FileSystem, A: Allocator + Copy, L: Pool<((), ()), S, NoProcess, A>>(
-    alloc: Global,
-    mut walk: Walk<S, A, L>,
-    lines: &[&str],
-) -> Came {
-    for line in lines {
-        let Some(answer) = walk.next() else {
-            return Came::Wrong;
-        };
-        if is_refusal(Some(&answer)) {
-            return if_over(walk, Came::Refused);
+impl<'f> Play<'f> {
+    /// The walk with a callback, if there is memory for its root.
+    pub fn builder<C: ClientState, P: ProcessReadDir<C, A>, A: Allocator + Copy>(
+        &self,
+        memory: A,
+        process: P,
+    ) -> Option<Builder<'f, C, P, A>>
+        ensures { IfSome result (λ walk. callback_of walk ≡ process) }
+    {
+        let root = String::from_str(memory, self.row.root).ok()?;
+        let walk = WalkDirGeneric::new(self.fs, root)
+            .sort(true)
+            .follow_links(self.row.follow)
+            .parallelism(self.width.parallelism());
+        Some(walk.process_read_dir(process))
+    }
+
+    /// How the walk comes out with this memory and this callback.
+    pub fn comes_with<C: ClientState, P: ProcessReadDir<C, A>, A: Allocator + Copy>(
+        &self,
+        alloc: Global,
+        memory: A,
+        process: P,
+    ) -> Came
+    where
+        C::DirEntryState: Shown,
+        requires { P.IsLawful process }
+    {
+        match self.builder::<C, P, A>(memory, process) {
+            Some(walk) => comes(alloc, memory, walk, self.taken, self.row.lines),
+            None => Came::Refused(0),
         }
-        if !is_line(alloc, &answer, line) {
-            return Came::Wrong;
+    }
+
+    /// How the walk comes out with this memory and the row's callback.
+    pub fn comes_over<A: Allocator + Copy>(&self, alloc: Global, memory: A) -> Came {
+        match self.row.callback {
+            Some(callback) => self.comes_with::<Texts<A>, _, _>(alloc, memory, callback),
+            None => self.comes_with::<((), ()), _, _>(alloc, memory, NoProcess),
         }
     }
-    if_over(walk, Came::Whole)
 }
 
-/// How answers come that are asked for all at once, and the others after them.
-fn is_filled<S: FileSystem, A: Allocator + Copy, L: Pool<((), ()), S, NoProcess, A>>(
-    alloc: Global,
-    memory: A,
-    mut walk: Walk<S, A, L>,
-    lines: &[&str],
-) -> Came {
-    let mut found: Vec<Given<A>, A> = Vec::new(memory);
-    // Where memory runs out for the vector, not all are in it.
-    let _ = walk.fill(100, &mut found);
-    if is_refusal(found.last()) {
-        found.pop();
-        let is_beginning = are_first(alloc, found.as_slice(), lines);
-        return if_over(
-            walk,
-            if is_beginning {
-                Came::Refused
-            } else {
-                Came::Wrong
-            },
-        );
+/// What is asked for all at once may come whole after a refusal, as more is asked for then.
+impl Repeated for Play<'_> {
+    fn comes(&self, alloc: Global, memory: &Refusing<Global>) -> Came {
+        self.comes_over(alloc, memory)
     }
-    match lines.get(found.len()..) {
-        Some(rest) if are_first(alloc, found.as_slice(), lines) => goes_on(alloc, walk, rest),
-        _ => Came::Wrong,
-    }
-}
 
-/// How a walk comes out that didn't begin.
-fn not_begun<A: Allocator + Copy>(error: Error<A>) -> Came {
-    if error.is_memory() {
-        Came::Refused
-    } else {
-        Came::Wrong
-    }
-}
-
-/// The walk of a row, if there is memory for its root.
-pub fn builder<'f, A: Allocator + Copy>(
-    memory: A,
-    fs: &'f MemoryFs,
-    row: &Row,
-    width: Width,
-) -> Option<Builder<'f, A>> {
-    let root = String::from_str(memory, row.root).ok()?;
-    let walk = WalkDirGeneric::new(fs, root)
-        .sort(true)
-        .follow_links(row.follow);
-    Some(walk.parallelism(width.parallelism()))
-}
-
-/// How the walk of a row comes out with this memory.
-pub fn comes<A: Allocator + Copy>(
-    alloc: Global,
-    memory: A,
-    fs: &MemoryFs,
-    row: &Row,
-    width: Width,
-    taken: Taken,
-) -> Came {
-    let Some(walk) = builder(memory, fs, row, width) else {
-        return Came::Refused;
-    };
-    match taken {
-        Taken::Tried => match walk.try_into_iter() {
-            Ok(walk) => goes_on(alloc, walk, row.lines),
-            Err(error) => not_begun(error),
-        },
-        Taken::Begun => goes_on(alloc, walk.into_iter(), row.lines),
-        Taken::Filled => is_filled(alloc, memory, walk.into_iter(), row.lines),
+    fn may_be_whole(&self) -> bool {
+        self.taken == Taken::Filled
     }
 }

@@ -1,6 +1,6 @@
 //! Walks by name, and their answers.
+use refused_walks::callbacks::Callback;
 use walk_fixtures::trees::{DENIED, GROUPED, LOOPED, Step};
-use walk_ways::width::Width;
 
 /// A walk by name, and its answers.
 #[derive(Clone, Copy)]
@@ -9,6 +9,7 @@ pub struct Row {
     pub root: &'static str,
     /// Whether links are followed.
     pub follow: bool,
+    pub callback: Option<Callback>,
     pub lines: &'static [&'static str],
 }
 
@@ -17,6 +18,7 @@ pub const GROUPS: Row = Row {
     steps: GROUPED,
     root: "/t",
     follow: false,
+    callback: None,
     lines: &[
         "0 d /t",
         "1 f /t/a.txt",
@@ -29,6 +31,33 @@ pub const GROUPS: Row = Row {
     ],
 };
 
+/// The groups, where the directory of one is moved to a file.
+pub const MOVED: Row = Row {
+    steps: GROUPED,
+    root: "/t",
+    follow: false,
+    callback: Some(Callback::MovesGroup),
+    lines: &[
+        "0 d /t",
+        "1 f /t/a.txt",
+        "1 f /t/b.txt",
+        "1 f /t/c.txt",
+        "2 f /t/group 1/d.txt",
+        "1 d /t/group 1",
+        "1 d /t/group 2",
+        "2 f /t/group 2/e.txt",
+    ],
+};
+
+/// The directories alone, each with the name of the directory above it.
+pub const HANDED_ON: Row = Row {
+    steps: GROUPED,
+    root: "/t",
+    follow: false,
+    callback: Some(Callback::HandsOnNames),
+    lines: &["0 d /t", "1 d /t/group 1 with t", "1 d /t/group 2 with t"],
+};
+
 /// The groups, one that can't be listed, and a loop.
 pub const ROWS: &[Row] = &[
     GROUPS,
@@ -36,6 +65,7 @@ pub const ROWS: &[Row] = &[
         steps: DENIED,
         root: "/t",
         follow: false,
+        callback: None,
         lines: &[
             "0 d /t",
             "1 f /t/a.txt",
@@ -50,6 +80,7 @@ pub const ROWS: &[Row] = &[
         steps: LOOPED,
         root: "/r",
         follow: true,
+        callback: None,
         lines: &[
             "0 d /r",
             "1 d /r/a",
@@ -58,11 +89,4 @@ pub const ROWS: &[Row] = &[
             "! 4 /r/a/b/c/a-link loop /r/a",
         ],
     },
-];
-
-pub const WIDTHS: &[Width] = &[
-    Width::Serial,
-    Width::Batches(1),
-    Width::Batches(2),
-    Width::Batches(8),
 ];

@@ -1,8 +1,12 @@
 //! Walks whose batches threads read, where each request for memory is refused, or all from each on.
-use crate::refused::goes::{Came, builder};
-use crate::refused::lines::{Given, are_first, is_refusal};
-use crate::refused::rows::{GROUPS, Row};
+use crate::refused::goes::Play;
+use crate::refused::rows::{GROUPS, HANDED_ON, MOVED, Row};
 use jwalk::file_system::{BuildError, MemoryFs};
+use jwalk::read_dir::NoProcess;
+use refused_walks::callbacks::{Callback, Texts};
+use refused_walks::came::{Came, TAKEN, WAYS};
+use refused_walks::on_threads::comes;
+use refused_walks::turns::{MOST, Repeated, Run, run_of};
 use refusing_alloc::Refusing;
 use std::alloc::Global;
 use std::thread::Threads;
@@ -11,6 +15,9 @@ use walk_ways::width::Width;
 
 /// How many directories are read together: enough for two threads.
 const WIDE: Width = Width::Batches(64);
+
+/// From how many directories on threads share a batch.
+const SHARED: usize = 32;
 
 /// A directory with 40 directories.
 fn wide(alloc: Global) -> Result<MemoryFs, BuildError> {
@@ -22,79 +29,169 @@ fn wide(alloc: Global) -> Result<MemoryFs, BuildError> {
     Ok(fs)
 }
 
-/// How answers come that are asked for all at once, if they are to begin with these lines and be that many.
-fn comes<R: Threads + Sync>(
+/// How a walk without a callback comes out with this memory.
+fn plain_comes<R: Threads + Sync>(
     rt: &R,
     alloc: Global,
     memory: &Refusing<Global>,
-    fs: &MemoryFs,
-    row: &Row,
-    count: usize,
+    play: Play<'_>,
 ) -> Came {
-    let Some(walk) = builder(memory, fs, row, WIDE) else {
-        return Came::Refused;
-    };
-    let mut walk = walk.into_iter();
-    let mut found: Vec<Given<&Refusing<Global>>, &Refusing<Global>> = Vec::new(memory);
-    let is_filled = walk.fill_on(rt, 100, &mut found).is_ok();
-    let is_refused = is_refusal(found.last());
-    if is_refused {
-        found.pop();
-    }
-    let some = found.get(..found.len().min(row.lines.len())).unwrap_or(&[]);
-    if !are_first(alloc, some, row.lines) {
-        return Came::Wrong;
-    }
-    match (is_filled && !is_refused, found.len() == count) {
-        (true, true) => Came::Whole,
-        (true, false) => Came::Wrong,
-        (false, _) => Came::Refused,
+    match play.builder::<((), ()), _, _>(memory, NoProcess) {
+        Some(walk) => comes(rt, alloc, memory, walk, play.taken, play.row.lines),
+        None => Came::Refused(0),
     }
 }
 
-/// Whether a walk comes out right where that many requests are refused, from each number on. Else the number where it
-/// doesn't.
-fn first_wrong<R: Threads + Sync>(
+/// How a walk with this callback comes out with this memory.
+fn called_comes<R: Threads + Sync>(
     rt: &R,
     alloc: Global,
-    fs: &MemoryFs,
-    row: &Row,
-    count: usize,
-    many: usize,
-) -> Option<usize> {
-    let memory = Refusing::new(alloc);
-    for number in 1..10_000 {
-        memory.refuse(number, many);
-        let came = comes(rt, alloc, &memory, fs, row, count);
-        let refused = memory.refused();
-        if came == Came::Wrong || memory.pieces() != 0 || (refused == 0 && came != Came::Whole) {
-            return Some(number);
-        }
-        if refused == 0 && number > 20 {
-            return None;
-        }
+    memory: &Refusing<Global>,
+    play: Play<'_>,
+    callback: Callback,
+) -> Came {
+    match play.builder::<Texts<&Refusing<Global>>, _, _>(memory, callback) {
+        Some(walk) => comes(rt, alloc, memory, walk, play.taken, play.row.lines),
+        None => Came::Refused(0),
     }
-    Some(usize::MAX)
 }
 
-/// The walk over the wide directory, with its first lines.
+/// Whether a walk may come whole after a refusal: what is asked for all at once, and what threads share.
+fn may_be_whole(play: Play<'_>) -> bool {
+    play.may_be_whole() || play.row.lines.len() > SHARED
+}
+
+/// The number from which on a walk comes out wrong where that many requests are refused. A trait's method can't start
+/// threads, so the runs are here.
+fn first_wrong<R: Threads + AllocGlobal + Sync>(
+    rt: &R,
+    play: Play<'_>,
+    many: usize,
+) -> Option<usize> {
+    let memory = Refusing::new(rt.alloc());
+    for number in 1..MOST {
+        memory.refuse(number, many);
+        let came = match play.row.callback {
+            Some(callback) => called_comes(rt, rt.alloc(), &memory, play, callback),
+            None => plain_comes(rt, rt.alloc(), &memory, play),
+        };
+        match run_of(&memory, number, came, may_be_whole(play)) {
+            Run::Refused => {}
+            Run::Quiet => return None,
+            Run::Wrong => return Some(number),
+        }
+    }
+    Some(MOST)
+}
+
+/// Whether a walk comes out right where each request is refused, and where all are from each on.
+fn is_right<R: Threads + AllocGlobal + Sync>(rt: &R, play: Play<'_>) -> bool {
+    first_wrong(rt, play, 1).is_none() && first_wrong(rt, play, usize::MAX).is_none()
+}
+
+/// Whether the walk of a row comes out right over a tree, if many directories are read together.
+fn is_right_widely<R: Threads + AllocGlobal + Sync>(rt: &R, fs: &MemoryFs, row: &Row) -> bool {
+    for taken in TAKEN {
+        let play = Play {
+            fs,
+            row,
+            width: WIDE,
+            taken: *taken,
+        };
+        if !is_right(rt, play) {
+            return false;
+        }
+    }
+    true
+}
+
+/// Whether the walk of a row comes out right, however many directories are read together.
+fn is_right_always<R: Threads + AllocGlobal + Sync>(rt: &R, row: &Row) -> bool {
+    let Ok(fs) = tree(rt.alloc(), row.steps) else {
+        return false;
+    };
+    for (width, taken) in WAYS {
+        let play = Play {
+            fs: &fs,
+            row,
+            width: *width,
+            taken: *taken,
+        };
+        if !is_right(rt, play) {
+            return false;
+        }
+    }
+    is_right_widely(rt, &fs, row)
+}
+
+/// The walk over the wide directory.
 const WIDE_ROW: Row = Row {
     steps: &[],
     root: "/w",
     follow: false,
-    lines: &["0 d /w", "1 d /w/10", "1 d /w/11", "1 d /w/12"],
+    callback: None,
+    lines: &[
+        "0 d /w",
+        "1 d /w/10",
+        "1 d /w/11",
+        "1 d /w/12",
+        "1 d /w/13",
+        "1 d /w/14",
+        "1 d /w/15",
+        "1 d /w/16",
+        "1 d /w/17",
+        "1 d /w/18",
+        "1 d /w/19",
+        "1 d /w/20",
+        "1 d /w/21",
+        "1 d /w/22",
+        "1 d /w/23",
+        "1 d /w/24",
+        "1 d /w/25",
+        "1 d /w/26",
+        "1 d /w/27",
+        "1 d /w/28",
+        "1 d /w/29",
+        "1 d /w/30",
+        "1 d /w/31",
+        "1 d /w/32",
+        "1 d /w/33",
+        "1 d /w/34",
+        "1 d /w/35",
+        "1 d /w/36",
+        "1 d /w/37",
+        "1 d /w/38",
+        "1 d /w/39",
+        "1 d /w/40",
+        "1 d /w/41",
+        "1 d /w/42",
+        "1 d /w/43",
+        "1 d /w/44",
+        "1 d /w/45",
+        "1 d /w/46",
+        "1 d /w/47",
+        "1 d /w/48",
+        "1 d /w/49",
+    ],
 };
 
 #[test]
-fn each_request_in_turn_on_threads(rt: HostRuntime) {
-    let groups = tree(rt.alloc(), GROUPS.steps);
+fn requests_refused_on_threads(rt: HostRuntime) {
+    assert!(rt; is_right_always(&rt, &GROUPS));
+}
+
+#[test]
+fn requests_refused_on_threads_that_share_a_batch(rt: HostRuntime) {
     let wide = wide(rt.alloc());
-    for many in [1, usize::MAX] {
-        assert!(rt;
-            matches!(&groups, Ok(fs) if first_wrong(&rt, rt.alloc(), fs, &GROUPS, 8, many).is_none())
-        );
-        assert!(rt;
-            matches!(&wide, Ok(fs) if first_wrong(&rt, rt.alloc(), fs, &WIDE_ROW, 41, many).is_none())
-        );
-    }
+    assert!(rt; matches!(&wide, Ok(fs) if is_right_widely(&rt, fs, &WIDE_ROW)));
+}
+
+#[test]
+fn requests_refused_on_threads_where_a_directory_is_moved(rt: HostRuntime) {
+    assert!(rt; is_right_always(&rt, &MOVED));
+}
+
+#[test]
+fn requests_refused_on_threads_where_names_are_handed_on(rt: HostRuntime) {
+    assert!(rt; is_right_always(&rt, &HANDED_ON));
 }

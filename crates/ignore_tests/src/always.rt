@@ -1,0 +1,100 @@
+//! What walks leave that honour ignore files, in each way and over a crew.
+use crate::left::text_of;
+use crate::planted::{Planted, Rules};
+use jwalk::file_system::MemoryFs;
+use jwalk::read_dir::NoProcess;
+use jwalk::threads::InTurn;
+use jwalk::{Crew, Parallelism, WalkDirGeneric};
+use jwalk_ignore::builder::with_ignore_files;
+use jwalk_ignore::ignore_files::IgnoreFiles;
+use jwalk_ignore::memory_texts::MemoryTexts;
+use std::alloc::{AllocError, Global};
+use std::sync::Arc;
+use std::thread::Threads;
+use walk_fixtures::answers::Answer;
+use walk_fixtures::host::Host;
+use walk_ways::ways::{Asked, Setting, WAYS, Way, all_of};
+
+/// Returns a crew of two workers, for one walk at a time.
+pub(crate) fn crew_of_two<R: Host>(rt: &R) -> Result<Arc<Crew<R>>, AllocError> {
+    Ok(Arc::new(rt.alloc(), Crew::new(rt.clone()?, 1, 2))?)
+}
+
+/// The settings of a walk by name that is shown hidden names.
+pub(crate) const BY_NAME: &[Setting] = &[Setting::Sort, Setting::Hidden];
+
+/// A walk yet to begin that a crew is to read for.
+type CrewWalk<R> = WalkDirGeneric<Rules, Arc<MemoryFs>, NoProcess, Global, InTurn, Crew<R>>;
+
+/// A tree with files of rules, which a crew's workers share.
+#[derive(Drop)]
+pub(crate) struct Shared {
+    pub(crate) fs: Arc<MemoryFs>,
+    pub(crate) texts: Arc<MemoryTexts>,
+    /// Whether hidden names stay.
+    pub(crate) keeps_hidden: bool,
+    /// Whether links are followed.
+    pub(crate) follows: bool,
+}
+
+impl Shared {
+    /// Returns the tree, of which a walk that follows no links keeps hidden names.
+    pub(crate) fn new(alloc: Global, planted: Planted) -> Result<Self, AllocError> {
+        Ok(Shared {
+            fs: Arc::new(alloc, planted.fs)?,
+            texts: Arc::new(alloc, planted.texts)?,
+            keeps_hidden: true,
+            follows: false,
+        })
+    }
+
+    /// Returns the rules.
+    fn rules(&self) -> Result<IgnoreFiles<Arc<MemoryTexts>>, AllocError> {
+        Ok(IgnoreFiles::new(self.texts.clone()?).keep_hidden(self.keeps_hidden))
+    }
+
+    /// Returns all that a walk from `/r` yields, read in a way.
+    pub(crate) fn found<R: Threads + AllocGlobal + Sync>(
+        &self,
+        rt: &R,
+        way: Way,
+    ) -> Result<Vec<Answer<Rules>>, AllocError> {
+        const FOLLOWING: &[Setting] = &[Setting::Sort, Setting::Hidden, Setting::Follow];
+        let asked = Asked {
+            fs: &*self.fs,
+            root: "/r",
+            settings: if self.follows { FOLLOWING } else { BY_NAME },
+        };
+        asked.found(rt, self.rules()?, way)
+    }
+
+    /// Returns all that a walk from `/r` yields, for which a crew reads.
+    pub(crate) fn found_by_crew<R: Host>(
+        &self,
+        alloc: Global,
+        pool: Arc<Crew<R>>,
+    ) -> Result<Vec<Answer<Rules>>, AllocError> {
+        let by_crew = Parallelism::RayonExistingPool {
+            pool,
+            busy_timeout: None,
+        };
+        let root = String::from_str(alloc, "/r")?;
+        let walk: CrewWalk<R> = WalkDirGeneric::with_crew(self.fs.clone()?, root)
+            .sort(true)
+            .follow_links(self.follows)
+            .parallelism(by_crew);
+        all_of(alloc, with_ignore_files(walk, self.rules()?).into_iter())
+    }
+
+    /// Returns whether walks from `/r` leave this, in each way and over a crew of two.
+    pub(crate) fn leaves_always<R: Host>(&self, rt: &R, wanted: &str) -> Result<bool, AllocError> {
+        let alloc = rt.alloc();
+        let found = self.found_by_crew(alloc, crew_of_two(rt)?)?;
+        let mut is_left = text_of(alloc, &found)?.as_str() == wanted;
+        for way in WAYS {
+            let found = self.found(rt, *way)?;
+            is_left &= text_of(alloc, &found)?.as_str() == wanted;
+        }
+        Ok(is_left)
+    }
+}
