@@ -1,6 +1,8 @@
 -- Lists whose entries were marked.
-use Rattle.std.proofs.Common.{◌≡◌, ◌∙◌, ℕ, Bool, true, false, List, [], ◌∷◌, map, Option, Ok, Err, ap, refl, sym}
+use Rattle.std.proofs.Common.{◌≡◌, ◌∙◌, ◌+◌, ◌<◌, ◌≤◌, ℕ, Bool, true, false, List, [], ◌∷◌, ◌++◌, map, length, take, drop, get_or, set, Option, Ok, Err, ap, append-nil, arith, refl, sym}
 use Rattle.std.specs.Prelude.{◌||◌}
+use Rattle.std.proofs.lemmas.List.{map-set, get_or-map, length-map, take_all, drop_all}
+use Rattle.std.proofs.lemmas.List.Edits.{map_over_more}
 use Rattle.std.specs.List.{list_any}
 use Rattle.jwalk.specs.read_parts.Given.{Given, counted_item, counted_entry, IsProcessed}
 use Rattle.jwalk.specs.walk_model.Counted.{Worth, both}
@@ -9,7 +11,7 @@ use Rattle.jwalk.specs.walk_model.ReadDir.{Reading}
 use Rattle.jwalk_ignore.specs.ChainViews.{chain_value}
 use Rattle.jwalk_ignore.specs.ChainWorth.{bool_in, bool_worth, chain_worth}
 use Rattle.jwalk_ignore.specs.declared.chain.Chain.{Chain}
-use Rattle.ignore_client.specs.Packages.{CountsPackages, is_manifest, packages, rules_and_package, with_mark}
+use Rattle.ignore_client.specs.Packages.{CountsPackages, is_manifest, packages, with_mark}
 
 -- a truth value is read as it was counted
 bool_read : (b : Bool) → bool_in (bool_worth b) ≡ b
@@ -32,7 +34,7 @@ module _ {R : Type 0} (given : Given R Bool) where
       ∙ ap (λ (items : List (Item Worth Worth)). counted_item given (with_mark mark (Ok e)) ∷ items) (marks_counted same mark list)
   marks_counted same mark (Err f ∷ list) = ap (λ (items : List (Item Worth Worth)). Err f ∷ items) (marks_counted same mark list)
 
-made_of : Worth → List (Item Worth Worth) → Reading Worth Worth
+abbrev made_of : Worth → List (Item Worth Worth) → Reading Worth Worth
 made_of state list = record { state = state; list = list }
 
 -- what the callback makes of a list and its state is what is given
@@ -49,3 +51,25 @@ marks_made given counts depth path chain before list inside is =
     ∙ ap (λ (b : Bool). made_of (both rules (bool_worth b)) (map (with_mark (bool_worth b)) counted)) same
     ∙ ap (λ (state : Worth). made_of state (map (with_mark (bool_worth inside)) counted)) (sym (counts.0 (chain, inside)))
     ∙ ap (made_of (given.read_dir_state (chain, inside))) (marks_counted given counts.1 inside list)
+
+module _ {X Y : Type 0} (view : X → Y) (change : Y → Y) (xs : List X) where
+  -- the list so far: the first items of xs are changed, as a view shows them
+  abbrev pub IsChangedTo : ℕ → List X → Type 0
+  IsChangedTo i ys = map view ys ≡ map change (take i (map view xs)) ++ drop i (map view xs)
+
+  -- one more item
+  pub changed_more : (ys : List X) (i : ℕ) (x d : X) → length ys ≡ length xs → i < length xs → view x ≡ change (view (get_or ys i d)) → IsChangedTo i ys → IsChangedTo (i + 1) (set ys i x)
+  changed_more ys i x d same below is h =
+      let long = length-map xs view in
+      let old = get_or ys i d in
+      map-set view ys i x ∙ ap (set (map view ys) i) is
+      ∙ map_over_more change (map view xs) (map view ys) i (view old) (omega (arith, long, below)) h (sym (get_or-map view ys i d (view old) (omega (arith, same, below))))
+
+  -- all of them
+  pub changed_all : (ys : List X) (i : ℕ) → length xs ≤ i → IsChangedTo i ys → map view ys ≡ map change (map view xs)
+  changed_all ys i past h =
+      let long = length-map xs view in
+      h
+      ∙ ap (λ l. map change (take i (map view xs)) ++ l) (drop_all i (map view xs) (omega (arith, long, past)))
+      ∙ append-nil (map change (take i (map view xs)))
+      ∙ ap (map change) (take_all i (map view xs) (omega (arith, long, past)))

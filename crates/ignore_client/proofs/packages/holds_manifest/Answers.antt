@@ -7,7 +7,7 @@ use Rattle.jwalk_ignore.proofs.ListFacts.{list_any-map}
 use Rattle.ignore_client.proofs.packages.holds_manifest.Goals as goal
 
 pub returns : goal.returns
-returns c =
+returns g c =
     any_from_yields_List (λ found. is_manifest (item found)) _ _ _ c.any.ensures.ran
     (YieldsList-from_slice c.args.list.now c.iter.ensures.rest) (λ x b q k. search (rules, tests))
     ∙ sym (list_any-map item is_manifest c.args.list.now)
