@@ -50,8 +50,9 @@ pub fn walk_tree_on_threads<R: Threads + Sync>(
     ensures { IfOk result (λ found. NoneRefused found.items → counted_list stateless found.items
         ≡ stateless_walk (functions_of (tree_of fs)) defaults (string_bytes root)) }
 {
-    let walk = WalkDirGeneric::<((), ()), _, _, _>::new(fs, root)
-        .parallelism(Parallelism::RayonNewPool(256));
+    let walk = WalkDirGeneric::<((), ()), _, _, _>::new(fs, root).parallelism(
+        Parallelism::RayonNewPool(256),
+    );
     let mut found = Vec::new(alloc);
     walk.into_iter().fill_on(rt, usize::MAX, &mut found)?;
     Ok(found)

@@ -24,12 +24,7 @@ pub fn print_walked<
     P: ProcessReadDir<C, A> + Send + Sync,
     A: Allocator + Copy + Send + Sync,
     L: Pool<C, S, P, A>,
->(
-    rt: &T,
-    alloc: A,
-    walk: &mut DirEntryIter<C, S, P, A, L>,
-    out: &mut W,
-) -> Result<bool, Failure>
+>(rt: &T, alloc: A, walk: &mut DirEntryIter<C, S, P, A, L>, out: &mut W) -> Result<bool, Failure>
 where
     C::ReadDirState: Send,
     C::DirEntryState: Send,
