@@ -1,7 +1,7 @@
 #!/usr/bin/env python3
 """Small trees with ignore files, and what git keeps of them, as in crates/ignore_tests/src/tree_rows.
 
-    python3 bench/ignore_trees.py write SEED           writes the 200 trees of the tests, 50 a file
+    python3 bench/ignore_trees.py write SEED           writes the 200 trees of the tests, 50 a file; theirs is seed 1
     python3 bench/ignore_trees.py against PROGRAM COUNT SEED
                                                        random trees on disk: git beside what PROGRAM PATH prints
 
@@ -118,10 +118,10 @@ def write(seed):
     for index, name in enumerate(FILES):
         with open(os.path.join(top, name + ".rt"), "w") as file:
             file.write("//! Rows of trees.\nuse crate::tree_rows::TreeRow;\n\n/// Trees, with what is kept of each.\n")
-            file.write("pub(crate) fn rows() -> &'static [TreeRow] {\n    const ROWS: &[TreeRow] = &[\n")
+            file.write("const ROWS: &[TreeRow] = &[\n")
             for lines, left in rows[50 * index:50 * index + 50]:
-                file.write(f"        (\n            {written(chr(10).join(lines))},\n            {written(chr(10).join(left))},\n        ),\n")
-            file.write("    ];\n    ROWS\n}\n")
+                file.write(f"    (\n        {written(chr(10).join(lines))},\n        {written(chr(10).join(left))},\n    ),\n")
+            file.write("];\n\n/// Returns them. What calls this has none of the table in its own proof.\npub(crate) fn rows() -> &'static [TreeRow] {\n    ROWS\n}\n")
 
 
 def against(program, count, seed):

@@ -2,10 +2,9 @@
 use crate::left::text_of;
 use crate::planted::{Planted, Rules};
 use jwalk::file_system::MemoryFs;
-use jwalk::read_dir::NoProcess;
-use jwalk::threads::InTurn;
+use jwalk::read_dir::{NoProcess, ProcessReadDir};
 use jwalk::{Crew, Parallelism, WalkDirGeneric};
-use jwalk_ignore::builder::with_ignore_files;
+use jwalk_ignore::chain::Chain;
 use jwalk_ignore::ignore_files::IgnoreFiles;
 use jwalk_ignore::memory_texts::MemoryTexts;
 use std::alloc::{AllocError, Global};
@@ -23,8 +22,29 @@ pub(crate) fn crew_of_two<R: Host>(rt: &R) -> Result<Arc<Crew<R>>, AllocError> {
 /// The settings of a walk by name that is shown hidden names.
 pub(crate) const BY_NAME: &[Setting] = &[Setting::Sort, Setting::Hidden];
 
+/// The rules of a tree that a crew's workers share, as a callback. It has a type of its own, since the types of rules are
+/// long, and proofs of functions over any runtime compare them.
+#[derive(Drop)]
+pub(crate) struct SharedRules(IgnoreFiles<Arc<MemoryTexts>>);
+
+impl ProcessReadDir<Rules, Global> for SharedRules {
+    ghost IsLawful = { λ _. Unit {0} };
+
+    ghost Makes = { λ _ _. ⊥ };
+
+    fn process(
+        &self,
+        depth: Option<usize>,
+        path: &str,
+        state: &mut (Chain, ()),
+        list: &mut Vec<Answer<Rules>>,
+    ) -> Result<(), AllocError> {
+        self.0.process(depth, path, state, list)
+    }
+}
+
 /// A walk yet to begin that a crew is to read for.
-type CrewWalk<R> = WalkDirGeneric<Rules, Arc<MemoryFs>, NoProcess, Global, InTurn, Crew<R>>;
+type CrewWalk<R> = WalkDirGeneric<Rules, Arc<MemoryFs>, NoProcess, Global, Crew<R>>;
 
 /// A tree with files of rules, which a crew's workers share.
 #[derive(Drop)]
@@ -49,8 +69,9 @@ impl Shared {
     }
 
     /// Returns the rules.
-    fn rules(&self) -> Result<IgnoreFiles<Arc<MemoryTexts>>, AllocError> {
-        Ok(IgnoreFiles::new(self.texts.clone()?).keep_hidden(self.keeps_hidden))
+    fn rules(&self) -> Result<SharedRules, AllocError> {
+        let rules = IgnoreFiles::new(self.texts.clone()?);
+        Ok(SharedRules(rules.keep_hidden(self.keeps_hidden)))
     }
 
     /// Returns all that a walk from `/r` yields, read in a way.
@@ -81,9 +102,10 @@ impl Shared {
         let root = String::from_str(alloc, "/r")?;
         let walk: CrewWalk<R> = WalkDirGeneric::with_crew(self.fs.clone()?, root)
             .sort(true)
+            .skip_hidden(false)
             .follow_links(self.follows)
             .parallelism(by_crew);
-        all_of(alloc, with_ignore_files(walk, self.rules()?).into_iter())
+        all_of(alloc, walk.process_read_dir(self.rules()?).into_iter())
     }
 
     /// Returns whether walks from `/r` leave this, in each way and over a crew of two.

@@ -7,10 +7,9 @@ use jwalk::read_dir::{ByFn, Size, WithSizes};
 use jwalk_ignore::chain::Chain;
 use jwalk_ignore::ignore_files::IgnoreFiles;
 use std::alloc::{AllocError, Global};
-use std::thread::Threads;
 use walk_fixtures::answers::Answer;
 use walk_fixtures::watched::{Calls, Failing, Watched};
-use walk_ways::ways::{Asked, WAYS, Way};
+use walk_ways::ways::{Asked, WAYS};
 
 /// A repository with rules in two directories.
 const TREE: &str =
@@ -31,36 +30,30 @@ fn sizes_of(alloc: Global, found: &[Answer<((Chain, ()), Size)>]) -> Result<Stri
     Ok(text)
 }
 
-/// Returns whether a walk with rules and sizes, read in a way, has the sizes of what is left, and asks for no others.
-fn sizes_are_of_what_is_left<R: Threads + AllocGlobal + Sync>(
-    rt: &R,
-    way: Way,
-) -> Result<bool, BuildError> {
-    let alloc = rt.alloc();
-    let Planted { fs, texts } = repository(alloc, TREE)?;
-    let watched = Watched::new(fs, Failing::Never);
-    let rules = IgnoreFiles::new(&texts).then(WithSizes::new(&watched));
-    let asked = Asked {
-        fs: &watched,
-        root: "/r",
-        settings: BY_NAME,
-    };
-    let found = asked.found(rt, rules, way)?;
-    // The three directories are listed. The root is looked at, and each of the three files.
+/// Sizes are asked of what is left alone: the three directories are listed, the root is looked at, and each of the three
+/// files.
+#[test]
+fn sizes_of_what_rules_leave(rt: HostRuntime) -> Result<(), BuildError> {
     let calls = Calls {
         lists: 3,
         looks: 4,
         follows: 0,
     };
-    let sizes = sizes_of(alloc, &found)?;
-    Ok(sizes.as_str() == "r; b 1; s; d 1; t; e 1; " && watched.calls() == calls)
-}
-
-#[test]
-fn sizes_of_what_rules_leave(rt: HostRuntime) {
     for way in WAYS {
-        assert!(rt; matches!(sizes_are_of_what_is_left(&rt, *way), Ok(true)));
+        let Planted { fs, texts } = repository(rt.alloc(), TREE)?;
+        let watched = Watched::new(fs, Failing::Never);
+        let rules = IgnoreFiles::new(&texts).then(WithSizes::new(&watched));
+        let asked = Asked {
+            fs: &watched,
+            root: "/r",
+            settings: BY_NAME,
+        };
+        let found: Vec<Answer<((Chain, ()), Size)>> = asked.found(&rt, rules, *way)?;
+        let sizes = sizes_of(rt.alloc(), &found)?;
+        assert!(rt; sizes.as_str() == "r; b 1; s; d 1; t; e 1; ");
+        assert!(rt; watched.calls() == calls);
     }
+    Ok(())
 }
 
 /// Rules beside states of a user: a directory's, and an entry's.
@@ -99,29 +92,21 @@ fn counts_of(
     Ok(text)
 }
 
-/// Returns whether a walk with rules and such a callback, read in a way, tells this.
-fn tells<R: Threads + AllocGlobal + Sync>(
-    rt: &R,
-    way: Way,
-    wanted: &str,
-) -> Result<bool, BuildError> {
+#[test]
+fn a_callback_behind_rules_is_given_what_they_leave(rt: HostRuntime) -> Result<(), BuildError> {
     let planted = repository(rt.alloc(), TREE)?;
     let asked = Asked {
         fs: &planted.fs,
         root: "/r",
         settings: BY_NAME,
     };
-    let rules = IgnoreFiles::new(&planted.texts).then(ByFn::of(count));
-    let found = asked.found(rt, rules, way)?;
-    Ok(counts_of(rt.alloc(), &found)?.as_str() == wanted)
-}
-
-#[test]
-fn a_callback_behind_rules_is_given_what_they_leave(rt: HostRuntime) {
-    let wanted = "r 1 1; b 2 2; s 2 2; d 3 2; t 3 2; e 4 1; ";
     for way in WAYS {
-        assert!(rt; matches!(tells(&rt, *way, wanted), Ok(true)));
+        let rules = IgnoreFiles::new(&planted.texts).then(ByFn::of(count));
+        let found: Vec<Answer<Beside<usize, (usize, usize)>>> = asked.found(&rt, rules, *way)?;
+        let counts = counts_of(rt.alloc(), &found)?;
+        assert!(rt; counts.as_str() == "r 1 1; b 2 2; s 2 2; d 3 2; t 3 2; e 4 1; ");
     }
+    Ok(())
 }
 
 /// States that are texts, or none.
@@ -165,27 +150,19 @@ fn names_of(alloc: Global, found: &[Answer<Named>]) -> Result<String, AllocError
     Ok(text)
 }
 
-/// Returns whether a walk with rules that hands names on, read in a way, has handed on these.
-fn hands_on<R: Threads + AllocGlobal + Sync>(
-    rt: &R,
-    way: Way,
-    wanted: &str,
-) -> Result<bool, BuildError> {
+#[test]
+fn names_handed_on_beside_rules(rt: HostRuntime) -> Result<(), BuildError> {
     let planted = repository(rt.alloc(), TREE)?;
     let asked = Asked {
         fs: &planted.fs,
         root: "/r",
         settings: BY_NAME,
     };
-    let rules = IgnoreFiles::new(&planted.texts).then(ByFn::of(hand_on_names));
-    let found = asked.found(rt, rules, way)?;
-    Ok(names_of(rt.alloc(), &found)?.as_str() == wanted)
-}
-
-#[test]
-fn names_handed_on_beside_rules(rt: HostRuntime) {
-    let wanted = "r none; b r; s r; d s; t s; e t; ";
     for way in WAYS {
-        assert!(rt; matches!(hands_on(&rt, *way, wanted), Ok(true)));
+        let rules = IgnoreFiles::new(&planted.texts).then(ByFn::of(hand_on_names));
+        let found: Vec<Answer<Named>> = asked.found(&rt, rules, *way)?;
+        let names = names_of(rt.alloc(), &found)?;
+        assert!(rt; names.as_str() == "r none; b r; s r; d s; t s; e t; ");
     }
+    Ok(())
 }

@@ -5,9 +5,9 @@ use jwalk::file_system::{BuildError, MemoryFs};
 use jwalk_ignore::chain::Chain;
 use jwalk_ignore::ignore_files::IgnoreFiles;
 use jwalk_ignore::memory_texts::MemoryTexts;
-use refused_walks::came::{Came, TAKEN, Taken, comes};
+use refused_walks::came::{Came, Taken, WAYS, comes};
 use refused_walks::counting::Counting;
-use refused_walks::turns::first_wrong;
+use refused_walks::turns::{MOST, Repeated, first_wrong};
 use refusing_alloc::Refusing;
 use std::alloc::{Allocator, Global};
 use std::io::ErrorKind;
@@ -80,12 +80,13 @@ type Walk<'f, A> = WalkDirGeneric<
     A,
 >;
 
-/// A walk of a row over its tree, read by so many directories together.
+/// A walk of a row over its tree, read by so many directories together, whose answers are taken in some way.
 #[derive(Clone, Copy)]
 struct Play<'f> {
     planted: &'f Planted,
     row: &'f Row,
     width: Width,
+    taken: Taken,
     /// How often the rules ran out of memory.
     within: &'f AtomicUsize,
 }
@@ -101,30 +102,21 @@ impl<'f> Play<'f> {
         let rules = IgnoreFiles::new(&self.planted.texts);
         Some(walk.process_read_dir(Counting::new(rules, self.within)))
     }
+}
 
-    /// How the walk comes out with this memory.
-    fn comes<A: Allocator + Copy>(&self, alloc: Global, memory: A, taken: Taken) -> Came {
+/// What is asked for all at once may come whole after a refusal, as more is asked for then.
+impl Repeated for Play<'_> {
+    fn comes(&self, alloc: Global, memory: &Refusing<Global>) -> Came {
         match self.builder(memory) {
-            Some(walk) => comes(alloc, memory, walk, taken, self.row.lines),
+            Some(walk) => comes(alloc, memory, walk, self.taken, self.row.lines),
             None => Came::Refused(0),
         }
     }
 
-    /// The number of the first request from which on the walk comes out wrong, if that many are refused.
-    fn wrong(&self, alloc: Global, many: usize, taken: Taken) -> Option<usize> {
-        first_wrong(alloc, many, taken == Taken::Filled, |memory| {
-            self.comes(alloc, memory, taken)
-        })
+    fn may_be_whole(&self) -> bool {
+        self.taken == Taken::Filled
     }
 }
-
-/// How many directories are read together.
-const WIDTHS: &[Width] = &[
-    Width::Serial,
-    Width::Batches(1),
-    Width::Batches(2),
-    Width::Batches(8),
-];
 
 /// Whether the walk of a row comes out right in each way, if that many requests are refused.
 fn is_right(alloc: Global, row: &Row, many: usize) -> bool {
@@ -132,17 +124,19 @@ fn is_right(alloc: Global, row: &Row, many: usize) -> bool {
         return false;
     };
     let within = AtomicUsize::new(0);
-    WIDTHS.iter().all(|width| {
+    for (width, taken) in WAYS {
         let play = Play {
             planted: &planted,
             row,
             width: *width,
+            taken: *taken,
             within: &within,
         };
-        TAKEN
-            .iter()
-            .all(|taken| play.wrong(alloc, many, *taken).is_none())
-    })
+        if first_wrong(alloc, many, &play).is_some() {
+            return false;
+        }
+    }
+    true
 }
 
 #[test]
@@ -164,12 +158,13 @@ fn all_requests_of_a_walk_with_rules_from_each_on(rt: HostRuntime) {
 fn refused_within(alloc: Global, play: Play<'_>) -> Option<(usize, usize)> {
     let memory = Refusing::new(alloc);
     let (mut at_first, mut at_third): (usize, usize) = (0, 0);
-    for number in 1..10_000 {
+    for number in 1..MOST {
         memory.refuse(number, 1);
         let before = play.within.load(Ordering::SeqCst);
-        let came = play.comes(alloc, &memory, Taken::Begun);
+        let came = play.comes(alloc, &memory);
         let is_within = play.within.load(Ordering::SeqCst) != before;
         match came {
+            _ if memory.pieces() != 0 => return None,
             Came::Whole => return Some((at_first, at_third)),
             Came::Refused(0) if is_within => at_first = at_first.saturating_add(1),
             Came::Refused(2) if is_within => at_third = at_third.saturating_add(1),
@@ -188,6 +183,7 @@ fn refused_of_rules(alloc: Global) -> Option<(usize, usize)> {
         planted: &planted,
         row: &WHOLE,
         width: Width::Serial,
+        taken: Taken::Begun,
         within: &within,
     };
     refused_within(alloc, play)
