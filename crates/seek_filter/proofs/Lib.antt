@@ -1,0 +1,3 @@
+pub mod CaseFacts
+pub mod ExtensionFacts
+pub mod PathFacts

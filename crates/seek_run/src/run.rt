@@ -1,0 +1,193 @@
+//! A call of the program.
+ghost use Rattle.std.specs.Prelude.{◌≡◌, ◌↔◌, ◌≤◌, true, Ok, IfOk};
+ghost use Rattle.std.specs.Arc.{arc_value};
+
+use crate::search::Search;
+use crate::sought::Sought;
+use crate::sought_test::SoughtTest;
+use jwalk::Crew;
+use jwalk::file_system::{Fault, FileSystem};
+use jwalk_ignore::texts::Texts;
+use seek_filter::filter::Filter;
+use seek_filter::halt::Halt;
+use seek_filter::lines::Lines;
+use seek_filter::paths::Style;
+use seek_filter::subject::AbsolutePath;
+use seek_filter::wanted::Wanted;
+use seek_walk::printer::Printer;
+use seek_words::asked::Asked;
+use seek_words::refusal::Refusal;
+use seek_words::words::read_words;
+use std::alloc::{AllocError, Global};
+use std::io::Write;
+use std::sync::{Arc, Wait};
+use std::thread::{Threads, available_parallelism};
+use std::time::Clock;
+
+/// Returns how many threads read: as many as are asked for, or as can run at a time.
+fn threads_of<T: Threads>(rt: &T, asked: &Asked<'_>) -> usize {
+    match asked.threads {
+        Some(threads) => threads,
+        None => match available_parallelism(rt) {
+            Ok(threads) => threads.get(),
+            Err(_) => 1,
+        },
+    }
+}
+
+/// Returns the crew that reads, which is none for one thread.
+fn crew_of<T: Wait + Threads + Clock + Clone + Drop>(
+    rt: &T,
+    alloc: Global,
+    asked: &Asked<'_>,
+) -> Result<Option<Arc<Crew<T>>>, AllocError> {
+    let threads = threads_of(rt, asked);
+    if threads < 2 {
+        return Ok(None);
+    }
+    Ok(Some(Arc::new(alloc, Crew::new(rt.clone()?, 1, threads))?))
+}
+
+/// Returns what threads may share.
+fn shared<V: Drop>(alloc: Global, value: V) -> Result<Arc<V>, AllocError>
+    ensures { IfOk result (λ it. arc_value it ≡ value) }
+{
+    Ok(Arc::new(alloc, value)?)
+}
+
+/// Returns the absolute path that entries are tested by, if they are.
+fn path_of<X: Texts>(
+    alloc: Global,
+    asked: &Asked<'_>,
+    texts: &X,
+) -> Result<Option<AbsolutePath>, AllocError> {
+    if !asked.full_path {
+        return Ok(None);
+    }
+    match texts.absolute(alloc, "") {
+        Ok(here) => Ok(Some(AbsolutePath::below(alloc, here.as_str())?)),
+        Err(Fault::Io(_)) => Ok(Some(AbsolutePath::below(alloc, "")?)),
+        Err(Fault::Memory) => Err(AllocError),
+    }
+}
+
+/// Returns how paths are written.
+fn style_of(asked: &Asked<'_>) -> Style {
+    Style {
+        here: asked.roots.is_empty(),
+        separator: if asked.print0 { 0 } else { b'\n' },
+    }
+}
+
+/// Searches below all roots that are asked for. Returns whether there was no error.
+fn search_roots<
+    T: Wait + Threads + Clock + Clone + Drop + Send + Sync + 'static,
+    S: FileSystem + Send + Sync + 'static,
+    X: Texts + Send + Sync + 'static,
+    W: Write,
+    E: Write,
+>(
+    alloc: Global,
+    search: &Search<'_, '_, T, S, X>,
+    printer: &mut Printer<'_, SoughtTest<'_>>,
+    out: &mut W,
+    err: &mut E,
+) -> Result<bool, Halt> {
+    if search.asked.roots.is_empty() {
+        return search.below(alloc, ".", printer, out, err);
+    }
+    let mut clean = true;
+    for root in search.asked.roots.as_slice() {
+        clean &= search.below(alloc, root, printer, out, err)?;
+    }
+    Ok(clean)
+}
+
+/// Searches as is asked for. Returns whether there was no error.
+fn search_asked<
+    T: Wait + Threads + Clock + Clone + Drop + Send + Sync + 'static,
+    S: FileSystem + Send + Sync + 'static,
+    X: Texts + Send + Sync + 'static,
+    W: Write,
+    E: Write,
+>(
+    rt: &T,
+    alloc: Global,
+    disk: S,
+    texts: X,
+    asked: &Asked<'_>,
+    sought: &Sought,
+    out: &mut W,
+    err: &mut E,
+) -> Result<bool, Halt> {
+    let wanted = Wanted {
+        depths: asked.depths,
+        kinds: asked.kinds,
+        extensions: asked.extensions.as_slice(),
+    };
+    let filter = Filter {
+        wanted,
+        test: SoughtTest::new(alloc, sought)?,
+        path: path_of(alloc, asked, &texts)?,
+    };
+    let lines = Lines::new(alloc, style_of(asked))?;
+    let mut printer = Printer { filter, lines };
+    let search = Search {
+        rt,
+        asked,
+        disk: shared(alloc, disk)?,
+        texts: shared(alloc, texts)?,
+        crew: crew_of(rt, alloc, asked)?,
+    };
+    let clean = search_roots(alloc, &search, &mut printer, out, err)?;
+    printer.lines.finish(out)?;
+    Ok(clean)
+}
+
+/// Prints what is asked for by words that ask for no search, and returns the status.
+fn refuse<W: Write, E: Write>(refusal: &Refusal<'_>, out: &mut W, err: &mut E) -> u8 {
+    let status = refusal.status();
+    if status > 0 {
+        let _ = write!(err, "{refusal}");
+        return status;
+    }
+    u8::from(write!(out, "{refusal}").is_err() || out.flush().is_err())
+}
+
+/// Returns the status of a search that ended so. What ended it before its end is reported.
+fn status_of<E: Write>(ended: Result<bool, Halt>, err: &mut E) -> u8
+    ensures { (result ≡ 0) ↔ (ended ≡ Ok true) }
+{
+    match ended {
+        Ok(clean) => u8::from(!clean),
+        Err(halt) => {
+            halt.report(err);
+            1
+        }
+    }
+}
+
+/// Searches the disk as the words ask, of which the first is the program's name. Prints the path of each entry that is
+/// looked for, and reports errors on `err`. Returns the status.
+///
+/// The status is 0 if all was searched and there was no error. It is 1 if there was one, if memory ran out, or if the
+/// output can't be written. It is 2 for bad words, and then nothing is printed.
+pub fn run<
+    T: Wait + Threads + Clock + Clone + Drop + Send + Sync + 'static,
+    S: FileSystem + Send + Sync + 'static,
+    X: Texts + Send + Sync + 'static,
+    W: Write,
+    E: Write,
+>(rt: &T, alloc: Global, disk: S, texts: X, words: &[String], out: &mut W, err: &mut E) -> u8 {
+    let asked = match read_words(alloc, words) {
+        Ok(asked) => asked,
+        Err(refusal) => return refuse(&refusal, out, err),
+    };
+    match Sought::read(alloc, &asked) {
+        Ok(sought) => {
+            let ended = search_asked(rt, alloc, disk, texts, &asked, &sought, out, err);
+            status_of(ended, err)
+        }
+        Err(bad) => bad.report(err),
+    }
+}

@@ -1,0 +1,8 @@
+//! What a walk yields, filtered and printed.
+#![tactic(auto)]
+
+pub mod begun;
+pub mod found;
+pub mod options;
+pub mod printer;
+mod report;

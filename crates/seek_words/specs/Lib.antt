@@ -1,0 +1,4 @@
+pub mod Status
+pub mod Refusal
+pub mod Command
+pub mod Asks
