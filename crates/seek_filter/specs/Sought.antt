@@ -3,12 +3,11 @@ use Rattle.std.specs.Prelude.{ℕ, Bool, ◌&&◌, List, Option, None, Some}
 use Rattle.walk_model.specs.FileType.{is_dir}
 use Rattle.walk_model.specs.declared.file_type.FileType.{FileType}
 use Rattle.seek_filter.specs.Absolute.{absolute_path}
-use Rattle.seek_filter.specs.Wanted.{is_wanted}
-use Rattle.seek_filter.specs.declared.wanted.Wanted.{Wanted}
+use Rattle.seek_filter.specs.Wanted.{Wants, is_wanted}
 
 -- what is looked for: the depths, types and extensions, which texts pass, and what is in front of a relative path where the absolute path is tested
 pub record Sought : Type 0 where
-  pub wanted : Wanted
+  pub wanted : Wants
   pub takes : List ℕ → Bool → Bool
   pub front : Option (List ℕ)
 

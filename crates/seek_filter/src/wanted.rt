@@ -18,11 +18,11 @@ pub struct Wanted<'w> {
 }
 
 impl<'w> Wanted<'w> {
-    ghost use Rattle.seek_filter.specs.Wanted.{is_wanted};
+    ghost use Rattle.seek_filter.specs.Wanted.{is_wanted, wants_of};
 
     /// Returns whether an entry of this depth, type and name is looked for.
     pub fn has(&self, depth: usize, file_type: FileType, name: &str) -> bool
-        ensures { result ≡ is_wanted self.now depth file_type name.now }
+        ensures { result ≡ is_wanted (wants_of self.now) depth file_type name.now }
     {
         self.depths.has(depth) && self.kinds.has(file_type) && has_one(name, self.extensions)
     }

@@ -1,1 +1,2 @@
 pub mod FoundFacts
+pub mod WholeFacts

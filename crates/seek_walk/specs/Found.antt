@@ -31,6 +31,11 @@ module _ {R E : Type 0} where
   is_clean (Ok e) = not (is_some (option_and_then (λ children. children.error) e.read_children))
   is_clean (Err f) = false
 
+-- The line of each of these answers that is looked for is printed, and all of them are clean.
+pub record PrintsClean {R E : Type 0} (answers : List (Item R E)) (sought : Sought) (style : Style) (old new : Option (List ℕ)) : Type 0 where
+  pub lines : Appends old new (found_lines sought style answers)
+  pub clean : list_all is_clean answers ≡ true
+
 module _ {S C A R E : Type 0} (steps : S → Option (Result (DirEntry C A R E) (Error A)) → S → Type 0) (answers : S) where
   -- The iterator was called until it ended, the line of each answer that is looked for was printed, and the result says whether all answers are clean.
   abbrev pub PrintsFound : Sought → Style → Option (List ℕ) → Option (List ℕ) → Bool → Type 0

@@ -1,10 +1,11 @@
 //! A walk that is begun, and printed to its end.
-ghost use Rattle.std.specs.Prelude.{◌≡◌, IfOk};
+ghost use Rattle.std.specs.Prelude.{◌≡◌, true, IfOk};
 ghost use Rattle.std.specs.Io.KnownBytes.{append_known};
-ghost use Rattle.jwalk.specs.WalkDir.{callback_of};
+ghost use Rattle.jwalk_read.specs.Job.{IsSteady};
+ghost use Rattle.jwalk.specs.WalkDir.{callback_of, file_system_of};
 ghost use Rattle.seek_filter.specs.Filter.{sought_of};
 ghost use Rattle.seek_filter.specs.Lines.{style_of, gathered_of};
-ghost use Rattle.seek_walk.specs.Begun.{PrintsBegun};
+ghost use Rattle.seek_walk.specs.Begun.{PrintsBegun, PrintsWhole};
 
 use crate::found::print_found;
 use crate::printer::Printer;
@@ -49,6 +50,12 @@ where
     requires { P.IsLawful (callback_of walk) }
     ensures printed { IfOk result (PrintsBegun R S.FileSystem P.ProcessReadDir C.ReadDirState.Clone C.DirEntryState.Default
         ⟦<Session<R, C, S, P, A> as Pool<C, S, P, A>>⟧ walk (sought_of T.takes printer.old.filter) (style_of printer.old.lines)
+        (append_known (W.contents out.old) (gathered_of printer.old.lines))
+        (append_known (W.contents out.new) (gathered_of printer.new.lines))) }
+    ensures whole { IfOk result (λ clean. clean ≡ true → (given : _)
+        → IsSteady S.FileSystem P.ProcessReadDir C.ReadDirState.Clone C.DirEntryState.Default
+        (file_system_of walk) (callback_of walk) given
+        → PrintsWhole S.FileSystem given walk (sought_of T.takes printer.old.filter) (style_of printer.old.lines)
         (append_known (W.contents out.old) (gathered_of printer.old.lines))
         (append_known (W.contents out.new) (gathered_of printer.new.lines))) }
     ensures sought { sought_of T.takes printer.new.filter ≡ sought_of T.takes printer.old.filter }

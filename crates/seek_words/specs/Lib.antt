@@ -1,4 +1,6 @@
 pub mod Status
-pub mod Refusal
 pub mod Command
 pub mod Asks
+pub mod Conflict
+pub mod Refusal
+pub mod AsksFor

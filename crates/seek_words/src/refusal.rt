@@ -12,6 +12,8 @@ use std::fmt;
 pub enum Refusal<'w> {
     /// The words are bad, or ask for help or the version, which is then the text.
     Words(Error),
+    /// These two options exclude each other.
+    Conflict(&'static str, &'static str),
     /// This pattern has a slash, and isn't compared with paths.
     Slash(&'w str),
     /// Memory ran out.
@@ -39,7 +41,7 @@ impl<'w> Refusal<'w> {
     {
         match self {
             Refusal::Words(error) => status_of_kind(error.kind()),
-            Refusal::Slash(_) => 2,
+            Refusal::Conflict(_, _) | Refusal::Slash(_) => 2,
             Refusal::Memory => 1,
         }
     }
@@ -60,6 +62,9 @@ impl<'w> fmt::Display for Refusal<'w> {
     fn fmt<W: fmt::Write>(&self, f: &mut fmt::Formatter<W>) -> fmt::Result {
         match self {
             Refusal::Words(error) => write!(f, "{error}"),
+            Refusal::Conflict(one, other) => {
+                writeln!(f, "seek: the options --{one} and --{other} exclude each other")
+            }
             Refusal::Slash(pattern) => writeln!(
                 f,
                 "seek: no name has a slash, and the pattern '{pattern}' has one: write `seek . {pattern}` to list that folder, or add --full-path"

@@ -1,8 +1,11 @@
 //! What words ask for.
-ghost use Rattle.std.specs.Prelude.{◌≡◌, [], false, codes, unwrap_or, IfOk};
+ghost use Rattle.std.specs.Prelude.{◌≡◌, [], codes, is_some, map, unwrap_or, IfOk, IfErr};
 ghost use Rattle.std.specs.List.{list_any};
 ghost use Rattle.clap.specs.Words.{found_of, rows_of, first_of, one_of};
 ghost use Rattle.seek_words.specs.Asks.{is_named, values_in, texts_of, IsNumberOf, case_in, depths_by, AreDepthsIn, names_one, kinds_in, is_slash, Asks};
+ghost use Rattle.seek_words.specs.AsksFor.{AskFor, GiveValues};
+ghost use Rattle.seek_words.specs.Conflict.{has_conflict, has_value};
+ghost use Rattle.seek_words.specs.Refusal.{IsRefusedFor};
 
 use crate::asked::Asked;
 use crate::command::command;
@@ -153,8 +156,37 @@ fn has_slash(text: &str) -> bool
     text.as_bytes().iter().any(|byte| *byte == b'/')
 }
 
+/// Returns whether an option has a value.
+fn has_value(found: &ArgMatches<'_>, id: &str) -> bool
+    ensures { result ≡ has_value (rows_of (found_of found.now)) id.now }
+{
+    found.get_str(id).is_some()
+}
+
+/// Returns two options that were named and exclude each other.
+fn conflict_of(found: &ArgMatches<'_>) -> Option<(&'static str, &'static str)>
+    ensures { is_some result ≡ has_conflict (rows_of (found_of found.now)) }
+{
+    if is_named(found, "ignore-case") && is_named(found, "case-sensitive") {
+        return Some(("ignore-case", "case-sensitive"));
+    }
+    if !has_value(found, "exact-depth") {
+        return None;
+    }
+    if has_value(found, "min-depth") {
+        return Some(("exact-depth", "min-depth"));
+    }
+    if has_value(found, "max-depth") {
+        return Some(("exact-depth", "max-depth"));
+    }
+    None
+}
+
 /// Returns the values that words give to options.
-fn matches_of<'w, S: AsStr>(alloc: Global, words: &'w [S]) -> Result<ArgMatches<'w>, Refusal<'w>> {
+fn matches_of<'w, S: AsStr>(alloc: Global, words: &'w [S]) -> Result<ArgMatches<'w>, Refusal<'w>>
+    ensures read { IfOk result (λ found. GiveValues (map S.text words.entry.now) (rows_of (found_of found))) }
+    ensures refused { IfErr result (IsRefusedFor (map S.text words.entry.now)) }
+{
     match command(alloc)?.try_get_matches_from(words) {
         Ok(found) => Ok(found),
         Err(error) => Err(Refusal::Words(error)),
@@ -165,12 +197,16 @@ fn matches_of<'w, S: AsStr>(alloc: Global, words: &'w [S]) -> Result<ArgMatches<
 ///
 /// # Errors
 ///
-/// If the words are bad or ask for help or the version; if the pattern has a slash and isn't compared with paths; or if
-/// memory runs out.
+/// If the words are bad or ask for help or the version; if two options exclude each other; if the pattern has a slash and
+/// isn't compared with paths; or if memory runs out.
 pub fn read_words<'w, S: AsStr>(alloc: Global, words: &'w [S]) -> Result<Asked<'w>, Refusal<'w>>
-    ensures slash { IfOk result (λ asked. asked.full_path ≡ false → list_any is_slash asked.pattern.now ≡ false) }
+    ensures asked { IfOk result (AskFor (map S.text words.entry.now)) }
+    ensures refused { IfErr result (IsRefusedFor (map S.text words.entry.now)) }
 {
     let found = matches_of(alloc, words)?;
+    if let Some((one, other)) = conflict_of(&found) {
+        return Err(Refusal::Conflict(one, other));
+    }
     let asked = asked_of(alloc, &found)?;
     if !asked.full_path && has_slash(asked.pattern) {
         return Err(Refusal::Slash(asked.pattern));
