@@ -44,13 +44,7 @@ fn valued<'a>(alloc: Global, id: &'a str, value: &'a str, help: &'a str) -> Arg<
 }
 
 /// Returns an option with values, of which each word of it has one.
-fn listed<'a>(
-    alloc: Global,
-    id: &'a str,
-    short: char,
-    value: &'a str,
-    help: &'a str,
-) -> Arg<'a>
+fn listed<'a>(alloc: Global, id: &'a str, short: char, value: &'a str, help: &'a str) -> Arg<'a>
     ensures rule { rule_of result ≡ listed_rule id.entry.now short }
     ensures local { result.global ≡ false }
 {
@@ -139,7 +133,10 @@ fn with_walk<'a>(alloc: Global, command: Command<'a>) -> Result<Command<'a>, All
     );
     let follow = flag(alloc, "follow", 'L', "Follow links");
     let first = command.arg(hidden)?.arg(no_ignore)?.arg(exclude)?;
-    first.arg(follow)?.arg(sort_option(alloc))?.arg(threads_option(alloc))
+    first
+        .arg(follow)?
+        .arg(sort_option(alloc))?
+        .arg(threads_option(alloc))
 }
 
 /// Returns the option with the types.

@@ -63,7 +63,10 @@ impl<'w> fmt::Display for Refusal<'w> {
         match self {
             Refusal::Words(error) => write!(f, "{error}"),
             Refusal::Conflict(one, other) => {
-                writeln!(f, "seek: the options --{one} and --{other} exclude each other")
+                writeln!(
+                    f,
+                    "seek: the options --{one} and --{other} exclude each other"
+                )
             }
             Refusal::Slash(pattern) => writeln!(
                 f,

@@ -12,13 +12,13 @@ returns c =
     let greatest = ap rule_of c.short-greatest.ensures ∙ ap (λ (r : Rule). record r { short = Some 100 }) c.depth.ensures.rule in
     IfOk-weaker c.arg-6.result _ _
     (λ all adds. record {
-    kinds = kinds.0;
-    names = kinds.1;
-    rules = one_added adds c.flag-print0.ensures.local c.flag-print0.ensures.rule
-        (one_added c.in_ok-arg-4.ensures c.listed-extension.ensures.local c.listed-extension.ensures.rule
-        (one_added c.in_ok-arg-3.ensures c.kind_option.ensures.local kinds.2
-        (one_added c.in_ok-first.ensures c.depth-exact.ensures.local c.depth-exact.ensures.rule
-        (one_added c.in_ok-arg-2.ensures local greatest
-        (one_added c.in_ok-arg.ensures c.depth-least.ensures.local c.depth-least.ensures.rule refl)))));
+      kinds = kinds.0;
+      names = kinds.1;
+      rules = one_added adds c.flag-print0.ensures.local c.flag-print0.ensures.rule
+          (one_added c.in_ok-arg-4.ensures c.listed-extension.ensures.local c.listed-extension.ensures.rule
+          (one_added c.in_ok-arg-3.ensures c.kind_option.ensures.local kinds.2
+          (one_added c.in_ok-first.ensures c.depth-exact.ensures.local c.depth-exact.ensures.rule
+          (one_added c.in_ok-arg-2.ensures local greatest
+          (one_added c.in_ok-arg.ensures c.depth-least.ensures.local c.depth-least.ensures.rule refl)))));
     })
     c.arg-6.ensures
