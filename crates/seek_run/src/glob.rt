@@ -1,4 +1,12 @@
 //! A glob that takes a whole name, or a whole path.
+ghost use Rattle.std.specs.Prelude.{◌≡◌, ◌++◌, map, IfOk, OnOk};
+ghost use Rattle.std.specs.Char.{to_ascii_lowercase};
+ghost use Rattle.std.specs.Option.{option_map};
+ghost use Rattle.jwalk_ignore.specs.Matching.{matches};
+ghost use Rattle.jwalk_ignore.specs.Pattern.{pattern_value};
+ghost use Rattle.seek_run.specs.Glob.{folded, has_mark};
+
+use crate::below::without_first_slash;
 use jwalk_ignore::pattern::Pattern;
 use std::alloc::{AllocError, Global};
 
@@ -10,39 +18,62 @@ pub(crate) struct Glob {
     folds: bool,
 }
 
-/// Puts a text behind these bytes, with small letters for those of ASCII if they are to be folded.
-fn push_folded(folds: bool, text: &[u8], bytes: &mut Vec<u8>) -> Result<(), AllocError> {
-    if !folds {
-        return Ok(bytes.extend_from_slice(text)?);
-    }
+/// Puts a text behind these bytes, with small letters for those of ASCII.
+fn push_small(text: &[u8], bytes: &mut Vec<u8>) -> Result<(), AllocError>
+    ensures { OnOk result (bytes.new.items ≡ bytes.old.items ++ map to_ascii_lowercase text.now) }
+{
     for byte in text {
         bytes.push(byte.to_ascii_lowercase())?;
     }
     Ok(())
 }
 
-/// Returns a path without the slash that it begins with.
-fn without_first_slash(path: &[u8]) -> &[u8] {
-    match path {
-        [b'/', rest @ ..] => rest,
-        _ => path,
+/// Puts a text behind these bytes, with small letters for those of ASCII if case doesn't count.
+fn push_folded(folds: bool, text: &[u8], bytes: &mut Vec<u8>) -> Result<(), AllocError>
+    ensures { OnOk result (bytes.new.items ≡ bytes.old.items ++ folded folds text.now) }
+{
+    if folds {
+        push_small(text, bytes)
+    } else {
+        Ok(bytes.extend_from_slice(text)?)
     }
 }
 
-/// Returns whether a line of an ignore file with this text has a mark in front.
-fn has_mark(text: &[u8]) -> bool {
+/// Returns whether a text begins with a `!` or a `#`.
+fn has_mark(text: &[u8]) -> bool
+    ensures { result ≡ has_mark text.now }
+{
     matches!(text, [b'!' | b'#', ..])
 }
 
+/// Returns whether a pattern matches a path.
+#[tactic(auto, using(crate::proofs::GlobFacts::matches_computed))]
+fn matches(pattern: &Pattern, path: &[u8], is_dir: bool) -> bool
+    ensures { result ≡ matches (pattern_value pattern.now) path.now is_dir }
+{
+    pattern.matches(path, is_dir)
+}
+
 impl Glob {
-    /// Reads a glob. None if it is malformed. A `!` or a `#` in front has no meaning of its own.
-    pub(crate) fn read(alloc: Global, text: &str, folds: bool) -> Result<Option<Self>, AllocError> {
-        let text = text.as_bytes();
+    ghost use Rattle.seek_run.specs.Glob.{glob_in, glob_line, glob_takes, glob_value};
+
+    /// Returns the line of an ignore file that a glob is. A `!` or a `#` in front has no meaning of its own.
+    fn line(alloc: Global, text: &[u8], folds: bool) -> Result<Vec<u8>, AllocError>
+        ensures { IfOk result (λ line. line.items ≡ glob_line folds text.now) }
+    {
         let mut line = Vec::new(alloc);
         if has_mark(text) {
             line.push(b'\\')?;
         }
         push_folded(folds, text, &mut line)?;
+        Ok(line)
+    }
+
+    /// Reads a glob. None if it is malformed.
+    pub(crate) fn read(alloc: Global, text: &str, folds: bool) -> Result<Option<Self>, AllocError>
+        ensures { IfOk result (λ r. option_map glob_value r ≡ glob_in folds text.now) }
+    {
+        let line = Glob::line(alloc, text.as_bytes(), folds)?;
         match Pattern::read(alloc, line.as_slice())? {
             Some(pattern) => Ok(Some(Glob { pattern, folds })),
             None => Ok(None),
@@ -55,13 +86,15 @@ impl Glob {
         text: &str,
         is_dir: bool,
         memory: &mut Vec<u8>,
-    ) -> Result<bool, AllocError> {
-        let text = without_first_slash(text.as_bytes());
-        if !self.folds {
-            return Ok(self.pattern.matches(text, is_dir));
-        }
+    ) -> Result<bool, AllocError>
+        ensures { IfOk result (λ yes. yes ≡ glob_takes (glob_value self.now) text.now is_dir) }
+    {
         memory.clear();
-        push_folded(true, text, memory)?;
-        Ok(self.pattern.matches(memory.as_slice(), is_dir))
+        push_folded(
+            self.folds,
+            without_first_slash(text.as_bytes()),
+            memory,
+        )?;
+        Ok(matches(&self.pattern, memory.as_slice(), is_dir))
     }
 }

@@ -2,6 +2,7 @@
 #![tactic(auto)]
 
 mod bad_pattern;
+mod below;
 mod excluding;
 mod glob;
 pub mod run;

@@ -1,6 +1,17 @@
 //! A call of the program.
-ghost use Rattle.std.specs.Prelude.{◌≡◌, ◌↔◌, ◌≤◌, true, Ok, IfOk};
+ghost use Rattle.std.specs.Prelude.{◌≡◌, ◌≤◌, ◌⊎◌, true, map, string_bytes, Ok, IfOk};
 ghost use Rattle.std.specs.Arc.{arc_value};
+ghost use Rattle.std.specs.Io.KnownBytes.{append_known};
+ghost use Rattle.std.specs.Option.{option_map};
+ghost use Rattle.seek_filter.specs.Filter.{sought_of};
+ghost use Rattle.seek_filter.specs.Lines.{style_of as style_in, gathered_of};
+ghost use Rattle.seek_filter.specs.Subject.{front_of};
+ghost use Rattle.seek_walk.specs.Found.{PrintsClean};
+ghost use Rattle.seek_words.specs.Refusal.{status_of as status_for};
+ghost use Rattle.seek_run.specs.Run.{AskForText, PrintsAsked, Searches};
+ghost use Rattle.seek_run.specs.Search.{front_asked, sought_asked, style_asked, yielded_by};
+ghost use Rattle.seek_run.specs.Sought.{takes_by};
+ghost use Rattle.seek_run.specs.SoughtTest.{takes_of};
 
 use crate::search::Search;
 use crate::sought::Sought;
@@ -60,7 +71,9 @@ fn path_of<X: Texts>(
     alloc: Global,
     asked: &Asked<'_>,
     texts: &X,
-) -> Result<Option<AbsolutePath>, AllocError> {
+) -> Result<Option<AbsolutePath>, AllocError>
+    ensures { X.IsFixed texts.now → IfOk result (λ path. option_map front_of path ≡ front_asked (X.functions texts.now) asked.now) }
+{
     if !asked.full_path {
         return Ok(None);
     }
@@ -72,7 +85,9 @@ fn path_of<X: Texts>(
 }
 
 /// Returns how paths are written.
-fn style_of(asked: &Asked<'_>) -> Style {
+fn style_of(asked: &Asked<'_>) -> Style
+    ensures { result ≡ style_asked asked.now }
+{
     Style {
         here: asked.roots.is_empty(),
         separator: if asked.print0 { 0 } else { b'\n' },
@@ -92,13 +107,20 @@ fn search_roots<
     printer: &mut Printer<'_, SoughtTest<'_>>,
     out: &mut W,
     err: &mut E,
-) -> Result<bool, Halt> {
+) -> Result<bool, Halt>
+    ensures whole { IfOk result (λ clean. clean ≡ true → S.IsFixed (arc_value search.now.disk)
+        → X.IsFixed (arc_value search.now.texts) → PrintsClean
+        (yielded_by (S.functions (arc_value search.now.disk)) (X.functions (arc_value search.now.texts)) search.now.asked.now)
+        (sought_of takes_of printer.old.filter) (style_in printer.old.lines)
+        (append_known (W.contents out.old) (gathered_of printer.old.lines))
+        (append_known (W.contents out.new) (gathered_of printer.new.lines))) }
+{
     if search.asked.roots.is_empty() {
-        return search.below(alloc, ".", printer, out, err);
+        return search.below(alloc, ".", &mut *printer, out, err);
     }
     let mut clean = true;
     for root in search.asked.roots.as_slice() {
-        clean &= search.below(alloc, root, printer, out, err)?;
+        clean &= search.below(alloc, root, &mut *printer, out, err)?;
     }
     Ok(clean)
 }
@@ -119,7 +141,10 @@ fn search_asked<
     sought: &Sought,
     out: &mut W,
     err: &mut E,
-) -> Result<bool, Halt> {
+) -> Result<bool, Halt>
+    ensures { IfOk result (λ clean. clean ≡ true → S.IsFixed disk → X.IsFixed texts
+        → PrintsAsked (S.functions disk) (X.functions texts) asked.now sought.now (W.contents out.old) (W.contents out.new)) }
+{
     let wanted = Wanted {
         depths: asked.depths,
         kinds: asked.kinds,
@@ -145,7 +170,11 @@ fn search_asked<
 }
 
 /// Prints what is asked for by words that ask for no search, and returns the status.
-fn refuse<W: Write, E: Write>(refusal: &Refusal<'_>, out: &mut W, err: &mut E) -> u8 {
+fn refuse<W: Write, E: Write>(refusal: &Refusal<'_>, out: &mut W, err: &mut E) -> u8
+    ensures text { result ≡ 0 → status_for refusal.now ≡ 0 }
+    ensures untouched { result ≡ 2 → W.contents out.new ≡ W.contents out.old }
+    ensures status { result ≤ 2 }
+{
     let status = refusal.status();
     if status > 0 {
         let _ = write!(err, "{refusal}");
@@ -156,7 +185,9 @@ fn refuse<W: Write, E: Write>(refusal: &Refusal<'_>, out: &mut W, err: &mut E) -
 
 /// Returns the status of a search that ended so. What ended it before its end is reported.
 fn status_of<E: Write>(ended: Result<bool, Halt>, err: &mut E) -> u8
-    ensures { (result ≡ 0) ↔ (ended ≡ Ok true) }
+    ensures status { result ≤ 1 }
+    ensures clean { result ≡ 0 → ended ≡ Ok true }
+    ensures all { ended ≡ Ok true → result ≡ 0 }
 {
     match ended {
         Ok(clean) => u8::from(!clean),
@@ -178,7 +209,13 @@ pub fn run<
     X: Texts + Send + Sync + 'static,
     W: Write,
     E: Write,
->(rt: &T, alloc: Global, disk: S, texts: X, words: &[String], out: &mut W, err: &mut E) -> u8 {
+>(rt: &T, alloc: Global, disk: S, texts: X, words: &[String], out: &mut W, err: &mut E) -> u8
+    ensures status { result ≤ 2 }
+    ensures untouched { result ≡ 2 → W.contents out.new ≡ W.contents out.old }
+    ensures done { result ≡ 0 → AskForText (map string_bytes words.now)
+        ⊎ Searches (S.IsFixed disk × X.IsFixed texts) (S.functions disk) (X.functions texts)
+        (map string_bytes words.now) (W.contents out.old) (W.contents out.new) }
+{
     let asked = match read_words(alloc, words) {
         Ok(asked) => asked,
         Err(refusal) => return refuse(&refusal, out, err),

@@ -1,4 +1,15 @@
 //! A search below roots.
+ghost use Rattle.std.specs.Prelude.{◌≡◌, true, is_some, IfOk};
+ghost use Rattle.std.specs.Arc.{arc_value};
+ghost use Rattle.std.specs.Io.KnownBytes.{append_known};
+ghost use Rattle.seek_filter.specs.Filter.{sought_of};
+ghost use Rattle.seek_filter.specs.Lines.{style_of, gathered_of};
+ghost use Rattle.seek_walk.specs.Found.{PrintsClean};
+ghost use Rattle.seek_run.specs.Search.{all_below, kept_below, yielded_below, walk_options};
+ghost use Rattle.seek_run.specs.Excluding.{excluded_by};
+ghost use Rattle.seek_run.specs.SoughtTest.{takes_of};
+ghost use Rattle.seek_words.specs.Asks.{texts_of};
+
 use crate::excluding::Excluding;
 use crate::sought_test::SoughtTest;
 use jwalk::Crew;
@@ -36,7 +47,9 @@ impl<
     X: Texts + Send + Sync + 'static,
 > Search<'a, 'w, T, S, X> {
     /// Returns what is asked of the walks.
-    fn options(&self) -> WalkOptions {
+    fn options(&self) -> WalkOptions
+        ensures { result ≡ walk_options self.now.asked.now }
+    {
         WalkOptions {
             sort: self.asked.sort,
             hidden: self.asked.hidden,
@@ -53,14 +66,23 @@ impl<
         printer: &mut Printer<'_, SoughtTest<'_>>,
         out: &mut W,
         err: &mut E,
-    ) -> Result<bool, Halt> {
+    ) -> Result<bool, Halt>
+        ensures whole { IfOk result (λ clean. clean ≡ true → S.IsFixed (arc_value self.now.disk) → PrintsClean
+            (all_below (S.functions (arc_value self.now.disk)) self.now.asked.now
+            (excluded_by (texts_of self.now.asked.now.excludes.items) root.now) root.now)
+            (sought_of takes_of printer.old.filter) (style_of printer.old.lines)
+            (append_known (W.contents out.old) (gathered_of printer.old.lines))
+            (append_known (W.contents out.new) (gathered_of printer.new.lines))) }
+        ensures sought { sought_of takes_of printer.new.filter ≡ sought_of takes_of printer.old.filter }
+        ensures style { style_of printer.new.lines ≡ style_of printer.old.lines }
+    {
         let excluding = Excluding::new(alloc, self.asked.excludes.as_slice(), root)?;
         let root = String::from_str(alloc, root)?;
         let disk = self.disk.clone()?;
         let walk = self
             .options()
             .walk_of::<((), ()), _, _, _>(self.rt, disk, root, &self.crew)?;
-        print_begun(walk.process_read_dir(excluding), printer, out, err)
+        print_begun(walk.process_read_dir(excluding), &mut *printer, out, err)
     }
 
     /// Searches below a root, with its ignore files.
@@ -71,7 +93,17 @@ impl<
         printer: &mut Printer<'_, SoughtTest<'_>>,
         out: &mut W,
         err: &mut E,
-    ) -> Result<bool, Halt> {
+    ) -> Result<bool, Halt>
+        ensures whole { IfOk result (λ clean. clean ≡ true → S.IsFixed (arc_value self.now.disk)
+            → X.IsFixed (arc_value self.now.texts) → PrintsClean
+            (kept_below (S.functions (arc_value self.now.disk)) (X.functions (arc_value self.now.texts)) self.now.asked.now
+            (excluded_by (texts_of self.now.asked.now.excludes.items) root.now) root.now)
+            (sought_of takes_of printer.old.filter) (style_of printer.old.lines)
+            (append_known (W.contents out.old) (gathered_of printer.old.lines))
+            (append_known (W.contents out.new) (gathered_of printer.new.lines))) }
+        ensures sought { sought_of takes_of printer.new.filter ≡ sought_of takes_of printer.old.filter }
+        ensures style { style_of printer.new.lines ≡ style_of printer.old.lines }
+    {
         let excluding = Excluding::new(alloc, self.asked.excludes.as_slice(), root)?;
         let rules = IgnoreFiles::new(self.texts.clone()?)
             .keep_hidden(self.asked.hidden)
@@ -81,7 +113,7 @@ impl<
         let walk = self
             .options()
             .walk_of::<((Chain, ()), ()), _, _, _>(self.rt, disk, root, &self.crew)?;
-        print_begun(with_ignore_files(walk, rules), printer, out, err)
+        print_begun(with_ignore_files(walk, rules), &mut *printer, out, err)
     }
 
     /// Searches below a root, prints what is found and reports errors. Returns whether there was none.
@@ -92,10 +124,19 @@ impl<
         printer: &mut Printer<'_, SoughtTest<'_>>,
         out: &mut W,
         err: &mut E,
-    ) -> Result<bool, Halt> {
+    ) -> Result<bool, Halt>
+        ensures whole { IfOk result (λ clean. clean ≡ true → S.IsFixed (arc_value self.now.disk)
+            → X.IsFixed (arc_value self.now.texts) → PrintsClean
+            (yielded_below (S.functions (arc_value self.now.disk)) (X.functions (arc_value self.now.texts)) self.now.asked.now root.now)
+            (sought_of takes_of printer.old.filter) (style_of printer.old.lines)
+            (append_known (W.contents out.old) (gathered_of printer.old.lines))
+            (append_known (W.contents out.new) (gathered_of printer.new.lines))) }
+        ensures sought { sought_of takes_of printer.new.filter ≡ sought_of takes_of printer.old.filter }
+        ensures style { style_of printer.new.lines ≡ style_of printer.old.lines }
+    {
         if self.asked.no_ignore {
-            return self.search_all(alloc, root, printer, out, err);
+            return self.search_all(alloc, root, &mut *printer, out, err);
         }
-        self.search_kept(alloc, root, printer, out, err)
+        self.search_kept(alloc, root, &mut *printer, out, err)
     }
 }

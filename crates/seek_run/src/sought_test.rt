@@ -1,4 +1,7 @@
 //! Whether a name is looked for.
+ghost use Rattle.std.specs.Prelude.{◌≡◌, IfOk};
+ghost use Rattle.seek_run.specs.Sought.{takes_by};
+
 use crate::glob::Glob;
 use crate::sought::Sought;
 use regex::Matcher;
@@ -14,8 +17,12 @@ pub(crate) enum SoughtTest<'s> {
 }
 
 impl<'s> SoughtTest<'s> {
+    ghost use Rattle.seek_run.specs.SoughtTest.{takes_of};
+
     /// Returns the test for what is sought.
-    pub(crate) fn new(alloc: Global, sought: &'s Sought) -> Result<Self, AllocError> {
+    pub(crate) fn new(alloc: Global, sought: &'s Sought) -> Result<Self, AllocError>
+        ensures { IfOk result (λ test. takes_of test ≡ takes_by sought.entry.now) }
+    {
         match sought {
             Sought::Any => Ok(SoughtTest::Any),
             Sought::Expression(expression) => Ok(SoughtTest::Finds(expression.matcher(alloc)?)),

@@ -1,6 +1,6 @@
 //! What is asked of a walk.
 ghost use Rattle.std.specs.Prelude.{◌≡◌, string_bytes, IfOk};
-ghost use Rattle.jwalk.specs.WalkDir.{file_system_of, root_of, options_of};
+ghost use Rattle.jwalk.specs.WalkDir.{file_system_of, root_of, state_of, options_of};
 
 use jwalk::file_system::FileSystem;
 use jwalk::read_dir::NoProcess;
@@ -49,6 +49,7 @@ impl WalkOptions {
     ) -> Result<WalkDirGeneric<C, S, NoProcess, A, OnThreads<&'t T>, Crew<T>>, AllocError>
         ensures file_system { IfOk result (λ walk. file_system_of walk ≡ fs) }
         ensures root { IfOk result (λ walk. root_of walk ≡ string_bytes root) }
+        ensures state { IfOk result (λ walk. C.ReadDirState.is_default (state_of walk)) }
         ensures options { IfOk result (λ walk. options_of walk ≡ options_for self (is_some crew.now)) }
     {
         let mut walk = WalkDirGeneric::with_crew(fs, root)

@@ -1,0 +1,46 @@
+-- What lines of an ignore file leave out of lists.
+use Rattle.std.proofs.Common.{◌≡◌, ◌∙◌, ℕ, Bool, true, List, [], map, Option, None, Some, Ok, Err, ap, refl, sym}
+use Rattle.std.specs.List.{filter}
+use Rattle.jwalk.specs.walk_model.Entry.{Item}
+use Rattle.jwalk.specs.walk_model.Job.{KeepsDepthsOf}
+use Rattle.jwalk.specs.walk_model.ReadDir.{Reading}
+use Rattle.jwalk.specs.walk_model.Counted.{Worth, item_by, reading_by}
+use Rattle.jwalk.specs.read_parts.Given.{Given, counted_item, counted_reading}
+use Rattle.jwalk_ignore.specs.MadeDepths.{filter_at}
+use Rattle.jwalk_ignore.specs.Pattern.{Pattern}
+use Rattle.jwalk_ignore.proofs.ListFacts.{filter_by, filter_none}
+use Rattle.seek_run.specs.Excluding.{Excluded, excluding, is_included, place_of}
+
+module _ {R E : Type 0} where
+  -- no patterns leave nothing out
+  included_all : (place : List ℕ) (x : Item R E) → is_included [] place x ≡ true
+  included_all place (Ok e) = refl
+  included_all place (Err f) = refl
+
+  pub excludes_nothing : (excluded : Excluded) → excluded.patterns ≡ [] → (depth : Option ℕ) (path : List ℕ) (state : R) (list : List (Item R E))
+      → excluding excluded depth path state list ≡ record { state = state; list = list }
+  excludes_nothing excluded is None path state list = refl
+  excludes_nothing excluded is (Some depth) path state list =
+      let place = place_of excluded.root_len path in
+      let left : List (Item R E) → Reading R E = λ l. record { state = state; list = l } in
+      ap (λ (ps : List Pattern). left (filter (is_included ps place) list)) is ∙ ap left (filter_none (is_included [] place) (included_all place) list)
+
+module _ {R E : Type 0} (given : Given R E) where
+  included_by : (patterns : List Pattern) (place : List ℕ) (x : Item R E) → is_included patterns place (counted_item given x) ≡ is_included patterns place x
+  included_by patterns place (Ok e) = refl
+  included_by patterns place (Err f) = refl
+
+  -- what stays doesn't go by states
+  pub excluding_by : (excluded : Excluded) (depth : Option ℕ) (path : List ℕ) (state : R) (list : List (Item R E))
+      → excluding excluded depth path (given.read_dir_state state) (map (counted_item given) list) ≡ counted_reading given (excluding excluded depth path state list)
+  excluding_by excluded None path state list = refl
+  excluding_by excluded (Some depth) path state list =
+      let test = is_included {R = Worth} {E = Worth} excluded.patterns (place_of excluded.root_len path) in
+      let own = is_included {R = R} {E = E} excluded.patterns (place_of excluded.root_len path) in
+      let left : List (Item Worth Worth) → Reading Worth Worth = λ l. record { state = given.read_dir_state state; list = l } in
+      ap left (filter_by (counted_item given) test own (included_by excluded.patterns (place_of excluded.root_len path)) list)
+
+-- Depths stay.
+pub excluding-KeepsDepthsOf : {R E : Type 0} (excluded : Excluded) → KeepsDepthsOf {R = R} {E = E} (excluding excluded)
+excluding-KeepsDepthsOf excluded None path state list h = h
+excluding-KeepsDepthsOf excluded (Some depth) path state list h = filter_at _ (is_included excluded.patterns (place_of excluded.root_len path)) list h

@@ -1,0 +1,3 @@
+pub mod GlobFacts
+pub mod ExcludingFacts
+pub mod SearchFacts
