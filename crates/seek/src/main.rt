@@ -4,7 +4,7 @@
 use jwalk::file_system::{Patient, RealFs};
 use jwalk_ignore::real_texts::RealTexts;
 use seek_run::run::run;
-use std::io::Write;
+use std::io::{IsTerminal, Write};
 use std::process::ExitCode;
 use std::{env, io};
 
@@ -27,6 +27,7 @@ fn main(rt: HostRuntime) -> ExitCode {
             disk,
             texts,
             words.as_slice(),
+            rt.stdout().is_terminal(),
             &mut io::writer(&rt),
             &mut err,
         ),

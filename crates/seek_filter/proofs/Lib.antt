@@ -1,3 +1,4 @@
 pub mod CaseFacts
 pub mod ExtensionFacts
 pub mod PathFacts
+pub mod MaskedFacts

@@ -3,6 +3,7 @@ pub mod Depths
 pub mod Kinds
 pub mod Extension
 pub mod Expression
+pub mod Masked
 pub mod Paths
 pub mod Absolute
 pub mod Subject

@@ -1,6 +1,7 @@
 -- How a path is written.
 use Rattle.std.specs.Prelude.{ℕ, List, [], ◌∷◌, ◌++◌, take, drop, bytes_eq, codes, if◌then◌else◌}
 use Rattle.walk_model.specs.Paths.{join, dot}
+use Rattle.seek_filter.specs.Masked.{masked}
 use Rattle.seek_filter.specs.declared.paths.Style.{Style}
 
 -- the path of a folder without the `.` or the `./` that it begins with
@@ -12,6 +13,10 @@ without_here folder =
 abbrev pub shown_folder : Style → List ℕ → List ℕ
 shown_folder style folder = if style.here then without_here folder else folder
 
+-- a text as it is written: with a question mark for each control character, if it is for a terminal
+abbrev pub shown_text : Style → List ℕ → List ℕ
+shown_text style text = if style.masked then masked text else text
+
 -- the line of a name in a folder: its path, and the separator
 abbrev pub line_of : Style → List ℕ → List ℕ → List ℕ
-line_of style folder name = join (shown_folder style folder) name ++ style.separator ∷ []
+line_of style folder name = join (shown_text style (shown_folder style folder)) (shown_text style name) ++ style.separator ∷ []

@@ -9,6 +9,7 @@ pub mod filter;
 pub mod halt;
 pub mod kinds;
 pub mod lines;
+pub mod masked;
 pub mod name_test;
 pub mod paths;
 pub mod subject;

@@ -4,6 +4,7 @@ ghost use Rattle.std.specs.Io.KnownBytes.{Appends};
 ghost use Rattle.walk_model.specs.Paths.{join};
 ghost use Rattle.seek_filter.specs.Paths.{without_here, line_of};
 
+use crate::masked::masked;
 use std::alloc::{AllocError, Allocator};
 use walk_paths::path_text::join_parts;
 
@@ -12,6 +13,8 @@ use walk_paths::path_text::join_parts;
 pub struct Style {
     /// The walk's root is the folder that the program runs in, and wasn't named: a `./` in front isn't written.
     pub here: bool,
+    /// A question mark is written for each control character in a path, as is due to a terminal.
+    pub masked: bool,
     /// The byte behind a path.
     pub separator: u8,
 }
@@ -27,6 +30,21 @@ pub fn without_here(folder: &str) -> &str
         Some(rest) => rest,
         None => folder,
     }
+}
+
+/// Puts the path of a name in a folder behind these bytes.
+fn push_path<A: Allocator>(
+    folder: &str,
+    name: &str,
+    out: &mut Vec<u8, A>,
+) -> Result<(), AllocError>
+    ensures { OnOk result (out.new.items ≡ out.old.items ++ join folder.now name.now) }
+{
+    let (front, slash, name) = join_parts(folder, name);
+    out.extend_from_slice(front.as_bytes())?;
+    out.extend_from_slice(slash.as_bytes())?;
+    out.extend_from_slice(name.as_bytes())?;
+    Ok(())
 }
 
 impl Style {
@@ -48,7 +66,7 @@ impl Style {
     /// # Errors
     ///
     /// If memory runs out.
-    pub fn write<A: Allocator>(
+    pub fn write<A: Allocator + Copy>(
         self,
         folder: &str,
         name: &str,
@@ -56,10 +74,14 @@ impl Style {
     ) -> Result<(), AllocError>
         ensures { OnOk result (out.new.items ≡ out.old.items ++ line_of self folder.now name.now) }
     {
-        let (front, slash, name) = join_parts(self.folder(folder), name);
-        out.extend_from_slice(front.as_bytes())?;
-        out.extend_from_slice(slash.as_bytes())?;
-        out.extend_from_slice(name.as_bytes())?;
+        let folder = self.folder(folder);
+        if self.masked {
+            let alloc = *out.allocator();
+            let (folder, name) = (masked(alloc, folder)?, masked(alloc, name)?);
+            push_path(folder.as_str(), name.as_str(), out)?;
+        } else {
+            push_path(folder, name, out)?;
+        }
         out.push(self.separator)?;
         Ok(())
     }

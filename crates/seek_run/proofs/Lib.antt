@@ -1,3 +1,4 @@
 pub mod GlobFacts
 pub mod ExcludingFacts
 pub mod SearchFacts
+pub mod RunFacts

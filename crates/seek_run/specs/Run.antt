@@ -1,5 +1,5 @@
 -- How a call of the program ends.
-use Rattle.std.specs.Prelude.{◌⊎◌, ℕ, List, Option}
+use Rattle.std.specs.Prelude.{◌⊎◌, ℕ, Bool, List, Option}
 use Rattle.clap.specs.Words.{App, IsAmong, Text, fault_of}
 use Rattle.clap.specs.declared.error.kind.ErrorKind.TheVariants.{DisplayHelp, DisplayVersion}
 use Rattle.jwalk.specs.walk_model.FileSystem.{Functions}
@@ -17,14 +17,14 @@ abbrev pub AskForText : List Text → Type 0
 AskForText words = (app : App) × IsSeek app × (IsAmong DisplayHelp (fault_of app words) ⊎ IsAmong DisplayVersion (fault_of app words))
 
 -- Over a file system and texts that always answer the same, the line of each entry that is looked for is printed, among all that is gone over, and there is no error among that.
-abbrev pub PrintsAsked : Functions → Texts → Asked → Sought → Option (List ℕ) → Option (List ℕ) → Type 0
-PrintsAsked fs texts asked sought =
-    PrintsClean (yielded_by fs texts asked) (sought_asked texts asked (takes_by sought)) (style_asked asked)
+abbrev pub PrintsAsked : Functions → Texts → Bool → Asked → Sought → Option (List ℕ) → Option (List ℕ) → Type 0
+PrintsAsked fs texts on_terminal asked sought =
+    PrintsClean (yielded_by fs texts asked) (sought_asked texts asked (takes_by sought)) (style_asked on_terminal asked)
 
 -- The words ask for a search, what names are looked for is what the pattern says, and what is asked for is printed, if the file system and the texts are fixed.
-pub record Searches (fixed : Type 0) (fs : Functions) (texts : Texts) (words : List Text) (old new : Option (List ℕ)) : Type 0 where
+pub record Searches (fixed : Type 0) (fs : Functions) (texts : Texts) (on_terminal : Bool) (words : List Text) (old new : Option (List ℕ)) : Type 0 where
   pub asked : Asked
   pub ask : AskFor words asked
   pub sought : Sought
   pub is_for : IsFor asked sought
-  pub prints : fixed → PrintsAsked fs texts asked sought old new
+  pub prints : fixed → PrintsAsked fs texts on_terminal asked sought old new

@@ -84,12 +84,13 @@ fn path_of<X: Texts>(
     }
 }
 
-/// Returns how paths are written.
-fn style_of(asked: &Asked<'_>) -> Style
-    ensures { result ≡ style_asked asked.now }
+/// Returns how paths are written, to a terminal or not.
+fn style_of(on_terminal: bool, asked: &Asked<'_>) -> Style
+    ensures { result ≡ style_asked on_terminal asked.now }
 {
     Style {
         here: asked.roots.is_empty(),
+        masked: on_terminal,
         separator: if asked.print0 { 0 } else { b'\n' },
     }
 }
@@ -139,11 +140,13 @@ fn search_asked<
     texts: X,
     asked: &Asked<'_>,
     sought: &Sought,
+    on_terminal: bool,
     out: &mut W,
     err: &mut E,
 ) -> Result<bool, Halt>
     ensures { IfOk result (λ clean. clean ≡ true → S.IsFixed disk → X.IsFixed texts
-        → PrintsAsked (S.functions disk) (X.functions texts) asked.now sought.now (W.contents out.old) (W.contents out.new)) }
+        → PrintsAsked (S.functions disk) (X.functions texts) on_terminal asked.now sought.now
+        (W.contents out.old) (W.contents out.new)) }
 {
     let wanted = Wanted {
         depths: asked.depths,
@@ -155,7 +158,7 @@ fn search_asked<
         test: SoughtTest::new(alloc, sought)?,
         path: path_of(alloc, asked, &texts)?,
     };
-    let lines = Lines::new(alloc, style_of(asked))?;
+    let lines = Lines::new(alloc, style_of(on_terminal, asked))?;
     let mut printer = Printer { filter, lines };
     let search = Search {
         rt,
@@ -199,7 +202,8 @@ fn status_of<E: Write>(ended: Result<bool, Halt>, err: &mut E) -> u8
 }
 
 /// Searches the disk as the words ask, of which the first is the program's name. Prints the path of each entry that is
-/// looked for, and reports errors on `err`. Returns the status.
+/// looked for, and reports errors on `err`. Returns the status. If the output is a terminal, control characters in paths
+/// are written as question marks.
 ///
 /// The status is 0 if all was searched and there was no error. It is 1 if there was one, if memory ran out, or if the
 /// output can't be written. It is 2 for bad words, and then nothing is printed.
@@ -209,11 +213,20 @@ pub fn run<
     X: Texts + Send + Sync + 'static,
     W: Write,
     E: Write,
->(rt: &T, alloc: Global, disk: S, texts: X, words: &[String], out: &mut W, err: &mut E) -> u8
+>(
+    rt: &T,
+    alloc: Global,
+    disk: S,
+    texts: X,
+    words: &[String],
+    on_terminal: bool,
+    out: &mut W,
+    err: &mut E,
+) -> u8
     ensures status { result ≤ 2 }
     ensures untouched { result ≡ 2 → W.contents out.new ≡ W.contents out.old }
     ensures done { result ≡ 0 → AskForText (map string_bytes words.now)
-        ⊎ Searches (S.IsFixed disk × X.IsFixed texts) (S.functions disk) (X.functions texts)
+        ⊎ Searches (S.IsFixed disk × X.IsFixed texts) (S.functions disk) (X.functions texts) on_terminal
         (map string_bytes words.now) (W.contents out.old) (W.contents out.new) }
 {
     let asked = match read_words(alloc, words) {
@@ -222,7 +235,17 @@ pub fn run<
     };
     match Sought::read(alloc, &asked) {
         Ok(sought) => {
-            let ended = search_asked(rt, alloc, disk, texts, &asked, &sought, out, err);
+            let ended = search_asked(
+                rt,
+                alloc,
+                disk,
+                texts,
+                &asked,
+                &sought,
+                on_terminal,
+                out,
+                err,
+            );
             status_of(ended, err)
         }
         Err(bad) => bad.report(err),

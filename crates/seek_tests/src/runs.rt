@@ -60,7 +60,7 @@ pub(crate) fn called<
     err: &mut E,
 ) -> u8 {
     match words_of(rt.alloc(), threads, words) {
-        Ok(words) => run(rt, rt.alloc(), disk, texts, words.as_slice(), out, err),
+        Ok(words) => run(rt, rt.alloc(), disk, texts, words.as_slice(), false, out, err),
         Err(AllocError) => 255,
     }
 }

@@ -13,14 +13,14 @@ use Rattle.seek_filter.specs.declared.paths.Style.{Style}
 use Rattle.seek_walk.specs.Found.{found_line, found_lines, is_clean, PrintsFound}
 
 -- one text is written and then another
-appends_then : (a b c : Option (List ℕ)) (xs ys : List ℕ) → Appends a b xs → Appends b c ys → Appends a c (xs ++ ys)
+pub appends_then : (a b c : Option (List ℕ)) (xs ys : List ℕ) → Appends a b xs → Appends b c ys → Appends a c (xs ++ ys)
 appends_then None b c xs ys first second = tt
 appends_then (Some ws) None c xs ys first second = absurd first
 appends_then (Some ws) (Some vs) None xs ys first second = absurd second
 appends_then (Some ws) (Some vs) (Some us) xs ys first second = second ∙ (ap (λ l. l ++ ys) first ∙ append_assoc ws xs ys)
 
 -- nothing is written
-appends_none : (a : Option (List ℕ)) → Appends a a []
+pub appends_none : (a : Option (List ℕ)) → Appends a a []
 appends_none None = tt
 appends_none (Some ws) = sym (append-nil ws)
 
@@ -28,7 +28,7 @@ and_true : (b : Bool) → (b && true) ≡ b
 and_true true = refl
 and_true false = refl
 
-and_and : (a b c : Bool) → ((a && b) && c) ≡ (a && (b && c))
+pub and_and : (a b c : Bool) → ((a && b) && c) ≡ (a && (b && c))
 and_and true b c = refl
 and_and false b c = refl
 
