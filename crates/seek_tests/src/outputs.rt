@@ -1,5 +1,5 @@
 //! Outputs that end a run.
-use crate::runs::{TREE, called, comes, tree_of};
+use crate::runs::{TREE, called, called_on, comes, tree_of};
 use jwalk_ignore::memory_texts::MemoryTexts;
 use std::alloc::{AllocError, Global};
 use std::io;
@@ -147,4 +147,44 @@ fn a_long_output_is_written_whole(rt: HostRuntime) -> Result<(), AllocError> {
         assert!(rt; is_whole);
     }
     Ok(())
+}
+
+/// What a call prints over a tree of names with control characters, on a terminal or not.
+fn prints_names(
+    rt: &(impl Wait + Threads + Clock + Clone + Drop + Send + Sync + AllocGlobal + 'static),
+    words: &[&str],
+    on_terminal: bool,
+    want: &str,
+) -> bool {
+    let mut out = Vec::new(rt.alloc());
+    let mut err = Vec::new(rt.alloc());
+    let lines = "d /t\nd /t/\u{1b}[31m\nf 1 /t/\u{1b}[31m/a\u{9b}b\nf 1 /t/\u{7f}é\t\n";
+    let Some(disk) = tree_of(rt.alloc(), lines) else {
+        return false;
+    };
+    let texts = MemoryTexts::new(rt.alloc());
+    let status = called_on(
+        rt,
+        disk,
+        texts,
+        "-j1",
+        words,
+        on_terminal,
+        &mut out,
+        &mut err,
+    );
+    status == 0 && err.is_empty() && out.as_slice() == want.as_bytes()
+}
+
+#[test]
+fn control_characters_on_a_terminal(rt: HostRuntime) {
+    let want = "/t/?[31m\n/t/?[31m/a?b\n/t/?é?\n";
+    assert!(rt; prints_names(&rt, &[".", "/t"], true, want));
+    assert!(rt; prints_names(&rt, &["-0", "é", "/t"], true, "/t/?é?\0"));
+}
+
+#[test]
+fn control_characters_elsewhere(rt: HostRuntime) {
+    let want = "/t/\u{1b}[31m\n/t/\u{1b}[31m/a\u{9b}b\n/t/\u{7f}é\t\n";
+    assert!(rt; prints_names(&rt, &[".", "/t"], false, want));
 }

@@ -44,6 +44,37 @@ fn texts_of(alloc: Global, files: &[RulesFile<'_>]) -> Result<MemoryTexts, Alloc
     Ok(texts)
 }
 
+/// Runs a call over a disk whose output is a terminal or not, and returns the status. 255 if memory runs out before.
+pub(crate) fn called_on<
+    S: FileSystem + Send + Sync + 'static,
+    X: Texts + Send + Sync + 'static,
+    W: Write,
+    E: Write,
+>(
+    rt: &(impl Wait + Threads + Clock + Clone + Drop + Send + Sync + AllocGlobal + 'static),
+    disk: S,
+    texts: X,
+    threads: &str,
+    words: &[&str],
+    on_terminal: bool,
+    out: &mut W,
+    err: &mut E,
+) -> u8 {
+    match words_of(rt.alloc(), threads, words) {
+        Ok(words) => run(
+            rt,
+            rt.alloc(),
+            disk,
+            texts,
+            words.as_slice(),
+            on_terminal,
+            out,
+            err,
+        ),
+        Err(AllocError) => 255,
+    }
+}
+
 /// Runs a call over a disk, and returns the status. 255 if memory runs out before.
 pub(crate) fn called<
     S: FileSystem + Send + Sync + 'static,
@@ -59,10 +90,7 @@ pub(crate) fn called<
     out: &mut W,
     err: &mut E,
 ) -> u8 {
-    match words_of(rt.alloc(), threads, words) {
-        Ok(words) => run(rt, rt.alloc(), disk, texts, words.as_slice(), false, out, err),
-        Err(AllocError) => 255,
-    }
+    called_on(rt, disk, texts, threads, words, false, out, err)
 }
 
 /// Returns whether a call over a disk has this outcome.
