@@ -1,5 +1,5 @@
 -- What is known of a pattern once some of its characters were read.
-use Rattle.std.proofs.Common.{◌≡◌, ◌∙◌, ℕ, Bool, true, false, ◌||◌, List, [], length, chars, ap, refl}
+use Rattle.std.proofs.Common.{◌≡◌, ◌∙◌, ℕ, Bool, true, false, ◌||◌, List, length, chars, refl}
 use Rattle.std.proofs.StrCases.{chars_of_empty}
 use Rattle.seek_filter.specs.declared.case.Read.{Read}
 use Rattle.seek_filter.specs.Case.{has_with}

@@ -1,5 +1,5 @@
 -- Which joined paths are absolute.
-use Rattle.std.proofs.Common.{◌≡◌, ◌∙◌, ℕ, Bool, true, false, ◌||◌, List, [], ◌∷◌, ◌++◌, ◌==◌, if◌then◌else◌, ap, refl}
+use Rattle.std.proofs.Common.{◌≡◌, ◌∙◌, ℕ, Bool, true, false, ◌||◌, List, [], ◌∷◌, ◌++◌, ◌==◌, if◌then◌else◌, refl}
 use Rattle.walk_model.specs.Paths.{slash, join, starts_with_slash, with_slash}
 
 or_true : (b : Bool) → true ≡ (b || true)

@@ -33,11 +33,7 @@ pub fn without_here(folder: &str) -> &str
 }
 
 /// Puts the path of a name in a folder behind these bytes.
-fn push_path<A: Allocator>(
-    folder: &str,
-    name: &str,
-    out: &mut Vec<u8, A>,
-) -> Result<(), AllocError>
+fn push_path<A: Allocator>(folder: &str, name: &str, out: &mut Vec<u8, A>) -> Result<(), AllocError>
     ensures { OnOk result (out.new.items ≡ out.old.items ++ join folder.now name.now) }
 {
     let (front, slash, name) = join_parts(folder, name);

@@ -1,5 +1,5 @@
 -- What options were given.
-use Rattle.std.proofs.Common.{◌≡◌, ℕ, ◌^◌, List, [], map, Option, None, Some, Result, Ok, Err, unwrap_or, option_map, refl, sym, ◌∙◌, ap, Bor}
+use Rattle.std.proofs.Common.{◌≡◌, ℕ, List, [], map, Option, None, Some, Result, Ok, Err, unwrap_or, option_map, refl, sym, ◌∙◌, ap, Bor}
 use Rattle.std.specs.Str.Parse.{ParsesUnsigned}
 use Rattle.clap.specs.Words.{ReadsOne}
 use Rattle.seek_words.specs.Asks.{IsNumberOf, texts_of}

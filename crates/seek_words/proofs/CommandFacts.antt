@@ -1,5 +1,5 @@
 -- Arguments of a command, added one after another.
-use Rattle.std.proofs.Common.{◌≡◌, ◌∙◌, Bool, true, false, Option, None, Some, ap, ap₂, refl}
+use Rattle.std.proofs.Common.{◌≡◌, ◌∙◌, true, false, Option, None, Some, ap, ap₂, refl}
 use Rattle.std.specs.Prelude.{is_some, option_map}
 use Rattle.clap.specs.Faults.{is_simple_and_free}
 use Rattle.clap.specs.Simple.{with_rule}

@@ -1,5 +1,5 @@
 -- What words ask for, by the values that options were given.
-use Rattle.std.specs.Prelude.{◌≡◌, ℕ, ◌<◌, ◌^◌, ◌==◌, Bool, true, false, ◌||◌, nat_lt, List, [], ◌∷◌, map, bytes_eq, codes, Option, Some, None, unwrap_or, SomeIff, if◌then◌else◌}
+use Rattle.std.specs.Prelude.{◌≡◌, ℕ, ◌<◌, ◌^◌, ◌==◌, Bool, ◌||◌, nat_lt, List, [], map, bytes_eq, codes, Option, Some, None, unwrap_or, SomeIff, if◌then◌else◌}
 use Rattle.std.specs.Borrow.{Bor}
 use Rattle.std.specs.List.{list_any}
 use Rattle.std.specs.Str.Parse.{IsNumeral, digits_value, without_leading_plus}

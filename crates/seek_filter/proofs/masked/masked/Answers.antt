@@ -19,11 +19,10 @@ loop-next-preserved g c =
     let old = string_bytes c.loop-next.shown in
     let left = shown_chars (chars (chars_rest c.next.new.self)) in
     let pushed : string_bytes c.push.new.self ≡ old ++ encode_utf8 (shown_char c.in-Some.next)
-    = (rw c.in_ok-push.was at c.push.ensures.bytes) ∙ ap (λ ch. old ++ encode_utf8 ch) c.shown_char.ensures in
-    (
+    = (rw c.in_ok-push.was at c.push.ensures.bytes) ∙ ap (λ ch. old ++ encode_utf8 ch) c.shown_char.ensures in (
       IsUtf8-past_char _ _ c.in-Some.next held.0 parts,
       ap (λ l. l ++ left) pushed ∙ append_assoc old (encode_utf8 (shown_char c.in-Some.next)) left
-      ∙ ap (λ l. old ++ l) (sym (ap shown_chars step)) ∙ held.1,
+          ∙ ap (λ l. old ++ l) (sym (ap shown_chars step)) ∙ held.1,
     )
 
 pub returns : goal.returns

@@ -1,6 +1,6 @@
-use Rattle.std.proofs.Common.{subst, sym, ◌∙◌}
+use Rattle.std.proofs.Common.{subst}
 use Rattle.std.specs.Str.Parse.{ParsesUnsigned, ExplainsUnsignedError, HasUnsignedDigitsIfOk}
-use Rattle.clap.specs.Words.{found_of, one_of, rows_of}
+use Rattle.clap.specs.Words.{found_of}
 use Rattle.clap.proofs.WalkLemmas.{one_text-rows}
 use Rattle.seek_words.specs.Asks.{IsNumberOf}
 use Rattle.seek_words.proofs.AsksFacts.{number_read}

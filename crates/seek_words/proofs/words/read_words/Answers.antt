@@ -1,8 +1,6 @@
 use Rattle.std.proofs.Common.{◌≡◌, ◌∙◌, ap, false, sym, subst, rules}
 use Rattle.std.specs.Prelude.{is_some}
-use Rattle.std.specs.List.{list_any}
-use Rattle.clap.specs.Words.{Row}
-use Rattle.seek_words.specs.Asks.{Asks, is_slash}
+use Rattle.seek_words.specs.Asks.{Asks}
 use Rattle.seek_words.specs.Conflict.{has_conflict}
 use Rattle.seek_words.proofs.words.read_words.Goals.{else-not-asked-via-then-not-asked+else-has_slash, else-not-asked-via-else-not-asked}
 use Rattle.seek_words.proofs.words.read_words.Goals as goal
