@@ -2,11 +2,9 @@
 use Rattle.std.proofs.Common.{◌≡◌, ◌∙◌, ℕ, Bool, true, List, [], map, Option, None, Some, Ok, Err, ap, refl, sym}
 use Rattle.std.specs.List.{filter}
 use Rattle.jwalk.specs.walk_model.Entry.{Item}
-use Rattle.jwalk.specs.walk_model.Job.{KeepsDepthsOf}
 use Rattle.jwalk.specs.walk_model.ReadDir.{Reading}
-use Rattle.jwalk.specs.walk_model.Counted.{Worth, item_by, reading_by}
+use Rattle.jwalk.specs.walk_model.Counted.{Worth}
 use Rattle.jwalk.specs.read_parts.Given.{Given, counted_item, counted_reading}
-use Rattle.jwalk_ignore.specs.MadeDepths.{filter_at}
 use Rattle.jwalk_ignore.specs.Pattern.{Pattern}
 use Rattle.jwalk_ignore.proofs.ListFacts.{filter_by, filter_none}
 use Rattle.seek_run.specs.Excluding.{Excluded, excluding, is_included, place_of}
@@ -39,8 +37,3 @@ module _ {R E : Type 0} (given : Given R E) where
       let own = is_included {R = R} {E = E} excluded.patterns (place_of excluded.root_len path) in
       let left : List (Item Worth Worth) → Reading Worth Worth = λ l. record { state = given.read_dir_state state; list = l } in
       ap left (filter_by (counted_item given) test own (included_by excluded.patterns (place_of excluded.root_len path)) list)
-
--- Depths stay.
-pub excluding-KeepsDepthsOf : {R E : Type 0} (excluded : Excluded) → KeepsDepthsOf {R = R} {E = E} (excluding excluded)
-excluding-KeepsDepthsOf excluded None path state list h = h
-excluding-KeepsDepthsOf excluded (Some depth) path state list h = filter_at _ (is_included excluded.patterns (place_of excluded.root_len path)) list h

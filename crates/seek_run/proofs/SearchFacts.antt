@@ -1,41 +1,32 @@
 -- What searches go over.
-use Rattle.std.proofs.Common.{◌≡◌, ◌∙◌, ℕ, Bool, true, false, List, ap, refl, sym}
+use Rattle.std.proofs.Common.{◌≡◌, ◌∙◌, ℕ, Bool, true, false, List, Option, ap, ap₂, refl, sym}
 use Rattle.jwalk.specs.walk_model.Counted.{Worth, blank}
 use Rattle.jwalk.specs.walk_model.Entry.{Item}
 use Rattle.jwalk.specs.walk_model.FileSystem.{Functions}
 use Rattle.jwalk.specs.walk_model.Job.{Processing}
 use Rattle.jwalk.specs.walk_model.Options.{Options, with_skip_hidden}
 use Rattle.jwalk.specs.walk_model.Walk.{whole_walk}
-use Rattle.jwalk.specs.read_parts.Given.{Given}
-use Rattle.jwalk_ignore.specs.Given.{ignoring-KeepsDepthsOf, rules_alone}
-use Rattle.jwalk_ignore.specs.IgnoreViews.{ignoring}
+use Rattle.jwalk_ignore.specs.IgnoreViews.{ignoring, Ignores}
 use Rattle.jwalk_ignore.specs.Texts.{Texts}
-use Rattle.jwalk_ignore.specs.declared.chain.Chain.{Chain}
 use Rattle.jwalk_ignore.specs.declared.settings.Settings.{Settings}
 use Rattle.seek_walk.specs.Options.{with_crew}
-use Rattle.seek_run.specs.Excluding.{Excluded, excluding}
-use Rattle.seek_run.specs.Search.{job_with}
-use Rattle.seek_run.proofs.ExcludingFacts.{excluding-KeepsDepthsOf}
+use Rattle.seek_run.specs.Excluding.{Excluded, Excludes, excluding, excluding-KeepsDepthsOf}
+use Rattle.seek_run.specs.Search.{given_kept, job_with}
 
--- what is given of walks without ignore files: states count as nothing
-abbrev pub given_all : {R E : Type 0} → Excluded → Given R E
-given_all excluded = record {
-  read_dir_state = λ _. blank;
-  dir_entry_state = λ _. blank;
-  processed = excluding excluded;
-  keeps_depths = excluding-KeepsDepthsOf excluded;
-  new_entry = blank;
-}
-
--- and of walks that honour them: states of directories count as the rules in force
-abbrev pub given_kept : {A B E : Type 0} → Settings → Texts → Excluded → Given (Chain A × B) E
-given_kept settings texts excluded = record {
-  read_dir_state = rules_alone;
-  dir_entry_state = λ _. blank;
-  processed = ignoring settings texts (excluding excluded);
-  keeps_depths = ignoring-KeepsDepthsOf settings texts (excluding excluded) (excluding-KeepsDepthsOf excluded);
-  new_entry = blank;
-}
+-- the callback of ignore files with lines behind it makes of lists what is given
+pub ignores_kept : {A B E : Type 0} {fixed : Type 0} {texts texts' : Texts} {settings settings' : Settings} {excluded excluded' : Excluded}
+    → fixed → texts' ≡ texts → settings' ≡ settings → excluded' ≡ excluded
+    → Ignores {A = A} {B = B} {E = E} fixed texts' settings' (λ given. Excludes excluded' given) (given_kept settings texts excluded)
+ignores_kept {texts} {texts'} {settings} {settings'} {excluded} {excluded'} told texts_are settings_are lines_are = (
+  told,
+  (λ state. blank),
+  (λ chain state. refl),
+  excluding excluded,
+  excluding-KeepsDepthsOf excluded,
+  (λ (depth : Option ℕ) (path : List ℕ) (state : Worth) (list : List (Item Worth Worth)). ap (λ (x : Excluded). excluding x depth path state list) (sym lines_are)),
+  (λ (depth : Option ℕ) (path : List ℕ) (state : Worth) (list : List (Item Worth Worth)).
+      ap₂ (λ (s : Settings) (t : Texts). ignoring s t (excluding excluded) depth path state list) (sym settings_are) (sym texts_are)),
+)
 
 module _ (processed : Processing Worth Worth) where
   -- what a walk yields goes by its file system, its options, its root and its state

@@ -3,11 +3,12 @@ use Rattle.std.specs.Prelude.{◌≡◌, ℕ, Bool, true, not, List, [], ◌∷�
 use Rattle.std.specs.List.{filter}
 use Rattle.jwalk.specs.walk_model.Entry.{Item}
 use Rattle.jwalk.specs.walk_model.FileType.{is_dir}
-use Rattle.jwalk.specs.walk_model.Job.{Processing}
+use Rattle.jwalk.specs.walk_model.Job.{KeepsDepthsOf, Processing}
 use Rattle.jwalk.specs.walk_model.Counted.{Worth}
 use Rattle.jwalk.specs.read_parts.Given.{Given}
 use Rattle.jwalk_ignore.specs.Chain.{is_ignored}
 use Rattle.jwalk_ignore.specs.Line.{patterns_of}
+use Rattle.jwalk_ignore.specs.MadeDepths.{filter_at}
 use Rattle.jwalk_ignore.specs.Matching.{patterns_say}
 use Rattle.jwalk_ignore.specs.Pattern.{Pattern}
 use Rattle.jwalk_ignore.specs.PatternText.{without_first_slash}
@@ -59,3 +60,8 @@ excluding excluded (Some depth) path state list =
 abbrev pub Excludes : {R E : Type 0} → Excluded → Given R E → Type 0
 Excludes excluded given =
     (depth : Option ℕ) (path : List ℕ) (state : Worth) (list : List (Item Worth Worth)) → given.processed depth path state list ≡ excluding excluded depth path state list
+
+-- Depths stay.
+pub excluding-KeepsDepthsOf : {R E : Type 0} (excluded : Excluded) → KeepsDepthsOf {R = R} {E = E} (excluding excluded)
+excluding-KeepsDepthsOf excluded None path state list h = h
+excluding-KeepsDepthsOf excluded (Some depth) path state list h = filter_at _ (is_included excluded.patterns (place_of excluded.root_len path)) list h

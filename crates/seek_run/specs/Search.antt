@@ -8,9 +8,11 @@ use Rattle.jwalk.specs.walk_model.Job.{Job, Processing}
 use Rattle.jwalk.specs.walk_model.Options.{Options, with_skip_hidden}
 use Rattle.jwalk.specs.walk_model.Paths.{join, dot}
 use Rattle.jwalk.specs.walk_model.Walk.{whole_walk}
-use Rattle.jwalk_ignore.specs.Given.{no_rules_yet}
+use Rattle.jwalk.specs.read_parts.Given.{Given}
+use Rattle.jwalk_ignore.specs.Given.{ignoring-KeepsDepthsOf, no_rules_yet, rules_alone}
 use Rattle.jwalk_ignore.specs.IgnoreViews.{ignoring}
 use Rattle.jwalk_ignore.specs.Texts.{Texts}
+use Rattle.jwalk_ignore.specs.declared.chain.Chain.{Chain}
 use Rattle.jwalk_ignore.specs.declared.settings.Settings.{Settings}
 use Rattle.seek_filter.specs.Sought.{Sought}
 use Rattle.seek_filter.specs.declared.paths.Style.{Style}
@@ -18,7 +20,7 @@ use Rattle.seek_walk.specs.Options.{options_for}
 use Rattle.seek_walk.specs.declared.options.WalkOptions.{WalkOptions}
 use Rattle.seek_words.specs.Asks.{texts_of}
 use Rattle.seek_words.specs.declared.asked.Asked.{Asked}
-use Rattle.seek_run.specs.Excluding.{Excluded, excluded_by, excluding}
+use Rattle.seek_run.specs.Excluding.{Excluded, excluded_by, excluding, excluding-KeepsDepthsOf}
 
 -- what is asked of walks
 abbrev pub walk_options : Asked → WalkOptions
@@ -36,6 +38,26 @@ settings_asked asked = record { keeps_hidden = asked.hidden; anywhere = false }
 abbrev pub job_with : Functions → Options → Processing Worth Worth → Job Worth Worth
 job_with fs options processed = record { fs = fs; options = options; processed = processed; default = blank }
 
+-- what is given of walks without ignore files: states count as nothing
+abbrev pub given_all : {R E : Type 0} → Excluded → Given R E
+given_all excluded = record {
+  read_dir_state = λ _. blank;
+  dir_entry_state = λ _. blank;
+  processed = excluding excluded;
+  keeps_depths = excluding-KeepsDepthsOf excluded;
+  new_entry = blank;
+}
+
+-- and of walks that honour them: states of directories count as the rules in force
+abbrev pub given_kept : {A B E : Type 0} → Settings → Texts → Excluded → Given (Chain A × B) E
+given_kept settings texts excluded = record {
+  read_dir_state = rules_alone;
+  dir_entry_state = λ _. blank;
+  processed = ignoring settings texts (excluding excluded);
+  keeps_depths = ignoring-KeepsDepthsOf settings texts (excluding excluded) (excluding-KeepsDepthsOf excluded);
+  new_entry = blank;
+}
+
 -- all that a walk yields without ignore files, below a root
 abbrev pub all_below : Functions → Asked → Excluded → List ℕ → List (Item Worth Worth)
 all_below fs asked excluded root = whole_walk (job_with fs (options_asked asked) (excluding excluded)) root blank
@@ -45,11 +67,14 @@ abbrev pub kept_below : Functions → Texts → Asked → Excluded → List ℕ 
 kept_below fs texts asked excluded root =
     whole_walk (job_with fs (with_skip_hidden false (options_asked asked)) (ignoring (settings_asked asked) texts (excluding excluded))) root no_rules_yet
 
+-- what is left out below a root
+abbrev pub excluded_asked : Asked → List ℕ → Excluded
+excluded_asked asked root = excluded_by (texts_of asked.excludes.items) root
+
 -- all that is gone over below a root
 abbrev pub yielded_below : Functions → Texts → Asked → List ℕ → List (Item Worth Worth)
 yielded_below fs texts asked root =
-    let excluded = excluded_by (texts_of asked.excludes.items) root in
-    if asked.no_ignore then all_below fs asked excluded root else kept_below fs texts asked excluded root
+    if asked.no_ignore then all_below fs asked (excluded_asked asked root) root else kept_below fs texts asked (excluded_asked asked root) root
 
 -- the roots: the folder that the program runs in, if none is named
 abbrev pub roots_asked : Asked → List (List ℕ)

@@ -82,12 +82,7 @@ fn is_included<C: ClientState, A: Allocator + Copy>(
     ensures place { OnOk result (place.new.items ≡ place.old.items) }
 {
     match found {
-        Ok(entry) => Ok(!ignores(
-            rules,
-            place,
-            entry.file_name(),
-            entry.file_type().is_dir(),
-        )?),
+        Ok(entry) => Ok(!ignores(rules, place, entry.file_name(), entry.file_type().is_dir())?),
         Err(_) => Ok(true),
     }
 }

@@ -90,11 +90,7 @@ impl Glob {
         ensures { IfOk result (λ yes. yes ≡ glob_takes (glob_value self.now) text.now is_dir) }
     {
         memory.clear();
-        push_folded(
-            self.folds,
-            without_first_slash(text.as_bytes()),
-            memory,
-        )?;
+        push_folded(self.folds, without_first_slash(text.as_bytes()), memory)?;
         Ok(matches(&self.pattern, memory.as_slice(), is_dir))
     }
 }

@@ -1,5 +1,5 @@
 //! A call of the program.
-ghost use Rattle.std.specs.Prelude.{◌≡◌, ◌≤◌, ◌⊎◌, true, map, string_bytes, Ok, IfOk};
+ghost use Rattle.std.specs.Prelude.{◌≡◌, ◌≤◌, ◌⊎◌, true, flat_map, map, string_bytes, Ok, IfOk};
 ghost use Rattle.std.specs.Arc.{arc_value};
 ghost use Rattle.std.specs.Io.KnownBytes.{append_known};
 ghost use Rattle.std.specs.Option.{option_map};
@@ -7,9 +7,10 @@ ghost use Rattle.seek_filter.specs.Filter.{sought_of};
 ghost use Rattle.seek_filter.specs.Lines.{style_of as style_in, gathered_of};
 ghost use Rattle.seek_filter.specs.Subject.{front_of};
 ghost use Rattle.seek_walk.specs.Found.{PrintsClean};
+ghost use Rattle.seek_words.specs.Asks.{texts_of};
 ghost use Rattle.seek_words.specs.Refusal.{status_of as status_for};
 ghost use Rattle.seek_run.specs.Run.{AskForText, PrintsAsked, Searches};
-ghost use Rattle.seek_run.specs.Search.{front_asked, sought_asked, style_asked, yielded_by};
+ghost use Rattle.seek_run.specs.Search.{front_asked, sought_asked, style_asked, yielded_below, yielded_by};
 ghost use Rattle.seek_run.specs.Sought.{takes_by};
 ghost use Rattle.seek_run.specs.SoughtTest.{takes_of};
 
@@ -95,6 +96,35 @@ fn style_of(on_terminal: bool, asked: &Asked<'_>) -> Style
     }
 }
 
+/// Searches below each of these roots. Returns whether there was no error.
+fn search_each<
+    T: Wait + Threads + Clock + Clone + Drop + Send + Sync + 'static,
+    S: FileSystem + Send + Sync + 'static,
+    X: Texts + Send + Sync + 'static,
+    W: Write,
+    E: Write,
+>(
+    alloc: Global,
+    search: &Search<'_, '_, T, S, X>,
+    roots: &[&str],
+    printer: &mut Printer<'_, SoughtTest<'_>>,
+    out: &mut W,
+    err: &mut E,
+) -> Result<bool, Halt>
+    ensures { IfOk result (λ clean. clean ≡ true → S.IsFixed (arc_value search.now.disk)
+        → X.IsFixed (arc_value search.now.texts) → PrintsClean
+        (flat_map (yielded_below (S.functions (arc_value search.now.disk)) (X.functions (arc_value search.now.texts)) search.now.asked.now)
+        (texts_of roots.now)) (sought_of takes_of printer.old.filter) (style_in printer.old.lines)
+        (append_known (W.contents out.old) (gathered_of printer.old.lines))
+        (append_known (W.contents out.new) (gathered_of printer.new.lines))) }
+{
+    let mut clean = true;
+    for root in roots {
+        clean &= search.below(alloc, root, printer, out, err)?;
+    }
+    Ok(clean)
+}
+
 /// Searches below all roots that are asked for. Returns whether there was no error.
 fn search_roots<
     T: Wait + Threads + Clock + Clone + Drop + Send + Sync + 'static,
@@ -109,21 +139,18 @@ fn search_roots<
     out: &mut W,
     err: &mut E,
 ) -> Result<bool, Halt>
-    ensures whole { IfOk result (λ clean. clean ≡ true → S.IsFixed (arc_value search.now.disk)
+    ensures { IfOk result (λ clean. clean ≡ true → S.IsFixed (arc_value search.now.disk)
         → X.IsFixed (arc_value search.now.texts) → PrintsClean
         (yielded_by (S.functions (arc_value search.now.disk)) (X.functions (arc_value search.now.texts)) search.now.asked.now)
         (sought_of takes_of printer.old.filter) (style_in printer.old.lines)
         (append_known (W.contents out.old) (gathered_of printer.old.lines))
         (append_known (W.contents out.new) (gathered_of printer.new.lines))) }
 {
-    if search.asked.roots.is_empty() {
-        return search.below(alloc, ".", &mut *printer, out, err);
+    let roots = search.asked.roots.as_slice();
+    if roots.is_empty() {
+        return search.below(alloc, ".", printer, out, err);
     }
-    let mut clean = true;
-    for root in search.asked.roots.as_slice() {
-        clean &= search.below(alloc, root, &mut *printer, out, err)?;
-    }
-    Ok(clean)
+    search_each(alloc, search, roots, printer, out, err)
 }
 
 /// Searches as is asked for. Returns whether there was no error.

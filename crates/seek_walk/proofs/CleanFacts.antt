@@ -1,5 +1,5 @@
 -- What is printed of answers, one list after another.
-use Rattle.std.proofs.Common.{◌≡◌, ◌∙◌, ℕ, Bool, true, false, ◌&&◌, List, [], ◌∷◌, ◌++◌, Option, None, Some, append_assoc, append-nil, ap, ap₂, refl, sym}
+use Rattle.std.proofs.Common.{◌≡◌, ◌∙◌, ℕ, Bool, true, false, ◌&&◌, List, [], ◌∷◌, ◌++◌, Option, None, Some, append_assoc, append-nil, ap, ap₂, refl, subst, sym}
 use Rattle.std.specs.List.{list_all}
 use Rattle.std.specs.Io.KnownBytes.{Appends, append_known}
 use Rattle.std.proofs.lemmas.Grind.{flat_map-append}
@@ -37,3 +37,10 @@ module _ {R E : Type 0} (sought : Sought) (style : Style) where
     lines = rw (flat_map-append (found_line sought style) xs ys) (appends_then a b c (found_lines sought style xs) (found_lines sought style ys) first.lines second.lines);
     clean = all_seam xs ys ∙ ap₂ (λ p q. p && q) first.clean second.clean;
   }
+
+-- the same answers
+pub printed_as : {R E : Type 0} {xs ys : List (Item R E)} {sought : Sought} {style : Style} {old new : Option (List ℕ)} → xs ≡ ys → PrintsClean xs sought style old new → PrintsClean ys sought style old new
+printed_as {xs} {ys} {sought} {style} {old} {new} is printed = record {
+  lines = subst (λ l. Appends old new (found_lines sought style l)) is printed.lines;
+  clean = ap (list_all is_clean) (sym is) ∙ printed.clean;
+}

@@ -1,7 +1,6 @@
 //! What a walk yields, filtered and printed.
 #![tactic(auto)]
 
-pub mod begun;
 pub mod found;
 pub mod options;
 pub mod printer;

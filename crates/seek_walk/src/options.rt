@@ -35,25 +35,24 @@ impl WalkOptions {
     ///
     /// If memory runs out.
     pub fn walk_of<
-        't,
         C: ClientState,
         T: Wait + Threads + Clock + Clone + Drop,
         S: FileSystem,
         A: Allocator + Copy,
     >(
         self,
-        rt: &'t T,
+        rt: &T,
         fs: S,
         root: String<A>,
         crew: &Option<Arc<Crew<T>, A>>,
-    ) -> Result<WalkDirGeneric<C, S, NoProcess, A, OnThreads<&'t T>, Crew<T>>, AllocError>
+    ) -> Result<WalkDirGeneric<C, S, NoProcess, A, OnThreads<T>, Crew<T>>, AllocError>
         ensures file_system { IfOk result (λ walk. file_system_of walk ≡ fs) }
         ensures root { IfOk result (λ walk. root_of walk ≡ string_bytes root) }
         ensures state { IfOk result (λ walk. C.ReadDirState.is_default (state_of walk)) }
         ensures options { IfOk result (λ walk. options_of walk ≡ options_for self (is_some crew.now)) }
     {
         let mut walk = WalkDirGeneric::with_crew(fs, root)
-            .threads(rt)
+            .threads(rt.clone()?)
             .sort(self.sort)
             .skip_hidden(!self.hidden)
             .follow_links(self.follow);
