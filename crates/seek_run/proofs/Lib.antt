@@ -2,3 +2,4 @@ pub mod GlobFacts
 pub mod ExcludingFacts
 pub mod SearchFacts
 pub mod RunFacts
+pub mod EndFacts

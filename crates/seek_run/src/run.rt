@@ -1,5 +1,5 @@
 //! A call of the program.
-ghost use Rattle.std.specs.Prelude.{◌≡◌, ◌≤◌, ◌⊎◌, true, flat_map, map, string_bytes, Ok, IfOk};
+ghost use Rattle.std.specs.Prelude.{◌≡◌, ◌≤◌, ◌⊎◌, ℕ, Some, true, flat_map, map, string_bytes, Ok, IfOk};
 ghost use Rattle.std.specs.Arc.{arc_value};
 ghost use Rattle.std.specs.Io.KnownBytes.{append_known};
 ghost use Rattle.std.specs.Option.{option_map};
@@ -37,7 +37,9 @@ use std::thread::{Threads, available_parallelism};
 use std::time::Clock;
 
 /// Returns how many threads read: as many as are asked for, or as can run at a time.
-fn threads_of<T: Threads>(rt: &T, asked: &Asked<'_>) -> usize {
+fn threads_of<T: Threads>(rt: &T, asked: &Asked<'_>) -> usize
+    ensures { (threads : ℕ) → asked.now.threads ≡ Some threads → result ≡ threads }
+{
     match asked.threads {
         Some(threads) => threads,
         None => match available_parallelism(rt) {
