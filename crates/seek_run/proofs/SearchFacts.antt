@@ -14,10 +14,10 @@ use Rattle.seek_run.specs.Excluding.{Excluded, Excludes, excluding, excluding-Ke
 use Rattle.seek_run.specs.Search.{given_kept, job_with}
 
 -- the callback of ignore files with lines behind it makes of lists what is given
-pub ignores_kept : {A B E : Type 0} {fixed : Type 0} {texts texts' : Texts} {settings settings' : Settings} {excluded excluded' : Excluded}
+pub ignores_kept : (A B E : Type 0) {fixed : Type 0} {texts texts' : Texts} {settings settings' : Settings} {excluded excluded' : Excluded}
     → fixed → texts' ≡ texts → settings' ≡ settings → excluded' ≡ excluded
     → Ignores {A = A} {B = B} {E = E} fixed texts' settings' (λ given. Excludes excluded' given) (given_kept settings texts excluded)
-ignores_kept {texts} {texts'} {settings} {settings'} {excluded} {excluded'} told texts_are settings_are lines_are = (
+ignores_kept A B E {texts} {texts'} {settings} {settings'} {excluded} {excluded'} told texts_are settings_are lines_are = (
   told,
   (λ state. blank),
   (λ chain state. refl),

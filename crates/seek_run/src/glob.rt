@@ -47,7 +47,6 @@ fn has_mark(text: &[u8]) -> bool
 }
 
 /// Returns whether a pattern matches a path.
-#[tactic(auto, using(crate::proofs::GlobFacts::matches_computed))]
 fn matches(pattern: &Pattern, path: &[u8], is_dir: bool) -> bool
     ensures { result ≡ matches (pattern_value pattern.now) path.now is_dir }
 {

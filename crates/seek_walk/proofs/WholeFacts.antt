@@ -10,7 +10,7 @@ use Rattle.read_parts.specs.Entry.{item}
 use Rattle.read_parts.specs.Given.{Given, counted_item}
 use Rattle.seek_filter.specs.Sought.{Sought}
 use Rattle.seek_filter.specs.declared.paths.Style.{Style}
-use Rattle.seek_walk.specs.Found.{found_line, found_lines, is_clean, PrintsClean, PrintsFound, YieldsWhole}
+use Rattle.seek_walk.specs.Found.{found_line, found_lines, is_clean, PrintsClean}
 
 module _ {R E : Type 0} (given : Given R E) where
   same_line : (sought : Sought) (style : Style) (x : Item R E) → found_line sought style (counted_item given x) ≡ found_line sought style x
@@ -51,9 +51,3 @@ pub clean_entries : {C A R E : Type 0} (xs : List (Result (DirEntry C A R E) (Er
 clean_entries [] clean = refl
 clean_entries (Ok e ∷ xs) clean = clean_entries xs (rest_true (is_clean (item (Ok e))) (list_all is_clean (map item xs)) clean)
 clean_entries (Err f ∷ xs) clean = let no : false ≡ true = clean in absurd (cc)
-
--- what is printed of an iterator's answers, if all are clean, is printed of all that it yields
-pub printed_clean : {S C A R E : Type 0} (steps : S → Option (Result (DirEntry C A R E) (Error A)) → S → Type 0) (answers : S) (given : Given R E) {whole : List (Item Worth Worth)} {sought : Sought} {style : Style} {old new : Option (List ℕ)} {clean : Bool}
-    → YieldsWhole steps answers given whole → clean ≡ true → PrintsFound steps answers sought style old new clean → PrintsClean whole sought style old new
-printed_clean steps answers given {whole} {sought} {style} {old} {new} {clean} yields is prints =
-    printed_whole given sought style old new clean (map item prints.0) whole is prints.2 prints.3 (yields prints.0 prints.1 (clean_entries prints.0 (sym prints.2 ∙ is)))

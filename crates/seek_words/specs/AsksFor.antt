@@ -1,7 +1,8 @@
 -- What the words of a call ask for.
-use Rattle.std.specs.Prelude.{◌≡◌, false, List, []}
+use Rattle.std.specs.Prelude.{◌≡◌, ◌⊎◌, false, List, []}
 use Rattle.std.specs.List.{list_any}
-use Rattle.clap.specs.Words.{App, Kinds, Row, Text, fault_of, matches_of}
+use Rattle.clap.specs.Words.{App, IsAmong, Kinds, Row, Text, fault_of, matches_of}
+use Rattle.clap.specs.declared.error.kind.ErrorKind.TheVariants.{DisplayHelp, DisplayVersion}
 use Rattle.seek_words.specs.Asks.{Asks, is_slash}
 use Rattle.seek_words.specs.Command.{IsSeek}
 use Rattle.seek_words.specs.Conflict.{has_conflict}
@@ -21,3 +22,7 @@ pub record AskFor (words : List Text) (asked : Asked) : Type 0 where
   pub free : has_conflict rows ≡ false
   pub asks : Asks rows asked
   pub slash : asked.full_path ≡ false → list_any is_slash asked.pattern.now ≡ false
+
+-- The words ask for help or for the version.
+abbrev pub AskForText : List Text → Type 0
+AskForText words = (app : App) × IsSeek app × (IsAmong DisplayHelp (fault_of app words) ⊎ IsAmong DisplayVersion (fault_of app words))

@@ -9,7 +9,7 @@ pub loop-root-init : goal.loop-root-init
 loop-root-init g c = record { whole = λ is fixed told. clean_none _ _ _; sought = refl; style = refl }
 
 pub loop-root-preserved : goal.loop-root-preserved
-loop-root-preserved g c = ?
+loop-root-preserved g c = let held = c.loop-root.invariant in ?
 
 pub returns : goal.returns
-returns g c = ?
+returns g c = let held = c.loop-root.invariant in ?

@@ -35,9 +35,9 @@ returns g c = λ fixed told answered drains entries.
     let made = ignoring settings texts (excluding excluded) in
     let over : arc_value (file_system_of walk) ≡ arc_value self.disk = ap arc_value (set.file_system ∙ built.file_system) ∙ c.in_ok-disk.ensures.cases in
     let from : arc_value (texts_in (callback_of walk)) ≡ arc_value self.texts
-    = ap (λ it. arc_value (texts_in it)) set.callback ∙ ap arc_value (c.then-rules.ensures.texts ∙ c.keep_hidden.ensures.texts ∙ c.new.ensures.texts) ∙ c.in_ok-clone.ensures.cases in
+    = ap (λ it. arc_value (texts_in it)) set.callback ∙ ap arc_value (c.then-rules.ensures.texts ∙ c.keep_hidden.ensures.texts ∙ c.new-2.ensures.texts) ∙ c.in_ok-clone.ensures.cases in
     let rules : settings_of (callback_of walk) ≡ settings
-    = ap settings_of set.callback ∙ c.then-rules.ensures.settings ∙ c.keep_hidden.ensures.settings ∙ ap (λ (s : Settings). record s { keeps_hidden = asked.hidden }) c.new.ensures.settings in
+    = ap settings_of set.callback ∙ c.then-rules.ensures.settings ∙ c.keep_hidden.ensures.settings ∙ ap (λ (s : Settings). record s { keeps_hidden = asked.hidden }) c.new-2.ensures.settings in
     let lines : excluded_of (next_of (callback_of walk)) ≡ excluded
     = ap (λ it. excluded_of (next_of it)) set.callback ∙ ap excluded_of c.then-rules.ensures.next
     ∙ c.in_ok-excluding.ensures ∙ ap (λ l. excluded_by (texts_of l) c.args.root.now) c.as_slice.ensures.value in
@@ -48,7 +48,7 @@ returns g c = λ fixed told answered drains entries.
     let steady : IsSteady _ _ _ _ (file_system_of walk) (callback_of walk) given
     = record {
       file_system = subst g.S.FileSystem.IsFixed (sym over) fixed;
-      callback = ignores_kept (subst g.X.Texts.IsFixed (sym from) told) (ap g.X.Texts.functions from) rules lines;
+      callback = ignores_kept _ _ (Unit {0}) (subst g.X.Texts.IsFixed (sym from) told) (ap g.X.Texts.functions from) rules lines;
       clones = λ x y h. ap (λ chain. both (chain_worth chain) blank) h.0;
       default = λ x h. refl;
     } in
