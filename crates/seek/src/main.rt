@@ -1,0 +1,40 @@
+//! Looks for entries by their names: `seek [OPTIONS] [PATTERN] [ROOT..]` prints the path of each, one a line.
+#![tactic(auto)]
+
+use jwalk::file_system::{Patient, RealFs};
+use jwalk_ignore::real_texts::RealTexts;
+use seek_run::run::run;
+use std::io::{IsTerminal, Write};
+use std::process::ExitCode;
+use std::{env, io};
+
+/// The disk, where a directory is opened again after a moment if no descriptor was left; and the files of rules on it.
+type Disk = (Patient<RealFs, HostRuntime>, RealTexts);
+
+/// Returns the words of the call, and the disk.
+fn call_of(rt: &HostRuntime) -> io::Result<(Vec<String>, Disk)> {
+    let words = env::args(rt)?.collect(rt.alloc())?;
+    let disk = Patient::new(RealFs::new(rt.clone()?), rt.clone()?);
+    Ok((words, (disk, RealTexts::new(rt.clone()?))))
+}
+
+fn main(rt: HostRuntime) -> ExitCode {
+    let mut err = rt.stderr();
+    let status = match call_of(&rt) {
+        Ok((words, (disk, texts))) => run(
+            &rt,
+            rt.alloc(),
+            disk,
+            texts,
+            words.as_slice(),
+            rt.stdout().is_terminal(),
+            &mut io::writer(&rt),
+            &mut err,
+        ),
+        Err(error) => {
+            let _ = writeln!(err, "seek: words that can't be read: {error}");
+            2
+        }
+    };
+    ExitCode::from(status)
+}

@@ -1,0 +1,4 @@
+pub mod CaseFacts
+pub mod ExtensionFacts
+pub mod PathFacts
+pub mod MaskedFacts

@@ -1,0 +1,18 @@
+-- Extensions of names.
+use Rattle.std.specs.Prelude.{ℕ, ◌+◌, ◌-◌, ◌==◌, Bool, false, ◌&&◌, ◌||◌, nat_lt, List, [], ◌∷◌, length, drop, map, bytes_eq}
+use Rattle.std.specs.Char.{to_ascii_lowercase}
+use Rattle.std.specs.List.{list_any}
+
+-- whether a text is a dot and an extension, whatever the case of ASCII's letters
+abbrev pub is_dotted : List ℕ → List ℕ → Bool
+is_dotted extension [] = false
+is_dotted extension (c ∷ cs) = c == 46 && bytes_eq (map to_ascii_lowercase cs) (map to_ascii_lowercase extension)
+
+-- whether a name ends with a dot and an extension, and has something in front of them
+abbrev pub has_extension : List ℕ → List ℕ → Bool
+has_extension name extension =
+    nat_lt (length extension + 1) (length name) && is_dotted extension (drop (length name - (length extension + 1)) name)
+
+-- whether a name has one of these extensions, or there are none
+abbrev pub has_one : List ℕ → List (List ℕ) → Bool
+has_one name extensions = (length extensions == 0) || list_any (has_extension name) extensions

@@ -1,0 +1,13 @@
+pub mod Case
+pub mod Depths
+pub mod Kinds
+pub mod Extension
+pub mod Expression
+pub mod Masked
+pub mod Paths
+pub mod Absolute
+pub mod Subject
+pub mod Lines
+pub mod Wanted
+pub mod Sought
+pub mod Filter

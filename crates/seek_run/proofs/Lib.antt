@@ -1,0 +1,5 @@
+pub mod GlobFacts
+pub mod ExcludingFacts
+pub mod SearchFacts
+pub mod RunFacts
+pub mod EndFacts

@@ -1,0 +1,189 @@
+//! A search below roots.
+ghost use Rattle.std.specs.Prelude.{◌≡◌, true, is_some, IfOk};
+ghost use Rattle.std.specs.Arc.{arc_value};
+ghost use Rattle.std.specs.Io.KnownBytes.{append_known};
+ghost use Rattle.seek_filter.specs.Filter.{sought_of};
+ghost use Rattle.seek_filter.specs.Lines.{style_of, gathered_of};
+ghost use Rattle.jwalk.specs.DirEntryIter.{Answers};
+ghost use Rattle.seek_walk.specs.Found.{PrintsClean, YieldsWhole};
+ghost use Rattle.seek_run.specs.Search.{all_below, excluded_asked, given_all, given_kept, kept_below, settings_asked, walk_options, yielded_below};
+ghost use Rattle.seek_run.specs.SoughtTest.{takes_of};
+
+use crate::excluding::Excluding;
+use crate::sought_test::SoughtTest;
+use jwalk::crew::Session;
+use jwalk::file_system::FileSystem;
+use jwalk::read_dir::ProcessReadDir;
+use jwalk::threads::OnThreads;
+use jwalk::{Crew, DirEntryIter, Pool};
+use jwalk_ignore::builder::with_ignore_files;
+use jwalk_ignore::chain::Chain;
+use jwalk_ignore::ignore_files::IgnoreFiles;
+use jwalk_ignore::texts::Texts;
+use seek_filter::halt::Halt;
+use seek_walk::found::print_found;
+use seek_walk::options::WalkOptions;
+use seek_walk::printer::Printer;
+use seek_words::asked::Asked;
+use std::alloc::{AllocError, Global};
+use std::io::Write;
+use std::sync::{Arc, Wait};
+use std::thread::Threads;
+use std::time::Clock;
+
+/// A walk under way over a shared file system, with states, a callback and a crew.
+type Below<T, C, S, P> = DirEntryIter<
+    C,
+    Arc<S>,
+    P,
+    Global,
+    OnThreads<T>,
+    Session<T, C, Arc<S>, P, Global>,
+>;
+
+/// A walk without ignore files.
+type All<T, S> = Below<T, ((), ()), S, Excluding>;
+
+/// A walk that honours them.
+type Kept<T, S, X> = Below<T, ((Chain, ()), ()), S, IgnoreFiles<Arc<X>, Excluding>>;
+
+/// What is asked for, and what it is looked for in.
+#[derive(Drop)]
+pub(crate) struct Search<'a, 'w, T: Drop, S: FileSystem, X: Texts> {
+    pub(crate) rt: &'a T,
+    pub(crate) asked: &'a Asked<'w>,
+    pub(crate) disk: Arc<S>,
+    pub(crate) texts: Arc<X>,
+    pub(crate) crew: Option<Arc<Crew<T>>>,
+}
+
+impl<
+    'a,
+    'w,
+    T: Wait + Threads + Clock + Clone + Drop + Send + Sync + 'static,
+    S: FileSystem + Send + Sync + 'static,
+    X: Texts + Send + Sync + 'static,
+> Search<'a, 'w, T, S, X> {
+    /// Returns what is asked of the walks.
+    fn options(&self) -> WalkOptions
+        ensures { result ≡ walk_options self.now.asked.now }
+    {
+        WalkOptions {
+            sort: self.asked.sort,
+            hidden: self.asked.hidden,
+            follow: self.asked.follow,
+            greatest: self.asked.depths.greatest,
+        }
+    }
+
+    /// Begins the walk below a root without ignore files.
+    fn begin_all(&self, alloc: Global, root: &str) -> Result<All<T, S>, AllocError>
+        ensures { IfOk result (λ it. S.IsFixed (arc_value self.now.disk) → YieldsWhole
+            (Answers ⟦<Arc<S> as FileSystem>⟧ ⟦<Excluding as ProcessReadDir<((), ()), Global>>⟧
+            ⟦<() as Clone>⟧ ⟦<() as Default>⟧
+            ⟦<Session<T, ((), ()), Arc<S>, Excluding, Global> as Pool<((), ()), Arc<S>, Excluding, Global>>⟧)
+            it (given_all (excluded_asked self.now.asked.now root.now))
+            (all_below (S.functions (arc_value self.now.disk)) self.now.asked.now
+            (excluded_asked self.now.asked.now root.now) root.now)) }
+    {
+        let excluding = Excluding::new(alloc, self.asked.excludes.as_slice(), root)?;
+        let root = String::from_str(alloc, root)?;
+        let disk = self.disk.clone()?;
+        let walk = self
+            .options()
+            .walk_of::<((), ()), _, _, _>(self.rt, disk, root, &self.crew)?;
+        Ok(walk.process_read_dir(excluding).into_iter())
+    }
+
+    /// Begins the walk below a root, with its ignore files.
+    fn begin_kept(&self, alloc: Global, root: &str) -> Result<Kept<T, S, X>, AllocError>
+        ensures { IfOk result (λ it. S.IsFixed (arc_value self.now.disk) → X.IsFixed (arc_value self.now.texts) → YieldsWhole
+            (Answers ⟦<Arc<S> as FileSystem>⟧ ⟦<IgnoreFiles<Arc<X>, Excluding> as ProcessReadDir<((Chain, ()), ()), Global>>⟧
+            ⟦<(Chain, ()) as Clone>⟧ ⟦<() as Default>⟧
+            ⟦<Session<T, ((Chain, ()), ()), Arc<S>, IgnoreFiles<Arc<X>, Excluding>, Global> as Pool<((Chain, ()), ()), Arc<S>, IgnoreFiles<Arc<X>, Excluding>, Global>>⟧)
+            it (given_kept (settings_asked self.now.asked.now) (X.functions (arc_value self.now.texts))
+            (excluded_asked self.now.asked.now root.now))
+            (kept_below (S.functions (arc_value self.now.disk)) (X.functions (arc_value self.now.texts)) self.now.asked.now
+            (excluded_asked self.now.asked.now root.now) root.now)) }
+    {
+        let excluding = Excluding::new(alloc, self.asked.excludes.as_slice(), root)?;
+        let rules = IgnoreFiles::new(self.texts.clone()?)
+            .keep_hidden(self.asked.hidden)
+            .then(excluding);
+        let root = String::from_str(alloc, root)?;
+        let disk = self.disk.clone()?;
+        let walk = self
+            .options()
+            .walk_of::<((Chain, ()), ()), _, _, _>(self.rt, disk, root, &self.crew)?;
+        Ok(with_ignore_files(walk, rules).into_iter())
+    }
+
+    /// Searches below a root without ignore files.
+    fn search_all<W: Write, E: Write>(
+        &self,
+        alloc: Global,
+        root: &str,
+        printer: &mut Printer<'_, SoughtTest<'_>>,
+        out: &mut W,
+        err: &mut E,
+    ) -> Result<bool, Halt>
+        ensures whole { IfOk result (λ clean. clean ≡ true → S.IsFixed (arc_value self.now.disk) → PrintsClean
+            (all_below (S.functions (arc_value self.now.disk)) self.now.asked.now
+            (excluded_asked self.now.asked.now root.now) root.now)
+            (sought_of takes_of printer.old.filter) (style_of printer.old.lines)
+            (append_known (W.contents out.old) (gathered_of printer.old.lines))
+            (append_known (W.contents out.new) (gathered_of printer.new.lines))) }
+        ensures sought { sought_of takes_of printer.new.filter ≡ sought_of takes_of printer.old.filter }
+        ensures style { style_of printer.new.lines ≡ style_of printer.old.lines }
+    {
+        let mut answers = self.begin_all(alloc, root)?;
+        print_found(&mut answers, printer, out, err)
+    }
+
+    /// Searches below a root, with its ignore files.
+    fn search_kept<W: Write, E: Write>(
+        &self,
+        alloc: Global,
+        root: &str,
+        printer: &mut Printer<'_, SoughtTest<'_>>,
+        out: &mut W,
+        err: &mut E,
+    ) -> Result<bool, Halt>
+        ensures whole { IfOk result (λ clean. clean ≡ true → S.IsFixed (arc_value self.now.disk)
+            → X.IsFixed (arc_value self.now.texts) → PrintsClean
+            (kept_below (S.functions (arc_value self.now.disk)) (X.functions (arc_value self.now.texts)) self.now.asked.now
+            (excluded_asked self.now.asked.now root.now) root.now)
+            (sought_of takes_of printer.old.filter) (style_of printer.old.lines)
+            (append_known (W.contents out.old) (gathered_of printer.old.lines))
+            (append_known (W.contents out.new) (gathered_of printer.new.lines))) }
+        ensures sought { sought_of takes_of printer.new.filter ≡ sought_of takes_of printer.old.filter }
+        ensures style { style_of printer.new.lines ≡ style_of printer.old.lines }
+    {
+        let mut answers = self.begin_kept(alloc, root)?;
+        print_found(&mut answers, printer, out, err)
+    }
+
+    /// Searches below a root, prints what is found and reports errors. Returns whether there was none.
+    pub(crate) fn below<W: Write, E: Write>(
+        &self,
+        alloc: Global,
+        root: &str,
+        printer: &mut Printer<'_, SoughtTest<'_>>,
+        out: &mut W,
+        err: &mut E,
+    ) -> Result<bool, Halt>
+        ensures whole { IfOk result (λ clean. clean ≡ true → S.IsFixed (arc_value self.now.disk)
+            → X.IsFixed (arc_value self.now.texts) → PrintsClean
+            (yielded_below (S.functions (arc_value self.now.disk)) (X.functions (arc_value self.now.texts)) self.now.asked.now root.now)
+            (sought_of takes_of printer.old.filter) (style_of printer.old.lines)
+            (append_known (W.contents out.old) (gathered_of printer.old.lines))
+            (append_known (W.contents out.new) (gathered_of printer.new.lines))) }
+        ensures sought { sought_of takes_of printer.new.filter ≡ sought_of takes_of printer.old.filter }
+        ensures style { style_of printer.new.lines ≡ style_of printer.old.lines }
+    {
+        if self.asked.no_ignore {
+            return self.search_all(alloc, root, printer, out, err);
+        }
+        self.search_kept(alloc, root, printer, out, err)
+    }
+}

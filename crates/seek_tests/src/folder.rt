@@ -1,0 +1,50 @@
+//! Folders on the disk, made for one test and removed after it.
+use std::os::unix::fs::symlink;
+use std::{env, fs, io, process};
+
+/// One step of filling a folder. Paths begin at the folder.
+#[derive(Clone, Copy)]
+pub(crate) enum Step {
+    Dir(&'static str),
+    /// A file with this text.
+    File(&'static str, &'static str),
+    /// A link: its text, and its path.
+    Link(&'static str, &'static str),
+}
+
+/// The path of something in a folder.
+fn path_in(rt: &HostRuntime, folder: &str, below: &str) -> io::Result<String> {
+    Ok(format!(in rt.alloc(); "{folder}/{below}")?)
+}
+
+fn take(rt: &HostRuntime, folder: &str, step: Step) -> io::Result<()> {
+    match step {
+        Step::Dir(at) => fs::create_dir(rt, path_in(rt, folder, at)?.as_str()),
+        Step::File(text, at) => fs::write(rt, path_in(rt, folder, at)?.as_str(), text),
+        Step::Link(text, at) => symlink(rt, text, path_in(rt, folder, at)?.as_str()),
+    }
+}
+
+/// Removes a folder with all that it holds.
+pub(crate) fn remove(rt: &HostRuntime, folder: &str) -> io::Result<()> {
+    fs::remove_dir_all(rt, folder)
+}
+
+/// The path of a folder of this process for the test of this name.
+fn path_of(rt: &HostRuntime, name: &str) -> io::Result<String> {
+    let all = env::temp_dir(rt)?;
+    let all = all.as_path().as_str();
+    let id = process::id(rt.process());
+    Ok(format!(in rt.alloc(); "{all}/seek_tests_{name}_{id}")?)
+}
+
+/// Makes a folder for the test of this name, and fills it.
+pub(crate) fn make(rt: &HostRuntime, name: &str, steps: &[Step]) -> io::Result<String> {
+    let folder = path_of(rt, name)?;
+    let _ = remove(rt, folder.as_str());
+    fs::create_dir(rt, folder.as_str())?;
+    for step in steps {
+        take(rt, folder.as_str(), *step)?;
+    }
+    Ok(folder)
+}

@@ -1,0 +1,3 @@
+pub mod FoundFacts
+pub mod WholeFacts
+pub mod CleanFacts

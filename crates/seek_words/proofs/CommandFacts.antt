@@ -1,0 +1,28 @@
+-- Arguments of a command, added one after another.
+use Rattle.std.proofs.Common.{◌≡◌, ◌∙◌, true, false, Option, None, Some, ap, ap₂, refl}
+use Rattle.std.specs.Prelude.{is_some, option_map}
+use Rattle.clap.specs.Faults.{is_simple_and_free}
+use Rattle.clap.specs.Simple.{with_rule}
+use Rattle.clap.specs.Words.{AddsArg, App, Rule, app_of, is_simple, rule_of}
+use Rattle.clap.specs.declared.builder.arg.Arg.{Arg}
+use Rattle.clap.specs.declared.builder.command.Command.{Command}
+use Rattle.clap.proofs.OnLiterals.{clap_on_literals}
+use Rattle.seek_words.specs.Command.{IsSeek}
+
+-- one argument more
+pub one_added : {old new : Command} {arg : Arg} {app : App} {rule : Rule} → AddsArg old arg new → arg.global ≡ false → rule_of arg ≡ rule → app_of old ≡ app → app_of new ≡ with_rule app rule
+one_added adds local ruled is = adds.shape local ∙ ap₂ with_rule is ruled
+
+-- the command line is one of which the matches and the faults are defined
+pub seek_simple : (app : App) → IsSeek app → is_simple app ≡ true
+unfolding clap_on_literals
+seek_simple app seek = ap is_simple seek.rules
+
+pub seek_free : (app : App) → IsSeek app → is_simple_and_free app ≡ true
+unfolding clap_on_literals
+seek_free app seek = ap is_simple_and_free seek.rules
+
+-- a view of a value that may be there
+pub some_mapped : {X Y : Type 0} (f : X → Y) (o : Option X) → is_some o ≡ is_some (option_map f o)
+some_mapped f None = refl
+some_mapped f (Some x) = refl

@@ -1,0 +1,70 @@
+-- The statuses of words that ask for no search.
+use Rattle.std.proofs.Common.{◌≡◌, ◌≤◌, ◌⊎◌, ℕ, List, inl, inr, refl, subst, sym, ap, ◌∙◌, arith}
+use Rattle.clap.specs.Words.{App, IsAmong, HasKind, Kinds, Text, fault_of, kind_of}
+use Rattle.clap.specs.declared.error.kind.ErrorKind.{ErrorKind}
+use Rattle.clap.specs.declared.error.kind.ErrorKind.TheVariants.{InvalidValue, UnknownArgument, InvalidSubcommand, NoEquals, ValueValidation, TooManyValues, TooFewValues, WrongNumberOfValues, ArgumentConflict, MissingRequiredArgument, MissingSubcommand, DisplayHelp, DisplayHelpOnMissingArgumentOrSubcommand, DisplayVersion, Io, Format, OutOfMemory}
+use Rattle.seek_words.specs.AsksFor.{AskForText}
+use Rattle.seek_words.specs.Refusal.{IsRefusedFor, status_of}
+use Rattle.seek_words.specs.Status.{status_of_kind}
+use Rattle.seek_words.specs.declared.refusal.Refusal.{Refusal}
+use Rattle.seek_words.specs.declared.refusal.Refusal.TheVariants.{Words, Conflict, Slash, Memory}
+
+-- only help and version end with 0
+zero_kind : (k : ErrorKind) → status_of_kind k ≡ 0 → (k ≡ DisplayHelp) ⊎ (k ≡ DisplayVersion)
+zero_kind InvalidValue is = absurd (cc)
+zero_kind UnknownArgument is = absurd (cc)
+zero_kind InvalidSubcommand is = absurd (cc)
+zero_kind NoEquals is = absurd (cc)
+zero_kind ValueValidation is = absurd (cc)
+zero_kind TooManyValues is = absurd (cc)
+zero_kind TooFewValues is = absurd (cc)
+zero_kind WrongNumberOfValues is = absurd (cc)
+zero_kind ArgumentConflict is = absurd (cc)
+zero_kind MissingRequiredArgument is = absurd (cc)
+zero_kind MissingSubcommand is = absurd (cc)
+zero_kind DisplayHelp is = inl refl
+zero_kind DisplayHelpOnMissingArgumentOrSubcommand is = absurd (cc)
+zero_kind DisplayVersion is = inr refl
+zero_kind Io is = absurd (cc)
+zero_kind Format is = absurd (cc)
+zero_kind OutOfMemory is = absurd (cc)
+
+among_kinds : (k : ErrorKind) (kinds : Kinds) → status_of_kind k ≡ 0 → (k ≡ OutOfMemory) ⊎ IsAmong k kinds → IsAmong DisplayHelp kinds ⊎ IsAmong DisplayVersion kinds
+among_kinds k kinds zero (inl memory) = let one : 1 ≡ 0 = ap status_of_kind (sym memory) ∙ zero in absurd (cc)
+among_kinds k kinds zero (inr among) =
+    elim (zero_kind k zero) [
+      | inl help ↦ inl (subst (λ (x : ErrorKind). IsAmong x kinds) help among)
+      | inr version ↦ inr (subst (λ (x : ErrorKind). IsAmong x kinds) version among)
+    ]
+
+-- words that are refused with 0 ask for help or for the version
+pub asked_for_text : (words : List Text) (refusal : Refusal) → IsRefusedFor words refusal → status_of refusal ≡ 0 → AskForText words
+asked_for_text words (Words error) refused zero = (refused.0, refused.1, among_kinds (kind_of error) (fault_of refused.0 words) zero refused.2)
+asked_for_text words (Conflict one other) refused zero = absurd (cc)
+asked_for_text words (Slash pattern) refused zero = absurd (cc)
+asked_for_text words Memory refused zero = absurd (cc)
+
+kind_most : (k : ErrorKind) → status_of_kind k ≤ 2
+kind_most InvalidValue = omega arith
+kind_most UnknownArgument = omega arith
+kind_most InvalidSubcommand = omega arith
+kind_most NoEquals = omega arith
+kind_most ValueValidation = omega arith
+kind_most TooManyValues = omega arith
+kind_most TooFewValues = omega arith
+kind_most WrongNumberOfValues = omega arith
+kind_most ArgumentConflict = omega arith
+kind_most MissingRequiredArgument = omega arith
+kind_most MissingSubcommand = omega arith
+kind_most DisplayHelp = omega arith
+kind_most DisplayHelpOnMissingArgumentOrSubcommand = omega arith
+kind_most DisplayVersion = omega arith
+kind_most Io = omega arith
+kind_most Format = omega arith
+kind_most OutOfMemory = omega arith
+
+pub refusal_most : (refusal : Refusal) → status_of refusal ≤ 2
+refusal_most (Words error) = kind_most (kind_of error)
+refusal_most (Conflict one other) = omega arith
+refusal_most (Slash pattern) = omega arith
+refusal_most Memory = omega arith

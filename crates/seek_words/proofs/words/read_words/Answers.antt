@@ -1,0 +1,37 @@
+use Rattle.std.proofs.Common.{◌≡◌, ◌∙◌, ap, false, sym, subst, rules}
+use Rattle.std.specs.Prelude.{is_some}
+use Rattle.seek_words.specs.Asks.{Asks}
+use Rattle.seek_words.specs.Conflict.{has_conflict}
+use Rattle.seek_words.proofs.words.read_words.Goals.{else-not-asked-via-then-not-asked+else-has_slash, else-not-asked-via-else-not-asked}
+use Rattle.seek_words.proofs.words.read_words.Goals as goal
+
+pub returns-in-Some-clause-refused : goal.returns-in-Some-clause-refused
+returns-in-Some-clause-refused g c =
+    let read = c.in_ok-found.ensures.read in
+    (read.app, read.is_seek, ap has_conflict (sym read.values) ∙ sym c.conflict_of.ensures ∙ ap is_some c.in-Some.is)
+
+pub returns-then-has_slash-clause-refused : goal.returns-then-has_slash-clause-refused
+returns-then-has_slash-clause-refused g c =
+    let read = c.in_ok-found.ensures.read in
+    let asked = c.in_ok-asked.asked in
+    let by_name : asked.full_path ≡ false = search rules in (
+      read.app,
+      read.is_seek,
+      asked,
+      subst (λ (rows : _). Asks rows asked) read.values c.in_ok-asked.ensures,
+      record { by_name = by_name; slash = sym c.has_slash.ensures ∙ c.if-has_slash.true },
+    )
+
+pub returns-clause-asked : goal.returns-clause-asked
+returns-clause-asked g c =
+    let asked = c.in_ok-asked.asked in
+    record {
+      rows = _;
+      values = c.in_ok-found.ensures.read;
+      free = sym c.conflict_of.ensures ∙ ap is_some c.in_default.is;
+      asks = c.in_ok-asked.ensures;
+      slash = λ by_name. elim c.else-not-asked.branch [
+        | else-not-asked-via-then-not-asked+else-has_slash w ↦ sym w.has_slash.ensures ∙ w.if-has_slash.false
+        | else-not-asked-via-else-not-asked w ↦ absurd (cc (by_name, w.if-not-asked.false))
+      ];
+    }

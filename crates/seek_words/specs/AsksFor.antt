@@ -1,0 +1,28 @@
+-- What the words of a call ask for.
+use Rattle.std.specs.Prelude.{◌≡◌, ◌⊎◌, false, List, []}
+use Rattle.std.specs.List.{list_any}
+use Rattle.clap.specs.Words.{App, IsAmong, Kinds, Row, Text, fault_of, matches_of}
+use Rattle.clap.specs.declared.error.kind.ErrorKind.TheVariants.{DisplayHelp, DisplayVersion}
+use Rattle.seek_words.specs.Asks.{Asks, is_slash}
+use Rattle.seek_words.specs.Command.{IsSeek}
+use Rattle.seek_words.specs.Conflict.{has_conflict}
+use Rattle.seek_words.specs.declared.asked.Asked.{Asked}
+
+-- The words are those of the command line, and give options these values.
+pub record GiveValues (words : List Text) (rows : List Row) : Type 0 where
+  pub app : App
+  pub is_seek : IsSeek app
+  pub good : let faults : Kinds = fault_of app words in faults ≡ []
+  pub values : rows ≡ matches_of app words
+
+-- The words ask for this: they are those of the command line, no two options exclude each other, what is asked for is what the values say, and a pattern for names has no slash.
+pub record AskFor (words : List Text) (asked : Asked) : Type 0 where
+  pub rows : List Row
+  pub values : GiveValues words rows
+  pub free : has_conflict rows ≡ false
+  pub asks : Asks rows asked
+  pub slash : asked.full_path ≡ false → list_any is_slash asked.pattern.now ≡ false
+
+-- The words ask for help or for the version.
+abbrev pub AskForText : List Text → Type 0
+AskForText words = (app : App) × IsSeek app × (IsAmong DisplayHelp (fault_of app words) ⊎ IsAmong DisplayVersion (fault_of app words))

@@ -1,0 +1,40 @@
+//! What a call asks for.
+use seek_filter::case::Case;
+use seek_filter::depths::Depths;
+use seek_filter::kinds::Kinds;
+use std::alloc::Global;
+
+/// What a call asks for.
+#[derive(Drop)]
+pub struct Asked<'w> {
+    /// The pattern, empty if none was named.
+    pub pattern: &'w str,
+    /// The roots. If there are none, it is the folder that the program runs in.
+    pub roots: Vec<&'w str, Global>,
+    /// The pattern is a glob, which takes the whole name.
+    pub glob: bool,
+    /// The pattern is compared with the absolute path.
+    pub full_path: bool,
+    /// Whether the case of letters counts.
+    pub case: Case,
+    /// Hidden names come too.
+    pub hidden: bool,
+    /// No ignore files are read.
+    pub no_ignore: bool,
+    /// Links are followed.
+    pub follow: bool,
+    /// The entries of a directory are in the order of their names.
+    pub sort: bool,
+    /// The depths of what is looked for.
+    pub depths: Depths,
+    /// The types of what is looked for.
+    pub kinds: Kinds,
+    /// The extensions of what is looked for; any, if there are none.
+    pub extensions: Vec<&'w str, Global>,
+    /// Lines of an ignore file, for what is left out.
+    pub excludes: Vec<&'w str, Global>,
+    /// A zero byte is behind each path, in place of a line feed.
+    pub print0: bool,
+    /// How many threads read directories, if that was named.
+    pub threads: Option<usize>,
+}

@@ -1,0 +1,215 @@
+//! What words ask for.
+ghost use Rattle.std.specs.Prelude.{◌≡◌, [], codes, is_some, map, unwrap_or, IfOk, IfErr};
+ghost use Rattle.std.specs.List.{list_any};
+ghost use Rattle.clap.specs.Words.{found_of, rows_of, first_of, one_of};
+ghost use Rattle.seek_words.specs.Asks.{is_named, values_in, texts_of, IsNumberOf, case_in, depths_by, AreDepthsIn, names_one, kinds_in, is_slash, Asks};
+ghost use Rattle.seek_words.specs.AsksFor.{AskFor, GiveValues};
+ghost use Rattle.seek_words.specs.Conflict.{has_conflict, has_value};
+ghost use Rattle.seek_words.specs.Refusal.{IsRefusedFor};
+
+use crate::asked::Asked;
+use crate::command::command;
+use crate::refusal::Refusal;
+use clap::ArgMatches;
+use seek_filter::case::Case;
+use seek_filter::depths::Depths;
+use seek_filter::kinds::Kinds;
+use std::alloc::{AllocError, Global};
+use std::convert::AsStr;
+
+/// Returns whether an option of one word was named.
+fn is_named(found: &ArgMatches<'_>, id: &str) -> bool
+    ensures { result ≡ is_named (rows_of (found_of found.now)) id.now }
+{
+    found.get_count(id) > 0
+}
+
+/// Returns a copy of a list of texts.
+fn copied<'w>(alloc: Global, texts: &[&'w str]) -> Result<Vec<&'w str>, AllocError>
+    ensures { IfOk result (λ copy. copy.items ≡ texts.now) }
+{
+    let mut copy = Vec::new(alloc);
+    copy.extend_from_slice(texts)?;
+    Ok(copy)
+}
+
+/// Returns the values of an option.
+fn values_of<'w>(
+    alloc: Global,
+    found: &ArgMatches<'w>,
+    id: &str,
+) -> Result<Vec<&'w str>, AllocError>
+    ensures { IfOk result (λ values. texts_of values.items ≡ values_in (rows_of (found_of found.now)) id.now) }
+{
+    match found.get_strs(id) {
+        Some(values) => copied(alloc, values),
+        None => Ok(Vec::new(alloc)),
+    }
+}
+
+/// Returns the pattern that is named, or the empty one.
+fn pattern_of<'w>(found: &ArgMatches<'w>) -> &'w str
+    ensures { result.now ≡ unwrap_or (first_of (codes "pattern") (rows_of (found_of found.now))) [] }
+{
+    match found.get_str("pattern") {
+        Some(pattern) => pattern,
+        None => "",
+    }
+}
+
+/// Returns the number that an option has.
+fn number_of(found: &ArgMatches<'_>, id: &str) -> Option<usize>
+    ensures { IsNumberOf (one_of id.now (rows_of (found_of found.now))) result }
+{
+    found.get_one::<usize>(id)
+}
+
+/// Returns whether the case of letters counts.
+fn case_of(found: &ArgMatches<'_>) -> Case
+    ensures { result ≡ case_in (rows_of (found_of found.now)) }
+{
+    if is_named(found, "ignore-case") {
+        Case::Ignored
+    } else if is_named(found, "case-sensitive") {
+        Case::Kept
+    } else {
+        Case::Smart
+    }
+}
+
+/// Returns the depths by an exact one, a least and a greatest.
+fn depths_by(exact: Option<usize>, least: Option<usize>, greatest: Option<usize>) -> Depths
+    ensures { result ≡ depths_by exact least greatest }
+{
+    match exact {
+        Some(depth) => Depths {
+            least: depth,
+            greatest: Some(depth),
+        },
+        None => Depths {
+            least: least.unwrap_or(0),
+            greatest,
+        },
+    }
+}
+
+/// Returns the depths that are named.
+fn depths_of(found: &ArgMatches<'_>) -> Depths
+    ensures { AreDepthsIn (rows_of (found_of found.now)) result }
+{
+    let exact = number_of(found, "exact-depth");
+    let least = number_of(found, "min-depth");
+    let greatest = number_of(found, "max-depth");
+    depths_by(exact, least, greatest)
+}
+
+/// Returns whether one of two names is among these.
+fn names_one(names: &[&str], a: &str, b: &str) -> bool
+    ensures { result ≡ names_one (texts_of names.now) a.now b.now }
+{
+    names.iter().any(|name| *name == a || *name == b)
+}
+
+/// Returns the types of these names.
+fn kinds_of(names: &[&str]) -> Kinds
+    ensures { result ≡ kinds_in (texts_of names.now) }
+{
+    Kinds {
+        file: names_one(names, "f", "file"),
+        dir: names_one(names, "d", "d") || names_one(names, "dir", "directory"),
+        link: names_one(names, "l", "symlink"),
+        other: names_one(names, "o", "other"),
+    }
+}
+
+/// Returns what is asked for by words that were read.
+fn asked_of<'w>(alloc: Global, found: &ArgMatches<'w>) -> Result<Asked<'w>, AllocError>
+    ensures { IfOk result (Asks (rows_of (found_of found.now))) }
+{
+    let roots = values_of(alloc, found, "root")?;
+    let kinds = values_of(alloc, found, "type")?;
+    let extensions = values_of(alloc, found, "extension")?;
+    let excludes = values_of(alloc, found, "exclude")?;
+    Ok(Asked {
+        pattern: pattern_of(found),
+        roots,
+        glob: is_named(found, "glob"),
+        full_path: is_named(found, "full-path"),
+        case: case_of(found),
+        hidden: is_named(found, "hidden"),
+        no_ignore: is_named(found, "no-ignore"),
+        follow: is_named(found, "follow"),
+        sort: is_named(found, "sort"),
+        depths: depths_of(found),
+        kinds: kinds_of(kinds.as_slice()),
+        extensions,
+        excludes,
+        print0: is_named(found, "print0"),
+        threads: number_of(found, "threads"),
+    })
+}
+
+/// Returns whether a text has a slash.
+fn has_slash(text: &str) -> bool
+    ensures { result ≡ list_any is_slash text.now }
+{
+    text.as_bytes().iter().any(|byte| *byte == b'/')
+}
+
+/// Returns whether an option has a value.
+fn has_value(found: &ArgMatches<'_>, id: &str) -> bool
+    ensures { result ≡ has_value (rows_of (found_of found.now)) id.now }
+{
+    found.get_str(id).is_some()
+}
+
+/// Returns two options that were named and exclude each other.
+fn conflict_of(found: &ArgMatches<'_>) -> Option<(&'static str, &'static str)>
+    ensures { is_some result ≡ has_conflict (rows_of (found_of found.now)) }
+{
+    if is_named(found, "ignore-case") && is_named(found, "case-sensitive") {
+        return Some(("ignore-case", "case-sensitive"));
+    }
+    if !has_value(found, "exact-depth") {
+        return None;
+    }
+    if has_value(found, "min-depth") {
+        return Some(("exact-depth", "min-depth"));
+    }
+    if has_value(found, "max-depth") {
+        return Some(("exact-depth", "max-depth"));
+    }
+    None
+}
+
+/// Returns the values that words give to options.
+fn matches_of<'w, S: AsStr>(alloc: Global, words: &'w [S]) -> Result<ArgMatches<'w>, Refusal<'w>>
+    ensures read { IfOk result (λ found. GiveValues (map S.text words.entry.now) (rows_of (found_of found))) }
+    ensures refused { IfErr result (IsRefusedFor (map S.text words.entry.now)) }
+{
+    match command(alloc)?.try_get_matches_from(words) {
+        Ok(found) => Ok(found),
+        Err(error) => Err(Refusal::Words(error)),
+    }
+}
+
+/// Reads the words of a call, of which the first is the program's name.
+///
+/// # Errors
+///
+/// If the words are bad or ask for help or the version; if two options exclude each other; if the pattern has a slash and
+/// isn't compared with paths; or if memory runs out.
+pub fn read_words<'w, S: AsStr>(alloc: Global, words: &'w [S]) -> Result<Asked<'w>, Refusal<'w>>
+    ensures asked { IfOk result (AskFor (map S.text words.entry.now)) }
+    ensures refused { IfErr result (IsRefusedFor (map S.text words.entry.now)) }
+{
+    let found = matches_of(alloc, words)?;
+    if let Some((one, other)) = conflict_of(&found) {
+        return Err(Refusal::Conflict(one, other));
+    }
+    let asked = asked_of(alloc, &found)?;
+    if !asked.full_path && has_slash(asked.pattern) {
+        return Err(Refusal::Slash(asked.pattern));
+    }
+    Ok(asked)
+}
