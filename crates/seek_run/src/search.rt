@@ -14,7 +14,6 @@ use crate::sought_test::SoughtTest;
 use jwalk::crew::Session;
 use jwalk::file_system::FileSystem;
 use jwalk::read_dir::ProcessReadDir;
-use jwalk::threads::OnThreads;
 use jwalk::{Crew, DirEntryIter, Pool};
 use jwalk_ignore::builder::with_ignore_files;
 use jwalk_ignore::chain::Chain;
@@ -32,14 +31,7 @@ use std::thread::Threads;
 use std::time::Clock;
 
 /// A walk under way over a shared file system, with states, a callback and a crew.
-type Below<T, C, S, P> = DirEntryIter<
-    C,
-    Arc<S>,
-    P,
-    Global,
-    OnThreads<T>,
-    Session<T, C, Arc<S>, P, Global>,
->;
+type Below<T, C, S, P> = DirEntryIter<C, Arc<S>, P, Global, Session<T, C, Arc<S>, P, Global>>;
 
 /// A walk without ignore files.
 type All<T, S> = Below<T, ((), ()), S, Excluding>;
@@ -91,7 +83,7 @@ impl<
         let disk = self.disk.clone()?;
         let walk = self
             .options()
-            .walk_of::<((), ()), _, _, _>(self.rt, disk, root, &self.crew)?;
+            .walk_of::<((), ()), _, _, _>(disk, root, &self.crew)?;
         Ok(walk.process_read_dir(excluding).into_iter())
     }
 
@@ -114,7 +106,7 @@ impl<
         let disk = self.disk.clone()?;
         let walk = self
             .options()
-            .walk_of::<((Chain, ()), ()), _, _, _>(self.rt, disk, root, &self.crew)?;
+            .walk_of::<((Chain, ()), ()), _, _, _>(disk, root, &self.crew)?;
         Ok(with_ignore_files(walk, rules).into_iter())
     }
 

@@ -10,13 +10,11 @@ ghost use Rattle.seek_walk.specs.Found.{PrintsFound};
 use crate::printer::Printer;
 use jwalk::file_system::FileSystem;
 use jwalk::read_dir::ProcessReadDir;
-use jwalk::threads::OnThreads;
 use jwalk::{ClientState, DirEntryIter, Pool};
 use seek_filter::halt::Halt;
 use seek_filter::name_test::NameTest;
 use std::alloc::Allocator;
 use std::io::Write;
-use std::thread::Threads;
 
 /// Prints what passes of a walk's answers, and reports the errors. Returns whether there was none.
 ///
@@ -24,24 +22,20 @@ use std::thread::Threads;
 ///
 /// If memory runs out, or if the output can't be written.
 pub fn print_found<
-    R: Threads + Sync + Drop,
     T: NameTest,
     W: Write,
     E: Write,
-    C: ClientState + Send,
-    S: FileSystem + Send + Sync,
-    P: ProcessReadDir<C, A> + Send + Sync,
-    A: Allocator + Copy + Send + Sync,
+    C: ClientState,
+    S: FileSystem,
+    P: ProcessReadDir<C, A>,
+    A: Allocator + Copy,
     L: Pool<C, S, P, A>,
 >(
-    walk: &mut DirEntryIter<C, S, P, A, OnThreads<R>, L>,
+    walk: &mut DirEntryIter<C, S, P, A, L>,
     printer: &mut Printer<'_, T>,
     out: &mut W,
     err: &mut E,
 ) -> Result<bool, Halt>
-where
-    C::ReadDirState: Send,
-    C::DirEntryState: Send,
     requires { P.IsLawful (callback (job_of walk.old)) }
     ensures printed { IfOk result (PrintsFound (Answers S.FileSystem P.ProcessReadDir C.ReadDirState.Clone
         C.DirEntryState.Default L.Pool) walk.old (sought_of T.takes printer.old.filter) (style_of printer.old.lines)

@@ -4,7 +4,6 @@ ghost use Rattle.jwalk.specs.WalkDir.{file_system_of, root_of, state_of, options
 
 use jwalk::file_system::FileSystem;
 use jwalk::read_dir::NoProcess;
-use jwalk::threads::OnThreads;
 use jwalk::{ClientState, Crew, Parallelism, WalkDirGeneric};
 use std::alloc::{AllocError, Allocator};
 use std::sync::{Arc, Wait};
@@ -41,18 +40,16 @@ impl WalkOptions {
         A: Allocator + Copy,
     >(
         self,
-        rt: &T,
         fs: S,
         root: String<A>,
         crew: &Option<Arc<Crew<T>, A>>,
-    ) -> Result<WalkDirGeneric<C, S, NoProcess, A, OnThreads<T>, Crew<T>>, AllocError>
+    ) -> Result<WalkDirGeneric<C, S, NoProcess, A, Crew<T>>, AllocError>
         ensures file_system { IfOk result (λ walk. file_system_of walk ≡ fs) }
         ensures root { IfOk result (λ walk. root_of walk ≡ string_bytes root) }
         ensures state { IfOk result (λ walk. C.ReadDirState.is_default (state_of walk)) }
         ensures options { IfOk result (λ walk. options_of walk ≡ options_for self (is_some crew.now)) }
     {
         let mut walk = WalkDirGeneric::with_crew(fs, root)
-            .threads(rt.clone()?)
             .sort(self.sort)
             .skip_hidden(!self.hidden)
             .follow_links(self.follow);
