@@ -17,8 +17,8 @@ Each random tree is a fresh repository with an empty index and no settings of th
 - those of `fd -H --no-global-ignore-file -E .git -0`, and those of `seek --hidden -0`.
 
 Every second tree is for git alone, which knows no `.ignore`; the others are for rg and fd, and have such files. What rg
-and fd read otherwise than git documents is left out there: a tab at a line's end, two slashes, and three stars. Lists are
-compared as sets, without names that aren't UTF-8, and each difference is printed with its tree.
+and fd read otherwise than git documents is left out there: a tab at a line's end, two slashes, three stars, and classes of
+all other bytes. Lists are compared as sets, without names that aren't UTF-8, and each difference is printed with its tree.
 
 The times are of one warm run after another: each turn runs all programs once, and the least of nine turns counts. The
 second tree has 20,000 directories and 500 ignore files of 20 patterns; it is made in FOLDER, or in a temporary folder.
@@ -72,7 +72,7 @@ def pattern(rng, wide):
     while True:
         text = "".join(rng.choice(PIECES) for _ in range(rng.randint(1, 3)))
         text += "/" if rng.random() < 0.2 else ""
-        if settled(text) and (wide or ("//" not in text and "***" not in text)):
+        if settled(text) and (wide or not any(odd in text for odd in ("//", "***", "[!"))):
             return ("!" if rng.random() < 0.3 else "") + text
 
 

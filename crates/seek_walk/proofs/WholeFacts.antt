@@ -3,7 +3,7 @@ use Rattle.std.proofs.Common.{◌≡◌, ◌∙◌, ℕ, Bool, true, false, ◌&
 use Rattle.std.specs.List.{list_all}
 use Rattle.std.specs.Io.KnownBytes.{Appends}
 use Rattle.walk_model.specs.Counted.{Worth}
-use Rattle.walk_model.specs.Entry.{Entry, Item}
+use Rattle.walk_model.specs.Entry.{Item}
 use Rattle.read_parts.specs.declared.dir_entry.DirEntry.{DirEntry}
 use Rattle.read_parts.specs.declared.error.Error.{Error}
 use Rattle.read_parts.specs.Entry.{item}

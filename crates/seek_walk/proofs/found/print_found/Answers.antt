@@ -1,4 +1,4 @@
-use Rattle.std.proofs.Common.{◌≡◌, ◌∙◌, refl, subst}
+use Rattle.std.proofs.Common.{◌∙◌, refl, subst}
 use Rattle.std.specs.Io.KnownBytes.{Appends, append_known}
 use Rattle.read_parts.specs.Entry.{item}
 use Rattle.jwalk.specs.DirEntryIter.{Answers}
@@ -27,11 +27,11 @@ loop-answer-preserved g c =
     let sought = sought_of g.T.NameTest.takes c.args.printer.now.filter in
     let printed = subst (λ s. Appends old new (found_line s (style_of c.loop-answer.printer.lines) answer)) held.sought c.in_ok-clean.ensures.printed in
     record {
-      lawful = rw c.in-Some.ensures.job held.lawful;
+      lawful = rw c.in-Some.ensures.steps.job held.lawful;
       so_far = one_found (Answers g.S.FileSystem g.P.ProcessReadDir g.C.ReadDirState.Clone g.C.DirEntryState.Default g.L.Pool) c.args.walk.now
           sought (style_of c.args.printer.now.lines) c.loop-answer.walk c.next.new.self
           (append_known (g.W.Write.contents c.args.out.now) (gathered_of c.args.printer.now.lines)) old new
-          c.loop-answer.clean c.in_ok-clean.field-0 c.in-Some.answer held.so_far c.in-Some.ensures
+          c.loop-answer.clean c.in_ok-clean.field-0 c.in-Some.answer held.so_far c.in-Some.ensures.steps
           (subst (λ s. Appends old new (found_line sought s answer)) held.style printed) c.in_ok-clean.ensures.clean;
       sought = c.print.ensures.sought ∙ held.sought;
       style = c.print.ensures.style ∙ held.style;
@@ -42,4 +42,4 @@ returns-clause-printed g c =
     all_found (Answers g.S.FileSystem g.P.ProcessReadDir g.C.ReadDirState.Clone g.C.DirEntryState.Default g.L.Pool) c.args.walk.now
     (sought_of g.T.NameTest.takes c.args.printer.now.filter) (style_of c.args.printer.now.lines) c.loop-answer.walk c.next.new.self
     (append_known (g.W.Write.contents c.args.out.now) (gathered_of c.args.printer.now.lines))
-    (append_known (g.W.Write.contents c.loop-answer.out) (gathered_of c.loop-answer.printer.lines)) c.loop-answer.clean c.loop-answer.invariant.so_far c.in_default.ensures
+    (append_known (g.W.Write.contents c.loop-answer.out) (gathered_of c.loop-answer.printer.lines)) c.loop-answer.clean c.loop-answer.invariant.so_far c.in_default.ensures.steps
