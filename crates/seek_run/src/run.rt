@@ -191,7 +191,6 @@ fn search_asked<
     let lines = Lines::new(alloc, style_of(on_terminal, asked))?;
     let mut printer = Printer { filter, lines };
     let search = Search {
-        rt,
         asked,
         disk: shared(alloc, disk)?,
         texts: shared(alloc, texts)?,

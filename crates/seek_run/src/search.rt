@@ -42,7 +42,6 @@ type Kept<T, S, X> = Below<T, ((Chain, ()), ()), S, IgnoreFiles<Arc<X>, Excludin
 /// What is asked for, and what it is looked for in.
 #[derive(Drop)]
 pub(crate) struct Search<'a, 'w, T: Drop, S: FileSystem, X: Texts> {
-    pub(crate) rt: &'a T,
     pub(crate) asked: &'a Asked<'w>,
     pub(crate) disk: Arc<S>,
     pub(crate) texts: Arc<X>,
