@@ -11,7 +11,7 @@ use Rattle.jwalk_ignore.specs.Texts.{Texts}
 use Rattle.jwalk_ignore.specs.declared.settings.Settings.{Settings}
 use Rattle.seek_walk.specs.Options.{with_crew}
 use Rattle.seek_run.specs.Excluding.{Excluded, Excludes, excluding, excluding-KeepsDepthsOf}
-use Rattle.seek_run.specs.Search.{given_kept, job_with}
+use Rattle.seek_run.specs.Search.{given_kept, ignoring_walk, job_with}
 
 -- the callback of ignore files with lines behind it makes of lists what is given
 pub ignores_kept : (A B E : Type 0) {fixed : Type 0} {texts texts' : Texts} {settings settings' : Settings} {excluded excluded' : Excluded}
@@ -51,3 +51,15 @@ module _ (processed : Processing Worth Worth) where
   unfolding whole_walk
   hidden_by_crew true fs options root state = refl
   hidden_by_crew false fs options root state = refl
+
+-- what a walk that honours ignore files yields goes by what it is made of
+pub ignoring_same : {fs fs' : Functions} {texts texts' : Texts} {settings settings' : Settings} {excluded excluded' : Excluded} {options options' : Options} {root root' : List ℕ}
+    → fs ≡ fs' → texts ≡ texts' → settings ≡ settings' → excluded ≡ excluded' → options ≡ options' → root ≡ root'
+    → ignoring_walk fs texts settings excluded options root ≡ ignoring_walk fs' texts' settings' excluded' options' root'
+ignoring_same {fs} {fs'} {texts} {texts'} {settings} {settings'} {excluded} {excluded'} {options} {options'} {root} {root'} f t s e o r =
+    ap (λ (x : Functions). ignoring_walk x texts settings excluded options root) f
+    ∙ ap (λ (x : Texts). ignoring_walk fs' x settings excluded options root) t
+    ∙ ap (λ (x : Settings). ignoring_walk fs' texts' x excluded options root) s
+    ∙ ap (λ (x : Excluded). ignoring_walk fs' texts' settings' x options root) e
+    ∙ ap (λ (x : Options). ignoring_walk fs' texts' settings' excluded' x root) o
+    ∙ ap (λ (x : List ℕ). ignoring_walk fs' texts' settings' excluded' options' x) r

@@ -62,10 +62,14 @@ given_kept settings texts excluded = record {
 abbrev pub all_below : Functions → Asked → Excluded → List ℕ → List (Item Worth Worth)
 all_below fs asked excluded root = whole_walk (job_with fs (options_asked asked) (excluding excluded)) root blank
 
--- all that a walk yields that honours ignore files, below a root. It is shown hidden names, and drops them itself unless they are asked for.
+-- all that a walk yields that honours ignore files. It is shown hidden names, and drops them itself unless they are asked for.
+abbrev pub ignoring_walk : Functions → Texts → Settings → Excluded → Options → List ℕ → List (Item Worth Worth)
+ignoring_walk fs texts settings excluded options root =
+    whole_walk (job_with fs (with_skip_hidden false options) (ignoring settings texts (excluding excluded))) root no_rules_yet
+
+-- the same below a root
 abbrev pub kept_below : Functions → Texts → Asked → Excluded → List ℕ → List (Item Worth Worth)
-kept_below fs texts asked excluded root =
-    whole_walk (job_with fs (with_skip_hidden false (options_asked asked)) (ignoring (settings_asked asked) texts (excluding excluded))) root no_rules_yet
+kept_below fs texts asked excluded root = ignoring_walk fs texts (settings_asked asked) excluded (options_asked asked) root
 
 -- what is left out below a root
 abbrev pub excluded_asked : Asked → List ℕ → Excluded

@@ -5,16 +5,20 @@ ghost use Rattle.std.specs.Io.KnownBytes.{append_known};
 ghost use Rattle.seek_filter.specs.Filter.{sought_of};
 ghost use Rattle.seek_filter.specs.Lines.{style_of, gathered_of};
 ghost use Rattle.jwalk.specs.DirEntryIter.{Answers};
-ghost use Rattle.seek_walk.specs.Found.{PrintsClean, YieldsWhole};
-ghost use Rattle.seek_run.specs.Search.{all_below, excluded_asked, given_all, given_kept, kept_below, settings_asked, walk_options, yielded_below};
+ghost use Rattle.jwalk.specs.WalkDir.{file_system_of, options_of, root_of, state_of};
+ghost use Rattle.jwalk_ignore.specs.Given.{no_rules_yet, rules_alone};
+ghost use Rattle.jwalk_ignore.specs.IgnoreViews.{next_of, settings_of, texts_of};
+ghost use Rattle.seek_walk.specs.Found.{PrintsClean, PrintsFound, YieldsWhole};
+ghost use Rattle.seek_run.specs.Excluding.{excluded_of};
+ghost use Rattle.seek_run.specs.Search.{all_below, excluded_asked, given_all, given_kept, ignoring_walk, kept_below, walk_options, yielded_below};
 ghost use Rattle.seek_run.specs.SoughtTest.{takes_of};
 
 use crate::excluding::Excluding;
 use crate::sought_test::SoughtTest;
 use jwalk::crew::Session;
 use jwalk::file_system::FileSystem;
-use jwalk::read_dir::ProcessReadDir;
-use jwalk::{Crew, DirEntryIter, Pool};
+use jwalk::read_dir::{NoProcess, ProcessReadDir};
+use jwalk::{Crew, DirEntryIter, Pool, WalkDirGeneric};
 use jwalk_ignore::builder::with_ignore_files;
 use jwalk_ignore::chain::Chain;
 use jwalk_ignore::ignore_files::IgnoreFiles;
@@ -33,11 +37,59 @@ use std::time::Clock;
 /// A walk under way over a shared file system, with states, a callback and a crew.
 type Below<T, C, S, P> = DirEntryIter<C, Arc<S>, P, Global, Session<T, C, Arc<S>, P, Global>>;
 
+/// A walk that isn't begun, with the states of ignore files.
+type Plain<T, S> = WalkDirGeneric<((Chain, ()), ()), Arc<S>, NoProcess, Global, Crew<T>>;
+
 /// A walk without ignore files.
 type All<T, S> = Below<T, ((), ()), S, Excluding>;
 
 /// A walk that honours them.
 type Kept<T, S, X> = Below<T, ((Chain, ()), ()), S, IgnoreFiles<Arc<X>, Excluding>>;
+
+/// Begins a walk that honours these rules.
+fn begin_kept<
+    T: Wait + Threads + Clock + Clone + Drop + Send + Sync + 'static,
+    S: FileSystem + Send + Sync + 'static,
+    X: Texts + Send + Sync + 'static,
+>(walk: Plain<T, S>, rules: IgnoreFiles<Arc<X>, Excluding>) -> Kept<T, S, X>
+    ensures { S.IsFixed (arc_value (file_system_of walk)) → X.IsFixed (arc_value (texts_of rules))
+        → rules_alone (state_of walk) ≡ no_rules_yet → YieldsWhole
+        (Answers ⟦<Arc<S> as FileSystem>⟧ ⟦<IgnoreFiles<Arc<X>, Excluding> as ProcessReadDir<((Chain, ()), ()), Global>>⟧
+        ⟦<(Chain, ()) as Clone>⟧ ⟦<() as Default>⟧
+        ⟦<Session<T, ((Chain, ()), ()), Arc<S>, IgnoreFiles<Arc<X>, Excluding>, Global> as Pool<((Chain, ()), ()), Arc<S>, IgnoreFiles<Arc<X>, Excluding>, Global>>⟧)
+        result (given_kept (settings_of rules) (X.functions (arc_value (texts_of rules))) (excluded_of (next_of rules)))
+        (ignoring_walk (S.functions (arc_value (file_system_of walk))) (X.functions (arc_value (texts_of rules)))
+        (settings_of rules) (excluded_of (next_of rules)) (options_of walk) (root_of walk)) }
+{
+    with_ignore_files(walk, rules).into_iter()
+}
+
+/// Prints what is found by a walk that honours rules.
+fn print_kept<
+    T: Wait + Threads + Clock + Clone + Drop + Send + Sync + 'static,
+    S: FileSystem + Send + Sync + 'static,
+    X: Texts + Send + Sync + 'static,
+    W: Write,
+    E: Write,
+>(
+    answers: Kept<T, S, X>,
+    printer: &mut Printer<'_, SoughtTest<'_>>,
+    out: &mut W,
+    err: &mut E,
+) -> Result<bool, Halt>
+    ensures printed { IfOk result (PrintsFound
+        (Answers ⟦<Arc<S> as FileSystem>⟧ ⟦<IgnoreFiles<Arc<X>, Excluding> as ProcessReadDir<((Chain, ()), ()), Global>>⟧
+        ⟦<(Chain, ()) as Clone>⟧ ⟦<() as Default>⟧
+        ⟦<Session<T, ((Chain, ()), ()), Arc<S>, IgnoreFiles<Arc<X>, Excluding>, Global> as Pool<((Chain, ()), ()), Arc<S>, IgnoreFiles<Arc<X>, Excluding>, Global>>⟧)
+        answers (sought_of takes_of printer.old.filter) (style_of printer.old.lines)
+        (append_known (W.contents out.old) (gathered_of printer.old.lines))
+        (append_known (W.contents out.new) (gathered_of printer.new.lines))) }
+    ensures sought { sought_of takes_of printer.new.filter ≡ sought_of takes_of printer.old.filter }
+    ensures style { style_of printer.new.lines ≡ style_of printer.old.lines }
+{
+    let mut answers = answers;
+    print_found(&mut answers, printer, out, err)
+}
 
 /// What is asked for, and what it is looked for in.
 #[derive(Drop)]
@@ -86,29 +138,6 @@ impl<
         Ok(walk.process_read_dir(excluding).into_iter())
     }
 
-    /// Begins the walk below a root, with its ignore files.
-    fn begin_kept(&self, alloc: Global, root: &str) -> Result<Kept<T, S, X>, AllocError>
-        ensures { IfOk result (λ it. S.IsFixed (arc_value self.now.disk) → X.IsFixed (arc_value self.now.texts) → YieldsWhole
-            (Answers ⟦<Arc<S> as FileSystem>⟧ ⟦<IgnoreFiles<Arc<X>, Excluding> as ProcessReadDir<((Chain, ()), ()), Global>>⟧
-            ⟦<(Chain, ()) as Clone>⟧ ⟦<() as Default>⟧
-            ⟦<Session<T, ((Chain, ()), ()), Arc<S>, IgnoreFiles<Arc<X>, Excluding>, Global> as Pool<((Chain, ()), ()), Arc<S>, IgnoreFiles<Arc<X>, Excluding>, Global>>⟧)
-            it (given_kept (settings_asked self.now.asked.now) (X.functions (arc_value self.now.texts))
-            (excluded_asked self.now.asked.now root.now))
-            (kept_below (S.functions (arc_value self.now.disk)) (X.functions (arc_value self.now.texts)) self.now.asked.now
-            (excluded_asked self.now.asked.now root.now) root.now)) }
-    {
-        let excluding = Excluding::new(alloc, self.asked.excludes.as_slice(), root)?;
-        let rules = IgnoreFiles::new(self.texts.clone()?)
-            .keep_hidden(self.asked.hidden)
-            .then(excluding);
-        let root = String::from_str(alloc, root)?;
-        let disk = self.disk.clone()?;
-        let walk = self
-            .options()
-            .walk_of::<((Chain, ()), ()), _, _, _>(disk, root, &self.crew)?;
-        Ok(with_ignore_files(walk, rules).into_iter())
-    }
-
     /// Searches below a root without ignore files.
     fn search_all<W: Write, E: Write>(
         &self,
@@ -150,8 +179,16 @@ impl<
         ensures sought { sought_of takes_of printer.new.filter ≡ sought_of takes_of printer.old.filter }
         ensures style { style_of printer.new.lines ≡ style_of printer.old.lines }
     {
-        let mut answers = self.begin_kept(alloc, root)?;
-        print_found(&mut answers, printer, out, err)
+        let excluding = Excluding::new(alloc, self.asked.excludes.as_slice(), root)?;
+        let rules = IgnoreFiles::new(self.texts.clone()?)
+            .keep_hidden(self.asked.hidden)
+            .then(excluding);
+        let root = String::from_str(alloc, root)?;
+        let disk = self.disk.clone()?;
+        let walk = self
+            .options()
+            .walk_of::<((Chain, ()), ()), _, _, _>(disk, root, &self.crew)?;
+        print_kept(begin_kept(walk, rules), printer, out, err)
     }
 
     /// Searches below a root, prints what is found and reports errors. Returns whether there was none.

@@ -6,4 +6,5 @@ use Rattle.seek_run.proofs.sought_test.SoughtTest.new.Goals as goal
 
 pub returns-in_ok-matcher-in-Expression : goal.returns-in_ok-matcher-in-Expression
 returns-in_ok-matcher-in-Expression c =
-    ap (λ (re : Re) (text : List ℕ) (is_dir : Bool). is_some (find_str re text 0)) c.in_ok-matcher-in-Expression.ensures.pattern ∙ ap takes_by (sym c.in-Expression.is)
+    let finds : Re → List ℕ → Bool → Bool = λ re text is_dir. is_some (find_str re text 0) in
+    ap finds c.in_ok-matcher-in-Expression.ensures.pattern ∙ ap takes_by (sym c.in-Expression.is)
