@@ -64,7 +64,7 @@ def settled(text):
     literal = len(text) - len(text.lstrip("".join(c for c in set(text) if c not in "*?[\\")))
     behind = text[literal:]
     front = text[:literal].lstrip("/")
-    unsettled = "/" in text.rstrip("/") and behind.startswith("**") and front and not front.endswith("/")
+    unsettled = "/" in text.removesuffix("/") and behind.startswith("**") and front and not front.endswith("/")
     return not unsettled and "**\\/" not in text
 
 
