@@ -5,6 +5,7 @@ mod bad_pattern;
 mod below;
 mod excluding;
 mod glob;
+mod kept_rules;
 pub mod run;
 mod search;
 mod sought;

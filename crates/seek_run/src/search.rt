@@ -14,12 +14,12 @@ ghost use Rattle.seek_run.specs.Search.{all_below, excluded_asked, given_all, gi
 ghost use Rattle.seek_run.specs.SoughtTest.{takes_of};
 
 use crate::excluding::Excluding;
+use crate::kept_rules::{KeptRules, KeptStates};
 use crate::sought_test::SoughtTest;
 use jwalk::crew::Session;
 use jwalk::file_system::FileSystem;
 use jwalk::read_dir::{NoProcess, ProcessReadDir};
 use jwalk::{Crew, DirEntryIter, Pool, WalkDirGeneric};
-use jwalk_ignore::builder::with_ignore_files;
 use jwalk_ignore::chain::Chain;
 use jwalk_ignore::ignore_files::IgnoreFiles;
 use jwalk_ignore::texts::Texts;
@@ -38,13 +38,13 @@ use std::time::Clock;
 type Below<T, C, S, P> = DirEntryIter<C, Arc<S>, P, Global, Session<T, C, Arc<S>, P, Global>>;
 
 /// A walk that isn't begun, with the states of ignore files.
-type Plain<T, S> = WalkDirGeneric<((Chain, ()), ()), Arc<S>, NoProcess, Global, Crew<T>>;
+type Plain<T, S> = WalkDirGeneric<KeptStates, Arc<S>, NoProcess, Global, Crew<T>>;
 
 /// A walk without ignore files.
 type All<T, S> = Below<T, ((), ()), S, Excluding>;
 
 /// A walk that honours them.
-type Kept<T, S, X> = Below<T, ((Chain, ()), ()), S, IgnoreFiles<Arc<X>, Excluding>>;
+type Kept<T, S, X> = Below<T, KeptStates, S, KeptRules<X>>;
 
 /// Begins a walk that honours these rules.
 fn begin_kept<
@@ -54,14 +54,16 @@ fn begin_kept<
 >(walk: Plain<T, S>, rules: IgnoreFiles<Arc<X>, Excluding>) -> Kept<T, S, X>
     ensures { S.IsFixed (arc_value (file_system_of walk)) → X.IsFixed (arc_value (texts_of rules))
         → rules_alone (state_of walk) ≡ no_rules_yet → YieldsWhole
-        (Answers ⟦<Arc<S> as FileSystem>⟧ ⟦<IgnoreFiles<Arc<X>, Excluding> as ProcessReadDir<((Chain, ()), ()), Global>>⟧
+        (Answers ⟦<Arc<S> as FileSystem>⟧ ⟦<KeptRules<X> as ProcessReadDir<((Chain, ()), ()), Global>>⟧
         ⟦<(Chain, ()) as Clone>⟧ ⟦<() as Default>⟧
-        ⟦<Session<T, ((Chain, ()), ()), Arc<S>, IgnoreFiles<Arc<X>, Excluding>, Global> as Pool<((Chain, ()), ()), Arc<S>, IgnoreFiles<Arc<X>, Excluding>, Global>>⟧)
+        ⟦<Session<T, ((Chain, ()), ()), Arc<S>, KeptRules<X>, Global> as Pool<((Chain, ()), ()), Arc<S>, KeptRules<X>, Global>>⟧)
         result (given_kept (settings_of rules) (X.functions (arc_value (texts_of rules))) (excluded_of (next_of rules)))
         (ignoring_walk (S.functions (arc_value (file_system_of walk))) (X.functions (arc_value (texts_of rules)))
         (settings_of rules) (excluded_of (next_of rules)) (options_of walk) (root_of walk)) }
 {
-    with_ignore_files(walk, rules).into_iter()
+    walk.skip_hidden(false)
+        .process_read_dir(KeptRules { rules })
+        .into_iter()
 }
 
 /// Prints what is found by a walk that honours rules.
@@ -78,9 +80,9 @@ fn print_kept<
     err: &mut E,
 ) -> Result<bool, Halt>
     ensures printed { IfOk result (PrintsFound
-        (Answers ⟦<Arc<S> as FileSystem>⟧ ⟦<IgnoreFiles<Arc<X>, Excluding> as ProcessReadDir<((Chain, ()), ()), Global>>⟧
+        (Answers ⟦<Arc<S> as FileSystem>⟧ ⟦<KeptRules<X> as ProcessReadDir<((Chain, ()), ()), Global>>⟧
         ⟦<(Chain, ()) as Clone>⟧ ⟦<() as Default>⟧
-        ⟦<Session<T, ((Chain, ()), ()), Arc<S>, IgnoreFiles<Arc<X>, Excluding>, Global> as Pool<((Chain, ()), ()), Arc<S>, IgnoreFiles<Arc<X>, Excluding>, Global>>⟧)
+        ⟦<Session<T, ((Chain, ()), ()), Arc<S>, KeptRules<X>, Global> as Pool<((Chain, ()), ()), Arc<S>, KeptRules<X>, Global>>⟧)
         answers (sought_of takes_of printer.old.filter) (style_of printer.old.lines)
         (append_known (W.contents out.old) (gathered_of printer.old.lines))
         (append_known (W.contents out.new) (gathered_of printer.new.lines))) }
@@ -187,7 +189,7 @@ impl<
         let disk = self.disk.clone()?;
         let walk = self
             .options()
-            .walk_of::<((Chain, ()), ()), _, _, _>(disk, root, &self.crew)?;
+            .walk_of::<KeptStates, _, _, _>(disk, root, &self.crew)?;
         print_kept(begin_kept(walk, rules), printer, out, err)
     }
 

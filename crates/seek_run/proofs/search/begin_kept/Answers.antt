@@ -16,22 +16,23 @@ use Rattle.seek_run.proofs.search.begin_kept.Goals as goal
 pub returns : goal.returns
 returns g c = λ fixed told state answered drains entries.
     let rules = c.args.rules in
-    let set = c.with_ignore_files.ensures in
-    let walk = c.with_ignore_files.result in
+    let shown = c.skip_hidden.ensures in
+    let set = c.process_read_dir.ensures in
+    let walk = c.process_read_dir.result in
     let begun = c.into_iter.ensures in
     let it = c.into_iter.result in
     let texts = g.X.Texts.functions (arc_value (texts_of rules)) in
     let given = given_kept (settings_of rules) texts (excluded_of (next_of rules)) in
     let made = ignoring (settings_of rules) texts (excluding (excluded_of (next_of rules))) in
-    let over : arc_value (file_system_of walk) ≡ arc_value (file_system_of c.args.walk) = ap arc_value set.file_system in
-    let from : arc_value (texts_of (callback_of walk)) ≡ arc_value (texts_of rules) = ap (λ x. arc_value (texts_of x)) set.callback in
+    let over : arc_value (file_system_of walk) ≡ arc_value (file_system_of c.args.walk) = ap arc_value (set.file_system ∙ shown.file_system) in
+    let from : arc_value (texts_of (callback_of walk).rules) ≡ arc_value (texts_of rules) = ap (λ x. arc_value (texts_of x.rules)) set.callback in
     let steady : IsSteady _ _ _ _ (file_system_of walk) (callback_of walk) given
     = record {
       file_system = subst g.S.FileSystem.IsFixed (sym over) fixed;
-      callback = ignores_kept _ _ (Unit {0}) (subst g.X.Texts.IsFixed (sym from) told) (ap g.X.Texts.functions from) (ap settings_of set.callback) (ap (λ x. excluded_of (next_of x)) set.callback);
+      callback = ignores_kept _ _ (Unit {0}) (subst g.X.Texts.IsFixed (sym from) told) (ap g.X.Texts.functions from) (ap (λ x. settings_of x.rules) set.callback) (ap (λ x. excluded_of (next_of x.rules)) set.callback);
       clones = λ x y h. ap (λ chain. both (chain_worth chain) blank) h.0;
       default = λ x h. refl;
     } in
     let steadily = steady_begun _ _ _ _ _ given walk it begun.steady begun.starts steady in
     clean_whole _ _ _ _ _ given walk it answered begun.begins.0 begun.begins.1.holds steadily begun.starts steady drains entries
-    ∙ whole_of made (ap g.S.FileSystem.functions over) set.options set.root (ap rules_alone set.state ∙ state)
+    ∙ whole_of made (ap g.S.FileSystem.functions over) (set.options ∙ shown.options) (set.root ∙ shown.root) (ap rules_alone (set.state ∙ shown.state) ∙ state)
