@@ -15,10 +15,11 @@ use Rattle.seek_walk.proofs.CleanFacts.{clean_then, first_written, printed_as, r
 use Rattle.seek_words.specs.Asks.{texts_of}
 
 -- what comes of one root more
-one_more : {X : Type 0} (f : List ℕ → List X) (roots : List (Bor (List ℕ))) (i : ℕ) (root : Bor (List ℕ)) → i < length roots → get_or roots i root ≡ root
-    → flat_map f (texts_of (take (i + 1) roots)) ≡ flat_map f (texts_of (take i roots)) ++ f root.now
-one_more f roots i root below is =
-    ap (λ (l : List (Bor (List ℕ))). flat_map f (texts_of l)) (take_more roots i root below ∙ ap (λ (r : Bor (List ℕ)). take i roots ++ r ∷ []) is)
+one_more : {X : Type 0} (f : List ℕ → List X) (roots : List (Bor (List ℕ))) (i : ℕ) (d : Bor (List ℕ)) → i < length roots
+    → flat_map f (texts_of (take (i + 1) roots)) ≡ flat_map f (texts_of (take i roots)) ++ f (get_or roots i d).now
+one_more f roots i d below =
+    let root = get_or roots i d in
+    ap (λ (l : List (Bor (List ℕ))). flat_map f (texts_of l)) (take_more roots i d below)
     ∙ ap (flat_map f) (map-append (λ it. it.now) (take i roots) (root ∷ []))
     ∙ flat_map-append f (texts_of (take i roots)) (root.now ∷ [])
     ∙ ap (λ l. flat_map f (texts_of (take i roots)) ++ l) (append-nil (f root.now))
@@ -44,12 +45,12 @@ written_last {xs} {sought} {style} old mid new none last empty printed rest = re
 }
 
 -- what is printed of the roots so far, and of one more
-pub one_root : {R E : Type 0} (f : List ℕ → List (Item R E)) (roots : List (Bor (List ℕ))) (i : ℕ) (root : Bor (List ℕ)) → i < length roots → get_or roots i root ≡ root
+pub one_root : {R E : Type 0} (f : List ℕ → List (Item R E)) (roots : List (Bor (List ℕ))) (i : ℕ) (d : Bor (List ℕ)) → i < length roots
     → {sought sought' : Sought} {style style' : Style} {old mid new : Option (List ℕ)} → sought' ≡ sought → style' ≡ style
-    → PrintsClean (flat_map f (texts_of (take i roots))) sought style old mid → PrintsClean (f root.now) sought' style' mid new
+    → PrintsClean (flat_map f (texts_of (take i roots))) sought style old mid → PrintsClean (f (get_or roots i d).now) sought' style' mid new
     → PrintsClean (flat_map f (texts_of (take (i + 1) roots))) sought style old new
-one_root f roots i root below is {sought} {sought'} {style} {style'} {old} {mid} {new} sought_is style_is before more =
-    printed_as (sym (one_more f roots i root below is)) (clean_then sought style (flat_map f (texts_of (take i roots))) (f root.now) old mid new before (printed_by sought_is style_is more))
+one_root f roots i d below {sought} {sought'} {style} {style'} {old} {mid} {new} sought_is style_is before more =
+    printed_as (sym (one_more f roots i d below)) (clean_then sought style (flat_map f (texts_of (take i roots))) (f (get_or roots i d).now) old mid new before (printed_by sought_is style_is more))
 
 -- two answers are both true
 pub first_true : (a b : Bool) → (a && b) ≡ true → a ≡ true

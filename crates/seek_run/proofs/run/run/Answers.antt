@@ -1,4 +1,4 @@
-use Rattle.std.proofs.Common.{◌≡◌, ◌∙◌, inl, inr, map, refl, string_bytes, sym}
+use Rattle.std.proofs.Common.{◌∙◌, inl, inr, map, refl, string_bytes, sym}
 use Rattle.seek_words.proofs.EndFacts.{asked_for_text}
 use Rattle.seek_run.proofs.EndFacts.{never_zero}
 use Rattle.seek_run.proofs.run.run.Goals as goal

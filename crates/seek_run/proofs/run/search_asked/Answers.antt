@@ -1,5 +1,4 @@
-use Rattle.std.proofs.Common.{◌≡◌, ◌∙◌, ap, ap₂, map, refl, subst, sym}
-use Rattle.std.specs.Arc.{arc_value}
+use Rattle.std.proofs.Common.{◌∙◌, ap, ap₂, subst, sym}
 use Rattle.seek_filter.specs.Lines.{gathered_of}
 use Rattle.seek_filter.specs.Wanted.{Wants}
 use Rattle.seek_walk.proofs.CleanFacts.{printed_as}

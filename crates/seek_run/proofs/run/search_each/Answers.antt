@@ -1,4 +1,4 @@
-use Rattle.std.proofs.Common.{◌≡◌, ◌∙◌, ap, arith, length, refl, rules, sym, take}
+use Rattle.std.proofs.Common.{◌≡◌, ◌∙◌, ap, arith, length, refl, take}
 use Rattle.std.specs.Prelude.{flat_map}
 use Rattle.std.proofs.Math.Seq.{take-length}
 use Rattle.std.specs.Arc.{arc_value}
@@ -16,7 +16,7 @@ loop-root-preserved g c =
     let held = c.loop-root.invariant in
     let f = yielded_below (g.S.FileSystem.functions (arc_value c.args.search.now.disk)) (g.X.Texts.functions (arc_value c.args.search.now.texts)) c.args.search.now.asked.now in
     record {
-      whole = λ is fixed told. one_root f c.args.roots.now c.loop-root.root-index _ c.loop-root-test.true (search rules) held.sought held.style
+      whole = λ is fixed told. one_root f c.args.roots.now c.loop-root.root-index _ c.loop-root-test.true held.sought held.style
           (held.whole (first_true c.loop-root.clean c.in_ok-clean.field-0 is) fixed told)
           (c.in_ok-clean.ensures.whole (second_true c.loop-root.clean c.in_ok-clean.field-0 is) fixed told);
       sought = c.below.ensures.sought ∙ held.sought;

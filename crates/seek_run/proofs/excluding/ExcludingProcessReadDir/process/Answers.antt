@@ -1,4 +1,4 @@
-use Rattle.std.proofs.Common.{◌≡◌, ◌∙◌, not, ap, map, sym}
+use Rattle.std.proofs.Common.{◌∙◌, not, ap, map, sym}
 use Rattle.std.specs.List.{filter}
 use Rattle.jwalk.specs.walk_model.ReadDir.{list_depth}
 use Rattle.jwalk.specs.read_parts.Entry.{item}

@@ -1,9 +1,8 @@
 use Rattle.std.proofs.Common.{◌∙◌, map, sym}
-use Rattle.std.specs.Arc.{arc_value}
 use Rattle.std.proofs.lemmas.Result.{IfOk-weaker}
 use Rattle.jwalk.specs.read_parts.Entry.{item}
 use Rattle.seek_walk.proofs.WholeFacts.{clean_entries, printed_whole}
-use Rattle.seek_run.specs.Search.{excluded_asked, given_all, given_kept, settings_asked}
+use Rattle.seek_run.specs.Search.{excluded_asked, given_all}
 use Rattle.seek_run.proofs.search.Search.search_all.Goals as goal
 
 pub returns-clause-whole : goal.returns-clause-whole
