@@ -1,46 +1,38 @@
-//! Runs over the disk.
+//! Runs over the disk. Only a test itself names a runtime whose threads may reach the disk.
 use crate::folder::{Step, make, remove};
 use crate::runs::called;
 use jwalk::file_system::RealFs;
 use jwalk_ignore::real_texts::RealTexts;
-use std::alloc::AllocError;
+use std::alloc::{AllocError, Global};
 use std::io;
-use std::rt::Files;
-use std::sync::Wait;
-use std::thread::Threads;
-use std::time::Clock;
 
-/// What a call prints over the disk, with the status, and whether anything is reported.
-fn printed(
-    rt: &(impl Wait + Threads + Files + Clock + Clone + Drop + Send + Sync + AllocGlobal + 'static),
-    threads: &str,
-    words: &[&str],
-) -> Result<(Vec<u8>, u8, bool), AllocError> {
-    let mut out = Vec::new(rt.alloc());
-    let mut err = Vec::new(rt.alloc());
-    let disk = RealFs::new(rt.clone()?);
-    let texts = RealTexts::new(rt.clone()?);
-    let status = called(rt, disk, texts, threads, words, &mut out, &mut err);
-    Ok((out, status, !err.is_empty()))
+/// A call's words without its root, and the names that it prints below that.
+type Row = (&'static [&'static str], &'static [&'static str]);
+
+/// The words for one thread and for three.
+const THREADS: &[&str] = &["-j1", "-j3"];
+
+/// Returns the words of a call with this root.
+fn with_root<'w>(
+    alloc: Global,
+    words: &[&'w str],
+    root: &'w str,
+) -> Result<Vec<&'w str>, AllocError> {
+    let mut all = words.to_vec(alloc)?;
+    all.push(root)?;
+    Ok(all)
 }
 
-/// Returns whether a call with this root prints these names below it, one a line, and reports nothing.
-fn lists(
-    rt: &(impl Wait + Threads + Files + Clock + Clone + Drop + Send + Sync + AllocGlobal + 'static),
-    words: &[&str],
-    folder: &str,
-    names: &[&str],
-) -> Result<bool, AllocError> {
-    let mut want = String::new(rt.alloc());
+/// Returns the lines of these names below a folder.
+fn lines_of(alloc: Global, folder: &str, names: &[&str]) -> Result<String, AllocError> {
+    let mut lines = String::new(alloc);
     for name in names {
-        want.push_str(format!(in rt.alloc(); "{folder}/{name}\n")?.as_str())?;
+        lines.push_str(folder)?;
+        lines.push_str("/")?;
+        lines.push_str(name)?;
+        lines.push_str("\n")?;
     }
-    let mut all = words.to_vec(rt.alloc())?;
-    all.push(folder)?;
-    let (one, status, told) = printed(rt, "-j1", all.as_slice())?;
-    let (three, _, _) = printed(rt, "-j3", all.as_slice())?;
-    let found = one.as_slice() == want.as_bytes() && three.as_slice() == want.as_bytes();
-    Ok(found && status == 0 && !told)
+    Ok(lines)
 }
 
 const STEPS: &[Step] = &[
@@ -61,50 +53,67 @@ const STEPS: &[Step] = &[
     Step::File("", "new\nline"),
 ];
 
+/// Calls over the folder of these steps.
+const RULES: &[Row] = &[
+    (
+        &["--sort", "."],
+        &["a.c", "e", "e/x", "k.o", "l", "new\nline"],
+    ),
+    (&["-H", "--sort", "ignore"], &[".gitignore", "e/.ignore"]),
+    (&["-I", "--sort", "[ox]$"], &["a.o", "d/x", "e/x", "k.o"]),
+    (&["--type=l", "."], &["l"]),
+];
+
 #[test]
 fn rules_on_the_disk(rt: HostRuntime) -> io::Result<()> {
     let folder = make(&rt, "rules", STEPS)?;
-    let at = folder.as_str();
-    assert!(rt;
-        lists(
-            &rt,
-            &["--sort", "."],
-            at,
-            &["a.c", "e", "e/x", "k.o", "l", "new\nline"]
-        )?
-    );
-    assert!(rt;
-        lists(
-            &rt,
-            &["-H", "--sort", "ignore"],
-            at,
-            &[".gitignore", "e/.ignore"]
-        )?
-    );
-    assert!(rt;
-        lists(
-            &rt,
-            &["-I", "--sort", "[ox]$"],
-            at,
-            &["a.o", "d/x", "e/x", "k.o"]
-        )?
-    );
-    assert!(rt; lists(&rt, &["--type=l", "."], at, &["l"])?);
-    remove(&rt, at)
+    for (words, names) in RULES {
+        let all = with_root(rt.alloc(), words, folder.as_str())?;
+        let want = lines_of(rt.alloc(), folder.as_str(), names)?;
+        for threads in THREADS {
+            let mut out = Vec::new(rt.alloc());
+            let mut err = Vec::new(rt.alloc());
+            let disk = RealFs::new(rt.clone()?);
+            let texts = RealTexts::new(rt.clone()?);
+            let status = called(
+                &rt,
+                disk,
+                texts,
+                threads,
+                all.as_slice(),
+                &mut out,
+                &mut err,
+            );
+            assert_eq!(rt; out.as_slice(), want.as_bytes());
+            assert_eq!(rt; (status, err.len()), (0, 0));
+        }
+    }
+    remove(&rt, folder.as_str())
 }
 
 #[test]
 fn a_name_with_a_line_feed(rt: HostRuntime) -> io::Result<()> {
     let folder = make(&rt, "feed", &[Step::File("", "a\nb"), Step::File("", "\n")])?;
-    let at = folder.as_str();
-    assert!(rt; lists(&rt, &["--sort", "."], at, &["\n", "a\nb"])?);
-    assert!(rt; lists(&rt, &["a.b"], at, &["a\nb"])?);
-    remove(&rt, at)
+    let all = with_root(rt.alloc(), &["--sort", "."], folder.as_str())?;
+    let want = lines_of(rt.alloc(), folder.as_str(), &["\n", "a\nb"])?;
+    let mut out = Vec::new(rt.alloc());
+    let mut err = Vec::new(rt.alloc());
+    let disk = RealFs::new(rt.clone()?);
+    let texts = RealTexts::new(rt.clone()?);
+    let status = called(&rt, disk, texts, "-j1", all.as_slice(), &mut out, &mut err);
+    assert_eq!(rt; out.as_slice(), want.as_bytes());
+    assert_eq!(rt; (status, err.len()), (0, 0));
+    remove(&rt, folder.as_str())
 }
 
 #[test]
 fn what_is_neither_file_nor_directory_nor_link(rt: HostRuntime) -> io::Result<()> {
-    let (out, _, _) = printed(&rt, "-j1", &["-t", "o", "-d1", "^null$", "/dev"])?;
+    let mut out = Vec::new(rt.alloc());
+    let mut err = Vec::new(rt.alloc());
+    let disk = RealFs::new(rt.clone()?);
+    let texts = RealTexts::new(rt.clone()?);
+    let words: &[&str] = &["-t", "o", "-d1", "^null$", "/dev"];
+    called(&rt, disk, texts, "-j1", words, &mut out, &mut err);
     assert_eq!(rt; out.as_slice(), b"/dev/null\n".as_slice());
     Ok(())
 }
@@ -113,7 +122,12 @@ fn what_is_neither_file_nor_directory_nor_link(rt: HostRuntime) -> io::Result<()
 fn a_root_that_is_missing_on_the_disk(rt: HostRuntime) -> io::Result<()> {
     let folder = make(&rt, "missing", &[])?;
     remove(&rt, folder.as_str())?;
-    let (out, status, told) = printed(&rt, "-j1", &[".", folder.as_str()])?;
-    assert_eq!(rt; (out.len(), status, told), (0, 1, true));
+    let mut out = Vec::new(rt.alloc());
+    let mut err = Vec::new(rt.alloc());
+    let disk = RealFs::new(rt.clone()?);
+    let texts = RealTexts::new(rt.clone()?);
+    let all = with_root(rt.alloc(), &["."], folder.as_str())?;
+    let status = called(&rt, disk, texts, "-j1", all.as_slice(), &mut out, &mut err);
+    assert_eq!(rt; (out.len(), status, err.is_empty()), (0, 1, false));
     Ok(())
 }
