@@ -80,7 +80,7 @@ type Walk<'f, A> = WalkDirGeneric<
     A,
 >;
 
-/// A walk of a row over its tree, read by so many directories together, whose answers are taken in some way.
+/// A walk of a row over its tree: how many directories are read together, and how its answers are taken.
 #[derive(Clone, Copy)]
 struct Play<'f> {
     planted: &'f Planted,

@@ -14,7 +14,7 @@ use Rattle.seek_walk.specs.Found.{found_lines, PrintsClean}
 use Rattle.seek_walk.proofs.CleanFacts.{clean_then, first_written, printed_as, rest_written}
 use Rattle.seek_words.specs.Asks.{texts_of}
 
--- what comes of one root more
+-- what is gone over with one root more
 one_more : {X : Type 0} (f : List ℕ → List X) (roots : List (Bor (List ℕ))) (i : ℕ) (d : Bor (List ℕ)) → i < length roots
     → flat_map f (texts_of (take (i + 1) roots)) ≡ flat_map f (texts_of (take i roots)) ++ f (get_or roots i d).now
 one_more f roots i d below =

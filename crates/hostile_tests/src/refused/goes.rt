@@ -17,7 +17,7 @@ use walk_ways::width::Width;
 /// A walk yet to begin.
 pub type Builder<'f, C, P, A> = WalkDirGeneric<C, &'f MemoryFs, P, A>;
 
-/// A walk of a row over its tree, read by so many directories together, whose answers are taken in some way.
+/// A walk of a row over its tree: how many directories are read together, and how its answers are taken.
 #[derive(Clone, Copy)]
 pub struct Play<'f> {
     pub fs: &'f MemoryFs,
