@@ -3,7 +3,7 @@ use Rattle.std.proofs.Common.{inr, sym, subst}
 use Rattle.std.specs.Prelude.{IsOk}
 use Rattle.jwalk_order.specs.declared.ordered.Ordered.{Ordered}
 use Rattle.jwalk_board.specs.Board.{Board, HandsOut}
-use Rattle.read_parts.specs.declared.read_dir_spec.ReadDirSpec.{ReadDirSpec}
+use Rattle.jwalk_read.specs.declared.read_dir_spec.ReadDirSpec.{ReadDirSpec}
 use Rattle.crew_parts.specs.declared.wanted.Wanted.{Wanted}
 use Rattle.crew_parts.specs.declared.arrival.Arrival.{Arrival}
 use Rattle.crew_parts.specs.declared.arrival.Arrival.TheVariants.{Entered, Memory, Lost, Wait}

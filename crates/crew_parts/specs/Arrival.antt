@@ -5,7 +5,7 @@ use Rattle.jwalk_board.specs.Board.{Board, HandsOut}
 use Rattle.jwalk_board.specs.Refusal.{RefusesHandOut}
 use Rattle.jwalk_board.specs.declared.board.refusal.HandOutRefusal.{HandOutRefusal}
 use Rattle.jwalk_board.specs.declared.board.refusal.HandOutRefusal.TheVariants as refused
-use Rattle.read_parts.specs.declared.read_dir_spec.ReadDirSpec.{ReadDirSpec}
+use Rattle.jwalk_read.specs.declared.read_dir_spec.ReadDirSpec.{ReadDirSpec}
 use Rattle.crew_parts.specs.declared.wanted.Wanted.{Wanted}
 use Rattle.crew_parts.specs.declared.arrival.Arrival.{Arrival}
 use Rattle.crew_parts.specs.declared.arrival.Arrival.TheVariants.{Entered, Memory, Lost, Wait}

@@ -5,10 +5,10 @@ use Rattle.walk_model.specs.ReadDir.{Spec}
 use Rattle.jwalk_order.specs.IndexPath.{address}
 use Rattle.jwalk_order.specs.Ordered.{address_of}
 use Rattle.jwalk_order.specs.declared.ordered.Ordered.{Ordered}
-use Rattle.read_parts.specs.Text.{text}
-use Rattle.read_parts.specs.Ancestors.{texts}
-use Rattle.read_parts.specs.Options.{options_value}
-use Rattle.read_parts.specs.ReadDirSpec.{spec}
+use Rattle.jwalk_read.specs.Text.{text}
+use Rattle.jwalk_read.specs.Ancestors.{texts}
+use Rattle.jwalk_read.specs.Options.{options_value}
+use Rattle.jwalk_read.specs.ReadDirSpec.{spec}
 use Rattle.jwalk_read.specs.Job.{options_of}
 use Rattle.crew_parts.specs.declared.wanted.Wanted.{Wanted}
 use Rattle.crew_parts.specs.Message.{Message}

@@ -5,9 +5,9 @@ use crate::message::Message;
 use crate::wanted::Wanted;
 use jwalk_board::board::{Board, HandOutRefusal};
 use jwalk_order::ordered::Ordered;
-use read_parts::client_state::ClientState;
-use read_parts::process_read_dir::ProcessReadDir;
-use read_parts::read_dir_spec::ReadDirSpec;
+use jwalk_read::client_state::ClientState;
+use jwalk_read::process_read_dir::ProcessReadDir;
+use jwalk_read::read_dir_spec::ReadDirSpec;
 use std::alloc::{Allocator, Global};
 use walk_fs::file_system::FileSystem;
 

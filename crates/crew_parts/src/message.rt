@@ -2,16 +2,16 @@
 ghost use Rattle.std.specs.Prelude.{◌≡◌, [], IsErr, IsTrue, ◌↔◌, IfOk, MatchResult, map};
 ghost use Rattle.std.specs.Arc.{arc_value};
 ghost use Rattle.walk_model.specs.ReadDir.{children_of, AreClones};
-ghost use Rattle.read_parts.specs.ReadDirSpec.{spec};
+ghost use Rattle.jwalk_read.specs.ReadDirSpec.{spec};
 ghost use Rattle.jwalk_read.specs.ReadDir.{outcome};
 ghost use Rattle.jwalk_read.specs.Job.{callback, IsReadingOf};
 ghost use Rattle.crew_parts.specs.Message.{IsLawfulMessage};
 
+use jwalk_read::client_state::ClientState;
 use jwalk_read::job::Job;
+use jwalk_read::process_read_dir::ProcessReadDir;
 use jwalk_read::read_dir::{Outcome, directories_of};
-use read_parts::client_state::ClientState;
-use read_parts::process_read_dir::ProcessReadDir;
-use read_parts::read_dir_spec::ReadDirSpec;
+use jwalk_read::read_dir_spec::ReadDirSpec;
 use std::alloc::{AllocError, Allocator, Global};
 use std::marker::Model;
 use std::sync::Arc;

@@ -1,18 +1,18 @@
 //! Which reading an iterator waits for.
 ghost use Rattle.std.specs.Prelude.{◌↔◌, IsTrue, IfOk};
 ghost use Rattle.jwalk_order.specs.IndexPath.{address as indices_of};
-ghost use Rattle.read_parts.specs.ReadDirSpec.{spec};
-ghost use Rattle.read_parts.specs.Options.{options_value};
+ghost use Rattle.jwalk_read.specs.ReadDirSpec.{spec};
+ghost use Rattle.jwalk_read.specs.Options.{options_value};
 ghost use Rattle.crew_parts.specs.Wanted.{Fits, IsDirectory, IsFor};
 
 use crate::message::Message;
 use jwalk_order::index_path::IndexPath;
 use jwalk_order::ordered::Ordered;
-use read_parts::ancestors::Ancestors;
-use read_parts::client_state::ClientState;
-use read_parts::options::Options;
-use read_parts::process_read_dir::ProcessReadDir;
-use read_parts::read_dir_spec::ReadDirSpec;
+use jwalk_read::ancestors::Ancestors;
+use jwalk_read::client_state::ClientState;
+use jwalk_read::options::Options;
+use jwalk_read::process_read_dir::ProcessReadDir;
+use jwalk_read::read_dir_spec::ReadDirSpec;
 use std::alloc::{AllocError, Allocator, Global};
 use std::sync::Arc;
 use walk_fs::file_system::FileSystem;

@@ -8,8 +8,8 @@ use Rattle.walk_model.specs.Job as value
 use Rattle.walk_model.specs.FileSystem.{Functions}
 use Rattle.walk_model.specs.Walk.{whole_walk, stateless_walk}
 use Rattle.walk_fs.specs.declared.file_system.FileSystem as FileSystem
-use Rattle.read_parts.specs.declared.process_read_dir.ProcessReadDir as ProcessReadDir
-use Rattle.read_parts.specs.Given.{Given}
+use Rattle.jwalk_read.specs.declared.process_read_dir.ProcessReadDir as ProcessReadDir
+use Rattle.jwalk_read.specs.Given.{Given}
 use Rattle.jwalk_read.specs.Job.{IsSteady}
 use Rattle.jwalk_crew.specs.declared.pool.Pool as Pool
 use Rattle.jwalk_entries.specs.declared.dir_entry_iter.DirEntryIter.{DirEntryIter}

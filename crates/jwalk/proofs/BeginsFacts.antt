@@ -12,12 +12,12 @@ use Rattle.walk_model.specs.Listing.{paired}
 use Rattle.walk_model.specs.Job as value
 use Rattle.walk_model.specs.Job.{root_list}
 use Rattle.walk_fs.specs.declared.file_system.FileSystem as FileSystem
-use Rattle.read_parts.specs.declared.process_read_dir.ProcessReadDir as ProcessReadDir
+use Rattle.jwalk_read.specs.declared.process_read_dir.ProcessReadDir as ProcessReadDir
 use Rattle.jwalk_read.specs.declared.job.Job.{Job}
 use Rattle.jwalk_read.specs.declared.read_dir.ReadDir.{ReadDir}
 use Rattle.jwalk_read.specs.ReadDir.{reading}
-use Rattle.read_parts.specs.Options.{width_of}
-use Rattle.read_parts.specs.Given.{Given, counted_reading}
+use Rattle.jwalk_read.specs.Options.{width_of}
+use Rattle.jwalk_read.specs.Given.{Given, counted_reading}
 use Rattle.jwalk_read.specs.Job as job
 use Rattle.jwalk_read.specs.Job.{file_system, callback, job_by, IsSteady}
 use Rattle.jwalk_crew.specs.declared.crew.NotStarted.{NotStarted}

@@ -16,10 +16,10 @@ use Rattle.walk_model.specs.Held.{pair_up, first_source, after_first}
 use Rattle.walk_model.specs.Walk.{whole_walk}
 use Rattle.walk_model.proofs.CountedFacts.{counted-has_directory}
 use Rattle.walk_fs.specs.declared.file_system.FileSystem as FileSystem
-use Rattle.read_parts.specs.declared.process_read_dir.ProcessReadDir as ProcessReadDir
-use Rattle.read_parts.specs.declared.error.Error.{Error}
-use Rattle.read_parts.specs.declared.dir_entry.DirEntry.{DirEntry}
-use Rattle.read_parts.specs.Given.{Given, counted_item, counted_spec, counted_outcome, counted_list}
+use Rattle.jwalk_read.specs.declared.process_read_dir.ProcessReadDir as ProcessReadDir
+use Rattle.jwalk_read.specs.declared.error.Error.{Error}
+use Rattle.jwalk_read.specs.declared.dir_entry.DirEntry.{DirEntry}
+use Rattle.jwalk_read.specs.Given.{Given, counted_item, counted_spec, counted_outcome, counted_list}
 use Rattle.jwalk_read.specs.Job.{greatest_depth, job_by, IsSteady}
 use Rattle.jwalk_crew.specs.declared.crew.NotStarted.{NotStarted}
 use Rattle.jwalk_crew.specs.declared.crew.NotStarted.TheVariants.{Busy, Memory}

@@ -14,15 +14,15 @@ use Rattle.walk_model.specs.Listing.{Pair, nothing, paired}
 use Rattle.walk_model.specs.Held.{pair_up, sources, first_source, after_first}
 use Rattle.walk_model.proofs.HeldFacts.{directories}
 use Rattle.walk_fs.specs.declared.file_system.FileSystem as FileSystem
-use Rattle.read_parts.specs.declared.process_read_dir.ProcessReadDir as ProcessReadDir
-use Rattle.read_parts.specs.Given.{Given, counted_reading, ClonesCount}
+use Rattle.jwalk_read.specs.declared.process_read_dir.ProcessReadDir as ProcessReadDir
+use Rattle.jwalk_read.specs.Given.{Given, counted_reading, ClonesCount}
 use Rattle.jwalk_read.specs.declared.job.Job.{Job}
-use Rattle.read_parts.specs.Options as options
+use Rattle.jwalk_read.specs.Options as options
 use Rattle.jwalk_read.specs.Job.{options_of, greatest_depth}
 use Rattle.jwalk_crew.specs.declared.pool.Pool as Pool
 use Rattle.jwalk_crew.specs.declared.crew.NotStarted.{NotStarted}
 use Rattle.jwalk_crew.specs.declared.crew.NotStarted.TheVariants.{Busy, Memory}
-use Rattle.jwalk_engine.specs.ReadAhead.{BeginsWith}
+use Rattle.jwalk_readings.specs.ReadAhead.{BeginsWith}
 use Rattle.jwalk_entries.specs.DirEntryIter.{reads_of, is_refused, by_crew, width_of, read_ahead, job_of, items_of, unread_of, held, held_by, IsWithin, IsSourced, IsRefused, ArePlaced}
 use Rattle.jwalk.specs.CrewStart.{busied, busy_pair, left_of, IsToRead, IsBegun, HoldsList, IsFromRoot}
 use Rattle.jwalk_readings.specs.CrewReads as reads_by

@@ -9,10 +9,10 @@ pub use Rattle.jwalk_entries.proofs.AnswerFacts as AnswerFacts
 pub use Rattle.jwalk_entries.proofs.FillFacts as FillFacts
 pub use Rattle.jwalk_entries.proofs.SameFacts as SameFacts
 -- what callers cite of a callback's lists
-pub use Rattle.read_parts.proofs.GivenFacts as GivenFacts
+pub use Rattle.jwalk_read.proofs.GivenFacts as GivenFacts
 -- what callers cite of callbacks that change states alone, and of sizes
 pub use Rattle.walk_model.proofs.StatesFacts as StatesFacts
-pub use Rattle.jwalk_process.proofs.SizedWalks as SizedWalks
+pub use Rattle.jwalk_callbacks.proofs.SizedWalks as SizedWalks
 -- what callers cite of readings by a pool of their own
 pub use Rattle.jwalk_crew.proofs.OriginFacts as OriginFacts
 pub use Rattle.jwalk_crew.proofs.DueFacts as DueFacts

@@ -19,12 +19,12 @@ use Rattle.walk_model.specs.Job.{reading, root_list}
 use Rattle.walk_model.specs.Walk.{whole_walk, stateless_walk}
 use Rattle.walk_model.proofs.HeldFacts.{alone}
 use Rattle.walk_fs.specs.declared.file_system.FileSystem as FileSystem
-use Rattle.read_parts.specs.declared.process_read_dir.ProcessReadDir as ProcessReadDir
-use Rattle.read_parts.specs.declared.error.Error.{Error}
-use Rattle.read_parts.specs.declared.dir_entry.DirEntry.{DirEntry}
-use Rattle.read_parts.specs.Error.{failure}
-use Rattle.read_parts.specs.Entry.{item}
-use Rattle.read_parts.specs.Given.{Given, counted_item, counted_spec, counted_list}
+use Rattle.jwalk_read.specs.declared.process_read_dir.ProcessReadDir as ProcessReadDir
+use Rattle.jwalk_read.specs.declared.error.Error.{Error}
+use Rattle.jwalk_read.specs.declared.dir_entry.DirEntry.{DirEntry}
+use Rattle.jwalk_read.specs.Error.{failure}
+use Rattle.jwalk_read.specs.Entry.{item}
+use Rattle.jwalk_read.specs.Given.{Given, counted_item, counted_spec, counted_list}
 use Rattle.jwalk_read.specs.Job.{options_of, greatest_depth, job_by, IsSteady}
 use Rattle.jwalk_crew.specs.declared.pool.Pool as Pool
 use Rattle.jwalk_entries.specs.declared.dir_entry_iter.DirEntryIter.{DirEntryIter}

@@ -9,10 +9,10 @@ use Rattle.walk_model.specs.Listing.{Pair, nothing, paired}
 use Rattle.jwalk_crew.specs.declared.crew.NotStarted.{NotStarted}
 use Rattle.jwalk_crew.specs.declared.crew.NotStarted.TheVariants.{Busy, Memory}
 use Rattle.jwalk_read.specs.declared.job.Job.{Job}
-use Rattle.read_parts.specs.Options as options
-use Rattle.read_parts.specs.Given.{Given, counted_reading, ClonesCount}
+use Rattle.jwalk_read.specs.Options as options
+use Rattle.jwalk_read.specs.Given.{Given, counted_reading, ClonesCount}
 use Rattle.jwalk_read.specs.Job.{options_of}
-use Rattle.jwalk_engine.specs.ReadAhead.{BeginsWith}
+use Rattle.jwalk_readings.specs.ReadAhead.{BeginsWith}
 use Rattle.jwalk_entries.specs.DirEntryIter.{is_refused, by_crew, job_of, items_of, unread_of, width_of, read_ahead, held, held_by, IsWithin, IsSourced, IsRefused}
 use Rattle.jwalk_entries.specs.declared.dir_entry_iter.DirEntryIter.{DirEntryIter}
 

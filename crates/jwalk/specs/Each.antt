@@ -6,7 +6,7 @@ use Rattle.std.specs.Iterator.{CallsOnEach, Drains, Yields, YieldsThen}
 use Rattle.std.specs.List.{FoldsTo}
 use denote.Param.Members.{Mut, Called}
 use Rattle.walk_fs.specs.declared.file_system.FileSystem as FileSystem
-use Rattle.read_parts.specs.declared.process_read_dir.ProcessReadDir as ProcessReadDir
+use Rattle.jwalk_read.specs.declared.process_read_dir.ProcessReadDir as ProcessReadDir
 use Rattle.jwalk_crew.specs.declared.pool.Pool as Pool
 use Rattle.jwalk_entries.specs.declared.dir_entry_iter.DirEntryIter.{DirEntryIter}
 use Rattle.jwalk_entries.specs.DirEntryIter.{by_crew, IsRefused, StartsSteady}

@@ -12,14 +12,12 @@ pub use Rattle.walk_model.specs as walk_model
 pub use Rattle.walk_fs.specs as walk_fs
 pub use Rattle.real_fs.specs as real_fs
 pub use Rattle.memory_fs.specs as memory_fs
-pub use Rattle.read_parts.specs as read_parts
 pub use Rattle.jwalk_read.specs as jwalk_read
-pub use Rattle.jwalk_process.specs as jwalk_process
+pub use Rattle.jwalk_callbacks.specs as jwalk_callbacks
 pub use Rattle.jwalk_order.specs as jwalk_order
 pub use Rattle.jwalk_board.specs as jwalk_board
 pub use Rattle.tree_walk.specs as tree_walk
-pub use Rattle.jwalk_engine.specs as jwalk_engine
+pub use Rattle.jwalk_readings.specs as jwalk_readings
 pub use Rattle.jwalk_crew.specs as jwalk_crew
 pub use Rattle.crew_parts.specs as crew_parts
-pub use Rattle.jwalk_readings.specs as jwalk_readings
 pub use Rattle.jwalk_entries.specs as jwalk_entries

@@ -1,7 +1,7 @@
 //! The builder of a walk.
 ghost use Rattle.std.specs.Prelude.{◌≡◌, ◌⊎◌, true, false, None, string_bytes, IfOk, IfErr};
 ghost use Rattle.walk_model.specs.Error.{memory};
-ghost use Rattle.read_parts.specs.Error.{failure};
+ghost use Rattle.jwalk_read.specs.Error.{failure};
 
 mod crew_start;
 mod each;
@@ -9,17 +9,17 @@ mod over_crew;
 mod states;
 mod workers;
 
+use jwalk_callbacks::by_fn::ByFn;
+use jwalk_callbacks::calls::Closure;
 use jwalk_crew::pool::NoPool;
 use jwalk_entries::dir_entry_iter::DirEntryIter;
-use jwalk_process::by_fn::ByFn;
-use jwalk_process::calls::Closure;
+use jwalk_read::client_state::ClientState;
+use jwalk_read::dir_entry::DirEntry;
+use jwalk_read::error::Error;
 use jwalk_read::job::Job;
+use jwalk_read::options::Options;
+use jwalk_read::process_read_dir::{NoProcess, ProcessReadDir};
 use jwalk_readings::parallelism::Parallelism;
-use read_parts::client_state::ClientState;
-use read_parts::dir_entry::DirEntry;
-use read_parts::error::Error;
-use read_parts::options::Options;
-use read_parts::process_read_dir::{NoProcess, ProcessReadDir};
 use real_fs::real_fs::RealFs;
 use std::alloc::{AllocError, Allocator, Global};
 use std::rt::{Files, HostRuntime};
@@ -314,7 +314,7 @@ impl<C: ClientState, S: FileSystem, P: ProcessReadDir<C, Global>, W: Drop> WalkD
     Global,
     W,
 > {
-    ghost use Rattle.jwalk_process.specs.ByFn.{closure_of};
+    ghost use Rattle.jwalk_callbacks.specs.ByFn.{closure_of};
     ghost use Rattle.jwalk.specs.WalkDir.{callback_of, SetsCallback};
 
     /// Returns the same walk with a closure as its callback, whose types need not be written.

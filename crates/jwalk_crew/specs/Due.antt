@@ -7,10 +7,10 @@ use Rattle.walk_model.specs.ReadDir.{Spec}
 use Rattle.walk_fs.specs.declared.file_system.FileSystem as FileSystem
 use Rattle.jwalk_order.specs.Frontier.{next_address}
 use Rattle.jwalk_order.specs.IndexPath.{address}
-use Rattle.read_parts.specs.declared.process_read_dir.ProcessReadDir as ProcessReadDir
-use Rattle.read_parts.specs.Given.{Given, counted_spec}
+use Rattle.jwalk_read.specs.declared.process_read_dir.ProcessReadDir as ProcessReadDir
+use Rattle.jwalk_read.specs.Given.{Given, counted_spec}
 use Rattle.jwalk_read.specs.Job.{IsSteadyJob, options_of}
-use Rattle.read_parts.specs.Options.{options_value}
+use Rattle.jwalk_read.specs.Options.{options_value}
 use Rattle.crew_parts.specs.declared.wanted.Wanted.{Wanted}
 use Rattle.jwalk_crew.specs.Origin.{Origin, spec_at}
 use Rattle.crew_parts.specs.Wanted.{IsDirectory}

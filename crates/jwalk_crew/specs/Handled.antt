@@ -6,7 +6,7 @@ use Rattle.keyed_slot.specs.declared.slot.KeyedSlot.{KeyedSlot}
 use Rattle.keyed_slot.specs.declared.slot.Receipt.{Receipt}
 use Rattle.jwalk_order.specs.IndexPath.{address}
 use Rattle.jwalk_board.specs.Board.{Board, Finishes, IsNextReady}
-use Rattle.read_parts.specs.declared.read_dir_spec.ReadDirSpec.{ReadDirSpec}
+use Rattle.jwalk_read.specs.declared.read_dir_spec.ReadDirSpec.{ReadDirSpec}
 use Rattle.crew_parts.specs.declared.arrival.Arrival.{Arrival}
 use Rattle.crew_parts.specs.declared.arrival.Arrival.TheVariants.{Entered, Lost, Memory, Wait}
 use Rattle.crew_parts.specs.declared.wanted.Wanted.{Wanted}

@@ -8,12 +8,12 @@ use Rattle.walk_model.specs.ReadDir.{Spec, children_of, AreClones}
 use Rattle.walk_fs.specs.declared.file_system.FileSystem as FileSystem
 use Rattle.jwalk_order.specs.Addressed.{Addressed}
 use Rattle.jwalk_board.specs.Board.{Board}
-use Rattle.read_parts.specs.declared.process_read_dir.ProcessReadDir as ProcessReadDir
+use Rattle.jwalk_read.specs.declared.process_read_dir.ProcessReadDir as ProcessReadDir
 use Rattle.jwalk_read.specs.declared.job.Job.{Job}
-use Rattle.read_parts.specs.declared.read_dir_spec.ReadDirSpec.{ReadDirSpec}
-use Rattle.read_parts.specs.Given.{Given, counted_spec}
+use Rattle.jwalk_read.specs.declared.read_dir_spec.ReadDirSpec.{ReadDirSpec}
+use Rattle.jwalk_read.specs.Given.{Given, counted_spec}
 use Rattle.jwalk_read.specs.Job.{IsSteadyJob, job_by}
-use Rattle.read_parts.specs.ReadDirSpec.{spec}
+use Rattle.jwalk_read.specs.ReadDirSpec.{spec}
 use Rattle.jwalk_read.specs.ReadDir.{outcome}
 use Rattle.crew_parts.specs.Message.{Message, IsLawfulMessage}
 

@@ -7,9 +7,9 @@ use Rattle.jwalk_order.specs.Frontier.{next_address, passed}
 use Rattle.jwalk_order.specs.Ordered.{address_of, child_count_of}
 use Rattle.jwalk_order.specs.declared.ordered.Ordered.{Ordered}
 use Rattle.jwalk_order.specs.Addressed.{addressed}
-use Rattle.read_parts.specs.declared.process_read_dir.ProcessReadDir as ProcessReadDir
-use Rattle.read_parts.specs.declared.read_dir_spec.ReadDirSpec.{ReadDirSpec}
-use Rattle.read_parts.specs.ReadDirSpec.{spec}
+use Rattle.jwalk_read.specs.declared.process_read_dir.ProcessReadDir as ProcessReadDir
+use Rattle.jwalk_read.specs.declared.read_dir_spec.ReadDirSpec.{ReadDirSpec}
+use Rattle.jwalk_read.specs.ReadDirSpec.{spec}
 use Rattle.crew_parts.specs.declared.arrival.Arrival.{Arrival}
 use Rattle.crew_parts.specs.declared.arrival.Arrival.TheVariants.{Entered, Memory, Lost, Wait}
 use Rattle.jwalk_crew.specs.declared.pool.Missed.{Missed}

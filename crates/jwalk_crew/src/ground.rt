@@ -2,8 +2,8 @@
 ghost use Rattle.std.specs.Prelude.{◌≡◌};
 
 use crate::origin::Origin;
-use read_parts::client_state::ClientState;
-use read_parts::process_read_dir::ProcessReadDir;
+use jwalk_read::client_state::ClientState;
+use jwalk_read::process_read_dir::ProcessReadDir;
 use std::alloc::Allocator;
 use std::snapshot::Snapshot;
 use walk_fs::file_system::FileSystem;

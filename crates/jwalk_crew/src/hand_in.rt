@@ -7,9 +7,9 @@ use crate::steps::finish_or_stop;
 use crew_parts::message::Message;
 use jwalk_board::board::{Board, FinishFault};
 use jwalk_order::index_path::IndexPath;
-use read_parts::client_state::ClientState;
-use read_parts::process_read_dir::ProcessReadDir;
-use read_parts::read_dir_spec::ReadDirSpec;
+use jwalk_read::client_state::ClientState;
+use jwalk_read::process_read_dir::ProcessReadDir;
+use jwalk_read::read_dir_spec::ReadDirSpec;
 use std::alloc::Allocator;
 use walk_fs::file_system::FileSystem;
 

@@ -1,12 +1,12 @@
 //! Where the readings of a walk come from.
 ghost use Rattle.std.specs.Prelude.{◌≡◌, map};
 ghost use Rattle.std.specs.Arc.{arc_value};
-ghost use Rattle.read_parts.specs.ReadDirSpec.{spec};
+ghost use Rattle.jwalk_read.specs.ReadDirSpec.{spec};
 
+use jwalk_read::client_state::ClientState;
 use jwalk_read::job::Job;
-use read_parts::client_state::ClientState;
-use read_parts::process_read_dir::ProcessReadDir;
-use read_parts::read_dir_spec::ReadDirSpec;
+use jwalk_read::process_read_dir::ProcessReadDir;
+use jwalk_read::read_dir_spec::ReadDirSpec;
 use std::alloc::{Allocator, Global};
 use std::marker::Model;
 use std::sync::Arc;
@@ -34,7 +34,7 @@ impl<C: ClientState, S: FileSystem, P: ProcessReadDir<C, A>, A: Allocator + Copy
     for Origin<C, S, P, A> {
     ghost use Rattle.std.specs.Prelude.{map};
     ghost use Rattle.std.specs.Arc.{arc_value};
-    ghost use Rattle.read_parts.specs.ReadDirSpec.{spec};
+    ghost use Rattle.jwalk_read.specs.ReadDirSpec.{spec};
     ghost use Rattle.jwalk_crew.specs.Origin.{Origin as Begun};
 
     ghost Value = { Begun C S P A C.ReadDirState C.DirEntryState };

@@ -10,8 +10,8 @@ ghost use Rattle.crew_parts.specs.Wanted.{Fits};
 use crew_parts::message::Message;
 use crew_parts::wanted::Wanted;
 use jwalk_order::ordered::Ordered;
-use read_parts::client_state::ClientState;
-use read_parts::process_read_dir::ProcessReadDir;
+use jwalk_read::client_state::ClientState;
+use jwalk_read::process_read_dir::ProcessReadDir;
 use std::alloc::{AllocError, Allocator};
 use walk_fs::file_system::FileSystem;
 

@@ -16,7 +16,7 @@ ghost use Rattle.keyed_slot.specs.Keyed.{
 };
 ghost use Rattle.jwalk_order.specs.Frontier.{roots as root_addresses};
 ghost use Rattle.jwalk_order.specs.IndexPath.{address as indices_of};
-ghost use Rattle.read_parts.specs.ReadDirSpec.{spec};
+ghost use Rattle.jwalk_read.specs.ReadDirSpec.{spec};
 ghost use Rattle.jwalk_crew.specs.Crew.{limit_of};
 ghost use Rattle.jwalk_crew.specs.Ground.{limit_at, origin_at};
 ghost use Rattle.jwalk_crew.specs.Handled.{
@@ -44,11 +44,11 @@ use crate::steps::{Calls, Turn, new_board, take_turn};
 use crate::work::{Handled, SharedBoard, TakenOut, Work};
 use crew_parts::arrival::{Arrival, arrive};
 use crew_parts::wanted::Wanted;
+use jwalk_read::client_state::ClientState;
 use jwalk_read::job::Job;
+use jwalk_read::process_read_dir::ProcessReadDir;
+use jwalk_read::read_dir_spec::ReadDirSpec;
 use keyed_slot::slot::{Key, KeyedSlot, Loan, Receipt};
-use read_parts::client_state::ClientState;
-use read_parts::process_read_dir::ProcessReadDir;
-use read_parts::read_dir_spec::ReadDirSpec;
 use std::alloc::{AllocError, Allocator};
 use std::sync::{Arc, Condvar, Mutex, MutexGuard, Wait};
 use std::time::Clock;

@@ -5,11 +5,11 @@ use crate::ground::Ground;
 use crew_parts::message::Message;
 use jwalk_board::board::Board;
 use jwalk_order::ordered_queue::OrderedMatcher;
+use jwalk_read::client_state::ClientState;
+use jwalk_read::process_read_dir::ProcessReadDir;
+use jwalk_read::read_dir_spec::ReadDirSpec;
 use keyed_slot::marked::Marked;
 use keyed_slot::slot::{Absence, Loan, Receipt};
-use read_parts::client_state::ClientState;
-use read_parts::process_read_dir::ProcessReadDir;
-use read_parts::read_dir_spec::ReadDirSpec;
 use std::alloc::Allocator;
 use walk_fs::file_system::FileSystem;
 

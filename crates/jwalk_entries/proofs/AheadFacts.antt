@@ -7,12 +7,12 @@ use Rattle.walk_model.specs.Entry.{Item, has_directory}
 use Rattle.walk_model.specs.ReadDir.{Spec, Outcome, IsLawfulReading}
 use Rattle.walk_fs.specs.declared.file_system.FileSystem as FileSystem
 use Rattle.jwalk_order.specs.Frontier.{next_address}
-use Rattle.read_parts.specs.declared.process_read_dir.ProcessReadDir as ProcessReadDir
+use Rattle.jwalk_read.specs.declared.process_read_dir.ProcessReadDir as ProcessReadDir
 use Rattle.jwalk_read.specs.declared.job.Job.{Job}
 use Rattle.jwalk_read.specs.Job.{greatest_depth}
-use Rattle.jwalk_engine.specs.Reads.{ReadsFirstBy, ReadsNextBy}
-use Rattle.jwalk_engine.specs.ReadAhead.{ReadAhead, nothing_ahead, BeginsWith}
-use Rattle.jwalk_engine.specs.BatchReads.{PassesAddress}
+use Rattle.jwalk_readings.specs.Reads.{ReadsFirstBy, ReadsNextBy}
+use Rattle.jwalk_readings.specs.ReadAhead.{ReadAhead, nothing_ahead, BeginsWith}
+use Rattle.jwalk_readings.specs.BatchReads.{PassesAddress}
 use Rattle.jwalk_crew.specs.declared.pool.Pool as Pool
 use Rattle.jwalk_entries.specs.declared.dir_entry_iter.DirEntryIter.{DirEntryIter}
 use Rattle.jwalk_readings.specs.declared.read_dir_iter.ReadDirIter.{ReadDirIter}

@@ -16,18 +16,18 @@ use Rattle.walk_model.proofs.CountedFacts.{counted-is_answered, counted-children
 use Rattle.walk_model.proofs.HeldFacts.{directories, as_many_of, sourced, sourced_count, alone, heavy, pair_up-outcome}
 use Rattle.walk_model.proofs.WithinFacts.{at_depth, is_between}
 use Rattle.walk_fs.specs.declared.file_system.FileSystem as FileSystem
-use Rattle.read_parts.specs.declared.process_read_dir.ProcessReadDir as ProcessReadDir
-use Rattle.read_parts.specs.declared.error.Error.{Error}
-use Rattle.read_parts.specs.declared.dir_entry.DirEntry.{DirEntry}
+use Rattle.jwalk_read.specs.declared.process_read_dir.ProcessReadDir as ProcessReadDir
+use Rattle.jwalk_read.specs.declared.error.Error.{Error}
+use Rattle.jwalk_read.specs.declared.dir_entry.DirEntry.{DirEntry}
 use Rattle.jwalk_read.specs.declared.job.Job.{Job}
-use Rattle.read_parts.specs.Error.{failure}
-use Rattle.read_parts.specs.Entry.{item}
-use Rattle.read_parts.specs.Given.{Given, counted_item, counted_spec, counted_reading, ClonesCount}
+use Rattle.jwalk_read.specs.Error.{failure}
+use Rattle.jwalk_read.specs.Entry.{item}
+use Rattle.jwalk_read.specs.Given.{Given, counted_item, counted_spec, counted_reading, ClonesCount}
 use Rattle.jwalk_read.specs.Job.{options_of, greatest_depth, job_by, IsSteadyJob}
 use Rattle.jwalk_crew.specs.declared.pool.Pool as Pool
 use Rattle.jwalk_entries.specs.declared.dir_entry_iter.DirEntryIter.{DirEntryIter}
 use Rattle.jwalk_entries.specs.Step.{ReadsUpTo, IsAtDirectory, StopsAtDirectory}
-use Rattle.jwalk_engine.specs.ReadAhead.{nothing_ahead}
+use Rattle.jwalk_readings.specs.ReadAhead.{nothing_ahead}
 use Rattle.jwalk_readings.specs.ReadDirIter.{Tells}
 use Rattle.jwalk_entries.specs.DirEntryIter.{by_crew, job_of, min_depth_of, items_of, unread_of, width_of, read_ahead, GrowsAhead, held, held_by, refusal, to_come, IsSourced, Stops, ArePlaced, IsSteadyWalk, Known, StaysSteady, ReadsStaySteady, Answers}
 use Rattle.jwalk_readings.proofs.GivesFacts.{steady_at_rest}

@@ -5,8 +5,8 @@ use Rattle.std.specs.declared.default.Default as Default
 use Rattle.walk_model.specs.Entry.{Item}
 use Rattle.walk_model.specs.ReadDir.{Spec, Outcome}
 use Rattle.walk_fs.specs.declared.file_system.FileSystem as FileSystem
-use Rattle.read_parts.specs.declared.process_read_dir.ProcessReadDir as ProcessReadDir
-use Rattle.read_parts.specs.Given.{Given}
+use Rattle.jwalk_read.specs.declared.process_read_dir.ProcessReadDir as ProcessReadDir
+use Rattle.jwalk_read.specs.Given.{Given}
 use Rattle.jwalk_read.specs.Job.{IsAsGiven}
 use Rattle.jwalk_crew.specs.declared.pool.Pool as Pool
 use Rattle.jwalk_readings.specs.CrewReads.{IsNextBelow}

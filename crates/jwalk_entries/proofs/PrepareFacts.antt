@@ -8,13 +8,13 @@ use Rattle.walk_model.specs.ReadDir.{Spec, children_of}
 use Rattle.walk_fs.specs.declared.file_system.FileSystem as FileSystem
 use Rattle.jwalk_order.specs.Frontier as order
 use Rattle.jwalk_order.specs.Frontier.{next_address}
-use Rattle.read_parts.specs.declared.process_read_dir.ProcessReadDir as ProcessReadDir
-use Rattle.read_parts.specs.declared.error.Error.{Error}
-use Rattle.read_parts.specs.declared.dir_entry.DirEntry.{DirEntry}
-use Rattle.read_parts.specs.Entry.{item}
-use Rattle.read_parts.specs.Given.{Given}
+use Rattle.jwalk_read.specs.declared.process_read_dir.ProcessReadDir as ProcessReadDir
+use Rattle.jwalk_read.specs.declared.error.Error.{Error}
+use Rattle.jwalk_read.specs.declared.dir_entry.DirEntry.{DirEntry}
+use Rattle.jwalk_read.specs.Entry.{item}
+use Rattle.jwalk_read.specs.Given.{Given}
 use Rattle.jwalk_read.specs.Job.{greatest_depth}
-use Rattle.jwalk_engine.specs.Reads.{ReadsFirstBy}
+use Rattle.jwalk_readings.specs.Reads.{ReadsFirstBy}
 use Rattle.jwalk_crew.specs.declared.pool.Pool as Pool
 use Rattle.jwalk_crew.specs.declared.pool.Missed.{Missed}
 use Rattle.jwalk_crew.specs.declared.pool.Missed.TheVariants.{Memory}

@@ -3,9 +3,9 @@ use Rattle.std.proofs.Common.{◌≡◌, ◌∙◌, ◌∷◌, [], ◌++◌, Lis
 use Rattle.std.specs.Prelude.{if◌then◌else◌, is_ok}
 use Rattle.std.proofs.lemmas.List.{map-append, reverse-append, reverse-reverse}
 use Rattle.walk_model.specs.Entry.{Item}
-use Rattle.read_parts.specs.declared.error.Error.{Error}
-use Rattle.read_parts.specs.declared.dir_entry.DirEntry.{DirEntry}
-use Rattle.read_parts.specs.Entry.{item}
+use Rattle.jwalk_read.specs.declared.error.Error.{Error}
+use Rattle.jwalk_read.specs.declared.dir_entry.DirEntry.{DirEntry}
+use Rattle.jwalk_read.specs.Entry.{item}
 use Rattle.jwalk_readings.proofs.ListFacts as lists
 
 pub popped : {C A R E : Type 0} (stack left : List (Result (DirEntry C A R E) (Error A))) (x : Result (DirEntry C A R E) (Error A)) → stack ≡ left ++ x ∷ [] → map item (reverse stack) ≡ item x ∷ map item (reverse left)

@@ -17,15 +17,15 @@ use Rattle.walk_model.proofs.CountedFacts.{counted-has_directory, counted-after_
 use Rattle.walk_model.proofs.HeldFacts.{directories, directories-append, as_many_of, lighter, lighter_alone, listed, alone, unread_none}
 use Rattle.walk_model.proofs.WithinFacts.{NoDeeper-append, of_reading, after, first_of}
 use Rattle.walk_fs.specs.declared.file_system.FileSystem as FileSystem
-use Rattle.read_parts.specs.declared.process_read_dir.ProcessReadDir as ProcessReadDir
+use Rattle.jwalk_read.specs.declared.process_read_dir.ProcessReadDir as ProcessReadDir
 use Rattle.jwalk_read.specs.declared.job.Job.{Job}
-use Rattle.read_parts.specs.declared.error.Error.{Error}
-use Rattle.read_parts.specs.declared.dir_entry.DirEntry.{DirEntry}
-use Rattle.read_parts.specs.Entry.{item}
-use Rattle.read_parts.specs.Given.{Given, counted_entry, counted_item, counted_spec, counted_outcome, ClonesCount}
+use Rattle.jwalk_read.specs.declared.error.Error.{Error}
+use Rattle.jwalk_read.specs.declared.dir_entry.DirEntry.{DirEntry}
+use Rattle.jwalk_read.specs.Entry.{item}
+use Rattle.jwalk_read.specs.Given.{Given, counted_entry, counted_item, counted_spec, counted_outcome, ClonesCount}
 use Rattle.jwalk_read.specs.Job.{options_of, greatest_depth, job_by, IsAsGiven}
 use Rattle.jwalk_order.specs.Frontier.{next_address}
-use Rattle.jwalk_engine.specs.Reads.{ReadsFirstBy}
+use Rattle.jwalk_readings.specs.Reads.{ReadsFirstBy}
 use Rattle.jwalk_crew.specs.declared.pool.Pool as Pool
 use Rattle.jwalk_crew.specs.declared.pool.Missed.{Missed}
 use Rattle.jwalk_readings.specs.CrewReads.{failure_of}

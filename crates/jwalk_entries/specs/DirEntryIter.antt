@@ -13,18 +13,18 @@ use Rattle.walk_model.specs.Listing.{Pair, Source, nothing, unread, was_read, af
 use Rattle.walk_model.specs.Held as value
 use Rattle.walk_model.specs.Held.{pair_up, weight, sources, AnswersPlainly, AreSourced}
 use Rattle.walk_fs.specs.declared.file_system.FileSystem as FileSystem
-use Rattle.read_parts.specs.declared.process_read_dir.ProcessReadDir as ProcessReadDir
-use Rattle.read_parts.specs.declared.error.Error.{Error}
-use Rattle.read_parts.specs.declared.dir_entry.DirEntry.{DirEntry}
+use Rattle.jwalk_read.specs.declared.process_read_dir.ProcessReadDir as ProcessReadDir
+use Rattle.jwalk_read.specs.declared.error.Error.{Error}
+use Rattle.jwalk_read.specs.declared.dir_entry.DirEntry.{DirEntry}
 use Rattle.jwalk_read.specs.declared.job.Job.{Job}
-use Rattle.read_parts.specs.Entry.{item}
-use Rattle.read_parts.specs.Given.{Given, counted_item, counted_spec}
+use Rattle.jwalk_read.specs.Entry.{item}
+use Rattle.jwalk_read.specs.Given.{Given, counted_item, counted_spec}
 use Rattle.jwalk_read.specs.Job.{options_of, greatest_depth, job_by, IsSteadyJob}
 use Rattle.jwalk_order.specs.Frontier as frontier
 use Rattle.jwalk_order.specs.Frontier.{next_address}
-use Rattle.jwalk_engine.specs.Reads.{ReadsFirstBy}
-use Rattle.jwalk_engine.specs.ReadAhead.{ReadAhead}
-use Rattle.jwalk_engine.specs.ReadAhead as ahead
+use Rattle.jwalk_readings.specs.Reads.{ReadsFirstBy}
+use Rattle.jwalk_readings.specs.ReadAhead.{ReadAhead}
+use Rattle.jwalk_readings.specs.ReadAhead as ahead
 use Rattle.jwalk_crew.specs.declared.pool.Pool as Pool
 use Rattle.jwalk_crew.specs.declared.pool.Missed.{Missed}
 use Rattle.jwalk_readings.specs.ReadDirIter as readings

@@ -7,7 +7,7 @@ use Rattle.walk_model.specs.Listing.{after_reading, is_answered}
 use Rattle.walk_model.specs.Held.{first_source, is_plain}
 use Rattle.jwalk_read.specs.declared.job.Job.{Job}
 use Rattle.jwalk_read.specs.Job.{options_of, greatest_depth}
-use Rattle.jwalk_engine.specs.Reads.{ReadsFirstBy}
+use Rattle.jwalk_readings.specs.Reads.{ReadsFirstBy}
 
 -- A directory is to be read below the first item.
 abbrev pub IsAtDirectory : {R E : Type 0} → List (Item R E) → List (Spec R) → Type 0

@@ -1,19 +1,19 @@
 //! A walk's answers.
 ghost use Rattle.std.specs.Prelude.{◌≡◌, true, Ok, IfOk, OnErr};
-ghost use Rattle.read_parts.specs.Entry.{entry, item};
+ghost use Rattle.jwalk_read.specs.Entry.{entry, item};
 ghost use Rattle.jwalk_read.specs.Job.{callback};
 
 mod on_threads;
 
 use jwalk_crew::pool::{Missed, NoPool, Pool};
+use jwalk_read::client_state::ClientState;
+use jwalk_read::dir_entry::DirEntry;
+use jwalk_read::error::Error;
 use jwalk_read::job::Job;
+use jwalk_read::process_read_dir::ProcessReadDir;
 use jwalk_read::read_dir::{Outcome, ReadDir};
 use jwalk_readings::crew_reads::error_of;
 use jwalk_readings::read_dir_iter::ReadDirIter;
-use read_parts::client_state::ClientState;
-use read_parts::dir_entry::DirEntry;
-use read_parts::error::Error;
-use read_parts::process_read_dir::ProcessReadDir;
 use std::alloc::{AllocError, Allocator, Global};
 use walk_fs::file_system::FileSystem;
 
@@ -65,10 +65,10 @@ impl<
     ghost use Rattle.walk_model.specs.ReadDir.{children, AreClones};
     ghost use Rattle.walk_model.specs.Listing.{paired, is_answered};
     ghost use Rattle.jwalk_read.specs.ReadDir.{reading, outcome};
-    ghost use Rattle.read_parts.specs.Given.{counted_reading, ClonesCount};
-    ghost use Rattle.read_parts.specs.Options as options;
+    ghost use Rattle.jwalk_read.specs.Given.{counted_reading, ClonesCount};
+    ghost use Rattle.jwalk_read.specs.Options as options;
     ghost use Rattle.jwalk_read.specs.Job.{options_of};
-    ghost use Rattle.jwalk_engine.specs.ReadAhead.{nothing_ahead, BeginsWith};
+    ghost use Rattle.jwalk_readings.specs.ReadAhead.{nothing_ahead, BeginsWith};
     ghost use Rattle.jwalk_entries.specs.DirEntryIter.{reads_of, by_crew, is_refused, job_of, min_depth_of, items_of, unread_of, width_of, read_ahead, early_of, held_by, IsWithin, IsSourced, IsRefused, ReadsStaySteady, Passes, GoesOn, Answers, AnswersWhatCame, Fills, Counts};
     ghost use Rattle.jwalk_entries.specs.Step.{Receives};
 

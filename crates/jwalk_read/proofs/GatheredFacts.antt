@@ -10,12 +10,12 @@ use Rattle.walk_model.specs.Entry.{AtDepth}
 use Rattle.walk_model.specs.Job as value
 use Rattle.walk_model.proofs.HeldFacts.{AtDepth-append}
 use Rattle.walk_fs.specs.declared.file_system.FileSystem as FileSystem
-use Rattle.read_parts.specs.declared.dir_entry.DirEntry.{DirEntry}
-use Rattle.read_parts.specs.declared.error.Error.{Error}
-use Rattle.read_parts.specs.declared.read_dir_spec.ReadDirSpec.{ReadDirSpec}
-use Rattle.read_parts.specs.Entry.{item}
-use Rattle.read_parts.specs.ReadDirSpec.{spec}
-use Rattle.read_parts.specs.Given.{Given, counted_spec, counted_list, DefaultsCount}
+use Rattle.jwalk_read.specs.declared.dir_entry.DirEntry.{DirEntry}
+use Rattle.jwalk_read.specs.declared.error.Error.{Error}
+use Rattle.jwalk_read.specs.declared.read_dir_spec.ReadDirSpec.{ReadDirSpec}
+use Rattle.jwalk_read.specs.Entry.{item}
+use Rattle.jwalk_read.specs.ReadDirSpec.{spec}
+use Rattle.jwalk_read.specs.Given.{Given, counted_spec, counted_list, DefaultsCount}
 use Rattle.jwalk_read.specs.declared.job.Job.{Job}
 use Rattle.jwalk_read.specs.declared.job.gathering.Gathering.{Gathering}
 use Rattle.jwalk_read.specs.Job.{file_system, job_by}

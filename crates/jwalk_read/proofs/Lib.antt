@@ -1,3 +1,6 @@
+pub mod GivenFacts
+mod TieFacts
+mod PathListFacts
 pub mod ListFacts
 mod GatheredFacts
 mod ReadingFacts

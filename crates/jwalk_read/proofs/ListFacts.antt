@@ -4,10 +4,10 @@ use Rattle.std.proofs.lemmas.Grind.{flat_map-append}
 use Rattle.std.proofs.lemmas.List.{map-append}
 use Rattle.walk_model.specs.Entry.{Item}
 use Rattle.walk_model.specs.ReadDir.{Spec, spec_of, children, AreClones}
-use Rattle.read_parts.specs.declared.dir_entry.DirEntry.{DirEntry}
-use Rattle.read_parts.specs.declared.error.Error.{Error}
-use Rattle.read_parts.specs.Entry.{item}
-use Rattle.read_parts.specs.Given.{Given, counted_item, counted_list}
+use Rattle.jwalk_read.specs.declared.dir_entry.DirEntry.{DirEntry}
+use Rattle.jwalk_read.specs.declared.error.Error.{Error}
+use Rattle.jwalk_read.specs.Entry.{item}
+use Rattle.jwalk_read.specs.Given.{Given, counted_item, counted_list}
 
 -- items as they count, one list after another
 pub counted-append : {C A R E : Type 0} (given : Given R E) (l m : List (Result (DirEntry C A R E) (Error A))) → counted_list given (l ++ m) ≡ counted_list given l ++ counted_list given m

@@ -7,9 +7,9 @@ use Rattle.walk_model.specs.Entry.{AtDepth}
 use Rattle.walk_model.specs.ReadDir.{Spec, Reading}
 use Rattle.walk_model.specs.Job as value
 use Rattle.walk_fs.specs.declared.file_system.FileSystem as FileSystem
-use Rattle.read_parts.specs.declared.process_read_dir.ProcessReadDir as ProcessReadDir
+use Rattle.jwalk_read.specs.declared.process_read_dir.ProcessReadDir as ProcessReadDir
 use Rattle.jwalk_read.specs.declared.job.Job.{Job}
-use Rattle.read_parts.specs.Given.{Given, counted_spec, counted_reading}
+use Rattle.jwalk_read.specs.Given.{Given, counted_spec, counted_reading}
 use Rattle.jwalk_read.specs.Job.{file_system, greatest_depth, job_by, IsSteadyJob, IsReadingOf}
 use Rattle.jwalk_read.specs.Gathering.{IsListed}
 

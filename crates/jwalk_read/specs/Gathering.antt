@@ -7,9 +7,9 @@ use Rattle.walk_model.specs.FileSystem.{Functions, Listed}
 use Rattle.walk_model.specs.Entry.{AtDepth}
 use Rattle.walk_model.specs.Job as value
 use Rattle.walk_fs.specs.declared.file_system.FileSystem as FileSystem
-use Rattle.read_parts.specs.Entry.{item}
-use Rattle.read_parts.specs.ReadDirSpec.{spec}
-use Rattle.read_parts.specs.Given.{Given, counted_spec, counted_list, DefaultsCount}
+use Rattle.jwalk_read.specs.Entry.{item}
+use Rattle.jwalk_read.specs.ReadDirSpec.{spec}
+use Rattle.jwalk_read.specs.Given.{Given, counted_spec, counted_list, DefaultsCount}
 use Rattle.jwalk_read.specs.declared.job.gathering.Gathering.{Gathering}
 use Rattle.jwalk_read.specs.Job.{file_system, job_by}
 

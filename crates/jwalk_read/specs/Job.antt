@@ -7,10 +7,10 @@ use Rattle.walk_model.specs.ReadDir.{Spec, Outcome, IsLawfulReading, list_of}
 use Rattle.walk_model.specs.Counted.{Worth}
 use Rattle.walk_model.specs.Job as value
 use Rattle.walk_fs.specs.declared.file_system.FileSystem as FileSystem
-use Rattle.read_parts.specs.declared.process_read_dir.ProcessReadDir as ProcessReadDir
+use Rattle.jwalk_read.specs.declared.process_read_dir.ProcessReadDir as ProcessReadDir
 use Rattle.jwalk_read.specs.declared.job.Job.{Job}
-use Rattle.read_parts.specs.Options.{options_value}
-use Rattle.read_parts.specs.Given.{Given, counted_spec, counted_outcome, ClonesCount, DefaultsCount}
+use Rattle.jwalk_read.specs.Options.{options_value}
+use Rattle.jwalk_read.specs.Given.{Given, counted_spec, counted_outcome, ClonesCount, DefaultsCount}
 
 module _ {C S P A R E : Type 0} where
   abbrev pub file_system : Job C S P A R E → S

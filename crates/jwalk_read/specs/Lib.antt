@@ -1,3 +1,11 @@
+pub mod Text
+pub mod Ancestors
+pub mod Error
+pub mod Entry
+pub mod ReadDirSpec
+pub mod Options
+pub mod Given
+pub mod Sorting
 pub mod ReadDir
 pub mod Job
 pub mod Gathering

@@ -10,11 +10,11 @@ use Rattle.walk_model.specs.Job.{reading}
 use Rattle.walk_model.proofs.CloneFacts.{counted_clones}
 use Rattle.walk_model.proofs.CountedFacts.{counted-children_of}
 use Rattle.walk_fs.specs.declared.file_system.FileSystem as FileSystem
-use Rattle.read_parts.specs.declared.process_read_dir.ProcessReadDir as ProcessReadDir
-use Rattle.read_parts.specs.declared.read_dir_spec.ReadDirSpec.{ReadDirSpec}
-use Rattle.read_parts.specs.declared.error.Error.{Error}
-use Rattle.read_parts.specs.ReadDirSpec.{spec}
-use Rattle.read_parts.specs.Given.{Given, counted_spec, counted_outcome, ClonesCount}
+use Rattle.jwalk_read.specs.declared.process_read_dir.ProcessReadDir as ProcessReadDir
+use Rattle.jwalk_read.specs.declared.read_dir_spec.ReadDirSpec.{ReadDirSpec}
+use Rattle.jwalk_read.specs.declared.error.Error.{Error}
+use Rattle.jwalk_read.specs.ReadDirSpec.{spec}
+use Rattle.jwalk_read.specs.Given.{Given, counted_spec, counted_outcome, ClonesCount}
 use Rattle.jwalk_read.specs.declared.job.Job.{Job}
 use Rattle.jwalk_read.specs.declared.read_dir.ReadDir.{ReadDir}
 use Rattle.jwalk_read.specs.Job.{IsSteadyJob, IsReadingOf, job_by}

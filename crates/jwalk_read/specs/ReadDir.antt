@@ -2,9 +2,9 @@
 use Rattle.std.specs.Prelude.{map, Result, Ok, Err}
 use Rattle.walk_model.specs.ReadDir.{Reading, Outcome}
 use Rattle.jwalk_read.specs.declared.read_dir.ReadDir.{ReadDir}
-use Rattle.read_parts.specs.declared.error.Error.{Error}
-use Rattle.read_parts.specs.Error.{failure}
-use Rattle.read_parts.specs.Entry.{item}
+use Rattle.jwalk_read.specs.declared.error.Error.{Error}
+use Rattle.jwalk_read.specs.Error.{failure}
+use Rattle.jwalk_read.specs.Entry.{item}
 
 module _ {C A R E : Type 0} where
   abbrev pub reading : ReadDir C A R E → Reading R E

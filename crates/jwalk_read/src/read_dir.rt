@@ -4,18 +4,18 @@ ghost use Rattle.walk_model.specs.ReadDir.{Spec, spec_of, children, children_of,
 ghost use Rattle.jwalk_order.specs.Frontier.{children_from};
 ghost use Rattle.jwalk_order.specs.IndexPath.{address as indices_of};
 ghost use Rattle.jwalk_order.specs.Ordered.{address_of, child_count_of};
-ghost use Rattle.read_parts.specs.Entry.{item};
-ghost use Rattle.read_parts.specs.ReadDirSpec.{spec};
+ghost use Rattle.jwalk_read.specs.Entry.{item};
+ghost use Rattle.jwalk_read.specs.ReadDirSpec.{spec};
 ghost use Rattle.jwalk_read.specs.ReadDir.{outcome, reading};
 
+use crate::client_state::ClientState;
+use crate::dir_entry::DirEntry;
+use crate::error::Error;
 pub use crate::job::Job;
+pub use crate::process_read_dir::{NoProcess, ProcessReadDir};
+pub use crate::read_dir_spec::ReadDirSpec;
 use jwalk_order::index_path::IndexPath;
 use jwalk_order::ordered::Ordered;
-use read_parts::client_state::ClientState;
-use read_parts::dir_entry::DirEntry;
-use read_parts::error::Error;
-pub use read_parts::process_read_dir::{NoProcess, ProcessReadDir};
-pub use read_parts::read_dir_spec::ReadDirSpec;
 use std::alloc::{AllocError, Allocator, Global};
 
 /// What a directory's reading gave: its list, and the state that it left.
@@ -93,7 +93,7 @@ fn addressed<T: Drop, A: Allocator + Copy>(
 
 impl<C: ClientState, A: Allocator + Copy> ReadDir<C, A> {
     /// Returns the reading that left this state and this list.
-    pub fn new(
+    pub(crate) fn new(
         read_dir_state: C::ReadDirState,
         results_list: Vec<Result<DirEntry<C, A>, Error<A>>, A>,
     ) -> Self

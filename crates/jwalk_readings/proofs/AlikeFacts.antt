@@ -4,8 +4,8 @@ use Rattle.std.specs.declared.clone.Clone as Clone
 use Rattle.std.specs.List.{AllZip}
 use Rattle.walk_model.specs.ReadDir.{Spec, IsClone, AreClones}
 use Rattle.walk_model.proofs.CloneFacts.{counted_clones}
-use Rattle.read_parts.specs.declared.read_dir_spec.ReadDirSpec.{ReadDirSpec}
-use Rattle.read_parts.specs.ReadDirSpec.{spec}
+use Rattle.jwalk_read.specs.declared.read_dir_spec.ReadDirSpec.{ReadDirSpec}
+use Rattle.jwalk_read.specs.ReadDirSpec.{spec}
 use Rattle.jwalk_crew.specs.Origin.{CountAlike}
 
 -- clones of the same directories count alike

@@ -15,15 +15,15 @@ use Rattle.jwalk_order.specs.Frontier.{children_from, roots, passed, next_addres
 use Rattle.jwalk_order.specs.Ordered.{address_of, child_count_of}
 use Rattle.jwalk_order.specs.declared.ordered.Ordered.{Ordered}
 use Rattle.jwalk_order.specs.Addressed.{addressed}
-use Rattle.read_parts.specs.declared.process_read_dir.ProcessReadDir as ProcessReadDir
+use Rattle.jwalk_read.specs.declared.process_read_dir.ProcessReadDir as ProcessReadDir
 use Rattle.jwalk_read.specs.declared.job.Job.{Job}
-use Rattle.read_parts.specs.declared.error.Error.{Error}
+use Rattle.jwalk_read.specs.declared.error.Error.{Error}
 use Rattle.jwalk_read.specs.declared.read_dir.ReadDir.{ReadDir}
-use Rattle.read_parts.specs.Given.{Given, counted_spec}
-use Rattle.read_parts.specs.Options.{options_value}
+use Rattle.jwalk_read.specs.Given.{Given, counted_spec}
+use Rattle.jwalk_read.specs.Options.{options_value}
 use Rattle.jwalk_read.specs.Job.{options_of, job_by, IsSteadyJob, IsReadingOf, IsAsGiven}
-use Rattle.read_parts.specs.declared.read_dir_spec.ReadDirSpec.{ReadDirSpec}
-use Rattle.read_parts.specs.ReadDirSpec.{spec}
+use Rattle.jwalk_read.specs.declared.read_dir_spec.ReadDirSpec.{ReadDirSpec}
+use Rattle.jwalk_read.specs.ReadDirSpec.{spec}
 use Rattle.jwalk_read.specs.ReadDir.{outcome}
 use Rattle.crew_parts.specs.declared.wanted.Wanted.{Wanted}
 use Rattle.crew_parts.specs.Wanted.{IsFor}

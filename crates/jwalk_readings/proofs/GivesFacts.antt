@@ -13,21 +13,21 @@ use Rattle.walk_model.proofs.CloneFacts.{counted_clones}
 use Rattle.walk_model.proofs.CountedFacts.{counted-children_of, counted-IsLawfulReading}
 use Rattle.walk_model.proofs.PreorderFacts.{preorder-first, fewer_to_read, heavy_specs}
 use Rattle.walk_fs.specs.declared.file_system.FileSystem as FileSystem
-use Rattle.read_parts.specs.declared.process_read_dir.ProcessReadDir as ProcessReadDir
+use Rattle.jwalk_read.specs.declared.process_read_dir.ProcessReadDir as ProcessReadDir
 use Rattle.jwalk_read.specs.declared.job.Job.{Job}
-use Rattle.read_parts.specs.declared.error.Error.{Error}
+use Rattle.jwalk_read.specs.declared.error.Error.{Error}
 use Rattle.jwalk_read.specs.declared.read_dir.ReadDir.{ReadDir}
-use Rattle.read_parts.specs.Error.{failure}
+use Rattle.jwalk_read.specs.Error.{failure}
 use Rattle.jwalk_read.specs.ReadDir.{outcome}
-use Rattle.read_parts.specs.Given.{Given, counted_spec, counted_outcome, ClonesCount}
+use Rattle.jwalk_read.specs.Given.{Given, counted_spec, counted_outcome, ClonesCount}
 use Rattle.jwalk_read.specs.Job.{greatest_depth, job_by, IsSteadyJob, IsAsGiven}
-use Rattle.read_parts.specs.declared.read_dir_spec.ReadDirSpec.{ReadDirSpec}
+use Rattle.jwalk_read.specs.declared.read_dir_spec.ReadDirSpec.{ReadDirSpec}
 use Rattle.jwalk_board.specs.Board.{Board}
-use Rattle.jwalk_engine.specs.Reads.{Read}
-use Rattle.jwalk_engine.specs.Reads.{MadeAsGiven, ReadsFirstBy, ReadsNextBy}
-use Rattle.jwalk_engine.specs.ReadAhead.{nothing_ahead, BeginsWith}
-use Rattle.jwalk_engine.specs.BatchReads as board
-use Rattle.jwalk_engine.specs.BatchReads.{BatchReads, PassesAddress, IsSteadyWalk}
+use Rattle.jwalk_readings.specs.Reads.{Read}
+use Rattle.jwalk_readings.specs.Reads.{MadeAsGiven, ReadsFirstBy, ReadsNextBy}
+use Rattle.jwalk_readings.specs.ReadAhead.{nothing_ahead, BeginsWith}
+use Rattle.jwalk_readings.specs.BatchReads as board
+use Rattle.jwalk_readings.specs.BatchReads.{BatchReads, PassesAddress, IsSteadyWalk}
 use Rattle.jwalk_crew.specs.declared.pool.Pool as Pool
 use Rattle.jwalk_readings.specs.declared.read_dir_iter.ReadDirIter.{ReadDirIter}
 use Rattle.jwalk_readings.specs.declared.read_dir_iter.ReadDirIter.TheVariants.{Walk, CrewWalk}

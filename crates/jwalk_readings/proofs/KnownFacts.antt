@@ -6,10 +6,10 @@ use Rattle.walk_model.specs.Error.{Failure, memory}
 use Rattle.walk_model.specs.Entry.{Item}
 use Rattle.walk_model.specs.ReadDir.{Spec, Outcome}
 use Rattle.walk_fs.specs.declared.file_system.FileSystem as FileSystem
-use Rattle.read_parts.specs.declared.process_read_dir.ProcessReadDir as ProcessReadDir
+use Rattle.jwalk_read.specs.declared.process_read_dir.ProcessReadDir as ProcessReadDir
 use Rattle.jwalk_read.specs.declared.job.Job.{Job}
-use Rattle.jwalk_engine.specs.Reads.{ReadsNextBy}
-use Rattle.read_parts.specs.Given.{Given, ClonesCount}
+use Rattle.jwalk_readings.specs.Reads.{ReadsNextBy}
+use Rattle.jwalk_read.specs.Given.{Given, ClonesCount}
 use Rattle.jwalk_read.specs.Job.{IsAsGiven, IsGivenOver}
 use Rattle.jwalk_crew.specs.declared.pool.Missed.{Missed}
 use Rattle.jwalk_crew.specs.declared.pool.Missed.TheVariants.{Memory, Lost}

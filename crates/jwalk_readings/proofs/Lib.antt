@@ -1,3 +1,8 @@
+pub mod SeenFacts
+pub mod ReadFacts
+pub mod StepFacts
+pub mod BeginFacts
+pub mod BatchPrepareFacts
 pub mod ListFacts
 pub mod ResultFacts
 pub mod AlikeFacts

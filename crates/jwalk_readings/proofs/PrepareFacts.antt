@@ -11,16 +11,16 @@ use Rattle.walk_model.specs.ReadDir.{Spec, Outcome, IsLawfulReading}
 use Rattle.walk_fs.specs.declared.file_system.FileSystem as FileSystem
 use Rattle.jwalk_order.specs.Addressed.{addresses_of}
 use Rattle.jwalk_order.specs.Frontier as order
-use Rattle.read_parts.specs.declared.process_read_dir.ProcessReadDir as ProcessReadDir
-use Rattle.read_parts.specs.declared.error.Error.{Error}
-use Rattle.read_parts.specs.Error.{failure}
+use Rattle.jwalk_read.specs.declared.process_read_dir.ProcessReadDir as ProcessReadDir
+use Rattle.jwalk_read.specs.declared.error.Error.{Error}
+use Rattle.jwalk_read.specs.Error.{failure}
 use Rattle.jwalk_read.specs.declared.job.Job.{Job}
 use Rattle.jwalk_read.specs.declared.read_dir.ReadDir.{ReadDir}
 use Rattle.jwalk_read.specs.Job.{greatest_depth}
 use Rattle.jwalk_read.specs.ReadDir.{outcome}
-use Rattle.jwalk_engine.specs.Reads.{ReadsNextBy}
-use Rattle.jwalk_engine.specs.ReadAhead.{ReadAhead, HandsOnAt, ReadsLeast, MakesReady}
-use Rattle.jwalk_engine.proofs.PrepareFacts.{ready_enters}
+use Rattle.jwalk_readings.specs.Reads.{ReadsNextBy}
+use Rattle.jwalk_readings.specs.ReadAhead.{ReadAhead, HandsOnAt, ReadsLeast, MakesReady}
+use Rattle.jwalk_readings.proofs.BatchPrepareFacts.{ready_enters}
 use Rattle.jwalk_crew.specs.declared.pool.Pool as Pool
 use Rattle.jwalk_readings.specs.declared.read_dir_iter.ReadDirIter.{ReadDirIter}
 use Rattle.jwalk_readings.specs.ReadDirIter.{by_crew, job_of, to_read, width_of, read_ahead, early_of, next_address, GivesError, GivesFirst, Known, EntersBy, EntersFirst, IsSteadyReads, StaysSteady, ReadsForNext, Prepares, Gives}

@@ -4,10 +4,10 @@ use Rattle.std.specs.Prelude.{option_map}
 use Rattle.std.specs.declared.clone.Clone as Clone
 use Rattle.std.specs.declared.default.Default as Default
 use Rattle.walk_fs.specs.declared.file_system.FileSystem as FileSystem
-use Rattle.read_parts.specs.declared.process_read_dir.ProcessReadDir as ProcessReadDir
+use Rattle.jwalk_read.specs.declared.process_read_dir.ProcessReadDir as ProcessReadDir
 use Rattle.jwalk_read.specs.declared.job.Job.{Job}
-use Rattle.read_parts.specs.Given.{Given}
-use Rattle.jwalk_engine.specs.ReadAhead.{nothing_ahead}
+use Rattle.jwalk_read.specs.Given.{Given}
+use Rattle.jwalk_readings.specs.ReadAhead.{nothing_ahead}
 use Rattle.jwalk_crew.specs.declared.pool.Missed.{Missed}
 use Rattle.jwalk_crew.specs.declared.pool.Missed.TheVariants.{Memory, Lost}
 use Rattle.jwalk_readings.specs.CrewReads.{failure_of, NotLost}

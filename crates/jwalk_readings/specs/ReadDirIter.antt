@@ -10,17 +10,17 @@ use Rattle.walk_model.specs.Job.{reading}
 use Rattle.walk_fs.specs.declared.file_system.FileSystem as FileSystem
 use Rattle.jwalk_order.specs.Addresses.{IsAmong}
 use Rattle.jwalk_order.specs.Frontier as frontier
-use Rattle.read_parts.specs.declared.process_read_dir.ProcessReadDir as ProcessReadDir
-use Rattle.read_parts.specs.declared.error.Error.{Error}
+use Rattle.jwalk_read.specs.declared.process_read_dir.ProcessReadDir as ProcessReadDir
+use Rattle.jwalk_read.specs.declared.error.Error.{Error}
 use Rattle.jwalk_read.specs.declared.read_dir.ReadDir.{ReadDir}
 use Rattle.jwalk_read.specs.declared.job.Job.{Job}
 use Rattle.jwalk_read.specs.ReadDir.{outcome}
-use Rattle.read_parts.specs.Given.{Given, counted_spec, counted_outcome}
+use Rattle.jwalk_read.specs.Given.{Given, counted_spec, counted_outcome}
 use Rattle.jwalk_read.specs.Job.{greatest_depth, job_by, IsSteadyJob, IsGivenOver}
-use Rattle.jwalk_engine.specs.ReadAhead.{ReadAhead, nothing_ahead, Enters, MakesReady}
-use Rattle.jwalk_engine.specs.BatchReads as board
-use Rattle.jwalk_engine.specs.BatchReads.{PassesAddress, IsSteadyWalk}
-use Rattle.jwalk_engine.specs.Reads.{ReadsNextBy}
+use Rattle.jwalk_readings.specs.ReadAhead.{ReadAhead, nothing_ahead, Enters, MakesReady}
+use Rattle.jwalk_readings.specs.BatchReads as board
+use Rattle.jwalk_readings.specs.BatchReads.{PassesAddress, IsSteadyWalk}
+use Rattle.jwalk_readings.specs.Reads.{ReadsNextBy}
 use Rattle.jwalk_readings.specs.declared.read_dir_iter.ReadDirIter.{ReadDirIter}
 use Rattle.jwalk_readings.specs.declared.read_dir_iter.ReadDirIter.TheVariants.{Walk, CrewWalk}
 use Rattle.jwalk_readings.specs.CrewReads as crew

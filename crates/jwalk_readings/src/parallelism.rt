@@ -1,10 +1,10 @@
 //! How a walk's directories are read.
 ghost use Rattle.std.specs.Prelude.{◌≡◌};
-ghost use Rattle.read_parts.specs.Options.{mode_value};
+ghost use Rattle.jwalk_read.specs.Options.{mode_value};
 ghost use Rattle.jwalk_readings.specs.Parallelism.{parallelism_value, crew_of};
 
 use jwalk_crew::pool::NoPool;
-use read_parts::mode::Mode;
+use jwalk_read::mode::Mode;
 use std::alloc::{AllocError, Allocator, Global};
 use std::sync::Arc;
 use std::time::Duration;

@@ -1,9 +1,9 @@
 //! Readings in preorder.
 ghost use Rattle.std.specs.Prelude.{◌≡◌, ◌≢◌, ◌≤◌, ◌+◌, true, false, Ok, [], length, map, IfOk, IfErr, OnOk, OnErr, IsSome, option_map};
 ghost use Rattle.walk_model.specs.Error.{memory};
-ghost use Rattle.read_parts.specs.Error.{failure};
-ghost use Rattle.read_parts.specs.Entry.{entry};
-ghost use Rattle.read_parts.specs.ReadDirSpec.{spec};
+ghost use Rattle.jwalk_read.specs.Error.{failure};
+ghost use Rattle.jwalk_read.specs.Entry.{entry};
+ghost use Rattle.jwalk_read.specs.ReadDirSpec.{spec};
 ghost use Rattle.jwalk_read.specs.ReadDir.{outcome};
 ghost use Rattle.jwalk_read.specs.Job.{callback};
 
@@ -11,18 +11,18 @@ mod on_threads;
 mod over_crew;
 mod over_pool;
 
+use crate::batch_reads::BatchReads;
 use crate::crew_reads::{CrewReads, error_of};
 use crate::parallelism::Parallelism;
 use jwalk_crew::pool::{Missed, NoPool, Pool};
-use jwalk_engine::batch_reads::BatchReads;
+use jwalk_read::client_state::ClientState;
+use jwalk_read::dir_entry::DirEntry;
+use jwalk_read::error::Error;
 use jwalk_read::job::Job;
+use jwalk_read::mode::Mode;
+use jwalk_read::process_read_dir::ProcessReadDir;
 use jwalk_read::read_dir::{Outcome, ReadDir};
-use read_parts::client_state::ClientState;
-use read_parts::dir_entry::DirEntry;
-use read_parts::error::Error;
-use read_parts::mode::Mode;
-use read_parts::process_read_dir::ProcessReadDir;
-use read_parts::read_dir_spec::ReadDirSpec;
+use jwalk_read::read_dir_spec::ReadDirSpec;
 use std::alloc::{AllocError, Allocator, Global};
 use walk_fs::file_system::FileSystem;
 
@@ -67,12 +67,12 @@ impl<
     A: Allocator + Copy,
     L: Pool<C, S, P, A>,
 > ReadDirIter<C, S, P, A, L> {
-    ghost use Rattle.read_parts.specs.Options as options;
-    ghost use Rattle.read_parts.specs.Options.{mode_value};
+    ghost use Rattle.jwalk_read.specs.Options as options;
+    ghost use Rattle.jwalk_read.specs.Options.{mode_value};
     ghost use Rattle.jwalk_read.specs.Job.{greatest_depth};
-    ghost use Rattle.jwalk_engine.specs.Reads.{ReadsNextBy};
-    ghost use Rattle.jwalk_engine.specs.ReadAhead.{nothing_ahead, BeginsWith};
-    ghost use Rattle.jwalk_engine.specs.BatchReads.{PassesAddress};
+    ghost use Rattle.jwalk_readings.specs.Reads.{ReadsNextBy};
+    ghost use Rattle.jwalk_readings.specs.ReadAhead.{nothing_ahead, BeginsWith};
+    ghost use Rattle.jwalk_readings.specs.BatchReads.{PassesAddress};
     ghost use Rattle.jwalk_readings.specs.CrewReads.{failure_of, IsNextBelow, NotLost};
     ghost use Rattle.jwalk_readings.specs.ReadDirIter.{by_crew, job_of, to_read, width_of, read_ahead, early_of, frontier_of, next_address, Tells, IsSteadyReads, StaysSteady, Known, KnownOf, EntersNextBy, GivesFirst, Gives};
 
@@ -255,8 +255,8 @@ impl<C: ClientState, S: FileSystem, P: ProcessReadDir<C, A>, A: Allocator + Copy
     A,
     NoPool,
 > {
-    ghost use Rattle.read_parts.specs.Options as options;
-    ghost use Rattle.jwalk_engine.specs.ReadAhead.{BeginsWith};
+    ghost use Rattle.jwalk_read.specs.Options as options;
+    ghost use Rattle.jwalk_readings.specs.ReadAhead.{BeginsWith};
     ghost use Rattle.jwalk_readings.specs.Parallelism.{parallelism_value};
     ghost use Rattle.jwalk_readings.specs.ReadDirIter.{by_crew, job_of, to_read, width_of, read_ahead};
 

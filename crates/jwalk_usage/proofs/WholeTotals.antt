@@ -3,7 +3,7 @@ use Rattle.std.proofs.Common.{◌≡◌, ◌⊎◌, ◌∙◌, ℕ, List, Option
 use Rattle.std.specs.declared.clone.Clone as Clone
 use Rattle.std.specs.declared.default.Default as Default
 use Rattle.jwalk.specs.walk_fs.declared.file_system.FileSystem as FileSystem
-use Rattle.jwalk.specs.read_parts.declared.process_read_dir.ProcessReadDir as ProcessReadDir
+use Rattle.jwalk.specs.jwalk_read.declared.process_read_dir.ProcessReadDir as ProcessReadDir
 use Rattle.jwalk.specs.jwalk_crew.declared.pool.Pool as Pool
 use Rattle.jwalk.specs.jwalk_entries.declared.dir_entry_iter.DirEntryIter.{DirEntryIter}
 use Rattle.jwalk.specs.declared.walk_dir.WalkDirGeneric.{WalkDirGeneric}
@@ -12,11 +12,11 @@ use Rattle.jwalk.specs.walk_model.Entry.{Item}
 use Rattle.jwalk.specs.walk_model.ReadDir.{Reading}
 use Rattle.jwalk.specs.walk_model.Counted.{Worth, blank}
 use Rattle.jwalk.specs.walk_model.Walk.{whole_walk, stateless_walk}
-use Rattle.jwalk.specs.read_parts.Entry.{item}
-use Rattle.jwalk.specs.read_parts.Given.{Given}
+use Rattle.jwalk.specs.jwalk_read.Entry.{item}
+use Rattle.jwalk.specs.jwalk_read.Given.{Given}
 use Rattle.jwalk.specs.jwalk_read.Job.{IsSteady}
-use Rattle.jwalk.specs.jwalk_process.declared.size.Size.{Size}
-use Rattle.jwalk.specs.jwalk_process.WithSizes.{sizes, sizing}
+use Rattle.jwalk.specs.jwalk_callbacks.declared.size.Size.{Size}
+use Rattle.jwalk.specs.jwalk_callbacks.WithSizes.{sizes, sizing}
 use Rattle.jwalk.specs.WalkDir.{file_system_of, callback_of, root_of, state_of, options_of, job_for, Starts, Holds}
 use Rattle.jwalk.specs.DirEntryIter.{by_crew, to_come, IsRefused, IsSteadyWalk, Answers}
 use Rattle.jwalk.proofs.WholeFacts.{all_answered, whole, steady_start}

@@ -1,6 +1,6 @@
 //! Path texts: their names and parents, which of them are the same path or place, and their joins.
 use std::alloc::Global;
-use walk_paths::path_text::{file_name, join, join_parts, parent, same_path, same_place};
+use walk_fs::path_text::{file_name, join, join_parts, parent, same_path, same_place};
 
 // A path, its name and its parent.
 const NAMES: &[(&str, Option<&str>, Option<&str>)] = &[

@@ -3,14 +3,14 @@ use Rattle.std.proofs.Common.{◌≡◌, false, Option, Result}
 use Rattle.std.specs.declared.clone.Clone as Clone
 use Rattle.std.specs.declared.default.Default as Default
 use Rattle.jwalk.specs.walk_fs.declared.file_system.FileSystem as FileSystem
-use Rattle.jwalk.specs.read_parts.declared.process_read_dir.ProcessReadDir as ProcessReadDir
+use Rattle.jwalk.specs.jwalk_read.declared.process_read_dir.ProcessReadDir as ProcessReadDir
 use Rattle.jwalk.specs.jwalk_crew.declared.pool.Pool as Pool
-use Rattle.jwalk.specs.read_parts.declared.dir_entry.DirEntry.{DirEntry}
-use Rattle.jwalk.specs.read_parts.declared.error.Error.{Error}
+use Rattle.jwalk.specs.jwalk_read.declared.dir_entry.DirEntry.{DirEntry}
+use Rattle.jwalk.specs.jwalk_read.declared.error.Error.{Error}
 use Rattle.jwalk.specs.jwalk_entries.declared.dir_entry_iter.DirEntryIter.{DirEntryIter}
 use Rattle.jwalk.specs.declared.walk_dir.WalkDirGeneric.{WalkDirGeneric}
 use Rattle.jwalk.specs.walk_model.Options.{Parallelism, with_parallelism}
-use Rattle.jwalk.specs.read_parts.Given.{Given}
+use Rattle.jwalk.specs.jwalk_read.Given.{Given}
 use Rattle.jwalk.specs.jwalk_read.Job.{IsSteady}
 use Rattle.jwalk.specs.WalkDir.{file_system_of, callback_of, root_of, state_of, options_of, Starts, Holds}
 use Rattle.jwalk.specs.DirEntryIter.{by_crew, Answers}

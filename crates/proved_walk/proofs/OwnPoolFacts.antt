@@ -20,11 +20,11 @@ use Rattle.jwalk.specs.jwalk_order.IndexPath.{address}
 use Rattle.jwalk.specs.jwalk_order.Ordered.{address_of, child_count_of}
 use Rattle.jwalk.specs.jwalk_order.declared.index_path.IndexPath.{IndexPath}
 use Rattle.jwalk.specs.jwalk_order.declared.ordered.Ordered.{Ordered}
-use Rattle.jwalk.specs.read_parts.declared.process_read_dir.ProcessReadDir as ProcessReadDir
-use Rattle.jwalk.specs.read_parts.declared.error.Error.{Error}
-use Rattle.jwalk.specs.read_parts.declared.read_dir_spec.ReadDirSpec.{ReadDirSpec}
-use Rattle.jwalk.specs.read_parts.ReadDirSpec.{spec}
-use Rattle.jwalk.specs.read_parts.Given.{Given, counted_spec, counted_outcome}
+use Rattle.jwalk.specs.jwalk_read.declared.process_read_dir.ProcessReadDir as ProcessReadDir
+use Rattle.jwalk.specs.jwalk_read.declared.error.Error.{Error}
+use Rattle.jwalk.specs.jwalk_read.declared.read_dir_spec.ReadDirSpec.{ReadDirSpec}
+use Rattle.jwalk.specs.jwalk_read.ReadDirSpec.{spec}
+use Rattle.jwalk.specs.jwalk_read.Given.{Given, counted_spec, counted_outcome}
 use Rattle.jwalk.specs.jwalk_read.declared.job.Job.{Job}
 use Rattle.jwalk.specs.jwalk_read.declared.read_dir.ReadDir.{ReadDir}
 use Rattle.jwalk.specs.jwalk_read.Job.{IsReadingOf, greatest_depth, job_by}

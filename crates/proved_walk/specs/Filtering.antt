@@ -5,7 +5,7 @@ use Rattle.jwalk.specs.walk_model.FileType.{is_dir}
 use Rattle.jwalk.specs.walk_model.Options.{defaults}
 use Rattle.jwalk.specs.walk_model.Counted.{Worth, blank}
 use Rattle.jwalk.specs.walk_model.Job.{Job}
-use Rattle.jwalk.specs.jwalk_process.FilterEntry.{Test, filters}
+use Rattle.jwalk.specs.jwalk_callbacks.FilterEntry.{Test, filters}
 
 -- all but directories of the name `target`
 abbrev pub no_target : Test

@@ -4,7 +4,7 @@ use Rattle.jwalk.specs.walk_model.FileSystem.{Functions}
 use Rattle.jwalk.specs.walk_model.Options.{Options}
 use Rattle.jwalk.specs.walk_model.Counted.{Worth, blank}
 use Rattle.jwalk.specs.walk_model.Job.{Job}
-use Rattle.jwalk.specs.jwalk_process.SkipNames.{skips}
+use Rattle.jwalk.specs.jwalk_callbacks.SkipNames.{skips}
 
 -- readings of a file system where directories of these names aren't entered, and states count as nothing
 abbrev pub job_skipping : List (List ℕ) → Functions → Options → Job Worth Worth

@@ -2,8 +2,8 @@
 use Rattle.std.specs.Prelude.{◌≡◌}
 use Rattle.jwalk.specs.walk_model.FileSystem.{Functions}
 use Rattle.jwalk.specs.walk_fs.declared.file_system.FileSystem as FileSystem
-use Rattle.jwalk.specs.jwalk_process.declared.with_sizes.WithSizes.{WithSizes}
-use Rattle.jwalk.specs.jwalk_process.WithSizes.{asks}
+use Rattle.jwalk.specs.jwalk_callbacks.declared.with_sizes.WithSizes.{WithSizes}
+use Rattle.jwalk.specs.jwalk_callbacks.WithSizes.{asks}
 use Rattle.jwalk.specs.declared.walk_dir.WalkDirGeneric.{WalkDirGeneric}
 use Rattle.jwalk.specs.WalkDir.{file_system_of, callback_of, root_of, options_of}
 

@@ -1,6 +1,6 @@
 //! How much a walk reads ahead of an answer.
 ghost use Rattle.std.specs.Prelude.{◌≡◌, ◌≤◌, ◌+◌, ◌-◌, ◌*◌, false, IsSomeAnd, option_map};
-ghost use Rattle.jwalk.specs.read_parts.Entry.{item};
+ghost use Rattle.jwalk.specs.jwalk_read.Entry.{item};
 ghost use Rattle.jwalk.specs.jwalk_read.Job.{callback};
 ghost use Rattle.jwalk.specs.DirEntryIter.{by_crew, is_refused, job_of, min_depth_of, width_of, Stops, GrowsAhead};
 

@@ -6,7 +6,7 @@ ghost use Rattle.seek_filter.specs.Paths.{without_here, line_of};
 
 use crate::masked::masked;
 use std::alloc::{AllocError, Allocator};
-use walk_paths::path_text::join_parts;
+use walk_fs::path_text::join_parts;
 
 /// How the path of an entry is written.
 #[derive(Clone, Copy, Debug, PartialEq, Eq)]

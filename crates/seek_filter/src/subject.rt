@@ -5,7 +5,7 @@ ghost use Rattle.seek_filter.specs.Absolute.{front_before};
 
 use crate::paths::without_here;
 use std::alloc::{AllocError, Global};
-use walk_paths::path_text::{self, join_parts};
+use walk_fs::path_text::{self, join_parts};
 
 /// The absolute path of an entry, and of one after another in the same memory.
 #[derive(Drop)]

@@ -1,1 +1,2 @@
+pub mod PlaceFacts
 pub mod SinkFacts

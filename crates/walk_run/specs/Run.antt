@@ -8,9 +8,9 @@ use Rattle.std.specs.declared.sync.Arc.{Arc}
 use Rattle.walk_fs.specs.declared.file_system.FileSystem as FileSystem
 use Rattle.memory_fs.specs.declared.memory_fs.MemoryFs.{MemoryFs}
 use Rattle.memory_fs.specs.MemoryFs.{tree_of}
-use Rattle.read_parts.specs.declared.process_read_dir.ProcessReadDir as ProcessReadDir
-use Rattle.jwalk.specs.jwalk_process.declared.size.Size.{Size}
-use Rattle.jwalk.specs.jwalk_process.declared.with_sizes.WithSizes.{WithSizes}
+use Rattle.jwalk_read.specs.declared.process_read_dir.ProcessReadDir as ProcessReadDir
+use Rattle.jwalk.specs.jwalk_callbacks.declared.size.Size.{Size}
+use Rattle.jwalk.specs.jwalk_callbacks.declared.with_sizes.WithSizes.{WithSizes}
 use Rattle.jwalk.specs.declared.crew.Pool as Pool
 use Rattle.walk_text.specs.declared.asked.Asked.{Asked}
 use Rattle.walk_text.specs.declared.failure.Failure.{Failure}

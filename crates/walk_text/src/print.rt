@@ -3,20 +3,20 @@ ghost use Rattle.std.specs.Prelude.{◌≡◌, None, decimal, OnOk, option_map};
 ghost use Rattle.std.specs.Io.KnownBytes.{Appends};
 ghost use Rattle.walk_model.specs.Error.{looped};
 ghost use Rattle.walk_model.specs.Paths.{join};
-ghost use Rattle.read_parts.specs.Entry.{children, entry, item};
-ghost use Rattle.read_parts.specs.Error.{failure, ancestor_of, kind_of};
+ghost use Rattle.jwalk_read.specs.Entry.{children, entry, item};
+ghost use Rattle.jwalk_read.specs.Error.{failure, ancestor_of, kind_of};
 ghost use Rattle.walk_model.specs.Lines.{kind_name, letter_of, failure_name, reading_part, entry_line, failure_line, line_of};
 
 use itoa::Buffer;
-use read_parts::client_state::ClientState;
-use read_parts::dir_entry::DirEntry;
-use read_parts::error::{Error, Result};
-use read_parts::read_children::ReadChildren;
+use jwalk_read::client_state::ClientState;
+use jwalk_read::dir_entry::DirEntry;
+use jwalk_read::error::{Error, Result};
+use jwalk_read::read_children::ReadChildren;
 use std::alloc::Allocator;
 use std::io;
 use std::io::{ErrorKind, Write};
+use walk_fs::path_text::join_parts;
 use walk_model::file_type::FileType;
-use walk_paths::path_text::join_parts;
 
 /// Returns the name that a kind is printed by.
 fn kind_name(kind: ErrorKind) -> &'static str

@@ -1,9 +1,9 @@
 //! Walks over a crew.
 ghost use Rattle.std.specs.Prelude.{◌≡◌, ◌⊎◌, string_bytes, IfOk, IfErr, IfSome, IfNone, Some, None};
 ghost use Rattle.walk_model.specs.Options as parallelism;
-ghost use Rattle.read_parts.specs.Options.{mode_value};
+ghost use Rattle.jwalk_read.specs.Options.{mode_value};
 ghost use Rattle.walk_model.specs.Error.{memory, busy};
-ghost use Rattle.read_parts.specs.Error.{failure};
+ghost use Rattle.jwalk_read.specs.Error.{failure};
 
 use crate::walk_dir::WalkDirGeneric;
 use crate::walk_dir::crew_start::{CrewWalk, from_root_alone};
@@ -11,12 +11,12 @@ use jwalk_crew::crew::{Crew, NotStarted};
 use jwalk_crew::pool::Pool;
 use jwalk_crew::session::Session;
 use jwalk_entries::dir_entry_iter::DirEntryIter;
+use jwalk_read::client_state::ClientState;
+use jwalk_read::error::Error;
 use jwalk_read::job::Job;
+use jwalk_read::mode::Mode;
+use jwalk_read::process_read_dir::{NoProcess, ProcessReadDir};
 use jwalk_readings::crew_reads::started::error_of;
-use read_parts::client_state::ClientState;
-use read_parts::error::Error;
-use read_parts::mode::Mode;
-use read_parts::process_read_dir::{NoProcess, ProcessReadDir};
 use std::alloc::Allocator;
 use std::sync::Wait;
 use std::thread::Threads;

@@ -4,10 +4,10 @@ ghost use Rattle.jwalk_read.specs.Job.{callback};
 
 use crate::dir_entry_iter::DirEntryIter;
 use jwalk_crew::pool::{Missed, Pool};
-use read_parts::client_state::ClientState;
-use read_parts::dir_entry::DirEntry;
-use read_parts::error::Error;
-use read_parts::process_read_dir::ProcessReadDir;
+use jwalk_read::client_state::ClientState;
+use jwalk_read::dir_entry::DirEntry;
+use jwalk_read::error::Error;
+use jwalk_read::process_read_dir::ProcessReadDir;
 use std::alloc::{AllocError, Allocator};
 use std::thread::Threads;
 use walk_fs::file_system::FileSystem;

@@ -1,16 +1,16 @@
 // The items of a directory while it is listed.
 ghost use Rattle.std.specs.Prelude.{◌≡◌, ◌+◌, ◌<◌, ◌^◌, [], ◌∷◌, ◌++◌, if◌then◌else◌};
-ghost use Rattle.read_parts.specs.Ancestors.{texts};
-ghost use Rattle.read_parts.specs.ReadDirSpec.{spec};
+ghost use Rattle.jwalk_read.specs.Ancestors.{texts};
+ghost use Rattle.jwalk_read.specs.ReadDirSpec.{spec};
 ghost use Rattle.jwalk_read.specs.Job.{options_of};
 
 use super::Job;
-use read_parts::ancestors::Ancestors;
-use read_parts::client_state::ClientState;
-use read_parts::dir_entry::DirEntry;
-use read_parts::error::Error;
-use read_parts::process_read_dir::ProcessReadDir;
-use read_parts::read_dir_spec::ReadDirSpec;
+use crate::ancestors::Ancestors;
+use crate::client_state::ClientState;
+use crate::dir_entry::DirEntry;
+use crate::error::Error;
+use crate::process_read_dir::ProcessReadDir;
+use crate::read_dir_spec::ReadDirSpec;
 use std::alloc::{AllocError, Allocator};
 use std::io;
 use walk_fs::file_system::FileSystem;

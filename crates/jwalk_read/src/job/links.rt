@@ -4,26 +4,26 @@ ghost use Rattle.walk_model.specs.Entry.{AtDepth, path_of};
 ghost use Rattle.walk_model.specs.FileType.{is_symlink};
 ghost use Rattle.walk_model.specs.Job as value;
 ghost use Rattle.walk_model.specs.Paths.{join};
-ghost use Rattle.read_parts.specs.Text.{text};
-ghost use Rattle.read_parts.specs.Ancestors.{texts};
-ghost use Rattle.read_parts.specs.Error.{failure};
-ghost use Rattle.read_parts.specs.Entry.{entry, item};
-ghost use Rattle.read_parts.specs.Given.{Given, counted_item, counted_entry, DefaultsCount};
+ghost use Rattle.jwalk_read.specs.Text.{text};
+ghost use Rattle.jwalk_read.specs.Ancestors.{texts};
+ghost use Rattle.jwalk_read.specs.Error.{failure};
+ghost use Rattle.jwalk_read.specs.Entry.{entry, item};
+ghost use Rattle.jwalk_read.specs.Given.{Given, counted_item, counted_entry, DefaultsCount};
 ghost use Rattle.jwalk_read.specs.Job.{file_system, options_of, job_by};
 
 use super::Job;
-use read_parts::ancestors::Ancestors;
-use read_parts::client_state::ClientState;
-use read_parts::dir_entry::DirEntry;
-use read_parts::error::Error;
-use read_parts::metadata::metadata_at;
-use read_parts::process_read_dir::ProcessReadDir;
+use crate::ancestors::Ancestors;
+use crate::client_state::ClientState;
+use crate::dir_entry::DirEntry;
+use crate::error::Error;
+use crate::metadata::metadata_at;
+use crate::process_read_dir::ProcessReadDir;
 use std::alloc::{AllocError, Allocator};
 use std::sync::Arc;
 use walk_fs::fault::Fault;
 use walk_fs::file_system::FileSystem;
+use walk_fs::path_text;
 use walk_model::file_type::FileType;
-use walk_paths::path_text;
 
 /// Returns the name of an entry made from a path: its file name, or its whole path if it has none.
 fn own_name(path: &str) -> &str

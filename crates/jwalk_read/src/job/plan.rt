@@ -1,21 +1,21 @@
 // A job as a plan.
 ghost use Rattle.walk_model.specs.ReadDir.{Spec, Outcome};
 ghost use Rattle.walk_model.specs.Counted.{Worth};
-ghost use Rattle.read_parts.specs.ReadDirSpec.{spec};
+ghost use Rattle.jwalk_read.specs.ReadDirSpec.{spec};
 ghost use Rattle.jwalk_read.specs.ReadDir.{outcome};
-ghost use Rattle.read_parts.specs.Given.{Given as GivenStates, counted_spec, counted_outcome};
+ghost use Rattle.jwalk_read.specs.Given.{Given as GivenStates, counted_spec, counted_outcome};
 ghost use Rattle.jwalk_read.specs.Job.{callback, job_by, IsSteadyJob};
 ghost use Rattle.jwalk_read.specs.Plan.{tree_of};
 ghost use Rattle.jwalk_read.specs.PlanReading.{IsPlanReading, reads_as_given};
 ghost use Rattle.jwalk_read.specs.PlanFacts.{tree_of-falls};
 
 use super::Job;
+use crate::client_state::ClientState;
+use crate::error::Error;
+use crate::process_read_dir::ProcessReadDir;
 use crate::read_dir::{ReadDir, directories_of};
+use crate::read_dir_spec::ReadDirSpec;
 use jwalk_board::board::{Plan, Refused};
-use read_parts::client_state::ClientState;
-use read_parts::error::Error;
-use read_parts::process_read_dir::ProcessReadDir;
-use read_parts::read_dir_spec::ReadDirSpec;
 use std::alloc::Allocator;
 use walk_fs::file_system::FileSystem;
 

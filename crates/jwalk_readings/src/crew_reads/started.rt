@@ -1,7 +1,7 @@
 //! The start of readings that a crew makes ahead.
 ghost use Rattle.std.specs.Prelude.{◌≡◌, map, IfOk, OnErr, OnOk};
-ghost use Rattle.read_parts.specs.Error.{failure};
-ghost use Rattle.read_parts.specs.ReadDirSpec.{spec};
+ghost use Rattle.jwalk_read.specs.Error.{failure};
+ghost use Rattle.jwalk_read.specs.ReadDirSpec.{spec};
 ghost use Rattle.jwalk_read.specs.Job.{callback};
 ghost use Rattle.jwalk_crew.specs.Origin.{CountAlike};
 ghost use Rattle.jwalk_crew.specs.Session.{origin_of, awaited_by};
@@ -12,11 +12,11 @@ use jwalk_crew::crew::{Crew, NotStarted, Place};
 use jwalk_crew::origin::Origin;
 use jwalk_crew::session::Session;
 use jwalk_order::ordered_queue::OrderedMatcher;
+use jwalk_read::client_state::ClientState;
+use jwalk_read::error::Error;
 use jwalk_read::job::Job;
-use read_parts::client_state::ClientState;
-use read_parts::error::Error;
-use read_parts::process_read_dir::ProcessReadDir;
-use read_parts::read_dir_spec::ReadDirSpec;
+use jwalk_read::process_read_dir::ProcessReadDir;
+use jwalk_read::read_dir_spec::ReadDirSpec;
 use std::alloc::Allocator;
 use std::sync::{Arc, Wait};
 use std::thread::Threads;

@@ -1,16 +1,16 @@
 //! Readings in preorder, with threads for those that are made together.
 ghost use Rattle.std.specs.Prelude.{false, Ok, IsSome, option_map};
-ghost use Rattle.read_parts.specs.Entry.{entry};
+ghost use Rattle.jwalk_read.specs.Entry.{entry};
 ghost use Rattle.jwalk_read.specs.ReadDir.{outcome};
 ghost use Rattle.jwalk_read.specs.Job.{callback};
 
 use crate::read_dir_iter::ReadDirIter;
 use jwalk_crew::pool::Pool;
+use jwalk_read::client_state::ClientState;
+use jwalk_read::dir_entry::DirEntry;
+use jwalk_read::error::Error;
+use jwalk_read::process_read_dir::ProcessReadDir;
 use jwalk_read::read_dir::Outcome;
-use read_parts::client_state::ClientState;
-use read_parts::dir_entry::DirEntry;
-use read_parts::error::Error;
-use read_parts::process_read_dir::ProcessReadDir;
 use std::alloc::{AllocError, Allocator};
 use std::thread::Threads;
 use walk_fs::file_system::FileSystem;

@@ -2,9 +2,9 @@
 ghost use Rattle.std.specs.Prelude.{◌≡◌, ◌⊎◌, false, map, IfOk, IfErr};
 ghost use Rattle.walk_model.specs.Error.{memory, busy};
 ghost use Rattle.walk_model.specs.Options as value;
-ghost use Rattle.read_parts.specs.Error.{failure};
+ghost use Rattle.jwalk_read.specs.Error.{failure};
 ghost use Rattle.jwalk_read.specs.Job.{callback};
-ghost use Rattle.read_parts.specs.ReadDirSpec.{spec};
+ghost use Rattle.jwalk_read.specs.ReadDirSpec.{spec};
 
 use crate::crew_reads::CrewReads;
 use crate::crew_reads::started::error_of;
@@ -13,11 +13,11 @@ use crate::read_dir_iter::ReadDirIter;
 use jwalk_crew::crew::Crew;
 use jwalk_crew::pool::Pool;
 use jwalk_crew::session::Session;
+use jwalk_read::client_state::ClientState;
+use jwalk_read::error::Error;
 use jwalk_read::job::Job;
-use read_parts::client_state::ClientState;
-use read_parts::error::Error;
-use read_parts::process_read_dir::ProcessReadDir;
-use read_parts::read_dir_spec::ReadDirSpec;
+use jwalk_read::process_read_dir::ProcessReadDir;
+use jwalk_read::read_dir_spec::ReadDirSpec;
 use std::alloc::Allocator;
 use std::sync::Wait;
 use std::thread::Threads;
@@ -35,8 +35,8 @@ where
     C::ReadDirState: Send + 'static,
     C::DirEntryState: Send + 'static,
 {
-    ghost use Rattle.read_parts.specs.Options as options;
-    ghost use Rattle.jwalk_engine.specs.ReadAhead.{BeginsWith};
+    ghost use Rattle.jwalk_read.specs.Options as options;
+    ghost use Rattle.jwalk_readings.specs.ReadAhead.{BeginsWith};
     ghost use Rattle.jwalk_readings.specs.Parallelism.{parallelism_value, is_by_crew};
     ghost use Rattle.jwalk_readings.specs.ReadDirIter.{by_crew, job_of, to_read, width_of, read_ahead, StartsSteady};
 

@@ -2,17 +2,17 @@
 ghost use Rattle.std.specs.Prelude.{◌≡◌, true, length, map, IfOk, IfErr};
 ghost use Rattle.std.specs.Arc.{arc_value};
 ghost use Rattle.walk_model.specs.Error.{memory};
-ghost use Rattle.read_parts.specs.Error.{failure};
-ghost use Rattle.read_parts.specs.ReadDirSpec.{spec};
+ghost use Rattle.jwalk_read.specs.Error.{failure};
+ghost use Rattle.jwalk_read.specs.ReadDirSpec.{spec};
 
 use crate::crew_reads::CrewReads;
 use crate::read_dir_iter::ReadDirIter;
 use jwalk_crew::pool::Pool;
+use jwalk_read::client_state::ClientState;
+use jwalk_read::error::Error;
 use jwalk_read::job::Job;
-use read_parts::client_state::ClientState;
-use read_parts::error::Error;
-use read_parts::process_read_dir::ProcessReadDir;
-use read_parts::read_dir_spec::ReadDirSpec;
+use jwalk_read::process_read_dir::ProcessReadDir;
+use jwalk_read::read_dir_spec::ReadDirSpec;
 use std::alloc::Allocator;
 use std::sync::Arc;
 use walk_fs::file_system::FileSystem;

@@ -1,6 +1,6 @@
 use Rattle.std.proofs.Common.{ap, refl}
 use Rattle.std.proofs.lemmas.Result.{IfOk-weaker}
-use Rattle.jwalk.specs.jwalk_process.WithSizes.{asking-KeepsDepthsOf, asks, counted_size, size_worth, sizes}
+use Rattle.jwalk.specs.jwalk_callbacks.WithSizes.{asking-KeepsDepthsOf, asks, counted_size, size_worth, sizes}
 use Rattle.jwalk.specs.walk_model.Counted.{blank, both}
 use Rattle.jwalk_ignore.specs.ChainWorth.{chain_worth}
 use Rattle.jwalk_ignore.specs.IgnoreViews.{next_of, settings_of, texts_of}

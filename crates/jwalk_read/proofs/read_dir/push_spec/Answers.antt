@@ -2,8 +2,8 @@ use Rattle.std.proofs.Common.{◌≡◌, ◌++◌, ◌∷◌, [], ◌∙◌, ap,
 use Rattle.std.proofs.lemmas.List.{map-append}
 use Rattle.std.specs.Prelude.{option_to_list}
 use Rattle.walk_model.specs.ReadDir.{spec_of, AreClones}
-use Rattle.read_parts.specs.Entry.{item}
-use Rattle.read_parts.specs.ReadDirSpec.{spec}
+use Rattle.jwalk_read.specs.Entry.{item}
+use Rattle.jwalk_read.specs.ReadDirSpec.{spec}
 use Rattle.jwalk_read.proofs.ListFacts.{AreClones-append}
 use Rattle.jwalk_read.proofs.read_dir.push_spec.Goals as goal
 

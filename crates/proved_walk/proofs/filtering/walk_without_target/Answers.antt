@@ -1,6 +1,6 @@
 use Rattle.std.proofs.Common.{◌∙◌, refl, rules, tests}
 use Rattle.std.proofs.lemmas.Result.{IfOk-weaker}
-use Rattle.jwalk.specs.jwalk_process.FilterEntry.{filtering}
+use Rattle.jwalk.specs.jwalk_callbacks.FilterEntry.{filtering}
 use Rattle.proved_walk.specs.Filtering.{no_target}
 use Rattle.proved_walk.proofs.filtering.walk_without_target.Goals as goal
 

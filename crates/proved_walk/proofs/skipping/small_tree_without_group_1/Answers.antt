@@ -2,7 +2,7 @@ use Rattle.std.proofs.Common.{◌≡◌, ◌∙◌, true, ◌∷◌, [], ap, map
 use Rattle.jwalk.specs.walk_model.Lines.{line_of}
 use Rattle.jwalk.specs.walk_model.Options.{defaults, with_sort}
 use Rattle.jwalk.specs.memory_fs.MemoryFs.{tree_of}
-use Rattle.jwalk.specs.jwalk_process.SkipNames.{names_of}
+use Rattle.jwalk.specs.jwalk_callbacks.SkipNames.{names_of}
 use Rattle.jwalk.specs.WalkDir.{file_system_of, callback_of, options_of, root_of}
 use Rattle.proved_walk.proofs.SmallTreeFacts.{group_1_skipped}
 use Rattle.proved_walk.proofs.skipping.small_tree_without_group_1.Goals as goal

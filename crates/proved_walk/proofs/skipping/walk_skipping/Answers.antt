@@ -1,7 +1,7 @@
 use Rattle.std.proofs.Common.{refl}
 use Rattle.std.proofs.lemmas.Result.{IfOk-weaker}
 use Rattle.jwalk.specs.WalkDir.{callback_of}
-use Rattle.jwalk.specs.jwalk_process.SkipNames.{names_of, skipping}
+use Rattle.jwalk.specs.jwalk_callbacks.SkipNames.{names_of, skipping}
 use Rattle.proved_walk.proofs.skipping.walk_skipping.Goals as goal
 
 pub returns : goal.returns

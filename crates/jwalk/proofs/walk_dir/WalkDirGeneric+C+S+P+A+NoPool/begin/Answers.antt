@@ -4,8 +4,8 @@ use Rattle.walk_model.specs.Listing.{paired}
 use Rattle.walk_model.specs.Counted.{Worth}
 use Rattle.walk_model.specs.Job as value
 use Rattle.jwalk_read.specs.ReadDir.{reading}
-use Rattle.read_parts.specs.Options.{width_of}
-use Rattle.read_parts.specs.Given.{counted_reading}
+use Rattle.jwalk_read.specs.Options.{width_of}
+use Rattle.jwalk_read.specs.Given.{counted_reading}
 use Rattle.jwalk_read.specs.Job.{file_system, callback, options_of, job_by, IsSteady}
 use Rattle.jwalk_entries.specs.DirEntryIter.{held_by}
 use Rattle.jwalk.specs.WalkDir.{job_for, file_system_of, root_of, state_of}

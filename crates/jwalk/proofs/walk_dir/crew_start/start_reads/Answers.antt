@@ -1,6 +1,6 @@
 use Rattle.std.proofs.Common.{map, refl}
 use Rattle.walk_model.specs.ReadDir.{children, AreClones}
-use Rattle.read_parts.specs.ReadDirSpec.{spec}
+use Rattle.jwalk_read.specs.ReadDirSpec.{spec}
 use Rattle.jwalk_read.specs.ReadDir.{reading}
 use Rattle.jwalk_readings.specs.CrewReads.{to_read}
 use Rattle.jwalk_readings.proofs.AlikeFacts.{alike_clones}

@@ -1,7 +1,7 @@
 use Rattle.std.proofs.Common.{IfSome}
 use Rattle.std.specs.Arc.{arc_value}
 use Rattle.jwalk_order.specs.Ordered.{address_of}
-use Rattle.read_parts.specs.ReadDirSpec.{spec}
+use Rattle.jwalk_read.specs.ReadDirSpec.{spec}
 use Rattle.jwalk_crew.specs.Ground.{origin_at}
 use Rattle.jwalk_crew.specs.Origin.{IsAt}
 use Rattle.jwalk_crew.proofs.worker.Worker.work.Given as goal

@@ -1,5 +1,5 @@
 use Rattle.std.proofs.Common.{◌∙◌, refl, sym, ap, subst}
-use Rattle.jwalk_engine.specs.ReadAhead.{BeginsWith}
+use Rattle.jwalk_readings.specs.ReadAhead.{BeginsWith}
 use Rattle.jwalk_readings.specs.ReadDirIter as readings
 use Rattle.jwalk_readings.proofs.ResultFacts.{none_on_ok}
 use Rattle.jwalk_entries.proofs.dir_entry_iter.DirEntryIter.begin.Goals as goal

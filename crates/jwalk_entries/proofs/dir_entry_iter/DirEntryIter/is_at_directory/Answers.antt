@@ -1,5 +1,5 @@
 use Rattle.std.proofs.Common.{◌∙◌, Ok, map, reverse, sym, ap}
-use Rattle.read_parts.specs.Entry.{item, children}
+use Rattle.jwalk_read.specs.Entry.{item, children}
 use Rattle.jwalk_readings.proofs.ListFacts.{last_first, is_some-map}
 use Rattle.jwalk_entries.proofs.PrepareFacts.{at_entry}
 use Rattle.jwalk_entries.proofs.dir_entry_iter.DirEntryIter.is_at_directory.Goals as goal

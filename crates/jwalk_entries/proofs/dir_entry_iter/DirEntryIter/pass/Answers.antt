@@ -1,8 +1,8 @@
 use Rattle.std.proofs.Common.{◌≡◌, ◌∙◌, [], Ok, Err, inr, map, reverse, refl, rules, sym, ap}
 use Rattle.std.specs.Prelude.{option_map}
 use Rattle.std.proofs.lemmas.List.{nil_from_length}
-use Rattle.read_parts.specs.Error.{failure}
-use Rattle.read_parts.specs.Entry.{entry, item, children}
+use Rattle.jwalk_read.specs.Error.{failure}
+use Rattle.jwalk_read.specs.Entry.{entry, item, children}
 use Rattle.jwalk_read.specs.ReadDir.{outcome}
 use Rattle.jwalk_read.specs.Job.{greatest_depth}
 use Rattle.jwalk_entries.specs.DirEntryIter.{by_crew, job_of, items_of, unread_of, position_of}

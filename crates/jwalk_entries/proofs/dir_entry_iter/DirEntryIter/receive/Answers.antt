@@ -1,6 +1,6 @@
 use Rattle.std.proofs.Common.{◌≡◌, ◌∙◌, ◌++◌, [], map, reverse, refl, ap, sym, append-nil, eqb-true}
 use Rattle.std.proofs.lemmas.List.{nil_from_length, reverse-reverse}
-use Rattle.read_parts.specs.Entry.{item}
+use Rattle.jwalk_read.specs.Entry.{item}
 use Rattle.jwalk_read.specs.ReadDir.{reading}
 use Rattle.jwalk_entries.proofs.ReceivedFacts.{received}
 use Rattle.jwalk_entries.proofs.dir_entry_iter.DirEntryIter.receive.Goals as goal

@@ -1,6 +1,6 @@
 use Rattle.std.proofs.Common.{◌∙◌, map, reverse, refl, ap}
-use Rattle.read_parts.specs.Entry.{item}
-use Rattle.read_parts.specs.Options.{width_of}
+use Rattle.jwalk_read.specs.Entry.{item}
+use Rattle.jwalk_read.specs.Options.{width_of}
 use Rattle.jwalk_entries.proofs.AheadFacts.{begins_with_none}
 use Rattle.jwalk_entries.proofs.dir_entry_iter.DirEntryIter.refused.Goals as goal
 

@@ -1,7 +1,7 @@
 use Rattle.std.proofs.Common.{◌≡◌}
 use Rattle.walk_model.specs.Entry.{path_of}
-use Rattle.read_parts.specs.Text.{text}
-use Rattle.read_parts.specs.Entry.{entry}
+use Rattle.jwalk_read.specs.Text.{text}
+use Rattle.jwalk_read.specs.Entry.{entry}
 use Rattle.jwalk_read.proofs.job.Job.behind.Goals as goal
 
 pub returns-in-Ok-clause-value : goal.returns-in-Ok-clause-value

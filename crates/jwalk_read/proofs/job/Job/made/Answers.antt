@@ -6,10 +6,10 @@ use Rattle.walk_model.specs.Entry.{Entry, children_at}
 use Rattle.walk_model.specs.Counted.{Worth}
 use Rattle.walk_model.specs.Job as value
 use Rattle.walk_model.proofs.CountedFacts.{counted-with_directory}
-use Rattle.read_parts.specs.Text.{text}
-use Rattle.read_parts.specs.Ancestors.{texts}
-use Rattle.read_parts.specs.Entry.{entry}
-use Rattle.read_parts.specs.Given.{counted_entry}
+use Rattle.jwalk_read.specs.Text.{text}
+use Rattle.jwalk_read.specs.Ancestors.{texts}
+use Rattle.jwalk_read.specs.Entry.{entry}
+use Rattle.jwalk_read.specs.Given.{counted_entry}
 use Rattle.jwalk_read.specs.Job.{job_by}
 use Rattle.jwalk_read.proofs.job.Job.made.Goals as goal
 

@@ -1,7 +1,7 @@
 use Rattle.std.proofs.Common.{◌∙◌, ap, sym}
 use Rattle.std.proofs.lemmas.List.{length-map}
 use Rattle.walk_model.specs.ReadDir.{Reading}
-use Rattle.read_parts.specs.Given.{counted_reading}
+use Rattle.jwalk_read.specs.Given.{counted_reading}
 use Rattle.jwalk_read.proofs.job.Job.processed.Goals as goal
 
 pub returns-clause-depth : goal.returns-clause-depth

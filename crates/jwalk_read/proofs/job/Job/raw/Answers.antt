@@ -1,7 +1,7 @@
 use Rattle.std.proofs.Common.{◌++◌, ◌∷◌, [], cond, ap, sym, ◌∙◌, string_bytes}
-use Rattle.read_parts.specs.Text.{text}
-use Rattle.read_parts.specs.Ancestors.{texts}
-use Rattle.read_parts.specs.Given.{counted_list}
+use Rattle.jwalk_read.specs.Text.{text}
+use Rattle.jwalk_read.specs.Ancestors.{texts}
+use Rattle.jwalk_read.specs.Given.{counted_list}
 use Rattle.jwalk_read.proofs.GatheredFacts.{gathered_none, gathered_depth, gathered_value}
 use Rattle.jwalk_read.proofs.job.Job.raw.Goals as goal
 

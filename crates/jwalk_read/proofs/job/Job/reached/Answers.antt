@@ -2,9 +2,9 @@ use Rattle.std.proofs.Common.{◌≡◌, ◌∙◌, Result, Ok, Err, ap, refl}
 use Rattle.std.specs.Prelude.{MatchResult}
 use Rattle.std.specs.Result.{result_and}
 use Rattle.walk_model.specs.Job as value
-use Rattle.read_parts.specs.Error.{failure}
-use Rattle.read_parts.specs.Entry.{entry, item}
-use Rattle.read_parts.specs.Given.{counted_entry, counted_item}
+use Rattle.jwalk_read.specs.Error.{failure}
+use Rattle.jwalk_read.specs.Entry.{entry, item}
+use Rattle.jwalk_read.specs.Given.{counted_entry, counted_item}
 use Rattle.jwalk_read.specs.Job.{job_by}
 use Rattle.jwalk_read.proofs.job.Job.reached.Goals as goal
 

@@ -4,8 +4,8 @@ use Rattle.std.proofs.lemmas.Bool.Decides.{nat_tests}
 use Rattle.std.specs.Prelude.{◌↔◌, IsTrue, nat_le}
 use Rattle.walk_model.specs.ReadDir.{Reading}
 use Rattle.walk_model.specs.Sorting.{arranged}
-use Rattle.read_parts.specs.Entry.{item}
-use Rattle.read_parts.specs.ReadDirSpec.{spec}
+use Rattle.jwalk_read.specs.Entry.{item}
+use Rattle.jwalk_read.specs.ReadDirSpec.{spec}
 use Rattle.jwalk_read.specs.ReadDir.{reading}
 use Rattle.jwalk_read.specs.Job.{options_of, greatest_depth, IsReadingOf}
 use Rattle.jwalk_read.proofs.ReadingFacts.{not_read, was_listed}

@@ -3,8 +3,8 @@ use Rattle.std.specs.Prelude.{string_bytes}
 use Rattle.walk_model.specs.Entry.{Entry, Item}
 use Rattle.walk_model.specs.Counted.{Worth}
 use Rattle.walk_model.specs.Job.{Job, either, made, followed, with_target, root_item}
-use Rattle.read_parts.specs.Entry.{entry, item}
-use Rattle.read_parts.specs.Given.{counted_entry, counted_item}
+use Rattle.jwalk_read.specs.Entry.{entry, item}
+use Rattle.jwalk_read.specs.Given.{counted_entry, counted_item}
 use Rattle.jwalk_read.specs.Job.{job_by}
 use Rattle.jwalk_read.proofs.job.Job.root_item.Goals as goal
 

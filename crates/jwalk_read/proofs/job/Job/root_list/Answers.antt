@@ -1,9 +1,9 @@
 use Rattle.std.proofs.Common.{◌≡◌, ◌∙◌, ◌∷◌, ◌++◌, [], List, None, refl, map, ap, sym}
 use Rattle.std.specs.Prelude.{string_bytes}
 use Rattle.walk_model.specs.ReadDir.{Reading}
-use Rattle.read_parts.specs.Entry.{item}
-use Rattle.read_parts.specs.Given.{counted_item, counted_reading}
-use Rattle.read_parts.proofs.GivenFacts.{same_call}
+use Rattle.jwalk_read.specs.Entry.{item}
+use Rattle.jwalk_read.specs.Given.{counted_item, counted_reading}
+use Rattle.jwalk_read.proofs.GivenFacts.{same_call}
 use Rattle.jwalk_read.proofs.job.Job.root_list.Goals as goal
 
 -- the list that the callback is given

@@ -7,8 +7,8 @@ use Rattle.walk_model.specs.Paths.{join}
 use Rattle.walk_model.specs.Counted.{Worth, entry_by}
 use Rattle.walk_model.specs.Job.{Job, either, with_target}
 use Rattle.walk_model.proofs.CountedFacts.{counted-with_directory}
-use Rattle.read_parts.specs.Text.{text}
-use Rattle.read_parts.specs.Entry.{entry}
+use Rattle.jwalk_read.specs.Text.{text}
+use Rattle.jwalk_read.specs.Entry.{entry}
 use Rattle.jwalk_read.specs.Job.{job_by}
 use Rattle.jwalk_read.proofs.job.Job.with_target.Goals as goal
 

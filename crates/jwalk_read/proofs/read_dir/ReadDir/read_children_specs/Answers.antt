@@ -1,8 +1,8 @@
 use Rattle.std.proofs.Common.{◌≡◌, ◌+◌, ◌<◌, ◌++◌, ◌∷◌, [], ◌∙◌, ap, sym, map, take, length, get_or, arith, subst}
 use Rattle.std.proofs.lemmas.List.{map-append, take_more, take_all}
 use Rattle.walk_model.specs.ReadDir.{children, AreClones}
-use Rattle.read_parts.specs.Entry.{item}
-use Rattle.read_parts.specs.ReadDirSpec.{spec}
+use Rattle.jwalk_read.specs.Entry.{item}
+use Rattle.jwalk_read.specs.ReadDirSpec.{spec}
 use Rattle.jwalk_read.proofs.ListFacts.{children_more}
 use Rattle.jwalk_read.proofs.read_dir.ReadDir.read_children_specs.Goals as goal
 

@@ -1,7 +1,7 @@
 use Rattle.std.proofs.Common.{map, take}
 use Rattle.walk_model.specs.ReadDir.{children, AreClones}
-use Rattle.read_parts.specs.Entry.{item}
-use Rattle.read_parts.specs.ReadDirSpec.{spec}
+use Rattle.jwalk_read.specs.Entry.{item}
+use Rattle.jwalk_read.specs.ReadDirSpec.{spec}
 use Rattle.jwalk_read.proofs.read_dir.ReadDir.read_children_specs.Given as goal
 
 -- the specifications so far are clones of those of the items gone over

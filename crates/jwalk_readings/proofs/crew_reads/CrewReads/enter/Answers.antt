@@ -1,6 +1,6 @@
 use Rattle.std.proofs.Common.{◌∙◌, ◌++◌, map, sym, ap}
 use Rattle.jwalk_order.specs.Frontier.{passed}
-use Rattle.read_parts.specs.ReadDirSpec.{spec}
+use Rattle.jwalk_read.specs.ReadDirSpec.{spec}
 use Rattle.jwalk_read.specs.ReadDir.{outcome}
 use Rattle.jwalk_readings.specs.CrewReads.{job_of, to_read, next_address}
 use Rattle.jwalk_readings.proofs.CrewFacts.{told_reading}

@@ -1,6 +1,6 @@
 use Rattle.std.proofs.Common.{◌≡◌, ◌∙◌, true, Ok, map, reverse, sym, ap, subst}
-use Rattle.read_parts.specs.Entry.{entry}
-use Rattle.read_parts.specs.ReadDirSpec.{spec}
+use Rattle.jwalk_read.specs.Entry.{entry}
+use Rattle.jwalk_read.specs.ReadDirSpec.{spec}
 use Rattle.jwalk_readings.specs.CrewReads.{IsNextBelow}
 use Rattle.jwalk_readings.proofs.ListFacts.{last_first, no_last}
 use Rattle.jwalk_readings.proofs.crew_reads.CrewReads.is_next.Goals as goal

@@ -1,6 +1,6 @@
 use Rattle.std.proofs.Common.{None, map, reverse, sym, subst}
 use Rattle.std.specs.Arc.{arc_value}
-use Rattle.read_parts.specs.ReadDirSpec.{spec}
+use Rattle.jwalk_read.specs.ReadDirSpec.{spec}
 use Rattle.jwalk_readings.specs.CrewReads.{IsSteadyOver}
 use Rattle.jwalk_readings.proofs.CrewSteadyFacts.{nothing_steady}
 use Rattle.jwalk_readings.proofs.crew_reads.CrewReads.new.Goals as goal

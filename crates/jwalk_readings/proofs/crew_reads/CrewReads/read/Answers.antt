@@ -1,9 +1,9 @@
 use Rattle.std.proofs.Common.{◌∙◌, List, ◌∷◌, Err, refl, sym, ap, subst}
 use Rattle.walk_model.specs.ReadDir.{Spec}
 use Rattle.jwalk_order.specs.IndexPath.{address}
-use Rattle.read_parts.specs.ReadDirSpec.{spec}
+use Rattle.jwalk_read.specs.ReadDirSpec.{spec}
 use Rattle.jwalk_read.specs.ReadDir.{outcome}
-use Rattle.read_parts.specs.Given.{Given}
+use Rattle.jwalk_read.specs.Given.{Given}
 use Rattle.jwalk_read.specs.Job.{options_of}
 use Rattle.crew_parts.specs.Wanted.{IsFor}
 use Rattle.jwalk_readings.specs.CrewReads.{job_of, next_address, awaited, IsSteadyOver}

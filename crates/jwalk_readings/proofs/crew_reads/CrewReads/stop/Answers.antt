@@ -1,5 +1,5 @@
 use Rattle.std.proofs.Common.{None, map, reverse, sym, subst}
-use Rattle.read_parts.specs.ReadDirSpec.{spec}
+use Rattle.jwalk_read.specs.ReadDirSpec.{spec}
 use Rattle.jwalk_readings.specs.CrewReads.{job_of, IsSteadyOver}
 use Rattle.jwalk_readings.proofs.CrewSteadyFacts.{nothing_steady}
 use Rattle.jwalk_readings.proofs.crew_reads.CrewReads.stop.Goals as goal

@@ -1,6 +1,6 @@
 use Rattle.std.proofs.Common.{Ok, refl}
 use Rattle.std.specs.Prelude.{option_map}
-use Rattle.read_parts.specs.Entry.{entry}
+use Rattle.jwalk_read.specs.Entry.{entry}
 use Rattle.jwalk_read.specs.ReadDir.{outcome}
 use Rattle.jwalk_read.specs.Job.{greatest_depth}
 use Rattle.jwalk_readings.specs.ReadDirIter.{by_crew, job_of, to_read}

@@ -3,7 +3,7 @@ use Rattle.std.specs.Prelude.{is_some}
 use Rattle.std.specs.Arc.{arc_value}
 use Rattle.std.proofs.lemmas.Result.{IfOk-weaker}
 use Rattle.jwalk.specs.walk_model.Counted.{blank, both}
-use Rattle.jwalk.specs.read_parts.Entry.{item}
+use Rattle.jwalk.specs.jwalk_read.Entry.{item}
 use Rattle.jwalk.specs.WalkDir.{file_system_of, options_of, state_of}
 use Rattle.jwalk_ignore.specs.ChainWorth.{chain_worth}
 use Rattle.jwalk_ignore.specs.Given.{no_rules_yet, rules_alone}

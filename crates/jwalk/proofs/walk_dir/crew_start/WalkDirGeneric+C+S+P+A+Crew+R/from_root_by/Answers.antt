@@ -1,6 +1,6 @@
 use Rattle.std.proofs.Common.{option_map, inl, inr, refl, ap, ◌∙◌}
 use Rattle.walk_model.specs.Entry.{AtDepth}
-use Rattle.read_parts.specs.Options as options
+use Rattle.jwalk_read.specs.Options as options
 use Rattle.jwalk_read.specs.ReadDir.{reading}
 use Rattle.jwalk_read.specs.Job.{options_of}
 use Rattle.jwalk.proofs.CrewStartFacts.{refused_from_root, by_from_root, if_some_map}

@@ -1,7 +1,7 @@
 use Rattle.std.proofs.Common.{◌≡◌, ◌∙◌, map, reverse, length, refl, sym, ap, subst}
 use Rattle.std.proofs.lemmas.List.{reverse-reverse, length-map}
 use Rattle.jwalk_order.specs.Frontier.{roots}
-use Rattle.read_parts.specs.ReadDirSpec.{spec}
+use Rattle.jwalk_read.specs.ReadDirSpec.{spec}
 use Rattle.jwalk_read.specs.Job.{callback}
 use Rattle.jwalk_crew.specs.Origin.{CountAlike}
 use Rattle.jwalk_readings.proofs.CrewSteadyFacts.{origin_same, alike_length}

@@ -1,5 +1,5 @@
 use Rattle.std.proofs.Common.{map}
-use Rattle.read_parts.specs.ReadDirSpec.{spec}
+use Rattle.jwalk_read.specs.ReadDirSpec.{spec}
 use Rattle.jwalk_readings.proofs.CrewSteadyFacts.{starts_steady}
 use Rattle.jwalk_readings.proofs.GivesFacts.{alone_steady}
 use Rattle.jwalk_readings.proofs.read_dir_iter.over_crew.ReadDirIter+C+S+P+A+Session+R+C+S+P+A.try_with_crew.Goals as goal

@@ -1,0 +1,20 @@
+use Rattle.std.proofs.Common.{length, map, string_bytes, ap, sym, ◌∙◌}
+use Rattle.std.proofs.lemmas.List.{with_items_is}
+use Rattle.jwalk_read.specs.Entry.{item}
+use Rattle.jwalk_callbacks.specs.SkipNames.{skipped_item}
+use Rattle.jwalk_callbacks.proofs.SkipFacts.{changed_more, changed_all}
+use Rattle.jwalk_callbacks.proofs.skip_names.skip_all.Goals as goal
+
+pub loop-found-preserved : goal.loop-found-preserved
+loop-found-preserved g c =
+    let long = ap length c.deref_mut-found-items.ensures.value in
+    changed_more item (skipped_item (map string_bytes c.args.names.now)) c.args.list.now.items
+    c.loop-found.found-items c.loop-found.found-index c.skip.new.found c.found-item.result
+    (c.loop-found.auto.found-items ∙ long) (rw long at c.loop-found-test.true) c.skip.ensures c.loop-found.invariant
+
+pub returns : goal.returns
+returns g c =
+    let long = ap length c.deref_mut-found-items.ensures.value in
+    ap (map item) (with_items_is c.args.list.now c.loop-found.found-items (c.loop-found.auto.found-items ∙ long ∙ sym c.args.list.now.ok.0))
+    ∙ changed_all item (skipped_item (map string_bytes c.args.names.now)) c.args.list.now.items
+    c.loop-found.found-items c.loop-found.found-index (rw long at c.loop-found-test.false) c.loop-found.invariant

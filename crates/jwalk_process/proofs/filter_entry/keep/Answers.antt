@@ -1,8 +1,0 @@
-use Rattle.std.proofs.Common.{rules}
-use Rattle.read_parts.specs.Entry.{item}
-use Rattle.jwalk_process.specs.FilterEntry.{IsAnswered}
-use Rattle.jwalk_process.proofs.FilterFacts.{viewed-IsFiltered}
-use Rattle.jwalk_process.proofs.filter_entry.keep.Goals as goal
-
-pub returns : goal.returns
-returns g c = viewed-IsFiltered item _ (IsAnswered _) _ (λ x b q k. search rules) _ _ c.retain.ensures.filtered

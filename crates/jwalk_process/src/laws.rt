@@ -1,8 +1,0 @@
-//! What walks with a ready callback yield, as the contracts of functions that do nothing.
-ghost use Rattle.jwalk_process.specs.WithSizes.{WalksAreSized};
-
-/// A walk with `WithSizes` over one file system yields what the walk without it does, item for item, and each file has
-/// in its state what the file system returns of its length.
-pub fn walks_are_sized()
-    ensures { WalksAreSized }
-{}

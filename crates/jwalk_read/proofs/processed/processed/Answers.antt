@@ -1,0 +1,21 @@
+use Rattle.std.proofs.Common.{◌∙◌, ◌+◌, Some, map, ap}
+use Rattle.std.specs.Prelude.{string_bytes}
+use Rattle.walk_model.proofs.DepthFacts.{AtDepth-in_order}
+use Rattle.walk_model.proofs.CountedFacts.{counted-in_order}
+use Rattle.jwalk_read.specs.Entry.{item}
+use Rattle.jwalk_read.specs.Given.{counted_item}
+use Rattle.jwalk_read.proofs.GivenFacts.{same_call}
+use Rattle.jwalk_read.proofs.processed.processed.Goals as goal
+
+pub process-requires-clause-depths : goal.process-requires-clause-depths
+process-requires-clause-depths g c = rw c.in_ok-items.ensures (AtDepth-in_order (c.args.of.now.depth + 1) c.args.options.sort (map item c.args.items.items) c.requires.depth)
+
+pub returns-clause-value : goal.returns-clause-value
+returns-clause-value g c = λ given makes clones.
+    let cloned = clones c.args.of.now.client_read_state c.in_ok-state.state c.in_ok-state.ensures.cases in
+    let path = c.as_str.ensures.value ∙ ap string_bytes c.deref.ensures in
+    let items = ap (map (counted_item given)) c.in_ok-items.ensures ∙ counted-in_order given.read_dir_state given.dir_entry_state c.args.options.sort (map item c.args.items.items) in
+    same_call (given.processed (Some c.args.of.now.depth)) path cloned items (c.in_ok-process.ensures.made given makes)
+
+pub returns-clause-depth : goal.returns-clause-depth
+returns-clause-depth g c = c.in_ok-process.ensures.depths

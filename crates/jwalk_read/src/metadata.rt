@@ -1,0 +1,23 @@
+//! What a file system knows of a path.
+ghost use Rattle.walk_model.specs.FileSystem.{metadata_at};
+ghost use Rattle.walk_fs.specs.Views.{AnswersValue};
+
+use walk_fs::fault::Fault;
+use walk_fs::file_system::FileSystem;
+use walk_model::metadata::Metadata;
+
+/// Returns what a file system knows of a path: through its last link, or of that link itself.
+pub(crate) fn metadata_at<S: FileSystem>(
+    fs: &S,
+    path: &str,
+    through_link: bool,
+) -> Result<Metadata, Fault>
+    ensures { S.IsFixed fs.now
+        → AnswersValue (λ m. m) result (metadata_at (S.functions fs.now) through_link path.now) }
+{
+    if through_link {
+        fs.metadata(path)
+    } else {
+        fs.symlink_metadata(path)
+    }
+}

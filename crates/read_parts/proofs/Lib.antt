@@ -1,3 +1,0 @@
-pub mod GivenFacts
-mod TieFacts
-mod PathListFacts
