@@ -1,5 +1,5 @@
 -- The options of a walk as a value.
-use Rattle.std.specs.Prelude.{ℕ, Bool, ◌==◌, if◌then◌else◌}
+use Rattle.std.specs.Prelude.{ℕ, ◌==◌, if◌then◌else◌}
 use Rattle.walk_model.specs.Options as value
 use Rattle.walk_model.specs.Options.{serial, batches, crew}
 use Rattle.jwalk_read.specs.declared.mode.Mode.{Mode}

@@ -27,10 +27,10 @@ use crate::dir_entry::DirEntry;
 use crate::error::Error;
 use crate::options::Options;
 use crate::process_read_dir::ProcessReadDir;
-use crate::processed::processed;
 use crate::read_children::ReadChildren;
 use crate::read_dir::ReadDir;
 use crate::read_dir_spec::ReadDirSpec;
+use crate::sorting::in_order;
 use gathering::Gathering;
 use links::{ancestors_below, joined};
 use std::alloc::{AllocError, Allocator, Global};
@@ -188,7 +188,8 @@ impl<C: ClientState, S: FileSystem, P: ProcessReadDir<C, A>, A: Allocator + Copy
         Ok(gathering.into_items())
     }
 
-    /// Returns the list of a directory that could be listed, after the callback.
+    /// Returns the list of a directory that could be listed, in the order that is asked for, after the callback. The
+    /// callback is called with a clone of the directory's state.
     fn processed(
         &self,
         of: &ReadDirSpec<C, A>,
@@ -206,8 +207,12 @@ impl<C: ClientState, S: FileSystem, P: ProcessReadDir<C, A>, A: Allocator + Copy
             (if (options_of self.now).sort then arranged (counted_list g items.items) else counted_list g items.items)
             ≡ counted_reading g (reading r)) }
     {
-        let made = processed(&self.process, self.options, of, items)?;
-        Ok(ReadDir::new(made.state, made.items))
+        let mut items = in_order(self.options.sort, items)?;
+        let mut state = of.client_read_state.clone()?;
+        self.process
+            .process(Some(of.depth), of.path.as_str(), &mut state, &mut items)?;
+        let _count = items.len();
+        Ok(ReadDir::new(state, items))
     }
 
     /// Reads one directory: returns its list, or the error that listing it ended in, which has the directory's depth

@@ -12,7 +12,6 @@ mod metadata;
 pub mod mode;
 pub mod options;
 pub mod process_read_dir;
-mod processed;
 pub mod read_children;
 pub mod read_dir;
 pub mod read_dir_spec;
