@@ -1,9 +1,11 @@
 -- A job as a value, and what its readings are.
-use Rattle.std.specs.Prelude.{◌≡◌, ◌<◌, ◌^◌, ℕ, length}
+use Rattle.std.specs.Prelude.{◌≡◌, ◌<◌, ◌^◌, ◌++◌, ◌∷◌, [], ℕ, Bool, List, Some, length, if◌then◌else◌}
 use Rattle.std.specs.declared.clone.Clone as Clone
 use Rattle.std.specs.declared.default.Default as Default
 use Rattle.walk_model.specs.Options as value_options
-use Rattle.walk_model.specs.ReadDir.{Spec, Outcome, IsLawfulReading, list_of}
+use Rattle.walk_model.specs.Entry.{Item}
+use Rattle.walk_model.specs.Sorting.{arranged}
+use Rattle.walk_model.specs.ReadDir.{Spec, Reading, Outcome, IsLawfulReading, list_of}
 use Rattle.walk_model.specs.Counted.{Worth}
 use Rattle.walk_model.specs.Job as value
 use Rattle.walk_fs.specs.declared.file_system.FileSystem as FileSystem
@@ -33,6 +35,18 @@ job_by files given job = record {
   processed = given.processed;
   default = given.new_entry;
 }
+
+-- the ancestors of what is in a directory: none are kept where links aren't followed
+abbrev pub ancestors_in : {R : Type 0} → value_options.Options → Spec R → List (List ℕ)
+ancestors_in options of = if options.follow_links then of.ancestors ++ of.path ∷ [] else []
+
+-- what a callback, as it is given, makes of the items that a directory was found to have, sorted if that is asked for
+abbrev pub processed_by : {R E : Type 0} → Given R E → Bool → Spec R → List (Item Worth Worth) → Reading Worth Worth
+processed_by given sort of items = given.processed (Some of.depth) of.path (given.read_dir_state of.state) (if sort then arranged items else items)
+
+-- This holds of the definition's job, over a fixed file system and all that is given over which defaults count.
+abbrev pub ByValue : {C S P A R E : Type 0} → FileSystem.Ghosts S → Default.Ghosts E → Job C S P A R E → (Given R E → value.Job Worth Worth → Type 0) → Type 0
+ByValue {R = R} {E = E} files defaults job Holds = (given : Given R E) → files.IsFixed (file_system job) → DefaultsCount defaults given → Holds given (job_by files given job)
 
 -- Over what is given, the outcome is the reading of the definition.
 abbrev pub IsAsGiven : {C S P A R E : Type 0} → FileSystem.Ghosts S → Given R E → Job C S P A R E → Spec R → Outcome R E → Type 0

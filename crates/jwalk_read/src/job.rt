@@ -1,9 +1,8 @@
 //! One reading of a directory.
-ghost use Rattle.std.specs.Prelude.{◌≡◌, ◌+◌, ◌<◌, ◌^◌, Some, IfOk, IfErr, length, map, option_map, option_to_list, string_bytes, if◌then◌else◌};
+ghost use Rattle.std.specs.Prelude.{◌≡◌, ◌+◌, ◌<◌, ◌^◌, Some, IfOk, IfErr, length, map, option_map, option_to_list, string_bytes};
 ghost use Rattle.walk_model.specs.Entry.{AtDepth, children_at};
 ghost use Rattle.walk_model.specs.FileType.{is_dir};
 ghost use Rattle.walk_model.specs.Paths.{join};
-ghost use Rattle.walk_model.specs.Sorting.{arranged};
 ghost use Rattle.walk_model.specs.Job as value;
 ghost use Rattle.walk_fs.specs.Views.{named_as, FailsAs};
 ghost use Rattle.jwalk_read.specs.Text.{text};
@@ -13,7 +12,7 @@ ghost use Rattle.jwalk_read.specs.ReadDirSpec.{spec};
 ghost use Rattle.jwalk_read.specs.ReadDir.{outcome, reading};
 ghost use Rattle.jwalk_read.specs.Options.{options_value};
 ghost use Rattle.jwalk_read.specs.Given.{counted_spec, counted_reading, counted_list, counted_entry, DefaultsCount};
-ghost use Rattle.jwalk_read.specs.Job.{file_system, callback, options_of, job_by, IsSteadyJob, IsReadingOf};
+ghost use Rattle.jwalk_read.specs.Job.{file_system, callback, options_of, job_by, IsSteadyJob, IsReadingOf, ancestors_in, processed_by, ByValue};
 ghost use Rattle.jwalk_read.specs.Gathering.{IsListed};
 
 mod gathering;
@@ -112,8 +111,7 @@ impl<C: ClientState, S: FileSystem, P: ProcessReadDir<C, A>, A: Allocator + Copy
         file_type: FileType,
     ) -> Result<DirEntry<C, A>, AllocError>
         requires fits { (spec of.now).depth + 1 < 2 ^ 64 }
-        requires inside { (g : _) → texts inside.now
-            ≡ value.ancestors_in (job_by S.FileSystem g self.now) (counted_spec g (spec of.now)) }
+        requires inside { texts inside.now ≡ ancestors_in (options_of self.now) (spec of.now) }
         ensures depth { IfOk result (λ e. e.depth ≡ (spec of.now).depth + 1) }
         ensures value { (g : _) → DefaultsCount C.DirEntryState.Default g
             → IfOk result (λ e. counted_entry g (entry e)
@@ -143,12 +141,11 @@ impl<C: ClientState, S: FileSystem, P: ProcessReadDir<C, A>, A: Allocator + Copy
         file_type: io::Result<FileType>,
     ) -> Result<Option<Result<DirEntry<C, A>, Error<A>>>, AllocError>
         requires fits { (spec of.now).depth + 1 < 2 ^ 64 }
-        requires inside { (g : _) → texts inside.now
-            ≡ value.ancestors_in (job_by S.FileSystem g self.now) (counted_spec g (spec of.now)) }
+        requires inside { texts inside.now ≡ ancestors_in (options_of self.now) (spec of.now) }
         ensures depth { IfOk result (λ o. AtDepth ((spec of.now).depth + 1) (map item (option_to_list o))) }
-        ensures value { (g : _) → S.IsFixed (file_system self.now) → DefaultsCount C.DirEntryState.Default g
-            → IfOk result (λ o. counted_list g (option_to_list o)
-            ≡ value.named (job_by S.FileSystem g self.now) (counted_spec g (spec of.now)) (named_as name.now file_type)) }
+        ensures value { ByValue S.FileSystem C.DirEntryState.Default self.now (λ g job.
+            IfOk result (λ o. counted_list g (option_to_list o)
+            ≡ value.named job (counted_spec g (spec of.now)) (named_as name.now file_type))) }
     {
         match file_type {
             Err(err) => {
@@ -174,9 +171,9 @@ impl<C: ClientState, S: FileSystem, P: ProcessReadDir<C, A>, A: Allocator + Copy
     fn raw(&self, of: &ReadDirSpec<C, A>) -> Result<Vec<Result<DirEntry<C, A>, Error<A>>, A>, Fault>
         requires { (spec of.now).depth + 1 < 2 ^ 64 }
         ensures depth { IfOk result (λ v. AtDepth ((spec of.now).depth + 1) (map item v.items)) }
-        ensures value { (g : _) → S.IsFixed (file_system self.now) → DefaultsCount C.DirEntryState.Default g
-            → IfOk result (λ v. IsListed (S.functions (file_system self.now)) (text of.now.path) (λ listing.
-            counted_list g v.items ≡ value.raw (job_by S.FileSystem g self.now) (counted_spec g (spec of.now)) listing)) }
+        ensures value { ByValue S.FileSystem C.DirEntryState.Default self.now (λ g job.
+            IfOk result (λ v. IsListed (S.functions (file_system self.now)) (text of.now.path) (λ listing.
+            counted_list g v.items ≡ value.raw job (counted_spec g (spec of.now)) listing))) }
         ensures failed { S.IsFixed (file_system self.now) → IfErr result (λ fault.
             FailsAs fault ((S.functions (file_system self.now)).list_of (text of.now.path))) }
     {
@@ -202,9 +199,7 @@ impl<C: ClientState, S: FileSystem, P: ProcessReadDir<C, A>, A: Allocator + Copy
         ensures few { IfOk result (λ r. length (reading r).list < 2 ^ 64) }
         ensures value { (g : _)
             → IsSteadyJob S.FileSystem P.ProcessReadDir C.ReadDirState.Clone C.DirEntryState.Default self.now g
-            → IfOk result (λ r. g.processed (Some (spec of.now).depth) (text of.now.path)
-            (g.read_dir_state of.now.client_read_state)
-            (if (options_of self.now).sort then arranged (counted_list g items.items) else counted_list g items.items)
+            → IfOk result (λ r. processed_by g (options_of self.now).sort (spec of.now) (counted_list g items.items)
             ≡ counted_reading g (reading r)) }
     {
         let mut items = in_order(self.options.sort, items)?;

@@ -1,8 +1,8 @@
 // The items of a directory while it is listed.
-ghost use Rattle.std.specs.Prelude.{◌≡◌, ◌+◌, ◌<◌, ◌^◌, [], ◌∷◌, ◌++◌, if◌then◌else◌};
+ghost use Rattle.std.specs.Prelude.{◌≡◌, ◌+◌, ◌<◌, ◌^◌, []};
 ghost use Rattle.jwalk_read.specs.Ancestors.{texts};
 ghost use Rattle.jwalk_read.specs.ReadDirSpec.{spec};
-ghost use Rattle.jwalk_read.specs.Job.{options_of};
+ghost use Rattle.jwalk_read.specs.Job.{options_of, ancestors_in};
 
 use super::Job;
 use crate::ancestors::Ancestors;
@@ -25,8 +25,7 @@ pub(super) struct Gathering<'g, C: ClientState, S, P, A: Allocator + Copy> {
     inside: Ancestors<A>,
     items: Vec<Result<DirEntry<C, A>, Error<A>>, A>,
     ghost fits: { (spec of.now).depth + 1 < 2 ^ 64 },
-    ghost below: { texts inside ≡ (if (options_of job.now).follow_links
-        then (spec of.now).ancestors ++ (spec of.now).path ∷ [] else []) },
+    ghost below: { texts inside ≡ ancestors_in (options_of job.now) (spec of.now) },
 }
 
 impl<'g, C: ClientState, S, P, A: Allocator + Copy> Gathering<'g, C, S, P, A> {
@@ -37,8 +36,7 @@ impl<'g, C: ClientState, S, P, A: Allocator + Copy> Gathering<'g, C, S, P, A> {
         inside: Ancestors<A>,
     ) -> Self
         requires fits { (spec of.now).depth + 1 < 2 ^ 64 }
-        requires below { texts inside ≡ (if (options_of job.now).follow_links
-            then (spec of.now).ancestors ++ (spec of.now).path ∷ [] else []) }
+        requires below { texts inside ≡ ancestors_in (options_of job.now) (spec of.now) }
         ensures job { result.job.now ≡ job.now }
         ensures of { result.of.now ≡ of.now }
         ensures items { result.items.items ≡ [] }

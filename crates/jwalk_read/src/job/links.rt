@@ -8,8 +8,8 @@ ghost use Rattle.jwalk_read.specs.Text.{text};
 ghost use Rattle.jwalk_read.specs.Ancestors.{texts};
 ghost use Rattle.jwalk_read.specs.Error.{failure};
 ghost use Rattle.jwalk_read.specs.Entry.{entry, item};
-ghost use Rattle.jwalk_read.specs.Given.{Given, counted_item, counted_entry, DefaultsCount};
-ghost use Rattle.jwalk_read.specs.Job.{file_system, options_of, job_by};
+ghost use Rattle.jwalk_read.specs.Given.{Given, counted_item, counted_entry};
+ghost use Rattle.jwalk_read.specs.Job.{file_system, options_of, job_by, ByValue};
 
 use super::Job;
 use crate::ancestors::Ancestors;
@@ -146,9 +146,9 @@ impl<C: ClientState, S: FileSystem, P: ProcessReadDir<C, A>, A: Allocator + Copy
         ancestors: &Ancestors<A>,
     ) -> Result<Result<DirEntry<C, A>, Error<A>>, AllocError>
         ensures depth { IfOk result (λ r. AtDepth depth (item r ∷ [])) }
-        ensures value { (g : _) → S.IsFixed (file_system self.now) → DefaultsCount C.DirEntryState.Default g
-            → IfOk result (λ r. counted_item g (item r)
-            ≡ value.made (job_by S.FileSystem g self.now) depth (text path.now) through_link (texts ancestors.now)) }
+        ensures value { ByValue S.FileSystem C.DirEntryState.Default self.now (λ g job.
+            IfOk result (λ r. counted_item g (item r)
+            ≡ value.made job depth (text path.now) through_link (texts ancestors.now))) }
     {
         match metadata_at(&self.fs, path.as_str(), through_link) {
             Ok(metadata) => {
@@ -204,11 +204,10 @@ impl<C: ClientState, S: FileSystem, P: ProcessReadDir<C, A>, A: Allocator + Copy
     /// Returns the entry that replaces a link that is followed.
     fn behind(&self, link: &DirEntry<C, A>) -> Result<Result<DirEntry<C, A>, Error<A>>, AllocError>
         ensures depth { IfOk result (λ r. AtDepth (entry link.now).depth (item r ∷ [])) }
-        ensures value { (g : _) → S.IsFixed (file_system self.now) → DefaultsCount C.DirEntryState.Default g
-            → IfOk result (λ r. counted_item g (item r)
-            ≡ value.either (value.reached (job_by S.FileSystem g self.now) (counted_entry g (entry link.now))) Err
-            (value.made (job_by S.FileSystem g self.now) (entry link.now).depth
-            (path_of (entry link.now)) true (entry link.now).ancestors)) }
+        ensures value { ByValue S.FileSystem C.DirEntryState.Default self.now (λ g job.
+            IfOk result (λ r. counted_item g (item r)
+            ≡ value.either (value.reached job (counted_entry g (entry link.now))) Err
+            (value.made job (entry link.now).depth (path_of (entry link.now)) true (entry link.now).ancestors))) }
     {
         let path = joined(self.alloc, link.parent_path(), link.file_name())?;
         match self.made(link.depth, &path, &link.parent_path, true, link.ancestors())? {
@@ -230,9 +229,8 @@ impl<C: ClientState, S: FileSystem, P: ProcessReadDir<C, A>, A: Allocator + Copy
         found: DirEntry<C, A>,
     ) -> Result<Result<DirEntry<C, A>, Error<A>>, AllocError>
         ensures depth { IfOk result (λ r. AtDepth found.depth (item r ∷ [])) }
-        ensures value { (g : _) → S.IsFixed (file_system self.now) → DefaultsCount C.DirEntryState.Default g
-            → IfOk result (λ r. counted_item g (item r)
-            ≡ value.followed (job_by S.FileSystem g self.now) (counted_entry g (entry found))) }
+        ensures value { ByValue S.FileSystem C.DirEntryState.Default self.now (λ g job.
+            IfOk result (λ r. counted_item g (item r) ≡ value.followed job (counted_entry g (entry found)))) }
     {
         if self.gives_way(found.file_type) {
             return self.behind(&found);

@@ -8,8 +8,8 @@ ghost use Rattle.jwalk_read.specs.Text.{text};
 ghost use Rattle.jwalk_read.specs.Error.{failure};
 ghost use Rattle.jwalk_read.specs.Entry.{entry, item};
 ghost use Rattle.jwalk_read.specs.ReadDir.{reading};
-ghost use Rattle.jwalk_read.specs.Given.{Given, counted_item, counted_reading, counted_entry, DefaultsCount};
-ghost use Rattle.jwalk_read.specs.Job.{file_system, callback, options_of, job_by, IsSteadyJob};
+ghost use Rattle.jwalk_read.specs.Given.{Given, counted_item, counted_reading, counted_entry};
+ghost use Rattle.jwalk_read.specs.Job.{file_system, callback, options_of, job_by, IsSteadyJob, ByValue};
 
 use super::Job;
 use super::links::{ancestors_below, joined, shared};
@@ -89,10 +89,9 @@ impl<C: ClientState, S: FileSystem, P: ProcessReadDir<C, A>, A: Allocator + Copy
         found: DirEntry<C, A>,
     ) -> Result<Result<DirEntry<C, A>, Error<A>>, AllocError>
         ensures depth { AtDepth 0 (Ok (entry found) ∷ []) → IfOk result (λ r. AtDepth 0 (item r ∷ [])) }
-        ensures value { (g : _) → S.IsFixed (file_system self.now) → DefaultsCount C.DirEntryState.Default g
-            → IfOk result (λ r. counted_item g (item r)
-            ≡ value.either (value.with_target (job_by S.FileSystem g self.now)) Err
-            (value.followed (job_by S.FileSystem g self.now) (counted_entry g (entry found)))) }
+        ensures value { ByValue S.FileSystem C.DirEntryState.Default self.now (λ g job.
+            IfOk result (λ r. counted_item g (item r)
+            ≡ value.either (value.with_target job) Err (value.followed job (counted_entry g (entry found))))) }
     {
         match self.followed(found)? {
             Ok(found) => self.with_target(found),
@@ -103,10 +102,9 @@ impl<C: ClientState, S: FileSystem, P: ProcessReadDir<C, A>, A: Allocator + Copy
     /// Returns the root's entry, or the error met when it was asked for.
     fn root_entry(&self, path: &str) -> Result<Result<DirEntry<C, A>, Error<A>>, AllocError>
         ensures depth { IfOk result (λ r. AtDepth 0 (item r ∷ [])) }
-        ensures value { (g : _) → S.IsFixed (file_system self.now) → DefaultsCount C.DirEntryState.Default g
-            → IfOk result (λ r. counted_item g (item r)
-            ≡ value.made (job_by S.FileSystem g self.now) 0 path.now false
-            (if (options_of self.now).follow_links then path.now ∷ [] else [])) }
+        ensures value { ByValue S.FileSystem C.DirEntryState.Default self.now (λ g job.
+            IfOk result (λ r. counted_item g (item r)
+            ≡ value.made job 0 path.now false (if job.options.follow_links then path.now ∷ [] else []))) }
     {
         let path = shared(self.alloc, path)?;
         let follow_links = self.options.follow_links();
@@ -117,11 +115,10 @@ impl<C: ClientState, S: FileSystem, P: ProcessReadDir<C, A>, A: Allocator + Copy
     /// Returns the root's item before the callback, with the path that the callback is called with.
     fn root_item(&self, path: &str) -> Result<RootItem<C, A>, AllocError>
         ensures depth { IfOk result (λ r. AtDepth 0 (item r.item ∷ [])) }
-        ensures value { (g : _) → S.IsFixed (file_system self.now) → DefaultsCount C.DirEntryState.Default g
-            → IfOk result (λ r. counted_item g (item r.item)
-            ≡ value.root_item (job_by S.FileSystem g self.now) path.now) }
-        ensures parent { (g : _) → S.IsFixed (file_system self.now) → DefaultsCount C.DirEntryState.Default g
-            → IfOk result (λ r. text r.parent_path ≡ value.root_parent (job_by S.FileSystem g self.now) path.now) }
+        ensures value { ByValue S.FileSystem C.DirEntryState.Default self.now (λ g job.
+            IfOk result (λ r. counted_item g (item r.item) ≡ value.root_item job path.now)) }
+        ensures parent { ByValue S.FileSystem C.DirEntryState.Default self.now (λ g job.
+            IfOk result (λ r. text r.parent_path ≡ value.root_parent job path.now)) }
     {
         match self.root_entry(path)? {
             Ok(found) => {
