@@ -1,5 +1,5 @@
 -- What a rehearsal makes of a run of moves.
-use Rattle.std.specs.Prelude.{◌≡◌, ℕ, ◌+◌, ◌≤◌, false, List, [], ◌∷◌, ◌++◌, length, map, take, drop, All, Contains, slice_get, Option, Some}
+use Rattle.std.specs.Prelude.{◌≡◌, ℕ, ◌+◌, ◌≤◌, false, List, [], ◌∷◌, ◌++◌, length, map, take, drop, All, Contains, slice_get, Option, Some, Result, OnOk}
 use Rattle.std.specs.List.{filter}
 use Rattle.std.specs.Option.{option_map}
 use Rattle.jwalk_order.specs.Frontier.{roots as root_addresses}
@@ -7,7 +7,8 @@ use Rattle.jwalk_order.specs.Addresses.{times}
 use Rattle.jwalk_board.specs.Board.{Board, on_board, IsWhole}
 use Rattle.jwalk_order.specs.Addressed.{Addressed, addresses_of, child_addresses}
 use Rattle.jwalk_board.specs.Plan.{PlanTree, node, read, subtree, specs_in_preorder, readings_in_preorder}
-use Rattle.jwalk_board.specs.Run.{Run, is_queued, in_hands}
+use Rattle.jwalk_board.specs.Run.{Run, move, is_queued, in_hands}
+use Rattle.jwalk_board.specs.declared.board.moves.Move.{Move}
 
 -- what was handed out and taken, and the board
 pub record Rehearsed (S R : Type 0) : Type 0 where
@@ -70,3 +71,7 @@ module _ {S R : Type 0} (t : PlanTree S R) (roots : List S) where
     pub left : List (Addressed S)
     pub left_are : drop r.handed_out (specs_in_preorder t roots) ≡ trees t left
     pub left_frontier : addresses_of left ≡ st.made.board.frontier
+
+  -- A move led from one stage to another, if it was made: where a run is at the first, the run with this move is at the second.
+  abbrev pub PlaysMove : {F : Type 0} → Move → Stage S R → Result (Unit {0}) F → Stage S R → Type 0
+  PlaysMove next old result new = (r : Run) → Follows r old → OnOk result (Follows (move (addresses_of (specs_in_preorder t roots)) r next) new)

@@ -1,9 +1,7 @@
 // A rehearsal under way.
 ghost use Rattle.std.specs.Prelude.{List, OnOk};
-ghost use Rattle.jwalk_order.specs.Addressed.{addresses_of};
-ghost use Rattle.jwalk_board.specs.Plan.{Falls, PlanTree, specs_in_preorder};
-ghost use Rattle.jwalk_board.specs.Rehearsal.{Follows};
-ghost use Rattle.jwalk_board.specs.Run.{Run, move};
+ghost use Rattle.jwalk_board.specs.Plan.{Falls, PlanTree};
+ghost use Rattle.jwalk_board.specs.Rehearsal.{PlaysMove};
 ghost use Rattle.jwalk_board.specs.Stage.{stage_of, IsUnderWay};
 
 use super::moves::Move;
@@ -26,10 +24,9 @@ fn take<P: Plan<A>, A: Allocator + Copy>(
 ) -> Result<(), Refused>
     requires { IsUnderWay stage.old.hands.items stage.old.done.board }
     ensures kept { OnOk result (IsUnderWay stage.new.hands.items stage.new.done.board) }
-    ensures follows { (given : P.Given) (t : PlanTree P.SpecValue P.ReadingValue) (roots : List P.SpecValue) (r : Run)
-        → Falls t → Follows t roots r (stage_of (P.spec_value given) (P.reading_value given) stage.old)
-        → OnOk result (Follows t roots (move (addresses_of (specs_in_preorder t roots)) r (Move.Take worker))
-        (stage_of (P.spec_value given) (P.reading_value given) stage.new)) }
+    ensures follows { (given : P.Given) (t : PlanTree P.SpecValue P.ReadingValue) (roots : List P.SpecValue) → Falls t
+        → PlaysMove t roots (Move.Take worker) (stage_of (P.spec_value given) (P.reading_value given) stage.old) result
+        (stage_of (P.spec_value given) (P.reading_value given) stage.new) }
 {
     if worker >= stage.hands.len() {
         return Ok(());
@@ -55,10 +52,9 @@ fn hand_out<P: Plan<A>, A: Allocator + Copy>(
 ) -> Result<(), Refused>
     requires { IsUnderWay stage.old.hands.items stage.old.done.board }
     ensures kept { OnOk result (IsUnderWay stage.new.hands.items stage.new.done.board) }
-    ensures follows { (given : P.Given) (t : PlanTree P.SpecValue P.ReadingValue) (roots : List P.SpecValue) (r : Run)
-        → Falls t → Follows t roots r (stage_of (P.spec_value given) (P.reading_value given) stage.old)
-        → OnOk result (Follows t roots (move (addresses_of (specs_in_preorder t roots)) r Move.HandOut)
-        (stage_of (P.spec_value given) (P.reading_value given) stage.new)) }
+    ensures follows { (given : P.Given) (t : PlanTree P.SpecValue P.ReadingValue) (roots : List P.SpecValue) → Falls t
+        → PlaysMove t roots Move.HandOut (stage_of (P.spec_value given) (P.reading_value given) stage.old) result
+        (stage_of (P.spec_value given) (P.reading_value given) stage.new) }
 {
     match stage.done.board.hand_out() {
         Ok(item) => Ok(stage.done.handed_out.push(item)?),
@@ -78,11 +74,10 @@ fn finish<P: Plan<A>, A: Allocator + Copy>(
     requires lawful { P.IsLawful plan.now }
     requires under_way { IsUnderWay stage.old.hands.items stage.old.done.board }
     ensures kept { OnOk result (IsUnderWay stage.new.hands.items stage.new.done.board) }
-    ensures follows { (given : P.Given) → P.IsFixed plan.now given → (roots : List P.SpecValue) (r : Run)
-        → Follows (P.tree plan.now given) roots r (stage_of (P.spec_value given) (P.reading_value given) stage.old)
-        → OnOk result (Follows (P.tree plan.now given) roots
-        (move (addresses_of (specs_in_preorder (P.tree plan.now given) roots)) r (Move.Finish worker))
-        (stage_of (P.spec_value given) (P.reading_value given) stage.new)) }
+    ensures follows { (given : P.Given) → P.IsFixed plan.now given → (roots : List P.SpecValue)
+        → PlaysMove (P.tree plan.now given) roots (Move.Finish worker)
+        (stage_of (P.spec_value given) (P.reading_value given) stage.old) result
+        (stage_of (P.spec_value given) (P.reading_value given) stage.new) }
 {
     if worker >= stage.hands.len() {
         return Ok(());
@@ -110,11 +105,10 @@ pub(super) fn play<P: Plan<A>, A: Allocator + Copy>(
     requires lawful { P.IsLawful plan.now }
     requires under_way { IsUnderWay stage.old.hands.items stage.old.done.board }
     ensures kept { OnOk result (IsUnderWay stage.new.hands.items stage.new.done.board) }
-    ensures follows { (given : P.Given) → P.IsFixed plan.now given → (roots : List P.SpecValue) (r : Run)
-        → Follows (P.tree plan.now given) roots r (stage_of (P.spec_value given) (P.reading_value given) stage.old)
-        → OnOk result (Follows (P.tree plan.now given) roots
-        (move (addresses_of (specs_in_preorder (P.tree plan.now given) roots)) r next)
-        (stage_of (P.spec_value given) (P.reading_value given) stage.new)) }
+    ensures follows { (given : P.Given) → P.IsFixed plan.now given → (roots : List P.SpecValue)
+        → PlaysMove (P.tree plan.now given) roots next
+        (stage_of (P.spec_value given) (P.reading_value given) stage.old) result
+        (stage_of (P.spec_value given) (P.reading_value given) stage.new) }
 {
     match next {
         Move::Take(worker) => take::<P, A>(stage, worker),

@@ -13,7 +13,7 @@ use Rattle.jwalk_board.proofs.Plays.{stage_as, hand_out_refused, played_hand_out
 use Rattle.jwalk_board.proofs.board.stage.hand_out.Goals as goal
 
 pub returns-in_ok-push-in-Ok-clause-follows : goal.returns-in_ok-push-in-Ok-clause-follows
-returns-in_ok-push-in-Ok-clause-follows g c = λ given t roots r falls f.
+returns-in_ok-push-in-Ok-clause-follows g c = λ given t roots falls r f.
     let v = (g.P.Plan.spec_value given) in
     let w = (g.P.Plan.reading_value given) in
     let done = c.args.stage.now.done in
@@ -22,7 +22,7 @@ returns-in_ok-push-in-Ok-clause-follows g c = λ given t roots r falls f.
     (played_hand_out v w t falls roots r (map (option_map (seen_item v)) c.args.stage.now.hands.items) (map (seen_item w) done.handed_out.items) (map address done.taken.items) done.board c.hand_out.new.self c.in-Ok.item f c.in-Ok.ensures.handed_out)
 
 pub returns-in_default-clause-follows : goal.returns-in_default-clause-follows
-returns-in_default-clause-follows g c = λ given t roots r falls f.
+returns-in_default-clause-follows g c = λ given t roots falls r f.
     let v = (g.P.Plan.spec_value given) in
     let w = (g.P.Plan.reading_value given) in
     let same = hand_out_refused v w t falls roots r _ _ _ _ c.in-Err.refusal f c.in-Err.ensures.refused c.in_default.not-Memory in

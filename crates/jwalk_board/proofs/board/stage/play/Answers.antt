@@ -11,7 +11,7 @@ pub returns-in-Take-clause-follows : goal.returns-in-Take-clause-follows
 returns-in-Take-clause-follows g c = λ given fixed roots r f.
     let t = g.P.Plan.tree c.args.plan.now given in
     subst (λ m. OnOk c.take.result (Follows t roots (move (addresses_of (specs_in_preorder t roots)) r m) (stage_of (g.P.Plan.spec_value given) (g.P.Plan.reading_value given) c.take.new.stage))) (sym c.in-Take.is)
-    (c.take.ensures.follows given t roots r (g.met.P.Plan.falls c.args.plan.now given fixed) f)
+    (c.take.ensures.follows given t roots (g.met.P.Plan.falls c.args.plan.now given fixed) r f)
 
 pub returns-in-Finish-clause-follows : goal.returns-in-Finish-clause-follows
 returns-in-Finish-clause-follows g c = λ given fixed roots r f.
@@ -23,4 +23,4 @@ pub returns-in-HandOut-clause-follows : goal.returns-in-HandOut-clause-follows
 returns-in-HandOut-clause-follows g c = λ given fixed roots r f.
     let t = g.P.Plan.tree c.args.plan.now given in
     subst (λ m. OnOk c.hand_out.result (Follows t roots (move (addresses_of (specs_in_preorder t roots)) r m) (stage_of (g.P.Plan.spec_value given) (g.P.Plan.reading_value given) c.hand_out.new.stage))) (sym c.in-HandOut.is)
-    (c.hand_out.ensures.follows given t roots r (g.met.P.Plan.falls c.args.plan.now given fixed) f)
+    (c.hand_out.ensures.follows given t roots (g.met.P.Plan.falls c.args.plan.now given fixed) r f)

@@ -24,7 +24,7 @@ returns-in_ok-push-in-Ok-clause-kept g c =
     taken hands.items c.args.stage.now.done.board c.take.new.self c.requires c.args.worker c.in-Ok.item free c.in-Ok.ensures.taken
 
 pub returns-then-is_some-clause-follows : goal.returns-then-is_some-clause-follows
-returns-then-is_some-clause-follows g c = λ given t roots r falls f.
+returns-then-is_some-clause-follows g c = λ given t roots falls r f.
     let v = (g.P.Plan.spec_value given) in
     let w = (g.P.Plan.reading_value given) in
     let hands = c.args.stage.now.hands in
@@ -36,7 +36,7 @@ returns-then-is_some-clause-follows g c = λ given t roots r falls f.
     subst (λ z. Follows t roots z (stage_of v w c.args.stage.now)) (sym (busy_take t falls roots r _ f k (seen_item v x.0) e)) f
 
 pub returns-in_ok-push-in-Ok-clause-follows : goal.returns-in_ok-push-in-Ok-clause-follows
-returns-in_ok-push-in-Ok-clause-follows g c = λ given t roots r falls f.
+returns-in_ok-push-in-Ok-clause-follows g c = λ given t roots falls r f.
     let v = (g.P.Plan.spec_value given) in
     let w = (g.P.Plan.reading_value given) in
     let done = c.args.stage.now.done in
@@ -50,7 +50,7 @@ returns-in_ok-push-in-Ok-clause-follows g c = λ given t roots r falls f.
     (address c.in_ok-try_clone-in-Ok.field-0) f free c.in-Ok.ensures.taken c.in_ok-try_clone-in-Ok.ensures)
 
 pub returns-in_default-clause-follows : goal.returns-in_default-clause-follows
-returns-in_default-clause-follows g c = λ given t roots r falls f.
+returns-in_default-clause-follows g c = λ given t roots falls r f.
     let v = (g.P.Plan.spec_value given) in
     let w = (g.P.Plan.reading_value given) in
     let hands = c.args.stage.now.hands in
@@ -66,10 +66,10 @@ pub returns-in_err-try_clone-in-Ok-clause-kept : goal.returns-in_err-try_clone-i
 returns-in_err-try_clone-in-Ok-clause-kept g c = IfOk-from_err c.from_residual.result _ c.from_residual.ensures.0
 
 pub returns-in_err-try_clone-in-Ok-clause-follows : goal.returns-in_err-try_clone-in-Ok-clause-follows
-returns-in_err-try_clone-in-Ok-clause-follows g c = λ given t roots r falls f. IfOk-from_err c.from_residual.result _ c.from_residual.ensures.0
+returns-in_err-try_clone-in-Ok-clause-follows g c = λ given t roots falls r f. IfOk-from_err c.from_residual.result _ c.from_residual.ensures.0
 
 pub returns-in_err-push-in-Ok-clause-kept : goal.returns-in_err-push-in-Ok-clause-kept
 returns-in_err-push-in-Ok-clause-kept g c = IfOk-from_err c.from_residual-in_err-push-in-Ok.result _ c.from_residual-in_err-push-in-Ok.ensures.0
 
 pub returns-in_err-push-in-Ok-clause-follows : goal.returns-in_err-push-in-Ok-clause-follows
-returns-in_err-push-in-Ok-clause-follows g c = λ given t roots r falls f. IfOk-from_err c.from_residual-in_err-push-in-Ok.result _ c.from_residual-in_err-push-in-Ok.ensures.0
+returns-in_err-push-in-Ok-clause-follows g c = λ given t roots falls r f. IfOk-from_err c.from_residual-in_err-push-in-Ok.result _ c.from_residual-in_err-push-in-Ok.ensures.0
