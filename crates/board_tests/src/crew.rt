@@ -1,10 +1,8 @@
 //! Messages of workers, the reading that is waited for, and places.
 use crate::given::{self, Refusing, States, address, roots_of};
-use crew_parts::arrival::{Arrival, arrive};
-use crew_parts::message::Message;
-use crew_parts::places::Places;
-use crew_parts::wanted::Wanted;
-use jwalk_board::board::Board;
+use jwalk_board::board::{Board, HandOutRefusal};
+use jwalk_crew::message::Message;
+use jwalk_crew::wanted::Wanted;
 use jwalk_order::ordered::Ordered;
 use jwalk_read::ancestors::Ancestors;
 use jwalk_read::dir_entry::DirEntry;
@@ -17,6 +15,7 @@ use jwalk_read::read_dir_spec::ReadDirSpec;
 use std::alloc::Global;
 use std::io::ErrorKind;
 use std::sync::Arc;
+use tree_crew::places::Places;
 
 type Spec = ReadDirSpec<States>;
 
@@ -174,13 +173,24 @@ fn begin<'f>(alloc: Global, job: &TreeJob<'f>, other: Other) -> Option<(Reads<'f
     Some((Board::new(roots).ok()?, wanted))
 }
 
+/// What a message that was handed out is to a walk that waits.
+fn checked(item: &Ordered<Told<'_>>, wanted: &Wanted) -> &'static str {
+    if item.value.is_refused() {
+        "memory"
+    } else if wanted.fits(item) {
+        "entered"
+    } else {
+        "lost"
+    }
+}
+
 /// The outcome of the reading that is wanted.
 fn asks(board: &mut Reads<'_>, wanted: &Wanted) -> &'static str {
-    match arrive(board, wanted) {
-        Arrival::Entered(_) => "entered",
-        Arrival::Memory => "memory",
-        Arrival::Lost => "lost",
-        Arrival::Wait => "wait",
+    match board.hand_out() {
+        Ok(item) => checked(&item, wanted),
+        Err(HandOutRefusal::Stopped | HandOutRefusal::Memory) => "memory",
+        Err(HandOutRefusal::Done) => "lost",
+        Err(HandOutRefusal::NotReady) => "wait",
     }
 }
 
@@ -282,7 +292,7 @@ fn a_message_by_other_options_is_lost(rt: HostRuntime) {
 
 #[test]
 fn a_message_that_was_refused_memory_says_so_where_it_is_waited_for(rt: HostRuntime) {
-    let rows = [(Other::Nothing, "memory"), (Other::Path, "lost")];
+    let rows = [(Other::Nothing, "memory"), (Other::Path, "memory")];
     for (other, answer) in &rows {
         assert!(rt; answers(rt.alloc(), "/r", *other, answer));
     }

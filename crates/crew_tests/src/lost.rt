@@ -1,14 +1,13 @@
 //! Readings that are of another directory than the one that comes next.
-use crew_parts::arrival::{Arrival, arrive};
-use crew_parts::message::Message;
-use crew_parts::wanted::Wanted;
-use jwalk::board::Board;
+use jwalk::board::{Board, HandOutRefusal};
 use jwalk::file_system::FileSystem;
 use jwalk::ordered::Ordered;
 use jwalk::read_dir::{Job, NoProcess, Options, ReadDirSpec};
 use jwalk::read_dir_iter::ReadDirIter;
 use jwalk::{DirEntryIter, Error};
+use jwalk_crew::message::Message;
 use jwalk_crew::pool::{Missed, Pool};
+use jwalk_crew::wanted::Wanted;
 use std::alloc::Global;
 use std::sync::Arc;
 use walk_fixtures::trees::{Step, tree};
@@ -38,10 +37,11 @@ impl<'f, S: FileSystem> Pool<States, &'f S, NoProcess, Global> for Prepared<'f, 
     ghost awaits = { λ _. [] };
 
     fn next(&mut self, wanted: &Wanted) -> Result<Ordered<Told<'f, S>>, Missed> {
-        match arrive(&mut self.board, wanted) {
-            Arrival::Entered(item) => Ok(item),
-            Arrival::Memory => Err(Missed::Memory),
-            Arrival::Lost | Arrival::Wait => Err(Missed::Lost),
+        match self.board.hand_out() {
+            Ok(item) if item.value.is_refused() => Err(Missed::Memory),
+            Ok(item) if wanted.fits(&item) => Ok(item),
+            Err(HandOutRefusal::Stopped | HandOutRefusal::Memory) => Err(Missed::Memory),
+            Ok(_) | Err(HandOutRefusal::Done | HandOutRefusal::NotReady) => Err(Missed::Lost),
         }
     }
 

@@ -3,8 +3,8 @@ use Rattle.std.proofs.Common.{◌≡◌, ℕ, zero, suc, List, [], ◌∷◌, �
 use Rattle.std.specs.Prelude.{flat_map}
 use Rattle.std.proofs.lemmas.List.{append-nil}
 use Rattle.jwalk_board.specs.Plan.{readings_in_preorder}
-use Rattle.tree_walk.specs.Whole.{values}
-use Rattle.tree_walk.proofs.WholeFacts.{below, below-first, readings-are}
+use Rattle.tree_crew.specs.Whole.{values}
+use Rattle.tree_crew.proofs.PreorderFacts.{below, below-first, readings-are}
 use Rattle.document.specs.declared.document.Document.{Document}
 use Rattle.document.specs.declared.document.Line.{Line}
 use Rattle.document.specs.declared.document.Told.{Told}

@@ -1,1 +1,2 @@
 mod DocumentFacts
+mod Crosses

@@ -1,11 +1,16 @@
 //! A document whose parts name other parts.
-ghost use Rattle.std.specs.Prelude.{◌≡◌, ◌≤◌, IfOk, option_map};
+ghost use Rattle.std.specs.Prelude.{◌≡◌, IfOk, option_map};
 ghost use Rattle.document.specs.Document.{lines_at, tells};
 
 use crate::place::Place;
-use std::alloc::{AllocError, Allocator};
+use std::alloc::Allocator;
 use std::fmt;
-use tree_walk::whole::read_all;
+use std::sync::{Arc, Wait};
+use std::thread::Threads;
+use std::time::Clock;
+use tree_crew::crew::{self, Crew};
+use tree_crew::incomplete::Incomplete;
+use tree_crew::whole::read_all;
 
 /// One line of a part.
 #[derive(Clone, Copy, Drop)]
@@ -54,19 +59,22 @@ impl Document {
 }
 
 /// Returns what is told of a part: of its lines, and of the parts that they name, which are entered up to a number of
-/// levels. That many lines are read together. It is what one reader tells, who goes into each part where it is named.
+/// levels. A crew reads the lines ahead. It is what one reader tells, who goes into each part where it is named. It
+/// blocks until a place of the crew is free, and until all is read.
 ///
 /// # Errors
 ///
-/// If memory runs out.
-pub fn put_together<A: Allocator + Copy>(
+/// `Memory` if memory runs out. `Busy` if no worker of the crew could be started.
+pub fn put_together<
+    R: Wait + Threads + Clock + Drop + Send + Sync + 'static,
+    A: Allocator + Copy + Send + Sync + 'static,
+>(
     alloc: A,
+    crew: &Arc<Crew<R>, A>,
     document: Document,
     part: usize,
     levels: usize,
-    together: usize,
-) -> Result<Vec<Told, A>, AllocError>
-    requires { 1 ≤ together }
+) -> Result<Vec<Told, A>, Incomplete>
     ensures { IfOk result (λ v. v.items ≡ tells document levels (Line.Part part)) }
 {
     // begin together
@@ -74,6 +82,11 @@ pub fn put_together<A: Allocator + Copy>(
         line: Line::Part(part),
         levels,
     };
-    read_all(alloc, document, vec![in alloc; root]?, together)
+    let shared = Arc::new(alloc, document)?;
+    read_all(
+        crew::Place::take(crew, None)?,
+        shared,
+        vec![in alloc; root]?,
+    )
     // end together
 }

@@ -1,11 +1,13 @@
-//! Prints a document that is put together from its parts. A line that names a part is followed by that part's lines,
-//! and a part may name others.
+//! Prints a document that is put together from its parts, while a crew reads them. A line that names a part is followed
+//! by that part's lines, and a part may name others.
 #![tactic(auto)]
 
 mod document;
 mod place;
 
 use document::{Document, Line, put_together};
+use std::sync::Arc;
+use tree_crew::crew::Crew;
 
 /// The parts of the document, by their numbers.
 const PARTS: &[&[Line]] = &[
@@ -31,12 +33,13 @@ const PARTS: &[&[Line]] = &[
 /// How deep parts may be named in one another.
 const LEVELS: usize = 3;
 
-/// How many lines are read together.
-const TOGETHER: usize = 4;
+/// How many threads read the lines.
+const WORKERS: usize = 4;
 
 fn main(rt: HostRuntime) -> anyhow::Result<()> {
     let document = Document { parts: PARTS };
-    for told in put_together(rt.alloc(), document, 0, LEVELS, TOGETHER)? {
+    let crew = Arc::new(rt.alloc(), Crew::new(rt.clone()?, 1, WORKERS))?;
+    for told in put_together(rt.alloc(), &crew, document, 0, LEVELS)? {
         println!(rt; "{told}")?;
     }
     Ok(())

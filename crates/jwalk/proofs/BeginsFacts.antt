@@ -20,8 +20,8 @@ use Rattle.jwalk_read.specs.Options.{width_of}
 use Rattle.jwalk_read.specs.Given.{Given, counted_reading}
 use Rattle.jwalk_read.specs.Job as job
 use Rattle.jwalk_read.specs.Job.{file_system, callback, job_by, IsSteady}
-use Rattle.jwalk_crew.specs.declared.crew.NotStarted.{NotStarted}
-use Rattle.jwalk_crew.specs.declared.crew.NotStarted.TheVariants.{Busy, Memory}
+use Rattle.tree_crew.specs.declared.crew.NotStarted.{NotStarted}
+use Rattle.tree_crew.specs.declared.crew.NotStarted.TheVariants.{Busy, Memory}
 use Rattle.jwalk_entries.specs.DirEntryIter.{by_crew, held_by}
 use Rattle.jwalk_readings.specs.CrewReads.{start_failure}
 use Rattle.jwalk.specs.CrewStart.{HoldsList, IsFromRoot}

@@ -21,8 +21,8 @@ use Rattle.jwalk_read.specs.declared.error.Error.{Error}
 use Rattle.jwalk_read.specs.declared.dir_entry.DirEntry.{DirEntry}
 use Rattle.jwalk_read.specs.Given.{Given, counted_item, counted_spec, counted_outcome, counted_list}
 use Rattle.jwalk_read.specs.Job.{greatest_depth, job_by, IsSteady}
-use Rattle.jwalk_crew.specs.declared.crew.NotStarted.{NotStarted}
-use Rattle.jwalk_crew.specs.declared.crew.NotStarted.TheVariants.{Busy, Memory}
+use Rattle.tree_crew.specs.declared.crew.NotStarted.{NotStarted}
+use Rattle.tree_crew.specs.declared.crew.NotStarted.TheVariants.{Busy, Memory}
 use Rattle.jwalk_crew.specs.declared.pool.Pool as Pool
 use Rattle.jwalk_entries.specs.declared.dir_entry_iter.DirEntryIter.{DirEntryIter}
 use Rattle.jwalk.specs.declared.walk_dir.WalkDirGeneric.{WalkDirGeneric}

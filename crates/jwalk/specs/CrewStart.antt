@@ -6,8 +6,8 @@ use Rattle.walk_model.specs.Entry.{Item, AtDepth}
 use Rattle.walk_model.specs.Options.{crew}
 use Rattle.walk_model.specs.ReadDir.{Spec, Reading, children, AreClones}
 use Rattle.walk_model.specs.Listing.{Pair, nothing, paired}
-use Rattle.jwalk_crew.specs.declared.crew.NotStarted.{NotStarted}
-use Rattle.jwalk_crew.specs.declared.crew.NotStarted.TheVariants.{Busy, Memory}
+use Rattle.tree_crew.specs.declared.crew.NotStarted.{NotStarted}
+use Rattle.tree_crew.specs.declared.crew.NotStarted.TheVariants.{Busy, Memory}
 use Rattle.jwalk_read.specs.declared.job.Job.{Job}
 use Rattle.jwalk_read.specs.Options as options
 use Rattle.jwalk_read.specs.Given.{Given, counted_reading, ClonesCount}

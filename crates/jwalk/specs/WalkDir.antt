@@ -21,10 +21,10 @@ use Rattle.jwalk_read.specs.Job as job
 use Rattle.jwalk_read.specs.Job.{file_system, callback, IsSteady}
 use Rattle.jwalk_readings.specs.ReadAhead.{BeginsWith}
 use Rattle.jwalk_entries.specs.DirEntryIter as iter
-use Rattle.jwalk_crew.specs.declared.crew.Crew.{Crew}
-use Rattle.jwalk_crew.specs.Crew.{workers_of}
-use Rattle.jwalk_crew.specs.declared.crew.NotStarted.{NotStarted}
-use Rattle.jwalk_crew.specs.declared.crew.NotStarted.TheVariants.{Busy, Memory}
+use Rattle.tree_crew.specs.declared.crew.Crew.{Crew}
+use Rattle.tree_crew.specs.Crew.{workers_of}
+use Rattle.tree_crew.specs.declared.crew.NotStarted.{NotStarted}
+use Rattle.tree_crew.specs.declared.crew.NotStarted.TheVariants.{Busy, Memory}
 use Rattle.jwalk_readings.specs.declared.parallelism.Parallelism.{Parallelism}
 use Rattle.jwalk_readings.specs.Parallelism.{parallelism_value, crew_of}
 use Rattle.jwalk.specs.CrewStart.{busy_pair}

@@ -1,5 +1,3 @@
 pub mod DueFacts
 pub mod OriginFacts
-mod HandledFacts
-mod SharedFacts
-mod PaceFacts
+mod AtJob

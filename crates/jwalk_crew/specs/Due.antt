@@ -11,9 +11,9 @@ use Rattle.jwalk_read.specs.declared.process_read_dir.ProcessReadDir as ProcessR
 use Rattle.jwalk_read.specs.Given.{Given, counted_spec}
 use Rattle.jwalk_read.specs.Job.{IsSteadyJob, options_of}
 use Rattle.jwalk_read.specs.Options.{options_value}
-use Rattle.crew_parts.specs.declared.wanted.Wanted.{Wanted}
+use Rattle.jwalk_crew.specs.declared.wanted.Wanted.{Wanted}
 use Rattle.jwalk_crew.specs.Origin.{Origin, spec_at}
-use Rattle.crew_parts.specs.Wanted.{IsDirectory}
+use Rattle.jwalk_crew.specs.Wanted.{IsDirectory}
 
 module _ {C S P A R E : Type 0} (files : FileSystem.Ghosts S) (process : ProcessReadDir.Ghosts P C A R E) (clone : Clone.Ghosts R) (defaults : Default.Ghosts E) where
   -- The wanted reading comes next: over something that the walk's job is steady over, its directory is at the first awaited address. It is wanted there, by options that read as the job's.

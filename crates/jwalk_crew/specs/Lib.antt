@@ -1,10 +1,5 @@
+pub mod Message
+pub mod Wanted
 pub mod Origin
-pub mod Shared
 pub mod Due
-pub mod Steps
-pub mod Crew
 pub mod Session
-pub mod Handled
-pub mod Pace
-pub mod Ground
-pub mod Sleepers

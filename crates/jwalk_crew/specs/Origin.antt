@@ -1,13 +1,12 @@
 -- Where the readings of a walk come from, and which directory is at an address.
-use Rattle.std.specs.Prelude.{◌≡◌, ℕ, List, [], ◌∷◌, map, length, All, Option, Some, None, slice_get, IfOk, MatchResult}
+use Rattle.std.specs.Prelude.{◌≡◌, ℕ, List, map, length, Option, Some, IfOk}
 use Rattle.std.specs.declared.clone.Clone as Clone
 use Rattle.std.specs.declared.default.Default as Default
 use Rattle.walk_model.specs.Counted.{Worth, spec_by}
 use Rattle.walk_model.specs.Job.{reading}
-use Rattle.walk_model.specs.ReadDir.{Spec, children_of, AreClones}
+use Rattle.walk_model.specs.ReadDir.{Spec, children_of}
 use Rattle.walk_fs.specs.declared.file_system.FileSystem as FileSystem
 use Rattle.jwalk_order.specs.Addressed.{Addressed}
-use Rattle.jwalk_board.specs.Board.{Board}
 use Rattle.jwalk_read.specs.declared.process_read_dir.ProcessReadDir as ProcessReadDir
 use Rattle.jwalk_read.specs.declared.job.Job.{Job}
 use Rattle.jwalk_read.specs.declared.read_dir_spec.ReadDirSpec.{ReadDirSpec}
@@ -15,24 +14,19 @@ use Rattle.jwalk_read.specs.Given.{Given, counted_spec}
 use Rattle.jwalk_read.specs.Job.{IsSteadyJob, job_by}
 use Rattle.jwalk_read.specs.ReadDirSpec.{spec}
 use Rattle.jwalk_read.specs.ReadDir.{outcome}
-use Rattle.crew_parts.specs.Message.{Message, IsLawfulMessage}
+use Rattle.tree_crew.specs.Origin as tree
+use Rattle.tree_crew.specs.Origin.{at_address}
+use Rattle.jwalk_crew.specs.Message.{Message}
 
 -- The job that reads for a walk, and the directories that the walk begins with.
 pub record Origin (C S P A R E : Type 0) : Type 0 where
   pub job : Job C S P A R E
   pub roots : List (Spec R)
 
-module _ {X : Type 0} (below : X → List X) where
-  -- what is reached from something by the indexes of children
-  abbrev pub reached : Option X → List ℕ → Option X
-  reached x [] = x
-  reached None (i ∷ a) = None
-  reached (Some x) (i ∷ a) = reached (slice_get (below x) i) a
-
-  -- what is at an address, below these roots
-  abbrev pub at_address : List X → List ℕ → Option X
-  at_address roots [] = None
-  at_address roots (i ∷ a) = reached (slice_get roots i) a
+module _ {C S P A R E : Type 0} where
+  -- the origin of a crew whose plan is a job, as a walk sees it
+  abbrev pub begun : tree.Origin (ReadDirSpec C A R E) (Job C S P A R E) → Origin C S P A R E
+  begun o = record { job = o.plan; roots = map spec o.roots }
 
 -- These directories count as those, by each view of states that counts a clone as its original.
 abbrev pub CountAlike : {R : Type 0} → Clone.Ghosts R → List (Spec R) → List (Spec R) → Type 0
@@ -52,15 +46,3 @@ module _ {C S P A R E : Type 0} (files : FileSystem.Ghosts S) (process : Process
     pub job : item.value.job ≡ origin.job
     pub at : IsAt origin item.at (spec item.value.of)
     pub count : IfOk item.value.outcome (λ read. item.child_count ≡ length (children_of (outcome read)))
-
-  -- All that is queued, and all that is ready, is the walk's own.
-  pub record IsBoardOf (origin : Origin C S P A R E) (b : Board (ReadDirSpec C A R E) (Message C S P A R E)) : Type 0 where
-    pub queued : All (λ x. IsAt origin x.at (spec x.value)) b.queued
-    pub ready : All (IsMessageOf origin) b.ready
-
-  -- What a worker made of the directory at an address of the walk, by the walk's own job, and the directories below it.
-  pub record IsMadeAt (origin : Origin C S P A R E) (a : List ℕ) (message : Message C S P A R E) (children : List (ReadDirSpec C A R E)) : Type 0 where
-    pub job : message.job ≡ origin.job
-    pub at : IsAt origin a (spec message.of)
-    pub lawful : IsLawfulMessage files process clone defaults message
-    pub below : MatchResult message.outcome (λ read. AreClones clone.is_clone (children_of (outcome read)) (map spec children)) (λ _. children ≡ [])

@@ -1,16 +1,8 @@
-//! A crew of workers that read ahead for a walk.
+//! What a walk gets from a crew: the readings of its directories, made ahead.
 #![tactic(auto)]
 
-pub mod crew;
-mod ground;
-mod hand_in;
+pub mod message;
 pub mod origin;
-mod pace;
 pub mod pool;
 pub mod session;
-mod shared;
-mod sleepers;
-mod steps;
-mod waiting;
-mod work;
-mod worker;
+pub mod wanted;

@@ -5,34 +5,16 @@ ghost use Rattle.jwalk_order.specs.Ordered.{child_count_of};
 ghost use Rattle.jwalk_order.specs.Addressed.{addressed};
 ghost use Rattle.jwalk_crew.specs.Due.{IsDue};
 ghost use Rattle.jwalk_crew.specs.Origin.{Origin, IsMessageOf};
-ghost use Rattle.crew_parts.specs.Wanted.{Fits};
+ghost use Rattle.jwalk_crew.specs.Wanted.{Fits};
 
-use crew_parts::message::Message;
-use crew_parts::wanted::Wanted;
+use crate::message::Message;
+use crate::wanted::Wanted;
 use jwalk_order::ordered::Ordered;
 use jwalk_read::client_state::ClientState;
 use jwalk_read::process_read_dir::ProcessReadDir;
-use std::alloc::{AllocError, Allocator};
+use std::alloc::Allocator;
+pub use tree_crew::session::Missed;
 use walk_fs::file_system::FileSystem;
-
-/// Why a reading didn't come.
-#[derive(Clone, Copy, Debug, PartialEq, Eq)]
-pub enum Missed {
-    /// Memory ran out.
-    Memory,
-    /// There is none, or another came in its place.
-    Lost,
-}
-
-impl From<AllocError> for Missed {
-    ghost use Rattle.jwalk_crew.specs.declared.pool.Missed.TheVariants.{Memory};
-
-    ghost from_gives = { λ _ missed. missed ≡ Memory };
-
-    fn from(_refused: AllocError) -> Self {
-        Missed::Memory
-    }
-}
 
 /// What gives the readings of a walk's directories, made ahead by others. Users name it as a bound only.
 pub trait Pool<C: ClientState, S: FileSystem, P: ProcessReadDir<C, A>, A: Allocator + Copy>: Drop {

@@ -16,8 +16,8 @@ use Rattle.jwalk_read.specs.Given.{Given}
 use Rattle.jwalk_read.specs.Job.{greatest_depth}
 use Rattle.jwalk_readings.specs.Reads.{ReadsFirstBy}
 use Rattle.jwalk_crew.specs.declared.pool.Pool as Pool
-use Rattle.jwalk_crew.specs.declared.pool.Missed.{Missed}
-use Rattle.jwalk_crew.specs.declared.pool.Missed.TheVariants.{Memory}
+use Rattle.tree_crew.specs.declared.session.Missed.{Missed}
+use Rattle.tree_crew.specs.declared.session.Missed.TheVariants.{Memory}
 use Rattle.jwalk_readings.specs.declared.read_dir_iter.ReadDirIter.{ReadDirIter}
 use Rattle.jwalk_readings.specs.ReadDirIter as readings
 use Rattle.jwalk_readings.specs.ReadDirIter.{Tells}

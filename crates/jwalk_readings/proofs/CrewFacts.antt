@@ -12,9 +12,9 @@ use Rattle.jwalk_read.specs.declared.job.Job.{Job}
 use Rattle.jwalk_read.specs.ReadDirSpec.{spec}
 use Rattle.jwalk_read.specs.ReadDir.{outcome}
 use Rattle.jwalk_read.specs.Job.{options_of, greatest_depth, IsReadingOf, IsReadingBy}
-use Rattle.crew_parts.specs.declared.wanted.Wanted.{Wanted}
-use Rattle.crew_parts.specs.Message.{Message}
-use Rattle.crew_parts.specs.Wanted.{IsFor, Fits}
+use Rattle.jwalk_crew.specs.declared.wanted.Wanted.{Wanted}
+use Rattle.jwalk_crew.specs.Message.{Message}
+use Rattle.jwalk_crew.specs.Wanted.{IsFor, Fits}
 use Rattle.jwalk_readings.specs.CrewReads.{IsTold}
 
 -- a lawful outcome is one of every directory at this depth, up to the same greatest depth

@@ -25,13 +25,14 @@ use Rattle.jwalk_read.specs.Job.{options_of, job_by, IsSteadyJob, IsReadingOf, I
 use Rattle.jwalk_read.specs.declared.read_dir_spec.ReadDirSpec.{ReadDirSpec}
 use Rattle.jwalk_read.specs.ReadDirSpec.{spec}
 use Rattle.jwalk_read.specs.ReadDir.{outcome}
-use Rattle.crew_parts.specs.declared.wanted.Wanted.{Wanted}
-use Rattle.crew_parts.specs.Wanted.{IsFor}
+use Rattle.jwalk_crew.specs.declared.wanted.Wanted.{Wanted}
+use Rattle.jwalk_crew.specs.Wanted.{IsFor}
 use Rattle.jwalk_crew.specs.Due.{IsDue}
-use Rattle.crew_parts.specs.Message.{Message}
+use Rattle.jwalk_crew.specs.Message.{Message}
 use Rattle.jwalk_crew.specs.Origin.{Origin, CountAlike, spec_at, IsMessageOf}
 use Rattle.jwalk_crew.specs.declared.pool.Pool as Pool
-use Rattle.jwalk_crew.proofs.OriginFacts.{at_child, below_read}
+use Rattle.tree_crew.proofs.OriginFacts.{at_child}
+use Rattle.jwalk_crew.proofs.OriginFacts.{below_read}
 use Rattle.jwalk_readings.specs.CrewReads.{job_of, to_read, awaited, BeginsBy, IsMadeFor, IsSteadyOver, IsSteadyCrew, StartsSteady, ReadsSteadily}
 use Rattle.jwalk_readings.specs.declared.crew_reads.CrewReads.{CrewReads}
 

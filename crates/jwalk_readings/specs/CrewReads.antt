@@ -17,13 +17,13 @@ use Rattle.jwalk_read.specs.ReadDirSpec.{spec}
 use Rattle.jwalk_read.specs.ReadDir.{outcome as view}
 use Rattle.jwalk_read.specs.Given.{Given, counted_spec}
 use Rattle.jwalk_read.specs.Job.{options_of, IsReadingOf, IsSteadyJob, IsGivenOver}
-use Rattle.crew_parts.specs.Message.{Message}
+use Rattle.jwalk_crew.specs.Message.{Message}
 use Rattle.jwalk_crew.specs.Origin.{Origin, spec_at}
 use Rattle.jwalk_crew.specs.declared.pool.Pool as Pool
-use Rattle.jwalk_crew.specs.declared.crew.NotStarted.{NotStarted}
-use Rattle.jwalk_crew.specs.declared.crew.NotStarted.TheVariants as not_started
-use Rattle.jwalk_crew.specs.declared.pool.Missed.{Missed}
-use Rattle.jwalk_crew.specs.declared.pool.Missed.TheVariants.{Memory, Lost}
+use Rattle.tree_crew.specs.declared.crew.NotStarted.{NotStarted}
+use Rattle.tree_crew.specs.declared.crew.NotStarted.TheVariants as not_started
+use Rattle.tree_crew.specs.declared.session.Missed.{Missed}
+use Rattle.tree_crew.specs.declared.session.Missed.TheVariants.{Memory, Lost}
 use Rattle.jwalk_readings.specs.declared.crew_reads.CrewReads.{CrewReads}
 
 module _ {C S P A L R E : Type 0} where

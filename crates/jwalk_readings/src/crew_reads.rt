@@ -15,8 +15,8 @@ ghost use Rattle.jwalk_readings.specs.ReadDirIter.{KnownBy};
 
 pub mod started;
 
-use crew_parts::wanted::Wanted;
 use jwalk_crew::pool::{Missed, NoPool, Pool};
+use jwalk_crew::wanted::Wanted;
 use jwalk_order::ordered::Ordered;
 use jwalk_order::ordered_queue::OrderedMatcher;
 use jwalk_read::client_state::ClientState;

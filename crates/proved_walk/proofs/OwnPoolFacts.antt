@@ -29,17 +29,16 @@ use Rattle.jwalk.specs.jwalk_read.declared.job.Job.{Job}
 use Rattle.jwalk.specs.jwalk_read.declared.read_dir.ReadDir.{ReadDir}
 use Rattle.jwalk.specs.jwalk_read.Job.{IsReadingOf, greatest_depth, job_by}
 use Rattle.jwalk.specs.jwalk_read.ReadDir.{outcome}
-use Rattle.jwalk.specs.crew_parts.Message.{Message, IsLawfulMessage}
-use Rattle.jwalk.specs.crew_parts.Wanted.{Fits}
-use Rattle.jwalk.specs.crew_parts.declared.wanted.Wanted.{Wanted}
+use Rattle.jwalk.specs.jwalk_crew.Message.{Message, IsLawfulMessage}
+use Rattle.jwalk.specs.jwalk_crew.Wanted.{Fits}
+use Rattle.jwalk.specs.jwalk_crew.declared.wanted.Wanted.{Wanted}
 use Rattle.jwalk.specs.jwalk_crew.Due.{IsDue}
 use Rattle.jwalk.specs.jwalk_crew.Origin.{Origin, CountAlike, IsAt, IsMessageOf}
-use Rattle.jwalk.specs.jwalk_crew.declared.pool.Missed.TheVariants.{Lost}
 use Rattle.jwalk.specs.jwalk_crew.declared.pool.Pool as Pool
 use Rattle.jwalk.specs.jwalk_readings.declared.read_dir_iter.ReadDirIter.{ReadDirIter}
 use Rattle.jwalk.specs.ReadDirIter.{job_of, to_read, IsSteadyReads, Gives}
 use Rattle.jwalk.proofs.OriginFacts.{below_read, child_at}
-use Rattle.jwalk.proofs.DueFacts.{answer_due}
+use Rattle.jwalk.proofs.DueFacts.{due_fits}
 use Rattle.jwalk.proofs.CopyFacts.{alike_copies}
 use Rattle.proved_walk.specs.OwnPool.{placed, stacked, ReadsFor}
 
@@ -150,9 +149,7 @@ module _ {C S P A R E : Type 0} (files : FileSystem.Ghosts S) (process : Process
     -- and if it isn't the reading that is wanted, none is due.
     pub other_due : (wanted : Wanted A) → ¬ Fits wanted item → ReadsFor files process clone defaults job old origin → ¬ IsDue files process clone defaults origin (addresses_of (stacked old)) wanted
     other_due wanted other comes due =
-        answer_due files process clone defaults origin (addresses_of (stacked old)) [] wanted (Err Lost)
-        (inr (record { item = item; next = ap address here ∙ sym (ap (λ l. next_address (addresses_of l)) was); of = message_of comes; another = other }))
-        refl origin refl due
+        other (due_fits files process clone defaults origin (addresses_of (stacked old)) wanted item due (ap address here ∙ sym (ap (λ l. next_address (addresses_of l)) was)) (message_of comes))
 
   -- A stack of copies of the walk's roots makes a pool of the walk, whose addresses are those of roots.
   pub roots_stacked : (job : Job C S P A R E) (waiting : List (IndexPath A × ReadDirSpec C A R E)) (specs copies : List (ReadDirSpec C A R E)) → job ≡ origin.job → origin.roots ≡ map spec specs → AllZip (λ x y. IsClone clone.is_clone (spec x) (spec y)) specs copies → length copies ≡ length specs → stacked waiting ≡ numbered [] 0 (map spec copies)

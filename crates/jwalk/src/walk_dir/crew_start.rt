@@ -12,7 +12,6 @@ ghost use Rattle.jwalk.specs.CrewStart.{busied, left_of, is_refusal, IsFromRoot}
 ghost use Rattle.jwalk_entries.specs.DirEntryIter.{reads_of, is_refused, by_crew, job_of, items_of, StartsSteady};
 
 use crate::walk_dir::WalkDirGeneric;
-use jwalk_crew::crew::{Crew, NotStarted};
 use jwalk_crew::pool::Pool;
 use jwalk_crew::session::Session;
 use jwalk_entries::dir_entry_iter::DirEntryIter;
@@ -28,6 +27,7 @@ use std::alloc::Allocator;
 use std::sync::{Arc, Wait};
 use std::thread::Threads;
 use std::time::{Clock, Duration};
+use tree_crew::crew::{Crew, NotStarted};
 use walk_fs::file_system::FileSystem;
 
 /// A walk that a crew may read for.

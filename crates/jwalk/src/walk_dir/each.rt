@@ -4,7 +4,6 @@ ghost use Rattle.jwalk.specs.Each.{BeginsAlone, BeginsOver, CallsWithEach, Calls
 ghost use Rattle.jwalk.specs.WalkDir.{callback_of};
 
 use crate::walk_dir::WalkDirGeneric;
-use jwalk_crew::crew::Crew;
 use jwalk_crew::pool::{NoPool, Pool};
 use jwalk_crew::session::Session;
 use jwalk_read::client_state::ClientState;
@@ -15,6 +14,7 @@ use std::alloc::{AllocError, Global};
 use std::sync::Wait;
 use std::thread::Threads;
 use std::time::Clock;
+use tree_crew::crew::Crew;
 use walk_fs::file_system::FileSystem;
 
 impl<C: ClientState, S: FileSystem, P: ProcessReadDir<C, Global>> WalkDirGeneric<

@@ -7,7 +7,6 @@ ghost use Rattle.jwalk_read.specs.Error.{failure};
 
 use crate::walk_dir::WalkDirGeneric;
 use crate::walk_dir::crew_start::{CrewWalk, from_root_alone};
-use jwalk_crew::crew::{Crew, NotStarted};
 use jwalk_crew::pool::Pool;
 use jwalk_crew::session::Session;
 use jwalk_entries::dir_entry_iter::DirEntryIter;
@@ -21,6 +20,7 @@ use std::alloc::Allocator;
 use std::sync::Wait;
 use std::thread::Threads;
 use std::time::Clock;
+use tree_crew::crew::{Crew, NotStarted};
 use walk_fs::file_system::FileSystem;
 
 impl<C: ClientState, S: FileSystem, A: Allocator + Copy, R: Wait + Clock + Drop> WalkDirGeneric<

@@ -3,7 +3,6 @@ ghost use Rattle.std.specs.Prelude.{◌≡◌, ◌<◌, IfOk};
 
 use crate::host::Host;
 use crate::walk_dir::WalkDirGeneric;
-use jwalk_crew::crew::Crew;
 use jwalk_crew::pool::NoPool;
 use jwalk_read::client_state::ClientState;
 use jwalk_read::process_read_dir::ProcessReadDir;
@@ -11,6 +10,7 @@ use jwalk_readings::parallelism::Parallelism;
 use std::alloc::{AllocError, Allocator};
 use std::sync::Arc;
 use std::thread::{Threads, available_parallelism};
+use tree_crew::crew::Crew;
 use walk_fs::file_system::FileSystem;
 
 /// Returns how many threads a count means: 0 means as many as can run side by side, or one where that isn't known.

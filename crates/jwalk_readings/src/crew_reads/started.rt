@@ -8,7 +8,6 @@ ghost use Rattle.jwalk_crew.specs.Session.{origin_of, awaited_by};
 ghost use Rattle.jwalk_readings.specs.CrewReads.{job_of, to_read, start_failure, BeginsBy};
 
 use crate::crew_reads::CrewReads;
-use jwalk_crew::crew::{Crew, NotStarted, Place};
 use jwalk_crew::origin::Origin;
 use jwalk_crew::session::Session;
 use jwalk_order::ordered_queue::OrderedMatcher;
@@ -21,6 +20,7 @@ use std::alloc::Allocator;
 use std::sync::{Arc, Wait};
 use std::thread::Threads;
 use std::time::{Clock, Duration};
+use tree_crew::crew::{Crew, NotStarted, Place};
 use walk_fs::file_system::FileSystem;
 
 /// Returns the error that reports why a crew's readings don't begin.

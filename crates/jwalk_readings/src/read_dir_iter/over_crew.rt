@@ -10,7 +10,6 @@ use crate::crew_reads::CrewReads;
 use crate::crew_reads::started::error_of;
 use crate::parallelism::Parallelism;
 use crate::read_dir_iter::ReadDirIter;
-use jwalk_crew::crew::Crew;
 use jwalk_crew::pool::Pool;
 use jwalk_crew::session::Session;
 use jwalk_read::client_state::ClientState;
@@ -22,6 +21,7 @@ use std::alloc::Allocator;
 use std::sync::Wait;
 use std::thread::Threads;
 use std::time::Clock;
+use tree_crew::crew::Crew;
 use walk_fs::file_system::FileSystem;
 
 impl<

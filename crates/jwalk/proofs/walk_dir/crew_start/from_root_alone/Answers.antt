@@ -1,6 +1,6 @@
 use Rattle.std.proofs.Common.{Some, None, inl, inr, sym, option_map}
 use Rattle.jwalk_read.specs.ReadDir.{reading}
-use Rattle.jwalk_crew.specs.declared.crew.NotStarted.TheVariants.{Memory}
+use Rattle.tree_crew.specs.declared.crew.NotStarted.TheVariants.{Memory}
 use Rattle.jwalk.proofs.CrewStartFacts.{alone_from_root, held_of}
 use Rattle.jwalk_entries.proofs.AnswerFacts.{alone_steady}
 use Rattle.jwalk.proofs.walk_dir.crew_start.from_root_alone.Goals as goal

@@ -5,7 +5,7 @@ use Rattle.jwalk_read.specs.ReadDirSpec.{spec}
 use Rattle.jwalk_read.specs.ReadDir.{outcome}
 use Rattle.jwalk_read.specs.Given.{Given}
 use Rattle.jwalk_read.specs.Job.{options_of}
-use Rattle.crew_parts.specs.Wanted.{IsFor}
+use Rattle.jwalk_crew.specs.Wanted.{IsFor}
 use Rattle.jwalk_readings.specs.CrewReads.{job_of, next_address, awaited, IsSteadyOver}
 use Rattle.jwalk_readings.proofs.CrewFacts.{told}
 use Rattle.jwalk_readings.proofs.CrewSteadyFacts.{none_waits, none_awaited, not_lost, reads_steadily}

@@ -1,4 +1,0 @@
-pub mod Message
-pub mod Wanted
-pub mod Arrival
-pub mod Places

@@ -1,0 +1,87 @@
+-- At each step on a board, what is ready or in hand stays at most the limit and one.
+use Rattle.std.proofs.Common.{◌≡◌, ◌⊎◌, ℕ, suc, ◌≤◌, Bool, true, List, [], ◌∷◌, length, inl, inr, sym, ap, ◌∙◌, subst, arith, Result, Ok, Err, OnOk, OnErr}
+use Rattle.std.proofs.lemmas.Bool.{false≢true}
+use Rattle.std.proofs.lemmas.List.Sorted.{length_permutation}
+use Rattle.jwalk_order.specs.Addressed.{addressed}
+use Rattle.jwalk_order.specs.Ordered.{address_of}
+use Rattle.jwalk_order.specs.declared.ordered.Ordered.{Ordered}
+use Rattle.jwalk_board.specs.Board.{Board, IsNew, Takes, HandsOut, Finishes}
+use Rattle.tree_crew.specs.Pace.{ahead_of, CountsTakers, IsWithin, MayTake}
+use Rattle.tree_crew.specs.Steps.{Turns}
+use Rattle.tree_crew.specs.declared.steps.Turn.{Turn}
+use Rattle.tree_crew.specs.declared.steps.Turn.TheVariants as turn
+
+module _ {T R : Type 0} (b : Board T R) (limit : ℕ) (rests : Bool) where
+  -- where something may be taken, no more than the limit are ready or in hand
+  pub may_most : MayTake limit rests b → ahead_of b ≤ limit
+  may_most may = elim may [
+    | inl free ↦ omega (arith, free.2)
+    | inr next ↦ next.1
+  ]
+
+module _ {T R : Type 0} (limit : ℕ) (old new : Board T R) where
+  -- What is taken was queued, and so it might be.
+  pub taken_may : {A : Type 0} (rests : Bool) (item : Ordered T A) → (old.stopped ≡ true) ⊎ ((old.queued ≡ []) ⊎ MayTake limit rests old) → Takes item old new → MayTake limit rests old
+  taken_may rests item free takes = elim free [
+    | inl stopped ↦ absurd (false≢true (sym takes.running ∙ stopped))
+    | inr others ↦ elim others [
+      | inl none ↦
+          let count : length (addressed item ∷ new.queued) ≡ length old.queued = length_permutation _ _ takes.queued in
+          let empty : length old.queued ≡ 0 = ap length none in
+          absurd (omega (arith, count, empty))
+      | inr may ↦ may
+    ]
+  ]
+
+  pub same_within : new ≡ old → IsWithin limit old → IsWithin limit new
+  same_within is within = subst (IsWithin limit) (sym is) within
+
+  pub stopped_within : new ≡ record old { stopped = true } → IsWithin limit old → IsWithin limit new
+  stopped_within is within = subst (IsWithin limit) (sym is) within
+
+  pub taken_within : {A : Type 0} (item : Ordered T A) → Takes item old new → ahead_of old ≤ limit → IsWithin limit new
+  taken_within item takes most =
+      let in_hand : length new.in_hand ≡ length (address_of item ∷ old.in_hand) = length_permutation _ _ takes.in_hand in
+      let ready : length new.ready ≡ length old.ready = ap (λ b. length b.ready) takes.others in
+      omega (arith, in_hand, ready, most)
+
+  pub finished_within : (a : List ℕ) (reading : R) (children : List T) → Finishes a reading children old new → IsWithin limit old → IsWithin limit new
+  finished_within a reading children done within =
+      let in_hand : length (a ∷ new.in_hand) ≡ length old.in_hand = length_permutation _ _ done.in_hand in
+      let ready : length new.ready ≡ suc (length old.ready) = length_permutation _ _ done.ready in
+      omega (arith, in_hand, ready, within)
+
+  pub handed_within : {A : Type 0} (item : Ordered R A) → HandsOut item old new → IsWithin limit old → IsWithin limit new
+  handed_within item out within =
+      let ready : length (addressed item ∷ new.ready) ≡ length old.ready = length_permutation _ _ out.ready in
+      let in_hand : length new.in_hand ≡ length old.in_hand = ap (λ b. length b.in_hand) out.others in
+      omega (arith, in_hand, ready, within)
+
+  pub turned_within : {A : Type 0} (rests : Bool) (t : Turn T A) → Turns limit rests old t new → IsWithin limit old → IsWithin limit new
+  turned_within rests (turn.Read item) takes within = taken_within item takes.1 (may_most old limit rests takes.0)
+  turned_within rests turn.Wait refused within = same_within refused.1 within
+  turned_within rests turn.Rest held within = same_within held.1 within
+  turned_within rests turn.End ends within = elim ends [
+    | inl refused ↦ same_within refused.1 within
+    | inr stopped ↦ stopped_within stopped.1 within
+  ]
+
+  pub handed_in_within : {D F : Type 0} (r : Result D F) (a : List ℕ) (reading : R) (children : List T) → OnOk r (Finishes a reading children old new)
+      → OnErr r (new ≡ record old { stopped = true }) → IsWithin limit old → IsWithin limit new
+  handed_in_within (Ok x) a reading children done stopped within = finished_within a reading children done within
+  handed_in_within (Err e) a reading children done stopped within = stopped_within stopped within
+
+pub new_within : {T R : Type 0} (limit : ℕ) (specs : List T) (b : Board T R) → IsNew specs b → IsWithin limit b
+new_within limit specs b new =
+    let ready : length b.ready ≡ 0 = ap length new.ready in
+    let in_hand : length b.in_hand ≡ 0 = ap length new.in_hand in
+    omega (arith, ready, in_hand)
+
+module _ {T R A : Type 0} (limit own : ℕ) (rests noted : Bool) (is : limit ≡ own) (same : rests ≡ noted) (t : Turn T A) (old new : Board T R) where
+  -- A turn at a pace of this limit is one at the limit that the slot has.
+  pub turns_at : Turns limit rests old t new → Turns own noted old t new
+  turns_at turns = subst (λ l. Turns l noted old t new) is (subst (λ r. Turns limit r old t new) same turns)
+
+pub takers_at : {T R : Type 0} (limit own : ℕ) (rests noted : Bool) → limit ≡ own → rests ≡ noted → (this that : Board T R) → this ≡ that → (count : ℕ) → CountsTakers limit rests this count → CountsTakers own noted that count
+takers_at limit own rests noted is same this that board count counts =
+    subst (λ l. CountsTakers l noted that count) is (subst (λ r. CountsTakers limit r that count) same (subst (λ b. CountsTakers limit rests b count) board counts))

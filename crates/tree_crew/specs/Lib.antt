@@ -1,0 +1,14 @@
+pub mod Places
+pub mod Crew
+pub mod Message
+pub mod Origin
+pub mod Arrival
+pub mod Ground
+pub mod Pace
+pub mod Steps
+pub mod Sleepers
+pub mod Handled
+pub mod Shared
+pub mod Session
+pub mod Incomplete
+pub mod Whole

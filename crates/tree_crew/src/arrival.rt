@@ -1,0 +1,47 @@
+//! How the reading that comes next arrives.
+ghost use Rattle.tree_crew.specs.Arrival.{Arrives, IsChecked};
+
+use crate::message::Message;
+use jwalk_board::board::{Board, HandOutRefusal};
+use jwalk_order::ordered::Ordered;
+use std::alloc::Allocator;
+
+/// The outcome of a reading that is waited for.
+#[derive(Drop)]
+pub(crate) enum Arrival<T, U, J, A: Allocator + Copy> {
+    /// It came.
+    Entered(Ordered<Message<T, U, J, A>, A>),
+    /// Memory ran out: the board is stopped or fails for it, or the reading's own message reports it.
+    Memory,
+    /// It won't come: the board is done.
+    Lost,
+    /// It isn't ready yet.
+    Wait,
+}
+
+/// Returns what a message that was handed out is to whoever waits.
+fn checked<T: Drop, U: Drop, J: Drop, A: Allocator + Copy>(
+    item: Ordered<Message<T, U, J, A>, A>,
+) -> Arrival<T, U, J, A>
+    ensures { IsChecked item result }
+{
+    if item.value.is_refused() {
+        return Arrival::Memory;
+    }
+    Arrival::Entered(item)
+}
+
+/// Asks a board for the next reading: one hand-out, and the check of what it gave.
+pub(crate) fn arrive<T: Drop, U: Drop, J: Drop, A: Allocator + Copy>(
+    board: &mut Board<T, Message<T, U, J, A>, A>,
+) -> Arrival<T, U, J, A>
+    ensures { Arrives board.old result board.new }
+{
+    match board.hand_out() {
+        Ok(item) => checked(item),
+        Err(HandOutRefusal::Stopped) => Arrival::Memory,
+        Err(HandOutRefusal::Memory) => Arrival::Memory,
+        Err(HandOutRefusal::Done) => Arrival::Lost,
+        Err(HandOutRefusal::NotReady) => Arrival::Wait,
+    }
+}

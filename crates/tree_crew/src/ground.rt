@@ -1,0 +1,35 @@
+//! What the slot of a walk's board is made for.
+ghost use Rattle.std.specs.Prelude.{◌≡◌};
+
+use crate::origin::Origin;
+use std::alloc::Allocator;
+use std::snapshot::Snapshot;
+
+/// What the slot of a walk's board is made for: where the walk's readings come from, and how many of them may be ready or
+/// in hand. Clauses alone read it.
+pub(crate) struct Ground<T, J, A: Allocator + Copy> {
+    origin: Snapshot<Origin<T, J, A>>,
+    limit: Snapshot<usize>,
+}
+
+impl<T, J, A: Allocator + Copy> Drop for Ground<T, J, A> {
+    fn drop(self) {
+        let Ground {
+            origin: _,
+            limit: _,
+        } = self;
+    }
+}
+
+impl<T, J, A: Allocator + Copy> Ground<T, J, A> {
+    /// Returns what the slot is made for of a walk that begins there and has this limit.
+    pub(crate) fn of(origin: &Origin<T, J, A>, limit: usize) -> Self
+        ensures origin { result.origin.value ≡ origin.now }
+        ensures limit { result.limit.value ≡ limit }
+    {
+        Ground {
+            origin: Snapshot::of(origin),
+            limit: Snapshot::of(&limit),
+        }
+    }
+}

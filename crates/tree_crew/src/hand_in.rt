@@ -1,0 +1,75 @@
+//! What a worker hands in.
+ghost use Rattle.std.specs.Prelude.{◌≡◌, true, OnErr, OnOk};
+ghost use Rattle.jwalk_order.specs.IndexPath.{address as indices_of};
+ghost use Rattle.jwalk_board.specs.Board.{Finishes};
+
+use crate::message::Message;
+use crate::steps::finish_or_stop;
+use jwalk_board::board::{Board, FinishFault, Plan};
+use jwalk_order::index_path::IndexPath;
+use std::alloc::Allocator;
+
+/// A reading that a worker made: the address of its specification in the walk, its message, and the
+/// specifications below it.
+///
+/// It isn't `Drop`, and its fields are this module's, so nobody can let it go but by `finish` and `give_up`.
+pub(crate) struct HandIn<
+    T: Drop,
+    U: Drop,
+    J: Plan<A, Spec = T, Reading = U> + Drop,
+    A: Allocator + Copy,
+> {
+    address: IndexPath<A>,
+    message: Message<T, U, J, A>,
+    children: Vec<T, A>,
+}
+
+impl<T: Drop, U: Drop, J: Plan<A, Spec = T, Reading = U> + Drop, A: Allocator + Copy> HandIn<
+    T,
+    U,
+    J,
+    A,
+> {
+    /// What a worker made of the specification at an address: a message, and the specifications below it.
+    pub(crate) fn new(
+        address: IndexPath<A>,
+        message: Message<T, U, J, A>,
+        children: Vec<T, A>,
+    ) -> Self
+        ensures address { result.address ≡ address }
+        ensures message { result.message ≡ message }
+        ensures children { result.children ≡ children }
+    {
+        HandIn {
+            address,
+            message,
+            children,
+        }
+    }
+
+    /// Finishes it on a board. What is refused comes back, and the board is stopped then.
+    pub(crate) fn finish(
+        self,
+        board: &mut Board<T, Message<T, U, J, A>, A>,
+    ) -> Result<(), FinishFault<T, Message<T, U, J, A>, A>>
+        ensures finished { OnOk result (Finishes (indices_of self.address) self.message self.children.items
+            board.old board.new) }
+        ensures stopped { OnErr result (board.new ≡ record board.old { stopped = true }) }
+    {
+        let HandIn {
+            address,
+            message,
+            children,
+        } = self;
+        finish_or_stop(board, address, message, children)
+    }
+
+    /// Lets it go, where there is no board to finish it on.
+    pub(crate) fn give_up(self) {
+        let HandIn {
+            address: _,
+            message: _,
+            children: _,
+        } = self;
+    }
+}

@@ -1,0 +1,75 @@
+//! How far ahead workers may read.
+ghost use Rattle.std.specs.Prelude.{◌≡◌, ◌⊎◌, ◌+◌, ◌≤◌, ◌<◌, ◌↔◌, [], true, false, IfNone, IfSome, IsTrue};
+ghost use Rattle.tree_crew.specs.Pace.{ahead_of, CountsTakers, HoldsBack, MayTake};
+
+use jwalk_board::board::Board;
+use std::alloc::Allocator;
+
+/// How far ahead a walk's workers may read now.
+#[derive(Clone, Copy)]
+pub(crate) struct Pace {
+    /// How many readings may be ready or in hand. The next one to be handed out may be one more.
+    limit: usize,
+    /// Whether the workers rest: one found the limit reached, and more than half of it is still ready or in hand. They
+    /// make the next reading alone then.
+    rests: bool,
+}
+
+impl Pace {
+    /// Returns the pace by a limit.
+    pub(crate) fn new(limit: usize, rests: bool) -> Self
+        ensures limit { result.limit ≡ limit }
+        ensures rests { result.rests ≡ rests }
+    {
+        Pace { limit, rests }
+    }
+
+    /// Returns how many more readings may be ready or in hand, or none where there are more than the limit.
+    fn room<T: Drop, R: Drop, A: Allocator + Copy>(self, board: &Board<T, R, A>) -> Option<usize>
+        ensures some { IfSome result (λ room. room + ahead_of board.now ≡ self.limit) }
+        ensures none { IfNone result (self.limit < ahead_of board.now) }
+    {
+        self.limit
+            .checked_sub(board.ready())?
+            .checked_sub(board.in_hand())
+    }
+
+    /// Returns whether no more than half the limit is ready or in hand.
+    pub(crate) fn is_half_free<T: Drop, R: Drop, A: Allocator + Copy>(
+        self,
+        board: &Board<T, R, A>,
+    ) -> bool
+        ensures { IsTrue result ↔ (ahead_of board.now + ahead_of board.now ≤ self.limit) }
+    {
+        match self.room(board) {
+            Some(room) => self.limit - room <= room,
+            None => false,
+        }
+    }
+
+    /// Returns how many workers may take something.
+    pub(crate) fn takers<T: Drop, R: Drop, A: Allocator + Copy>(
+        self,
+        board: &Board<T, R, A>,
+    ) -> usize
+        ensures { CountsTakers self.limit self.rests board.now result }
+    {
+        match self.room(board) {
+            Some(room) if room > 0 && !self.rests => room.min(board.queued()),
+            Some(_) => usize::from(board.is_next_queued()),
+            None => 0,
+        }
+    }
+
+    /// Returns whether something is queued, and no worker may take it yet.
+    pub(crate) fn holds_back<T: Drop, R: Drop, A: Allocator + Copy>(
+        self,
+        board: &Board<T, R, A>,
+    ) -> bool
+        ensures held { IsTrue result → HoldsBack self.limit self.rests board.now }
+        ensures free { result ≡ false → (board.now.stopped ≡ true) ⊎ ((board.now.queued ≡ [])
+            ⊎ MayTake self.limit self.rests board.now) }
+    {
+        !board.is_stopped() && board.queued() > 0 && self.takers(board) == 0
+    }
+}

@@ -1,0 +1,166 @@
+//! Who sleeps until something comes.
+ghost use Rattle.std.specs.Prelude.{◌≡◌, ◌↔◌, IsTrue, true, false};
+ghost use Rattle.tree_crew.specs.Sleepers.{called_of, CallsNobody, CallsTakers, StillRests};
+
+use crate::pace::Pace;
+use crate::steps::{Calls, Turn};
+use jwalk_board::board::Board;
+use std::alloc::Allocator;
+
+/// How many workers sleep, how many of these were called, whether the workers rest, whether the walk sleeps uncalled,
+/// and whether the board was missed. It is kept under the lock of the board.
+///
+/// No call is lost. Whoever sleeps looked at the board, found nothing to do and was counted here in one hold of the lock. So
+/// whoever changes the board takes the lock later and sees the count. The call comes after that hold. It ends even a
+/// sleep that is only about to begin, since the `Condvar` was read while the sleeper had the lock. A worker that wakes,
+/// called or not, takes a call off the count. So the count is never more than those that are still to look at the
+/// board, and at worst a worker is called twice.
+#[derive(Drop)]
+pub(crate) struct Sleepers {
+    workers: usize,
+    called: usize,
+    /// A worker found the limit of what is read ahead reached, and it isn't down to half since. The workers make the next
+    /// reading alone then, so that they work on many in a row rather than on one for each that is handed out.
+    rests: bool,
+    walk: bool,
+    /// Who woke last did so because its turn was over, and nobody had called it.
+    overslept: bool,
+    /// Somebody who held the lock didn't find the board. So a reading may have been lost, and the walk ends.
+    board_missed: bool,
+}
+
+impl Sleepers {
+    /// Nobody sleeps.
+    pub(crate) fn none() -> Self
+        ensures { result.board_missed ≡ false }
+    {
+        Sleepers {
+            workers: 0,
+            called: 0,
+            rests: false,
+            walk: false,
+            overslept: false,
+            board_missed: false,
+        }
+    }
+
+    /// The board wasn't there.
+    pub(crate) fn set_board_missed(&mut self)
+        ensures { self.new.board_missed ≡ true }
+    {
+        self.board_missed = true;
+    }
+
+    /// Whether the board was missed, now or before.
+    pub(crate) fn board_missed(&self) -> bool
+        ensures { result ≡ self.now.board_missed }
+    {
+        self.board_missed
+    }
+
+    /// A worker goes to sleep.
+    pub(crate) fn add_worker(&mut self)
+        ensures { self.new.board_missed ≡ self.old.board_missed }
+    {
+        self.workers = self.workers.saturating_add(1);
+    }
+
+    /// A worker woke, maybe because its turn was over.
+    pub(crate) fn remove_worker(&mut self, timed_out: bool)
+        ensures { self.new.board_missed ≡ self.old.board_missed }
+    {
+        self.overslept = timed_out && self.called == 0;
+        self.workers = self.workers.saturating_sub(1);
+        self.called = self.called.saturating_sub(1);
+    }
+
+    /// The walk goes to sleep.
+    pub(crate) fn add_walk(&mut self)
+        ensures { self.new.board_missed ≡ self.old.board_missed }
+    {
+        self.walk = true;
+    }
+
+    /// The walk woke, maybe because its turn was over.
+    pub(crate) fn remove_walk(&mut self, timed_out: bool)
+        ensures { self.new.board_missed ≡ self.old.board_missed }
+    {
+        self.overslept = timed_out && self.walk;
+        self.walk = false;
+    }
+
+    /// Returns whether who woke last slept too long: its turn was over, nobody had called it, and it found something to
+    /// do now.
+    pub(crate) fn has_overslept(&mut self, found: bool) -> bool
+        ensures { self.new ≡ record self.old { overslept = false } }
+    {
+        let late = self.overslept && found;
+        self.overslept = false;
+        late
+    }
+
+    /// Whether the workers rest.
+    pub(crate) fn rests(&self) -> bool
+        ensures { result ≡ self.now.rests }
+    {
+        self.rests
+    }
+
+    /// Notes that the workers rest, if this turn found that what is queued may not be taken.
+    pub(crate) fn note_turn<T, A: Allocator + Copy>(&mut self, turn: &Turn<T, A>)
+        ensures { self.new.board_missed ≡ self.old.board_missed }
+    {
+        if matches!(turn, Turn::Rest) {
+            self.rests = true;
+        }
+    }
+
+    /// Returns whether the workers still rest, by what is on a board now: no longer once the readings are down to half
+    /// the limit.
+    fn still_rests<T: Drop, R: Drop, A: Allocator + Copy>(
+        &self,
+        board: &Board<T, R, A>,
+        limit: usize,
+    ) -> bool
+        ensures { IsTrue result ↔ StillRests limit self.now board.now }
+    {
+        self.rests && !Pace::new(limit, self.rests).is_half_free(board)
+    }
+
+    /// Returns which workers the walk calls after it asked a board for a reading: if one came, as many as may take
+    /// something. They rest no longer once the readings are down to half the limit.
+    pub(crate) fn after_arrival<T: Drop, R: Drop, A: Allocator + Copy>(
+        &mut self,
+        came: bool,
+        board: &Board<T, R, A>,
+        limit: usize,
+    ) -> Calls
+        ensures missed { self.new.board_missed ≡ self.old.board_missed }
+        ensures calls { IsTrue came → CallsTakers limit board.now self.old self.new result }
+        ensures nobody { came ≡ false → CallsNobody result }
+    {
+        if !came {
+            return Calls::none();
+        }
+        self.rests = self.still_rests(board, limit);
+        let workers = Pace::new(limit, self.rests).takers(board);
+        self.called_by(Calls {
+            workers,
+            walk: false,
+        })
+    }
+
+    /// Returns those of a call who sleep and weren't called yet. They count as called from now on.
+    pub(crate) fn called_by(&mut self, calls: Calls) -> Calls
+        ensures workers { result.workers ≡ called_of self.old calls.workers }
+        ensures walk { IsTrue result.walk ↔ (IsTrue calls.walk × IsTrue self.old.walk) }
+        ensures rests { self.new.rests ≡ self.old.rests }
+        ensures missed { self.new.board_missed ≡ self.old.board_missed }
+    {
+        let workers = calls.workers.min(self.workers).saturating_sub(self.called);
+        let walk = calls.walk && self.walk;
+        self.called = self.called.saturating_add(workers);
+        self.walk = self.walk && !walk;
+        Calls { workers, walk }
+    }
+}

@@ -1,0 +1,155 @@
+//! A new board, and what a worker does on it, one step each.
+ghost use Rattle.std.specs.Prelude.{◌≡◌, ◌↔◌, box_value, true, IsTrue, IfOk, OnErr, OnOk};
+ghost use Rattle.jwalk_order.specs.IndexPath.{address as indices_of};
+ghost use Rattle.jwalk_board.specs.Board.{Finishes, IsNew, IsNextReady};
+ghost use Rattle.tree_crew.specs.Pace.{CountsTakers};
+ghost use Rattle.tree_crew.specs.Sleepers.{CallsNobody};
+ghost use Rattle.tree_crew.specs.Steps.{Turns};
+
+use crate::pace::Pace;
+use jwalk_board::board::{Board, FinishFault, TakeRefusal};
+use jwalk_order::index_path::IndexPath;
+use jwalk_order::ordered::Ordered;
+use std::alloc::{AllocError, Allocator};
+
+/// Returns a board on which these are queued, in a box.
+pub(crate) fn new_board<T: Drop, R: Drop, A: Allocator + Copy>(
+    roots: Vec<T, A>,
+) -> Result<Box<Board<T, R, A>, A>, AllocError>
+    ensures { IfOk result (λ board. IsNew roots.items (box_value board)) }
+{
+    let alloc = *roots.allocator();
+    let Ok(board) = Board::new(roots) else {
+        return Err(AllocError);
+    };
+    match Box::new(alloc, board) {
+        Ok(board) => Ok(board),
+        Err(_) => Err(AllocError),
+    }
+}
+
+/// What a worker does next.
+#[derive(Drop)]
+pub(crate) enum Turn<T, A: Allocator + Copy> {
+    /// It reads what it took.
+    Read(Ordered<T, A>),
+    /// It blocks, since others may find more.
+    Wait,
+    /// It blocks, since it may not take what is queued yet.
+    Rest,
+    /// It ends.
+    End,
+}
+
+impl<T, A: Allocator + Copy> Turn<T, A> {
+    /// Returns whether the worker found something to do, or that nothing will come.
+    pub(crate) fn is_found(&self) -> bool {
+        match self {
+            Turn::Read(_) | Turn::End => true,
+            Turn::Wait | Turn::Rest => false,
+        }
+    }
+}
+
+/// Takes the next specification, if that may be taken at this pace. If memory runs out, the board is stopped.
+pub(crate) fn take_turn<T: Drop, R: Drop, A: Allocator + Copy>(
+    board: &mut Board<T, R, A>,
+    pace: Pace,
+) -> Turn<T, A>
+    ensures { Turns pace.limit pace.rests board.old result board.new }
+{
+    if pace.holds_back(&*board) {
+        return Turn::Rest;
+    }
+    match board.take() {
+        Ok(item) => Turn::Read(item),
+        Err(TakeRefusal::Empty) => Turn::Wait,
+        Err(TakeRefusal::Done | TakeRefusal::Stopped) => Turn::End,
+        Err(TakeRefusal::Memory) => {
+            board.stop();
+            Turn::End
+        }
+    }
+}
+
+/// Finishes a reading. If that fails, the board is stopped.
+pub(crate) fn finish_or_stop<T: Drop, R: Drop, A: Allocator + Copy>(
+    board: &mut Board<T, R, A>,
+    address: IndexPath<A>,
+    reading: R,
+    children: Vec<T, A>,
+) -> Result<(), FinishFault<T, R, A>>
+    ensures finished { OnOk result (Finishes (indices_of address) reading children.items board.old board.new) }
+    ensures stopped { OnErr result (board.new ≡ record board.old { stopped = true }) }
+{
+    let done = board.finish(address, reading, children);
+    if done.is_err() {
+        board.stop();
+    }
+    done
+}
+
+/// Whom a step calls of those who sleep: how many workers, and whether the walk.
+#[derive(Clone, Copy)]
+pub(crate) struct Calls {
+    pub(crate) workers: usize,
+    pub(crate) walk: bool,
+}
+
+impl Calls {
+    /// Everyone.
+    pub(crate) fn all() -> Self
+        ensures { result.walk ≡ true }
+    {
+        Calls {
+            workers: usize::MAX,
+            walk: true,
+        }
+    }
+
+    /// Nobody.
+    pub(crate) fn none() -> Self
+        ensures { CallsNobody result }
+    {
+        Calls {
+            workers: 0,
+            walk: false,
+        }
+    }
+
+    /// Returns whom to call after a step that left the board at work: as many workers as may take something, and the
+    /// walk if its next reading is ready.
+    pub(crate) fn after<T: Drop, R: Drop, A: Allocator + Copy>(
+        board: &Board<T, R, A>,
+        pace: Pace,
+    ) -> Self
+        ensures workers { CountsTakers pace.limit pace.rests board.now result.workers }
+        ensures walk { IsTrue result.walk ↔ IsNextReady board.now }
+    {
+        Calls {
+            workers: pace.takers(board),
+            walk: board.is_next_ready(),
+        }
+    }
+
+    /// Returns whom to call after a worker's turn: everyone if the worker ends, since the others then end too.
+    pub(crate) fn after_turn<T: Drop, R: Drop, A: Allocator + Copy>(
+        board: &Board<T, R, A>,
+        turn: &Turn<T, A>,
+        pace: Pace,
+    ) -> Self
+        ensures workers { (turn.now ≡ Turn.End → ⊥) → CountsTakers pace.limit pace.rests board.now result.workers }
+        ensures ready { IsNextReady board.now → IsTrue result.walk }
+        ensures end { turn.now ≡ Turn.End → IsTrue result.walk }
+    {
+        match turn {
+            Turn::End => Calls::all(),
+            Turn::Read(_) | Turn::Wait | Turn::Rest => Calls::after(board, pace),
+        }
+    }
+
+    /// Returns whether nobody is called.
+    pub(crate) fn is_empty(self) -> bool {
+        self.workers == 0 && !self.walk
+    }
+}

@@ -1,0 +1,202 @@
+//! The threads that read for a walk.
+ghost use Rattle.std.specs.Prelude.{◌≤◌, IfSome};
+ghost use Rattle.std.specs.Arc.{arc_value};
+ghost use Rattle.std.specs.Sync.Mutex.{mutex_guard_value};
+ghost use Rattle.keyed_slot.specs.Keyed.{IsAbsenceOf};
+ghost use Rattle.jwalk_order.specs.IndexPath.{address as indices_of};
+ghost use Rattle.jwalk_order.specs.Ordered.{address_of};
+ghost use Rattle.tree_crew.specs.Ground.{origin_at};
+ghost use Rattle.tree_crew.specs.Handled.{IsHandedIn, IsMissed};
+ghost use Rattle.tree_crew.specs.Origin.{IsAt, IsMadeAt};
+
+use crate::hand_in::HandIn;
+use crate::message::Message;
+use crate::shared::Shared;
+use crate::sleepers::Sleepers;
+use crate::steps::Turn;
+use crate::waiting::wait_a_turn;
+use crate::work::Handled;
+use jwalk_board::board::Plan;
+use jwalk_order::ordered::Ordered;
+use std::alloc::Allocator;
+use std::sync::{Arc, MutexGuard, Wait};
+use std::thread;
+use std::thread::Threads;
+use std::time::Clock;
+
+/// A thread of a walk: it takes specifications, reads them and hands in the outcome.
+pub(crate) struct Worker<
+    R: Wait + Clock + Drop,
+    T: Drop,
+    U: Drop,
+    J: Plan<A, Spec = T, Reading = U> + Drop,
+    A: Allocator + Copy,
+> {
+    shared: Arc<Shared<R, T, U, J, A>, A>,
+}
+
+impl<
+    R: Wait + Clock + Drop,
+    T: Drop,
+    U: Drop,
+    J: Plan<A, Spec = T, Reading = U> + Drop,
+    A: Allocator + Copy,
+> Drop for Worker<R, T, U, J, A> {
+    fn drop(self) {
+        let Worker { shared: _ } = self;
+    }
+}
+
+impl<
+    R: Wait + Clock + Drop,
+    T: Drop,
+    U: Drop,
+    J: Plan<A, Spec = T, Reading = U> + Drop,
+    A: Allocator + Copy,
+> Worker<R, T, U, J, A> {
+    /// Hands in what was read, if anything.
+    fn hand_in(
+        &self,
+        held: &mut MutexGuard<'_, Sleepers>,
+        read: Option<HandIn<T, U, J, A>>,
+    ) -> Option<Handled<T, U, J, A>>
+        requires { IfSome read (λ h. IsMadeAt J.Plan (origin_at (arc_value self.now.shared).work)
+            (indices_of h.address) h.message h.children.items) }
+        ensures { IsHandedIn (arc_value self.now.shared).work (IsMissed (arc_value self.now.shared).work
+            (mutex_guard_value held.new)) read result }
+    {
+        match read {
+            Some(read) => Some(self.shared.hand_in(held, read)),
+            None => None,
+        }
+    }
+
+    /// Hands in what was read, if anything, and takes a specification as soon as one is queued: none once the board is
+    /// done or stopped. There is a receipt for what was handed in.
+    fn next(
+        &self,
+        read: Option<HandIn<T, U, J, A>>,
+    ) -> (Option<Ordered<T, A>>, Option<Handled<T, U, J, A>>)
+        requires { IfSome read (λ h. IsMadeAt J.Plan (origin_at (arc_value self.now.shared).work)
+            (indices_of h.address) h.message h.children.items) }
+        ensures taken { IfSome result.0 (λ item. IsAt J.Plan (origin_at (arc_value self.now.shared).work)
+            (address_of item) item.value) }
+        ensures handed_in { IsHandedIn (arc_value self.now.shared).work (λ absence. IsAbsenceOf absence
+            (arc_value self.now.shared).work) read result.1 }
+    {
+        let rt = &self.shared.crew.rt;
+        let mut sleepers = self.shared.sleepers.lock(rt);
+        let receipt = self.hand_in(&mut sleepers, read);
+        for _ in rt.forever() {
+            let (turn, wanted, _receipt) = self.shared.turn(&mut sleepers);
+            let calls = sleepers.called_by(wanted);
+            match turn {
+                Turn::Wait | Turn::Rest if calls.is_empty() => {
+                    sleepers.add_worker();
+                    let (woken, timed_out) = wait_a_turn(rt, &self.shared.queued, sleepers);
+                    sleepers = woken;
+                    sleepers.remove_worker(timed_out);
+                }
+                Turn::Wait | Turn::Rest => {
+                    drop(sleepers);
+                    self.shared.call(calls);
+                    sleepers = self.shared.sleepers.lock(rt);
+                }
+                Turn::Read(item) => {
+                    drop(sleepers);
+                    self.shared.call(calls);
+                    return (Some(item), receipt);
+                }
+                Turn::End => {
+                    drop(sleepers);
+                    self.shared.call(calls);
+                    return (None, receipt);
+                }
+            }
+        }
+        unreachable!()
+    }
+
+    /// Reads a specification that was taken. Returns none if memory runs out, and the board is stopped then.
+    fn read(&self, item: Ordered<T, A>) -> Option<HandIn<T, U, J, A>>
+        requires lawful { J.IsLawful (arc_value (arc_value self.now.shared).plan) }
+        requires at { IsAt J.Plan (origin_at (arc_value self.now.shared).work) (address_of item) item.value }
+        ensures { IfSome result (λ h. IsMadeAt J.Plan (origin_at (arc_value self.now.shared).work)
+            (indices_of h.address) h.message h.children.items) }
+    {
+        let Ordered {
+            value: of,
+            index_path: address,
+            ..
+        } = item;
+        match self.shared.plan.clone() {
+            Ok(plan) => {
+                let (message, children) = Message::read(self.shared.alloc, plan, of);
+                Some(HandIn::new(address, message, children))
+            }
+            Err(_) => {
+                let _receipt = self.shared.stop();
+                None
+            }
+        }
+    }
+
+    /// Works until the board is done or stopped.
+    fn work(&self)
+        requires { J.IsLawful (arc_value (arc_value self.now.shared).plan) }
+    {
+        let (mut taken, _none) = self.next(None);
+        for _ in self.shared.crew.rt.forever() {
+            match taken {
+                Some(item) => {
+                    let read = self.read(item);
+                    let (item, _receipt) = self.next(read);
+                    taken = item;
+                }
+                None => return,
+            }
+        }
+    }
+}
+
+/// Starts a worker, if a thread can be started for it.
+fn start_worker<
+    R: Wait + Threads + Clock + Drop + Send + Sync + 'static,
+    T: Drop + Send + 'static,
+    U: Drop + Send + 'static,
+    J: Plan<A, Spec = T, Reading = U> + Drop + Send + Sync + 'static,
+    A: Allocator + Copy + Send + Sync + 'static,
+>(shared: &Arc<Shared<R, T, U, J, A>, A>) -> bool
+    requires { J.IsLawful (arc_value (arc_value shared.now).plan) }
+{
+    let Ok(mine) = shared.clone() else {
+        return false;
+    };
+    let worker = Worker { shared: mine };
+    thread::spawn(
+        &shared.crew.rt,
+        move ||
+            requires { J.IsLawful (arc_value (arc_value worker.shared).plan) }
+        { worker.work() },
+    )
+    .is_ok()
+}
+
+/// Starts that many workers, or fewer if no more threads can be started. Returns how many.
+pub(crate) fn start_workers<
+    R: Wait + Threads + Clock + Drop + Send + Sync + 'static,
+    T: Drop + Send + 'static,
+    U: Drop + Send + 'static,
+    J: Plan<A, Spec = T, Reading = U> + Drop + Send + Sync + 'static,
+    A: Allocator + Copy + Send + Sync + 'static,
+>(shared: &Arc<Shared<R, T, U, J, A>, A>, count: usize) -> usize
+    requires { J.IsLawful (arc_value (arc_value shared.now).plan) }
+    ensures { result ≤ count }
+{
+    for started in 0..count {
+        if !start_worker(shared) {
+            return started;
+        }
+    }
+    count
+}
