@@ -30,11 +30,13 @@ impl<'f, S: FileSystem> Drop for Prepared<'f, S> {
 }
 
 impl<'f, S: FileSystem> Pool<States, &'f S, NoProcess, Global> for Prepared<'f, S> {
-    ghost use Rattle.std.specs.Prelude.{[]};
+    ghost use Rattle.std.specs.Prelude.{◌-◌, ◌^◌, []};
 
     ghost comes_from = { λ _ _. ⊥ };
 
     ghost awaits = { λ _. [] };
+
+    ghost most = { λ _. 2 ^ 64 - 1 };
 
     fn next(&mut self, wanted: &Wanted) -> Result<Ordered<Told<'f, S>>, Missed> {
         match self.board.hand_out() {

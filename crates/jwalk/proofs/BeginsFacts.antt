@@ -1,5 +1,5 @@
 -- How a builder's walk begins where a crew may read for it.
-use Rattle.std.proofs.Common.{◌≡◌, ◌∙◌, ◌⊎◌, ℕ, true, List, Option, Some, None, Result, Ok, Err, IfOk, IfSome, IsSome, IsSomeAnd, inl, inr, refl, sym, ap, subst}
+use Rattle.std.proofs.Common.{◌≡◌, ◌≤◌, ◌∙◌, ◌⊎◌, ◌+◌, ℕ, true, List, Option, Some, None, Result, Ok, Err, IfOk, IfSome, IsSome, IsSomeAnd, inl, inr, refl, sym, ap, subst, arith}
 use Rattle.std.specs.Prelude.{option_map}
 use Rattle.std.specs.Result.{result_ok}
 use Rattle.std.specs.declared.clone.Clone as Clone
@@ -43,6 +43,11 @@ if_some_view view P (Err f) o is h = rw is tt
 pub fails_by : (Told : Type 0) (why_not : NotStarted) (f : Failure) → f ≡ start_failure why_not → (◌≡◌ {A = Option NotStarted} (Some why_not) (Some Busy) → Told) → (f ≡ memory) ⊎ ((f ≡ busy) × Told)
 fails_by Told Busy f is told = inr (is, told refl)
 fails_by Told Memory f is told = inl is
+
+-- where nothing is read ahead by a crew, each limit is kept
+pub within_limit : {X : Type 0} (ahead : ℕ) (limit : X → ℕ) (o : Option X) → ahead ≡ 0 → IfSome o (λ x. ahead ≤ limit x + 1)
+within_limit ahead limit None none = tt
+within_limit ahead limit (Some x) none = omega (arith, none)
 
 module _ {C S P A W L R E : Type 0} (files : FileSystem.Ghosts S) (process : ProcessReadDir.Ghosts P C A R E) (clone : Clone.Ghosts R) (defaults : Default.Ghosts E) (walk : WalkDirGeneric C S P A W R E) (it : DirEntryIter C S P A L R E) where
   -- what a job of the builder's file system and options makes of the builder's root

@@ -1,5 +1,5 @@
 -- How a walk over a crew begins.
-use Rattle.std.proofs.Common.{◌≡◌, ◌∙◌, ◌⊎◌, ℕ, Bool, true, false, List, [], ◌∷◌, map, length, Option, Some, None, is_some, Result, Ok, Err, OnOk, OnErr, IfSome, IsSomeAnd, inl, inr, refl, sym, ap, subst, arith}
+use Rattle.std.proofs.Common.{◌≡◌, ◌≤◌, ◌∙◌, ◌⊎◌, ℕ, max, Bool, true, false, List, [], ◌∷◌, map, length, Option, Some, None, is_some, Result, Ok, Err, OnOk, OnErr, IfSome, IsSomeAnd, inl, inr, refl, sym, ap, subst, arith}
 use Rattle.std.specs.Prelude.{option_map, if◌then◌else◌}
 use Rattle.std.specs.Result.{result_err}
 use Rattle.std.specs.declared.clone.Clone as Clone
@@ -22,6 +22,7 @@ use Rattle.jwalk_read.specs.Job.{options_of, greatest_depth}
 use Rattle.jwalk_crew.specs.declared.pool.Pool as Pool
 use Rattle.tree_crew.specs.declared.crew.NotStarted.{NotStarted}
 use Rattle.tree_crew.specs.declared.crew.NotStarted.TheVariants.{Busy, Memory}
+use Rattle.jwalk_readings.specs.BatchReads.{BatchReads}
 use Rattle.jwalk_readings.specs.ReadAhead.{BeginsWith}
 use Rattle.jwalk_entries.specs.DirEntryIter.{reads_of, is_refused, by_crew, width_of, read_ahead, job_of, items_of, unread_of, held, held_by, IsWithin, IsSourced, IsRefused, ArePlaced}
 use Rattle.jwalk.specs.CrewStart.{busied, busy_pair, left_of, IsToRead, IsBegun, HoldsList, IsFromRoot}
@@ -77,6 +78,11 @@ module _ {R E : Type 0} where
 width_by : {C S P A L R E : Type 0} (reads : ReadDirIter C S P A L R E) → readings.by_crew reads ≡ true → readings.width_of reads ≡ 1
 width_by (Walk walk) by = absurd cc
 width_by (CrewWalk reads) by = refl
+
+-- readings that no crew makes are the walk's own
+pub reads_alone : {C S P A L R E : Type 0} (reads : ReadDirIter C S P A L R E) → readings.by_crew reads ≡ false → (walk : BatchReads C S P A R E) × (reads ≡ Walk walk)
+reads_alone (Walk walk) own = (walk, refl)
+reads_alone (CrewWalk reads) own = absurd cc
 
 module _ {C S P A L R E : Type 0} where
   holds_started : (it : DirEntryIter C S P A L R E) → is_refused it ≡ false → held it ≡ pair_up (items_of it) (unread_of it)
@@ -202,6 +208,11 @@ module _ {T C S P A L R E : Type 0} (old new : CrewReads C S P A L R E) where
   pub left_to_read : (clone : Clone.Ghosts R) (r : Reading R E) (started : Result T NotStarted) → OnOk started (AreClones clone.is_clone (children r) (reads_by.to_read new)) → OnErr started (new ≡ old) → reads_by.to_read old ≡ [] → IsToRead clone r (result_err started) (reads_by.to_read new)
   left_to_read clone r (Ok done) clones same none = clones
   left_to_read clone r (Err why_not) clones same none = ap reads_by.to_read same ∙ none
+
+  -- no more readings are ahead than the crew's limit allows, or than were before
+  pub left_most : (most : L → ℕ) (limit : ℕ) (started : Result T NotStarted) → OnOk started (reads_by.most_ready most new.pool ≡ limit) → OnErr started (new ≡ old) → reads_by.most_ready most new.pool ≤ max (reads_by.most_ready most old.pool) limit
+  left_most most limit (Ok done) is same = omega (arith, is)
+  left_most most limit (Err why_not) is same = omega (arith, ap (λ (it : CrewReads C S P A L R E). reads_by.most_ready most it.pool) same)
 
   -- and the readings are steady either way
   pub left_steady : (files : FileSystem.Ghosts S) (process : ProcessReadDir.Ghosts P C A R E) (clone : Clone.Ghosts R) (defaults : Default.Ghosts E) (pool : Pool.Ghosts L C S P A R E) (started : Result T NotStarted) → OnOk started (reads_by.BeginsBy (reads_by.IsMadeFor pool) new) → OnErr started (new ≡ old)

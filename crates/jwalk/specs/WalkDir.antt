@@ -1,5 +1,5 @@
 -- A walk as its builder describes it.
-use Rattle.std.specs.Prelude.{◌≡◌, ◌⊎◌, ◌<◌, ℕ, min, true, false, List, [], ◌∷◌, map, Option, Some, None, IsSome, IsSomeAnd, Result, Ok, Err, string_bytes}
+use Rattle.std.specs.Prelude.{◌≡◌, ◌⊎◌, ◌<◌, ◌≤◌, ◌+◌, ℕ, min, true, false, List, [], ◌∷◌, map, Option, Some, None, IfSome, IsSome, IsSomeAnd, Result, Ok, Err, string_bytes}
 use Rattle.std.specs.Arc.{arc_value}
 use Rattle.std.specs.declared.clone.Clone as Clone
 use Rattle.std.specs.declared.default.Default as Default
@@ -22,7 +22,8 @@ use Rattle.jwalk_read.specs.Job.{file_system, callback, IsSteady}
 use Rattle.jwalk_readings.specs.ReadAhead.{BeginsWith}
 use Rattle.jwalk_entries.specs.DirEntryIter as iter
 use Rattle.tree_crew.specs.declared.crew.Crew.{Crew}
-use Rattle.tree_crew.specs.Crew.{workers_of}
+use Rattle.tree_crew.specs.Crew.{workers_of, limit_of}
+use Rattle.jwalk_crew.specs.declared.pool.Pool as Pool
 use Rattle.tree_crew.specs.declared.crew.NotStarted.{NotStarted}
 use Rattle.tree_crew.specs.declared.crew.NotStarted.TheVariants.{Busy, Memory}
 use Rattle.jwalk_readings.specs.declared.parallelism.Parallelism.{Parallelism}
@@ -126,15 +127,20 @@ pub record SetsCrew {C S P A V W R E : Type 0} (old : WalkDirGeneric C S P A V R
   pub root : root_of new ≡ root_of old
   pub state : state_of new ≡ state_of old
 
--- A call of the builder that has a crew of the walk's own read it, and changes nothing else. The crew has this many threads, and 0 leaves their number open; the walk waits for its place without limit.
+-- A call of the builder that has a crew of the walk's own read it, and changes nothing else. The crew has this many threads, and 0 leaves their number open; its limit of readings ahead is 1,024, and the walk waits for its place without limit.
 pub record SetsWorkers {H C S P A V R E : Type 0} (count : ℕ) (old : WalkDirGeneric C S P A V R E) (new : WalkDirGeneric C S P A (Crew H) R E) : Type 0 where
   pub options : options_of new ≡ with_parallelism crew (options_of old)
   pub threads : IsSomeAnd new.crew (λ own. 0 < count → workers_of (arc_value own.0) ≡ min count 256)
+  pub read_ahead : IsSomeAnd new.crew (λ own. limit_of (arc_value own.0) ≡ 1024)
   pub limit : IsSomeAnd new.crew (λ own. own.1 ≡ None)
   pub file_system : file_system_of new ≡ file_system_of old
   pub callback : callback_of new ≡ callback_of old
   pub root : root_of new ≡ root_of old
   pub state : state_of new ≡ state_of old
+
+-- Of a walk's crew, at most its limit and one readings are made and not handed on.
+abbrev pub KeepsLimit : {H C S P A L R E : Type 0} → Pool.Ghosts L C S P A R E → WalkDirGeneric C S P A (Crew H) R E → DirEntryIter C S P A L R E → Type 0
+KeepsLimit pool walk it = IfSome walk.crew (λ own. iter.most_ahead pool it ≤ limit_of (arc_value own.0) + 1)
 
 -- A call of the builder that changes the types of the states, of a walk without a callback. The root's state is a default then, and nothing else changes.
 pub record SetsStates {C D S A W R E Q F : Type 0} (is_default : Q → Type 0) (old : WalkDirGeneric C S NoProcess A W R E) (new : WalkDirGeneric D S NoProcess A W Q F) : Type 0 where

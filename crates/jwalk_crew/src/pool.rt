@@ -1,5 +1,5 @@
 //! What gives a walk its readings.
-ghost use Rattle.std.specs.Prelude.{◌≡◌, ℕ, List, [], IfOk, IsOk};
+ghost use Rattle.std.specs.Prelude.{◌≡◌, ◌≤◌, ℕ, List, [], IfOk, IsOk};
 ghost use Rattle.jwalk_order.specs.Frontier.{passed};
 ghost use Rattle.jwalk_order.specs.Ordered.{child_count_of};
 ghost use Rattle.jwalk_order.specs.Addressed.{addressed};
@@ -25,6 +25,9 @@ pub trait Pool<C: ClientState, S: FileSystem, P: ProcessReadDir<C, A>, A: Alloca
     /// The addresses of the readings that it has still to give, the next one first.
     ghost awaits: { Self → List (List ℕ) };
 
+    /// How many readings may be made and not handed on. It stays the same.
+    ghost most: { Self → ℕ };
+
     /// Returns the reading that is wanted, once it is there. Over a crew it may block for the reading or for a lock.
     /// The addresses of the directories below it are awaited from then on, in place of its own.
     ///
@@ -40,11 +43,13 @@ pub trait Pool<C: ClientState, S: FileSystem, P: ProcessReadDir<C, A>, A: Alloca
         ensures same { (origin : _) → Self.comes_from self.old origin → Self.comes_from self.new origin }
         ensures further { IfOk result (λ item. Self.awaits self.new ≡ passed (Self.awaits self.old)
             (child_count_of item)) }
+        ensures most { Self.most self.new ≡ Self.most self.old }
         ensures due { result ≡ Err Missed.Lost → (origin : _) → Self.comes_from self.old origin → ¬ IsDue S.FileSystem
             P.ProcessReadDir C.ReadDirState.Clone C.DirEntryState.Default origin (Self.awaits self.old) wanted.now };
 
     /// Returns how many readings were made and not handed on. Over a crew it may block for a lock.
-    fn ahead(&self) -> usize;
+    fn ahead(&self) -> usize
+        ensures { result ≤ Self.most self.now };
 }
 
 /// No crew. Nothing makes a value of it, so no walk is over one.
@@ -56,6 +61,8 @@ impl<C: ClientState, S: FileSystem, P: ProcessReadDir<C, A>, A: Allocator + Copy
     ghost comes_from = { λ _ _. ⊥ };
 
     ghost awaits = { λ _. [] };
+
+    ghost most = { λ _. 0 };
 
     fn next(&mut self, _wanted: &Wanted<A>) -> Result<Ordered<Message<C, S, P, A>, A>, Missed>
         ensures { result ≡ Err Missed.Lost }

@@ -64,6 +64,8 @@ impl<
 
     ghost awaits = { awaited_by };
 
+    ghost most = { λ session. read_ahead_of session + 1 };
+
     fn next(&mut self, wanted: &Wanted<A>) -> Result<Ordered<Message<C, S, P, A>, A>, Missed> {
         let item = self.readings.next()?;
         let child_count = item.child_count();

@@ -1,5 +1,5 @@
 -- One call of a walk's `next`, case by case.
-use Rattle.std.proofs.Common.{◌≡◌, ◌∙◌, ◌<◌, ℕ, Bool, true, false, List, [], ◌∷◌, ◌++◌, map, length, append-nil, Option, Some, None, Result, Ok, Err, subst, inl, inr, refl, sym, ap, arith}
+use Rattle.std.proofs.Common.{◌≡◌, ◌∙◌, ◌<◌, ◌≤◌, ℕ, Bool, true, false, List, [], ◌∷◌, ◌++◌, map, length, append-nil, Option, Some, None, Result, Ok, Err, subst, inl, inr, refl, sym, ap, arith}
 use Rattle.std.specs.Prelude.{option_map}
 use Rattle.std.specs.declared.clone.Clone as Clone
 use Rattle.std.specs.declared.default.Default as Default
@@ -29,7 +29,7 @@ use Rattle.jwalk_entries.specs.declared.dir_entry_iter.DirEntryIter.{DirEntryIte
 use Rattle.jwalk_entries.specs.Step.{ReadsUpTo, IsAtDirectory, StopsAtDirectory}
 use Rattle.jwalk_readings.specs.ReadAhead.{nothing_ahead}
 use Rattle.jwalk_readings.specs.ReadDirIter.{Tells}
-use Rattle.jwalk_entries.specs.DirEntryIter.{by_crew, job_of, min_depth_of, items_of, unread_of, width_of, read_ahead, GrowsAhead, held, held_by, refusal, to_come, IsSourced, Stops, ArePlaced, IsSteadyWalk, Known, StaysSteady, ReadsStaySteady, Answers}
+use Rattle.jwalk_entries.specs.DirEntryIter.{by_crew, job_of, min_depth_of, items_of, unread_of, width_of, read_ahead, GrowsAhead, held, held_by, refusal, to_come, most_ahead, IsSourced, Stops, ArePlaced, IsSteadyWalk, Known, StaysSteady, ReadsStaySteady, Answers}
 use Rattle.jwalk_readings.proofs.GivesFacts.{steady_at_rest}
 use Rattle.jwalk_readings.proofs.KnownFacts.{clones_if_steady}
 use Rattle.jwalk_entries.proofs.ItemFacts.{items_known}
@@ -102,8 +102,8 @@ module _ {C S P A L R E : Type 0} (files : FileSystem.Ghosts S) (process : Proce
   Knows = Known files process clone defaults pool old
 
   answers_some : (x : Result (DirEntry C A R E) (Error A)) → old.refused ≡ false → new.refused ≡ false → by_crew new ≡ by_crew old → job_of new ≡ job_of old
-      → ReadsUpTo clone Knows (job_of old) (items_of old) (unread_of old) (Some (item x)) (items_of new) (unread_of new) → width_of new ≡ width_of old → ReadsStaySteady files process clone defaults pool old new → GrowsAhead files process clone defaults pool old (Some (item x)) new → Answers files process clone defaults pool old (Some x) new
-  answers_some x began started crew job reads width keeps grown =
+      → ReadsUpTo clone Knows (job_of old) (items_of old) (unread_of old) (Some (item x)) (items_of new) (unread_of new) → width_of new ≡ width_of old → most_ahead pool new ≤ most_ahead pool old → ReadsStaySteady files process clone defaults pool old new → GrowsAhead files process clone defaults pool old (Some (item x)) new → Answers files process clone defaults pool old (Some x) new
+  answers_some x began started crew job reads width most keeps grown =
       let j = job_of old in
       let left = reads.2 in
       let next = reads.3.0 in
@@ -124,6 +124,7 @@ module _ {C S P A L R E : Type 0} (files : FileSystem.Ghosts S) (process : Proce
         lighter = rw (before, after, job) (omega (arith, left_lighter clone Knows j (items_of old) (unread_of old) left, next_lighter clone Knows j next));
         reads = rw began (inr reads);
         width = width;
+        most = most;
         steady = stays crew keeps (answered_placed clone Knows j (items_of old) (unread_of old) (by_crew old) (Some (item x)) (items_of new) (unread_of new) reads);
         ahead = λ never goes_on. grown;
         kept = λ refused. absurd cc;
@@ -136,8 +137,8 @@ module _ {C S P A L R E : Type 0} (files : FileSystem.Ghosts S) (process : Proce
 
   -- all that was held is left out
   answers_none : old.refused ≡ false → new.refused ≡ false → by_crew new ≡ by_crew old → job_of new ≡ job_of old
-      → ReadsUpTo clone Knows (job_of old) (items_of old) (unread_of old) None (items_of new) (unread_of new) → width_of new ≡ width_of old → ReadsStaySteady files process clone defaults pool old new → GrowsAhead files process clone defaults pool old None new → Answers files process clone defaults pool old None new
-  answers_none began started crew job reads width keeps grown =
+      → ReadsUpTo clone Knows (job_of old) (items_of old) (unread_of old) None (items_of new) (unread_of new) → width_of new ≡ width_of old → most_ahead pool new ≤ most_ahead pool old → ReadsStaySteady files process clone defaults pool old new → GrowsAhead files process clone defaults pool old None new → Answers files process clone defaults pool old None new
+  answers_none began started crew job reads width most keeps grown =
       let j = job_of old in
       let left = reads.2 in
       let none = reads.3.0 in
@@ -158,6 +159,7 @@ module _ {C S P A L R E : Type 0} (files : FileSystem.Ghosts S) (process : Proce
         lighter = tt;
         reads = rw began (inr reads);
         width = width;
+        most = most;
         steady = stays crew keeps (answered_placed clone Knows j (items_of old) (unread_of old) (by_crew old) None (items_of new) (unread_of new) reads);
         ahead = λ never goes_on. grown;
         kept = λ refused. absurd cc;
@@ -168,14 +170,14 @@ module _ {C S P A L R E : Type 0} (files : FileSystem.Ghosts S) (process : Proce
       }
 
   pub answers_reads : (answer : Option (Result (DirEntry C A R E) (Error A))) → old.refused ≡ false → new.refused ≡ false → by_crew new ≡ by_crew old → job_of new ≡ job_of old
-      → ReadsUpTo clone Knows (job_of old) (items_of old) (unread_of old) (option_map item answer) (items_of new) (unread_of new) → width_of new ≡ width_of old → ReadsStaySteady files process clone defaults pool old new → GrowsAhead files process clone defaults pool old (option_map item answer) new → Answers files process clone defaults pool old answer new
-  answers_reads None began started crew job reads width keeps grown = answers_none began started crew job reads width keeps grown
-  answers_reads (Some x) began started crew job reads width keeps grown = answers_some x began started crew job reads width keeps grown
+      → ReadsUpTo clone Knows (job_of old) (items_of old) (unread_of old) (option_map item answer) (items_of new) (unread_of new) → width_of new ≡ width_of old → most_ahead pool new ≤ most_ahead pool old → ReadsStaySteady files process clone defaults pool old new → GrowsAhead files process clone defaults pool old (option_map item answer) new → Answers files process clone defaults pool old answer new
+  answers_reads None began started crew job reads width most keeps grown = answers_none began started crew job reads width most keeps grown
+  answers_reads (Some x) began started crew job reads width most keeps grown = answers_some x began started crew job reads width most keeps grown
 
   -- the walk ends early below a directory
   pub answers_stopped : (error : Error A) → Tells (by_crew old) (failure error) → ((given : Given R E) → IsSteadyWalk files process clone defaults pool old given → Tells false (failure error)) → old.refused ≡ false → new.refused ≡ false → by_crew new ≡ by_crew old → job_of new ≡ job_of old → items_of new ≡ [] → unread_of new ≡ []
-      → StopsAtDirectory clone Knows (job_of old) (items_of old) (unread_of old) → width_of new ≡ width_of old → ReadsStaySteady files process clone defaults pool old new → read_ahead new ≡ nothing_ahead → Answers files process clone defaults pool old (Some (Err error)) new
-  answers_stopped error tells steadily began started crew job none no_unread stops width keeps nothing_left =
+      → StopsAtDirectory clone Knows (job_of old) (items_of old) (unread_of old) → width_of new ≡ width_of old → most_ahead pool new ≤ most_ahead pool old → ReadsStaySteady files process clone defaults pool old new → read_ahead new ≡ nothing_ahead → Answers files process clone defaults pool old (Some (Err error)) new
+  answers_stopped error tells steadily began started crew job none no_unread stops width most keeps nothing_left =
       let j = job_of old in
       let left = stops.2 in
       let at = stops.3 in
@@ -192,6 +194,7 @@ module _ {C S P A L R E : Type 0} (files : FileSystem.Ghosts S) (process : Proce
         lighter = rw (before, after) (omega (arith, left_lighter clone Knows j (items_of old) (unread_of old) left, heavy_at (greatest_depth j) stops.0 stops.1 at));
         reads = rw began (inl stopped);
         width = width;
+        most = most;
         steady = stays crew keeps (λ placed. unread_placed (by_crew old) (items_of new) (unread_of new) no_unread);
         ahead = λ never goes_on. absurd (goes_on stopped);
         kept = λ refused. absurd cc;
@@ -199,8 +202,8 @@ module _ {C S P A L R E : Type 0} (files : FileSystem.Ghosts S) (process : Proce
       }
 
   -- a walk that ran out of memory at its start yields the error that says so
-  pub answers_refusal : (error : Error A) → failure error ≡ memory → old.refused ≡ true → new.refused ≡ false → by_crew new ≡ by_crew old → job_of new ≡ job_of old → items_of new ≡ items_of old → unread_of new ≡ unread_of old → width_of new ≡ width_of old → ReadsStaySteady files process clone defaults pool old new → read_ahead new ≡ read_ahead old → Answers files process clone defaults pool old (Some (Err error)) new
-  answers_refusal error told refused started crew job items unread width keeps same_ahead =
+  pub answers_refusal : (error : Error A) → failure error ≡ memory → old.refused ≡ true → new.refused ≡ false → by_crew new ≡ by_crew old → job_of new ≡ job_of old → items_of new ≡ items_of old → unread_of new ≡ unread_of old → width_of new ≡ width_of old → most_ahead pool new ≤ most_ahead pool old → ReadsStaySteady files process clone defaults pool old new → read_ahead new ≡ read_ahead old → Answers files process clone defaults pool old (Some (Err error)) new
+  answers_refusal error told refused started crew job items unread width most keeps same_ahead =
       let front = held_refused old refused in
       let rest : held new ≡ pair_up (items_of old) (unread_of old) = held_rest new started ∙ ap (λ l. pair_up l (unread_of new)) items ∙ ap (pair_up (items_of old)) unread in
       record {
@@ -213,6 +216,7 @@ module _ {C S P A L R E : Type 0} (files : FileSystem.Ghosts S) (process : Proce
         lighter = rw (front, rest, job) (omega arith);
         reads = rw refused unread;
         width = width;
+        most = most;
         steady = stays crew keeps (λ placed. rw (items, unread) placed);
         ahead = λ began. absurd cc;
         kept = λ was. same_ahead;

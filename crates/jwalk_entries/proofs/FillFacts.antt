@@ -20,7 +20,7 @@ use Rattle.jwalk_read.specs.Given.{Given, counted_item}
 use Rattle.jwalk_read.specs.Job.{options_of, greatest_depth, job_by}
 use Rattle.jwalk_crew.specs.declared.pool.Pool as Pool
 use Rattle.jwalk_entries.specs.declared.dir_entry_iter.DirEntryIter.{DirEntryIter}
-use Rattle.jwalk_entries.specs.DirEntryIter.{by_crew, job_of, min_depth_of, width_of, held, weight_of, to_come, IsWithin, IsSourced, Stops, IsSteadyWalk, Answers, ComesFirst, EndsEarly, FillCalls, Fills}
+use Rattle.jwalk_entries.specs.DirEntryIter.{by_crew, job_of, min_depth_of, width_of, held, weight_of, to_come, most_ahead, IsWithin, IsSourced, Stops, IsSteadyWalk, Answers, ComesFirst, EndsEarly, FillCalls, Fills}
 use Rattle.jwalk_entries.proofs.AnswerFacts.{held_by_nothing}
 
 -- where nothing is held, nothing is yielded
@@ -45,6 +45,11 @@ module _ {C S P A L R E : Type 0} (files : FileSystem.Ghosts S) (process : Proce
   same_width : (xs : List (Result (DirEntry C A R E) (Error A))) (s t : DirEntryIter C S P A L R E) → Yields Steps s xs t → width_of t ≡ width_of s
   same_width [] s t same = ap width_of (sym same)
   same_width (x ∷ xs) s t (j, step, rest) = same_width xs j t rest ∙ step.width
+
+  -- nor may more readings be ahead then
+  fewer_ahead : (xs : List (Result (DirEntry C A R E) (Error A))) (s t : DirEntryIter C S P A L R E) → Yields Steps s xs t → most_ahead pool t ≤ most_ahead pool s
+  fewer_ahead [] s t same = rw (sym (ap (most_ahead pool) same)) (omega arith)
+  fewer_ahead (x ∷ xs) s t (j, step, rest) = omega (arith, step.most, fewer_ahead xs j t rest)
 
   -- every answer is between the least and the greatest depth
   within : (xs : List (Result (DirEntry C A R E) (Error A))) (s t : DirEntryIter C S P A L R E) → Yields Steps s xs t → IsWithin s → AllBetween (min_depth_of s) (greatest_depth (job_of s)) (map item xs) × IsWithin t
@@ -160,6 +165,7 @@ module _ {C S P A L R E : Type 0} (files : FileSystem.Ghosts S) (process : Proce
     crew = same_crew files process clone defaults pool sofar.answered old new sofar.calls;
     job = same_job files process clone defaults pool sofar.answered old new sofar.calls;
     width = same_width files process clone defaults pool sofar.answered old new sofar.calls;
+    most = fewer_ahead files process clone defaults pool sofar.answered old new sofar.calls;
     depths = within files process clone defaults pool sofar.answered old new sofar.calls;
     sourced = sourced files process clone defaults pool sofar.answered old new sofar.calls;
     lighter = lighter files process clone defaults pool sofar.answered old new sofar.calls;
@@ -180,6 +186,7 @@ module _ {C S P A L R E : Type 0} (files : FileSystem.Ghosts S) (process : Proce
     crew = same_crew files process clone defaults pool sofar.answered old new sofar.calls;
     job = same_job files process clone defaults pool sofar.answered old new sofar.calls;
     width = same_width files process clone defaults pool sofar.answered old new sofar.calls;
+    most = fewer_ahead files process clone defaults pool sofar.answered old new sofar.calls;
     depths = within files process clone defaults pool sofar.answered old new sofar.calls;
     sourced = sourced files process clone defaults pool sofar.answered old new sofar.calls;
     lighter = lighter files process clone defaults pool sofar.answered old new sofar.calls;
@@ -208,6 +215,7 @@ module _ {C S P A L R E : Type 0} (files : FileSystem.Ghosts S) (process : Proce
         crew = last.crew ∙ same_crew files process clone defaults pool sofar.answered old mid sofar.calls;
         job = last.job ∙ same;
         width = last.width ∙ same_width files process clone defaults pool sofar.answered old mid sofar.calls;
+        most = omega (arith, last.most, fewer_ahead files process clone defaults pool sofar.answered old mid sofar.calls);
         depths = λ h. let more = within files process clone defaults pool sofar.answered old mid sofar.calls h in (more.0, (last.depths more.1).1);
         sourced = λ h. last.sourced (sourced files process clone defaults pool sofar.answered old mid sofar.calls h);
         lighter = let nothing : weight_of new ≡ 0 = ap (value.weight (greatest_depth (job_of new))) last.ended in omega (arith, nothing, lighter files process clone defaults pool sofar.answered old mid sofar.calls);

@@ -1,5 +1,5 @@
 -- The next item is prepared, and then passed.
-use Rattle.std.proofs.Common.{◌≡◌, ◌≢◌, ◌⊎◌, ◌∙◌, Bool, true, List, [], ◌∷◌, ℕ, map, reverse, length, Option, Some, None, Result, Ok, Err, IsErr, IsErrAnd, OnErr, inl, inr, refl, sym, ap, subst, ⊎_elim}
+use Rattle.std.proofs.Common.{◌≡◌, ◌≢◌, ◌≤◌, ◌⊎◌, ◌∙◌, Bool, true, List, [], ◌∷◌, ℕ, map, reverse, length, Option, Some, None, Result, Ok, Err, IsErr, IsErrAnd, OnErr, inl, inr, refl, sym, ap, subst, arith, ⊎_elim}
 use Rattle.std.specs.Prelude.{OnOk}
 use Rattle.std.specs.declared.clone.Clone as Clone
 use Rattle.std.specs.declared.default.Default as Default
@@ -27,7 +27,7 @@ use Rattle.jwalk_readings.proofs.KnownFacts.{tells_refusal}
 use Rattle.jwalk_readings.proofs.ResultFacts.{none_ok, on_err, refused_not_lost, fewer_not_lost}
 use Rattle.jwalk_entries.specs.declared.dir_entry_iter.DirEntryIter.{DirEntryIter}
 use Rattle.jwalk_entries.specs.Step.{IsAtDirectory}
-use Rattle.jwalk_entries.specs.DirEntryIter.{by_crew, job_of, items_of, unread_of, width_of, frontier_of, read_ahead, position_of, ArePlaced, KnownAt, IsSteadyWalk, ReadsStaySteady, PassesOne, ReadsForNext, Prepares, Passes}
+use Rattle.jwalk_entries.specs.DirEntryIter.{by_crew, job_of, items_of, unread_of, width_of, frontier_of, read_ahead, position_of, most_ahead, ArePlaced, KnownAt, IsSteadyWalk, ReadsStaySteady, PassesOne, ReadsForNext, Prepares, Passes}
 use Rattle.jwalk_entries.proofs.AheadFacts.{passed_before}
 
 -- a directory is to be read below an entry that has one, where something is left to be read
@@ -58,7 +58,7 @@ module _ {C S P A L R E : Type 0} (files : FileSystem.Ghosts S) (process : Proce
     reads_unprepared (Err e) some = at some
 
   module _ (old mid new : DirEntryIter C S P A L R E) where
-    module _ (crew : by_crew mid ≡ by_crew old) (job : job_of mid ≡ job_of old) (refused : mid.refused ≡ old.refused) (width : width_of mid ≡ width_of old) (steady : ReadsStaySteady files process clone defaults pool old mid) (r : ReadsForNext files process clone defaults pool old mid) where
+    module _ (crew : by_crew mid ≡ by_crew old) (job : job_of mid ≡ job_of old) (refused : mid.refused ≡ old.refused) (width : width_of mid ≡ width_of old) (most : most_ahead pool mid ≤ most_ahead pool old) (steady : ReadsStaySteady files process clone defaults pool old mid) (r : ReadsForNext files process clone defaults pool old mid) where
       same_items : items_of mid ≡ items_of old
       same_items = ap (λ l. map item (reverse l.items)) r.items
 
@@ -98,6 +98,7 @@ module _ {C S P A L R E : Type 0} (files : FileSystem.Ghosts S) (process : Proce
         job = p.job ∙ job;
         refused = p.refused ∙ refused;
         width = p.width ∙ width;
+        most = omega (arith, p.most, most);
         steady = λ given counted. p.steady given (steady given counted);
         end = tt;
         passed = one_prepared (item x) p.passed;
@@ -110,6 +111,7 @@ module _ {C S P A L R E : Type 0} (files : FileSystem.Ghosts S) (process : Proce
         job = p.job ∙ job;
         refused = p.refused ∙ refused;
         width = p.width ∙ width;
+        most = omega (arith, p.most, most);
         steady = λ given counted. p.steady given (steady given counted);
         end = tt;
         passed = tt;
@@ -123,7 +125,7 @@ module _ {C S P A L R E : Type 0} (files : FileSystem.Ghosts S) (process : Proce
     prepared_passes done result p passes =
         ⊎_elim
         (λ (same : mid ≡ old). subst (λ m. Passes files process clone defaults pool m result new) same passes)
-        (λ (r : ReadsForNext files process clone defaults pool old mid). passes_after p.crew p.job p.refused p.width p.steady r result passes)
+        (λ (r : ReadsForNext files process clone defaults pool old mid). passes_after p.crew p.job p.refused p.width p.most p.steady r result passes)
         p.prepared
 
   -- and so is the failure of that call.
@@ -133,6 +135,7 @@ module _ {C S P A L R E : Type 0} (files : FileSystem.Ghosts S) (process : Proce
     job = p.job;
     refused = p.refused;
     width = p.width;
+    most = p.most;
     steady = p.steady;
     end = none_ok _ told failed;
     passed = none_ok _ told failed;

@@ -33,7 +33,7 @@ use Rattle.jwalk_readings.specs.ReadDirIter.{Tells}
 use Rattle.jwalk_readings.proofs.ResultFacts.{none_ok, on_err, fewer_not_lost, passed_not_lost}
 use Rattle.jwalk_entries.specs.declared.dir_entry_iter.DirEntryIter.{DirEntryIter}
 use Rattle.jwalk_entries.specs.Step.{IsAtDirectory, PassesNext, passed_plainly, passed_entering, LeavesOut, none_left_out, one_left_out, ReadsUpTo}
-use Rattle.jwalk_entries.specs.DirEntryIter.{Position, by_crew, job_of, min_depth_of, items_of, unread_of, width_of, frontier_of, position_of, Known, KnownAt, IsSteadyWalk, ReadsStaySteady, PassesOne, PassesMany, none_passed, GrowsAhead, Passes, GoesOn}
+use Rattle.jwalk_entries.specs.DirEntryIter.{Position, by_crew, job_of, min_depth_of, items_of, unread_of, width_of, frontier_of, position_of, most_ahead, Known, KnownAt, IsSteadyWalk, ReadsStaySteady, PassesOne, PassesMany, none_passed, GrowsAhead, Passes, GoesOn}
 use Rattle.jwalk_entries.proofs.PlacedFacts.{left_placed}
 use Rattle.jwalk_entries.proofs.AheadFacts.{grows, one_more, passed_before}
 
@@ -197,6 +197,7 @@ module _ {C S P A L R E : Type 0} (files : FileSystem.Ghosts S) (process : Proce
     pub job : job_of new ≡ job_of old
     pub refused : new.refused ≡ old.refused
     pub width : width_of new ≡ width_of old
+    pub most : most_ahead pool new ≤ most_ahead pool old
     pub steady : ReadsStaySteady files process clone defaults pool old new
     pub leaves : LeavesOut clone (Known files process clone defaults pool old) (job_of old) (items_of old) (unread_of old) (items_of new) (unread_of new)
     pub left_out : List (Item R E)
@@ -205,7 +206,7 @@ module _ {C S P A L R E : Type 0} (files : FileSystem.Ghosts S) (process : Proce
     pub passes : PassesMany files process clone defaults pool old (position_of old) left_out entered (position_of new)
 
   pub none_passed_over : (it : DirEntryIter C S P A L R E) → PassedOver it it
-  none_passed_over it = record { crew = refl; job = refl; refused = refl; width = refl; steady = λ given steady. steady; leaves = none_left_out; left_out = []; too_high = All-nil _; entered = 0; passes = none_passed }
+  none_passed_over it = record { crew = refl; job = refl; refused = refl; width = refl; most = omega arith; steady = λ given steady. steady; leaves = none_left_out; left_out = []; too_high = All-nil _; entered = 0; passes = none_passed }
 
   passes_by : (old mid new : DirEntryIter C S P A L R E) (passed : Result (DirEntry C A R E) (Error A)) → PassedOver old mid → Passes files process clone defaults pool mid (Ok (Some passed)) new → PassesOne files process clone defaults pool old (position_of mid) (item passed) (position_of new)
   passes_by old mid new passed over passes = passed_before files process clone defaults pool old mid over.crew over.job over.width over.steady passes.passed
@@ -253,6 +254,7 @@ module _ {C S P A L R E : Type 0} (files : FileSystem.Ghosts S) (process : Proce
         job = passes.job ∙ over.job;
         refused = passes.refused ∙ over.refused;
         width = passes.width ∙ over.width;
+        most = omega (arith, passes.most, over.most);
         steady = λ given steady. passes.steady given (over.steady given steady);
         left_out = over.left_out ++ item passed ∷ [];
         too_high = All-append Out over.left_out (item passed ∷ []) over.too_high (All-cons Out (item passed) [] left_out (All-nil Out));
@@ -280,6 +282,7 @@ module _ {C S P A L R E : Type 0} (files : FileSystem.Ghosts S) (process : Proce
     job = passes.job ∙ over.job;
     refused = passes.refused ∙ over.refused;
     width = passes.width ∙ over.width;
+    most = omega (arith, passes.most, over.most);
     steady = λ given steady. passes.steady given (over.steady given steady);
     reads = one_answered old mid new passed over passes kept;
     ahead = grows_to_answer old mid new passed over passes;
@@ -295,6 +298,7 @@ module _ {C S P A L R E : Type 0} (files : FileSystem.Ghosts S) (process : Proce
     job = passes.job ∙ over.job;
     refused = passes.refused ∙ over.refused;
     width = passes.width ∙ over.width;
+    most = omega (arith, passes.most, over.most);
     steady = λ given steady. passes.steady given (over.steady given steady);
     reads = none_answered old mid new over passes.end.0 passes.end.1;
     ahead = grows_to_end old mid new over passes.end.1;
@@ -310,6 +314,7 @@ module _ {C S P A L R E : Type 0} (files : FileSystem.Ghosts S) (process : Proce
     job = passes.job ∙ over.job;
     refused = passes.refused ∙ over.refused;
     width = passes.width ∙ over.width;
+    most = omega (arith, passes.most, over.most);
     steady = λ given steady. passes.steady given (over.steady given steady);
     reads = none_ok _ told failed;
     ahead = none_ok _ told failed;

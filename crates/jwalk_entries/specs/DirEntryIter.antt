@@ -187,6 +187,10 @@ module _ {C S P A L R E : Type 0} where
     pub told : answered ≡ before ++ Err memory ∷ []
     pub nothing_held : held new ≡ []
 
+-- at most how many readings a crew has made and not handed on: none where no crew reads
+abbrev pub most_ahead : {C S P A L R E : Type 0} → Pool.Ghosts L C S P A R E → DirEntryIter C S P A L R E → ℕ
+most_ahead pool it = readings.most_ahead pool it.reads
+
 module _ {C S P A L R E : Type 0} (files : FileSystem.Ghosts S) (process : ProcessReadDir.Ghosts P C A R E) (clone : Clone.Ghosts R) (defaults : Default.Ghosts E) (pool : Pool.Ghosts L C S P A R E) where
   -- A walk is steady over what is given: its job is, and what it read ahead, or its crew gives, is what the definition gives. A crew's readings are those of the directories below its items.
   pub record IsSteadyWalk (it : DirEntryIter C S P A L R E) (given : Given R E) : Type 0 where
@@ -263,6 +267,7 @@ module _ {C S P A L R E : Type 0} (files : FileSystem.Ghosts S) (process : Proce
     pub job : job_of new ≡ job_of old
     pub refused : new.refused ≡ old.refused
     pub width : width_of new ≡ width_of old
+    pub most : most_ahead pool new ≤ most_ahead pool old
     pub steady : ReadsStaySteady old new
     pub prepared : OnOk result ((new ≡ old) ⊎ ReadsForNext old new)
     pub stopped : OnErr result (IsAtDirectory (items_of old) (unread_of old))
@@ -273,6 +278,7 @@ module _ {C S P A L R E : Type 0} (files : FileSystem.Ghosts S) (process : Proce
     pub job : job_of new ≡ job_of old
     pub refused : new.refused ≡ old.refused
     pub width : width_of new ≡ width_of old
+    pub most : most_ahead pool new ≤ most_ahead pool old
     pub steady : ReadsStaySteady old new
     pub end : IfOk result (λ o. IfNone o ((items_of old ≡ []) × (position_of new ≡ position_of old)))
     pub passed : IfOk result (λ o. IfSome o (λ x. PassesOne old (position_of old) (item x) (position_of new)))
@@ -286,6 +292,7 @@ module _ {C S P A L R E : Type 0} (files : FileSystem.Ghosts S) (process : Proce
     pub job : job_of new ≡ job_of old
     pub refused : new.refused ≡ old.refused
     pub width : width_of new ≡ width_of old
+    pub most : most_ahead pool new ≤ most_ahead pool old
     pub steady : ReadsStaySteady old new
     pub reads : IfOk result (λ answer. ReadsUpTo clone (Known old) (job_of old) (items_of old) (unread_of old) (option_map item answer) (items_of new) (unread_of new))
     pub ahead : IfOk result (λ answer. GrowsAhead old (option_map item answer) new)
@@ -304,6 +311,7 @@ module _ {C S P A L R E : Type 0} (files : FileSystem.Ghosts S) (process : Proce
     pub lighter : IfSome answer (λ _. weight_of new < weight_of old)
     pub reads : ReadsItems old (option_map item answer) new
     pub width : width_of new ≡ width_of old
+    pub most : most_ahead pool new ≤ most_ahead pool old
     pub ahead : old.refused ≡ false → ¬ IsSomeAnd (option_map item answer) (λ a. Stops (by_crew old) a new) → GrowsAhead old (option_map item answer) new
     pub kept : old.refused ≡ true → read_ahead new ≡ read_ahead old
     pub steady : StaysSteady old new
@@ -329,6 +337,7 @@ module _ {C S P A L R E : Type 0} (files : FileSystem.Ghosts S) (process : Proce
     pub crew : by_crew new ≡ by_crew old
     pub job : job_of new ≡ job_of old
     pub width : width_of new ≡ width_of old
+    pub most : most_ahead pool new ≤ most_ahead pool old
     pub depths : IsWithin old → AllBetween (min_depth_of old) (greatest_depth (job_of old)) (map item answered) × IsWithin new
     pub sourced : IsSourced old → IsSourced new
     pub lighter : weight_of new + length answered ≤ weight_of old

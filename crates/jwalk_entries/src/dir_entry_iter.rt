@@ -60,7 +60,7 @@ impl<
     A: Allocator + Copy,
     L: Pool<C, S, P, A>,
 > DirEntryIter<C, S, P, A, L> {
-    ghost use Rattle.std.specs.Prelude.{◌++◌, [], false, length, OnOk, IsSome, IfSome, IfNone, IsSomeAnd, option_map, map};
+    ghost use Rattle.std.specs.Prelude.{◌≤◌, ◌++◌, [], false, length, OnOk, IsSome, IfSome, IfNone, IsSomeAnd, option_map, map};
     ghost use Rattle.walk_model.specs.Entry.{AtDepth};
     ghost use Rattle.walk_model.specs.ReadDir.{children, AreClones};
     ghost use Rattle.walk_model.specs.Listing.{paired, is_answered};
@@ -69,7 +69,7 @@ impl<
     ghost use Rattle.jwalk_read.specs.Options as options;
     ghost use Rattle.jwalk_read.specs.Job.{options_of};
     ghost use Rattle.jwalk_readings.specs.ReadAhead.{nothing_ahead, BeginsWith};
-    ghost use Rattle.jwalk_entries.specs.DirEntryIter.{reads_of, by_crew, is_refused, job_of, min_depth_of, items_of, unread_of, width_of, read_ahead, early_of, held_by, IsWithin, IsSourced, IsRefused, ReadsStaySteady, Passes, GoesOn, Answers, AnswersWhatCame, Fills, Counts};
+    ghost use Rattle.jwalk_entries.specs.DirEntryIter.{reads_of, by_crew, is_refused, job_of, min_depth_of, items_of, unread_of, width_of, read_ahead, early_of, held_by, IsWithin, IsSourced, IsRefused, most_ahead, ReadsStaySteady, Passes, GoesOn, Answers, AnswersWhatCame, Fills, Counts};
     ghost use Rattle.jwalk_entries.specs.Step.{Receives};
 
     /// Returns a walk whose start ran out of memory: it yields the error that reports it, and nothing else. The call
@@ -177,6 +177,7 @@ impl<
         ensures items { items_of self.new ≡ [] }
         ensures unread { unread_of self.new ≡ [] }
         ensures read_ahead { read_ahead self.new ≡ nothing_ahead }
+        ensures most { most_ahead L.Pool self.new ≡ 0 }
         ensures steady { ReadsStaySteady S.FileSystem P.ProcessReadDir C.ReadDirState.Clone C.DirEntryState.Default
             L.Pool self.old self.new }
     {
@@ -328,9 +329,11 @@ impl<
     }
 
     /// Returns how many directories were read whose readings are not yet handed on. A serial walk reads none ahead.
-    /// Over a crew the number changes while the workers read, and the call may block for a lock.
+    /// Over a crew the number changes while the workers read, but it is at most one more than the crew's limit; the call
+    /// may block for a lock.
     pub fn ahead(&self) -> usize
-        ensures { by_crew self.now ≡ false → result ≡ length (early_of self.now) }
+        ensures alone { by_crew self.now ≡ false → result ≡ length (early_of self.now) }
+        ensures crew { by_crew self.now ≡ true → result ≤ most_ahead L.Pool self.now }
     {
         self.reads.ahead()
     }

@@ -31,7 +31,7 @@ use Rattle.jwalk_readings.specs.BatchReads.{BatchReads, PassesAddress, IsSteadyW
 use Rattle.jwalk_crew.specs.declared.pool.Pool as Pool
 use Rattle.jwalk_readings.specs.declared.read_dir_iter.ReadDirIter.{ReadDirIter}
 use Rattle.jwalk_readings.specs.declared.read_dir_iter.ReadDirIter.TheVariants.{Walk, CrewWalk}
-use Rattle.jwalk_readings.specs.ReadDirIter.{by_crew, job_of, to_read, width_of, read_ahead, early_of, frontier_of, next_address, Tells, GivesError, GivesFirst, GivesPreorder, Known, EntersNextBy, IsSteadyReads, StartsSteady, StaysSteady, Gives}
+use Rattle.jwalk_readings.specs.ReadDirIter.{by_crew, job_of, to_read, width_of, read_ahead, early_of, frontier_of, next_address, Tells, GivesError, GivesFirst, GivesPreorder, most_ahead, Known, EntersNextBy, IsSteadyReads, StartsSteady, StaysSteady, Gives}
 use Rattle.jwalk_readings.proofs.KnownFacts.{tells_memory, clones_if_steady, known_if_steady}
 
 module _ {C S P A R E : Type 0} (clone : Clone.Ghosts R) (known : Spec R → Outcome R E → Type 0) (job : Job C S P A R E) (old new : List (Spec R)) where
@@ -79,18 +79,19 @@ fewer_done old new width fewer = rw (sym (as_many new.board), sym (as_many old.b
 module _ {C S P A L R E : Type 0} (files : FileSystem.Ghosts S) (process : ProcessReadDir.Ghosts P C A R E) (clone : Clone.Ghosts R) (defaults : Default.Ghosts E) (pool : Pool.Ghosts L C S P A R E) (old new : ReadDirIter C S P A L R E) where
   -- one call that read on
   pub gives_read : (may_lose : Bool) (read : Option (Result (ReadDir C A R E) (Error A))) → by_crew new ≡ by_crew old → job_of new ≡ job_of old → width_of new ≡ width_of old → length (early_of new) + 1 ≤ length (early_of old) + width_of old
-      → StaysSteady files process clone defaults pool old new
+      → most_ahead pool new ≤ most_ahead pool old → StaysSteady files process clone defaults pool old new
       → ReadsNextBy clone (Known files process clone defaults pool old) (greatest_depth (job_of old)) (to_read old) (option_map outcome read) (to_read new)
       → EntersNextBy files process clone defaults (by_crew old) (job_of old) (width_of old) (next_address old) (read_ahead old) (option_map outcome read) (read_ahead new)
       → PassesAddress (frontier_of old) (option_map outcome read) (frontier_of new)
       → Gives files process clone defaults pool may_lose old read new
-  gives_read may_lose read crew job width ahead steady next enters passes = record {
+  gives_read may_lose read crew job width ahead most steady next enters passes = record {
     crew = crew;
     job = job;
     width = width;
     enters = inr enters;
     passes = inr passes;
     ahead = ahead;
+    most = most;
     steady = steady;
     first = inr next;
     preorder = λ given counted. given_in_preorder clone (Known files process clone defaults pool old) (job_of old) (to_read old) (to_read new) files given (clones_if_steady files process clone defaults pool old given counted) (known_if_steady files process clone defaults pool old given counted) may_lose (option_map outcome read) (inr next);
@@ -98,9 +99,9 @@ module _ {C S P A L R E : Type 0} (files : FileSystem.Ghosts S) (process : Proce
 
   -- one call that ends the readings early
   pub gives_stopped : (may_lose : Bool) (error : Error A) → Tells (by_crew old) (failure error) → ((given : Given R E) → IsSteadyReads files process clone defaults pool old given → Tells may_lose (failure error)) → by_crew new ≡ by_crew old → job_of new ≡ job_of old → width_of new ≡ width_of old → length (early_of new) + 1 ≤ length (early_of old) + width_of old
-      → StaysSteady files process clone defaults pool old new → to_read old ≢ [] → to_read new ≡ [] → read_ahead new ≡ nothing_ahead
+      → most_ahead pool new ≤ most_ahead pool old → StaysSteady files process clone defaults pool old new → to_read old ≢ [] → to_read new ≡ [] → read_ahead new ≡ nothing_ahead
       → Gives files process clone defaults pool may_lose old (Some (Err error)) new
-  gives_stopped may_lose error tells steadily crew job width ahead steady some none nothing =
+  gives_stopped may_lose error tells steadily crew job width ahead most steady some none nothing =
       let told : GivesError {R = R} {E = E} (by_crew old) (Some (Err (failure error))) = record { error = failure error; told = refl; tells = tells } in
       record {
         crew = crew;
@@ -109,6 +110,7 @@ module _ {C S P A L R E : Type 0} (files : FileSystem.Ghosts S) (process : Proce
         enters = inl (told, nothing);
         passes = inl told;
         ahead = ahead;
+        most = most;
         steady = steady;
         first = inl (told, some, none);
         preorder = λ given counted. inl (record { error = failure error; told = refl; tells = steadily given counted }, ap (map (counted_spec given)) none);
@@ -131,6 +133,7 @@ gives_any files process clone defaults pool b old new read gives = record {
   enters = gives.enters;
   passes = gives.passes;
   ahead = gives.ahead;
+  most = gives.most;
   steady = gives.steady;
   first = gives.first;
   preorder = λ given steady. none_lost b _ _ _ _ _ (gives.preorder given steady);
@@ -140,6 +143,11 @@ gives_any files process clone defaults pool b old new read gives = record {
 pub some_of : {X Y : Type 0} (P : Type 0) (f : X → Y) (o : Option X) → IfSome (option_map f o) (λ _. P) → IfSome o (λ _. P)
 some_of P f None h = tt
 some_of P f (Some x) h = h
+
+-- where no crew reads, none of its readings is ahead
+pub alone_most : {C S P A L R E : Type 0} (pool : Pool.Ghosts L C S P A R E) (it : ReadDirIter C S P A L R E) → by_crew it ≡ false → most_ahead pool it ≡ 0
+alone_most pool (Walk walk) own = refl
+alone_most pool (CrewWalk reads) own = absurd cc
 
 steady_board : {C S P A R E : Type 0} (files : FileSystem.Ghosts S) (process : ProcessReadDir.Ghosts P C A R E) (clone : Clone.Ghosts R) (defaults : Default.Ghosts E) (walk : BatchReads C S P A R E) (given : Given R E) → IsSteadyJob files process clone defaults walk.job given → (board.read_ahead walk).done ≡ [] → IsSteadyWalk files process clone defaults walk given
 steady_board files process clone defaults walk given steady none =

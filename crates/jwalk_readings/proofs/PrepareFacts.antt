@@ -23,7 +23,7 @@ use Rattle.jwalk_readings.specs.ReadAhead.{ReadAhead, HandsOnAt, ReadsLeast, Mak
 use Rattle.jwalk_readings.proofs.BatchPrepareFacts.{ready_enters}
 use Rattle.jwalk_crew.specs.declared.pool.Pool as Pool
 use Rattle.jwalk_readings.specs.declared.read_dir_iter.ReadDirIter.{ReadDirIter}
-use Rattle.jwalk_readings.specs.ReadDirIter.{by_crew, job_of, to_read, width_of, read_ahead, early_of, next_address, GivesError, GivesFirst, Known, EntersBy, EntersFirst, IsSteadyReads, StaysSteady, ReadsForNext, Prepares, Gives}
+use Rattle.jwalk_readings.specs.ReadDirIter.{by_crew, job_of, to_read, width_of, read_ahead, early_of, next_address, GivesError, GivesFirst, most_ahead, Known, EntersBy, EntersFirst, IsSteadyReads, StaysSteady, ReadsForNext, Prepares, Gives}
 use Rattle.jwalk_readings.proofs.KnownFacts.{tells_memory, known_by}
 use Rattle.jwalk_readings.proofs.GivesFacts.{gives_stopped}
 
@@ -64,7 +64,7 @@ reads_known clone known more within deep depth is old mid new same (Some o) read
     }
 
 module _ {C S P A L R E : Type 0} (files : FileSystem.Ghosts S) (process : ProcessReadDir.Ghosts P C A R E) (clone : Clone.Ghosts R) (defaults : Default.Ghosts E) (pool : Pool.Ghosts L C S P A R E) (old mid new : ReadDirIter C S P A L R E) where
-  module _ (crew : by_crew mid ≡ by_crew old) (job : job_of mid ≡ job_of old) (width : width_of mid ≡ width_of old) (wide : 1 ≤ width_of old) (steady : StaysSteady files process clone defaults pool old mid) (r : ReadsForNext files process clone defaults pool old mid) where
+  module _ (crew : by_crew mid ≡ by_crew old) (job : job_of mid ≡ job_of old) (width : width_of mid ≡ width_of old) (wide : 1 ≤ width_of old) (most : most_ahead pool mid ≤ most_ahead pool old) (steady : StaysSteady files process clone defaults pool old mid) (r : ReadsForNext files process clone defaults pool old mid) where
     known_prepared : (s : Spec R) (o : Outcome R E) → Known files process clone defaults pool mid s o → Known files process clone defaults pool old s o
     known_prepared s o known =
         known_by files process clone defaults pool (by_crew old) (IsSteadyReads files process clone defaults pool mid) (IsSteadyReads files process clone defaults pool old) (job_of old) (next_address old) steady s o
@@ -103,6 +103,7 @@ module _ {C S P A L R E : Type 0} (files : FileSystem.Ghosts S) (process : Proce
           enters = enters;
           passes = rw (crew, r.frontier) at g.passes;
           ahead = ahead_after (outcome read) enters;
+          most = omega (arith, g.most, most);
           steady = λ given counted. g.steady given (steady given counted);
           first = first_prepared (Some (outcome read)) g.first;
           preorder = λ given counted. rw (job, r.same) at (g.preorder given (steady given counted));
@@ -113,10 +114,10 @@ module _ {C S P A L R E : Type 0} (files : FileSystem.Ghosts S) (process : Proce
   prepared_gives done read p g =
       ⊎_elim
       (λ (same : mid ≡ old). subst (λ m. Gives files process clone defaults pool false m read new) same g)
-      (λ (r : ReadsForNext files process clone defaults pool old mid). gives_after p.crew p.job p.width p.wide p.steady r read g)
+      (λ (r : ReadsForNext files process clone defaults pool old mid). gives_after p.crew p.job p.width p.wide p.most p.steady r read g)
       p.prepared
 
   -- and so is the error that reports that it failed.
   pub not_prepared_gives : {F : Type 0} (refused : F) (error : Error A) → failure error ≡ memory → Prepares files process clone defaults pool old (Err refused) new → Gives files process clone defaults pool false old (Some (Err error)) new
   not_prepared_gives refused error is p =
-      gives_stopped files process clone defaults pool old new false error (tells_memory (by_crew old) (failure error) is) (λ given counted. is) p.crew p.job p.width (omega (arith, ap (λ a. length a.done) p.nothing, p.wide)) p.steady p.some p.stopped p.nothing
+      gives_stopped files process clone defaults pool old new false error (tells_memory (by_crew old) (failure error) is) (λ given counted. is) p.crew p.job p.width (omega (arith, ap (λ a. length a.done) p.nothing, p.wide)) p.most p.steady p.some p.stopped p.nothing

@@ -22,6 +22,11 @@ pub none_on_ok : {T F : Type 0} (P : Type 0) (r : Result T F) → IsErr r → On
 none_on_ok P (Ok x) failed = let no : false ≡ true = failed in absurd cc
 none_on_ok P (Err e) failed = tt
 
+-- nothing is said of a value that isn't there
+pub ok_none : {T F X : Type 0} (P : T → X → Type 0) (o : Option X) (r : Result T F) → o ≡ None → IfOk r (λ t. IfSome o (P t))
+ok_none P o (Ok t) none = rw none tt
+ok_none P o (Err e) none = tt
+
 -- what is said of a value is said of one that an `Ok` shows to be the same
 pub on_ok_as : {T F X : Type 0} (P : X → Type 0) (x y : X) (r : Result T F) → OnOk r (x ≡ y) → P y → OnOk r (P x)
 on_ok_as P x y (Ok t) same holds = subst P (sym same) holds

@@ -89,6 +89,11 @@ abbrev pub awaited : {L : Type 0} → Option L → List (List ℕ) → List (Lis
 awaited None addresses = []
 awaited (Some pool) addresses = addresses
 
+-- at most how many readings a pool has made and not handed on: none where there is no pool
+abbrev pub most_ready : {L : Type 0} → (L → ℕ) → Option L → ℕ
+most_ready most None = 0
+most_ready most (Some pool) = most pool
+
 -- A pool is made for a walk, and still has to give the readings at these addresses.
 abbrev pub IsMadeFor : {C S P A L R E : Type 0} → Pool.Ghosts L C S P A R E → L → Origin C S P A R E → List (List ℕ) → Type 0
 IsMadeFor pool p origin addresses = pool.comes_from p origin × (pool.awaits p ≡ addresses)
@@ -97,6 +102,10 @@ IsMadeFor pool p origin addresses = pool.comes_from p origin × (pool.awaits p �
 pub record BeginsBy {C S P A L R E : Type 0} (made : L → Origin C S P A R E → List (List ℕ) → Type 0) (it : CrewReads C S P A L R E) : Type 0 where
   pub addresses : it.matcher ≡ frontier.roots (length (to_read it))
   pub pool : IsSomeAnd it.pool (λ p. made p (record { job = job_of it; roots = to_read it }) it.matcher)
+
+-- at most how many of a crew's readings are made and not handed on: none once they were stopped
+abbrev pub most_ahead : {C S P A L R E : Type 0} → Pool.Ghosts L C S P A R E → CrewReads C S P A L R E → ℕ
+most_ahead pool it = most_ready pool.most it.pool
 
 module _ {C S P A L R E : Type 0} (files : FileSystem.Ghosts S) (process : ProcessReadDir.Ghosts P C A R E) (clone : Clone.Ghosts R) (defaults : Default.Ghosts E) (pool : Pool.Ghosts L C S P A R E) where
   -- What a pool gives at these addresses are readings of these directories, over what is given. The job is steady and makes the pool's readings, which come at these addresses. These directories are there, below those that the pool began with.

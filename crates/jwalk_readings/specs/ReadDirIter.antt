@@ -66,6 +66,11 @@ module _ {C S P A L R E : Type 0} where
   abbrev pub next_address : ReadDirIter C S P A L R E → List ℕ
   next_address it = frontier.next_address (frontier_of it)
 
+-- at most how many readings a crew has made and not handed on: none where no crew reads
+abbrev pub most_ahead : {C S P A L R E : Type 0} → Pool.Ghosts L C S P A R E → ReadDirIter C S P A L R E → ℕ
+most_ahead pool (Walk walk) = 0
+most_ahead pool (CrewWalk reads) = crew.most_ahead pool reads
+
 -- The error says why the readings end early: memory ran out, or a crew's reading won't come.
 abbrev pub Tells : Bool → Failure → Type 0
 Tells false f = f ≡ memory
@@ -149,6 +154,7 @@ module _ {C S P A L R E : Type 0} (files : FileSystem.Ghosts S) (process : Proce
     pub job : job_of new ≡ job_of old
     pub width : width_of new ≡ width_of old
     pub wide : 1 ≤ width_of old
+    pub most : most_ahead pool new ≤ most_ahead pool old
     pub steady : StaysSteady old new
     pub prepared : OnOk result ((new ≡ old) ⊎ ReadsForNext old new)
     pub ready : OnOk result (by_crew old ≡ false → (to_read new ≡ []) ⊎ IsAmong (next_address new) (early_of new))
@@ -164,6 +170,7 @@ module _ {C S P A L R E : Type 0} (files : FileSystem.Ghosts S) (process : Proce
     pub enters : EntersFirst files process clone defaults old (option_map outcome given) new
     pub passes : PassesFirst (by_crew old) (frontier_of old) (option_map outcome given) (frontier_of new)
     pub ahead : length (early_of new) + 1 ≤ length (early_of old) + width_of old
+    pub most : most_ahead pool new ≤ most_ahead pool old
     pub steady : StaysSteady old new
     pub first : GivesFirst (by_crew old) clone (Known old) (greatest_depth (job_of old)) (to_read old) (option_map outcome given) (to_read new)
     pub preorder : (value : Given R E) → IsSteadyReads old value

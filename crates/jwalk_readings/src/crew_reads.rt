@@ -1,5 +1,5 @@
 //! Readings that a crew makes ahead.
-ghost use Rattle.std.specs.Prelude.{◌≡◌, ◌≢◌, ◌↔◌, ◌∷◌, ◌++◌, true, false, IsTrue, Ok, [], length, map, IfOk, IfErr, MatchResult, OnErr, OnOk, option_map};
+ghost use Rattle.std.specs.Prelude.{◌≡◌, ◌≢◌, ◌≤◌, ◌↔◌, ◌∷◌, ◌++◌, true, false, IsTrue, Ok, [], length, map, IfOk, IfErr, MatchResult, OnErr, OnOk, option_map};
 ghost use Rattle.std.specs.Arc.{arc_value};
 ghost use Rattle.walk_model.specs.ReadDir.{children_of};
 ghost use Rattle.jwalk_order.specs.Frontier.{passed};
@@ -10,7 +10,7 @@ ghost use Rattle.jwalk_read.specs.ReadDir.{outcome};
 ghost use Rattle.jwalk_read.specs.Job.{greatest_depth, IsReadingBy, IsGivenOver};
 ghost use Rattle.jwalk_readings.specs.Reads.{StacksChildren, ReadsNextBy};
 ghost use Rattle.jwalk_readings.specs.BatchReads.{PassesAddress};
-ghost use Rattle.jwalk_readings.specs.CrewReads.{job_of, to_read, frontier_of, next_address, IsBelow, IsNextBelow, IsTold, BeginsBy, NotLost, IsSteadyOver, IsSteadyBefore, IsSteadyCrew, StartsSteady, StaysSteady, ReadsSteadily, failure_of};
+ghost use Rattle.jwalk_readings.specs.CrewReads.{job_of, to_read, frontier_of, next_address, IsBelow, IsNextBelow, IsTold, BeginsBy, NotLost, most_ahead, IsSteadyOver, IsSteadyBefore, IsSteadyCrew, StartsSteady, StaysSteady, ReadsSteadily, failure_of};
 ghost use Rattle.jwalk_readings.specs.ReadDirIter.{KnownBy};
 
 pub mod started;
@@ -96,6 +96,7 @@ impl<
         ensures made { MatchResult result
             (λ reads. (job_of reads ≡ job) × (to_read reads ≡ []))
             (λ back. back ≡ job) }
+        ensures most { IfOk result (λ reads. most_ahead L.Pool reads ≡ 0) }
         ensures steady { IfOk result (StartsSteady S.FileSystem P.ProcessReadDir C.ReadDirState.Clone
             C.DirEntryState.Default L.Pool) }
     {
@@ -156,6 +157,7 @@ impl<
     fn read(&mut self, of: &ReadDirSpec<C, A>) -> Result<(Outcome<C, A>, usize), Missed>
         ensures job { job_of self.new ≡ job_of self.old }
         ensures to_read { to_read self.new ≡ to_read self.old }
+        ensures most { most_ahead L.Pool self.new ≡ most_ahead L.Pool self.old }
         ensures told { IfOk result (λ read. IsTold S.FileSystem P.ProcessReadDir C.ReadDirState.Clone
             C.DirEntryState.Default (job_of self.old) (next_address self.old) (spec of.now) (outcome read.0)) }
         ensures passed { IfOk result (λ read. frontier_of self.new ≡ passed (frontier_of self.old) read.1) }
@@ -194,6 +196,7 @@ impl<
     /// has another count than the number of directories in it.
     fn enter(&mut self, of: ReadDirSpec<C, A>) -> Result<Outcome<C, A>, Missed>
         ensures job { job_of self.new ≡ job_of self.old }
+        ensures most { most_ahead L.Pool self.new ≡ most_ahead L.Pool self.old }
         ensures reading { IfOk result (λ read. IsReadingBy (IsTold S.FileSystem P.ProcessReadDir
             C.ReadDirState.Clone C.DirEntryState.Default (job_of self.old) (next_address self.old))
             (greatest_depth (job_of self.old)) (spec of) (outcome read)) }
@@ -232,6 +235,7 @@ impl<
             C.DirEntryState.Default L.Pool self.old)) }
         ensures some { OnErr result (to_read self.old ≢ []) }
         ensures stopped { OnErr result (to_read self.new ≡ []) }
+        ensures most { most_ahead L.Pool self.new ≤ most_ahead L.Pool self.old }
         ensures steady { StaysSteady S.FileSystem P.ProcessReadDir C.ReadDirState.Clone C.DirEntryState.Default
             L.Pool self.old self.new }
         ensures next { IfOk result (λ o. ReadsNextBy C.ReadDirState.Clone (KnownBy S.FileSystem P.ProcessReadDir
@@ -254,7 +258,9 @@ impl<
     }
 
     /// Returns how many readings were made and not handed on.
-    pub(crate) fn ahead(&self) -> usize {
+    pub(crate) fn ahead(&self) -> usize
+        ensures { result ≤ most_ahead L.Pool self.now }
+    {
         match &self.pool {
             Some(pool) => pool.ahead(),
             None => 0,
@@ -265,6 +271,7 @@ impl<
     pub(crate) fn stop(&mut self)
         ensures job { job_of self.new ≡ job_of self.old }
         ensures to_read { to_read self.new ≡ [] }
+        ensures most { most_ahead L.Pool self.new ≡ 0 }
         ensures steady { StartsSteady S.FileSystem P.ProcessReadDir C.ReadDirState.Clone C.DirEntryState.Default
             L.Pool self.new }
     {

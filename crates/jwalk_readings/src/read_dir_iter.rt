@@ -74,7 +74,7 @@ impl<
     ghost use Rattle.jwalk_readings.specs.ReadAhead.{nothing_ahead, BeginsWith};
     ghost use Rattle.jwalk_readings.specs.BatchReads.{PassesAddress};
     ghost use Rattle.jwalk_readings.specs.CrewReads.{failure_of, IsNextBelow, NotLost};
-    ghost use Rattle.jwalk_readings.specs.ReadDirIter.{by_crew, job_of, to_read, width_of, read_ahead, early_of, frontier_of, next_address, Tells, IsSteadyReads, StaysSteady, Known, KnownOf, EntersNextBy, GivesFirst, Gives};
+    ghost use Rattle.jwalk_readings.specs.ReadDirIter.{by_crew, job_of, to_read, width_of, read_ahead, early_of, frontier_of, next_address, Tells, most_ahead, IsSteadyReads, StaysSteady, Known, KnownOf, EntersNextBy, GivesFirst, Gives};
 
     /// Returns readings with nothing to read yet, by no crew.
     pub fn new(alloc: A, job: Job<C, S, P, A>, mode: Mode) -> Self
@@ -140,6 +140,7 @@ impl<
         ensures some { OnErr result (to_read self.old ≢ []) }
         ensures stopped { OnErr result (to_read self.new ≡ []) }
         ensures nothing_ahead { OnErr result (read_ahead self.new ≡ nothing_ahead) }
+        ensures most { most_ahead L.Pool self.new ≤ most_ahead L.Pool self.old }
         ensures steady { StaysSteady S.FileSystem P.ProcessReadDir C.ReadDirState.Clone C.DirEntryState.Default L.Pool
             self.old self.new }
         ensures next { IfOk result (λ o. ReadsNextBy C.ReadDirState.Clone
@@ -220,10 +221,11 @@ impl<
         }
     }
 
-    /// Returns how many readings were made and not handed on. Over a crew it changes while the workers read, and the
-    /// call may block for a lock.
+    /// Returns how many readings were made and not handed on. Over a crew it changes while the workers read, but is at
+    /// most one more than the crew's limit, and the call may block for a lock.
     pub fn ahead(&self) -> usize
-        ensures { by_crew self.now ≡ false → result ≡ length (early_of self.now) }
+        ensures alone { by_crew self.now ≡ false → result ≡ length (early_of self.now) }
+        ensures crew { by_crew self.now ≡ true → result ≤ most_ahead L.Pool self.now }
     {
         match self {
             ReadDirIter::Walk(walk) => walk.ahead(),
@@ -238,6 +240,7 @@ impl<
         ensures width { width_of self.new ≡ width_of self.old }
         ensures to_read { to_read self.new ≡ [] }
         ensures read_ahead { read_ahead self.new ≡ nothing_ahead }
+        ensures most { most_ahead L.Pool self.new ≡ 0 }
         ensures steady { StaysSteady S.FileSystem P.ProcessReadDir C.ReadDirState.Clone C.DirEntryState.Default L.Pool
             self.old self.new }
     {

@@ -92,6 +92,8 @@ impl<S: FileSystem> Pool<States, S, NoProcess, Global> for OwnPool<S> {
 
     ghost awaits = { λ p. addresses_of (stacked p.waiting.items) };
 
+    ghost most = { λ _. 0 };
+
     fn next(&mut self, wanted: &Wanted) -> Result<Ordered<Message<States, S, NoProcess>>, Missed> {
         let job = self.job.clone()?;
         let Some((address, of)) = self.waiting.pop() else {

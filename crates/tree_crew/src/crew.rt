@@ -1,5 +1,6 @@
 //! A crew, which serves several walks at once.
-ghost use Rattle.std.specs.Prelude.{◌≡◌, min, max};
+ghost use Rattle.std.specs.Prelude.{◌≡◌, min, max, IfOk};
+ghost use Rattle.std.specs.Arc.{arc_value};
 ghost use Rattle.tree_crew.specs.Crew.{limit_of, workers_of};
 
 use crate::places::Places;
@@ -164,10 +165,9 @@ impl<R: Wait + Clock + Drop, A: Allocator + Copy> Place<R, A> {
     /// # Errors
     ///
     /// `Busy` if no place was free in time. `Memory` if memory ran out for sharing the crew.
-    pub fn take(
-        crew: &Arc<Crew<R>, A>,
-        busy_timeout: Option<Duration>,
-    ) -> Result<Self, NotStarted> {
+    pub fn take(crew: &Arc<Crew<R>, A>, busy_timeout: Option<Duration>) -> Result<Self, NotStarted>
+        ensures { IfOk result (λ place. arc_value place.crew ≡ arc_value crew.now) }
+    {
         let Ok(crew) = crew.clone() else {
             return Err(NotStarted::Memory);
         };

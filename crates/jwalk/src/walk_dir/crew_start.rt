@@ -1,15 +1,17 @@
 //! The start of a walk over a crew.
-ghost use Rattle.std.specs.Prelude.{◌≡◌, ◌⊎◌, true, [], map, IfSome, OnErr, OnOk, Some, option_map};
+ghost use Rattle.std.specs.Prelude.{◌≡◌, ◌≤◌, ◌⊎◌, ◌+◌, max, true, [], map, IfSome, OnErr, OnOk, Some, option_map};
+ghost use Rattle.std.specs.Arc.{arc_value};
 ghost use Rattle.walk_model.specs.Entry.{AtDepth};
 ghost use Rattle.walk_model.specs.Options as parallelism;
 ghost use Rattle.walk_model.specs.ReadDir.{children, AreClones};
 ghost use Rattle.jwalk_read.specs.Entry.{item};
 ghost use Rattle.jwalk_read.specs.ReadDir.{reading};
 ghost use Rattle.jwalk_read.specs.Job.{callback};
+ghost use Rattle.tree_crew.specs.Crew.{limit_of};
 ghost use Rattle.jwalk_crew.specs.Session.{origin_of, awaited_by};
 ghost use Rattle.jwalk_readings.specs.CrewReads as reads_by;
 ghost use Rattle.jwalk.specs.CrewStart.{busied, left_of, is_refusal, IsFromRoot};
-ghost use Rattle.jwalk_entries.specs.DirEntryIter.{reads_of, is_refused, by_crew, job_of, items_of, StartsSteady};
+ghost use Rattle.jwalk_entries.specs.DirEntryIter.{reads_of, is_refused, by_crew, job_of, items_of, most_ahead, StartsSteady};
 
 use crate::walk_dir::WalkDirGeneric;
 use jwalk_crew::pool::Pool;
@@ -119,6 +121,7 @@ pub(super) fn from_root_alone<
 ) -> (DirEntryIter<C, S, P, A, L>, Option<NotStarted>)
     requires { IfSome read (λ r. AtDepth 0 (reading r).list) }
     ensures from_root { IsFromRoot C.ReadDirState.Clone (option_map reading read) job result.1 result.0 }
+    ensures most { most_ahead L.Pool result.0 ≡ 0 }
     ensures steady { StartsSteady S.FileSystem P.ProcessReadDir C.ReadDirState.Clone C.DirEntryState.Default
         L.Pool result.0 }
 {
@@ -151,6 +154,8 @@ where
         (children (reading read.now)) (reads_by.to_read reads.new)) }
     ensures begins { OnOk result (reads_by.BeginsBy (λ session origin addresses.
         (origin_of session ≡ origin) × (awaited_by session ≡ addresses)) reads.new) }
+    ensures most { OnOk result (reads_by.most_ahead ⟦<Session<R, C, S, P, A> as Pool<C, S, P, A>>⟧ reads.new
+        ≡ limit_of (arc_value crew.now) + 1) }
     ensures unchanged { OnErr result (reads.new ≡ reads.old) }
 {
     let own = read.read_children_specs()?;
@@ -186,6 +191,8 @@ where
         ensures by { by_crew result.0 ≡ true }
         ensures job { job_of result.0 ≡ reads_by.job_of reads }
         ensures begun { IsBegun C.ReadDirState.Clone (Some (reading read)) result.1 result.0 }
+        ensures most { most_ahead ⟦<Session<R, C, S, P, A> as Pool<C, S, P, A>>⟧ result.0
+            ≤ max (reads_by.most_ahead ⟦<Session<R, C, S, P, A> as Pool<C, S, P, A>>⟧ reads) (limit_of (arc_value crew.now) + 1) }
         ensures steady { StartsSteady S.FileSystem P.ProcessReadDir C.ReadDirState.Clone C.DirEntryState.Default
             ⟦<Session<R, C, S, P, A> as Pool<C, S, P, A>>⟧ result.0 }
     {
@@ -208,6 +215,7 @@ where
         requires depth { IfSome read (λ r. AtDepth 0 (reading r).list) }
         ensures from_root { IsFromRoot C.ReadDirState.Clone (option_map reading read) job result.1 result.0 }
         ensures by { (result.1 ≡ Some NotStarted.Memory) ⊎ (by_crew result.0 ≡ true) }
+        ensures most { most_ahead ⟦<Session<R, C, S, P, A> as Pool<C, S, P, A>>⟧ result.0 ≤ limit_of (arc_value crew.now) + 1 }
         ensures steady { StartsSteady S.FileSystem P.ProcessReadDir C.ReadDirState.Clone C.DirEntryState.Default
             ⟦<Session<R, C, S, P, A> as Pool<C, S, P, A>>⟧ result.0 }
     {

@@ -68,7 +68,7 @@ where
     C::ReadDirState: Send + 'static,
     C::DirEntryState: Send + 'static,
 {
-    ghost use Rattle.jwalk.specs.WalkDir.{callback_of, options_of, Starts, Begins};
+    ghost use Rattle.jwalk.specs.WalkDir.{callback_of, options_of, Starts, KeepsLimit, Begins};
     ghost use Rattle.jwalk_entries.specs.DirEntryIter.{StartsSteady};
 
     /// Begins the walk, and returns why it doesn't begin, if so.
@@ -77,6 +77,7 @@ where
         ensures starts { Starts self result.0 }
         ensures begins { Begins S.FileSystem P.ProcessReadDir C.ReadDirState.Clone C.DirEntryState.Default
             self result.1 result.0 }
+        ensures most { KeepsLimit ⟦<Session<R, C, S, P, A> as Pool<C, S, P, A>>⟧ self result.0 }
         ensures steady { StartsSteady S.FileSystem P.ProcessReadDir C.ReadDirState.Clone C.DirEntryState.Default
             ⟦<Session<R, C, S, P, A> as Pool<C, S, P, A>>⟧ result.0 }
     {
@@ -111,6 +112,7 @@ where
         ensures starts { IfOk result (Starts self) }
         ensures begins { IfOk result (Begins S.FileSystem P.ProcessReadDir C.ReadDirState.Clone
             C.DirEntryState.Default self None) }
+        ensures most { IfOk result (KeepsLimit ⟦<Session<R, C, S, P, A> as Pool<C, S, P, A>>⟧ self) }
         ensures steady { IfOk result (StartsSteady S.FileSystem P.ProcessReadDir C.ReadDirState.Clone
             C.DirEntryState.Default ⟦<Session<R, C, S, P, A> as Pool<C, S, P, A>>⟧) }
         ensures fails { IfErr result (λ error. (failure error ≡ memory)
@@ -130,6 +132,7 @@ where
         ensures starts { Starts self result }
         ensures begins { (why_not : _) × Begins S.FileSystem P.ProcessReadDir C.ReadDirState.Clone
             C.DirEntryState.Default self why_not result }
+        ensures most { KeepsLimit ⟦<Session<R, C, S, P, A> as Pool<C, S, P, A>>⟧ self result }
         ensures steady { StartsSteady S.FileSystem P.ProcessReadDir C.ReadDirState.Clone C.DirEntryState.Default
             ⟦<Session<R, C, S, P, A> as Pool<C, S, P, A>>⟧ result }
     {

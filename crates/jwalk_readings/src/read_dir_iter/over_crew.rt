@@ -1,5 +1,6 @@
 //! Readings in preorder, as a crew makes them.
-ghost use Rattle.std.specs.Prelude.{◌≡◌, ◌⊎◌, false, map, IfOk, IfErr};
+ghost use Rattle.std.specs.Prelude.{◌≡◌, ◌⊎◌, ◌+◌, false, map, IfOk, IfErr, IfSome};
+ghost use Rattle.std.specs.Arc.{arc_value};
 ghost use Rattle.walk_model.specs.Error.{memory, busy};
 ghost use Rattle.walk_model.specs.Options as value;
 ghost use Rattle.jwalk_read.specs.Error.{failure};
@@ -37,8 +38,9 @@ where
 {
     ghost use Rattle.jwalk_read.specs.Options as options;
     ghost use Rattle.jwalk_readings.specs.ReadAhead.{BeginsWith};
-    ghost use Rattle.jwalk_readings.specs.Parallelism.{parallelism_value, is_by_crew};
-    ghost use Rattle.jwalk_readings.specs.ReadDirIter.{by_crew, job_of, to_read, width_of, read_ahead, StartsSteady};
+    ghost use Rattle.tree_crew.specs.Crew.{limit_of};
+    ghost use Rattle.jwalk_readings.specs.Parallelism.{parallelism_value, is_by_crew, crew_of};
+    ghost use Rattle.jwalk_readings.specs.ReadDirIter.{by_crew, job_of, to_read, width_of, read_ahead, most_ahead, StartsSteady};
 
     /// Returns the readings of these directories and of all that is below them, like `try_new`, but a crew may read.
     /// Its workers begin at once. The call first blocks until a place of the crew is free, as long as its
@@ -60,6 +62,8 @@ where
         ensures to_read { IfOk result (λ reads. to_read reads ≡ map spec roots.items) }
         ensures read_ahead { IfOk result (λ reads. by_crew reads ≡ false
             → BeginsWith (map spec roots.items) (read_ahead reads)) }
+        ensures most { IfOk result (λ reads. IfSome (crew_of parallelism) (λ own.
+            most_ahead ⟦<Session<R, C, S, P, A> as Pool<C, S, P, A>>⟧ reads ≡ limit_of (arc_value own.0) + 1)) }
         ensures steady { IfOk result (StartsSteady S.FileSystem P.ProcessReadDir C.ReadDirState.Clone
             C.DirEntryState.Default ⟦<Session<R, C, S, P, A> as Pool<C, S, P, A>>⟧) }
         ensures fails { IfErr result (λ error. (failure error ≡ memory)

@@ -26,7 +26,7 @@ impl<
 > ReadDirIter<C, S, P, A, L> {
     ghost use Rattle.jwalk_order.specs.Frontier.{roots as root_addresses};
     ghost use Rattle.jwalk_readings.specs.CrewReads.{IsMadeFor};
-    ghost use Rattle.jwalk_readings.specs.ReadDirIter.{by_crew, job_of, to_read, StartsSteady};
+    ghost use Rattle.jwalk_readings.specs.ReadDirIter.{by_crew, job_of, to_read, most_ahead, StartsSteady};
 
     /// The readings of these directories and of all that is below them, as a pool gives them. Only a reading of the
     /// directory that comes next, made by this job's options, is handed on. A pool that reads by this very job has a
@@ -43,6 +43,7 @@ impl<
         ensures by { IfOk result (λ reads. by_crew reads ≡ true) }
         ensures job { IfOk result (λ reads. job_of reads ≡ arc_value job) }
         ensures to_read { IfOk result (λ reads. to_read reads ≡ map spec roots.items) }
+        ensures most { IfOk result (λ reads. most_ahead L.Pool reads ≡ L.most pool) }
         ensures steady { IsMadeFor L.Pool pool (record { job = arc_value job; roots = map spec roots.items })
             (root_addresses (length roots.items)) → IfOk result (StartsSteady S.FileSystem P.ProcessReadDir
             C.ReadDirState.Clone C.DirEntryState.Default L.Pool) }

@@ -2,6 +2,8 @@ use Rattle.std.proofs.Common.{Some, None, inl, inr, sym, option_map}
 use Rattle.jwalk_read.specs.ReadDir.{reading}
 use Rattle.tree_crew.specs.declared.crew.NotStarted.TheVariants.{Memory}
 use Rattle.jwalk.proofs.CrewStartFacts.{alone_from_root, held_of}
+use Rattle.jwalk_readings.proofs.GivesFacts.{alone_most}
+use Rattle.jwalk_entries.specs.DirEntryIter.{reads_of}
 use Rattle.jwalk_entries.proofs.AnswerFacts.{alone_steady}
 use Rattle.jwalk.proofs.walk_dir.crew_start.from_root_alone.Goals as goal
 
@@ -16,6 +18,12 @@ returns-clause-from_root g c =
     let is = c.from_root-walk.ensures in
     let started = sym c.if-is_refused.ensures in
     alone_from_root g.C.ReadDirState.Clone (option_map reading c.args.read) c.args.job c.from_root-walk.result None is.own (λ no. cc) is.job is.within is.sourced (inr (is.depth started)) is.width is.ahead (λ given counts. held_of given c.args.read c.from_root-walk.result (is.held given counts started))
+
+pub returns-then-is_refused-clause-most : goal.returns-then-is_refused-clause-most
+returns-then-is_refused-clause-most g c = alone_most g.L.Pool (reads_of c.from_root-walk.result) c.from_root-walk.ensures.own
+
+pub returns-clause-most : goal.returns-clause-most
+returns-clause-most g c = alone_most g.L.Pool (reads_of c.from_root-walk.result) c.from_root-walk.ensures.own
 
 pub returns-then-is_refused-clause-steady : goal.returns-then-is_refused-clause-steady
 returns-then-is_refused-clause-steady g c = λ given steady. alone_steady g.S.FileSystem g.P.ProcessReadDir g.C.ReadDirState.Clone g.C.DirEntryState.Default g.L.Pool c.from_root-walk.result given c.from_root-walk.ensures.own steady c.from_root-walk.ensures.ahead.done

@@ -1,4 +1,4 @@
-use Rattle.std.proofs.Common.{◌≡◌, ◌∙◌, [], Ok, Err, inr, map, reverse, refl, rules, sym, ap}
+use Rattle.std.proofs.Common.{◌≡◌, ◌∙◌, [], Ok, Err, inr, map, reverse, refl, rules, sym, ap, arith}
 use Rattle.std.specs.Prelude.{option_map}
 use Rattle.std.proofs.lemmas.List.{nil_from_length}
 use Rattle.jwalk_read.specs.Error.{failure}
@@ -28,6 +28,7 @@ returns-in-Some-Err g c =
       steady = λ given steady. steady;
       passed = passed_alone g.S.FileSystem g.P.ProcessReadDir g.C.ReadDirState.Clone g.C.DirEntryState.Default g.L.Pool old (position_of old) (Err (failure c.in-Some-Err.error)) (map item (reverse c.pop.new.self.items)) items refl;
       width = refl;
+      most = omega arith;
       tells = tt;
       comes = tt;
       stopped = tt;
@@ -45,6 +46,7 @@ returns-then-is_none g c =
       steady = λ given steady. steady;
       passed = passed_alone g.S.FileSystem g.P.ProcessReadDir g.C.ReadDirState.Clone g.C.DirEntryState.Default g.L.Pool old (position_of old) (Ok (entry c.in-Some-Ok.found)) (map item (reverse c.pop.new.self.items)) items (is_some-map children c.in-Some-Ok.found.read_children ∙ c.if-is_none.ensures);
       width = refl;
+      most = omega arith;
       tells = tt;
       comes = tt;
       stopped = tt;
@@ -66,6 +68,7 @@ returns-in_ok-entered-in-Some-Ok g c =
       passed = passed_by_reading g.S.FileSystem g.P.ProcessReadDir g.C.ReadDirState.Clone g.C.DirEntryState.Default g.L.Pool old c.entered.new.self (Ok (entry c.in-Some-Ok.found)) (map item (reverse c.pop.new.self.items)) (option_map outcome c.in_ok-read-in-Some-Ok.read) _ read.new.self
           items (is_some-map children c.in-Some-Ok.found.read_children ∙ c.if-is_none.ensures) entered.reads next c.in_ok-read-in-Some-Ok.ensures.enters c.in_ok-read-in-Some-Ok.ensures.passes entered.received;
       width = ap readings.width_of entered.reads ∙ read.ensures.width;
+      most = omega (arith, ap (readings.most_ahead g.L.Pool) entered.reads, read.ensures.most);
       tells = tt;
       comes = tt;
       stopped = tt;
@@ -86,6 +89,7 @@ returns-in_err-entered-in-Some-Ok g c =
       steady = rw entered.reads read.ensures.steady;
       passed = none_ok _ told.result told.ensures.0;
       width = ap readings.width_of entered.reads ∙ read.ensures.width;
+      most = omega (arith, ap (readings.most_ahead g.L.Pool) entered.reads, read.ensures.most);
       tells = tells_refusal (by_crew old) told.result told.ensures.1;
       comes = refused_not_lost _ told.result told.ensures.1;
       stopped = at_read g.C.ReadDirState.Clone (readings.Known g.S.FileSystem g.P.ProcessReadDir g.C.ReadDirState.Clone g.C.DirEntryState.Default g.L.Pool old.reads) (greatest_depth (job_of old)) outcome c.in_ok-read-in-Some-Ok.read told.result
@@ -106,6 +110,7 @@ returns-in-None g c =
       steady = λ given steady. steady;
       passed = tt;
       width = refl;
+      most = omega arith;
       tells = tt;
       comes = tt;
       stopped = tt;
@@ -123,6 +128,7 @@ returns-then-not-is_next g c =
       steady = λ given steady. steady;
       passed = tt;
       width = refl;
+      most = omega arith;
       tells = rw (c.if-not-is_next.ensures.own refl) (inr refl);
       comes = λ given steady. c.if-not-is_next.ensures.other refl (placed_next (by_crew old) (Ok (entry c.in-Some-Ok.found)) (map item (reverse c.pop.new.self.items)) (unread_of old) (is_some-map children c.in-Some-Ok.found.read_children ∙ c.if-is_none.ensures) (rw items at steady.placed));
       stopped = rw items ((is_some-map children c.in-Some-Ok.found.read_children ∙ c.if-is_none.ensures), c.if-not-is_next.ensures.some refl);
@@ -142,6 +148,7 @@ returns-in_err-read-in-Some-Ok g c =
       steady = read.steady;
       passed = none_ok _ told.result told.ensures.0;
       width = read.width;
+      most = read.most;
       tells = search rules;
       comes = passed_not_lost _ c.in_err-read-in-Some-Ok.field-0.0 told.result told.ensures.1 (fewer_not_lost _ _ c.in_err-read-in-Some-Ok.field-0.0 (λ given steady. steady.reads) c.in_err-read-in-Some-Ok.ensures.comes);
       stopped = on_err told.result (rw items ((is_some-map children c.in-Some-Ok.found.read_children ∙ c.if-is_none.ensures), c.in_err-read-in-Some-Ok.ensures.some));

@@ -1,9 +1,9 @@
-use Rattle.std.proofs.Common.{refl, inl}
+use Rattle.std.proofs.Common.{refl, inl, arith}
 use Rattle.jwalk_entries.proofs.PrepareFacts.{reads_prepared, reads_unprepared}
 use Rattle.jwalk_entries.proofs.dir_entry_iter.DirEntryIter.prepare_on.Goals as goal
 
 pub returns-then-not-is_at_directory : goal.returns-then-not-is_at_directory
-returns-then-not-is_at_directory g c = record { crew = refl; job = refl; refused = refl; width = refl; steady = λ given steady. steady; prepared = inl refl; stopped = tt }
+returns-then-not-is_at_directory g c = record { crew = refl; job = refl; refused = refl; width = refl; most = omega arith; steady = λ given steady. steady; prepared = inl refl; stopped = tt }
 
 pub returns : goal.returns
 returns g c =
@@ -14,6 +14,7 @@ returns g c =
       job = p.job;
       refused = refl;
       width = p.width;
+      most = p.most;
       steady = p.steady;
       prepared = reads_prepared g.S.FileSystem g.P.ProcessReadDir g.C.ReadDirState.Clone g.C.DirEntryState.Default g.L.Pool c.args.self.now c.prepare_on.new.self at c.prepare_on.result p.prepared;
       stopped = reads_unprepared g.S.FileSystem g.P.ProcessReadDir g.C.ReadDirState.Clone g.C.DirEntryState.Default g.L.Pool c.args.self.now c.prepare_on.new.self at c.prepare_on.result p.some;

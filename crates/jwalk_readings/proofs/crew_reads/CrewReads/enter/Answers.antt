@@ -2,7 +2,7 @@ use Rattle.std.proofs.Common.{◌∙◌, ◌++◌, map, sym, ap}
 use Rattle.jwalk_order.specs.Frontier.{passed}
 use Rattle.jwalk_read.specs.ReadDirSpec.{spec}
 use Rattle.jwalk_read.specs.ReadDir.{outcome}
-use Rattle.jwalk_readings.specs.CrewReads.{job_of, to_read, next_address}
+use Rattle.jwalk_readings.specs.CrewReads.{job_of, to_read, next_address, most_ahead}
 use Rattle.jwalk_readings.proofs.CrewFacts.{told_reading}
 use Rattle.jwalk_readings.proofs.CrewSteadyFacts.{as_many_found, front_steady}
 use Rattle.jwalk_readings.proofs.ResultFacts.{none_ok, none_on_ok, refused_not_lost, passed_not_lost}
@@ -13,6 +13,7 @@ returns-in_err-outcome g c =
     let told = c.from_residual in
     record {
       job = c.read.ensures.job;
+      most = c.read.ensures.most;
       reading = none_ok _ told.result told.ensures.0;
       stacks = none_ok _ told.result told.ensures.0;
       passes = none_ok _ told.result told.ensures.0;
@@ -26,6 +27,7 @@ returns-in_err-below g c =
     let told = c.from_residual-in_err-below in
     record {
       job = c.read.ensures.job;
+      most = c.read.ensures.most;
       reading = none_ok _ told.result told.ensures.0;
       stacks = none_ok _ told.result told.ensures.0;
       passes = none_ok _ told.result told.ensures.0;
@@ -45,6 +47,7 @@ returns-in_err-put_in_front g c =
     let told = c.from_residual-in_err-put_in_front in
     record {
       job = ap job_of c.put_in_front.ensures.others ∙ c.read.ensures.job;
+      most = ap (most_ahead g.L.Pool) c.put_in_front.ensures.others ∙ c.read.ensures.most;
       reading = none_ok _ told.result told.ensures.0;
       stacks = none_ok _ told.result told.ensures.0;
       passes = none_ok _ told.result told.ensures.0;
@@ -63,6 +66,7 @@ returns g c =
     let left = c.in_ok-put_in_front.ensures.to_read ∙ ap (λ l. front ++ l) c.read.ensures.to_read in
     record {
       job = job;
+      most = ap (most_ahead g.L.Pool) c.put_in_front.ensures.others ∙ c.read.ensures.most;
       reading = told_reading g.S.FileSystem g.P.ProcessReadDir g.C.ReadDirState.Clone g.C.DirEntryState.Default (job_of old) (spec c.args.of) (outcome c.in_ok-outcome.outcome) (next_address old) read.told;
       stacks = record { front = front; left = left; clones = c.in_ok-below.ensures };
       passes = ap (λ it. it.matcher) c.put_in_front.ensures.others ∙ read.passed ∙ ap (passed old.matcher) (sym c.if-len-count.false ∙ found);

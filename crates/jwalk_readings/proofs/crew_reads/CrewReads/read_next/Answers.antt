@@ -1,4 +1,4 @@
-use Rattle.std.proofs.Common.{◌∙◌, map, reverse, sym, subst}
+use Rattle.std.proofs.Common.{◌∙◌, map, reverse, sym, subst, arith}
 use Rattle.jwalk_read.specs.ReadDirSpec.{spec}
 use Rattle.jwalk_read.specs.Job.{IsSteadyJob}
 use Rattle.jwalk_readings.specs.CrewReads.{job_of, IsSteadyOver}
@@ -22,6 +22,12 @@ returns-in-Ok-clause-next g c =
       };
       stacks = c.in-Ok.ensures.stacks;
     }
+
+pub returns-in-Ok-clause-most : goal.returns-in-Ok-clause-most
+returns-in-Ok-clause-most g c = omega (arith, c.enter.ensures.most)
+
+pub returns-in-Err-clause-most : goal.returns-in-Err-clause-most
+returns-in-Err-clause-most g c = omega (arith, c.stop.ensures.most)
 
 pub returns-in-Ok-clause-steady : goal.returns-in-Ok-clause-steady
 returns-in-Ok-clause-steady g c = λ given steady.

@@ -1,9 +1,10 @@
-use Rattle.std.proofs.Common.{option_map, inl, inr, refl, ap, ◌∙◌}
+use Rattle.std.proofs.Common.{option_map, inl, inr, refl, ap, ◌∙◌, arith}
 use Rattle.walk_model.specs.Entry.{AtDepth}
 use Rattle.jwalk_read.specs.Options as options
 use Rattle.jwalk_read.specs.ReadDir.{reading}
 use Rattle.jwalk_read.specs.Job.{options_of}
-use Rattle.jwalk.proofs.CrewStartFacts.{refused_from_root, by_from_root, if_some_map}
+use Rattle.jwalk.proofs.CrewStartFacts.{reads_alone, refused_from_root, by_from_root, if_some_map}
+use Rattle.jwalk_entries.specs.DirEntryIter.{reads_of}
 use Rattle.jwalk_entries.proofs.AnswerFacts.{alone_steady}
 use Rattle.jwalk.proofs.walk_dir.crew_start.WalkDirGeneric+C+S+P+A+Crew+R.from_root_by.Goals as goal
 
@@ -31,6 +32,15 @@ returns-in-Ok-clause-by g c = inr c.with_reads.ensures.by
 
 pub returns-in-Err-clause-by : goal.returns-in-Err-clause-by
 returns-in-Err-clause-by g c = inl refl
+
+pub returns-in_default-clause-most : goal.returns-in_default-clause-most
+returns-in_default-clause-most g c = rw (reads_alone (reads_of c.refused.result) c.refused.ensures.own).1 (omega arith)
+
+pub returns-in-Ok-clause-most : goal.returns-in-Ok-clause-most
+returns-in-Ok-clause-most g c = omega (arith, c.with_reads.ensures.most, c.in-Ok.ensures.most)
+
+pub returns-in-Err-clause-most : goal.returns-in-Err-clause-most
+returns-in-Err-clause-most g c = rw (reads_alone (reads_of c.refused-in-Err.result) c.refused-in-Err.ensures.own).1 (omega arith)
 
 pub returns-in_default-clause-steady : goal.returns-in_default-clause-steady
 returns-in_default-clause-steady g c = λ given steady. alone_steady g.S.FileSystem g.P.ProcessReadDir g.C.ReadDirState.Clone g.C.DirEntryState.Default _ c.refused.result given c.refused.ensures.own steady c.refused.ensures.ahead.done

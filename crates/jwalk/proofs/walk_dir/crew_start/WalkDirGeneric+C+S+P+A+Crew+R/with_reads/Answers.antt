@@ -3,7 +3,7 @@ use Rattle.jwalk_read.specs.ReadDir.{reading}
 use Rattle.jwalk_readings.specs.ReadDirIter as readings
 use Rattle.jwalk_readings.specs.CrewReads as reads_by
 use Rattle.jwalk.specs.CrewStart.{IsToRead}
-use Rattle.jwalk.proofs.CrewStartFacts.{left_placed, left_to_read, left_steady}
+use Rattle.jwalk.proofs.CrewStartFacts.{left_placed, left_to_read, left_most, left_steady}
 use Rattle.jwalk.proofs.walk_dir.crew_start.WalkDirGeneric+C+S+P+A+Crew+R.with_reads.Goals as goal
 
 pub returns : goal.returns
@@ -21,6 +21,7 @@ returns g c =
       by = ap readings.by_crew is.reads;
       job = ap readings.job_of is.reads ∙ started.job;
       begun = (is.refused, is.items, left);
+      most = rw is.reads (left_most old new _ _ c.start_reads.result started.most started.unchanged);
       steady = λ given steady. record {
         reads = subst (readings.StartsSteady g.S.FileSystem g.P.ProcessReadDir g.C.ReadDirState.Clone g.C.DirEntryState.Default _) (sym is.reads)
             (left_steady old new g.S.FileSystem g.P.ProcessReadDir g.C.ReadDirState.Clone g.C.DirEntryState.Default _ c.start_reads.result started.begins started.unchanged c.requires.steady) given steady;

@@ -1,6 +1,8 @@
 use Rattle.std.proofs.Common.{◌≡◌, ◌∙◌, true, false, option_map}
+use Rattle.std.specs.Arc.{arc_value}
+use Rattle.tree_crew.specs.Crew.{limit_of}
 use Rattle.jwalk_read.specs.ReadDir.{reading}
-use Rattle.jwalk.proofs.BeginsFacts.{made_root, starts_from_root, begins_from_root}
+use Rattle.jwalk.proofs.BeginsFacts.{within_limit, made_root, starts_from_root, begins_from_root}
 use Rattle.jwalk.proofs.walk_dir.over_crew.WalkDirGeneric+C+S+P+A+Crew+R.begin_by.Goals as goal
 
 pub returns-in-Some-clause-starts : goal.returns-in-Some-clause-starts
@@ -14,6 +16,12 @@ returns-in-Some-clause-begins g c =
     begins_from_root g.S.FileSystem g.P.ProcessReadDir g.C.ReadDirState.Clone g.C.DirEntryState.Default c.args.self c.from_root_by.result.0 c.new-job.result jobs.file_system jobs.callback jobs.options (option_map reading c.ok-read.result) c.from_root_by.result.1 c.from_root_by.ensures.from_root
     (made_root g.S.FileSystem g.P.ProcessReadDir g.C.ReadDirState.Clone g.C.DirEntryState.Default c.args.self c.from_root_by.result.0 c.new-job.result jobs.file_system jobs.callback jobs.options c.as_str.result.now c.as_str.ensures.value _ c.root_list.result c.ok-read.result c.ok-read.ensures.value c.root_list.ensures.value)
     (λ crew some. c.from_root_by.ensures.by)
+
+pub returns-in-Some-clause-most : goal.returns-in-Some-clause-most
+returns-in-Some-clause-most g c = rw c.in-Some.ensures.some.1 c.from_root_by.ensures.most
+
+pub returns-clause-most : goal.returns-clause-most
+returns-clause-most g c = within_limit _ (λ own. limit_of (arc_value own.0)) c.args.self.crew c.from_root_alone.ensures.most
 
 pub returns-clause-starts : goal.returns-clause-starts
 returns-clause-starts g c =
