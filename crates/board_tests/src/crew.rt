@@ -1,8 +1,6 @@
 //! Messages of workers, the reading that is waited for, and places.
 use crate::given::{self, Refusing, States, address, roots_of};
 use jwalk_board::board::{Board, HandOutRefusal};
-use jwalk_crew::message::Message;
-use jwalk_crew::wanted::Wanted;
 use jwalk_order::ordered::Ordered;
 use jwalk_read::ancestors::Ancestors;
 use jwalk_read::dir_entry::DirEntry;
@@ -12,6 +10,8 @@ use jwalk_read::mode::Mode;
 use jwalk_read::options::Options;
 use jwalk_read::process_read_dir::NoProcess;
 use jwalk_read::read_dir_spec::ReadDirSpec;
+use jwalk_readings::message::Message;
+use jwalk_readings::wanted::Wanted;
 use std::alloc::Global;
 use std::io::ErrorKind;
 use std::sync::Arc;

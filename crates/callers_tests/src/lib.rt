@@ -15,7 +15,7 @@ mod getters;
 #[cfg(test)]
 mod in_memory;
 #[cfg(test)]
-mod own_pool;
+mod own_readers;
 #[cfg(test)]
 mod sizes;
 #[cfg(test)]

@@ -1,8 +1,8 @@
 //! What is done with walks over a crew, one act after another.
-use crate::crewed::{Asked, PoolWalk, Stand, States, Taken, Walk};
+use crate::crewed::{Asked, Stand, States, Taken, Walk, WalkBy};
 use jwalk::file_system::FileSystem;
 use jwalk::read_dir::{NoProcess, ProcessReadDir};
-use jwalk::{Crew, Pool};
+use jwalk::{Crew, Readers};
 use std::alloc::{AllocError, Global};
 use std::sync::Arc;
 use std::thread;
@@ -78,8 +78,8 @@ fn is_busy(found: Result<Vec<Answer>, AllocError>) -> bool {
 }
 
 /// Whether a walk yields that many entries.
-pub fn comes<S: FileSystem, L: Pool<States, S, NoProcess, Global>>(
-    walk: &mut PoolWalk<S, L>,
+pub fn comes<S: FileSystem, L: Readers<States, S, NoProcess, Global>>(
+    walk: &mut WalkBy<S, L>,
     count: usize,
 ) -> bool {
     for _ in 0..count {
@@ -91,9 +91,9 @@ pub fn comes<S: FileSystem, L: Pool<States, S, NoProcess, Global>>(
 }
 
 /// Whether within some seconds that many readings are ahead for a walk.
-pub fn come_ahead<S: FileSystem, L: Pool<States, S, NoProcess, Global>>(
+pub fn come_ahead<S: FileSystem, L: Readers<States, S, NoProcess, Global>>(
     clock: &impl Clock,
-    walk: &PoolWalk<S, L>,
+    walk: &WalkBy<S, L>,
     count: usize,
 ) -> bool {
     for _ in 0..5_000 {
@@ -106,9 +106,9 @@ pub fn come_ahead<S: FileSystem, L: Pool<States, S, NoProcess, Global>>(
 }
 
 /// Whether the last of these walks goes on so.
-fn goes_on<S: FileSystem, L: Pool<States, S, NoProcess, Global>>(
+fn goes_on<S: FileSystem, L: Readers<States, S, NoProcess, Global>>(
     clock: &impl Clock,
-    walks: &mut Vec<PoolWalk<S, L>>,
+    walks: &mut Vec<WalkBy<S, L>>,
     going: &Going<'_>,
 ) -> bool {
     match going {

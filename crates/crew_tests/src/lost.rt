@@ -5,9 +5,9 @@ use jwalk::ordered::Ordered;
 use jwalk::read_dir::{Job, NoProcess, Options, ReadDirSpec};
 use jwalk::read_dir_iter::ReadDirIter;
 use jwalk::{DirEntryIter, Error};
-use jwalk_crew::message::Message;
-use jwalk_crew::pool::{Missed, Pool};
-use jwalk_crew::wanted::Wanted;
+use jwalk_readings::message::Message;
+use jwalk_readings::readers::{Missed, Readers};
+use jwalk_readings::wanted::Wanted;
 use std::alloc::Global;
 use std::sync::Arc;
 use walk_fixtures::trees::{Step, tree};
@@ -18,7 +18,7 @@ type TreeJob<'f, S> = Job<States, &'f S, NoProcess>;
 
 type Told<'f, S> = Message<States, &'f S, NoProcess>;
 
-/// A pool whose readings are all made before they are asked for.
+/// Readers whose readings are all made before they are asked for.
 struct Prepared<'f, S: FileSystem> {
     board: Board<ReadDirSpec<States>, Told<'f, S>>,
 }
@@ -29,7 +29,7 @@ impl<'f, S: FileSystem> Drop for Prepared<'f, S> {
     }
 }
 
-impl<'f, S: FileSystem> Pool<States, &'f S, NoProcess, Global> for Prepared<'f, S> {
+impl<'f, S: FileSystem> Readers<States, &'f S, NoProcess, Global> for Prepared<'f, S> {
     ghost use Rattle.std.specs.Prelude.{◌-◌, ◌^◌, []};
 
     ghost comes_from = { λ _ _. ⊥ };
@@ -80,7 +80,7 @@ fn read<'f, S: FileSystem>(
 }
 
 /// The readings of these two directories, the second below the first.
-fn pool_of<'f, S: FileSystem>(
+fn readers_of<'f, S: FileSystem>(
     alloc: Global,
     fs: &'f S,
     first: &str,
@@ -110,10 +110,10 @@ fn comes<S: FileSystem>(
     second: &str,
     words: &[&str],
 ) -> Option<bool> {
-    let pool = pool_of(alloc, fs, first, second)?;
+    let readers = readers_of(alloc, fs, first, second)?;
     let own = Arc::new(alloc, job_over(alloc, fs)).ok()?;
     let from = roots(&own, "/r")?;
-    let mut reads = ReadDirIter::over_pool(own, from, pool).ok()?;
+    let mut reads = ReadDirIter::over_readers(own, from, readers).ok()?;
     for word in words {
         if word_of(reads.next()) != *word {
             return Some(false);
@@ -130,11 +130,11 @@ fn comes_of_walk<S: FileSystem>(
     second: &str,
     words: &[&str],
 ) -> Option<bool> {
-    let pool = pool_of(alloc, fs, first, second)?;
+    let readers = readers_of(alloc, fs, first, second)?;
     let own = Arc::new(alloc, job_over(alloc, fs)).ok()?;
     let list = own.root_list("/r", ()).ok()?;
     let from = list.read_children_specs().ok()?;
-    let reads = ReadDirIter::over_pool(own, from, pool).ok()?;
+    let reads = ReadDirIter::over_readers(own, from, readers).ok()?;
     let mut walk = DirEntryIter::with_list(reads, list.into_results_list(), false);
     for word in words {
         if word_of(walk.next()) != *word {

@@ -4,7 +4,7 @@ use jwalk::crew::Session;
 use jwalk::file_system::FileSystem;
 use jwalk::read_dir::{Job, NoProcess, Options};
 use jwalk::read_dir_iter::ReadDirIter;
-use jwalk::{Error, Parallelism, Pool};
+use jwalk::{Error, Parallelism, Readers};
 use std::alloc::{AllocError, Global};
 use std::sync::Arc;
 use std::time::Duration;
@@ -12,11 +12,11 @@ use walk_fixtures::host::Host;
 use walk_fixtures::trees::{FORKED, tree};
 use walk_ways::width::Width;
 
-/// Readings over some file system that some pool may give.
-type PoolReads<S, L> = ReadDirIter<States, S, NoProcess, Global, L>;
+/// Readings over some file system that some readers may give.
+type ReadsBy<S, L> = ReadDirIter<States, S, NoProcess, Global, L>;
 
 /// Readings that a crew may make.
-type Reads<R, S> = PoolReads<Arc<S>, Session<R, States, Arc<S>, NoProcess>>;
+type Reads<R, S> = ReadsBy<Arc<S>, Session<R, States, Arc<S>, NoProcess>>;
 
 /// The readings of the root and of all below it, by the crew if a place is free at once, or that many at a time. Else
 /// why they don't begin.
@@ -38,8 +38,8 @@ fn tried<R: Host, S: FileSystem + Send + Sync + 'static>(
 }
 
 /// Whether seven readings come, and then none.
-fn are_seven<S: FileSystem, L: Pool<States, S, NoProcess, Global>>(
-    reads: &mut PoolReads<S, L>,
+fn are_seven<S: FileSystem, L: Readers<States, S, NoProcess, Global>>(
+    reads: &mut ReadsBy<S, L>,
 ) -> bool {
     for _ in 0..7 {
         if !matches!(reads.next(), Some(Ok(_))) {

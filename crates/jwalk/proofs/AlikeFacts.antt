@@ -11,7 +11,7 @@ use Rattle.walk_fs.specs.declared.file_system.FileSystem as FileSystem
 use Rattle.jwalk_read.specs.declared.process_read_dir.ProcessReadDir as ProcessReadDir
 use Rattle.jwalk_read.specs.Given.{Given}
 use Rattle.jwalk_read.specs.Job.{IsSteady}
-use Rattle.jwalk_crew.specs.declared.pool.Pool as Pool
+use Rattle.jwalk_readings.specs.declared.readers.Readers as Readers
 use Rattle.jwalk_entries.specs.declared.dir_entry_iter.DirEntryIter.{DirEntryIter}
 use Rattle.jwalk_entries.specs.DirEntryIter.{to_come}
 use Rattle.jwalk.specs.declared.walk_dir.WalkDirGeneric.{WalkDirGeneric}
@@ -28,7 +28,7 @@ pub stateless_however_read : (p : Parallelism) (fs : Functions) (options : Optio
 unfolding whole_walk
 stateless_however_read p fs options root = refl
 
-module _ {C S P A V W L M R E : Type 0} (files : FileSystem.Ghosts S) (process : ProcessReadDir.Ghosts P C A R E) (clone : Clone.Ghosts R) (defaults : Default.Ghosts E) (pool : Pool.Ghosts L C S P A R E) (others : Pool.Ghosts M C S P A R E) (given : Given R E) where
+module _ {C S P A V W L M R E : Type 0} (files : FileSystem.Ghosts S) (process : ProcessReadDir.Ghosts P C A R E) (clone : Clone.Ghosts R) (defaults : Default.Ghosts E) (readers : Readers.Ghosts L C S P A R E) (others : Readers.Ghosts M C S P A R E) (given : Given R E) where
   -- Two walks have the same to come if they begin with the root's list, over what is steady, and their builders differ only in how directories are read. So they yield the same, call by call, as long as neither says that memory ran out (`same_answer`).
   pub same_start : (walk : WalkDirGeneric C S P A V R E) (it : DirEntryIter C S P A L R E) (other : WalkDirGeneric C S P A W R E) (its : DirEntryIter C S P A M R E) → Starts walk it → Starts other its → Holds files process clone defaults walk it → Holds files process clone defaults other its → IsSteady files process clone defaults (file_system_of walk) (callback_of walk) given
       → file_system_of other ≡ file_system_of walk → callback_of other ≡ callback_of walk → root_of other ≡ root_of walk → state_of other ≡ state_of walk → (p : Parallelism) → options_of other ≡ with_parallelism p (options_of walk) → to_come files given it ≡ to_come files given its
@@ -37,7 +37,7 @@ module _ {C S P A V W L M R E : Type 0} (files : FileSystem.Ghosts S) (process :
       let over : S → Options → value.Job Worth Worth = λ fs options. record { fs = files.functions fs; options = options; processed = given.processed; default = given.new_entry } in
       let job : job_for files given other ≡ over (file_system_of walk) (with_parallelism p (options_of walk)) = ap₂ over fs options in
       let begun = given.read_dir_state (state_of walk) in
-      comes_whole files process clone defaults pool given walk it starts (holds given steady)
+      comes_whole files process clone defaults readers given walk it starts (holds given steady)
       ∙ sym (
       comes_whole files process clone defaults others given other its begins (held given steadily)
       ∙ ap (λ j. whole_walk j (root_of other) (given.read_dir_state (state_of other))) job

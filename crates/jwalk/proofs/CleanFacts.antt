@@ -23,7 +23,7 @@ use Rattle.jwalk_read.specs.Given.{Given, counted_item, counted_spec, counted_ou
 use Rattle.jwalk_read.specs.Job.{greatest_depth, job_by, IsSteady}
 use Rattle.tree_crew.specs.declared.crew.NotStarted.{NotStarted}
 use Rattle.tree_crew.specs.declared.crew.NotStarted.TheVariants.{Busy, Memory}
-use Rattle.jwalk_crew.specs.declared.pool.Pool as Pool
+use Rattle.jwalk_readings.specs.declared.readers.Readers as Readers
 use Rattle.jwalk_entries.specs.declared.dir_entry_iter.DirEntryIter.{DirEntryIter}
 use Rattle.jwalk.specs.declared.walk_dir.WalkDirGeneric.{WalkDirGeneric}
 use Rattle.jwalk.specs.CrewStart.{busied, busy_pair}
@@ -133,11 +133,11 @@ busy_by_value files process clone defaults walk it left given steady =
     ∙ counted_busy given left.list
     ∙ ap (map busy_pair) (left.value given steady)
 
-module _ {C S P A W L R E : Type 0} (files : FileSystem.Ghosts S) (process : ProcessReadDir.Ghosts P C A R E) (clone : Clone.Ghosts R) (defaults : Default.Ghosts E) (pool : Pool.Ghosts L C S P A R E) (given : Given R E) (walk : WalkDirGeneric C S P A W R E) (it : DirEntryIter C S P A L R E) (xs : List (Result (DirEntry C A R E) (Error A))) where
+module _ {C S P A W L R E : Type 0} (files : FileSystem.Ghosts S) (process : ProcessReadDir.Ghosts P C A R E) (clone : Clone.Ghosts R) (defaults : Default.Ghosts E) (readers : Readers.Ghosts L C S P A R E) (given : Given R E) (walk : WalkDirGeneric C S P A W R E) (it : DirEntryIter C S P A L R E) (xs : List (Result (DirEntry C A R E) (Error A))) where
   answered_unless : (why_not : Option NotStarted) → HoldsUnless files process clone defaults why_not walk it → Starts walk it → IsSteady files process clone defaults (file_system_of walk) (callback_of walk) given → NoneRefused xs → NoneBusy xs → to_come files given it ≡ counted_list given xs
       → counted_list given xs ≡ whole_walk (job_for files given walk) (root_of walk) (given.read_dir_state (state_of walk))
-  answered_unless None holds starts steady none free came = answered_whole files process clone defaults pool given walk it xs starts (inr holds) steady none came
-  answered_unless (Some Memory) refused starts steady none free came = answered_whole files process clone defaults pool given walk it xs starts (inl refused) steady none came
+  answered_unless None holds starts steady none free came = answered_whole files process clone defaults readers given walk it xs starts (inr holds) steady none came
+  answered_unless (Some Memory) refused starts steady none free came = answered_whole files process clone defaults readers given walk it xs starts (inl refused) steady none came
   answered_unless (Some Busy) left starts steady none free came =
       let list = root_list (job_for files given walk) (root_of walk) (given.read_dir_state (state_of walk)) in
       let holds = busy_by_value files process clone defaults walk it left given steady in
@@ -146,19 +146,19 @@ module _ {C S P A W L R E : Type 0} (files : FileSystem.Ghosts S) (process : Pro
       = ap (held_value.to_come read (min_depth_of it) (greatest_depth (job_of it))) holds
       ∙ ap (answers (min_depth_of it)) (busy_listed read (greatest_depth (job_of it)) list.list) in
       sym came
-      ∙ comes_whole files process clone defaults pool given walk it starts (holds ∙ all_free (min_depth_of it) list.state list.list (subst AllFree (sym came ∙ listed) (counted_free given xs free)))
+      ∙ comes_whole files process clone defaults readers given walk it starts (holds ∙ all_free (min_depth_of it) list.state list.list (subst AllFree (sym came ∙ listed) (counted_free given xs free)))
 
   -- Calls up to `None` of a walk that was begun, or whose crew was busy, yielded the whole walk from its root, unless an item reports that memory ran out or that the crew was busy.
-  pub whole_unless_busy : (why_not : Option NotStarted) → HoldsUnless files process clone defaults why_not walk it → IsSteadyWalk files process clone defaults pool it given → Starts walk it → IsSteady files process clone defaults (file_system_of walk) (callback_of walk) given → Drains (Answers files process clone defaults pool) it xs → NoneRefused xs → NoneBusy xs
+  pub whole_unless_busy : (why_not : Option NotStarted) → HoldsUnless files process clone defaults why_not walk it → IsSteadyWalk files process clone defaults readers it given → Starts walk it → IsSteady files process clone defaults (file_system_of walk) (callback_of walk) given → Drains (Answers files process clone defaults readers) it xs → NoneRefused xs → NoneBusy xs
       → counted_list given xs ≡ whole_walk (job_for files given walk) (root_of walk) (given.read_dir_state (state_of walk))
-  whole_unless_busy why_not held steadily starts steady drains none free = answered_unless why_not held starts steady none free (all_answered files process clone defaults pool given xs it steadily drains none)
+  whole_unless_busy why_not held steadily starts steady drains none free = answered_unless why_not held starts steady none free (all_answered files process clone defaults readers given xs it steadily drains none)
 
   -- So did a call of `fill` into an empty vector, which holds fewer items then than were asked for.
-  pub filled_unless_busy : (why_not : Option NotStarted) (new : DirEntryIter C S P A L R E) (n k : ℕ) (before : List (Result (DirEntry C A R E) (Error A))) → HoldsUnless files process clone defaults why_not walk it → IsSteadyWalk files process clone defaults pool it given → Starts walk it → IsSteady files process clone defaults (file_system_of walk) (callback_of walk) given → Fills files process clone defaults pool n it before (Ok k) xs new → before ≡ [] → length xs < n → NoneRefused xs → NoneBusy xs
+  pub filled_unless_busy : (why_not : Option NotStarted) (new : DirEntryIter C S P A L R E) (n k : ℕ) (before : List (Result (DirEntry C A R E) (Error A))) → HoldsUnless files process clone defaults why_not walk it → IsSteadyWalk files process clone defaults readers it given → Starts walk it → IsSteady files process clone defaults (file_system_of walk) (callback_of walk) given → Fills files process clone defaults readers n it before (Ok k) xs new → before ≡ [] → length xs < n → NoneRefused xs → NoneBusy xs
       → counted_list given xs ≡ whole_walk (job_for files given walk) (root_of walk) (given.read_dir_state (state_of walk))
-  filled_unless_busy why_not new n k before held steadily starts steady fills empty fewer none free = answered_unless why_not held starts steady none free (filled_came files process clone defaults pool given it new n k before xs steadily fills empty fewer none)
+  filled_unless_busy why_not new n k before held steadily starts steady fills empty fewer none free = answered_unless why_not held starts steady none free (filled_came files process clone defaults readers given it new n k before xs steadily fills empty fewer none)
 
   -- Entries report neither.
-  pub clean_whole : (why_not : Option NotStarted) → HoldsUnless files process clone defaults why_not walk it → IsSteadyWalk files process clone defaults pool it given → Starts walk it → IsSteady files process clone defaults (file_system_of walk) (callback_of walk) given → Drains (Answers files process clone defaults pool) it xs → list_all is_ok xs ≡ true
+  pub clean_whole : (why_not : Option NotStarted) → HoldsUnless files process clone defaults why_not walk it → IsSteadyWalk files process clone defaults readers it given → Starts walk it → IsSteady files process clone defaults (file_system_of walk) (callback_of walk) given → Drains (Answers files process clone defaults readers) it xs → list_all is_ok xs ≡ true
       → counted_list given xs ≡ whole_walk (job_for files given walk) (root_of walk) (given.read_dir_state (state_of walk))
   clean_whole why_not held steadily starts steady drains clean = whole_unless_busy why_not held steadily starts steady drains (entries_tell xs clean) (entries_free xs clean)

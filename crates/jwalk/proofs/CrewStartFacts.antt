@@ -19,7 +19,7 @@ use Rattle.jwalk_read.specs.Given.{Given, counted_reading, ClonesCount}
 use Rattle.jwalk_read.specs.declared.job.Job.{Job}
 use Rattle.jwalk_read.specs.Options as options
 use Rattle.jwalk_read.specs.Job.{options_of, greatest_depth}
-use Rattle.jwalk_crew.specs.declared.pool.Pool as Pool
+use Rattle.jwalk_readings.specs.declared.readers.Readers as Readers
 use Rattle.tree_crew.specs.declared.crew.NotStarted.{NotStarted}
 use Rattle.tree_crew.specs.declared.crew.NotStarted.TheVariants.{Busy, Memory}
 use Rattle.jwalk_readings.specs.BatchReads.{BatchReads}
@@ -210,12 +210,12 @@ module _ {T C S P A L R E : Type 0} (old new : CrewReads C S P A L R E) where
   left_to_read clone r (Err why_not) clones same none = ap reads_by.to_read same ∙ none
 
   -- no more readings are ahead than the crew's limit allows, or than were before
-  pub left_most : (most : L → ℕ) (limit : ℕ) (started : Result T NotStarted) → OnOk started (reads_by.most_ready most new.pool ≡ limit) → OnErr started (new ≡ old) → reads_by.most_ready most new.pool ≤ max (reads_by.most_ready most old.pool) limit
+  pub left_most : (most : L → ℕ) (limit : ℕ) (started : Result T NotStarted) → OnOk started (reads_by.most_ready most new.readers ≡ limit) → OnErr started (new ≡ old) → reads_by.most_ready most new.readers ≤ max (reads_by.most_ready most old.readers) limit
   left_most most limit (Ok done) is same = omega (arith, is)
-  left_most most limit (Err why_not) is same = omega (arith, ap (λ (it : CrewReads C S P A L R E). reads_by.most_ready most it.pool) same)
+  left_most most limit (Err why_not) is same = omega (arith, ap (λ (it : CrewReads C S P A L R E). reads_by.most_ready most it.readers) same)
 
   -- and the readings are steady either way
-  pub left_steady : (files : FileSystem.Ghosts S) (process : ProcessReadDir.Ghosts P C A R E) (clone : Clone.Ghosts R) (defaults : Default.Ghosts E) (pool : Pool.Ghosts L C S P A R E) (started : Result T NotStarted) → OnOk started (reads_by.BeginsBy (reads_by.IsMadeFor pool) new) → OnErr started (new ≡ old)
-      → reads_by.StartsSteady files process clone defaults pool old → reads_by.StartsSteady files process clone defaults pool new
-  left_steady files process clone defaults pool (Ok done) begins same steady = starts_steady files process clone defaults pool new begins
-  left_steady files process clone defaults pool (Err why_not) begins same steady = subst (reads_by.StartsSteady files process clone defaults pool) (sym same) steady
+  pub left_steady : (files : FileSystem.Ghosts S) (process : ProcessReadDir.Ghosts P C A R E) (clone : Clone.Ghosts R) (defaults : Default.Ghosts E) (readers : Readers.Ghosts L C S P A R E) (started : Result T NotStarted) → OnOk started (reads_by.BeginsBy (reads_by.IsMadeFor readers) new) → OnErr started (new ≡ old)
+      → reads_by.StartsSteady files process clone defaults readers old → reads_by.StartsSteady files process clone defaults readers new
+  left_steady files process clone defaults readers (Ok done) begins same steady = starts_steady files process clone defaults readers new begins
+  left_steady files process clone defaults readers (Err why_not) begins same steady = subst (reads_by.StartsSteady files process clone defaults readers) (sym same) steady

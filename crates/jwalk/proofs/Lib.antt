@@ -13,8 +13,8 @@ pub use Rattle.jwalk_read.proofs.GivenFacts as GivenFacts
 -- what callers cite of callbacks that change states alone, and of sizes
 pub use Rattle.walk_model.proofs.StatesFacts as StatesFacts
 pub use Rattle.jwalk_callbacks.proofs.SizedWalks as SizedWalks
--- what callers cite of readings by a pool of their own
-pub use Rattle.jwalk_crew.proofs.OriginFacts as OriginFacts
-pub use Rattle.jwalk_crew.proofs.DueFacts as DueFacts
+-- what callers cite of readings by readers of their own
+pub use Rattle.jwalk_readings.proofs.OriginFacts as OriginFacts
+pub use Rattle.jwalk_readings.proofs.DueFacts as DueFacts
 pub use Rattle.jwalk_readings.proofs.AlikeFacts as CopyFacts
 mod EachFacts

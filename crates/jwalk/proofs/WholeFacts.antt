@@ -26,7 +26,7 @@ use Rattle.jwalk_read.specs.Error.{failure}
 use Rattle.jwalk_read.specs.Entry.{item}
 use Rattle.jwalk_read.specs.Given.{Given, counted_item, counted_spec, counted_list}
 use Rattle.jwalk_read.specs.Job.{options_of, greatest_depth, job_by, IsSteady}
-use Rattle.jwalk_crew.specs.declared.pool.Pool as Pool
+use Rattle.jwalk_readings.specs.declared.readers.Readers as Readers
 use Rattle.jwalk_entries.specs.declared.dir_entry_iter.DirEntryIter.{DirEntryIter}
 use Rattle.jwalk.specs.declared.walk_dir.WalkDirGeneric.{WalkDirGeneric}
 use Rattle.jwalk_entries.specs.DirEntryIter.{by_crew, is_refused, job_of, min_depth_of, items_of, unread_of, held, held_by, refusal, to_come, TellsMemory, NoneRefused, IsRefused, StartsSteady, IsSteadyWalk, Answers, Fills}
@@ -81,7 +81,7 @@ refusal_among given [] is none = absurd cc
 refusal_among given (Ok e ∷ xs) is none = absurd cc
 refusal_among given (Err f ∷ xs) is none = let told : failure f ≡ memory = cc in none.0 told
 
-module _ {C S P A L R E : Type 0} (files : FileSystem.Ghosts S) (process : ProcessReadDir.Ghosts P C A R E) (clone : Clone.Ghosts R) (defaults : Default.Ghosts E) (pool : Pool.Ghosts L C S P A R E) (given : Given R E) where
+module _ {C S P A L R E : Type 0} (files : FileSystem.Ghosts S) (process : ProcessReadDir.Ghosts P C A R E) (clone : Clone.Ghosts R) (defaults : Default.Ghosts E) (readers : Readers.Ghosts L C S P A R E) (given : Given R E) where
   -- a walk that ran out of memory at its start yields the error that says so, and nothing else
   to_come_refused : (it : DirEntryIter C S P A L R E) → IsRefused it → to_come files given it ≡ Err memory ∷ []
   to_come_refused it refused =
@@ -89,19 +89,19 @@ module _ {C S P A L R E : Type 0} (files : FileSystem.Ghosts S) (process : Proce
       ∙ ap (answers (min_depth_of it)) (alone (reading (job_by files given (job_of it))) (greatest_depth (job_of it)) (Err memory) [] [] refl)
 
   -- calls up to `None` yield all that was to come, unless one of them says that memory ran out
-  pub all_answered : (xs : List (Result (DirEntry C A R E) (Error A))) (it : DirEntryIter C S P A L R E) → IsSteadyWalk files process clone defaults pool it given → Drains (Answers files process clone defaults pool) it xs → NoneRefused xs → to_come files given it ≡ counted_list given xs
+  pub all_answered : (xs : List (Result (DirEntry C A R E) (Error A))) (it : DirEntryIter C S P A L R E) → IsSteadyWalk files process clone defaults readers it given → Drains (Answers files process clone defaults readers) it xs → NoneRefused xs → to_come files given it ≡ counted_list given xs
   all_answered xs it steady drains none =
       let last = drains.1.0 in
       let calls = drains.1.1 in
       let ended = drains.1.2 in
-      let nothing_left : to_come files given last ≡ [] = ended.coming given (stays_steady files process clone defaults pool given xs it last calls steady) in
-      elim (come files process clone defaults pool given xs it last steady calls) [
+      let nothing_left : to_come files given last ≡ [] = ended.coming given (stays_steady files process clone defaults readers given xs it last calls steady) in
+      elim (come files process clone defaults readers given xs it last steady calls) [
         | inl comes ↦ comes ∙ ap (λ l. counted_list given xs ++ l) nothing_left ∙ append-nil (counted_list given xs)
         | inr ends ↦ absurd (end_told xs ends.before ends.told none)
       ]
 
   -- A call of `fill` that returns less than it was asked for leaves all that was to come in the vector, behind what was there before. Or an answer says that memory ran out.
-  pub all_filled : (n k : ℕ) (before after : List (Result (DirEntry C A R E) (Error A))) (it new : DirEntryIter C S P A L R E) → IsSteadyWalk files process clone defaults pool it given → Fills files process clone defaults pool n it before (Ok k) after new → k < n → NoneRefused after
+  pub all_filled : (n k : ℕ) (before after : List (Result (DirEntry C A R E) (Error A))) (it new : DirEntryIter C S P A L R E) → IsSteadyWalk files process clone defaults readers it given → Fills files process clone defaults readers n it before (Ok k) after new → k < n → NoneRefused after
       → counted_list given after ≡ counted_list given before ++ to_come files given it
   all_filled n k before after it new steady fills fewer none =
       let ended : held new ≡ [] = elim fills.all [ inl all ↦ absurd (omega (arith, all, fewer)) | inr over ↦ over ] in
@@ -116,13 +116,13 @@ module _ {C S P A L R E : Type 0} (files : FileSystem.Ghosts S) (process : Proce
       ∙ ap (λ l. counted_list given before ++ l) (sym came)
 
   -- What a call of `fill` put into an empty vector, fewer items than were asked for, is all that was to come, unless one of them reports that memory ran out.
-  pub filled_came : (it new : DirEntryIter C S P A L R E) (n k : ℕ) (before xs : List (Result (DirEntry C A R E) (Error A))) → IsSteadyWalk files process clone defaults pool it given → Fills files process clone defaults pool n it before (Ok k) xs new → before ≡ [] → length xs < n → NoneRefused xs → to_come files given it ≡ counted_list given xs
+  pub filled_came : (it new : DirEntryIter C S P A L R E) (n k : ℕ) (before xs : List (Result (DirEntry C A R E) (Error A))) → IsSteadyWalk files process clone defaults readers it given → Fills files process clone defaults readers n it before (Ok k) xs new → before ≡ [] → length xs < n → NoneRefused xs → to_come files given it ≡ counted_list given xs
   filled_came it new n k before xs steadily fills empty fewer none =
       let among : length xs ≡ length before + length fills.answered = ap length fills.appended ∙ length-append before fills.answered in
       let filled = all_filled n k before xs it new steadily fills (omega (arith, among, fewer, fills.number.0)) none in
       sym (filled ∙ ap (λ l. counted_list given l ++ to_come files given it) empty)
 
-module _ {C S P A W L R E : Type 0} (files : FileSystem.Ghosts S) (process : ProcessReadDir.Ghosts P C A R E) (clone : Clone.Ghosts R) (defaults : Default.Ghosts E) (pool : Pool.Ghosts L C S P A R E) (given : Given R E) where
+module _ {C S P A W L R E : Type 0} (files : FileSystem.Ghosts S) (process : ProcessReadDir.Ghosts P C A R E) (clone : Clone.Ghosts R) (defaults : Default.Ghosts E) (readers : Readers.Ghosts L C S P A R E) (given : Given R E) where
   -- where the root's list is held, the whole walk is to come
   pub comes_whole : (walk : WalkDirGeneric C S P A W R E) (it : DirEntryIter C S P A L R E) → Starts walk it → held_by given it ≡ paired (root_list (job_for files given walk) (root_of walk) (given.read_dir_state (state_of walk))) → to_come files given it ≡ whole_walk (job_for files given walk) (root_of walk) (given.read_dir_state (state_of walk))
   unfolding whole_walk
@@ -138,32 +138,32 @@ module _ {C S P A W L R E : Type 0} (files : FileSystem.Ghosts S) (process : Pro
       → counted_list given xs ≡ whole_walk (job_for files given walk) (root_of walk) (given.read_dir_state (state_of walk))
   answered_whole walk it xs starts begun steady none came =
       elim begun [
-        | inl refused ↦ absurd (refusal_among given xs (sym came ∙ to_come_refused files process clone defaults pool given it refused) none)
+        | inl refused ↦ absurd (refusal_among given xs (sym came ∙ to_come_refused files process clone defaults readers given it refused) none)
         | inr holds ↦ sym came ∙ comes_whole walk it starts (holds given steady)
       ]
 
   -- a walk that starts steady is steady, if it was begun over what is steady
-  pub steady_begun : (walk : WalkDirGeneric C S P A W R E) (it : DirEntryIter C S P A L R E) → StartsSteady files process clone defaults pool it → Starts walk it → IsSteady files process clone defaults (file_system_of walk) (callback_of walk) given → IsSteadyWalk files process clone defaults pool it given
+  pub steady_begun : (walk : WalkDirGeneric C S P A W R E) (it : DirEntryIter C S P A L R E) → StartsSteady files process clone defaults readers it → Starts walk it → IsSteady files process clone defaults (file_system_of walk) (callback_of walk) given → IsSteadyWalk files process clone defaults readers it given
   steady_begun walk it steadily starts steady = steadily given (rw (starts.file_system, starts.callback) steady)
 
   -- and so is one that no crew reads for
-  pub steady_start : (walk : WalkDirGeneric C S P A W R E) (it : DirEntryIter C S P A L R E) → by_crew it ≡ false → Starts walk it → IsSteady files process clone defaults (file_system_of walk) (callback_of walk) given → IsSteadyWalk files process clone defaults pool it given
-  steady_start walk it own starts steady = steady_begun walk it (λ value steadily. alone_steady files process clone defaults pool it value own steadily (starts.ahead own).done) starts steady
+  pub steady_start : (walk : WalkDirGeneric C S P A W R E) (it : DirEntryIter C S P A L R E) → by_crew it ≡ false → Starts walk it → IsSteady files process clone defaults (file_system_of walk) (callback_of walk) given → IsSteadyWalk files process clone defaults readers it given
+  steady_start walk it own starts steady = steady_begun walk it (λ value steadily. alone_steady files process clone defaults readers it value own steadily (starts.ahead own).done) starts steady
 
   -- A walk that was begun and called up to `None`, where no answer says that memory ran out, yields the whole walk from its root.
-  pub whole : (walk : WalkDirGeneric C S P A W R E) (it : DirEntryIter C S P A L R E) (xs : List (Result (DirEntry C A R E) (Error A))) → IsSteadyWalk files process clone defaults pool it given → Starts walk it → IsRefused it ⊎ Holds files process clone defaults walk it → IsSteady files process clone defaults (file_system_of walk) (callback_of walk) given → Drains (Answers files process clone defaults pool) it xs → NoneRefused xs
+  pub whole : (walk : WalkDirGeneric C S P A W R E) (it : DirEntryIter C S P A L R E) (xs : List (Result (DirEntry C A R E) (Error A))) → IsSteadyWalk files process clone defaults readers it given → Starts walk it → IsRefused it ⊎ Holds files process clone defaults walk it → IsSteady files process clone defaults (file_system_of walk) (callback_of walk) given → Drains (Answers files process clone defaults readers) it xs → NoneRefused xs
       → counted_list given xs ≡ whole_walk (job_for files given walk) (root_of walk) (given.read_dir_state (state_of walk))
   whole walk it xs steadily starts begun steady drains none =
-      answered_whole walk it xs starts begun steady none (all_answered files process clone defaults pool given xs it steadily drains none)
+      answered_whole walk it xs starts begun steady none (all_answered files process clone defaults readers given xs it steadily drains none)
 
   -- A walk is begun and filled into an empty vector, with fewer answers than were asked for. It yields the whole walk from its root, unless an answer says that memory ran out.
-  pub filled_whole : (walk : WalkDirGeneric C S P A W R E) (it new : DirEntryIter C S P A L R E) (n k : ℕ) (before xs : List (Result (DirEntry C A R E) (Error A))) → IsSteadyWalk files process clone defaults pool it given → Starts walk it → IsRefused it ⊎ Holds files process clone defaults walk it → IsSteady files process clone defaults (file_system_of walk) (callback_of walk) given → Fills files process clone defaults pool n it before (Ok k) xs new → before ≡ [] → length xs < n → NoneRefused xs
+  pub filled_whole : (walk : WalkDirGeneric C S P A W R E) (it new : DirEntryIter C S P A L R E) (n k : ℕ) (before xs : List (Result (DirEntry C A R E) (Error A))) → IsSteadyWalk files process clone defaults readers it given → Starts walk it → IsRefused it ⊎ Holds files process clone defaults walk it → IsSteady files process clone defaults (file_system_of walk) (callback_of walk) given → Fills files process clone defaults readers n it before (Ok k) xs new → before ≡ [] → length xs < n → NoneRefused xs
       → counted_list given xs ≡ whole_walk (job_for files given walk) (root_of walk) (given.read_dir_state (state_of walk))
   filled_whole walk it new n k before xs steadily starts begun steady fills empty fewer none =
-      answered_whole walk it xs starts begun steady none (filled_came files process clone defaults pool given it new n k before xs steadily fills empty fewer none)
+      answered_whole walk it xs starts begun steady none (filled_came files process clone defaults readers given it new n k before xs steadily fills empty fewer none)
 
   -- the same for one that no crew reads for
-  pub whole_filled : (walk : WalkDirGeneric C S P A W R E) (it new : DirEntryIter C S P A L R E) (n k : ℕ) (before xs : List (Result (DirEntry C A R E) (Error A))) → by_crew it ≡ false → Starts walk it → IsRefused it ⊎ Holds files process clone defaults walk it → IsSteady files process clone defaults (file_system_of walk) (callback_of walk) given → Fills files process clone defaults pool n it before (Ok k) xs new → before ≡ [] → length xs < n → NoneRefused xs
+  pub whole_filled : (walk : WalkDirGeneric C S P A W R E) (it new : DirEntryIter C S P A L R E) (n k : ℕ) (before xs : List (Result (DirEntry C A R E) (Error A))) → by_crew it ≡ false → Starts walk it → IsRefused it ⊎ Holds files process clone defaults walk it → IsSteady files process clone defaults (file_system_of walk) (callback_of walk) given → Fills files process clone defaults readers n it before (Ok k) xs new → before ≡ [] → length xs < n → NoneRefused xs
       → counted_list given xs ≡ whole_walk (job_for files given walk) (root_of walk) (given.read_dir_state (state_of walk))
   whole_filled walk it new n k before xs own starts begun steady fills empty fewer none =
       filled_whole walk it new n k before xs (steady_start walk it own starts steady) starts begun steady fills empty fewer none

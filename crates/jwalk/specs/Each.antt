@@ -7,7 +7,7 @@ use Rattle.std.specs.List.{FoldsTo}
 use denote.Param.Members.{Mut, Called}
 use Rattle.walk_fs.specs.declared.file_system.FileSystem as FileSystem
 use Rattle.jwalk_read.specs.declared.process_read_dir.ProcessReadDir as ProcessReadDir
-use Rattle.jwalk_crew.specs.declared.pool.Pool as Pool
+use Rattle.jwalk_readings.specs.declared.readers.Readers as Readers
 use Rattle.jwalk_entries.specs.declared.dir_entry_iter.DirEntryIter.{DirEntryIter}
 use Rattle.jwalk_entries.specs.DirEntryIter.{by_crew, IsRefused, StartsSteady}
 use Rattle.jwalk.specs.declared.walk_dir.WalkDirGeneric.{WalkDirGeneric}
@@ -21,10 +21,10 @@ module _ {C S P A W L R E : Type 0} (files : FileSystem.Ghosts S) (process : Pro
     pub holds : IsRefused it ⊎ Holds files process clone defaults walk it
 
   -- The walk of a builder over a crew, as `into_iter` begins it.
-  pub record BeginsOver (pool : Pool.Ghosts L C S P A R E) (walk : WalkDirGeneric C S P A W R E) (it : DirEntryIter C S P A L R E) : Type 0 where
+  pub record BeginsOver (readers : Readers.Ghosts L C S P A R E) (walk : WalkDirGeneric C S P A W R E) (it : DirEntryIter C S P A L R E) : Type 0 where
     pub starts : Starts walk it
     pub begins : (why_not : _) × Begins files process clone defaults walk why_not it
-    pub steady : StartsSteady files process clone defaults pool it
+    pub steady : StartsSteady files process clone defaults readers it
 
 module _ {I X : Type 0} (begins : I → Type 0) (next : I → Option X → I → Type 0) where
   -- A walk that began so yields answers until it ends, and `f` is called with each of them, in order.

@@ -19,5 +19,4 @@ pub use Rattle.jwalk_board.specs as jwalk_board
 pub use Rattle.tree_walk.specs as tree_walk
 pub use Rattle.jwalk_readings.specs as jwalk_readings
 pub use Rattle.tree_crew.specs as tree_crew
-pub use Rattle.jwalk_crew.specs as jwalk_crew
 pub use Rattle.jwalk_entries.specs as jwalk_entries

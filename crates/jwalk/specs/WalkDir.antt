@@ -23,7 +23,7 @@ use Rattle.jwalk_readings.specs.ReadAhead.{BeginsWith}
 use Rattle.jwalk_entries.specs.DirEntryIter as iter
 use Rattle.tree_crew.specs.declared.crew.Crew.{Crew}
 use Rattle.tree_crew.specs.Crew.{workers_of, limit_of}
-use Rattle.jwalk_crew.specs.declared.pool.Pool as Pool
+use Rattle.jwalk_readings.specs.declared.readers.Readers as Readers
 use Rattle.tree_crew.specs.declared.crew.NotStarted.{NotStarted}
 use Rattle.tree_crew.specs.declared.crew.NotStarted.TheVariants.{Busy, Memory}
 use Rattle.jwalk_readings.specs.declared.parallelism.Parallelism.{Parallelism}
@@ -139,8 +139,8 @@ pub record SetsWorkers {H C S P A V R E : Type 0} (count : ℕ) (old : WalkDirGe
   pub state : state_of new ≡ state_of old
 
 -- Of a walk's crew, at most its limit and one readings are made and not handed on.
-abbrev pub KeepsLimit : {H C S P A L R E : Type 0} → Pool.Ghosts L C S P A R E → WalkDirGeneric C S P A (Crew H) R E → DirEntryIter C S P A L R E → Type 0
-KeepsLimit pool walk it = IfSome walk.crew (λ own. iter.most_ahead pool it ≤ limit_of (arc_value own.0) + 1)
+abbrev pub KeepsLimit : {H C S P A L R E : Type 0} → Readers.Ghosts L C S P A R E → WalkDirGeneric C S P A (Crew H) R E → DirEntryIter C S P A L R E → Type 0
+KeepsLimit readers walk it = IfSome walk.crew (λ own. iter.most_ahead readers it ≤ limit_of (arc_value own.0) + 1)
 
 -- A call of the builder that changes the types of the states, of a walk without a callback. The root's state is a default then, and nothing else changes.
 pub record SetsStates {C D S A W R E Q F : Type 0} (is_default : Q → Type 0) (old : WalkDirGeneric C S NoProcess A W R E) (new : WalkDirGeneric D S NoProcess A W Q F) : Type 0 where

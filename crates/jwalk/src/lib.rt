@@ -16,7 +16,7 @@ mod host;
 pub mod read_dir;
 mod walk_dir;
 
-pub use crew::{Crew, NoPool, Pool};
+pub use crew::{Crew, NoCrew, Readers};
 pub use host::Host;
 pub use jwalk_board::board;
 pub use jwalk_entries::dir_entry_iter;

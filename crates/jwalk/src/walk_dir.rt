@@ -11,7 +11,6 @@ mod workers;
 
 use jwalk_callbacks::by_fn::ByFn;
 use jwalk_callbacks::calls::Closure;
-use jwalk_crew::pool::NoPool;
 use jwalk_entries::dir_entry_iter::DirEntryIter;
 use jwalk_read::client_state::ClientState;
 use jwalk_read::dir_entry::DirEntry;
@@ -20,6 +19,7 @@ use jwalk_read::job::Job;
 use jwalk_read::options::Options;
 use jwalk_read::process_read_dir::{NoProcess, ProcessReadDir};
 use jwalk_readings::parallelism::Parallelism;
+use jwalk_readings::readers::NoCrew;
 use real_fs::real_fs::RealFs;
 use std::alloc::{AllocError, Allocator, Global};
 use std::rt::{Files, HostRuntime};
@@ -30,7 +30,7 @@ use walk_fs::file_system::FileSystem;
 /// A walk that has not begun: a root in a file system, and options.
 ///
 /// `C` is the pair of states that a user keeps beside directories and entries, `((), ())` for none. `S` is the file
-/// system, `P` the callback (`NoProcess` for none), and `A` the allocator. `W` is the crew that reads ahead, `NoPool`
+/// system, `P` the callback (`NoProcess` for none), and `A` the allocator. `W` is the crew that reads ahead, `NoCrew`
 /// for none.
 #[derive(Drop)]
 pub struct WalkDirGeneric<
@@ -38,7 +38,7 @@ pub struct WalkDirGeneric<
     S: FileSystem,
     P: ProcessReadDir<C, A>,
     A: Allocator + Copy = Global,
-    W = NoPool,
+    W = NoCrew,
 > {
     fs: S,
     root: String<A>,
@@ -245,7 +245,7 @@ impl<C: ClientState, S: FileSystem, P: ProcessReadDir<C, A>, A: Allocator + Copy
     S,
     P,
     A,
-    NoPool,
+    NoCrew,
 > {
     ghost use Rattle.jwalk.specs.WalkDir.{callback_of, Starts, Holds};
     ghost use Rattle.jwalk_entries.specs.DirEntryIter.{by_crew, is_refused, IsRefused};
@@ -361,6 +361,6 @@ impl<C: ClientState, S: FileSystem, A: Allocator + Copy> IntoIterator
         ⟦<NoProcess as ProcessReadDir<C, A>>⟧ C.ReadDirState.Clone C.DirEntryState.Default walk it) };
 
     fn into_iter(self) -> DirEntryIter<C, S, NoProcess, A> {
-        WalkDirGeneric::<C, S, NoProcess, A, NoPool>::into_iter(self)
+        WalkDirGeneric::<C, S, NoProcess, A, NoCrew>::into_iter(self)
     }
 }

@@ -13,7 +13,7 @@ use Rattle.jwalk_read.specs.Job.{greatest_depth}
 use Rattle.jwalk_readings.specs.Reads.{ReadsFirstBy, ReadsNextBy}
 use Rattle.jwalk_readings.specs.ReadAhead.{ReadAhead, nothing_ahead, BeginsWith}
 use Rattle.jwalk_readings.specs.BatchReads.{PassesAddress}
-use Rattle.jwalk_crew.specs.declared.pool.Pool as Pool
+use Rattle.jwalk_readings.specs.declared.readers.Readers as Readers
 use Rattle.jwalk_entries.specs.declared.dir_entry_iter.DirEntryIter.{DirEntryIter}
 use Rattle.jwalk_readings.specs.declared.read_dir_iter.ReadDirIter.{ReadDirIter}
 use Rattle.jwalk_readings.specs.ReadDirIter as readings
@@ -54,10 +54,10 @@ pub same_position : {R E : Type 0} {items others : List (Item R E)} {unread left
     → ◌≡◌ {A = Position R E} (record { items = items; unread = unread; frontier = frontier; ahead = ahead }) (record { items = others; unread = left; frontier = addresses; ahead = then })
 same_position these those addresses ahead = cc
 
-module _ {C S P A L R E : Type 0} (files : FileSystem.Ghosts S) (process : ProcessReadDir.Ghosts P C A R E) (clone : Clone.Ghosts R) (defaults : Default.Ghosts E) (pool : Pool.Ghosts L C S P A R E) where
+module _ {C S P A L R E : Type 0} (files : FileSystem.Ghosts S) (process : ProcessReadDir.Ghosts P C A R E) (clone : Clone.Ghosts R) (defaults : Default.Ghosts E) (readers : Readers.Ghosts L C S P A R E) where
   module _ (it : DirEntryIter C S P A L R E) where
     abbrev Many : Position R E → List (Item R E) → ℕ → Position R E → Type 0
-    Many = PassesMany files process clone defaults pool it
+    Many = PassesMany files process clone defaults readers it
 
     -- what is read ahead grows by less than the width with each directory that is entered
     pub grows : {from to : Position R E} {passed : List (Item R E)} {entered : ℕ} → Many from passed entered to → length to.ahead.done + entered ≤ length from.ahead.done + entered * width_of it
@@ -69,7 +69,7 @@ module _ {C S P A L R E : Type 0} (files : FileSystem.Ghosts S) (process : Proce
         omega (arith, grows rest, enters_fewer files process clone defaults (job_of it) (width_of it) (by_crew it) (next_address from.frontier) from.ahead mid.ahead enters.ahead)
 
     -- one item more is passed
-    pub one_more : {from mid to : Position R E} {passed : List (Item R E)} {entered : ℕ} {x : Item R E} → Many from passed entered mid → PassesOne files process clone defaults pool it mid x to → (n : ℕ) × Many from (passed ++ x ∷ []) n to
+    pub one_more : {from mid to : Position R E} {passed : List (Item R E)} {entered : ℕ} {x : Item R E} → Many from passed entered mid → PassesOne files process clone defaults readers it mid x to → (n : ℕ) × Many from (passed ++ x ∷ []) n to
     one_more none_passed one = elim one [
       | inl plain ↦ (0, one_passed plain none_passed)
       | inr enters ↦ (1, one_entered enters none_passed)
@@ -78,8 +78,8 @@ module _ {C S P A L R E : Type 0} (files : FileSystem.Ghosts S) (process : Proce
     one_more (one_entered enters rest) one = let more = one_more rest one in (suc more.0, one_entered enters more.1)
 
   -- what is passed later is so by the walk as it was before
-  pub passed_before : (old mid : DirEntryIter C S P A L R E) → by_crew mid ≡ by_crew old → job_of mid ≡ job_of old → width_of mid ≡ width_of old → ReadsStaySteady files process clone defaults pool old mid
-      → {from to : Position R E} {x : Item R E} → PassesOne files process clone defaults pool mid from x to → PassesOne files process clone defaults pool old from x to
+  pub passed_before : (old mid : DirEntryIter C S P A L R E) → by_crew mid ≡ by_crew old → job_of mid ≡ job_of old → width_of mid ≡ width_of old → ReadsStaySteady files process clone defaults readers old mid
+      → {from to : Position R E} {x : Item R E} → PassesOne files process clone defaults readers mid from x to → PassesOne files process clone defaults readers old from x to
   passed_before old mid crew job width steady {from} {to} one = elim one [
     | inl plain ↦ inl plain
     | inr enters ↦
@@ -100,7 +100,7 @@ module _ {C S P A L R E : Type 0} (files : FileSystem.Ghosts S) (process : Proce
             first = reads.first;
             rest = reads.rest;
             took = reads.took;
-            reading = record { lawful = lawful; few = reads.reading.few; value = known_before files process clone defaults pool old mid crew job steady at enters.entry reads.first enters.outcome reads.reading.value };
+            reading = record { lawful = lawful; few = reads.reading.few; value = known_before files process clone defaults readers old mid crew job steady at enters.entry reads.first enters.outcome reads.reading.value };
             stacks = reads.stacks;
           };
           told = enters.told;
@@ -112,11 +112,11 @@ module _ {C S P A L R E : Type 0} (files : FileSystem.Ghosts S) (process : Proce
 
   -- a directory's entry is passed, where this came of its reading
   pub passed_by_reading : (old new : DirEntryIter C S P A L R E) (x : Item R E) (rest : List (Item R E)) (read : Option (Outcome R E)) (answer : Item R E) (mid : ReadDirIter C S P A L R E) → items_of old ≡ x ∷ rest → has_directory x ≡ true → new.reads ≡ mid
-      → ReadsNextBy clone (KnownAt files process clone defaults pool old (next_address (frontier_of old)) x) (greatest_depth (job_of old)) (unread_of old) read (readings.to_read mid)
+      → ReadsNextBy clone (KnownAt files process clone defaults readers old (next_address (frontier_of old)) x) (greatest_depth (job_of old)) (unread_of old) read (readings.to_read mid)
       → EntersNextBy files process clone defaults (by_crew old) (job_of old) (width_of old) (next_address (frontier_of old)) (read_ahead old) read (readings.read_ahead mid)
       → PassesAddress (frontier_of old) read (readings.frontier_of mid)
       → Receives read x rest answer (items_of new)
-      → PassesOne files process clone defaults pool old (position_of old) answer (position_of new)
+      → PassesOne files process clone defaults readers old (position_of old) answer (position_of new)
   passed_by_reading old new x rest None answer mid items dir same reads enters passes received = inl (record {
     rest = rest;
     first = items ∙ ap (λ a. a ∷ rest) (sym received.0);
@@ -129,7 +129,7 @@ module _ {C S P A L R E : Type 0} (files : FileSystem.Ghosts S) (process : Proce
     first = items;
     has = dir;
     outcome = outcome;
-    reads = subst (λ (r : ReadDirIter C S P A L R E). ReadsFirstBy clone (KnownAt files process clone defaults pool old (next_address (frontier_of old)) x) (greatest_depth (job_of old)) (unread_of old) outcome (readings.to_read r)) (sym same) reads;
+    reads = subst (λ (r : ReadDirIter C S P A L R E). ReadsFirstBy clone (KnownAt files process clone defaults readers old (next_address (frontier_of old)) x) (greatest_depth (job_of old)) (unread_of old) outcome (readings.to_read r)) (sym same) reads;
     told = received.0;
     items = received.1;
     frontier = ap readings.frontier_of same ∙ passes;
@@ -137,5 +137,5 @@ module _ {C S P A L R E : Type 0} (files : FileSystem.Ghosts S) (process : Proce
   })
 
   -- an item without a directory is passed
-  pub passed_alone : (old : DirEntryIter C S P A L R E) (from : Position R E) (x : Item R E) (rest : List (Item R E)) → from.items ≡ x ∷ rest → has_directory x ≡ false → PassesOne files process clone defaults pool old from x (record from { items = rest })
+  pub passed_alone : (old : DirEntryIter C S P A L R E) (from : Position R E) (x : Item R E) (rest : List (Item R E)) → from.items ≡ x ∷ rest → has_directory x ≡ false → PassesOne files process clone defaults readers old from x (record from { items = rest })
   passed_alone old from x rest items none = inl (record { rest = rest; first = items; none_below = alone_at from.items rest x from.unread items none; others = refl })

@@ -24,7 +24,7 @@ use Rattle.jwalk_read.specs.Error.{failure}
 use Rattle.jwalk_read.specs.Entry.{item}
 use Rattle.jwalk_read.specs.Given.{Given, counted_item, counted_spec, counted_reading, ClonesCount}
 use Rattle.jwalk_read.specs.Job.{options_of, greatest_depth, job_by, IsSteadyJob}
-use Rattle.jwalk_crew.specs.declared.pool.Pool as Pool
+use Rattle.jwalk_readings.specs.declared.readers.Readers as Readers
 use Rattle.jwalk_entries.specs.declared.dir_entry_iter.DirEntryIter.{DirEntryIter}
 use Rattle.jwalk_entries.specs.Step.{ReadsUpTo, IsAtDirectory, StopsAtDirectory}
 use Rattle.jwalk_readings.specs.ReadAhead.{nothing_ahead}
@@ -80,7 +80,7 @@ module _ {C S P A L R E : Type 0} where
       let both = sourced (items_of it) (unread_of it) count in
       record { each = rw (held_rest it started) both.0; unread = rw (held_rest it started) both.1 }
 
-module _ {C S P A L R E : Type 0} (files : FileSystem.Ghosts S) (process : ProcessReadDir.Ghosts P C A R E) (clone : Clone.Ghosts R) (defaults : Default.Ghosts E) (pool : Pool.Ghosts L C S P A R E) (old new : DirEntryIter C S P A L R E) where
+module _ {C S P A L R E : Type 0} (files : FileSystem.Ghosts S) (process : ProcessReadDir.Ghosts P C A R E) (clone : Clone.Ghosts R) (defaults : Default.Ghosts E) (readers : Readers.Ghosts L C S P A R E) (old new : DirEntryIter C S P A L R E) where
   -- what is listed of items and specifications over the old walk's job
   abbrev Listing : Given R E → List (Item R E) → List (Spec R) → List (Item Worth Worth)
   Listing given items specs = listing (reading (job_by files given (job_of old))) (greatest_depth (job_of old)) (pair_up (map (counted_item given) items) (map (counted_spec given) specs))
@@ -94,15 +94,15 @@ module _ {C S P A L R E : Type 0} (files : FileSystem.Ghosts S) (process : Proce
       ∙ ap (value.to_come (reading (job_by files given (job_of old))) (min_depth_of old) (greatest_depth (job_of old))) (held_by_rest given new started)
 
   -- a walk stays steady where its readings do, and its directories stay below their items
-  stays : by_crew new ≡ by_crew old → ReadsStaySteady files process clone defaults pool old new → (ArePlaced (by_crew old) (items_of old) (unread_of old) → ArePlaced (by_crew old) (items_of new) (unread_of new)) → StaysSteady files process clone defaults pool old new
+  stays : by_crew new ≡ by_crew old → ReadsStaySteady files process clone defaults readers old new → (ArePlaced (by_crew old) (items_of old) (unread_of old) → ArePlaced (by_crew old) (items_of new) (unread_of new)) → StaysSteady files process clone defaults readers old new
   stays crew keeps placed = λ given steady. record { reads = keeps given steady.reads; placed = rw crew (placed steady.placed) }
 
   -- items were left out, and then one is passed and yielded
   abbrev Knows : Item R E → Spec R → Outcome R E → Type 0
-  Knows = Known files process clone defaults pool old
+  Knows = Known files process clone defaults readers old
 
   answers_some : (x : Result (DirEntry C A R E) (Error A)) → old.refused ≡ false → new.refused ≡ false → by_crew new ≡ by_crew old → job_of new ≡ job_of old
-      → ReadsUpTo clone Knows (job_of old) (items_of old) (unread_of old) (Some (item x)) (items_of new) (unread_of new) → width_of new ≡ width_of old → most_ahead pool new ≤ most_ahead pool old → ReadsStaySteady files process clone defaults pool old new → GrowsAhead files process clone defaults pool old (Some (item x)) new → Answers files process clone defaults pool old (Some x) new
+      → ReadsUpTo clone Knows (job_of old) (items_of old) (unread_of old) (Some (item x)) (items_of new) (unread_of new) → width_of new ≡ width_of old → most_ahead readers new ≤ most_ahead readers old → ReadsStaySteady files process clone defaults readers old new → GrowsAhead files process clone defaults readers old (Some (item x)) new → Answers files process clone defaults readers old (Some x) new
   answers_some x began started crew job reads width most keeps grown =
       let j = job_of old in
       let left = reads.2 in
@@ -130,14 +130,14 @@ module _ {C S P A L R E : Type 0} (files : FileSystem.Ghosts S) (process : Proce
         kept = λ refused. absurd cc;
         coming = λ given counted. inr (
             come_old given began
-            ∙ left_to_come clone Knows j (items_of old) (unread_of old) files given (clones_if_steady files process clone defaults pool old.reads given counted.reads) (items_known files process clone defaults pool old given counted.reads) left
-            ∙ ap (answers (min_depth_of old)) (next_listed clone Knows j files given (clones_if_steady files process clone defaults pool old.reads given counted.reads) (items_known files process clone defaults pool old given counted.reads) next)
+            ∙ left_to_come clone Knows j (items_of old) (unread_of old) files given (clones_if_steady files process clone defaults readers old.reads given counted.reads) (items_known files process clone defaults readers old given counted.reads) left
+            ∙ ap (answers (min_depth_of old)) (next_listed clone Knows j files given (clones_if_steady files process clone defaults readers old.reads given counted.reads) (items_known files process clone defaults readers old given counted.reads) next)
             ∙ rw (counted-is_answered given.read_dir_state given.dir_entry_state (min_depth_of old) (item x), kept) (ap (λ l. counted_item given (item x) ∷ l) (sym (come_new given started job))));
       }
 
   -- all that was held is left out
   answers_none : old.refused ≡ false → new.refused ≡ false → by_crew new ≡ by_crew old → job_of new ≡ job_of old
-      → ReadsUpTo clone Knows (job_of old) (items_of old) (unread_of old) None (items_of new) (unread_of new) → width_of new ≡ width_of old → most_ahead pool new ≤ most_ahead pool old → ReadsStaySteady files process clone defaults pool old new → GrowsAhead files process clone defaults pool old None new → Answers files process clone defaults pool old None new
+      → ReadsUpTo clone Knows (job_of old) (items_of old) (unread_of old) None (items_of new) (unread_of new) → width_of new ≡ width_of old → most_ahead readers new ≤ most_ahead readers old → ReadsStaySteady files process clone defaults readers old new → GrowsAhead files process clone defaults readers old None new → Answers files process clone defaults readers old None new
   answers_none began started crew job reads width most keeps grown =
       let j = job_of old in
       let left = reads.2 in
@@ -165,18 +165,18 @@ module _ {C S P A L R E : Type 0} (files : FileSystem.Ghosts S) (process : Proce
         kept = λ refused. absurd cc;
         coming = λ given counted.
             come_old given began
-            ∙ left_to_come clone Knows j (items_of old) (unread_of old) files given (clones_if_steady files process clone defaults pool old.reads given counted.reads) (items_known files process clone defaults pool old given counted.reads) left
+            ∙ left_to_come clone Knows j (items_of old) (unread_of old) files given (clones_if_steady files process clone defaults readers old.reads given counted.reads) (items_known files process clone defaults readers old given counted.reads) left
             ∙ ap (λ l. answers (min_depth_of old) (Listing given l unread)) none;
       }
 
   pub answers_reads : (answer : Option (Result (DirEntry C A R E) (Error A))) → old.refused ≡ false → new.refused ≡ false → by_crew new ≡ by_crew old → job_of new ≡ job_of old
-      → ReadsUpTo clone Knows (job_of old) (items_of old) (unread_of old) (option_map item answer) (items_of new) (unread_of new) → width_of new ≡ width_of old → most_ahead pool new ≤ most_ahead pool old → ReadsStaySteady files process clone defaults pool old new → GrowsAhead files process clone defaults pool old (option_map item answer) new → Answers files process clone defaults pool old answer new
+      → ReadsUpTo clone Knows (job_of old) (items_of old) (unread_of old) (option_map item answer) (items_of new) (unread_of new) → width_of new ≡ width_of old → most_ahead readers new ≤ most_ahead readers old → ReadsStaySteady files process clone defaults readers old new → GrowsAhead files process clone defaults readers old (option_map item answer) new → Answers files process clone defaults readers old answer new
   answers_reads None began started crew job reads width most keeps grown = answers_none began started crew job reads width most keeps grown
   answers_reads (Some x) began started crew job reads width most keeps grown = answers_some x began started crew job reads width most keeps grown
 
   -- the walk ends early below a directory
-  pub answers_stopped : (error : Error A) → Tells (by_crew old) (failure error) → ((given : Given R E) → IsSteadyWalk files process clone defaults pool old given → Tells false (failure error)) → old.refused ≡ false → new.refused ≡ false → by_crew new ≡ by_crew old → job_of new ≡ job_of old → items_of new ≡ [] → unread_of new ≡ []
-      → StopsAtDirectory clone Knows (job_of old) (items_of old) (unread_of old) → width_of new ≡ width_of old → most_ahead pool new ≤ most_ahead pool old → ReadsStaySteady files process clone defaults pool old new → read_ahead new ≡ nothing_ahead → Answers files process clone defaults pool old (Some (Err error)) new
+  pub answers_stopped : (error : Error A) → Tells (by_crew old) (failure error) → ((given : Given R E) → IsSteadyWalk files process clone defaults readers old given → Tells false (failure error)) → old.refused ≡ false → new.refused ≡ false → by_crew new ≡ by_crew old → job_of new ≡ job_of old → items_of new ≡ [] → unread_of new ≡ []
+      → StopsAtDirectory clone Knows (job_of old) (items_of old) (unread_of old) → width_of new ≡ width_of old → most_ahead readers new ≤ most_ahead readers old → ReadsStaySteady files process clone defaults readers old new → read_ahead new ≡ nothing_ahead → Answers files process clone defaults readers old (Some (Err error)) new
   answers_stopped error tells steadily began started crew job none no_unread stops width most keeps nothing_left =
       let j = job_of old in
       let left = stops.2 in
@@ -202,7 +202,7 @@ module _ {C S P A L R E : Type 0} (files : FileSystem.Ghosts S) (process : Proce
       }
 
   -- a walk that ran out of memory at its start yields the error that says so
-  pub answers_refusal : (error : Error A) → failure error ≡ memory → old.refused ≡ true → new.refused ≡ false → by_crew new ≡ by_crew old → job_of new ≡ job_of old → items_of new ≡ items_of old → unread_of new ≡ unread_of old → width_of new ≡ width_of old → most_ahead pool new ≤ most_ahead pool old → ReadsStaySteady files process clone defaults pool old new → read_ahead new ≡ read_ahead old → Answers files process clone defaults pool old (Some (Err error)) new
+  pub answers_refusal : (error : Error A) → failure error ≡ memory → old.refused ≡ true → new.refused ≡ false → by_crew new ≡ by_crew old → job_of new ≡ job_of old → items_of new ≡ items_of old → unread_of new ≡ unread_of old → width_of new ≡ width_of old → most_ahead readers new ≤ most_ahead readers old → ReadsStaySteady files process clone defaults readers old new → read_ahead new ≡ read_ahead old → Answers files process clone defaults readers old (Some (Err error)) new
   answers_refusal error told refused started crew job items unread width most keeps same_ahead =
       let front = held_refused old refused in
       let rest : held new ≡ pair_up (items_of old) (unread_of old) = held_rest new started ∙ ap (λ l. pair_up l (unread_of new)) items ∙ ap (pair_up (items_of old)) unread in
@@ -228,8 +228,8 @@ module _ {C S P A L R E : Type 0} (files : FileSystem.Ghosts S) (process : Proce
       }
 
 -- a walk that no crew reads for is steady over a steady job, if nothing was read early
-pub alone_steady : {C S P A L R E : Type 0} (files : FileSystem.Ghosts S) (process : ProcessReadDir.Ghosts P C A R E) (clone : Clone.Ghosts R) (defaults : Default.Ghosts E) (pool : Pool.Ghosts L C S P A R E) (it : DirEntryIter C S P A L R E) (given : Given R E) → by_crew it ≡ false → IsSteadyJob files process clone defaults (job_of it) given → (read_ahead it).done ≡ [] → IsSteadyWalk files process clone defaults pool it given
-alone_steady files process clone defaults pool it given own steady none = record { reads = steady_at_rest files process clone defaults pool it.reads given own steady none; placed = rw own tt }
+pub alone_steady : {C S P A L R E : Type 0} (files : FileSystem.Ghosts S) (process : ProcessReadDir.Ghosts P C A R E) (clone : Clone.Ghosts R) (defaults : Default.Ghosts E) (readers : Readers.Ghosts L C S P A R E) (it : DirEntryIter C S P A L R E) (given : Given R E) → by_crew it ≡ false → IsSteadyJob files process clone defaults (job_of it) given → (read_ahead it).done ≡ [] → IsSteadyWalk files process clone defaults readers it given
+alone_steady files process clone defaults readers it given own steady none = record { reads = steady_at_rest files process clone defaults readers it.reads given own steady none; placed = rw own tt }
 
 module _ {C S P A L R E : Type 0} (clone : Clone.Ghosts R) (r : Reading R E) (it : DirEntryIter C S P A L R E) where
   -- a walk that has only a list, with its directories, holds the pairs of that list

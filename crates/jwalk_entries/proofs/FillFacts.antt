@@ -18,7 +18,7 @@ use Rattle.jwalk_read.specs.declared.dir_entry.DirEntry.{DirEntry}
 use Rattle.jwalk_read.specs.Entry.{item}
 use Rattle.jwalk_read.specs.Given.{Given, counted_item}
 use Rattle.jwalk_read.specs.Job.{options_of, greatest_depth, job_by}
-use Rattle.jwalk_crew.specs.declared.pool.Pool as Pool
+use Rattle.jwalk_readings.specs.declared.readers.Readers as Readers
 use Rattle.jwalk_entries.specs.declared.dir_entry_iter.DirEntryIter.{DirEntryIter}
 use Rattle.jwalk_entries.specs.DirEntryIter.{by_crew, job_of, min_depth_of, width_of, held, weight_of, to_come, most_ahead, IsWithin, IsSourced, Stops, IsSteadyWalk, Answers, ComesFirst, EndsEarly, FillCalls, Fills}
 use Rattle.jwalk_entries.proofs.AnswerFacts.{held_by_nothing}
@@ -27,9 +27,9 @@ use Rattle.jwalk_entries.proofs.AnswerFacts.{held_by_nothing}
 nothing_answered : {R E : Type 0} (min_depth : ℕ) (old : List (Pair R E)) (x : Item R E) (new : List (Pair R E)) → old ≡ [] → AnswersPlainly min_depth old (Some x) new → ⊥
 nothing_answered min_depth old x new none plain = let no = rw none at plain in absurd (let is : Some x ≡ None = no.0 in cc)
 
-module _ {C S P A L R E : Type 0} (files : FileSystem.Ghosts S) (process : ProcessReadDir.Ghosts P C A R E) (clone : Clone.Ghosts R) (defaults : Default.Ghosts E) (pool : Pool.Ghosts L C S P A R E) where
+module _ {C S P A L R E : Type 0} (files : FileSystem.Ghosts S) (process : ProcessReadDir.Ghosts P C A R E) (clone : Clone.Ghosts R) (defaults : Default.Ghosts E) (readers : Readers.Ghosts L C S P A R E) where
   abbrev Steps : DirEntryIter C S P A L R E → Option (Result (DirEntry C A R E) (Error A)) → DirEntryIter C S P A L R E → Type 0
-  Steps = Answers files process clone defaults pool
+  Steps = Answers files process clone defaults readers
 
   -- calls change no job
   pub same_job : (xs : List (Result (DirEntry C A R E) (Error A))) (s t : DirEntryIter C S P A L R E) → Yields Steps s xs t → job_of t ≡ job_of s
@@ -47,8 +47,8 @@ module _ {C S P A L R E : Type 0} (files : FileSystem.Ghosts S) (process : Proce
   same_width (x ∷ xs) s t (j, step, rest) = same_width xs j t rest ∙ step.width
 
   -- nor may more readings be ahead then
-  fewer_ahead : (xs : List (Result (DirEntry C A R E) (Error A))) (s t : DirEntryIter C S P A L R E) → Yields Steps s xs t → most_ahead pool t ≤ most_ahead pool s
-  fewer_ahead [] s t same = rw (sym (ap (most_ahead pool) same)) (omega arith)
+  fewer_ahead : (xs : List (Result (DirEntry C A R E) (Error A))) (s t : DirEntryIter C S P A L R E) → Yields Steps s xs t → most_ahead readers t ≤ most_ahead readers s
+  fewer_ahead [] s t same = rw (sym (ap (most_ahead readers) same)) (omega arith)
   fewer_ahead (x ∷ xs) s t (j, step, rest) = omega (arith, step.most, fewer_ahead xs j t rest)
 
   -- every answer is between the least and the greatest depth
@@ -65,8 +65,8 @@ module _ {C S P A L R E : Type 0} (files : FileSystem.Ghosts S) (process : Proce
   sourced (x ∷ xs) s t (j, step, rest) h = sourced xs j t rest (step.sourced h)
 
   -- a steady walk stays so
-  pub stays_steady : (given : Given R E) (xs : List (Result (DirEntry C A R E) (Error A))) (s t : DirEntryIter C S P A L R E) → Yields Steps s xs t → IsSteadyWalk files process clone defaults pool s given → IsSteadyWalk files process clone defaults pool t given
-  stays_steady given [] s t same steady = subst (λ k. IsSteadyWalk files process clone defaults pool k given) same steady
+  pub stays_steady : (given : Given R E) (xs : List (Result (DirEntry C A R E) (Error A))) (s t : DirEntryIter C S P A L R E) → Yields Steps s xs t → IsSteadyWalk files process clone defaults readers s given → IsSteadyWalk files process clone defaults readers t given
+  stays_steady given [] s t same steady = subst (λ k. IsSteadyWalk files process clone defaults readers k given) same steady
   stays_steady given (x ∷ xs) s t (j, step, rest) steady = stays_steady given xs j t rest (step.steady given steady)
 
   -- each answer makes the walk lighter
@@ -103,7 +103,7 @@ module _ {C S P A L R E : Type 0} (files : FileSystem.Ghosts S) (process : Proce
   ]
 
   -- what calls yield is the first of what was to come, or a beginning of it, followed by the error that says that memory ran out
-  pub come : (given : Given R E) (xs : List (Result (DirEntry C A R E) (Error A))) (s t : DirEntryIter C S P A L R E) → IsSteadyWalk files process clone defaults pool s given → Yields Steps s xs t → ComesFirst files given s (map item xs) t ⊎ EndsEarly files given s (map item xs) t
+  pub come : (given : Given R E) (xs : List (Result (DirEntry C A R E) (Error A))) (s t : DirEntryIter C S P A L R E) → IsSteadyWalk files process clone defaults readers s given → Yields Steps s xs t → ComesFirst files given s (map item xs) t ⊎ EndsEarly files given s (map item xs) t
   come given [] s t steady same = inl (ap (to_come files given) same)
   come given (x ∷ xs) s t steady (j, step, rest) =
       elim (step.coming given steady) [
@@ -116,45 +116,45 @@ pub calls_on : {S X : Type 0} (steps : S → Option X → S → Type 0) (xs ys :
 calls_on steps [] ys s t u same rest = subst (λ k. Yields steps k ys u) (sym same) rest
 calls_on steps (x ∷ xs) ys s t u (j, first, more) rest = (j, first, calls_on steps xs ys j t u more rest)
 
-module _ {C S P A L R E : Type 0} (files : FileSystem.Ghosts S) (process : ProcessReadDir.Ghosts P C A R E) (clone : Clone.Ghosts R) (defaults : Default.Ghosts E) (pool : Pool.Ghosts L C S P A R E) (n told : ℕ) (start old new : DirEntryIter C S P A L R E) (earlier answered : List (Result (DirEntry C A R E) (Error A))) where
+module _ {C S P A L R E : Type 0} (files : FileSystem.Ghosts S) (process : ProcessReadDir.Ghosts P C A R E) (clone : Clone.Ghosts R) (defaults : Default.Ghosts E) (readers : Readers.Ghosts L C S P A R E) (n told : ℕ) (start old new : DirEntryIter C S P A L R E) (earlier answered : List (Result (DirEntry C A R E) (Error A))) where
   -- calls of `next`, and then a call of `fill` that returns all it was asked for, are calls of `next`, one after another
-  pub filled_on : Yields (Answers files process clone defaults pool) start earlier old → FillCalls files process clone defaults pool n old answered (Ok told) new → told ≡ n → Yields (Answers files process clone defaults pool) start (earlier ++ answered) new
+  pub filled_on : Yields (Answers files process clone defaults readers) start earlier old → FillCalls files process clone defaults readers n old answered (Ok told) new → told ≡ n → Yields (Answers files process clone defaults readers) start (earlier ++ answered) new
   filled_on before calls all =
-      calls_on (Answers files process clone defaults pool) earlier answered start old new before
+      calls_on (Answers files process clone defaults readers) earlier answered start old new before
       (elim calls [ inl full ↦ full.1 | inr ended ↦ absurd (omega (arith, ended.0, all)) ])
 
   -- if it returns fewer, they are all calls up to the one that returns `None`
-  pub filled_to_end : Yields (Answers files process clone defaults pool) start earlier old → FillCalls files process clone defaults pool n old answered (Ok told) new → told ≢ n → Drains (Answers files process clone defaults pool) start (earlier ++ answered)
+  pub filled_to_end : Yields (Answers files process clone defaults readers) start earlier old → FillCalls files process clone defaults readers n old answered (Ok told) new → told ≢ n → Drains (Answers files process clone defaults readers) start (earlier ++ answered)
   filled_to_end before calls fewer = elim calls [
     | inl full ↦ absurd (fewer full.0)
     | inr ended ↦
         let last = ended.1.0 in
-        (new, (last, calls_on (Answers files process clone defaults pool) earlier answered start old last before ended.1.1, ended.1.2))
+        (new, (last, calls_on (Answers files process clone defaults readers) earlier answered start old last before ended.1.1, ended.1.2))
   ]
 
-module _ {C S P A L R E : Type 0} (files : FileSystem.Ghosts S) (process : ProcessReadDir.Ghosts P C A R E) (clone : Clone.Ghosts R) (defaults : Default.Ghosts E) (pool : Pool.Ghosts L C S P A R E) (n : ℕ) (old : DirEntryIter C S P A L R E) (before : List (Result (DirEntry C A R E) (Error A))) where
+module _ {C S P A L R E : Type 0} (files : FileSystem.Ghosts S) (process : ProcessReadDir.Ghosts P C A R E) (clone : Clone.Ghosts R) (defaults : Default.Ghosts E) (readers : Readers.Ghosts L C S P A R E) (n : ℕ) (old : DirEntryIter C S P A L R E) (before : List (Result (DirEntry C A R E) (Error A))) where
   -- What was filled in so far: as many answers as are counted, at most n, each from a call of `next`.
   pub record Filled (filled : ℕ) (now : List (Result (DirEntry C A R E) (Error A))) (new : DirEntryIter C S P A L R E) : Type 0 where
     pub answered : List (Result (DirEntry C A R E) (Error A))
     pub appended : now ≡ before ++ answered
     pub number : filled ≡ length answered
     pub few : filled ≤ n
-    pub calls : Yields (Answers files process clone defaults pool) old answered new
+    pub calls : Yields (Answers files process clone defaults readers) old answered new
 
   pub none_filled : Filled 0 before old
   none_filled = record { answered = []; appended = sym (append-nil before); number = refl; few = omega arith; calls = refl }
 
-  pub one_filled : (filled : ℕ) (now : List (Result (DirEntry C A R E) (Error A))) (mid new : DirEntryIter C S P A L R E) (x : Result (DirEntry C A R E) (Error A)) → Filled filled now mid → filled < n → Answers files process clone defaults pool mid (Some x) new → Filled (filled + 1) (now ++ x ∷ []) new
+  pub one_filled : (filled : ℕ) (now : List (Result (DirEntry C A R E) (Error A))) (mid new : DirEntryIter C S P A L R E) (x : Result (DirEntry C A R E) (Error A)) → Filled filled now mid → filled < n → Answers files process clone defaults readers mid (Some x) new → Filled (filled + 1) (now ++ x ∷ []) new
   one_filled filled now mid new x sofar less step = record {
     answered = sofar.answered ++ x ∷ [];
     appended = ap (λ l. l ++ x ∷ []) sofar.appended ∙ append_assoc before sofar.answered (x ∷ []);
     number = rw sofar.number (sym (length-append sofar.answered (x ∷ [])));
     few = omega (arith, less);
-    calls = calls_on (Answers files process clone defaults pool) sofar.answered (x ∷ []) old mid new sofar.calls (new, step, refl);
+    calls = calls_on (Answers files process clone defaults readers) sofar.answered (x ∷ []) old mid new sofar.calls (new, step, refl);
   }
 
   -- all that were asked for
-  pub fills_up : (filled : ℕ) (now : List (Result (DirEntry C A R E) (Error A))) (new : DirEntryIter C S P A L R E) → Filled filled now new → n ≤ filled → Fills files process clone defaults pool n old before (Ok filled) now new
+  pub fills_up : (filled : ℕ) (now : List (Result (DirEntry C A R E) (Error A))) (new : DirEntryIter C S P A L R E) → Filled filled now new → n ≤ filled → Fills files process clone defaults readers n old before (Ok filled) now new
   fills_up filled now new sofar no_more = record {
     answered = sofar.answered;
     appended = sofar.appended;
@@ -162,19 +162,19 @@ module _ {C S P A L R E : Type 0} (files : FileSystem.Ghosts S) (process : Proce
     all = inl (omega (arith, no_more, sofar.few));
     fewer = tt;
     calls = inl (omega (arith, no_more, sofar.few), sofar.calls);
-    crew = same_crew files process clone defaults pool sofar.answered old new sofar.calls;
-    job = same_job files process clone defaults pool sofar.answered old new sofar.calls;
-    width = same_width files process clone defaults pool sofar.answered old new sofar.calls;
-    most = fewer_ahead files process clone defaults pool sofar.answered old new sofar.calls;
-    depths = within files process clone defaults pool sofar.answered old new sofar.calls;
-    sourced = sourced files process clone defaults pool sofar.answered old new sofar.calls;
-    lighter = lighter files process clone defaults pool sofar.answered old new sofar.calls;
-    steady = λ given. stays_steady files process clone defaults pool given sofar.answered old new sofar.calls;
-    coming = λ given steady. come files process clone defaults pool given sofar.answered old new steady sofar.calls;
+    crew = same_crew files process clone defaults readers sofar.answered old new sofar.calls;
+    job = same_job files process clone defaults readers sofar.answered old new sofar.calls;
+    width = same_width files process clone defaults readers sofar.answered old new sofar.calls;
+    most = fewer_ahead files process clone defaults readers sofar.answered old new sofar.calls;
+    depths = within files process clone defaults readers sofar.answered old new sofar.calls;
+    sourced = sourced files process clone defaults readers sofar.answered old new sofar.calls;
+    lighter = lighter files process clone defaults readers sofar.answered old new sofar.calls;
+    steady = λ given. stays_steady files process clone defaults readers given sofar.answered old new sofar.calls;
+    coming = λ given steady. come files process clone defaults readers given sofar.answered old new steady sofar.calls;
   }
 
   -- memory for one more ran out
-  pub fills_in_part : (told : Result ℕ AllocError) (filled : ℕ) (now : List (Result (DirEntry C A R E) (Error A))) (new : DirEntryIter C S P A L R E) → IsErr told → Filled filled now new → filled < n → Fills files process clone defaults pool n old before told now new
+  pub fills_in_part : (told : Result ℕ AllocError) (filled : ℕ) (now : List (Result (DirEntry C A R E) (Error A))) (new : DirEntryIter C S P A L R E) → IsErr told → Filled filled now new → filled < n → Fills files process clone defaults readers n old before told now new
   fills_in_part (Ok k) filled now new failed sofar less = let no : false ≡ true = failed in absurd cc
   fills_in_part (Err error) filled now new failed sofar less = record {
     answered = sofar.answered;
@@ -183,15 +183,15 @@ module _ {C S P A L R E : Type 0} (files : FileSystem.Ghosts S) (process : Proce
     all = tt;
     fewer = omega (arith, less, sofar.number);
     calls = sofar.calls;
-    crew = same_crew files process clone defaults pool sofar.answered old new sofar.calls;
-    job = same_job files process clone defaults pool sofar.answered old new sofar.calls;
-    width = same_width files process clone defaults pool sofar.answered old new sofar.calls;
-    most = fewer_ahead files process clone defaults pool sofar.answered old new sofar.calls;
-    depths = within files process clone defaults pool sofar.answered old new sofar.calls;
-    sourced = sourced files process clone defaults pool sofar.answered old new sofar.calls;
-    lighter = lighter files process clone defaults pool sofar.answered old new sofar.calls;
-    steady = λ given. stays_steady files process clone defaults pool given sofar.answered old new sofar.calls;
-    coming = λ given steady. come files process clone defaults pool given sofar.answered old new steady sofar.calls;
+    crew = same_crew files process clone defaults readers sofar.answered old new sofar.calls;
+    job = same_job files process clone defaults readers sofar.answered old new sofar.calls;
+    width = same_width files process clone defaults readers sofar.answered old new sofar.calls;
+    most = fewer_ahead files process clone defaults readers sofar.answered old new sofar.calls;
+    depths = within files process clone defaults readers sofar.answered old new sofar.calls;
+    sourced = sourced files process clone defaults readers sofar.answered old new sofar.calls;
+    lighter = lighter files process clone defaults readers sofar.answered old new sofar.calls;
+    steady = λ given. stays_steady files process clone defaults readers given sofar.answered old new sofar.calls;
+    coming = λ given steady. come files process clone defaults readers given sofar.answered old new steady sofar.calls;
   }
 
   -- the call after some answers ends them
@@ -202,9 +202,9 @@ module _ {C S P A L R E : Type 0} (files : FileSystem.Ghosts S) (process : Proce
   ]
 
   -- the walk ended
-  pub fills_all : (filled : ℕ) (now : List (Result (DirEntry C A R E) (Error A))) (mid new : DirEntryIter C S P A L R E) → Filled filled now mid → filled < n → Answers files process clone defaults pool mid None new → Fills files process clone defaults pool n old before (Ok filled) now new
+  pub fills_all : (filled : ℕ) (now : List (Result (DirEntry C A R E) (Error A))) (mid new : DirEntryIter C S P A L R E) → Filled filled now mid → filled < n → Answers files process clone defaults readers mid None new → Fills files process clone defaults readers n old before (Ok filled) now new
   fills_all filled now mid new sofar less last =
-      let same = same_job files process clone defaults pool sofar.answered old mid sofar.calls in
+      let same = same_job files process clone defaults readers sofar.answered old mid sofar.calls in
       record {
         answered = sofar.answered;
         appended = sofar.appended;
@@ -212,17 +212,17 @@ module _ {C S P A L R E : Type 0} (files : FileSystem.Ghosts S) (process : Proce
         all = inr last.ended;
         fewer = tt;
         calls = inr (less, (mid, sofar.calls, last));
-        crew = last.crew ∙ same_crew files process clone defaults pool sofar.answered old mid sofar.calls;
+        crew = last.crew ∙ same_crew files process clone defaults readers sofar.answered old mid sofar.calls;
         job = last.job ∙ same;
-        width = last.width ∙ same_width files process clone defaults pool sofar.answered old mid sofar.calls;
-        most = omega (arith, last.most, fewer_ahead files process clone defaults pool sofar.answered old mid sofar.calls);
-        depths = λ h. let more = within files process clone defaults pool sofar.answered old mid sofar.calls h in (more.0, (last.depths more.1).1);
-        sourced = λ h. last.sourced (sourced files process clone defaults pool sofar.answered old mid sofar.calls h);
-        lighter = let nothing : weight_of new ≡ 0 = ap (value.weight (greatest_depth (job_of new))) last.ended in omega (arith, nothing, lighter files process clone defaults pool sofar.answered old mid sofar.calls);
-        steady = λ given steady. last.steady given (stays_steady files process clone defaults pool given sofar.answered old mid sofar.calls steady);
+        width = last.width ∙ same_width files process clone defaults readers sofar.answered old mid sofar.calls;
+        most = omega (arith, last.most, fewer_ahead files process clone defaults readers sofar.answered old mid sofar.calls);
+        depths = λ h. let more = within files process clone defaults readers sofar.answered old mid sofar.calls h in (more.0, (last.depths more.1).1);
+        sourced = λ h. last.sourced (sourced files process clone defaults readers sofar.answered old mid sofar.calls h);
+        lighter = let nothing : weight_of new ≡ 0 = ap (value.weight (greatest_depth (job_of new))) last.ended in omega (arith, nothing, lighter files process clone defaults readers sofar.answered old mid sofar.calls);
+        steady = λ given steady. last.steady given (stays_steady files process clone defaults readers given sofar.answered old mid sofar.calls steady);
         coming = λ given steady.
             at_end given (map item sofar.answered) mid new
-            (last.coming given (stays_steady files process clone defaults pool given sofar.answered old mid sofar.calls steady))
+            (last.coming given (stays_steady files process clone defaults readers given sofar.answered old mid sofar.calls steady))
             last.ended
-            (come files process clone defaults pool given sofar.answered old mid steady sofar.calls);
+            (come files process clone defaults readers given sofar.answered old mid steady sofar.calls);
       }

@@ -15,7 +15,7 @@ use Rattle.jwalk_read.specs.Entry.{item}
 use Rattle.jwalk_read.specs.Given.{Given}
 use Rattle.jwalk_read.specs.Job.{greatest_depth}
 use Rattle.jwalk_readings.specs.Reads.{ReadsFirstBy}
-use Rattle.jwalk_crew.specs.declared.pool.Pool as Pool
+use Rattle.jwalk_readings.specs.declared.readers.Readers as Readers
 use Rattle.tree_crew.specs.declared.session.Missed.{Missed}
 use Rattle.tree_crew.specs.declared.session.Missed.TheVariants.{Memory}
 use Rattle.jwalk_readings.specs.declared.read_dir_iter.ReadDirIter.{ReadDirIter}
@@ -42,10 +42,10 @@ none_at items specs none = rw none (λ at. at)
 placed_too : {R E : Type 0} (b own : Bool) (items others : List (Item R E)) (specs left : List (Spec R)) → own ≡ b → others ≡ items → left ≡ specs → ArePlaced b items specs → ArePlaced own others left
 placed_too b own items others specs left same these those placed = rw (same, these, those) placed
 
-module _ {C S P A L R E : Type 0} (files : FileSystem.Ghosts S) (process : ProcessReadDir.Ghosts P C A R E) (clone : Clone.Ghosts R) (defaults : Default.Ghosts E) (pool : Pool.Ghosts L C S P A R E) where
+module _ {C S P A L R E : Type 0} (files : FileSystem.Ghosts S) (process : ProcessReadDir.Ghosts P C A R E) (clone : Clone.Ghosts R) (defaults : Default.Ghosts E) (readers : Readers.Ghosts L C S P A R E) where
   module _ {F : Type 0} (old : DirEntryIter C S P A L R E) (reads : ReadDirIter C S P A L R E) (at : unread_of old ≢ [] → IsAtDirectory (items_of old) (unread_of old)) where
     -- a walk at a directory prepares it by its readings
-    pub reads_prepared : (result : Result (Unit {0}) F) → OnOk result ((reads ≡ old.reads) ⊎ readings.ReadsForNext files process clone defaults pool old.reads reads) → OnOk result ((record old { reads = reads } ≡ old) ⊎ ReadsForNext files process clone defaults pool old (record old { reads = reads }))
+    pub reads_prepared : (result : Result (Unit {0}) F) → OnOk result ((reads ≡ old.reads) ⊎ readings.ReadsForNext files process clone defaults readers old.reads reads) → OnOk result ((record old { reads = reads } ≡ old) ⊎ ReadsForNext files process clone defaults readers old (record old { reads = reads }))
     reads_prepared (Err e) prepared = tt
     reads_prepared (Ok done) prepared = elim prepared [
       | inl same ↦ inl (ap (λ r. record old { reads = r }) same)
@@ -58,25 +58,25 @@ module _ {C S P A L R E : Type 0} (files : FileSystem.Ghosts S) (process : Proce
     reads_unprepared (Err e) some = at some
 
   module _ (old mid new : DirEntryIter C S P A L R E) where
-    module _ (crew : by_crew mid ≡ by_crew old) (job : job_of mid ≡ job_of old) (refused : mid.refused ≡ old.refused) (width : width_of mid ≡ width_of old) (most : most_ahead pool mid ≤ most_ahead pool old) (steady : ReadsStaySteady files process clone defaults pool old mid) (r : ReadsForNext files process clone defaults pool old mid) where
+    module _ (crew : by_crew mid ≡ by_crew old) (job : job_of mid ≡ job_of old) (refused : mid.refused ≡ old.refused) (width : width_of mid ≡ width_of old) (most : most_ahead readers mid ≤ most_ahead readers old) (steady : ReadsStaySteady files process clone defaults readers old mid) (r : ReadsForNext files process clone defaults readers old mid) where
       same_items : items_of mid ≡ items_of old
       same_items = ap (λ l. map item (reverse l.items)) r.items
 
       same_at : IsAtDirectory (items_of mid) (unread_of mid)
       same_at = rw (same_items, r.reads.same) r.at
 
-      steady_before : (given : Given R E) → IsSteadyWalk files process clone defaults pool old given → IsSteadyWalk files process clone defaults pool mid given
+      steady_before : (given : Given R E) → IsSteadyWalk files process clone defaults readers old given → IsSteadyWalk files process clone defaults readers mid given
       steady_before given counted = record {
         reads = steady given counted.reads;
         placed = placed_too (by_crew old) (by_crew mid) (items_of old) (items_of mid) (unread_of old) (unread_of mid) crew same_items r.reads.same counted.placed;
       }
 
       -- what is passed after some were read for it is passed by what was read
-      one_prepared : (x : Item R E) → PassesOne files process clone defaults pool mid (position_of mid) x (position_of new) → PassesOne files process clone defaults pool old (position_of old) x (position_of new)
-      one_prepared x one = elim (passed_before files process clone defaults pool old mid crew job width steady one) [
+      one_prepared : (x : Item R E) → PassesOne files process clone defaults readers mid (position_of mid) x (position_of new) → PassesOne files process clone defaults readers old (position_of old) x (position_of new)
+      one_prepared x one = elim (passed_before files process clone defaults readers old mid crew job width steady one) [
         | inl plain ↦ absurd (plain.none_below same_at)
         | inr enters ↦
-            let Reads : List (List ℕ) → List (Spec R) → Type 0 = λ addresses specs. ReadsFirstBy clone (KnownAt files process clone defaults pool old (next_address addresses) enters.entry) (greatest_depth (job_of old)) specs enters.outcome (unread_of new) in
+            let Reads : List (List ℕ) → List (Spec R) → Type 0 = λ addresses specs. ReadsFirstBy clone (KnownAt files process clone defaults readers old (next_address addresses) enters.entry) (greatest_depth (job_of old)) specs enters.outcome (unread_of new) in
             inr (record {
               entry = enters.entry;
               rest = enters.rest;
@@ -91,7 +91,7 @@ module _ {C S P A L R E : Type 0} (files : FileSystem.Ghosts S) (process : Proce
             })
       ]
 
-      passes_after : (result : Result (Option (Result (DirEntry C A R E) (Error A))) Missed) → Passes files process clone defaults pool mid result new → Passes files process clone defaults pool old result new
+      passes_after : (result : Result (Option (Result (DirEntry C A R E) (Error A))) Missed) → Passes files process clone defaults readers mid result new → Passes files process clone defaults readers old result new
       passes_after (Ok None) p = absurd (none_at (items_of mid) (unread_of mid) p.end.0 same_at)
       passes_after (Ok (Some x)) p = record {
         crew = p.crew ∙ crew;
@@ -121,15 +121,15 @@ module _ {C S P A L R E : Type 0} (files : FileSystem.Ghosts S) (process : Proce
       }
 
     -- What is passed after a call that prepares it is what one call passes,
-    pub prepared_passes : {F : Type 0} (done : Unit {0}) (result : Result (Option (Result (DirEntry C A R E) (Error A))) Missed) → Prepares files process clone defaults pool {F = F} old (Ok done) mid → Passes files process clone defaults pool mid result new → Passes files process clone defaults pool old result new
+    pub prepared_passes : {F : Type 0} (done : Unit {0}) (result : Result (Option (Result (DirEntry C A R E) (Error A))) Missed) → Prepares files process clone defaults readers {F = F} old (Ok done) mid → Passes files process clone defaults readers mid result new → Passes files process clone defaults readers old result new
     prepared_passes done result p passes =
         ⊎_elim
-        (λ (same : mid ≡ old). subst (λ m. Passes files process clone defaults pool m result new) same passes)
-        (λ (r : ReadsForNext files process clone defaults pool old mid). passes_after p.crew p.job p.refused p.width p.most p.steady r result passes)
+        (λ (same : mid ≡ old). subst (λ m. Passes files process clone defaults readers m result new) same passes)
+        (λ (r : ReadsForNext files process clone defaults readers old mid). passes_after p.crew p.job p.refused p.width p.most p.steady r result passes)
         p.prepared
 
   -- and so is the failure of that call.
-  pub unprepared_passes : {F : Type 0} (old new : DirEntryIter C S P A L R E) (refused : F) (told : Result (Option (Result (DirEntry C A R E) (Error A))) Missed) → IsErr told → IsErrAnd told (λ m. m ≡ Memory) → Prepares files process clone defaults pool old (Err refused) new → Passes files process clone defaults pool old told new
+  pub unprepared_passes : {F : Type 0} (old new : DirEntryIter C S P A L R E) (refused : F) (told : Result (Option (Result (DirEntry C A R E) (Error A))) Missed) → IsErr told → IsErrAnd told (λ m. m ≡ Memory) → Prepares files process clone defaults readers old (Err refused) new → Passes files process clone defaults readers old told new
   unprepared_passes old new refused told failed why p = record {
     crew = p.crew;
     job = p.job;

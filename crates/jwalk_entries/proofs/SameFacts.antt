@@ -14,7 +14,7 @@ use Rattle.jwalk_read.specs.declared.dir_entry.DirEntry.{DirEntry}
 use Rattle.jwalk_read.specs.Entry.{item}
 use Rattle.jwalk_read.specs.Given.{Given, counted_item}
 use Rattle.jwalk_read.specs.Job.{greatest_depth, job_by}
-use Rattle.jwalk_crew.specs.declared.pool.Pool as Pool
+use Rattle.jwalk_readings.specs.declared.readers.Readers as Readers
 use Rattle.jwalk_entries.specs.declared.dir_entry_iter.DirEntryIter.{DirEntryIter}
 use Rattle.jwalk_entries.specs.DirEntryIter.{job_of, min_depth_of, to_come, TellsMemory, IsSteadyWalk, Answers}
 use Rattle.jwalk_entries.proofs.AnswerFacts.{held_by_nothing}
@@ -29,12 +29,12 @@ module _ {C S P A R E : Type 0} (files : FileSystem.Ghosts S) (process : Process
   coming_from None rest = rest
   coming_from (Some answer) rest = answer ∷ rest
 
-  answered_first : {L : Type 0} (pool : Pool.Ghosts L C S P A R E) (old new : DirEntryIter C S P A L R E) (answer : Option (Result (DirEntry C A R E) (Error A))) → IsSteadyWalk files process clone defaults pool old given → Answers files process clone defaults pool old answer new → IfSome (option_map item answer) (λ a. ¬ TellsMemory a)
+  answered_first : {L : Type 0} (readers : Readers.Ghosts L C S P A R E) (old new : DirEntryIter C S P A L R E) (answer : Option (Result (DirEntry C A R E) (Error A))) → IsSteadyWalk files process clone defaults readers old given → Answers files process clone defaults readers old answer new → IfSome (option_map item answer) (λ a. ¬ TellsMemory a)
       → (to_come files given old ≡ coming_from (counted_answer answer) (to_come files given new)) × (answer ≡ None → to_come files given new ≡ [])
-  answered_first pool old new None steady call told =
+  answered_first readers old new None steady call told =
       let nothing_left : to_come files given new ≡ [] = ap (value.to_come (reading (job_by files given (job_of new))) (min_depth_of new) (greatest_depth (job_of new))) (held_by_nothing given new call.ended) in
       (call.coming given steady ∙ sym nothing_left, λ none. nothing_left)
-  answered_first pool old new (Some x) steady call told = elim (call.coming given steady) [
+  answered_first readers old new (Some x) steady call told = elim (call.coming given steady) [
     | inl stops ↦ absurd (told (subst TellsMemory (sym stops.told) stops.tells))
     | inr first ↦ (first, λ none. cc)
   ]
@@ -50,11 +50,11 @@ module _ {C S P A R E : Type 0} (files : FileSystem.Ghosts S) (process : Process
   same_by (Some x) (Some y) rest others same ends end = (cc, cc)
 
   -- Two walks have the same to come, whatever reads their directories and however many together. They yield the same if neither says that memory ran out, and the same is to come then.
-  pub same_answer : {L M : Type 0} (pool : Pool.Ghosts L C S P A R E) (its : Pool.Ghosts M C S P A R E) (old new : DirEntryIter C S P A L R E) (other next : DirEntryIter C S P A M R E) (answer told : Option (Result (DirEntry C A R E) (Error A)))
-      → IsSteadyWalk files process clone defaults pool old given → IsSteadyWalk files process clone defaults its other given → Answers files process clone defaults pool old answer new → Answers files process clone defaults its other told next
+  pub same_answer : {L M : Type 0} (readers : Readers.Ghosts L C S P A R E) (its : Readers.Ghosts M C S P A R E) (old new : DirEntryIter C S P A L R E) (other next : DirEntryIter C S P A M R E) (answer told : Option (Result (DirEntry C A R E) (Error A)))
+      → IsSteadyWalk files process clone defaults readers old given → IsSteadyWalk files process clone defaults its other given → Answers files process clone defaults readers old answer new → Answers files process clone defaults its other told next
       → IfSome (option_map item answer) (λ a. ¬ TellsMemory a) → IfSome (option_map item told) (λ a. ¬ TellsMemory a)
       → to_come files given old ≡ to_come files given other → (counted_answer answer ≡ counted_answer told) × (to_come files given new ≡ to_come files given next)
-  same_answer pool its old new other next answer told steady steadily call call' plain plainly same =
-      let one = answered_first pool old new answer steady call plain in
+  same_answer readers its old new other next answer told steady steadily call call' plain plainly same =
+      let one = answered_first readers old new answer steady call plain in
       let two = answered_first its other next told steadily call' plainly in
       same_by (counted_answer answer) (counted_answer told) (to_come files given new) (to_come files given next) (sym one.0 ∙ same ∙ two.0) (λ none. one.1 (unmapped answer none)) (λ none. two.1 (unmapped told none))

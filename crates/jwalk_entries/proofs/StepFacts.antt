@@ -26,7 +26,7 @@ use Rattle.jwalk_read.specs.Given.{Given, counted_entry, counted_item, counted_s
 use Rattle.jwalk_read.specs.Job.{options_of, greatest_depth, job_by, IsAsGiven}
 use Rattle.jwalk_order.specs.Frontier.{next_address}
 use Rattle.jwalk_readings.specs.Reads.{ReadsFirstBy}
-use Rattle.jwalk_crew.specs.declared.pool.Pool as Pool
+use Rattle.jwalk_readings.specs.declared.readers.Readers as Readers
 use Rattle.tree_crew.specs.declared.session.Missed.{Missed}
 use Rattle.jwalk_readings.specs.CrewReads.{failure_of}
 use Rattle.jwalk_readings.specs.ReadDirIter.{Tells}
@@ -180,12 +180,12 @@ passed_tells : {T : Type 0} (before now : Bool) (missed : Missed) (r : Result T 
 passed_tells before now missed (Ok x) same crew tells = tt
 passed_tells before now missed (Err m) same crew tells = subst (λ b. Tells b (failure_of m)) crew (subst (λ f. Tells now (failure_of f)) (sym same) tells)
 
-module _ {C S P A L R E : Type 0} (files : FileSystem.Ghosts S) (process : ProcessReadDir.Ghosts P C A R E) (clone : Clone.Ghosts R) (defaults : Default.Ghosts E) (pool : Pool.Ghosts L C S P A R E) where
+module _ {C S P A L R E : Type 0} (files : FileSystem.Ghosts S) (process : ProcessReadDir.Ghosts P C A R E) (clone : Clone.Ghosts R) (defaults : Default.Ghosts E) (readers : Readers.Ghosts L C S P A R E) where
   -- one item that is passed, by what is held
-  next_of : (it : DirEntryIter C S P A L R E) {from to : Position R E} {x : Item R E} → PassesOne files process clone defaults pool it from x to → PassesNext clone (KnownAt files process clone defaults pool it (next_address from.frontier)) (job_of it) from.items from.unread x to.items to.unread
+  next_of : (it : DirEntryIter C S P A L R E) {from to : Position R E} {x : Item R E} → PassesOne files process clone defaults readers it from x to → PassesNext clone (KnownAt files process clone defaults readers it (next_address from.frontier)) (job_of it) from.items from.unread x to.items to.unread
   next_of it {from} {to} {x} one = elim one [
     | inl plain ↦
-        let Next : List (Item R E) → Position R E → Type 0 = λ items after. PassesNext clone (KnownAt files process clone defaults pool it (next_address from.frontier)) (job_of it) items from.unread x after.items after.unread in
+        let Next : List (Item R E) → Position R E → Type 0 = λ items after. PassesNext clone (KnownAt files process clone defaults readers it (next_address from.frontier)) (job_of it) items from.unread x after.items after.unread in
         let here : Next (x ∷ plain.rest) (record from { items = plain.rest }) = passed_plainly (plain_if E (has_directory x) from.unread (subst (λ l. ¬ IsAtDirectory l from.unread) plain.first plain.none_below)) in
         subst (λ l. Next l to) (sym plain.first) (subst (Next (x ∷ plain.rest)) (sym plain.others) here)
     | inr enters ↦ rw (enters.first, enters.told, enters.items) (passed_entering {outcome = enters.outcome} enters.has enters.reads)
@@ -197,54 +197,54 @@ module _ {C S P A L R E : Type 0} (files : FileSystem.Ghosts S) (process : Proce
     pub job : job_of new ≡ job_of old
     pub refused : new.refused ≡ old.refused
     pub width : width_of new ≡ width_of old
-    pub most : most_ahead pool new ≤ most_ahead pool old
-    pub steady : ReadsStaySteady files process clone defaults pool old new
-    pub leaves : LeavesOut clone (Known files process clone defaults pool old) (job_of old) (items_of old) (unread_of old) (items_of new) (unread_of new)
+    pub most : most_ahead readers new ≤ most_ahead readers old
+    pub steady : ReadsStaySteady files process clone defaults readers old new
+    pub leaves : LeavesOut clone (Known files process clone defaults readers old) (job_of old) (items_of old) (unread_of old) (items_of new) (unread_of new)
     pub left_out : List (Item R E)
     pub too_high : All (λ x. is_answered (min_depth_of old) x ≡ false) left_out
     pub entered : ℕ
-    pub passes : PassesMany files process clone defaults pool old (position_of old) left_out entered (position_of new)
+    pub passes : PassesMany files process clone defaults readers old (position_of old) left_out entered (position_of new)
 
   pub none_passed_over : (it : DirEntryIter C S P A L R E) → PassedOver it it
   none_passed_over it = record { crew = refl; job = refl; refused = refl; width = refl; most = omega arith; steady = λ given steady. steady; leaves = none_left_out; left_out = []; too_high = All-nil _; entered = 0; passes = none_passed }
 
-  passes_by : (old mid new : DirEntryIter C S P A L R E) (passed : Result (DirEntry C A R E) (Error A)) → PassedOver old mid → Passes files process clone defaults pool mid (Ok (Some passed)) new → PassesOne files process clone defaults pool old (position_of mid) (item passed) (position_of new)
-  passes_by old mid new passed over passes = passed_before files process clone defaults pool old mid over.crew over.job over.width over.steady passes.passed
+  passes_by : (old mid new : DirEntryIter C S P A L R E) (passed : Result (DirEntry C A R E) (Error A)) → PassedOver old mid → Passes files process clone defaults readers mid (Ok (Some passed)) new → PassesOne files process clone defaults readers old (position_of mid) (item passed) (position_of new)
+  passes_by old mid new passed over passes = passed_before files process clone defaults readers old mid over.crew over.job over.width over.steady passes.passed
 
-  passes_on : (old mid new : DirEntryIter C S P A L R E) (passed : Result (DirEntry C A R E) (Error A)) → PassedOver old mid → Passes files process clone defaults pool mid (Ok (Some passed)) new → PassesNext clone (Known files process clone defaults pool old) (job_of old) (items_of mid) (unread_of mid) (item passed) (items_of new) (unread_of new)
+  passes_on : (old mid new : DirEntryIter C S P A L R E) (passed : Result (DirEntry C A R E) (Error A)) → PassedOver old mid → Passes files process clone defaults readers mid (Ok (Some passed)) new → PassesNext clone (Known files process clone defaults readers old) (job_of old) (items_of mid) (unread_of mid) (item passed) (items_of new) (unread_of new)
   passes_on old mid new passed over passes =
       let at = next_address (frontier_of mid) in
-      next_over clone (KnownAt files process clone defaults pool old at) (job_of old) (Known files process clone defaults pool old) (λ x s o known. (at, known)) (next_of old (passes_by old mid new passed over passes))
+      next_over clone (KnownAt files process clone defaults readers old at) (job_of old) (Known files process clone defaults readers old) (λ x s o known. (at, known)) (next_of old (passes_by old mid new passed over passes))
 
-  many_on : (old mid new : DirEntryIter C S P A L R E) (passed : Result (DirEntry C A R E) (Error A)) (over : PassedOver old mid) → Passes files process clone defaults pool mid (Ok (Some passed)) new → (n : ℕ) × PassesMany files process clone defaults pool old (position_of old) (over.left_out ++ item passed ∷ []) n (position_of new)
-  many_on old mid new passed over passes = one_more files process clone defaults pool old over.passes (passes_by old mid new passed over passes)
+  many_on : (old mid new : DirEntryIter C S P A L R E) (passed : Result (DirEntry C A R E) (Error A)) (over : PassedOver old mid) → Passes files process clone defaults readers mid (Ok (Some passed)) new → (n : ℕ) × PassesMany files process clone defaults readers old (position_of old) (over.left_out ++ item passed ∷ []) n (position_of new)
+  many_on old mid new passed over passes = one_more files process clone defaults readers old over.passes (passes_by old mid new passed over passes)
 
   -- if the walk was steady, it still is once items were passed over
-  over_steady : (old mid : DirEntryIter C S P A L R E) → PassedOver old mid → (given : Given R E) → IsSteadyWalk files process clone defaults pool old given → IsSteadyWalk files process clone defaults pool mid given
+  over_steady : (old mid : DirEntryIter C S P A L R E) → PassedOver old mid → (given : Given R E) → IsSteadyWalk files process clone defaults readers old given → IsSteadyWalk files process clone defaults readers mid given
   over_steady old mid over given steady = record {
     reads = over.steady given steady.reads;
-    placed = rw over.crew (left_placed clone (Known files process clone defaults pool old) (job_of old) (items_of old) (unread_of old) (by_crew old) (items_of mid) (unread_of mid) over.leaves steady.placed);
+    placed = rw over.crew (left_placed clone (Known files process clone defaults readers old) (job_of old) (items_of old) (unread_of old) (by_crew old) (items_of mid) (unread_of mid) over.leaves steady.placed);
   }
 
   -- the directories that are entered up to the first item that is yielded
-  grows_to_answer : (old mid new : DirEntryIter C S P A L R E) (passed : Result (DirEntry C A R E) (Error A)) → PassedOver old mid → Passes files process clone defaults pool mid (Ok (Some passed)) new → GrowsAhead files process clone defaults pool old (Some (item passed)) new
+  grows_to_answer : (old mid new : DirEntryIter C S P A L R E) (passed : Result (DirEntry C A R E) (Error A)) → PassedOver old mid → Passes files process clone defaults readers mid (Ok (Some passed)) new → GrowsAhead files process clone defaults readers old (Some (item passed)) new
   grows_to_answer old mid new passed over passes =
       let more = many_on old mid new passed over passes in
-      record { left_out = over.left_out; too_high = over.too_high; entered = more.0; passes = more.1; ahead = grows files process clone defaults pool old more.1 }
+      record { left_out = over.left_out; too_high = over.too_high; entered = more.0; passes = more.1; ahead = grows files process clone defaults readers old more.1 }
 
   -- and up to the end
-  grows_to_end : (old mid new : DirEntryIter C S P A L R E) → PassedOver old mid → position_of new ≡ position_of mid → GrowsAhead files process clone defaults pool old None new
+  grows_to_end : (old mid new : DirEntryIter C S P A L R E) → PassedOver old mid → position_of new ≡ position_of mid → GrowsAhead files process clone defaults readers old None new
   grows_to_end old mid new over same =
-      let all = subst (λ p. PassesMany files process clone defaults pool old (position_of old) over.left_out over.entered p) (sym same) over.passes in
+      let all = subst (λ p. PassesMany files process clone defaults readers old (position_of old) over.left_out over.entered p) (sym same) over.passes in
       record {
         left_out = over.left_out;
         too_high = over.too_high;
         entered = over.entered;
-        passes = subst (λ l. PassesMany files process clone defaults pool old (position_of old) l over.entered (position_of new)) (sym (append-nil over.left_out)) all;
-        ahead = grows files process clone defaults pool old all;
+        passes = subst (λ l. PassesMany files process clone defaults readers old (position_of old) l over.entered (position_of new)) (sym (append-nil over.left_out)) all;
+        ahead = grows files process clone defaults readers old all;
       }
 
-  pub one_passed_over : (old mid new : DirEntryIter C S P A L R E) (passed : Result (DirEntry C A R E) (Error A)) → PassedOver old mid → Passes files process clone defaults pool mid (Ok (Some passed)) new → is_answered (min_depth_of new) (item passed) ≡ false → PassedOver old new
+  pub one_passed_over : (old mid new : DirEntryIter C S P A L R E) (passed : Result (DirEntry C A R E) (Error A)) → PassedOver old mid → Passes files process clone defaults readers mid (Ok (Some passed)) new → is_answered (min_depth_of new) (item passed) ≡ false → PassedOver old new
   one_passed_over old mid new passed over passes out =
       let more = many_on old mid new passed over passes in
       let Out : Item R E → Type 0 = λ x. is_answered (min_depth_of old) x ≡ false in
@@ -264,19 +264,19 @@ module _ {C S P A L R E : Type 0} (files : FileSystem.Ghosts S) (process : Proce
       }
 
   -- the first item that is yielded after what was passed over
-  one_answered : (old mid new : DirEntryIter C S P A L R E) (passed : Result (DirEntry C A R E) (Error A)) → PassedOver old mid → Passes files process clone defaults pool mid (Ok (Some passed)) new → is_answered (min_depth_of new) (item passed) ≡ true → ReadsUpTo clone (Known files process clone defaults pool old) (job_of old) (items_of old) (unread_of old) (Some (item passed)) (items_of new) (unread_of new)
+  one_answered : (old mid new : DirEntryIter C S P A L R E) (passed : Result (DirEntry C A R E) (Error A)) → PassedOver old mid → Passes files process clone defaults readers mid (Ok (Some passed)) new → is_answered (min_depth_of new) (item passed) ≡ true → ReadsUpTo clone (Known files process clone defaults readers old) (job_of old) (items_of old) (unread_of old) (Some (item passed)) (items_of new) (unread_of new)
   one_answered old mid new passed over passes kept =
       (items_of mid, unread_of mid, over.leaves, (passes_on old mid new passed over passes, subst (λ j. is_answered (options_of j).min_depth (item passed) ≡ true) (passes.job ∙ over.job) kept))
 
   -- and where nothing is held then
-  none_answered : (old mid new : DirEntryIter C S P A L R E) → PassedOver old mid → items_of mid ≡ [] → position_of new ≡ position_of mid → ReadsUpTo clone (Known files process clone defaults pool old) (job_of old) (items_of old) (unread_of old) None (items_of new) (unread_of new)
+  none_answered : (old mid new : DirEntryIter C S P A L R E) → PassedOver old mid → items_of mid ≡ [] → position_of new ≡ position_of mid → ReadsUpTo clone (Known files process clone defaults readers old) (job_of old) (items_of old) (unread_of old) None (items_of new) (unread_of new)
   none_answered old mid new over none same = (items_of mid, unread_of mid, over.leaves, (none, ap (λ p. p.items) same ∙ none, ap (λ p. p.unread) same))
 
-  pub passes_lighter : (old new : DirEntryIter C S P A L R E) (passed : Result (DirEntry C A R E) (Error A)) → Passes files process clone defaults pool old (Ok (Some passed)) new → weight (greatest_depth (job_of new)) (pair_up (items_of new) (unread_of new)) < weight (greatest_depth (job_of old)) (pair_up (items_of old) (unread_of old))
-  passes_lighter old new passed passes = rw passes.job (next_lighter clone (KnownAt files process clone defaults pool old (next_address (frontier_of old))) (job_of old) (next_of old passes.passed))
+  pub passes_lighter : (old new : DirEntryIter C S P A L R E) (passed : Result (DirEntry C A R E) (Error A)) → Passes files process clone defaults readers old (Ok (Some passed)) new → weight (greatest_depth (job_of new)) (pair_up (items_of new) (unread_of new)) < weight (greatest_depth (job_of old)) (pair_up (items_of old) (unread_of old))
+  passes_lighter old new passed passes = rw passes.job (next_lighter clone (KnownAt files process clone defaults readers old (next_address (frontier_of old))) (job_of old) (next_of old passes.passed))
 
   -- what was passed over, and then one item that is yielded
-  pub goes_to_answer : (old mid new : DirEntryIter C S P A L R E) (passed : Result (DirEntry C A R E) (Error A)) → PassedOver old mid → Passes files process clone defaults pool mid (Ok (Some passed)) new → is_answered (min_depth_of new) (item passed) ≡ true → GoesOn files process clone defaults pool old (Ok (Some passed)) new
+  pub goes_to_answer : (old mid new : DirEntryIter C S P A L R E) (passed : Result (DirEntry C A R E) (Error A)) → PassedOver old mid → Passes files process clone defaults readers mid (Ok (Some passed)) new → is_answered (min_depth_of new) (item passed) ≡ true → GoesOn files process clone defaults readers old (Ok (Some passed)) new
   goes_to_answer old mid new passed over passes kept = record {
     crew = passes.crew ∙ over.crew;
     job = passes.job ∙ over.job;
@@ -292,7 +292,7 @@ module _ {C S P A L R E : Type 0} (files : FileSystem.Ghosts S) (process : Proce
   }
 
   -- or nothing that is left
-  pub goes_to_end : (old mid new : DirEntryIter C S P A L R E) → PassedOver old mid → Passes files process clone defaults pool mid (Ok None) new → GoesOn files process clone defaults pool old (Ok None) new
+  pub goes_to_end : (old mid new : DirEntryIter C S P A L R E) → PassedOver old mid → Passes files process clone defaults readers mid (Ok None) new → GoesOn files process clone defaults readers old (Ok None) new
   goes_to_end old mid new over passes = record {
     crew = passes.crew ∙ over.crew;
     job = passes.job ∙ over.job;
@@ -308,7 +308,7 @@ module _ {C S P A L R E : Type 0} (files : FileSystem.Ghosts S) (process : Proce
   }
 
   -- or a directory whose reading is missed
-  pub goes_to_missed : (old mid new : DirEntryIter C S P A L R E) (missed : Missed) (told : Result (Option (Result (DirEntry C A R E) (Error A))) Missed) → IsErr told → IsErrAnd told (λ m. m ≡ missed) → PassedOver old mid → Passes files process clone defaults pool mid (Err missed) new → GoesOn files process clone defaults pool old told new
+  pub goes_to_missed : (old mid new : DirEntryIter C S P A L R E) (missed : Missed) (told : Result (Option (Result (DirEntry C A R E) (Error A))) Missed) → IsErr told → IsErrAnd told (λ m. m ≡ missed) → PassedOver old mid → Passes files process clone defaults readers mid (Err missed) new → GoesOn files process clone defaults readers old told new
   goes_to_missed old mid new missed told failed why over passes = record {
     crew = passes.crew ∙ over.crew;
     job = passes.job ∙ over.job;

@@ -25,7 +25,7 @@ use Rattle.jwalk_order.specs.Frontier.{next_address}
 use Rattle.jwalk_readings.specs.Reads.{ReadsFirstBy}
 use Rattle.jwalk_readings.specs.ReadAhead.{ReadAhead}
 use Rattle.jwalk_readings.specs.ReadAhead as ahead
-use Rattle.jwalk_crew.specs.declared.pool.Pool as Pool
+use Rattle.jwalk_readings.specs.declared.readers.Readers as Readers
 use Rattle.tree_crew.specs.declared.session.Missed.{Missed}
 use Rattle.jwalk_readings.specs.ReadDirIter as readings
 use Rattle.jwalk_readings.specs.CrewReads.{IsBelow, IsNextBelow, NotLost, failure_of}
@@ -188,18 +188,18 @@ module _ {C S P A L R E : Type 0} where
     pub nothing_held : held new ≡ []
 
 -- at most how many readings a crew has made and not handed on: none where no crew reads
-abbrev pub most_ahead : {C S P A L R E : Type 0} → Pool.Ghosts L C S P A R E → DirEntryIter C S P A L R E → ℕ
-most_ahead pool it = readings.most_ahead pool it.reads
+abbrev pub most_ahead : {C S P A L R E : Type 0} → Readers.Ghosts L C S P A R E → DirEntryIter C S P A L R E → ℕ
+most_ahead readers it = readings.most_ahead readers it.reads
 
-module _ {C S P A L R E : Type 0} (files : FileSystem.Ghosts S) (process : ProcessReadDir.Ghosts P C A R E) (clone : Clone.Ghosts R) (defaults : Default.Ghosts E) (pool : Pool.Ghosts L C S P A R E) where
+module _ {C S P A L R E : Type 0} (files : FileSystem.Ghosts S) (process : ProcessReadDir.Ghosts P C A R E) (clone : Clone.Ghosts R) (defaults : Default.Ghosts E) (readers : Readers.Ghosts L C S P A R E) where
   -- A walk is steady over what is given: its job is, and what it read ahead, or its crew gives, is what the definition gives. A crew's readings are those of the directories below its items.
   pub record IsSteadyWalk (it : DirEntryIter C S P A L R E) (given : Given R E) : Type 0 where
-    pub reads : IsSteadyReads files process clone defaults pool it.reads given
+    pub reads : IsSteadyReads files process clone defaults readers it.reads given
     pub placed : ArePlaced (by_crew it) (items_of it) (unread_of it)
 
   -- What is known of the reading at an address, by which an item's directory is entered. A crew's reading is that of the directory below this item.
   abbrev pub KnownAt : DirEntryIter C S P A L R E → List ℕ → Item R E → Spec R → Outcome R E → Type 0
-  KnownAt it at x spec outcome = KnownBy files process clone defaults (by_crew it) (IsSteadyReads files process clone defaults pool it.reads) (job_of it) at spec outcome × IsNextBelow (by_crew it) x (spec ∷ [])
+  KnownAt it at x spec outcome = KnownBy files process clone defaults (by_crew it) (IsSteadyReads files process clone defaults readers it.reads) (job_of it) at spec outcome × IsNextBelow (by_crew it) x (spec ∷ [])
 
   -- the same at some address
   abbrev pub Known : DirEntryIter C S P A L R E → Item R E → Spec R → Outcome R E → Type 0
@@ -211,7 +211,7 @@ module _ {C S P A L R E : Type 0} (files : FileSystem.Ghosts S) (process : Proce
 
   -- Its readings stay steady over all that they were steady over.
   abbrev pub ReadsStaySteady : DirEntryIter C S P A L R E → DirEntryIter C S P A L R E → Type 0
-  ReadsStaySteady old new = readings.StaysSteady files process clone defaults pool old.reads new.reads
+  ReadsStaySteady old new = readings.StaysSteady files process clone defaults readers old.reads new.reads
 
   -- It stays steady over all that it was steady over.
   abbrev pub StaysSteady : DirEntryIter C S P A L R E → DirEntryIter C S P A L R E → Type 0
@@ -258,7 +258,7 @@ module _ {C S P A L R E : Type 0} (files : FileSystem.Ghosts S) (process : Proce
   -- The next item enters a directory whose reading isn't made yet, and it is made together with others. Nothing else changes.
   pub record ReadsForNext (old new : DirEntryIter C S P A L R E) : Type 0 where
     pub at : IsAtDirectory (items_of old) (unread_of old)
-    pub reads : readings.ReadsForNext files process clone defaults pool old.reads new.reads
+    pub reads : readings.ReadsForNext files process clone defaults readers old.reads new.reads
     pub items : new.items ≡ old.items
 
   -- The next item is prepared: some are read for it, or all stays as it is. That fails only where a directory is to be read.
@@ -267,7 +267,7 @@ module _ {C S P A L R E : Type 0} (files : FileSystem.Ghosts S) (process : Proce
     pub job : job_of new ≡ job_of old
     pub refused : new.refused ≡ old.refused
     pub width : width_of new ≡ width_of old
-    pub most : most_ahead pool new ≤ most_ahead pool old
+    pub most : most_ahead readers new ≤ most_ahead readers old
     pub steady : ReadsStaySteady old new
     pub prepared : OnOk result ((new ≡ old) ⊎ ReadsForNext old new)
     pub stopped : OnErr result (IsAtDirectory (items_of old) (unread_of old))
@@ -278,7 +278,7 @@ module _ {C S P A L R E : Type 0} (files : FileSystem.Ghosts S) (process : Proce
     pub job : job_of new ≡ job_of old
     pub refused : new.refused ≡ old.refused
     pub width : width_of new ≡ width_of old
-    pub most : most_ahead pool new ≤ most_ahead pool old
+    pub most : most_ahead readers new ≤ most_ahead readers old
     pub steady : ReadsStaySteady old new
     pub end : IfOk result (λ o. IfNone o ((items_of old ≡ []) × (position_of new ≡ position_of old)))
     pub passed : IfOk result (λ o. IfSome o (λ x. PassesOne old (position_of old) (item x) (position_of new)))
@@ -292,7 +292,7 @@ module _ {C S P A L R E : Type 0} (files : FileSystem.Ghosts S) (process : Proce
     pub job : job_of new ≡ job_of old
     pub refused : new.refused ≡ old.refused
     pub width : width_of new ≡ width_of old
-    pub most : most_ahead pool new ≤ most_ahead pool old
+    pub most : most_ahead readers new ≤ most_ahead readers old
     pub steady : ReadsStaySteady old new
     pub reads : IfOk result (λ answer. ReadsUpTo clone (Known old) (job_of old) (items_of old) (unread_of old) (option_map item answer) (items_of new) (unread_of new))
     pub ahead : IfOk result (λ answer. GrowsAhead old (option_map item answer) new)
@@ -311,7 +311,7 @@ module _ {C S P A L R E : Type 0} (files : FileSystem.Ghosts S) (process : Proce
     pub lighter : IfSome answer (λ _. weight_of new < weight_of old)
     pub reads : ReadsItems old (option_map item answer) new
     pub width : width_of new ≡ width_of old
-    pub most : most_ahead pool new ≤ most_ahead pool old
+    pub most : most_ahead readers new ≤ most_ahead readers old
     pub ahead : old.refused ≡ false → ¬ IsSomeAnd (option_map item answer) (λ a. Stops (by_crew old) a new) → GrowsAhead old (option_map item answer) new
     pub kept : old.refused ≡ true → read_ahead new ≡ read_ahead old
     pub steady : StaysSteady old new
@@ -337,7 +337,7 @@ module _ {C S P A L R E : Type 0} (files : FileSystem.Ghosts S) (process : Proce
     pub crew : by_crew new ≡ by_crew old
     pub job : job_of new ≡ job_of old
     pub width : width_of new ≡ width_of old
-    pub most : most_ahead pool new ≤ most_ahead pool old
+    pub most : most_ahead readers new ≤ most_ahead readers old
     pub depths : IsWithin old → AllBetween (min_depth_of old) (greatest_depth (job_of old)) (map item answered) × IsWithin new
     pub sourced : IsSourced old → IsSourced new
     pub lighter : weight_of new + length answered ≤ weight_of old

@@ -5,7 +5,6 @@ ghost use Rattle.jwalk_read.specs.Job.{callback};
 
 mod on_threads;
 
-use jwalk_crew::pool::{Missed, NoPool, Pool};
 use jwalk_read::client_state::ClientState;
 use jwalk_read::dir_entry::DirEntry;
 use jwalk_read::error::Error;
@@ -14,6 +13,7 @@ use jwalk_read::process_read_dir::ProcessReadDir;
 use jwalk_read::read_dir::{Outcome, ReadDir};
 use jwalk_readings::crew_reads::error_of;
 use jwalk_readings::read_dir_iter::ReadDirIter;
+use jwalk_readings::readers::{Missed, NoCrew, Readers};
 use std::alloc::{AllocError, Allocator, Global};
 use walk_fs::file_system::FileSystem;
 
@@ -33,7 +33,7 @@ pub struct DirEntryIter<
     S: FileSystem,
     P: ProcessReadDir<C, A>,
     A: Allocator + Copy = Global,
-    L = NoPool,
+    L = NoCrew,
 > {
     reads: ReadDirIter<C, S, P, A, L>,
     // What was received and not yet passed on, the next one last.
@@ -58,7 +58,7 @@ impl<
     S: FileSystem,
     P: ProcessReadDir<C, A>,
     A: Allocator + Copy,
-    L: Pool<C, S, P, A>,
+    L: Readers<C, S, P, A>,
 > DirEntryIter<C, S, P, A, L> {
     ghost use Rattle.std.specs.Prelude.{◌≤◌, ◌++◌, [], false, length, OnOk, IsSome, IfSome, IfNone, IsSomeAnd, option_map, map};
     ghost use Rattle.walk_model.specs.Entry.{AtDepth};
@@ -177,9 +177,9 @@ impl<
         ensures items { items_of self.new ≡ [] }
         ensures unread { unread_of self.new ≡ [] }
         ensures read_ahead { read_ahead self.new ≡ nothing_ahead }
-        ensures most { most_ahead L.Pool self.new ≡ 0 }
+        ensures most { most_ahead L.Readers self.new ≡ 0 }
         ensures steady { ReadsStaySteady S.FileSystem P.ProcessReadDir C.ReadDirState.Clone C.DirEntryState.Default
-            L.Pool self.old self.new }
+            L.Readers self.old self.new }
     {
         self.items.clear();
         self.reads.stop();
@@ -211,7 +211,7 @@ impl<
     /// Passes the next item on.
     fn pass(&mut self) -> Result<Option<Result<DirEntry<C, A>, Error<A>>>, Missed>
         requires { P.IsLawful (callback (job_of self.old)) }
-        ensures { Passes S.FileSystem P.ProcessReadDir C.ReadDirState.Clone C.DirEntryState.Default L.Pool
+        ensures { Passes S.FileSystem P.ProcessReadDir C.ReadDirState.Clone C.DirEntryState.Default L.Readers
             self.old result self.new }
     {
         match self.items.pop() {
@@ -249,7 +249,7 @@ impl<
     /// Returns the next item that is yielded.
     fn next_kept(&mut self) -> Result<Option<Result<DirEntry<C, A>, Error<A>>>, Missed>
         requires { P.IsLawful (callback (job_of self.old)) }
-        ensures { GoesOn S.FileSystem P.ProcessReadDir C.ReadDirState.Clone C.DirEntryState.Default L.Pool
+        ensures { GoesOn S.FileSystem P.ProcessReadDir C.ReadDirState.Clone C.DirEntryState.Default L.Readers
             self.old result self.new }
     {
         while let Some(passed) = self.pass()? {
@@ -265,7 +265,7 @@ impl<
         &mut self,
         came: Result<Option<Result<DirEntry<C, A>, Error<A>>>, Missed>,
     ) -> Option<Result<DirEntry<C, A>, Error<A>>>
-        ensures { AnswersWhatCame S.FileSystem P.ProcessReadDir C.ReadDirState.Clone C.DirEntryState.Default L.Pool
+        ensures { AnswersWhatCame S.FileSystem P.ProcessReadDir C.ReadDirState.Clone C.DirEntryState.Default L.Readers
             came self.old result self.new }
     {
         match came {
@@ -280,7 +280,7 @@ impl<
     /// Returns the next answer; or the error that reports why it won't come, and then nothing is left.
     fn next_answer(&mut self) -> Option<Result<DirEntry<C, A>, Error<A>>>
         requires { P.IsLawful (callback (job_of self.old)) }
-        ensures { Answers S.FileSystem P.ProcessReadDir C.ReadDirState.Clone C.DirEntryState.Default L.Pool
+        ensures { Answers S.FileSystem P.ProcessReadDir C.ReadDirState.Clone C.DirEntryState.Default L.Readers
             self.old result self.new }
     {
         if self.refused {
@@ -306,7 +306,7 @@ impl<
         out: &mut Vec<Result<DirEntry<C, A>, Error<A>>, A>,
     ) -> Result<usize, AllocError>
         requires { P.IsLawful (callback (job_of self.old)) }
-        ensures { Fills S.FileSystem P.ProcessReadDir C.ReadDirState.Clone C.DirEntryState.Default L.Pool
+        ensures { Fills S.FileSystem P.ProcessReadDir C.ReadDirState.Clone C.DirEntryState.Default L.Readers
             n self.old out.old.items result out.new.items self.new }
     {
         let mut filled = 0;
@@ -333,7 +333,7 @@ impl<
     /// may block for a lock.
     pub fn ahead(&self) -> usize
         ensures alone { by_crew self.now ≡ false → result ≡ length (early_of self.now) }
-        ensures crew { by_crew self.now ≡ true → result ≤ most_ahead L.Pool self.now }
+        ensures crew { by_crew self.now ≡ true → result ≤ most_ahead L.Readers self.now }
     {
         self.reads.ahead()
     }
@@ -342,7 +342,7 @@ impl<
     /// `Iterator::count`, it needs no bound of them. Over a crew it may block for a reading or for a lock.
     pub fn count(self) -> usize
         requires { P.IsLawful (callback (job_of self)) }
-        ensures { Counts S.FileSystem P.ProcessReadDir C.ReadDirState.Clone C.DirEntryState.Default L.Pool self result }
+        ensures { Counts S.FileSystem P.ProcessReadDir C.ReadDirState.Clone C.DirEntryState.Default L.Readers self result }
     {
         let mut count: usize = 0;
         for _ in self {
@@ -357,7 +357,7 @@ impl<
     S: FileSystem,
     P: ProcessReadDir<C, A>,
     A: Allocator + Copy,
-    L: Pool<C, S, P, A>,
+    L: Readers<C, S, P, A>,
 > Iterator for DirEntryIter<C, S, P, A, L> {
     type Item = Result<DirEntry<C, A>, Error<A>>;
 
@@ -366,7 +366,7 @@ impl<
 
     ghost can_next = { λ s. P.IsLawful (callback (job_of s)) };
 
-    ghost next_gives = { Answers S.FileSystem P.ProcessReadDir C.ReadDirState.Clone C.DirEntryState.Default L.Pool };
+    ghost next_gives = { Answers S.FileSystem P.ProcessReadDir C.ReadDirState.Clone C.DirEntryState.Default L.Readers };
 
     ghost remaining = { λ s. at_most (weight_of s) };
 

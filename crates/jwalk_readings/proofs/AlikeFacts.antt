@@ -6,7 +6,7 @@ use Rattle.walk_model.specs.ReadDir.{Spec, IsClone, AreClones}
 use Rattle.walk_model.proofs.CloneFacts.{counted_clones}
 use Rattle.jwalk_read.specs.declared.read_dir_spec.ReadDirSpec.{ReadDirSpec}
 use Rattle.jwalk_read.specs.ReadDirSpec.{spec}
-use Rattle.jwalk_crew.specs.Origin.{CountAlike}
+use Rattle.jwalk_readings.specs.Origin.{CountAlike}
 
 -- clones of the same directories count alike
 pub alike_clones : {R : Type 0} (clone : Clone.Ghosts R) (specs these those : List (Spec R)) → AreClones clone.is_clone specs these → AreClones clone.is_clone specs those → CountAlike clone these those

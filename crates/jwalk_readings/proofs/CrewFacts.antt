@@ -12,9 +12,9 @@ use Rattle.jwalk_read.specs.declared.job.Job.{Job}
 use Rattle.jwalk_read.specs.ReadDirSpec.{spec}
 use Rattle.jwalk_read.specs.ReadDir.{outcome}
 use Rattle.jwalk_read.specs.Job.{options_of, greatest_depth, IsReadingOf, IsReadingBy}
-use Rattle.jwalk_crew.specs.declared.wanted.Wanted.{Wanted}
-use Rattle.jwalk_crew.specs.Message.{Message}
-use Rattle.jwalk_crew.specs.Wanted.{IsFor, Fits}
+use Rattle.jwalk_readings.specs.declared.wanted.Wanted.{Wanted}
+use Rattle.jwalk_readings.specs.Message.{Message}
+use Rattle.jwalk_readings.specs.Wanted.{IsFor, Fits}
 use Rattle.jwalk_readings.specs.CrewReads.{IsTold, most_ready}
 
 -- a lawful outcome is one of every directory at this depth, up to the same greatest depth
@@ -46,7 +46,7 @@ module _ {C S P A R E : Type 0} (files : FileSystem.Ghosts S) (process : Process
     value = tells;
   }
 
--- if the pool is this one, as many of its readings may be ready as it says
+-- if the readers is this one, as many of its readings may be ready as it says
 pub most_of_pool : {L : Type 0} (most : L → ℕ) (p : L) (o : Option L) → IsSomeAnd o (λ q. q ≡ p) → most_ready most o ≡ most p
 most_of_pool most p None is = absurd is
 most_of_pool most p (Some q) is = ap most is

@@ -25,14 +25,14 @@ use Rattle.jwalk_read.specs.Job.{options_of, job_by, IsSteadyJob, IsReadingOf, I
 use Rattle.jwalk_read.specs.declared.read_dir_spec.ReadDirSpec.{ReadDirSpec}
 use Rattle.jwalk_read.specs.ReadDirSpec.{spec}
 use Rattle.jwalk_read.specs.ReadDir.{outcome}
-use Rattle.jwalk_crew.specs.declared.wanted.Wanted.{Wanted}
-use Rattle.jwalk_crew.specs.Wanted.{IsFor}
-use Rattle.jwalk_crew.specs.Due.{IsDue}
-use Rattle.jwalk_crew.specs.Message.{Message}
-use Rattle.jwalk_crew.specs.Origin.{Origin, CountAlike, spec_at, IsMessageOf}
-use Rattle.jwalk_crew.specs.declared.pool.Pool as Pool
+use Rattle.jwalk_readings.specs.declared.wanted.Wanted.{Wanted}
+use Rattle.jwalk_readings.specs.Wanted.{IsFor}
+use Rattle.jwalk_readings.specs.Due.{IsDue}
+use Rattle.jwalk_readings.specs.Message.{Message}
+use Rattle.jwalk_readings.specs.Origin.{Origin, CountAlike, spec_at, IsMessageOf}
+use Rattle.jwalk_readings.specs.declared.readers.Readers as Readers
 use Rattle.tree_crew.proofs.OriginFacts.{at_child}
-use Rattle.jwalk_crew.proofs.OriginFacts.{below_read}
+use Rattle.jwalk_readings.proofs.OriginFacts.{below_read}
 use Rattle.jwalk_readings.specs.CrewReads.{job_of, to_read, awaited, BeginsBy, IsMadeFor, IsSteadyOver, IsSteadyCrew, StartsSteady, ReadsSteadily}
 use Rattle.jwalk_readings.specs.declared.crew_reads.CrewReads.{CrewReads}
 
@@ -90,14 +90,14 @@ as_many_found clone o found n as_many clones = as_many ∙ sym (length-map found
 pub origin_same : {C S P A R E : Type 0} (job made : Job C S P A R E) (specs others : List (Spec R)) → job ≡ made → specs ≡ others → ◌≡◌ {A = Origin C S P A R E} (record { job = job; roots = specs }) (record { job = made; roots = others })
 origin_same job made specs others same are = ap₂ (λ j l. record { job = j; roots = l }) same are
 
-module _ {C S P A L R E : Type 0} (files : FileSystem.Ghosts S) (process : ProcessReadDir.Ghosts P C A R E) (clone : Clone.Ghosts R) (defaults : Default.Ghosts E) (pool : Pool.Ghosts L C S P A R E) where
+module _ {C S P A L R E : Type 0} (files : FileSystem.Ghosts S) (process : ProcessReadDir.Ghosts P C A R E) (clone : Clone.Ghosts R) (defaults : Default.Ghosts E) (readers : Readers.Ghosts L C S P A R E) where
   -- with nothing to read it is steady, if its job is
-  pub nothing_steady : (job : Job C S P A R E) (addresses : List (List ℕ)) (given : Given R E) → IsSteadyJob files process clone defaults job given → IsSteadyOver files process clone defaults pool job None addresses [] given
+  pub nothing_steady : (job : Job C S P A R E) (addresses : List (List ℕ)) (given : Given R E) → IsSteadyJob files process clone defaults job given → IsSteadyOver files process clone defaults readers job None addresses [] given
   nothing_steady job addresses given steady = record { steady = steady; roots = []; comes = tt; awaits = tt; at = refl }
 
-  -- and so it is from the beginning, if the pool is made for the directories that are to be read
-  pub begins_steady : (job : Job C S P A R E) (from : Option L) (addresses : List (List ℕ)) (specs : List (Spec R)) → addresses ≡ roots (length specs) → IsSomeAnd from (λ p. IsMadeFor pool p (record { job = job; roots = specs }) addresses)
-      → (given : Given R E) → IsSteadyJob files process clone defaults job given → IsSteadyOver files process clone defaults pool job from addresses specs given
+  -- and so it is from the beginning, if the readers is made for the directories that are to be read
+  pub begins_steady : (job : Job C S P A R E) (from : Option L) (addresses : List (List ℕ)) (specs : List (Spec R)) → addresses ≡ roots (length specs) → IsSomeAnd from (λ p. IsMadeFor readers p (record { job = job; roots = specs }) addresses)
+      → (given : Given R E) → IsSteadyJob files process clone defaults job given → IsSteadyOver files process clone defaults readers job from addresses specs given
   begins_steady job None addresses specs are comes given steady = absurd comes
   begins_steady job (Some p) addresses specs are comes given steady =
       let origin : Origin C S P A R E = record { job = job; roots = specs } in
@@ -109,34 +109,34 @@ module _ {C S P A L R E : Type 0} (files : FileSystem.Ghosts S) (process : Proce
         at = rw are (placed_first (spec_at files process clone defaults origin given) [] (counted_spec given) specs (λ i. refl));
       }
 
-  pub starts_steady : (it : CrewReads C S P A L R E) → BeginsBy (IsMadeFor pool) it → StartsSteady files process clone defaults pool it
-  starts_steady it begins given steady = begins_steady (job_of it) it.pool it.matcher (to_read it) begins.addresses begins.pool given steady
+  pub starts_steady : (it : CrewReads C S P A L R E) → BeginsBy (IsMadeFor readers) it → StartsSteady files process clone defaults readers it
+  starts_steady it begins given steady = begins_steady (job_of it) it.readers it.matcher (to_read it) begins.addresses begins.readers given steady
 
   some_is : (p : L) (o : Option L) (P : L → Type 0) → IsSomeAnd o (λ q. q ≡ p) → P p → IsSomeAnd o P
   some_is p None P is holds = absurd is
   some_is p (Some q) P is holds = subst P (sym is) holds
 
-  -- if the pool is this one, the readings begin with all that it is made for
-  pub begins_by : (it : CrewReads C S P A L R E) (p : L) (job : Job C S P A R E) (specs : List (Spec R)) → BeginsBy (λ given origin addresses. given ≡ p) it → job_of it ≡ job → to_read it ≡ specs → IsMadeFor pool p (record { job = job; roots = specs }) (roots (length specs)) → BeginsBy (IsMadeFor pool) it
+  -- if the readers is this one, the readings begin with all that it is made for
+  pub begins_by : (it : CrewReads C S P A L R E) (p : L) (job : Job C S P A R E) (specs : List (Spec R)) → BeginsBy (λ given origin addresses. given ≡ p) it → job_of it ≡ job → to_read it ≡ specs → IsMadeFor readers p (record { job = job; roots = specs }) (roots (length specs)) → BeginsBy (IsMadeFor readers) it
   begins_by it p job specs begins same are made =
       let here : it.matcher ≡ roots (length specs) = begins.addresses ∙ ap (λ l. roots (length l)) are in
       record {
         addresses = begins.addresses;
-        pool = some_is p it.pool (λ q. IsMadeFor pool q (record { job = job_of it; roots = to_read it }) it.matcher) begins.pool
-            (subst (λ j. pool.comes_from p (record { job = j; roots = to_read it })) (sym same) (subst (λ l. pool.comes_from p (record { job = job; roots = l })) (sym are) made.0), made.1 ∙ sym here);
+        readers = some_is p it.readers (λ q. IsMadeFor readers q (record { job = job_of it; roots = to_read it }) it.matcher) begins.readers
+            (subst (λ j. readers.comes_from p (record { job = j; roots = to_read it })) (sym same) (subst (λ l. readers.comes_from p (record { job = job; roots = l })) (sym are) made.0), made.1 ∙ sym here);
       }
 
   -- They stay steady if these directories are put in front of those that are kept.
   pub front_steady : (old mid new : CrewReads C S P A L R E) (front : List (Spec R)) (given : Given R E) → job_of new ≡ job_of old → new ≡ record mid { unread = new.unread } → to_read new ≡ front ++ to_read old
-      → IsSteadyOver files process clone defaults pool (job_of old) mid.pool mid.matcher (front ++ to_read old) given → IsSteadyCrew files process clone defaults pool new given
+      → IsSteadyOver files process clone defaults readers (job_of old) mid.readers mid.matcher (front ++ to_read old) given → IsSteadyCrew files process clone defaults readers new given
   front_steady old mid new front given job others left steady =
-      subst (λ l. IsSteadyOver files process clone defaults pool (job_of new) new.pool new.matcher l given) (sym left)
-      (subst (λ j. IsSteadyOver files process clone defaults pool j new.pool new.matcher (front ++ to_read old) given) (sym job)
-      (subst (λ (it : CrewReads C S P A L R E). IsSteadyOver files process clone defaults pool (job_of old) it.pool it.matcher (front ++ to_read old) given) (sym others) steady))
+      subst (λ l. IsSteadyOver files process clone defaults readers (job_of new) new.readers new.matcher l given) (sym left)
+      (subst (λ j. IsSteadyOver files process clone defaults readers j new.readers new.matcher (front ++ to_read old) given) (sym job)
+      (subst (λ (it : CrewReads C S P A L R E). IsSteadyOver files process clone defaults readers (job_of old) it.readers it.matcher (front ++ to_read old) given) (sym others) steady))
 
-  -- A pool doesn't lose the reading that comes next over what is steady: that one is due.
+  -- Readers don't lose the reading that comes next over what is steady: that one is due.
   pub not_lost : (job : Job C S P A R E) (before : L) (addresses : List (List ℕ)) (first : Spec R) (rest : List (Spec R)) (given : Given R E) (wanted : Wanted A) → IsFor (next_address addresses) first (options_of job) wanted
-      → ((origin : Origin C S P A R E) → pool.comes_from before origin → ¬ IsDue files process clone defaults origin (pool.awaits before) wanted) → ¬ IsSteadyOver files process clone defaults pool job (Some before) addresses (first ∷ rest) given
+      → ((origin : Origin C S P A R E) → readers.comes_from before origin → ¬ IsDue files process clone defaults origin (readers.awaits before) wanted) → ¬ IsSteadyOver files process clone defaults readers job (Some before) addresses (first ∷ rest) given
   not_lost job before addresses first rest given wanted is never was =
       let origin : Origin C S P A R E = record { job = job; roots = was.roots } in
       let stands : List ℕ → Option (Spec Worth) = spec_at files process clone defaults origin given in
@@ -151,8 +151,8 @@ module _ {C S P A L R E : Type 0} (files : FileSystem.Ghosts S) (process : Proce
         stands = first_placed stands (counted_spec given) addresses first rest was.at;
       }))
 
-  -- with no pool, or no address left, nothing steady is to be read
-  pub none_waits : (job : Job C S P A R E) (from : Option L) (addresses : List (List ℕ)) (first : Spec R) (rest : List (Spec R)) (given : Given R E) → awaited from addresses ≡ [] → ¬ IsSteadyOver files process clone defaults pool job from addresses (first ∷ rest) given
+  -- with no readers, or no address left, nothing steady is to be read
+  pub none_waits : (job : Job C S P A R E) (from : Option L) (addresses : List (List ℕ)) (first : Spec R) (rest : List (Spec R)) (given : Given R E) → awaited from addresses ≡ [] → ¬ IsSteadyOver files process clone defaults readers job from addresses (first ∷ rest) given
   none_waits job from addresses first rest given none was = some_placed (spec_at files process clone defaults (record { job = job; roots = was.roots }) given) (counted_spec given) (awaited from addresses) first rest was.at none
 
   pub none_awaited : (from : Option L) (addresses : List (List ℕ)) → addresses ≡ [] → awaited from addresses ≡ []
@@ -161,8 +161,8 @@ module _ {C S P A L R E : Type 0} (files : FileSystem.Ghosts S) (process : Proce
 
   module _ (job : Job C S P A R E) (before after : L) (addresses : List (List ℕ)) (first : Spec R) (o : Outcome R E) (item : Ordered (Message C S P A R E) A)
       (here : address_of item ≡ next_address addresses)
-      (of : (origin : Origin C S P A R E) → pool.comes_from before origin → IsMessageOf files process clone defaults origin (addressed item))
-      (reading : IsReadingOf files process clone defaults item.value.job (spec item.value.of) o) (rest : List (Spec R)) (given : Given R E) (was : IsSteadyOver files process clone defaults pool job (Some before) addresses (first ∷ rest) given) where
+      (of : (origin : Origin C S P A R E) → readers.comes_from before origin → IsMessageOf files process clone defaults origin (addressed item))
+      (reading : IsReadingOf files process clone defaults item.value.job (spec item.value.of) o) (rest : List (Spec R)) (given : Given R E) (was : IsSteadyOver files process clone defaults readers job (Some before) addresses (first ∷ rest) given) where
     abbrev pub origin : Origin C S P A R E
     origin = record { job = job; roots = was.roots }
 
@@ -184,8 +184,8 @@ module _ {C S P A L R E : Type 0} (files : FileSystem.Ghosts S) (process : Proce
         own ∙ ap (value.reading (job_by files given job)) same_there
 
     -- and its children's addresses are those of the directories that were found
-    pub left_steady : pool.comes_from after origin → pool.awaits after ≡ passed (pool.awaits before) (child_count_of item) → (front : List (Spec R)) → AreClones clone.is_clone (children_of o) front → child_count_of item ≡ length front
-        → IsSteadyOver files process clone defaults pool job (Some after) (passed addresses (child_count_of item)) (front ++ rest) given
+    pub left_steady : readers.comes_from after origin → readers.awaits after ≡ passed (readers.awaits before) (child_count_of item) → (front : List (Spec R)) → AreClones clone.is_clone (children_of o) front → child_count_of item ≡ length front
+        → IsSteadyOver files process clone defaults readers job (Some after) (passed addresses (child_count_of item)) (front ++ rest) given
     left_steady comes goes_on front clones count = record {
       steady = was.steady;
       roots = was.roots;
@@ -197,9 +197,9 @@ module _ {C S P A L R E : Type 0} (files : FileSystem.Ghosts S) (process : Proce
           ∙ ap (λ l. slice_get l i) (below_read files process clone defaults origin item.value.job (spec item.value.of) o front message.job reading clones given was.steady)));
     }
 
-  module _ (old new : CrewReads C S P A L R E) (before after : L) (first : Spec R) (read : Result (ReadDir C A R E) (Error A)) (item : Ordered (Message C S P A R E) A) (had : old.pool ≡ Some before) (has : new.pool ≡ Some after)
+  module _ (old new : CrewReads C S P A L R E) (before after : L) (first : Spec R) (read : Result (ReadDir C A R E) (Error A)) (item : Ordered (Message C S P A R E) A) (had : old.readers ≡ Some before) (has : new.readers ≡ Some after)
       (here : address_of item ≡ next_address old.matcher) (further : new.matcher ≡ passed old.matcher (child_count_of item))
-      (of : (origin : Origin C S P A R E) → pool.comes_from before origin → IsMessageOf files process clone defaults origin (addressed item)) (same : (origin : Origin C S P A R E) → pool.comes_from before origin → pool.comes_from after origin) (goes_on : pool.awaits after ≡ passed (pool.awaits before) (child_count_of item))
+      (of : (origin : Origin C S P A R E) → readers.comes_from before origin → IsMessageOf files process clone defaults origin (addressed item)) (same : (origin : Origin C S P A R E) → readers.comes_from before origin → readers.comes_from after origin) (goes_on : readers.awaits after ≡ passed (readers.awaits before) (child_count_of item))
       (came : item.value.outcome ≡ Ok read) (reading : IsReadingOf files process clone defaults item.value.job (spec item.value.of) (outcome read)) where
     -- the message says how many directories are in it
     message_count : (origin : Origin C S P A R E) → IsMessageOf files process clone defaults origin (addressed item) → child_count_of item ≡ length (children_of (outcome read))
@@ -210,11 +210,11 @@ module _ {C S P A L R E : Type 0} (files : FileSystem.Ghosts S) (process : Proce
     counted : (origin : Origin C S P A R E) → IsMessageOf files process clone defaults origin (addressed item) → (front : List (Spec R)) → AreClones clone.is_clone (children_of (outcome read)) front → child_count_of item ≡ length front
     counted origin message front clones = message_count origin message ∙ sym (same_length clone.is_clone (children_of (outcome read)) front clones)
 
-    was_over : (rest : List (Spec R)) (given : Given R E) → IsSteadyOver files process clone defaults pool (job_of old) old.pool old.matcher (first ∷ rest) given → IsSteadyOver files process clone defaults pool (job_of old) (Some before) old.matcher (first ∷ rest) given
-    was_over rest given was = subst (λ q. IsSteadyOver files process clone defaults pool (job_of old) q old.matcher (first ∷ rest) given) had was
+    was_over : (rest : List (Spec R)) (given : Given R E) → IsSteadyOver files process clone defaults readers (job_of old) old.readers old.matcher (first ∷ rest) given → IsSteadyOver files process clone defaults readers (job_of old) (Some before) old.matcher (first ∷ rest) given
+    was_over rest given was = subst (λ q. IsSteadyOver files process clone defaults readers (job_of old) q old.matcher (first ∷ rest) given) had was
 
-    -- a pool's message is the reading of the directory that comes next
-    pub reads_steadily : (count : ℕ) → count ≡ child_count_of item → ReadsSteadily files process clone defaults pool old first (outcome read) count new
+    -- the readers' message is the reading of the directory that comes next
+    pub reads_steadily : (count : ℕ) → count ≡ child_count_of item → ReadsSteadily files process clone defaults readers old first (outcome read) count new
     reads_steadily count counts = record {
       count_is = λ rest given was.
           let over = was_over rest given was in
@@ -223,7 +223,7 @@ module _ {C S P A L R E : Type 0} (files : FileSystem.Ghosts S) (process : Proce
       steady = λ rest front clones given was.
           let over = was_over rest given was in
           let origin : Origin C S P A R E = record { job = job_of old; roots = over.roots } in
-          subst (λ q. IsSteadyOver files process clone defaults pool (job_of old) q new.matcher (front ++ rest) given) (sym has)
-          (subst (λ l. IsSteadyOver files process clone defaults pool (job_of old) (Some after) l (front ++ rest) given) (sym further)
+          subst (λ q. IsSteadyOver files process clone defaults readers (job_of old) q new.matcher (front ++ rest) given) (sym has)
+          (subst (λ l. IsSteadyOver files process clone defaults readers (job_of old) (Some after) l (front ++ rest) given) (sym further)
           (left_steady (job_of old) before after old.matcher first (outcome read) item here of reading rest given over (same origin over.comes) goes_on front clones (counted origin (of origin over.comes) front clones)));
     }

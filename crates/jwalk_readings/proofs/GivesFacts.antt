@@ -27,8 +27,8 @@ use Rattle.jwalk_readings.specs.Reads.{Read}
 use Rattle.jwalk_readings.specs.Reads.{MadeAsGiven, ReadsFirstBy, ReadsNextBy}
 use Rattle.jwalk_readings.specs.ReadAhead.{nothing_ahead, BeginsWith}
 use Rattle.jwalk_readings.specs.BatchReads as board
-use Rattle.jwalk_readings.specs.BatchReads.{BatchReads, PassesAddress, IsSteadyWalk}
-use Rattle.jwalk_crew.specs.declared.pool.Pool as Pool
+use Rattle.jwalk_readings.specs.BatchReads.{BatchReads, PassesAddress, IsSteadyBatches}
+use Rattle.jwalk_readings.specs.declared.readers.Readers as Readers
 use Rattle.jwalk_readings.specs.declared.read_dir_iter.ReadDirIter.{ReadDirIter}
 use Rattle.jwalk_readings.specs.declared.read_dir_iter.ReadDirIter.TheVariants.{Walk, CrewWalk}
 use Rattle.jwalk_readings.specs.ReadDirIter.{by_crew, job_of, to_read, width_of, read_ahead, early_of, frontier_of, next_address, Tells, GivesError, GivesFirst, GivesPreorder, most_ahead, Known, EntersNextBy, IsSteadyReads, StartsSteady, StaysSteady, Gives}
@@ -76,14 +76,14 @@ as_many (Some b) = length-map _ _ ∙ length-map b.ready _ ∙ sym (length-map b
 pub fewer_done : {C S P A R E : Type 0} (old new : BatchReads C S P A R E) (width : ℕ) → length (board.early_of new) + 1 ≤ length (board.early_of old) + width → length (board.read_ahead new).done + 1 ≤ length (board.read_ahead old).done + width
 fewer_done old new width fewer = rw (sym (as_many new.board), sym (as_many old.board)) fewer
 
-module _ {C S P A L R E : Type 0} (files : FileSystem.Ghosts S) (process : ProcessReadDir.Ghosts P C A R E) (clone : Clone.Ghosts R) (defaults : Default.Ghosts E) (pool : Pool.Ghosts L C S P A R E) (old new : ReadDirIter C S P A L R E) where
+module _ {C S P A L R E : Type 0} (files : FileSystem.Ghosts S) (process : ProcessReadDir.Ghosts P C A R E) (clone : Clone.Ghosts R) (defaults : Default.Ghosts E) (readers : Readers.Ghosts L C S P A R E) (old new : ReadDirIter C S P A L R E) where
   -- one call that read on
   pub gives_read : (may_lose : Bool) (read : Option (Result (ReadDir C A R E) (Error A))) → by_crew new ≡ by_crew old → job_of new ≡ job_of old → width_of new ≡ width_of old → length (early_of new) + 1 ≤ length (early_of old) + width_of old
-      → most_ahead pool new ≤ most_ahead pool old → StaysSteady files process clone defaults pool old new
-      → ReadsNextBy clone (Known files process clone defaults pool old) (greatest_depth (job_of old)) (to_read old) (option_map outcome read) (to_read new)
+      → most_ahead readers new ≤ most_ahead readers old → StaysSteady files process clone defaults readers old new
+      → ReadsNextBy clone (Known files process clone defaults readers old) (greatest_depth (job_of old)) (to_read old) (option_map outcome read) (to_read new)
       → EntersNextBy files process clone defaults (by_crew old) (job_of old) (width_of old) (next_address old) (read_ahead old) (option_map outcome read) (read_ahead new)
       → PassesAddress (frontier_of old) (option_map outcome read) (frontier_of new)
-      → Gives files process clone defaults pool may_lose old read new
+      → Gives files process clone defaults readers may_lose old read new
   gives_read may_lose read crew job width ahead most steady next enters passes = record {
     crew = crew;
     job = job;
@@ -94,13 +94,13 @@ module _ {C S P A L R E : Type 0} (files : FileSystem.Ghosts S) (process : Proce
     most = most;
     steady = steady;
     first = inr next;
-    preorder = λ given counted. given_in_preorder clone (Known files process clone defaults pool old) (job_of old) (to_read old) (to_read new) files given (clones_if_steady files process clone defaults pool old given counted) (known_if_steady files process clone defaults pool old given counted) may_lose (option_map outcome read) (inr next);
+    preorder = λ given counted. given_in_preorder clone (Known files process clone defaults readers old) (job_of old) (to_read old) (to_read new) files given (clones_if_steady files process clone defaults readers old given counted) (known_if_steady files process clone defaults readers old given counted) may_lose (option_map outcome read) (inr next);
   }
 
   -- one call that ends the readings early
-  pub gives_stopped : (may_lose : Bool) (error : Error A) → Tells (by_crew old) (failure error) → ((given : Given R E) → IsSteadyReads files process clone defaults pool old given → Tells may_lose (failure error)) → by_crew new ≡ by_crew old → job_of new ≡ job_of old → width_of new ≡ width_of old → length (early_of new) + 1 ≤ length (early_of old) + width_of old
-      → most_ahead pool new ≤ most_ahead pool old → StaysSteady files process clone defaults pool old new → to_read old ≢ [] → to_read new ≡ [] → read_ahead new ≡ nothing_ahead
-      → Gives files process clone defaults pool may_lose old (Some (Err error)) new
+  pub gives_stopped : (may_lose : Bool) (error : Error A) → Tells (by_crew old) (failure error) → ((given : Given R E) → IsSteadyReads files process clone defaults readers old given → Tells may_lose (failure error)) → by_crew new ≡ by_crew old → job_of new ≡ job_of old → width_of new ≡ width_of old → length (early_of new) + 1 ≤ length (early_of old) + width_of old
+      → most_ahead readers new ≤ most_ahead readers old → StaysSteady files process clone defaults readers old new → to_read old ≢ [] → to_read new ≡ [] → read_ahead new ≡ nothing_ahead
+      → Gives files process clone defaults readers may_lose old (Some (Err error)) new
   gives_stopped may_lose error tells steadily crew job width ahead most steady some none nothing =
       let told : GivesError {R = R} {E = E} (by_crew old) (Some (Err (failure error))) = record { error = failure error; told = refl; tells = tells } in
       record {
@@ -125,8 +125,8 @@ none_lost b reading max_depth old new (Some given) gives = elim gives [
 ]
 
 -- so what is given where no reading may be lost may also be given where one may
-pub gives_any : {C S P A L R E : Type 0} (files : FileSystem.Ghosts S) (process : ProcessReadDir.Ghosts P C A R E) (clone : Clone.Ghosts R) (defaults : Default.Ghosts E) (pool : Pool.Ghosts L C S P A R E) (b : Bool) (old new : ReadDirIter C S P A L R E) (read : Option (Result (ReadDir C A R E) (Error A))) → Gives files process clone defaults pool false old read new → Gives files process clone defaults pool b old read new
-gives_any files process clone defaults pool b old new read gives = record {
+pub gives_any : {C S P A L R E : Type 0} (files : FileSystem.Ghosts S) (process : ProcessReadDir.Ghosts P C A R E) (clone : Clone.Ghosts R) (defaults : Default.Ghosts E) (readers : Readers.Ghosts L C S P A R E) (b : Bool) (old new : ReadDirIter C S P A L R E) (read : Option (Result (ReadDir C A R E) (Error A))) → Gives files process clone defaults readers false old read new → Gives files process clone defaults readers b old read new
+gives_any files process clone defaults readers b old new read gives = record {
   crew = gives.crew;
   job = gives.job;
   width = gives.width;
@@ -145,22 +145,22 @@ some_of P f None h = tt
 some_of P f (Some x) h = h
 
 -- where no crew reads, none of its readings is ahead
-pub alone_most : {C S P A L R E : Type 0} (pool : Pool.Ghosts L C S P A R E) (it : ReadDirIter C S P A L R E) → by_crew it ≡ false → most_ahead pool it ≡ 0
-alone_most pool (Walk walk) own = refl
-alone_most pool (CrewWalk reads) own = absurd cc
+pub alone_most : {C S P A L R E : Type 0} (readers : Readers.Ghosts L C S P A R E) (it : ReadDirIter C S P A L R E) → by_crew it ≡ false → most_ahead readers it ≡ 0
+alone_most readers (Walk walk) own = refl
+alone_most readers (CrewWalk reads) own = absurd cc
 
-steady_board : {C S P A R E : Type 0} (files : FileSystem.Ghosts S) (process : ProcessReadDir.Ghosts P C A R E) (clone : Clone.Ghosts R) (defaults : Default.Ghosts E) (walk : BatchReads C S P A R E) (given : Given R E) → IsSteadyJob files process clone defaults walk.job given → (board.read_ahead walk).done ≡ [] → IsSteadyWalk files process clone defaults walk given
+steady_board : {C S P A R E : Type 0} (files : FileSystem.Ghosts S) (process : ProcessReadDir.Ghosts P C A R E) (clone : Clone.Ghosts R) (defaults : Default.Ghosts E) (walk : BatchReads C S P A R E) (given : Given R E) → IsSteadyJob files process clone defaults walk.job given → (board.read_ahead walk).done ≡ [] → IsSteadyBatches files process clone defaults walk given
 steady_board files process clone defaults walk given steady none =
     let early = board.early_of walk in
     let nothing : early ≡ [] = nil_from_length early (as_many walk.board ∙ ap length none) in
     record { steady = steady; early = rw nothing (All-nil (MadeAsGiven files given walk.job)) }
 
 -- where nothing was read early over a steady job, it is steady
-pub steady_at_rest : {C S P A L R E : Type 0} (files : FileSystem.Ghosts S) (process : ProcessReadDir.Ghosts P C A R E) (clone : Clone.Ghosts R) (defaults : Default.Ghosts E) (pool : Pool.Ghosts L C S P A R E) (it : ReadDirIter C S P A L R E) (given : Given R E) → by_crew it ≡ false → IsSteadyJob files process clone defaults (job_of it) given → (read_ahead it).done ≡ [] → IsSteadyReads files process clone defaults pool it given
-steady_at_rest files process clone defaults pool (Walk walk) given own steady none = steady_board files process clone defaults walk given steady none
-steady_at_rest files process clone defaults pool (CrewWalk reads) given own steady none = absurd cc
+pub steady_at_rest : {C S P A L R E : Type 0} (files : FileSystem.Ghosts S) (process : ProcessReadDir.Ghosts P C A R E) (clone : Clone.Ghosts R) (defaults : Default.Ghosts E) (readers : Readers.Ghosts L C S P A R E) (it : ReadDirIter C S P A L R E) (given : Given R E) → by_crew it ≡ false → IsSteadyJob files process clone defaults (job_of it) given → (read_ahead it).done ≡ [] → IsSteadyReads files process clone defaults readers it given
+steady_at_rest files process clone defaults readers (Walk walk) given own steady none = steady_board files process clone defaults walk given steady none
+steady_at_rest files process clone defaults readers (CrewWalk reads) given own steady none = absurd cc
 
 -- so readings that begin with their roots are steady, if no crew makes them
-pub alone_steady : {C S P A L R E F : Type 0} (files : FileSystem.Ghosts S) (process : ProcessReadDir.Ghosts P C A R E) (clone : Clone.Ghosts R) (defaults : Default.Ghosts E) (pool : Pool.Ghosts L C S P A R E) (roots : List (Spec R)) (made : Result (ReadDirIter C S P A L R E) F) → IfOk made (λ it. by_crew it ≡ false) → IfOk made (λ it. BeginsWith roots (read_ahead it)) → IfOk made (StartsSteady files process clone defaults pool)
-alone_steady files process clone defaults pool roots (Ok it) own begins = λ given steady. steady_at_rest files process clone defaults pool it given own steady begins.done
-alone_steady files process clone defaults pool roots (Err f) own begins = tt
+pub alone_steady : {C S P A L R E F : Type 0} (files : FileSystem.Ghosts S) (process : ProcessReadDir.Ghosts P C A R E) (clone : Clone.Ghosts R) (defaults : Default.Ghosts E) (readers : Readers.Ghosts L C S P A R E) (roots : List (Spec R)) (made : Result (ReadDirIter C S P A L R E) F) → IfOk made (λ it. by_crew it ≡ false) → IfOk made (λ it. BeginsWith roots (read_ahead it)) → IfOk made (StartsSteady files process clone defaults readers)
+alone_steady files process clone defaults readers roots (Ok it) own begins = λ given steady. steady_at_rest files process clone defaults readers it given own steady begins.done
+alone_steady files process clone defaults readers roots (Err f) own begins = tt

@@ -13,7 +13,7 @@ use Rattle.jwalk_read.specs.Given.{Given, ClonesCount}
 use Rattle.jwalk_read.specs.Job.{IsAsGiven, IsGivenOver}
 use Rattle.tree_crew.specs.declared.session.Missed.{Missed}
 use Rattle.tree_crew.specs.declared.session.Missed.TheVariants.{Memory, Lost}
-use Rattle.jwalk_crew.specs.declared.pool.Pool as Pool
+use Rattle.jwalk_readings.specs.declared.readers.Readers as Readers
 use Rattle.jwalk_readings.specs.declared.read_dir_iter.ReadDirIter.{ReadDirIter}
 use Rattle.jwalk_readings.specs.declared.read_dir_iter.ReadDirIter.TheVariants.{Walk, CrewWalk}
 use Rattle.jwalk_readings.specs.CrewReads.{failure_of, NotLost, IsNextBelow}
@@ -40,14 +40,14 @@ first_below : {R E : Type 0} (b : Bool) (x : Item R E) (s : Spec R) (rest : List
 first_below false x s rest h = tt
 first_below true x s rest h = h
 
-module _ {C S P A L R E : Type 0} (files : FileSystem.Ghosts S) (process : ProcessReadDir.Ghosts P C A R E) (clone : Clone.Ghosts R) (defaults : Default.Ghosts E) (pool : Pool.Ghosts L C S P A R E) where
+module _ {C S P A L R E : Type 0} (files : FileSystem.Ghosts S) (process : ProcessReadDir.Ghosts P C A R E) (clone : Clone.Ghosts R) (defaults : Default.Ghosts E) (readers : Readers.Ghosts L C S P A R E) where
   -- where it is steady, clones count as their originals
-  pub clones_if_steady : (it : ReadDirIter C S P A L R E) (given : Given R E) → IsSteadyReads files process clone defaults pool it given → ClonesCount clone given
+  pub clones_if_steady : (it : ReadDirIter C S P A L R E) (given : Given R E) → IsSteadyReads files process clone defaults readers it given → ClonesCount clone given
   clones_if_steady (Walk walk) given steady = steady.steady.clones
   clones_if_steady (CrewWalk reads) given steady = steady.steady.clones
 
   -- and what is known of a reading is that it is the definition's
-  pub known_if_steady : (it : ReadDirIter C S P A L R E) (given : Given R E) → IsSteadyReads files process clone defaults pool it given → (s : Spec R) (o : Outcome R E) → readings.Known files process clone defaults pool it s o → IsAsGiven files given (readings.job_of it) s o
+  pub known_if_steady : (it : ReadDirIter C S P A L R E) (given : Given R E) → IsSteadyReads files process clone defaults readers it given → (s : Spec R) (o : Outcome R E) → readings.Known files process clone defaults readers it s o → IsAsGiven files given (readings.job_of it) s o
   known_if_steady (Walk walk) given steady s o known = known given steady
   known_if_steady (CrewWalk reads) given steady s o known = known.1 given steady
 
@@ -62,13 +62,13 @@ module _ {C S P A L R E : Type 0} (files : FileSystem.Ghosts S) (process : Proce
   known_by true counts fewer job at within s o known = (known.0, λ given f. known.1 given (within given f))
 
   -- What is known of the next reading is known of it as the reading of an item's directory, if the directory that comes next is that one.
-  pub known_of : (it : ReadDirIter C S P A L R E) (max_depth : ℕ) (x : Item R E) (old : List (Spec R)) (read : Option (Outcome R E)) (new : List (Spec R)) → IsNextBelow (readings.by_crew it) x old → ReadsNextBy clone (readings.Known files process clone defaults pool it) max_depth old read new → ReadsNextBy clone (readings.KnownOf files process clone defaults pool it x) max_depth old read new
+  pub known_of : (it : ReadDirIter C S P A L R E) (max_depth : ℕ) (x : Item R E) (old : List (Spec R)) (read : Option (Outcome R E)) (new : List (Spec R)) → IsNextBelow (readings.by_crew it) x old → ReadsNextBy clone (readings.Known files process clone defaults readers it) max_depth old read new → ReadsNextBy clone (readings.KnownOf files process clone defaults readers it x) max_depth old read new
   known_of it max_depth x old None new below reads = reads
   known_of it max_depth x old (Some o) new below reads =
       let reading = reads.reading in
       record { first = reads.first; rest = reads.rest; took = reads.took; reading = record { lawful = reading.lawful; few = reading.few; value = (reading.value, first_below (readings.by_crew it) x reads.first reads.rest (subst (IsNextBelow (readings.by_crew it) x) reads.took below)) }; stacks = reads.stacks }
 
-  pub gives_of : (it : ReadDirIter C S P A L R E) (max_depth : ℕ) (x : Item R E) (old : List (Spec R)) (given : Option (Outcome R E)) (new : List (Spec R)) → IsNextBelow (readings.by_crew it) x old → GivesFirst (readings.by_crew it) clone (readings.Known files process clone defaults pool it) max_depth old given new → GivesFirst (readings.by_crew it) clone (readings.KnownOf files process clone defaults pool it x) max_depth old given new
+  pub gives_of : (it : ReadDirIter C S P A L R E) (max_depth : ℕ) (x : Item R E) (old : List (Spec R)) (given : Option (Outcome R E)) (new : List (Spec R)) → IsNextBelow (readings.by_crew it) x old → GivesFirst (readings.by_crew it) clone (readings.Known files process clone defaults readers it) max_depth old given new → GivesFirst (readings.by_crew it) clone (readings.KnownOf files process clone defaults readers it x) max_depth old given new
   gives_of it max_depth x old given new below first = elim first [
     | inl ends ↦ inl ends
     | inr reads ↦ inr (known_of it max_depth x old given new below reads)

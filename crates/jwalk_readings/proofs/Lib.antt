@@ -1,3 +1,6 @@
+pub mod DueFacts
+pub mod OriginFacts
+mod AtJob
 pub mod SeenFacts
 pub mod ReadFacts
 pub mod StepFacts

@@ -21,7 +21,7 @@ use Rattle.jwalk_read.specs.ReadDir.{outcome}
 use Rattle.jwalk_readings.specs.Reads.{ReadsNextBy}
 use Rattle.jwalk_readings.specs.ReadAhead.{ReadAhead, HandsOnAt, ReadsLeast, MakesReady}
 use Rattle.jwalk_readings.proofs.BatchPrepareFacts.{ready_enters}
-use Rattle.jwalk_crew.specs.declared.pool.Pool as Pool
+use Rattle.jwalk_readings.specs.declared.readers.Readers as Readers
 use Rattle.jwalk_readings.specs.declared.read_dir_iter.ReadDirIter.{ReadDirIter}
 use Rattle.jwalk_readings.specs.ReadDirIter.{by_crew, job_of, to_read, width_of, read_ahead, early_of, next_address, GivesError, GivesFirst, most_ahead, Known, EntersBy, EntersFirst, IsSteadyReads, StaysSteady, ReadsForNext, Prepares, Gives}
 use Rattle.jwalk_readings.proofs.KnownFacts.{tells_memory, known_by}
@@ -63,17 +63,17 @@ reads_known clone known more within deep depth is old mid new same (Some o) read
       stacks = reads.stacks;
     }
 
-module _ {C S P A L R E : Type 0} (files : FileSystem.Ghosts S) (process : ProcessReadDir.Ghosts P C A R E) (clone : Clone.Ghosts R) (defaults : Default.Ghosts E) (pool : Pool.Ghosts L C S P A R E) (old mid new : ReadDirIter C S P A L R E) where
-  module _ (crew : by_crew mid ≡ by_crew old) (job : job_of mid ≡ job_of old) (width : width_of mid ≡ width_of old) (wide : 1 ≤ width_of old) (most : most_ahead pool mid ≤ most_ahead pool old) (steady : StaysSteady files process clone defaults pool old mid) (r : ReadsForNext files process clone defaults pool old mid) where
-    known_prepared : (s : Spec R) (o : Outcome R E) → Known files process clone defaults pool mid s o → Known files process clone defaults pool old s o
+module _ {C S P A L R E : Type 0} (files : FileSystem.Ghosts S) (process : ProcessReadDir.Ghosts P C A R E) (clone : Clone.Ghosts R) (defaults : Default.Ghosts E) (readers : Readers.Ghosts L C S P A R E) (old mid new : ReadDirIter C S P A L R E) where
+  module _ (crew : by_crew mid ≡ by_crew old) (job : job_of mid ≡ job_of old) (width : width_of mid ≡ width_of old) (wide : 1 ≤ width_of old) (most : most_ahead readers mid ≤ most_ahead readers old) (steady : StaysSteady files process clone defaults readers old mid) (r : ReadsForNext files process clone defaults readers old mid) where
+    known_prepared : (s : Spec R) (o : Outcome R E) → Known files process clone defaults readers mid s o → Known files process clone defaults readers old s o
     known_prepared s o known =
-        known_by files process clone defaults pool (by_crew old) (IsSteadyReads files process clone defaults pool mid) (IsSteadyReads files process clone defaults pool old) (job_of old) (next_address old) steady s o
+        known_by files process clone defaults readers (by_crew old) (IsSteadyReads files process clone defaults readers mid) (IsSteadyReads files process clone defaults readers old) (job_of old) (next_address old) steady s o
         (rw (crew, job, ap order.next_address r.frontier) at known)
 
-    first_prepared : (read : Option (Outcome R E)) → GivesFirst (by_crew mid) clone (Known files process clone defaults pool mid) (greatest_depth (job_of mid)) (to_read mid) read (to_read new) → GivesFirst (by_crew old) clone (Known files process clone defaults pool old) (greatest_depth (job_of old)) (to_read old) read (to_read new)
+    first_prepared : (read : Option (Outcome R E)) → GivesFirst (by_crew mid) clone (Known files process clone defaults readers mid) (greatest_depth (job_of mid)) (to_read mid) read (to_read new) → GivesFirst (by_crew old) clone (Known files process clone defaults readers old) (greatest_depth (job_of old)) (to_read old) read (to_read new)
     first_prepared read first = elim first [
       | inl ends ↦ inl (subst (λ b. GivesError b read) crew ends.0, r.some, ends.2)
-      | inr reads ↦ inr (reads_known clone (Known files process clone defaults pool mid) (Known files process clone defaults pool old) known_prepared (greatest_depth (job_of mid)) (greatest_depth (job_of old)) (ap greatest_depth job) (to_read old) (to_read mid) (to_read new) r.same read reads)
+      | inr reads ↦ inr (reads_known clone (Known files process clone defaults readers mid) (Known files process clone defaults readers old) known_prepared (greatest_depth (job_of mid)) (greatest_depth (job_of old)) (ap greatest_depth job) (to_read old) (to_read mid) (to_read new) r.same read reads)
     ]
 
     enters_after : (read : Outcome R E) → EntersFirst files process clone defaults mid (Some read) new → EntersFirst files process clone defaults old (Some read) new
@@ -89,7 +89,7 @@ module _ {C S P A L R E : Type 0} (files : FileSystem.Ghosts S) (process : Proce
     ]
 
     -- What is given after some were read for it is what one call gives.
-    gives_after : (read : Option (Result (ReadDir C A R E) (Error A))) → Gives files process clone defaults pool false mid read new → Gives files process clone defaults pool false old read new
+    gives_after : (read : Option (Result (ReadDir C A R E) (Error A))) → Gives files process clone defaults readers false mid read new → Gives files process clone defaults readers false old read new
     gives_after None g = absurd (elim g.first [
       | inl ends ↦ (let no : ◌≡◌ {A = Option (Outcome R E)} None (Some (Err ends.0.error)) = ends.0.told in cc)
       | inr none ↦ r.some (sym r.same ∙ none.0)
@@ -110,14 +110,14 @@ module _ {C S P A L R E : Type 0} (files : FileSystem.Ghosts S) (process : Proce
         }
 
   -- What is given after a call that prepares it is what one call gives,
-  pub prepared_gives : {F : Type 0} (done : Unit {0}) (read : Option (Result (ReadDir C A R E) (Error A))) → Prepares files process clone defaults pool {F = F} old (Ok done) mid → Gives files process clone defaults pool false mid read new → Gives files process clone defaults pool false old read new
+  pub prepared_gives : {F : Type 0} (done : Unit {0}) (read : Option (Result (ReadDir C A R E) (Error A))) → Prepares files process clone defaults readers {F = F} old (Ok done) mid → Gives files process clone defaults readers false mid read new → Gives files process clone defaults readers false old read new
   prepared_gives done read p g =
       ⊎_elim
-      (λ (same : mid ≡ old). subst (λ m. Gives files process clone defaults pool false m read new) same g)
-      (λ (r : ReadsForNext files process clone defaults pool old mid). gives_after p.crew p.job p.width p.wide p.most p.steady r read g)
+      (λ (same : mid ≡ old). subst (λ m. Gives files process clone defaults readers false m read new) same g)
+      (λ (r : ReadsForNext files process clone defaults readers old mid). gives_after p.crew p.job p.width p.wide p.most p.steady r read g)
       p.prepared
 
   -- and so is the error that reports that it failed.
-  pub not_prepared_gives : {F : Type 0} (refused : F) (error : Error A) → failure error ≡ memory → Prepares files process clone defaults pool old (Err refused) new → Gives files process clone defaults pool false old (Some (Err error)) new
+  pub not_prepared_gives : {F : Type 0} (refused : F) (error : Error A) → failure error ≡ memory → Prepares files process clone defaults readers old (Err refused) new → Gives files process clone defaults readers false old (Some (Err error)) new
   not_prepared_gives refused error is p =
-      gives_stopped files process clone defaults pool old new false error (tells_memory (by_crew old) (failure error) is) (λ given counted. is) p.crew p.job p.width (omega (arith, ap (λ a. length a.done) p.nothing, p.wide)) p.most p.steady p.some p.stopped p.nothing
+      gives_stopped files process clone defaults readers old new false error (tells_memory (by_crew old) (failure error) is) (λ given counted. is) p.crew p.job p.width (omega (arith, ap (λ a. length a.done) p.nothing, p.wide)) p.most p.steady p.some p.stopped p.nothing

@@ -63,12 +63,12 @@ module _ {C S P A R E : Type 0} (w : BatchReads C S P A R E) where
 
 module _ {C S P A R E : Type 0} (files : FileSystem.Ghosts S) (process : ProcessReadDir.Ghosts P C A R E) (clone : Clone.Ghosts R) (defaults : Default.Ghosts E) where
   -- They are steady over what is given: the job is, and what was read early is what the definition gives.
-  abbrev pub IsSteadyWalk : BatchReads C S P A R E → Given R E → Type 0
-  IsSteadyWalk w = IsSteadyWith files process clone defaults w.job (early_of w)
+  abbrev pub IsSteadyBatches : BatchReads C S P A R E → Given R E → Type 0
+  IsSteadyBatches w = IsSteadyWith files process clone defaults w.job (early_of w)
 
   -- They stay steady over all that they were steady over.
   abbrev pub StaysSteady : BatchReads C S P A R E → BatchReads C S P A R E → Type 0
-  StaysSteady old new = (given : Given R E) → IsSteadyWalk old given → IsSteadyWalk new given
+  StaysSteady old new = (given : Given R E) → IsSteadyBatches old given → IsSteadyBatches new given
 
   -- The next reading isn't made yet, and is made together with others. What is still to be given stays the same.
   pub record ReadsForNext (old new : BatchReads C S P A R E) : Type 0 where

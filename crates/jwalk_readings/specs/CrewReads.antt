@@ -17,9 +17,9 @@ use Rattle.jwalk_read.specs.ReadDirSpec.{spec}
 use Rattle.jwalk_read.specs.ReadDir.{outcome as view}
 use Rattle.jwalk_read.specs.Given.{Given, counted_spec}
 use Rattle.jwalk_read.specs.Job.{options_of, IsReadingOf, IsSteadyJob, IsGivenOver}
-use Rattle.jwalk_crew.specs.Message.{Message}
-use Rattle.jwalk_crew.specs.Origin.{Origin, spec_at}
-use Rattle.jwalk_crew.specs.declared.pool.Pool as Pool
+use Rattle.jwalk_readings.specs.Message.{Message}
+use Rattle.jwalk_readings.specs.Origin.{Origin, spec_at}
+use Rattle.jwalk_readings.specs.declared.readers.Readers as Readers
 use Rattle.tree_crew.specs.declared.crew.NotStarted.{NotStarted}
 use Rattle.tree_crew.specs.declared.crew.NotStarted.TheVariants as not_started
 use Rattle.tree_crew.specs.declared.session.Missed.{Missed}
@@ -84,41 +84,41 @@ abbrev pub NotLost : {R E : Type 0} → (Given R E → Type 0) → Missed → Ty
 NotLost counts Memory = Unit {0}
 NotLost {R} {E} counts Lost = (given : Given R E) → ¬ counts given
 
--- the addresses of the readings that a pool still has to give: none where there is no pool
+-- the addresses of the readings that readers still have to give: none where there are no readers
 abbrev pub awaited : {L : Type 0} → Option L → List (List ℕ) → List (List ℕ)
 awaited None addresses = []
-awaited (Some pool) addresses = addresses
+awaited (Some readers) addresses = addresses
 
--- at most how many readings a pool has made and not handed on: none where there is no pool
+-- at most how many readings a readers has made and not handed on: none where there is no readers
 abbrev pub most_ready : {L : Type 0} → (L → ℕ) → Option L → ℕ
 most_ready most None = 0
-most_ready most (Some pool) = most pool
+most_ready most (Some readers) = most readers
 
--- A pool is made for a walk, and still has to give the readings at these addresses.
-abbrev pub IsMadeFor : {C S P A L R E : Type 0} → Pool.Ghosts L C S P A R E → L → Origin C S P A R E → List (List ℕ) → Type 0
-IsMadeFor pool p origin addresses = pool.comes_from p origin × (pool.awaits p ≡ addresses)
+-- Readers are made for a walk, and still have to give the readings at these addresses.
+abbrev pub IsMadeFor : {C S P A L R E : Type 0} → Readers.Ghosts L C S P A R E → L → Origin C S P A R E → List (List ℕ) → Type 0
+IsMadeFor readers p origin addresses = readers.comes_from p origin × (readers.awaits p ≡ addresses)
 
--- Readings begin: the directories that are to be read are at the addresses of roots, and this holds of the pool that gives their readings.
+-- Readings begin: the directories that are to be read are at the addresses of roots, and this holds of the readers that gives their readings.
 pub record BeginsBy {C S P A L R E : Type 0} (made : L → Origin C S P A R E → List (List ℕ) → Type 0) (it : CrewReads C S P A L R E) : Type 0 where
   pub addresses : it.matcher ≡ frontier.roots (length (to_read it))
-  pub pool : IsSomeAnd it.pool (λ p. made p (record { job = job_of it; roots = to_read it }) it.matcher)
+  pub readers : IsSomeAnd it.readers (λ p. made p (record { job = job_of it; roots = to_read it }) it.matcher)
 
 -- at most how many of a crew's readings are made and not handed on: none once they were stopped
-abbrev pub most_ahead : {C S P A L R E : Type 0} → Pool.Ghosts L C S P A R E → CrewReads C S P A L R E → ℕ
-most_ahead pool it = most_ready pool.most it.pool
+abbrev pub most_ahead : {C S P A L R E : Type 0} → Readers.Ghosts L C S P A R E → CrewReads C S P A L R E → ℕ
+most_ahead readers it = most_ready readers.most it.readers
 
-module _ {C S P A L R E : Type 0} (files : FileSystem.Ghosts S) (process : ProcessReadDir.Ghosts P C A R E) (clone : Clone.Ghosts R) (defaults : Default.Ghosts E) (pool : Pool.Ghosts L C S P A R E) where
-  -- What a pool gives at these addresses are readings of these directories, over what is given. The job is steady and makes the pool's readings, which come at these addresses. These directories are there, below those that the pool began with.
+module _ {C S P A L R E : Type 0} (files : FileSystem.Ghosts S) (process : ProcessReadDir.Ghosts P C A R E) (clone : Clone.Ghosts R) (defaults : Default.Ghosts E) (readers : Readers.Ghosts L C S P A R E) where
+  -- What readers give at these addresses are readings of these directories, over what is given. The job is steady and makes the readers' readings, which come at these addresses. These directories are there, below those that the readers began with.
   pub record IsSteadyOver (job : Job C S P A R E) (from : Option L) (addresses : List (List ℕ)) (specs : List (Spec R)) (given : Given R E) : Type 0 where
     pub steady : IsSteadyJob files process clone defaults job given
     pub roots : List (Spec R)
-    pub comes : IfSome from (λ p. pool.comes_from p (record { job = job; roots = roots }))
-    pub awaits : IfSome from (λ p. pool.awaits p ≡ addresses)
+    pub comes : IfSome from (λ p. readers.comes_from p (record { job = job; roots = roots }))
+    pub awaits : IfSome from (λ p. readers.awaits p ≡ addresses)
     pub at : map (spec_at files process clone defaults (record { job = job; roots = roots }) given) (awaited from addresses) ≡ map (λ s. Some (counted_spec given s)) specs
 
   -- Over what is given, a crew's readings are those of the directories that are to be read.
   abbrev pub IsSteadyCrew : CrewReads C S P A L R E → Given R E → Type 0
-  IsSteadyCrew it = IsSteadyOver (job_of it) it.pool it.matcher (to_read it)
+  IsSteadyCrew it = IsSteadyOver (job_of it) it.readers it.matcher (to_read it)
 
   -- They are so over all that their job is steady over.
   abbrev pub StartsSteady : CrewReads C S P A L R E → Type 0
@@ -130,11 +130,11 @@ module _ {C S P A L R E : Type 0} (files : FileSystem.Ghosts S) (process : Proce
 
   -- the same while this directory, which comes next, isn't among those that are kept any more
   abbrev pub IsSteadyBefore : CrewReads C S P A L R E → Spec R → Given R E → Type 0
-  IsSteadyBefore it first = IsSteadyOver (job_of it) it.pool it.matcher (first ∷ to_read it)
+  IsSteadyBefore it first = IsSteadyOver (job_of it) it.readers it.matcher (first ∷ to_read it)
 
   -- The first directory is read, by a message with this count of the directories in it: over all over which what was to be read was steady the count is right and the reading is the definition's; and what is left, with clones of the directories below it in its place, is steady over that.
   pub record ReadsSteadily (old : CrewReads C S P A L R E) (first : Spec R) (outcome : Outcome R E) (count : ℕ) (new : CrewReads C S P A L R E) : Type 0 where
-    pub count_is : (rest : List (Spec R)) (given : Given R E) → IsSteadyOver (job_of old) old.pool old.matcher (first ∷ rest) given → count ≡ length (children_of outcome)
-    pub value : (rest : List (Spec R)) → IsGivenOver files (IsSteadyOver (job_of old) old.pool old.matcher (first ∷ rest)) (job_of old) first outcome
+    pub count_is : (rest : List (Spec R)) (given : Given R E) → IsSteadyOver (job_of old) old.readers old.matcher (first ∷ rest) given → count ≡ length (children_of outcome)
+    pub value : (rest : List (Spec R)) → IsGivenOver files (IsSteadyOver (job_of old) old.readers old.matcher (first ∷ rest)) (job_of old) first outcome
     pub steady : (rest front : List (Spec R)) → AreClones clone.is_clone (children_of outcome) front
-        → (given : Given R E) → IsSteadyOver (job_of old) old.pool old.matcher (first ∷ rest) given → IsSteadyOver (job_of old) new.pool new.matcher (front ++ rest) given
+        → (given : Given R E) → IsSteadyOver (job_of old) old.readers old.matcher (first ∷ rest) given → IsSteadyOver (job_of old) new.readers new.matcher (front ++ rest) given

@@ -1,3 +1,8 @@
+pub mod Message
+pub mod Wanted
+pub mod Origin
+pub mod Due
+pub mod Session
 pub mod Reads
 pub mod ReadAhead
 pub mod BatchReads

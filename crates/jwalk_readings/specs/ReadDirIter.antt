@@ -19,13 +19,13 @@ use Rattle.jwalk_read.specs.Given.{Given, counted_spec, counted_outcome}
 use Rattle.jwalk_read.specs.Job.{greatest_depth, job_by, IsSteadyJob, IsGivenOver}
 use Rattle.jwalk_readings.specs.ReadAhead.{ReadAhead, nothing_ahead, Enters, MakesReady}
 use Rattle.jwalk_readings.specs.BatchReads as board
-use Rattle.jwalk_readings.specs.BatchReads.{PassesAddress, IsSteadyWalk}
+use Rattle.jwalk_readings.specs.BatchReads.{PassesAddress, IsSteadyBatches}
 use Rattle.jwalk_readings.specs.Reads.{ReadsNextBy}
 use Rattle.jwalk_readings.specs.declared.read_dir_iter.ReadDirIter.{ReadDirIter}
 use Rattle.jwalk_readings.specs.declared.read_dir_iter.ReadDirIter.TheVariants.{Walk, CrewWalk}
 use Rattle.jwalk_readings.specs.CrewReads as crew
 use Rattle.jwalk_readings.specs.CrewReads.{IsTold, IsNextBelow, IsSteadyCrew}
-use Rattle.jwalk_crew.specs.declared.pool.Pool as Pool
+use Rattle.jwalk_readings.specs.declared.readers.Readers as Readers
 
 module _ {C S P A L R E : Type 0} where
   -- whether a crew makes the readings
@@ -67,9 +67,9 @@ module _ {C S P A L R E : Type 0} where
   next_address it = frontier.next_address (frontier_of it)
 
 -- at most how many readings a crew has made and not handed on: none where no crew reads
-abbrev pub most_ahead : {C S P A L R E : Type 0} → Pool.Ghosts L C S P A R E → ReadDirIter C S P A L R E → ℕ
-most_ahead pool (Walk walk) = 0
-most_ahead pool (CrewWalk reads) = crew.most_ahead pool reads
+abbrev pub most_ahead : {C S P A L R E : Type 0} → Readers.Ghosts L C S P A R E → ReadDirIter C S P A L R E → ℕ
+most_ahead readers (Walk walk) = 0
+most_ahead readers (CrewWalk reads) = crew.most_ahead readers reads
 
 -- The error says why the readings end early: memory ran out, or a crew's reading won't come.
 abbrev pub Tells : Bool → Failure → Type 0
@@ -118,11 +118,11 @@ module _ {C S P A R E : Type 0} (files : FileSystem.Ghosts S) (process : Process
       (GivesError (by_crew old) given × (read_ahead new ≡ nothing_ahead))
       ⊎ EntersNextBy (by_crew old) (job_of old) (width_of old) (next_address old) (read_ahead old) given (read_ahead new)
 
-module _ {C S P A L R E : Type 0} (files : FileSystem.Ghosts S) (process : ProcessReadDir.Ghosts P C A R E) (clone : Clone.Ghosts R) (defaults : Default.Ghosts E) (pool : Pool.Ghosts L C S P A R E) where
+module _ {C S P A L R E : Type 0} (files : FileSystem.Ghosts S) (process : ProcessReadDir.Ghosts P C A R E) (clone : Clone.Ghosts R) (defaults : Default.Ghosts E) (readers : Readers.Ghosts L C S P A R E) where
   -- It is steady over what is given: its job is, and what it read early, or its crew gives, is what the definition gives.
   abbrev pub IsSteadyReads : ReadDirIter C S P A L R E → Given R E → Type 0
-  IsSteadyReads (Walk walk) given = IsSteadyWalk files process clone defaults walk given
-  IsSteadyReads (CrewWalk reads) given = IsSteadyCrew files process clone defaults pool reads given
+  IsSteadyReads (Walk walk) given = IsSteadyBatches files process clone defaults walk given
+  IsSteadyReads (CrewWalk reads) given = IsSteadyCrew files process clone defaults readers reads given
 
   -- It is steady over all that its job is steady over.
   abbrev pub StartsSteady : ReadDirIter C S P A L R E → Type 0
@@ -154,7 +154,7 @@ module _ {C S P A L R E : Type 0} (files : FileSystem.Ghosts S) (process : Proce
     pub job : job_of new ≡ job_of old
     pub width : width_of new ≡ width_of old
     pub wide : 1 ≤ width_of old
-    pub most : most_ahead pool new ≤ most_ahead pool old
+    pub most : most_ahead readers new ≤ most_ahead readers old
     pub steady : StaysSteady old new
     pub prepared : OnOk result ((new ≡ old) ⊎ ReadsForNext old new)
     pub ready : OnOk result (by_crew old ≡ false → (to_read new ≡ []) ⊎ IsAmong (next_address new) (early_of new))
@@ -170,7 +170,7 @@ module _ {C S P A L R E : Type 0} (files : FileSystem.Ghosts S) (process : Proce
     pub enters : EntersFirst files process clone defaults old (option_map outcome given) new
     pub passes : PassesFirst (by_crew old) (frontier_of old) (option_map outcome given) (frontier_of new)
     pub ahead : length (early_of new) + 1 ≤ length (early_of old) + width_of old
-    pub most : most_ahead pool new ≤ most_ahead pool old
+    pub most : most_ahead readers new ≤ most_ahead readers old
     pub steady : StaysSteady old new
     pub first : GivesFirst (by_crew old) clone (Known old) (greatest_depth (job_of old)) (to_read old) (option_map outcome given) (to_read new)
     pub preorder : (value : Given R E) → IsSteadyReads old value

@@ -47,7 +47,7 @@ impl<C: ClientState, S: FileSystem, P: ProcessReadDir<C, A>, A: Allocator + Copy
     P,
     A,
 > {
-    ghost use Rattle.jwalk_readings.specs.BatchReads.{to_read, early_of, read_ahead, frontier_of, next_of, PassesAddress, IsSteadyWalk, StaysSteady};
+    ghost use Rattle.jwalk_readings.specs.BatchReads.{to_read, early_of, read_ahead, frontier_of, next_of, PassesAddress, IsSteadyBatches, StaysSteady};
 
     /// Returns readings with nothing to read yet, which are to be made of that many directories together.
     pub(crate) fn new(alloc: A, job: Job<C, S, P, A>, width: usize) -> Self
@@ -127,7 +127,7 @@ impl<C: ClientState, S: FileSystem, P: ProcessReadDir<C, A>, A: Allocator + Copy
         ensures steady { StaysSteady S.FileSystem P.ProcessReadDir C.ReadDirState.Clone C.DirEntryState.Default
             self.old self.new }
         ensures next { IfOk result (λ o. ReadsNext S.FileSystem C.ReadDirState.Clone
-            (IsSteadyWalk S.FileSystem P.ProcessReadDir C.ReadDirState.Clone C.DirEntryState.Default self.old)
+            (IsSteadyBatches S.FileSystem P.ProcessReadDir C.ReadDirState.Clone C.DirEntryState.Default self.old)
             self.old.job (to_read self.old) (option_map outcome o) (to_read self.new)) }
         ensures enters { IfOk result (λ o. EntersNext S.FileSystem P.ProcessReadDir C.ReadDirState.Clone
             C.DirEntryState.Default self.old.job self.old.width (next_of self.old) (read_ahead self.old)

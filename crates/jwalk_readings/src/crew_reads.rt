@@ -15,8 +15,8 @@ ghost use Rattle.jwalk_readings.specs.ReadDirIter.{KnownBy};
 
 pub mod started;
 
-use jwalk_crew::pool::{Missed, NoPool, Pool};
-use jwalk_crew::wanted::Wanted;
+use crate::readers::{Missed, NoCrew, Readers};
+use crate::wanted::Wanted;
 use jwalk_order::ordered::Ordered;
 use jwalk_order::ordered_queue::OrderedMatcher;
 use jwalk_read::client_state::ClientState;
@@ -37,14 +37,14 @@ pub struct CrewReads<
     S: FileSystem,
     P: ProcessReadDir<C, A>,
     A: Allocator + Copy = Global,
-    L = NoPool,
+    L = NoCrew,
 > {
     job: Arc<Job<C, S, P, A>, A>,
     matcher: OrderedMatcher<A>,
     // The directories whose readings are still to be handed on, the next one last.
     unread: Vec<ReadDirSpec<C, A>, A>,
     // None after the walk was stopped.
-    pool: Option<L>,
+    readers: Option<L>,
 }
 
 impl<C: ClientState, S: FileSystem, P: ProcessReadDir<C, A>, A: Allocator + Copy, L: Drop> Drop
@@ -54,7 +54,7 @@ impl<C: ClientState, S: FileSystem, P: ProcessReadDir<C, A>, A: Allocator + Copy
             job: _,
             matcher: _,
             unread: _,
-            pool: _,
+            readers: _,
         } = self;
     }
 }
@@ -89,16 +89,16 @@ impl<
     S: FileSystem,
     P: ProcessReadDir<C, A>,
     A: Allocator + Copy,
-    L: Pool<C, S, P, A>,
+    L: Readers<C, S, P, A>,
 > CrewReads<C, S, P, A, L> {
     /// Returns readings of a crew with nothing to read yet. If memory runs out, the job is given back.
     pub fn new(alloc: A, job: Job<C, S, P, A>) -> Result<Self, Job<C, S, P, A>>
         ensures made { MatchResult result
             (λ reads. (job_of reads ≡ job) × (to_read reads ≡ []))
             (λ back. back ≡ job) }
-        ensures most { IfOk result (λ reads. most_ahead L.Pool reads ≡ 0) }
+        ensures most { IfOk result (λ reads. most_ahead L.Readers reads ≡ 0) }
         ensures steady { IfOk result (StartsSteady S.FileSystem P.ProcessReadDir C.ReadDirState.Clone
-            C.DirEntryState.Default L.Pool) }
+            C.DirEntryState.Default L.Readers) }
     {
         let Ok(matcher) = OrderedMatcher::with_roots(alloc, 0) else {
             return Err(job);
@@ -108,21 +108,21 @@ impl<
                 job,
                 matcher,
                 unread: Vec::new(alloc),
-                pool: None,
+                readers: None,
             }),
             Err(AllocFailed { value }) => Err(value),
         }
     }
 
-    /// Returns the readings of these directories, and of those below them, as a pool gives them.
+    /// Returns the readings of these directories, and of those below them, as its readers give them.
     pub(crate) fn over(
         job: Arc<Job<C, S, P, A>, A>,
         mut roots: Vec<ReadDirSpec<C, A>, A>,
-        pool: L,
+        readers: L,
     ) -> Result<Self, AllocError>
         ensures job { IfOk result (λ reads. job_of reads ≡ arc_value job) }
         ensures to_read { IfOk result (λ reads. to_read reads ≡ map spec roots.items) }
-        ensures begins { IfOk result (BeginsBy (λ given origin addresses. given ≡ pool)) }
+        ensures begins { IfOk result (BeginsBy (λ given origin addresses. given ≡ readers)) }
     {
         let matcher = OrderedMatcher::with_roots(*roots.allocator(), roots.len())?;
         roots.reverse();
@@ -130,7 +130,7 @@ impl<
             job,
             matcher,
             unread: roots,
-            pool: Some(pool),
+            readers: Some(readers),
         })
     }
 
@@ -157,17 +157,17 @@ impl<
     fn read(&mut self, of: &ReadDirSpec<C, A>) -> Result<(Outcome<C, A>, usize), Missed>
         ensures job { job_of self.new ≡ job_of self.old }
         ensures to_read { to_read self.new ≡ to_read self.old }
-        ensures most { most_ahead L.Pool self.new ≡ most_ahead L.Pool self.old }
+        ensures most { most_ahead L.Readers self.new ≡ most_ahead L.Readers self.old }
         ensures told { IfOk result (λ read. IsTold S.FileSystem P.ProcessReadDir C.ReadDirState.Clone
             C.DirEntryState.Default (job_of self.old) (next_address self.old) (spec of.now) (outcome read.0)) }
         ensures passed { IfOk result (λ read. frontier_of self.new ≡ passed (frontier_of self.old) read.1) }
         ensures steadily { IfOk result (λ read. ReadsSteadily S.FileSystem P.ProcessReadDir C.ReadDirState.Clone
-            C.DirEntryState.Default L.Pool self.old (spec of.now) (outcome read.0) read.1 self.new) }
+            C.DirEntryState.Default L.Readers self.old (spec of.now) (outcome read.0) read.1 self.new) }
         ensures comes { (rest : _) → IfErr result (NotLost (IsSteadyOver S.FileSystem P.ProcessReadDir
-            C.ReadDirState.Clone C.DirEntryState.Default L.Pool (job_of self.old) self.old.pool self.old.matcher
+            C.ReadDirState.Clone C.DirEntryState.Default L.Readers (job_of self.old) self.old.readers self.old.matcher
             (spec of.now ∷ rest))) }
     {
-        let Some(pool) = &mut self.pool else {
+        let Some(readers) = &mut self.readers else {
             return Err(Missed::Lost);
         };
         if self.matcher.is_none() {
@@ -175,7 +175,7 @@ impl<
         }
         let address = self.matcher.looking_for().try_clone()?;
         let wanted = Wanted::of(address, of, self.job.options())?;
-        let item = pool.next(&wanted)?;
+        let item = readers.next(&wanted)?;
         self.matcher.advance_past(&item)?;
         let count = item.child_count();
         let Ordered { value: message, .. } = item;
@@ -196,7 +196,7 @@ impl<
     /// has another count than the number of directories in it.
     fn enter(&mut self, of: ReadDirSpec<C, A>) -> Result<Outcome<C, A>, Missed>
         ensures job { job_of self.new ≡ job_of self.old }
-        ensures most { most_ahead L.Pool self.new ≡ most_ahead L.Pool self.old }
+        ensures most { most_ahead L.Readers self.new ≡ most_ahead L.Readers self.old }
         ensures reading { IfOk result (λ read. IsReadingBy (IsTold S.FileSystem P.ProcessReadDir
             C.ReadDirState.Clone C.DirEntryState.Default (job_of self.old) (next_address self.old))
             (greatest_depth (job_of self.old)) (spec of) (outcome read)) }
@@ -205,14 +205,14 @@ impl<
         ensures passes { IfOk result (λ read. frontier_of self.new
             ≡ passed (frontier_of self.old) (length (children_of (outcome read)))) }
         ensures value { IfOk result (λ read. IsGivenOver S.FileSystem (IsSteadyBefore S.FileSystem
-            P.ProcessReadDir C.ReadDirState.Clone C.DirEntryState.Default L.Pool self.old (spec of))
+            P.ProcessReadDir C.ReadDirState.Clone C.DirEntryState.Default L.Readers self.old (spec of))
             (job_of self.old) (spec of) (outcome read)) }
         ensures steady { OnOk result ((given : _) → IsSteadyBefore S.FileSystem P.ProcessReadDir
-            C.ReadDirState.Clone C.DirEntryState.Default L.Pool self.old (spec of) given
-            → IsSteadyCrew S.FileSystem P.ProcessReadDir C.ReadDirState.Clone C.DirEntryState.Default L.Pool
+            C.ReadDirState.Clone C.DirEntryState.Default L.Readers self.old (spec of) given
+            → IsSteadyCrew S.FileSystem P.ProcessReadDir C.ReadDirState.Clone C.DirEntryState.Default L.Readers
             self.new given) }
         ensures comes { IfErr result (NotLost (IsSteadyBefore S.FileSystem P.ProcessReadDir C.ReadDirState.Clone
-            C.DirEntryState.Default L.Pool self.old (spec of))) }
+            C.DirEntryState.Default L.Readers self.old (spec of))) }
     {
         let (outcome, count) = self.read(&of)?;
         let below = directories_of(*of.path.allocator(), &outcome)?;
@@ -232,15 +232,15 @@ impl<
     pub(crate) fn read_next(&mut self) -> Result<Option<Outcome<C, A>>, Missed>
         ensures job { job_of self.new ≡ job_of self.old }
         ensures comes { IfErr result (NotLost (IsSteadyCrew S.FileSystem P.ProcessReadDir C.ReadDirState.Clone
-            C.DirEntryState.Default L.Pool self.old)) }
+            C.DirEntryState.Default L.Readers self.old)) }
         ensures some { OnErr result (to_read self.old ≢ []) }
         ensures stopped { OnErr result (to_read self.new ≡ []) }
-        ensures most { most_ahead L.Pool self.new ≤ most_ahead L.Pool self.old }
+        ensures most { most_ahead L.Readers self.new ≤ most_ahead L.Readers self.old }
         ensures steady { StaysSteady S.FileSystem P.ProcessReadDir C.ReadDirState.Clone C.DirEntryState.Default
-            L.Pool self.old self.new }
+            L.Readers self.old self.new }
         ensures next { IfOk result (λ o. ReadsNextBy C.ReadDirState.Clone (KnownBy S.FileSystem P.ProcessReadDir
             C.ReadDirState.Clone C.DirEntryState.Default true (IsSteadyCrew S.FileSystem P.ProcessReadDir
-            C.ReadDirState.Clone C.DirEntryState.Default L.Pool self.old) (job_of self.old) (next_address self.old))
+            C.ReadDirState.Clone C.DirEntryState.Default L.Readers self.old) (job_of self.old) (next_address self.old))
             (greatest_depth (job_of self.old)) (to_read self.old) (option_map outcome o) (to_read self.new)) }
         ensures passes { IfOk result (λ o. PassesAddress (frontier_of self.old) (option_map outcome o)
             (frontier_of self.new)) }
@@ -259,10 +259,10 @@ impl<
 
     /// Returns how many readings were made and not handed on.
     pub(crate) fn ahead(&self) -> usize
-        ensures { result ≤ most_ahead L.Pool self.now }
+        ensures { result ≤ most_ahead L.Readers self.now }
     {
-        match &self.pool {
-            Some(pool) => pool.ahead(),
+        match &self.readers {
+            Some(readers) => readers.ahead(),
             None => 0,
         }
     }
@@ -271,11 +271,11 @@ impl<
     pub(crate) fn stop(&mut self)
         ensures job { job_of self.new ≡ job_of self.old }
         ensures to_read { to_read self.new ≡ [] }
-        ensures most { most_ahead L.Pool self.new ≡ 0 }
+        ensures most { most_ahead L.Readers self.new ≡ 0 }
         ensures steady { StartsSteady S.FileSystem P.ProcessReadDir C.ReadDirState.Clone C.DirEntryState.Default
-            L.Pool self.new }
+            L.Readers self.new }
     {
         self.unread.clear();
-        self.pool = None;
+        self.readers = None;
     }
 }

@@ -3,5 +3,10 @@
 
 pub mod batch_reads;
 pub mod crew_reads;
+pub mod message;
+pub mod origin;
 pub mod parallelism;
 pub mod read_dir_iter;
+pub mod readers;
+pub mod session;
+pub mod wanted;

@@ -3,14 +3,14 @@ ghost use Rattle.std.specs.Prelude.{◌≡◌};
 ghost use Rattle.jwalk_read.specs.Options.{mode_value};
 ghost use Rattle.jwalk_readings.specs.Parallelism.{parallelism_value, crew_of};
 
-use jwalk_crew::pool::NoPool;
+use crate::readers::NoCrew;
 use jwalk_read::mode::Mode;
 use std::alloc::{AllocError, Allocator, Global};
 use std::sync::Arc;
 use std::time::Duration;
 
 /// How a walk reads its directories. The answers and their order are the same for one directory at a time and several.
-pub enum Parallelism<W = NoPool, A: Allocator + Copy = Global> {
+pub enum Parallelism<W = NoCrew, A: Allocator + Copy = Global> {
     /// One directory at a time, when its entry is yielded. The default.
     Serial,
     /// Ahead of the walk, by the workers of a crew. If no place of the crew is free, the walk blocks until one is, as

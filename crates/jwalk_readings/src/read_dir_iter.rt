@@ -9,12 +9,12 @@ ghost use Rattle.jwalk_read.specs.Job.{callback};
 
 mod on_threads;
 mod over_crew;
-mod over_pool;
+mod over_readers;
 
 use crate::batch_reads::BatchReads;
 use crate::crew_reads::{CrewReads, error_of};
 use crate::parallelism::Parallelism;
-use jwalk_crew::pool::{Missed, NoPool, Pool};
+use crate::readers::{Missed, NoCrew, Readers};
 use jwalk_read::client_state::ClientState;
 use jwalk_read::dir_entry::DirEntry;
 use jwalk_read::error::Error;
@@ -42,7 +42,7 @@ pub enum ReadDirIter<
     S: FileSystem,
     P: ProcessReadDir<C, A>,
     A: Allocator + Copy = Global,
-    L = NoPool,
+    L = NoCrew,
 > {
     /// One directory or several are read together, when a reading is asked for that isn't there yet.
     Walk(BatchReads<C, S, P, A>),
@@ -65,7 +65,7 @@ impl<
     S: FileSystem,
     P: ProcessReadDir<C, A>,
     A: Allocator + Copy,
-    L: Pool<C, S, P, A>,
+    L: Readers<C, S, P, A>,
 > ReadDirIter<C, S, P, A, L> {
     ghost use Rattle.jwalk_read.specs.Options as options;
     ghost use Rattle.jwalk_read.specs.Options.{mode_value};
@@ -140,11 +140,11 @@ impl<
         ensures some { OnErr result (to_read self.old ≢ []) }
         ensures stopped { OnErr result (to_read self.new ≡ []) }
         ensures nothing_ahead { OnErr result (read_ahead self.new ≡ nothing_ahead) }
-        ensures most { most_ahead L.Pool self.new ≤ most_ahead L.Pool self.old }
-        ensures steady { StaysSteady S.FileSystem P.ProcessReadDir C.ReadDirState.Clone C.DirEntryState.Default L.Pool
+        ensures most { most_ahead L.Readers self.new ≤ most_ahead L.Readers self.old }
+        ensures steady { StaysSteady S.FileSystem P.ProcessReadDir C.ReadDirState.Clone C.DirEntryState.Default L.Readers
             self.old self.new }
         ensures next { IfOk result (λ o. ReadsNextBy C.ReadDirState.Clone
-            (Known S.FileSystem P.ProcessReadDir C.ReadDirState.Clone C.DirEntryState.Default L.Pool self.old)
+            (Known S.FileSystem P.ProcessReadDir C.ReadDirState.Clone C.DirEntryState.Default L.Readers self.old)
             (greatest_depth (job_of self.old)) (to_read self.old) (option_map outcome o) (to_read self.new)) }
         ensures enters { IfOk result (λ o. EntersNextBy S.FileSystem P.ProcessReadDir C.ReadDirState.Clone
             C.DirEntryState.Default (by_crew self.old) (job_of self.old) (width_of self.old)
@@ -152,7 +152,7 @@ impl<
         ensures passes { IfOk result (λ o. PassesAddress (frontier_of self.old) (option_map outcome o)
             (frontier_of self.new)) }
         ensures comes { IfErr result (NotLost (IsSteadyReads S.FileSystem P.ProcessReadDir C.ReadDirState.Clone
-            C.DirEntryState.Default L.Pool self.old)) }
+            C.DirEntryState.Default L.Readers self.old)) }
     {
         match self {
             ReadDirIter::Walk(walk) => Ok(walk.read_next()?),
@@ -177,7 +177,7 @@ impl<
     /// Returns the next reading; or the error that reports why it won't come, and then nothing is left to be read.
     fn next_or_stop(&mut self) -> Option<Outcome<C, A>>
         requires { P.IsLawful (callback (job_of self.old)) }
-        ensures { Gives S.FileSystem P.ProcessReadDir C.ReadDirState.Clone C.DirEntryState.Default L.Pool false
+        ensures { Gives S.FileSystem P.ProcessReadDir C.ReadDirState.Clone C.DirEntryState.Default L.Readers false
             self.old result self.new }
     {
         match self.read_next() {
@@ -194,13 +194,13 @@ impl<
     pub fn next_of(&mut self, found: &DirEntry<C, A>) -> Option<Result<ReadDir<C, A>, Error<A>>>
         requires lawful { P.IsLawful (callback (job_of self.old)) }
         requires has_directory { IsSome found.now.read_children }
-        ensures gives { Gives S.FileSystem P.ProcessReadDir C.ReadDirState.Clone C.DirEntryState.Default L.Pool
+        ensures gives { Gives S.FileSystem P.ProcessReadDir C.ReadDirState.Clone C.DirEntryState.Default L.Readers
             (by_crew self.old) self.old result self.new }
         ensures next { IsNextBelow (by_crew self.old) (Ok (entry found.now)) (to_read self.old)
-            → Gives S.FileSystem P.ProcessReadDir C.ReadDirState.Clone C.DirEntryState.Default L.Pool false
+            → Gives S.FileSystem P.ProcessReadDir C.ReadDirState.Clone C.DirEntryState.Default L.Readers false
             self.old result self.new }
         ensures of { GivesFirst (by_crew self.old) C.ReadDirState.Clone (KnownOf S.FileSystem P.ProcessReadDir
-            C.ReadDirState.Clone C.DirEntryState.Default L.Pool self.old (Ok (entry found.now)))
+            C.ReadDirState.Clone C.DirEntryState.Default L.Readers self.old (Ok (entry found.now)))
             (greatest_depth (job_of self.old)) (to_read self.old) (option_map outcome result) (to_read self.new) }
     {
         prove!(found.read_children.is_some());
@@ -225,7 +225,7 @@ impl<
     /// most one more than the crew's limit, and the call may block for a lock.
     pub fn ahead(&self) -> usize
         ensures alone { by_crew self.now ≡ false → result ≡ length (early_of self.now) }
-        ensures crew { by_crew self.now ≡ true → result ≤ most_ahead L.Pool self.now }
+        ensures crew { by_crew self.now ≡ true → result ≤ most_ahead L.Readers self.now }
     {
         match self {
             ReadDirIter::Walk(walk) => walk.ahead(),
@@ -240,8 +240,8 @@ impl<
         ensures width { width_of self.new ≡ width_of self.old }
         ensures to_read { to_read self.new ≡ [] }
         ensures read_ahead { read_ahead self.new ≡ nothing_ahead }
-        ensures most { most_ahead L.Pool self.new ≡ 0 }
-        ensures steady { StaysSteady S.FileSystem P.ProcessReadDir C.ReadDirState.Clone C.DirEntryState.Default L.Pool
+        ensures most { most_ahead L.Readers self.new ≡ 0 }
+        ensures steady { StaysSteady S.FileSystem P.ProcessReadDir C.ReadDirState.Clone C.DirEntryState.Default L.Readers
             self.old self.new }
     {
         match self {
@@ -256,7 +256,7 @@ impl<C: ClientState, S: FileSystem, P: ProcessReadDir<C, A>, A: Allocator + Copy
     S,
     P,
     A,
-    NoPool,
+    NoCrew,
 > {
     ghost use Rattle.jwalk_read.specs.Options as options;
     ghost use Rattle.jwalk_readings.specs.ReadAhead.{BeginsWith};
@@ -271,7 +271,7 @@ impl<C: ClientState, S: FileSystem, P: ProcessReadDir<C, A>, A: Allocator + Copy
     pub fn try_new(
         job: Job<C, S, P, A>,
         roots: Vec<ReadDirSpec<C, A>, A>,
-        parallelism: Parallelism<NoPool, A>,
+        parallelism: Parallelism<NoCrew, A>,
     ) -> Result<Self, Error<A>>
         ensures own { IfOk result (λ reads. by_crew reads ≡ false) }
         ensures job { IfOk result (λ reads. job_of reads ≡ job) }
@@ -289,7 +289,7 @@ impl<
     S: FileSystem,
     P: ProcessReadDir<C, A>,
     A: Allocator + Copy,
-    L: Pool<C, S, P, A>,
+    L: Readers<C, S, P, A>,
 > Iterator for ReadDirIter<C, S, P, A, L> {
     type Item = Result<ReadDir<C, A>, Error<A>>;
 
@@ -300,7 +300,7 @@ impl<
 
     ghost can_next = { λ s. P.IsLawful (callback (job_of s)) };
 
-    ghost next_gives = { Gives S.FileSystem P.ProcessReadDir C.ReadDirState.Clone C.DirEntryState.Default L.Pool
+    ghost next_gives = { Gives S.FileSystem P.ProcessReadDir C.ReadDirState.Clone C.DirEntryState.Default L.Readers
         false };
 
     ghost remaining = { λ s. at_most (spec_weight (greatest_depth (job_of s)) (to_read s)) };

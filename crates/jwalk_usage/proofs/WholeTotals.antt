@@ -4,7 +4,7 @@ use Rattle.std.specs.declared.clone.Clone as Clone
 use Rattle.std.specs.declared.default.Default as Default
 use Rattle.jwalk.specs.walk_fs.declared.file_system.FileSystem as FileSystem
 use Rattle.jwalk.specs.jwalk_read.declared.process_read_dir.ProcessReadDir as ProcessReadDir
-use Rattle.jwalk.specs.jwalk_crew.declared.pool.Pool as Pool
+use Rattle.jwalk.specs.jwalk_readings.declared.readers.Readers as Readers
 use Rattle.jwalk.specs.jwalk_entries.declared.dir_entry_iter.DirEntryIter.{DirEntryIter}
 use Rattle.jwalk.specs.declared.walk_dir.WalkDirGeneric.{WalkDirGeneric}
 use Rattle.jwalk.specs.walk_model.FileSystem.{Functions}
@@ -28,34 +28,34 @@ use Rattle.jwalk_usage.proofs.StateFacts.{same_totals}
 use Rattle.jwalk_usage.proofs.SizedFacts.{sized_whole}
 
 -- The usage of a steady walk from its beginning is the totals of the whole walk from its root, by a file system that is asked for metadata and is fixed.
-pub counted_over : {C S P A W L R E : Type 0} (files : FileSystem.Ghosts S) (process : ProcessReadDir.Ghosts P C A R E) (clone : Clone.Ghosts R) (defaults : Default.Ghosts E) (pool : Pool.Ghosts L C S P A R E) (given : Given R E) (fixed : Type 0) (fs : Functions) (usage : Usage) (walk : WalkDirGeneric C S P A W R E) (it : DirEntryIter C S P A L R E) → IsSteadyWalk files process clone defaults pool it given → Starts walk it → IsRefused it ⊎ Holds files process clone defaults walk it → IsSteady files process clone defaults (file_system_of walk) (callback_of walk) given → fixed → CountsAll (Answers files process clone defaults pool) fixed fs it usage
+pub counted_over : {C S P A W L R E : Type 0} (files : FileSystem.Ghosts S) (process : ProcessReadDir.Ghosts P C A R E) (clone : Clone.Ghosts R) (defaults : Default.Ghosts E) (readers : Readers.Ghosts L C S P A R E) (given : Given R E) (fixed : Type 0) (fs : Functions) (usage : Usage) (walk : WalkDirGeneric C S P A W R E) (it : DirEntryIter C S P A L R E) → IsSteadyWalk files process clone defaults readers it given → Starts walk it → IsRefused it ⊎ Holds files process clone defaults walk it → IsSteady files process clone defaults (file_system_of walk) (callback_of walk) given → fixed → CountsAll (Answers files process clone defaults readers) fixed fs it usage
     → usage ≡ totals fs (whole_walk (job_for files given walk) (root_of walk) (given.read_dir_state (state_of walk)))
-counted_over files process clone defaults pool given fixed fs usage walk it steadily starts begun steady is (answered, drains, counts) =
+counted_over files process clone defaults readers given fixed fs usage walk it steadily starts begun steady is (answered, drains, counts) =
     counts.totals is
     ∙ sym (same_totals given fs (map item answered))
-    ∙ ap (totals fs) (whole files process clone defaults pool given walk it answered steadily starts begun steady drains counts.none_refused)
+    ∙ ap (totals fs) (whole files process clone defaults readers given walk it answered steadily starts begun steady drains counts.none_refused)
 
-module _ {C S P A L R E : Type 0} (files : FileSystem.Ghosts S) (process : ProcessReadDir.Ghosts P C A R E) (clone : Clone.Ghosts R) (defaults : Default.Ghosts E) (pool : Pool.Ghosts L C S P A R E) (given : Given R E) (fs : S) (usage : Usage) where
+module _ {C S P A L R E : Type 0} (files : FileSystem.Ghosts S) (process : ProcessReadDir.Ghosts P C A R E) (clone : Clone.Ghosts R) (defaults : Default.Ghosts E) (readers : Readers.Ghosts L C S P A R E) (given : Given R E) (fs : S) (usage : Usage) where
   -- the usage of a steady walk is the totals of what was to come
-  pub coming_counted : (it : DirEntryIter C S P A L R E) → IsSteadyWalk files process clone defaults pool it given → files.IsFixed fs → CountsAll (Answers files process clone defaults pool) (files.IsFixed fs) (files.functions fs) it usage → usage ≡ totals (files.functions fs) (to_come files given it)
+  pub coming_counted : (it : DirEntryIter C S P A L R E) → IsSteadyWalk files process clone defaults readers it given → files.IsFixed fs → CountsAll (Answers files process clone defaults readers) (files.IsFixed fs) (files.functions fs) it usage → usage ≡ totals (files.functions fs) (to_come files given it)
   coming_counted it steady fixed (answered, drains, counts) =
       counts.totals fixed
       ∙ sym (same_totals given (files.functions fs) (map item answered))
-      ∙ ap (totals (files.functions fs)) (sym (all_answered files process clone defaults pool given answered it steady drains counts.none_refused))
+      ∙ ap (totals (files.functions fs)) (sym (all_answered files process clone defaults readers given answered it steady drains counts.none_refused))
 
   -- that of a walk that was begun, and that no crew reads for, is the totals of the whole walk from its root
-  pub whole_counted : {W : Type 0} (walk : WalkDirGeneric C S P A W R E) (it : DirEntryIter C S P A L R E) → by_crew it ≡ false → Starts walk it → IsRefused it ⊎ Holds files process clone defaults walk it → IsSteady files process clone defaults (file_system_of walk) (callback_of walk) given → files.IsFixed fs → CountsAll (Answers files process clone defaults pool) (files.IsFixed fs) (files.functions fs) it usage
+  pub whole_counted : {W : Type 0} (walk : WalkDirGeneric C S P A W R E) (it : DirEntryIter C S P A L R E) → by_crew it ≡ false → Starts walk it → IsRefused it ⊎ Holds files process clone defaults walk it → IsSteady files process clone defaults (file_system_of walk) (callback_of walk) given → files.IsFixed fs → CountsAll (Answers files process clone defaults readers) (files.IsFixed fs) (files.functions fs) it usage
       → usage ≡ totals (files.functions fs) (whole_walk (job_for files given walk) (root_of walk) (given.read_dir_state (state_of walk)))
-  whole_counted walk it own starts begun steady fixed counts = counted_over files process clone defaults pool given (files.IsFixed fs) (files.functions fs) usage walk it (steady_start files process clone defaults pool given walk it own starts steady) starts begun steady fixed counts
+  whole_counted walk it own starts begun steady fixed counts = counted_over files process clone defaults readers given (files.IsFixed fs) (files.functions fs) usage walk it (steady_start files process clone defaults readers given walk it own starts steady) starts begun steady fixed counts
 
-module _ {C S P A W L R : Type 0} (files : FileSystem.Ghosts S) (process : ProcessReadDir.Ghosts P C A R Size) (clone : Clone.Ghosts R) (defaults : Default.Ghosts Size) (pool : Pool.Ghosts L C S P A R Size) (walk : WalkDirGeneric C S P A W R Size) (it : DirEntryIter C S P A L R Size) (usage : Usage) where
+module _ {C S P A W L R : Type 0} (files : FileSystem.Ghosts S) (process : ProcessReadDir.Ghosts P C A R Size) (clone : Clone.Ghosts R) (defaults : Default.Ghosts Size) (readers : Readers.Ghosts L C S P A R Size) (walk : WalkDirGeneric C S P A W R Size) (it : DirEntryIter C S P A L R Size) (usage : Usage) where
   -- The usage by sizes of a steady walk from its beginning, whose callback asks for the sizes that the walk's own file system gives, is the totals of the walk without a callback.
-  pub whole_sized : IsSteadyWalk files process clone defaults pool it (sizing (files.functions (file_system_of walk))) → Starts walk it → IsRefused it ⊎ Holds files process clone defaults walk it → IsSteady files process clone defaults (file_system_of walk) (callback_of walk) (sizing (files.functions (file_system_of walk))) → CountsSizes (Answers files process clone defaults pool) it usage
+  pub whole_sized : IsSteadyWalk files process clone defaults readers it (sizing (files.functions (file_system_of walk))) → Starts walk it → IsRefused it ⊎ Holds files process clone defaults walk it → IsSteady files process clone defaults (file_system_of walk) (callback_of walk) (sizing (files.functions (file_system_of walk))) → CountsSizes (Answers files process clone defaults readers) it usage
       → usage ≡ totals (files.functions (file_system_of walk)) (stateless_walk (files.functions (file_system_of walk)) (options_of walk) (root_of walk))
   whole_sized steadily starts begun steady (answered, drains, adds) =
       let fs = files.functions (file_system_of walk) in
       adds.totals
-      ∙ sized_whole fs (options_of walk) (root_of walk) blank (map item answered) (whole files process clone defaults pool (sizing fs) walk it answered steadily starts begun steady drains adds.none_refused)
+      ∙ sized_whole fs (options_of walk) (root_of walk) blank (map item answered) (whole files process clone defaults readers (sizing fs) walk it answered steadily starts begun steady drains adds.none_refused)
 
 -- Two file systems that return the same have the same sizes.
 pub same_sizes : (fs other : Functions) → other ≡ fs → (depth : Option ℕ) (path : List ℕ) (state : Worth) (list : List (Item Worth Worth)) → ◌≡◌ {A = Reading Worth Worth} (sizes fs depth path state list) (sizes other depth path state list)

@@ -13,7 +13,7 @@ use Rattle.jwalk.specs.jwalk_read.declared.process_read_dir.ProcessReadDir as Pr
 use Rattle.jwalk.specs.jwalk_read.declared.dir_entry.DirEntry.{DirEntry}
 use Rattle.jwalk.specs.jwalk_read.declared.error.Error.{Error}
 use Rattle.jwalk.specs.jwalk_read.Entry.{item}
-use Rattle.jwalk.specs.jwalk_crew.declared.pool.Pool as Pool
+use Rattle.jwalk.specs.jwalk_readings.declared.readers.Readers as Readers
 use Rattle.jwalk.specs.jwalk_entries.declared.dir_entry_iter.DirEntryIter.{DirEntryIter}
 use Rattle.jwalk.specs.DirEntryIter.{Position, by_crew, min_depth_of, width_of, early_of, Stops, PassesMany, none_passed, one_passed, one_entered, GrowsAhead, Answers}
 
@@ -46,9 +46,9 @@ one_answer : {X : Type 0} (answer : Option X) → length (option_to_list answer)
 one_answer None = omega arith
 one_answer (Some x) = omega arith
 
-module _ {C S P A L R E : Type 0} (files : FileSystem.Ghosts S) (process : ProcessReadDir.Ghosts P C A R E) (clone : Clone.Ghosts R) (defaults : Default.Ghosts E) (pool : Pool.Ghosts L C S P A R E) where
+module _ {C S P A L R E : Type 0} (files : FileSystem.Ghosts S) (process : ProcessReadDir.Ghosts P C A R E) (clone : Clone.Ghosts R) (defaults : Default.Ghosts E) (readers : Readers.Ghosts L C S P A R E) where
   -- no more directories are entered than items are passed
-  as_passed : (it : DirEntryIter C S P A L R E) {from to : Position R E} {passed : List (Item R E)} {entered : ℕ} → PassesMany files process clone defaults pool it from passed entered to → entered ≤ length passed
+  as_passed : (it : DirEntryIter C S P A L R E) {from to : Position R E} {passed : List (Item R E)} {entered : ℕ} → PassesMany files process clone defaults readers it from passed entered to → entered ≤ length passed
   as_passed it none_passed = omega arith
   as_passed it (one_passed plain rest) = omega (arith, as_passed it rest)
   as_passed it (one_entered enters rest) = omega (arith, as_passed it rest)
@@ -63,7 +63,7 @@ module _ {C S P A L R E : Type 0} (files : FileSystem.Ghosts S) (process : Proce
     none_ahead crew (Some x) stops = ap (λ r. length r.done) stops.nothing_ahead
 
     abbrev Grows : Type 0
-    Grows = GrowsAhead files process clone defaults pool old (option_map item answer) new
+    Grows = GrowsAhead files process clone defaults readers old (option_map item answer) new
 
     pub grows_each : (grown : Grows) → length (early_of new) ≤ length (early_of old) + grown.entered * (width_of old - 1)
     grows_each grown = less_each (length (early_of old)) (length (early_of new)) grown.entered (width_of old) grown.ahead
@@ -74,7 +74,7 @@ module _ {C S P A L R E : Type 0} (files : FileSystem.Ghosts S) (process : Proce
         let few : length (grown.left_out ++ option_to_list (option_map item answer)) ≤ 1 = rw nothing (one_answer (option_map item answer)) in
         omega (arith, grows_each grown, at_most_one grown.entered (width_of old - 1) (omega (arith, few, as_passed old grown.passes)))
 
-    module _ (call : Answers files process clone defaults pool old answer new) (alone : by_crew old ≡ false) where
+    module _ (call : Answers files process clone defaults readers old answer new) (alone : by_crew old ≡ false) where
       pub grows_unless : old.refused ≡ false → ¬ HasStopped false → Grows
       grows_unless began goes_on = call.ahead began (subst (λ b. ¬ HasStopped b) (sym alone) goes_on)
 

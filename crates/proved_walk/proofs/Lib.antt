@@ -3,6 +3,6 @@ pub mod SmallTreeFacts
 pub mod RootAloneFacts
 pub mod TurnedFacts
 pub mod BothFacts
-pub mod OwnPoolFacts
+pub mod OwnReadersFacts
 pub mod AheadFacts
 pub mod EachFacts

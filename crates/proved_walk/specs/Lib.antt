@@ -7,6 +7,6 @@ pub mod Alike
 pub mod Filtering
 pub mod Texts
 pub mod Numbers
-pub mod OwnPool
+pub mod OwnReaders
 pub mod Each
 pub mod Totals

@@ -2,14 +2,16 @@
 ghost use Rattle.std.specs.Prelude.{◌≡◌, ◌≤◌, ◌+◌, ◌-◌, ◌*◌, max, true, false, IfOk, IsSomeAnd, option_map};
 ghost use Rattle.jwalk.specs.jwalk_read.Entry.{item};
 ghost use Rattle.jwalk.specs.jwalk_read.Job.{callback};
-ghost use Rattle.jwalk.specs.jwalk_crew.Crew.{workers_of};
+ghost use Rattle.jwalk.specs.jwalk_readings.Crew.{workers_of};
 ghost use Rattle.jwalk.specs.WalkDir.{callback_of};
 ghost use Rattle.jwalk.specs.DirEntryIter.{by_crew, is_refused, job_of, min_depth_of, width_of, most_ahead, Stops, GrowsAhead};
 
 use jwalk::error::Result as Answer;
 use jwalk::file_system::FileSystem;
 use jwalk::read_dir::ProcessReadDir;
-use jwalk::{ClientState, Crew, DirEntry, DirEntryIter, Error, Parallelism, Pool, WalkDirGeneric};
+use jwalk::{
+    ClientState, Crew, DirEntry, DirEntryIter, Error, Parallelism, Readers, WalkDirGeneric,
+};
 use std::alloc::Allocator;
 use std::sync::{Arc, Wait};
 use std::thread::Threads;
@@ -25,14 +27,14 @@ pub fn next_and_ahead<
     S: FileSystem,
     P: ProcessReadDir<C, A>,
     A: Allocator + Copy,
-    L: Pool<C, S, P, A>,
+    L: Readers<C, S, P, A>,
 >(walk: &mut DirEntryIter<C, S, P, A, L>) -> (usize, Option<Answer<DirEntry<C, A>, A>>, usize)
     requires lawful { P.IsLawful (callback (job_of walk.old)) }
     requires alone { by_crew walk.old ≡ false }
     ensures fewer { min_depth_of walk.old ≡ 0 → result.2 ≤ result.0 + (width_of walk.old - 1) }
     ensures each { is_refused walk.old ≡ false
         → ¬ IsSomeAnd (option_map item result.1) (λ answer. Stops false answer walk.new)
-        → (grown : GrowsAhead S.FileSystem P.ProcessReadDir C.ReadDirState.Clone C.DirEntryState.Default L.Pool
+        → (grown : GrowsAhead S.FileSystem P.ProcessReadDir C.ReadDirState.Clone C.DirEntryState.Default L.Readers
         walk.old (option_map item result.1) walk.new)
         × (result.2 ≤ result.0 + grown.entered * (width_of walk.old - 1)) }
     ensures crew { by_crew walk.new ≡ by_crew walk.old }
@@ -53,11 +55,11 @@ pub fn ahead_after<
     S: FileSystem,
     P: ProcessReadDir<C, A>,
     A: Allocator + Copy,
-    L: Pool<C, S, P, A>,
+    L: Readers<C, S, P, A>,
 >(walk: &mut DirEntryIter<C, S, P, A, L>, calls: usize) -> usize
     requires lawful { P.IsLawful (callback (job_of walk.old)) }
     requires crew { by_crew walk.old ≡ true }
-    ensures { result ≤ most_ahead L.Pool walk.old }
+    ensures { result ≤ most_ahead L.Readers walk.old }
 {
     for _ in 0..calls {
         walk.next();

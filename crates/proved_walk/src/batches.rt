@@ -5,7 +5,7 @@ ghost use Rattle.jwalk.specs.DirEntryIter.{job_of, Counts};
 
 use jwalk::file_system::FileSystem;
 use jwalk::read_dir::ProcessReadDir;
-use jwalk::{ClientState, DirEntryIter, Pool};
+use jwalk::{ClientState, DirEntryIter, Readers};
 use std::alloc::{AllocError, Allocator};
 
 /// Counts a walk's answers, like `count`, a hundred at a time. It ends over every file system.
@@ -14,10 +14,10 @@ pub fn count_in_batches<
     S: FileSystem,
     P: ProcessReadDir<C, A>,
     A: Allocator + Copy,
-    L: Pool<C, S, P, A>,
+    L: Readers<C, S, P, A>,
 >(alloc: A, mut walk: DirEntryIter<C, S, P, A, L>) -> Result<usize, AllocError>
     requires { P.IsLawful (callback (job_of walk)) }
-    ensures { IfOk result (Counts S.FileSystem P.ProcessReadDir C.ReadDirState.Clone C.DirEntryState.Default L.Pool
+    ensures { IfOk result (Counts S.FileSystem P.ProcessReadDir C.ReadDirState.Clone C.DirEntryState.Default L.Readers
         walk) }
 {
     let mut found = Vec::new(alloc);

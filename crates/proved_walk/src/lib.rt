@@ -13,7 +13,7 @@ pub mod hands_on_names;
 pub mod in_memory;
 pub mod marked;
 pub mod numbers;
-pub mod own_pool;
+pub mod own_readers;
 pub mod root_alone;
 pub mod skipping;
 pub mod small_tree;

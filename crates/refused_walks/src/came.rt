@@ -6,7 +6,7 @@ ghost use Rattle.jwalk.specs.jwalk_read.Job.{callback};
 use crate::lines::{Given, Shown, are_first, is_line, is_refusal};
 use jwalk::file_system::FileSystem;
 use jwalk::read_dir::ProcessReadDir;
-use jwalk::{ClientState, DirEntryIter, Error, Pool, WalkDirGeneric};
+use jwalk::{ClientState, DirEntryIter, Error, Readers, WalkDirGeneric};
 use std::alloc::{Allocator, Global};
 use walk_ways::width::Width;
 
@@ -57,7 +57,7 @@ pub(crate) fn if_over<
     S: FileSystem,
     P: ProcessReadDir<C, A>,
     A: Allocator + Copy,
-    L: Pool<C, S, P, A>,
+    L: Readers<C, S, P, A>,
 >(mut walk: DirEntryIter<C, S, P, A, L>, came: Came) -> Came
     requires { P.IsLawful (callback (job_of walk)) }
 {
@@ -75,7 +75,7 @@ fn goes_on<
     S: FileSystem,
     P: ProcessReadDir<C, A>,
     A: Allocator + Copy,
-    L: Pool<C, S, P, A>,
+    L: Readers<C, S, P, A>,
 >(alloc: Global, mut walk: DirEntryIter<C, S, P, A, L>, lines: &[&str], before: usize) -> Came
 where
     C::DirEntryState: Shown,
@@ -103,7 +103,7 @@ pub fn goes<
     S: FileSystem,
     P: ProcessReadDir<C, A>,
     A: Allocator + Copy,
-    L: Pool<C, S, P, A>,
+    L: Readers<C, S, P, A>,
 >(alloc: Global, walk: DirEntryIter<C, S, P, A, L>, lines: &[&str]) -> Came
 where
     C::DirEntryState: Shown,

@@ -19,7 +19,7 @@ use crate::sought_test::SoughtTest;
 use jwalk::crew::Session;
 use jwalk::file_system::FileSystem;
 use jwalk::read_dir::{NoProcess, ProcessReadDir};
-use jwalk::{Crew, DirEntryIter, Pool, WalkDirGeneric};
+use jwalk::{Crew, DirEntryIter, Readers, WalkDirGeneric};
 use jwalk_ignore::chain::Chain;
 use jwalk_ignore::ignore_files::IgnoreFiles;
 use jwalk_ignore::texts::Texts;
@@ -56,7 +56,7 @@ fn begin_kept<
         → rules_alone (state_of walk) ≡ no_rules_yet → YieldsWhole
         (Answers ⟦<Arc<S> as FileSystem>⟧ ⟦<KeptRules<X> as ProcessReadDir<((Chain, ()), ()), Global>>⟧
         ⟦<(Chain, ()) as Clone>⟧ ⟦<() as Default>⟧
-        ⟦<Session<T, ((Chain, ()), ()), Arc<S>, KeptRules<X>, Global> as Pool<((Chain, ()), ()), Arc<S>, KeptRules<X>, Global>>⟧)
+        ⟦<Session<T, ((Chain, ()), ()), Arc<S>, KeptRules<X>, Global> as Readers<((Chain, ()), ()), Arc<S>, KeptRules<X>, Global>>⟧)
         result (given_kept (settings_of rules) (X.functions (arc_value (texts_of rules))) (excluded_of (next_of rules)))
         (ignoring_walk (S.functions (arc_value (file_system_of walk))) (X.functions (arc_value (texts_of rules)))
         (settings_of rules) (excluded_of (next_of rules)) (options_of walk) (root_of walk)) }
@@ -82,7 +82,7 @@ fn print_kept<
     ensures printed { IfOk result (PrintsFound
         (Answers ⟦<Arc<S> as FileSystem>⟧ ⟦<KeptRules<X> as ProcessReadDir<((Chain, ()), ()), Global>>⟧
         ⟦<(Chain, ()) as Clone>⟧ ⟦<() as Default>⟧
-        ⟦<Session<T, ((Chain, ()), ()), Arc<S>, KeptRules<X>, Global> as Pool<((Chain, ()), ()), Arc<S>, KeptRules<X>, Global>>⟧)
+        ⟦<Session<T, ((Chain, ()), ()), Arc<S>, KeptRules<X>, Global> as Readers<((Chain, ()), ()), Arc<S>, KeptRules<X>, Global>>⟧)
         answers (sought_of takes_of printer.old.filter) (style_of printer.old.lines)
         (append_known (W.contents out.old) (gathered_of printer.old.lines))
         (append_known (W.contents out.new) (gathered_of printer.new.lines))) }
@@ -126,7 +126,7 @@ impl<
         ensures { IfOk result (λ it. S.IsFixed (arc_value self.now.disk) → YieldsWhole
             (Answers ⟦<Arc<S> as FileSystem>⟧ ⟦<Excluding as ProcessReadDir<((), ()), Global>>⟧
             ⟦<() as Clone>⟧ ⟦<() as Default>⟧
-            ⟦<Session<T, ((), ()), Arc<S>, Excluding, Global> as Pool<((), ()), Arc<S>, Excluding, Global>>⟧)
+            ⟦<Session<T, ((), ()), Arc<S>, Excluding, Global> as Readers<((), ()), Arc<S>, Excluding, Global>>⟧)
             it (given_all (excluded_asked self.now.asked.now root.now))
             (all_below (S.functions (arc_value self.now.disk)) self.now.asked.now
             (excluded_asked self.now.asked.now root.now) root.now)) }

@@ -10,7 +10,7 @@ ghost use Rattle.seek_walk.specs.Found.{PrintsFound};
 use crate::printer::Printer;
 use jwalk::file_system::FileSystem;
 use jwalk::read_dir::ProcessReadDir;
-use jwalk::{ClientState, DirEntryIter, Pool};
+use jwalk::{ClientState, DirEntryIter, Readers};
 use seek_filter::halt::Halt;
 use seek_filter::name_test::NameTest;
 use std::alloc::Allocator;
@@ -29,7 +29,7 @@ pub fn print_found<
     S: FileSystem,
     P: ProcessReadDir<C, A>,
     A: Allocator + Copy,
-    L: Pool<C, S, P, A>,
+    L: Readers<C, S, P, A>,
 >(
     walk: &mut DirEntryIter<C, S, P, A, L>,
     printer: &mut Printer<'_, T>,
@@ -38,7 +38,7 @@ pub fn print_found<
 ) -> Result<bool, Halt>
     requires { P.IsLawful (callback (job_of walk.old)) }
     ensures printed { IfOk result (PrintsFound (Answers S.FileSystem P.ProcessReadDir C.ReadDirState.Clone
-        C.DirEntryState.Default L.Pool) walk.old (sought_of T.takes printer.old.filter) (style_of printer.old.lines)
+        C.DirEntryState.Default L.Readers) walk.old (sought_of T.takes printer.old.filter) (style_of printer.old.lines)
         (append_known (W.contents out.old) (gathered_of printer.old.lines))
         (append_known (W.contents out.new) (gathered_of printer.new.lines))) }
     ensures sought { sought_of T.takes printer.new.filter ≡ sought_of T.takes printer.old.filter }

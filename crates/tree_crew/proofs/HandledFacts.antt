@@ -10,7 +10,7 @@ use Rattle.tree_crew.specs.Arrival.{Arrives}
 use Rattle.tree_crew.specs.Message.{Message}
 use Rattle.jwalk_order.specs.declared.ordered.Ordered.{Ordered}
 use Rattle.tree_crew.specs.declared.sleepers.Sleepers.{Sleepers}
-use Rattle.tree_crew.specs.declared.steps.Calls.{Calls}
+use Rattle.tree_crew.specs.declared.steps.Called.{Called}
 use Rattle.tree_crew.specs.declared.work.Work.{Work}
 use Rattle.tree_crew.specs.Handled.{board_in, ArrivesOrIsOut, CallsIfEntered, CallsOrIsOut, FinishesOrStops, IsHandled, IsReceiptFor, Stops}
 use Rattle.tree_crew.specs.Sleepers.{CallsNobody, CallsTakers}
@@ -25,12 +25,12 @@ abbrev pub not_overslept : Sleepers → Sleepers
 not_overslept sleepers = record sleepers { overslept = false }
 
 -- A note of who overslept changes nothing of whom is called.
-takers_of_noted : {T R : Type 0} (limit : ℕ) (board : Board T R) (before after : Sleepers) (calls : Calls) → CallsTakers limit board (not_overslept before) after calls → CallsTakers limit board before after calls
+takers_of_noted : {T R : Type 0} (limit : ℕ) (board : Board T R) (before after : Sleepers) (calls : Called) → CallsTakers limit board (not_overslept before) after calls → CallsTakers limit board before after calls
 takers_of_noted limit board before after calls told = record { takers = told.takers; may = told.may; workers = told.workers; walk = told.walk; rests = told.rests }
 
 module _ {T U J A : Type 0} where
   -- whom the walk calls where a reading came
-  pub calls_entered : (limit own : ℕ) (arrival : Arrival T U J A) (item : Ordered (Message T U J) A) (this board : Board T (Message T U J)) (noted before after : Sleepers) (calls : Calls)
+  pub calls_entered : (limit own : ℕ) (arrival : Arrival T U J A) (item : Ordered (Message T U J) A) (this board : Board T (Message T U J)) (noted before after : Sleepers) (calls : Called)
       → arrival ≡ Entered item → limit ≡ own → this ≡ board → noted ≡ not_overslept before → CallsTakers limit this noted after calls → CallsIfEntered own arrival board before after calls
   calls_entered limit own arrival item this board noted before after calls came is same note told =
       subst (λ x. CallsIfEntered own x board before after calls) (sym came)
@@ -38,7 +38,7 @@ module _ {T U J A : Type 0} where
       (subst (λ s. CallsTakers own board s after calls) note (subst (λ b. CallsTakers own b noted after calls) same (subst (λ l. CallsTakers l this noted after calls) is told))))
 
   -- where none came
-  pub calls_nobody : (limit : ℕ) (arrival : Arrival T U J A) → ((item : Ordered (Message T U J) A) → ¬ (arrival ≡ Entered item)) → (board : Board T (Message T U J)) (before after : Sleepers) (calls : Calls)
+  pub calls_nobody : (limit : ℕ) (arrival : Arrival T U J A) → ((item : Ordered (Message T U J) A) → ¬ (arrival ≡ Entered item)) → (board : Board T (Message T U J)) (before after : Sleepers) (calls : Called)
       → CallsNobody calls → CallsIfEntered limit arrival board before after calls
   calls_nobody limit (Entered item) other board before after calls nobody = absurd (other item refl)
   calls_nobody limit Memory other board before after calls nobody = nobody
@@ -61,7 +61,7 @@ module _ {T U J A : Type 0} where
   arrives_on arrival before was after taken put old new take give from to steps =
       inl (handled_on (λ old new. Arrives old arrival new) was after taken put old new take give from to steps)
 
-  pub calls_on : (limit : ℕ) (arrival : Arrival T U J A) (before after : Sleepers) (calls : Calls) (was works : Option (Work T U J A) × Option (Work T U J A)) (taken put : Work T U J A) (old new : Board T (Message T U J))
+  pub calls_on : (limit : ℕ) (arrival : Arrival T U J A) (before after : Sleepers) (calls : Called) (was works : Option (Work T U J A) × Option (Work T U J A)) (taken put : Work T U J A) (old new : Board T (Message T U J))
       → was ≡ (Some taken, None) → works ≡ (was.0, Some put) → old ≡ box_value taken.board → box_value put.board ≡ new → CallsIfEntered limit arrival new before after calls → CallsOrIsOut limit arrival before after calls works
   calls_on limit arrival before after calls was works taken put old new take give from to told =
       inl (handled_on (λ _ board. CallsIfEntered limit arrival board before after calls) was works taken put old new take give from to told)

@@ -12,7 +12,7 @@ use Rattle.tree_crew.specs.Arrival.{Arrives}
 use Rattle.tree_crew.specs.Message.{Message}
 use Rattle.tree_crew.specs.declared.hand_in.HandIn.{HandIn}
 use Rattle.tree_crew.specs.declared.sleepers.Sleepers.{Sleepers}
-use Rattle.tree_crew.specs.declared.steps.Calls.{Calls}
+use Rattle.tree_crew.specs.declared.steps.Called.{Called}
 use Rattle.tree_crew.specs.declared.steps.Turn.{Turn}
 use Rattle.tree_crew.specs.declared.steps.Turn.TheVariants.{End}
 use Rattle.tree_crew.specs.declared.work.Work.{Work}
@@ -30,7 +30,7 @@ module _ {T R : Type 0} where
   FinishesOrStops a reading children old new = Finishes a reading children old new ⊎ Stops old new
 
   -- A worker's turn at a pace. It calls as many workers as may take something then, if there will be another turn, and the walk where its next reading is ready.
-  pub record TurnsAndCalls {A : Type 0} (limit : ℕ) (rests : Bool) (turn : Turn T A) (calls : Calls) (old new : Board T R) : Type 0 where
+  pub record TurnsAndCalls {A : Type 0} (limit : ℕ) (rests : Bool) (turn : Turn T A) (calls : Called) (old new : Board T R) : Type 0 where
     pub turns : Turns limit rests old turn new
     pub calls_workers : ¬ (turn ≡ End) → CountsTakers limit rests new calls.workers
     pub calls_walk : IsNextReady new → IsTrue calls.walk
@@ -54,7 +54,7 @@ module _ {T U J A : Type 0} where
     pub steps : step old new
 
   -- Whom the walk calls: where a reading came, as many workers as may take something then, and else nobody.
-  abbrev pub CallsIfEntered : ℕ → Arrival T U J A → Board T (Message T U J) → Sleepers → Sleepers → Calls → Type 0
+  abbrev pub CallsIfEntered : ℕ → Arrival T U J A → Board T (Message T U J) → Sleepers → Sleepers → Called → Type 0
   CallsIfEntered limit (Entered item) board before after calls = CallsTakers limit board before after calls
   CallsIfEntered limit Memory board before after calls = CallsNobody calls
   CallsIfEntered limit Lost board before after calls = CallsNobody calls
@@ -65,7 +65,7 @@ module _ {T U J A : Type 0} where
   ArrivesOrIsOut arrival before after = IsHandled (λ old new. Arrives old arrival new) after ⊎ ((arrival ≡ Memory) × (after ≡ before))
 
   -- Whom the walk calls goes by the board that it put back by the key; or the board is out, and it calls nobody.
-  abbrev pub CallsOrIsOut : ℕ → Arrival T U J A → Sleepers → Sleepers → Calls → Option (Work T U J A) × Option (Work T U J A) → Type 0
+  abbrev pub CallsOrIsOut : ℕ → Arrival T U J A → Sleepers → Sleepers → Called → Option (Work T U J A) × Option (Work T U J A) → Type 0
   CallsOrIsOut limit arrival before after calls works = IsHandled (λ _ board. CallsIfEntered limit arrival board before after calls) works ⊎ CallsNobody calls
 
   -- The receipt is for the board of this slot, which was taken and put back after this step on it.

@@ -3,14 +3,14 @@ use Rattle.std.specs.Prelude.{◌≡◌, ◌↔◌, ◌+◌, ◌-◌, ◌<◌, �
 use Rattle.jwalk_board.specs.Board.{Board}
 use Rattle.tree_crew.specs.Pace.{ahead_of, CountsTakers}
 use Rattle.tree_crew.specs.declared.sleepers.Sleepers.{Sleepers}
-use Rattle.tree_crew.specs.declared.steps.Calls.{Calls}
+use Rattle.tree_crew.specs.declared.steps.Called.{Called}
 
 -- how many workers are called where this many may take something: those of them who sleep and weren't called yet
 abbrev pub called_of : Sleepers → ℕ → ℕ
 called_of sleepers count = min count sleepers.workers - sleepers.called
 
 -- Nobody is called.
-pub record CallsNobody (calls : Calls) : Type 0 where
+pub record CallsNobody (calls : Called) : Type 0 where
   pub workers : calls.workers ≡ 0
   pub walk : calls.walk ≡ false
 
@@ -20,7 +20,7 @@ module _ {T R : Type 0} where
   StillRests limit before board = IsTrue before.rests × (limit < ahead_of board + ahead_of board)
 
   -- As many workers are called as may take something, and not the walk. Who rested doesn't any longer once the readings are down to half the limit.
-  pub record CallsTakers (limit : ℕ) (board : Board T R) (before after : Sleepers) (calls : Calls) : Type 0 where
+  pub record CallsTakers (limit : ℕ) (board : Board T R) (before after : Sleepers) (calls : Called) : Type 0 where
     pub takers : ℕ
     pub may : CountsTakers limit after.rests board takers
     pub workers : calls.workers ≡ called_of before takers

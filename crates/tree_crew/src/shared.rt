@@ -39,7 +39,7 @@ use crate::ground::Ground;
 use crate::hand_in::HandIn;
 use crate::pace::Pace;
 use crate::sleepers::Sleepers;
-use crate::steps::{Calls, Turn, new_board, take_turn};
+use crate::steps::{Called, Turn, new_board, take_turn};
 use crate::work::{Handled, SharedBoard, TakenOut, Work};
 use jwalk_board::board::Plan;
 use keyed_slot::slot::{Key, KeyedSlot, Loan, Receipt};
@@ -201,7 +201,7 @@ impl<
     pub(crate) fn turn(
         &self,
         held: &mut MutexGuard<'_, Sleepers>,
-    ) -> (Turn<T, A>, Calls, Handled<T, U, J, A>)
+    ) -> (Turn<T, A>, Called, Handled<T, U, J, A>)
         ensures turn { IsTurnOf J.Plan (origin_at self.now.work) result.0 }
         ensures handled { IfOk result.2 (IsReceiptFor self.now.work (TurnsAndCalls (limit_at self.now.work)
             (mutex_guard_value held.old).rests result.0 result.1)) }
@@ -210,12 +210,12 @@ impl<
         let pace = Pace::new(self.crew.read_ahead(), held.rests());
         let (mut board, loan) = match self.take_out(held) {
             Ok(taken) => taken,
-            Err(absence) => return (Turn::End, Calls::all(), Err(absence)),
+            Err(absence) => return (Turn::End, Called::all(), Err(absence)),
         };
         let turn = take_turn(&mut *board, pace);
         held.note_turn(&turn);
         self.crew.count_late(held.has_overslept(turn.is_found()));
-        let calls = Calls::after_turn(&*board, &turn, pace);
+        let calls = Called::after_turn(&*board, &turn, pace);
         (turn, calls, Ok(self.put_back(held, board, loan)))
     }
 
@@ -225,7 +225,7 @@ impl<
         &self,
         held: &mut MutexGuard<'_, Sleepers>,
         key: &mut Key<Work<T, U, J, A>>,
-    ) -> (Arrival<T, U, J, A>, Calls)
+    ) -> (Arrival<T, U, J, A>, Called)
         requires opens { Opens key.old self.now.work }
         requires home { is_out key.old ≡ false }
         ensures opens { Opens key.new self.now.work }
@@ -238,7 +238,7 @@ impl<
         ensures missed { (mutex_guard_value held.new).board_missed ≡ (mutex_guard_value held.old).board_missed }
     {
         let Some(work) = self.work.take_with(key) else {
-            return (Arrival::Memory, Calls::none());
+            return (Arrival::Memory, Called::none());
         };
         let mut board = work.into_board();
         let arrival = arrive(&mut *board);
@@ -255,7 +255,7 @@ impl<
         &self,
         held: &mut MutexGuard<'_, Sleepers>,
         key: &mut Key<Work<T, U, J, A>>,
-    ) -> (Arrival<T, U, J, A>, Calls)
+    ) -> (Arrival<T, U, J, A>, Called)
         requires opens { Opens key.old self.now.work }
         requires home { is_out key.old ≡ false }
         ensures opens { Opens key.new self.now.work }
@@ -296,7 +296,7 @@ impl<
     }
 
     /// Notifies those who sleep.
-    pub(crate) fn call(&self, calls: Calls) {
+    pub(crate) fn call(&self, calls: Called) {
         if calls.walk {
             self.arrived.notify_one();
         }
@@ -312,7 +312,7 @@ impl<
     {
         let mut sleepers = self.sleepers.lock(&self.crew.rt);
         let receipt = self.stop_board(&mut sleepers);
-        let calls = sleepers.called_by(Calls::all());
+        let calls = sleepers.called_by(Called::all());
         drop(sleepers);
         self.call(calls);
         receipt

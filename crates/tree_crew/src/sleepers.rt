@@ -3,7 +3,7 @@ ghost use Rattle.std.specs.Prelude.{◌≡◌, ◌↔◌, IsTrue, true, false};
 ghost use Rattle.tree_crew.specs.Sleepers.{called_of, CallsNobody, CallsTakers, StillRests};
 
 use crate::pace::Pace;
-use crate::steps::{Calls, Turn};
+use crate::steps::{Called, Turn};
 use jwalk_board::board::Board;
 use std::alloc::Allocator;
 
@@ -134,24 +134,24 @@ impl Sleepers {
         came: bool,
         board: &Board<T, R, A>,
         limit: usize,
-    ) -> Calls
+    ) -> Called
         ensures missed { self.new.board_missed ≡ self.old.board_missed }
         ensures calls { IsTrue came → CallsTakers limit board.now self.old self.new result }
         ensures nobody { came ≡ false → CallsNobody result }
     {
         if !came {
-            return Calls::none();
+            return Called::none();
         }
         self.rests = self.still_rests(board, limit);
         let workers = Pace::new(limit, self.rests).takers(board);
-        self.called_by(Calls {
+        self.called_by(Called {
             workers,
             walk: false,
         })
     }
 
     /// Returns those of a call who sleep and weren't called yet. They count as called from now on.
-    pub(crate) fn called_by(&mut self, calls: Calls) -> Calls
+    pub(crate) fn called_by(&mut self, calls: Called) -> Called
         ensures workers { result.workers ≡ called_of self.old calls.workers }
         ensures walk { IsTrue result.walk ↔ (IsTrue calls.walk × IsTrue self.old.walk) }
         ensures rests { self.new.rests ≡ self.old.rests }
@@ -161,6 +161,6 @@ impl Sleepers {
         let walk = calls.walk && self.walk;
         self.called = self.called.saturating_add(workers);
         self.walk = self.walk && !walk;
-        Calls { workers, walk }
+        Called { workers, walk }
     }
 }

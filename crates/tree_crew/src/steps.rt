@@ -91,17 +91,17 @@ pub(crate) fn finish_or_stop<T: Drop, R: Drop, A: Allocator + Copy>(
 
 /// Whom a step calls of those who sleep: how many workers, and whether the walk.
 #[derive(Clone, Copy)]
-pub(crate) struct Calls {
+pub(crate) struct Called {
     pub(crate) workers: usize,
     pub(crate) walk: bool,
 }
 
-impl Calls {
+impl Called {
     /// Everyone.
     pub(crate) fn all() -> Self
         ensures { result.walk ≡ true }
     {
-        Calls {
+        Called {
             workers: usize::MAX,
             walk: true,
         }
@@ -111,7 +111,7 @@ impl Calls {
     pub(crate) fn none() -> Self
         ensures { CallsNobody result }
     {
-        Calls {
+        Called {
             workers: 0,
             walk: false,
         }
@@ -126,7 +126,7 @@ impl Calls {
         ensures workers { CountsTakers pace.limit pace.rests board.now result.workers }
         ensures walk { IsTrue result.walk ↔ IsNextReady board.now }
     {
-        Calls {
+        Called {
             workers: pace.takers(board),
             walk: board.is_next_ready(),
         }
@@ -143,8 +143,8 @@ impl Calls {
         ensures end { turn.now ≡ Turn.End → IsTrue result.walk }
     {
         match turn {
-            Turn::End => Calls::all(),
-            Turn::Read(_) | Turn::Wait | Turn::Rest => Calls::after(board, pace),
+            Turn::End => Called::all(),
+            Turn::Read(_) | Turn::Wait | Turn::Rest => Called::after(board, pace),
         }
     }
 

@@ -9,7 +9,7 @@ use Rattle.jwalk_read.specs.declared.process_read_dir.ProcessReadDir as ProcessR
 use Rattle.jwalk.specs.jwalk_callbacks.declared.size.Size.{Size}
 use Rattle.jwalk.specs.jwalk_callbacks.declared.with_sizes.WithSizes.{WithSizes}
 use Rattle.jwalk.specs.jwalk_callbacks.WithSizes.{asks}
-use Rattle.jwalk.specs.declared.crew.Pool as Pool
+use Rattle.jwalk.specs.declared.crew.Readers as Readers
 use Rattle.jwalk.specs.declared.crew.Crew.{Crew}
 use Rattle.jwalk.specs.declared.dir_entry_iter.DirEntryIter.{DirEntryIter}
 use Rattle.jwalk.specs.declared.walk_dir.WalkDirGeneric.{WalkDirGeneric}
@@ -20,7 +20,7 @@ use Rattle.walk_text.specs.Asked.{options_for}
 use Rattle.walk_run.specs.Totals.{PrintsTotals}
 
 -- A walk over a file system that is shared and from a root, which may have a crew, began as is asked for, with a callback that asks that file system for sizes. It was called until it ended, the line of its totals was written, and no answer was an error.
-pub record CountsBegun (T : Type 0) {C S A L R : Type 0} (files : FileSystem.Ghosts (Arc S A)) (process : ProcessReadDir.Ghosts (WithSizes (Arc S A)) C A R Size) (clone : Clone.Ghosts R) (defaults : Default.Ghosts Size) (pool : Pool.Ghosts L C (Arc S A) (WithSizes (Arc S A)) A R Size) (fs : S) (asked : Asked) (root : List ℕ) (old new : Option (List ℕ)) : Type 0 where
+pub record CountsBegun (T : Type 0) {C S A L R : Type 0} (files : FileSystem.Ghosts (Arc S A)) (process : ProcessReadDir.Ghosts (WithSizes (Arc S A)) C A R Size) (clone : Clone.Ghosts R) (defaults : Default.Ghosts Size) (readers : Readers.Ghosts L C (Arc S A) (WithSizes (Arc S A)) A R Size) (fs : S) (asked : Asked) (root : List ℕ) (old new : Option (List ℕ)) : Type 0 where
   pub walk : WalkDirGeneric C (Arc S A) (WithSizes (Arc S A)) A (Crew T) R Size
   pub file_system : arc_value (file_system_of walk) ≡ fs
   pub sizes : arc_value (asks (callback_of walk)) ≡ fs
@@ -28,4 +28,4 @@ pub record CountsBegun (T : Type 0) {C S A L R : Type 0} (files : FileSystem.Gho
   pub options : options_of walk ≡ options_for asked
   pub it : DirEntryIter C (Arc S A) (WithSizes (Arc S A)) A L R Size
   pub starts : Starts walk it
-  pub prints : PrintsTotals (Answers files process clone defaults pool) it old new true
+  pub prints : PrintsTotals (Answers files process clone defaults readers) it old new true

@@ -6,7 +6,7 @@ use Rattle.std.specs.declared.clone.Clone as Clone
 use Rattle.std.specs.declared.default.Default as Default
 use Rattle.walk_fs.specs.declared.file_system.FileSystem as FileSystem
 use Rattle.jwalk_read.specs.declared.process_read_dir.ProcessReadDir as ProcessReadDir
-use Rattle.jwalk.specs.declared.crew.Pool as Pool
+use Rattle.jwalk.specs.declared.crew.Readers as Readers
 use Rattle.jwalk.specs.declared.crew.Crew.{Crew}
 use Rattle.jwalk.specs.declared.dir_entry_iter.DirEntryIter.{DirEntryIter}
 use Rattle.jwalk.specs.declared.walk_dir.WalkDirGeneric.{WalkDirGeneric}
@@ -36,11 +36,11 @@ pub record PrintsOver (fs : Functions) (asked : Asked) (root : List ℕ) (old ne
   pub clean : list_all is_ok (answers_over fs asked root) ≡ true
 
 -- A walk over a file system and from a root, which may have a crew, began as is asked for. It was called until it ended, the line of each answer was written, and no answer was an error.
-pub record PrintsBegun (T : Type 0) {C S P A L R E : Type 0} (files : FileSystem.Ghosts S) (process : ProcessReadDir.Ghosts P C A R E) (clone : Clone.Ghosts R) (defaults : Default.Ghosts E) (pool : Pool.Ghosts L C S P A R E) (fs : S) (asked : Asked) (root : List ℕ) (old new : Option (List ℕ)) : Type 0 where
+pub record PrintsBegun (T : Type 0) {C S P A L R E : Type 0} (files : FileSystem.Ghosts S) (process : ProcessReadDir.Ghosts P C A R E) (clone : Clone.Ghosts R) (defaults : Default.Ghosts E) (readers : Readers.Ghosts L C S P A R E) (fs : S) (asked : Asked) (root : List ℕ) (old new : Option (List ℕ)) : Type 0 where
   pub walk : WalkDirGeneric C S P A (Crew T) R E
   pub file_system : file_system_of walk ≡ fs
   pub root_of_it : root_of walk ≡ root
   pub options : options_of walk ≡ options_for asked
   pub it : DirEntryIter C S P A L R E
   pub starts : Starts walk it
-  pub prints : PrintsAll (Answers files process clone defaults pool) it old new true
+  pub prints : PrintsAll (Answers files process clone defaults readers) it old new true

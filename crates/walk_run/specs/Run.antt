@@ -11,7 +11,7 @@ use Rattle.memory_fs.specs.MemoryFs.{tree_of}
 use Rattle.jwalk_read.specs.declared.process_read_dir.ProcessReadDir as ProcessReadDir
 use Rattle.jwalk.specs.jwalk_callbacks.declared.size.Size.{Size}
 use Rattle.jwalk.specs.jwalk_callbacks.declared.with_sizes.WithSizes.{WithSizes}
-use Rattle.jwalk.specs.declared.crew.Pool as Pool
+use Rattle.jwalk.specs.declared.crew.Readers as Readers
 use Rattle.walk_text.specs.declared.asked.Asked.{Asked}
 use Rattle.walk_text.specs.declared.failure.Failure.{Failure}
 use Rattle.walk_text.specs.declared.failure.Failure.TheVariants.{BadWords, BadTree, TooMany, Memory, Output}
@@ -39,11 +39,11 @@ IsSource disk None source = source ≡ Disk disk
 IsSource {S} {A} disk (Some t) source = (tree : MemoryFs A) × (source ≡ Tree tree) × (tree_of tree ≡ t)
 
 -- The walk that begins so was printed to its end, or its totals were, and no answer is an error. Its answers are the whole walk over its tree. Without a tree, they are that over the disk, if it always returns the same.
-pub record PrintsWalk (T : Type 0) {C D S P A L M R E : Type 0} (files : FileSystem.Ghosts S) (sources : FileSystem.Ghosts (Source S A)) (shared : FileSystem.Ghosts (Arc (Source S A) A)) (process : ProcessReadDir.Ghosts P C A R E) (sizing : ProcessReadDir.Ghosts (WithSizes (Arc (Source S A) A)) D A R Size) (clone : Clone.Ghosts R) (defaults : Default.Ghosts E) (unasked : Default.Ghosts Size) (pool : Pool.Ghosts L C (Source S A) P A R E) (sharing : Pool.Ghosts M D (Arc (Source S A) A) (WithSizes (Arc (Source S A) A)) A R Size) (disk : S) (words : List (List ℕ)) (to_come old new : Option (List ℕ)) : Type 0 where
+pub record PrintsWalk (T : Type 0) {C D S P A L M R E : Type 0} (files : FileSystem.Ghosts S) (sources : FileSystem.Ghosts (Source S A)) (shared : FileSystem.Ghosts (Arc (Source S A) A)) (process : ProcessReadDir.Ghosts P C A R E) (sizing : ProcessReadDir.Ghosts (WithSizes (Arc (Source S A) A)) D A R Size) (clone : Clone.Ghosts R) (defaults : Default.Ghosts E) (unasked : Default.Ghosts Size) (readers : Readers.Ghosts L C (Source S A) P A R E) (sharing : Readers.Ghosts M D (Arc (Source S A) A) (WithSizes (Arc (Source S A) A)) A R Size) (disk : S) (words : List (List ℕ)) (to_come old new : Option (List ℕ)) : Type 0 where
   pub walk : BeginsWalk words to_come
   pub source : Source S A
   pub over : IsSource disk walk.tree source
-  pub begun : walk.asked.usage ≡ false → PrintsBegun T sources process clone defaults pool source walk.asked walk.root old new
+  pub begun : walk.asked.usage ≡ false → PrintsBegun T sources process clone defaults readers source walk.asked walk.root old new
   pub counted : walk.asked.usage ≡ true → CountsBegun T shared sizing clone unasked sharing source walk.asked walk.root old new
   pub over_tree : IfSome walk.tree (λ t. PrintsOver (functions_of t) walk.asked walk.root old new)
   pub over_disk : IfNone walk.tree (files.IsFixed disk → PrintsOver (files.functions disk) walk.asked walk.root old new)

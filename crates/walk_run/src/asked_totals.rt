@@ -7,7 +7,7 @@ ghost use Rattle.walk_run.specs.AskedTotals.{CountsBegun};
 use crate::answers::status_once;
 use crate::asked_walk::{print_walk, walk_of};
 use crate::totals::print_totals;
-use jwalk::Pool;
+use jwalk::Readers;
 use jwalk::crew::Session;
 use jwalk::file_system::FileSystem;
 use jwalk::read_dir::{NoProcess, ProcessReadDir, Size, WithSizes};
@@ -46,7 +46,7 @@ fn print_usage<
     ensures untouched { OnErr result (W.contents out.new ≡ W.contents out.old) }
     ensures counted { IfOk result (λ status. status ≡ 0 → CountsBegun T ⟦<Arc<S, A> as FileSystem>⟧
         ⟦<WithSizes<Arc<S, A>> as ProcessReadDir<((), Size), A>>⟧ ⟦<() as Clone>⟧ ⟦<Size as Default>⟧
-        ⟦<Session<T, ((), Size), Arc<S, A>, WithSizes<Arc<S, A>>, A> as Pool<((), Size), Arc<S, A>, WithSizes<Arc<S, A>>, A>>⟧
+        ⟦<Session<T, ((), Size), Arc<S, A>, WithSizes<Arc<S, A>>, A> as Readers<((), Size), Arc<S, A>, WithSizes<Arc<S, A>>, A>>⟧
         fs request.now.asked request.now.root.now (W.contents out.old) (W.contents out.new)) }
     ensures printed { IfOk result (λ status. status ≡ 0 → S.IsFixed fs
         → PrintsOver (S.functions fs) request.now.asked request.now.root.now
@@ -78,12 +78,12 @@ pub fn print_asked<
     ensures untouched { OnErr result (W.contents out.new ≡ W.contents out.old) }
     ensures walked { IfOk result (λ status. status ≡ 0 → request.now.asked.usage ≡ false → PrintsBegun T S.FileSystem
         ⟦<NoProcess as ProcessReadDir<((), ()), A>>⟧ ⟦<() as Clone>⟧ ⟦<() as Default>⟧
-        ⟦<Session<T, ((), ()), S, NoProcess, A> as Pool<((), ()), S, NoProcess, A>>⟧
+        ⟦<Session<T, ((), ()), S, NoProcess, A> as Readers<((), ()), S, NoProcess, A>>⟧
         fs request.now.asked request.now.root.now (W.contents out.old) (W.contents out.new)) }
     ensures counted { IfOk result (λ status. status ≡ 0 → request.now.asked.usage ≡ true → CountsBegun T
         ⟦<Arc<S, A> as FileSystem>⟧
         ⟦<WithSizes<Arc<S, A>> as ProcessReadDir<((), Size), A>>⟧ ⟦<() as Clone>⟧ ⟦<Size as Default>⟧
-        ⟦<Session<T, ((), Size), Arc<S, A>, WithSizes<Arc<S, A>>, A> as Pool<((), Size), Arc<S, A>, WithSizes<Arc<S, A>>, A>>⟧
+        ⟦<Session<T, ((), Size), Arc<S, A>, WithSizes<Arc<S, A>>, A> as Readers<((), Size), Arc<S, A>, WithSizes<Arc<S, A>>, A>>⟧
         fs request.now.asked request.now.root.now (W.contents out.old) (W.contents out.new)) }
     ensures printed { IfOk result (λ status. status ≡ 0 → S.IsFixed fs
         → PrintsOver (S.functions fs) request.now.asked request.now.root.now

@@ -10,7 +10,7 @@ use crate::walk_printed::print_walked;
 use jwalk::crew::Session;
 use jwalk::file_system::FileSystem;
 use jwalk::read_dir::{NoProcess, ProcessReadDir};
-use jwalk::{ClientState, Crew, Parallelism, Pool, WalkDirGeneric};
+use jwalk::{ClientState, Crew, Parallelism, Readers, WalkDirGeneric};
 use std::alloc::{AllocError, Allocator};
 use std::io::Write;
 use std::sync::{Arc, Wait};
@@ -95,7 +95,7 @@ pub fn print_walk<
     ensures untouched { OnErr result (W.contents out.new ≡ W.contents out.old) }
     ensures walked { IfOk result (λ status. status ≡ 0 → PrintsBegun T S.FileSystem
         ⟦<NoProcess as ProcessReadDir<((), ()), A>>⟧ ⟦<() as Clone>⟧ ⟦<() as Default>⟧
-        ⟦<Session<T, ((), ()), S, NoProcess, A> as Pool<((), ()), S, NoProcess, A>>⟧
+        ⟦<Session<T, ((), ()), S, NoProcess, A> as Readers<((), ()), S, NoProcess, A>>⟧
         fs request.now.asked request.now.root.now (W.contents out.old) (W.contents out.new)) }
     ensures printed { IfOk result (λ status. status ≡ 0 → S.IsFixed fs
         → PrintsOver (S.functions fs) request.now.asked request.now.root.now

@@ -5,7 +5,7 @@ ghost use Rattle.walk_run.specs.Run.{BeginsWalk, PrintsWalk, TellsOfCall, Ends};
 
 use crate::asked_totals::print_asked;
 use crate::source::Source;
-use jwalk::Pool;
+use jwalk::Readers;
 use jwalk::crew::Session;
 use jwalk::file_system::FileSystem;
 use jwalk::read_dir::{NoProcess, ProcessReadDir, Size, WithSizes};
@@ -46,8 +46,8 @@ fn try_run<
         ⟦<NoProcess as ProcessReadDir<((), ()), A>>⟧
         ⟦<WithSizes<Arc<Source<S, A>, A>> as ProcessReadDir<((), Size), A>>⟧
         ⟦<() as Clone>⟧ ⟦<() as Default>⟧ ⟦<Size as Default>⟧
-        ⟦<Session<T, ((), ()), Source<S, A>, NoProcess, A> as Pool<((), ()), Source<S, A>, NoProcess, A>>⟧
-        ⟦<Session<T, ((), Size), Arc<Source<S, A>, A>, WithSizes<Arc<Source<S, A>, A>>, A> as Pool<((), Size), Arc<Source<S, A>, A>, WithSizes<Arc<Source<S, A>, A>>, A>>⟧
+        ⟦<Session<T, ((), ()), Source<S, A>, NoProcess, A> as Readers<((), ()), Source<S, A>, NoProcess, A>>⟧
+        ⟦<Session<T, ((), Size), Arc<Source<S, A>, A>, WithSizes<Arc<Source<S, A>, A>>, A> as Readers<((), Size), Arc<Source<S, A>, A>, WithSizes<Arc<Source<S, A>, A>>, A>>⟧
         disk (map string_bytes words.now) (R.remaining input.old) (W.contents out.old) (W.contents out.new)) }
 {
     let Some(request) = parse_words(words) else {
@@ -87,8 +87,8 @@ pub fn run<
         ⟦<NoProcess as ProcessReadDir<((), ()), A>>⟧
         ⟦<WithSizes<Arc<Source<S, A>, A>> as ProcessReadDir<((), Size), A>>⟧
         ⟦<() as Clone>⟧ ⟦<() as Default>⟧ ⟦<Size as Default>⟧
-        ⟦<Session<T, ((), ()), Source<S, A>, NoProcess, A> as Pool<((), ()), Source<S, A>, NoProcess, A>>⟧
-        ⟦<Session<T, ((), Size), Arc<Source<S, A>, A>, WithSizes<Arc<Source<S, A>, A>>, A> as Pool<((), Size), Arc<Source<S, A>, A>, WithSizes<Arc<Source<S, A>, A>>, A>>⟧
+        ⟦<Session<T, ((), ()), Source<S, A>, NoProcess, A> as Readers<((), ()), Source<S, A>, NoProcess, A>>⟧
+        ⟦<Session<T, ((), Size), Arc<Source<S, A>, A>, WithSizes<Arc<Source<S, A>, A>>, A> as Readers<((), Size), Arc<Source<S, A>, A>, WithSizes<Arc<Source<S, A>, A>>, A>>⟧
         disk (map string_bytes words.now) (R.remaining input.old) (W.contents out.old) (W.contents out.new) }
 {
     match try_run(rt, alloc, disk, words, input, out, err) {

@@ -8,7 +8,7 @@ ghost use Rattle.walk_run.specs.Answers.{PrintsAll};
 use crate::answers::{print_one, room, write_rest};
 use jwalk::file_system::FileSystem;
 use jwalk::read_dir::ProcessReadDir;
-use jwalk::{ClientState, DirEntryIter, Pool};
+use jwalk::{ClientState, DirEntryIter, Readers};
 use std::alloc::Allocator;
 use std::io::Write;
 use std::thread::Threads;
@@ -23,14 +23,14 @@ pub fn print_walked<
     S: FileSystem + Send + Sync,
     P: ProcessReadDir<C, A> + Send + Sync,
     A: Allocator + Copy + Send + Sync,
-    L: Pool<C, S, P, A>,
+    L: Readers<C, S, P, A>,
 >(rt: &T, alloc: A, walk: &mut DirEntryIter<C, S, P, A, L>, out: &mut W) -> Result<bool, Failure>
 where
     C::ReadDirState: Send,
     C::DirEntryState: Send,
     requires { P.IsLawful (callback (job_of walk.old)) }
     ensures printed { IfOk result (PrintsAll (Answers S.FileSystem P.ProcessReadDir C.ReadDirState.Clone
-        C.DirEntryState.Default L.Pool) walk.old (W.contents out.old) (W.contents out.new)) }
+        C.DirEntryState.Default L.Readers) walk.old (W.contents out.old) (W.contents out.new)) }
     ensures status { IfErr result (λ failure. status_of failure ≡ 1) }
 {
     let mut gathered = room(alloc)?;

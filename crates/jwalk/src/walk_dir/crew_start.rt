@@ -8,14 +8,12 @@ ghost use Rattle.jwalk_read.specs.Entry.{item};
 ghost use Rattle.jwalk_read.specs.ReadDir.{reading};
 ghost use Rattle.jwalk_read.specs.Job.{callback};
 ghost use Rattle.tree_crew.specs.Crew.{limit_of};
-ghost use Rattle.jwalk_crew.specs.Session.{origin_of, awaited_by};
+ghost use Rattle.jwalk_readings.specs.Session.{origin_of, awaited_by};
 ghost use Rattle.jwalk_readings.specs.CrewReads as reads_by;
 ghost use Rattle.jwalk.specs.CrewStart.{busied, left_of, is_refusal, IsFromRoot};
 ghost use Rattle.jwalk_entries.specs.DirEntryIter.{reads_of, is_refused, by_crew, job_of, items_of, most_ahead, StartsSteady};
 
 use crate::walk_dir::WalkDirGeneric;
-use jwalk_crew::pool::Pool;
-use jwalk_crew::session::Session;
 use jwalk_entries::dir_entry_iter::DirEntryIter;
 use jwalk_read::client_state::ClientState;
 use jwalk_read::dir_entry::DirEntry;
@@ -25,6 +23,8 @@ use jwalk_read::process_read_dir::ProcessReadDir;
 use jwalk_read::read_dir::ReadDir;
 use jwalk_readings::crew_reads::CrewReads;
 use jwalk_readings::read_dir_iter::ReadDirIter;
+use jwalk_readings::readers::Readers;
+use jwalk_readings::session::Session;
 use std::alloc::Allocator;
 use std::sync::{Arc, Wait};
 use std::thread::Threads;
@@ -93,7 +93,7 @@ fn begun<
     S: FileSystem,
     P: ProcessReadDir<C, A>,
     A: Allocator + Copy,
-    L: Pool<C, S, P, A>,
+    L: Readers<C, S, P, A>,
 >(
     reads: CrewReads<C, S, P, A, L>,
     read: ReadDir<C, A>,
@@ -113,7 +113,7 @@ pub(super) fn from_root_alone<
     S: FileSystem,
     P: ProcessReadDir<C, A>,
     A: Allocator + Copy,
-    L: Pool<C, S, P, A>,
+    L: Readers<C, S, P, A>,
 >(
     alloc: A,
     job: Job<C, S, P, A>,
@@ -121,9 +121,9 @@ pub(super) fn from_root_alone<
 ) -> (DirEntryIter<C, S, P, A, L>, Option<NotStarted>)
     requires { IfSome read (λ r. AtDepth 0 (reading r).list) }
     ensures from_root { IsFromRoot C.ReadDirState.Clone (option_map reading read) job result.1 result.0 }
-    ensures most { most_ahead L.Pool result.0 ≡ 0 }
+    ensures most { most_ahead L.Readers result.0 ≡ 0 }
     ensures steady { StartsSteady S.FileSystem P.ProcessReadDir C.ReadDirState.Clone C.DirEntryState.Default
-        L.Pool result.0 }
+        L.Readers result.0 }
 {
     let walk = DirEntryIter::from_root(alloc, job, read);
     if walk.is_refused() {
@@ -154,7 +154,7 @@ where
         (children (reading read.now)) (reads_by.to_read reads.new)) }
     ensures begins { OnOk result (reads_by.BeginsBy (λ session origin addresses.
         (origin_of session ≡ origin) × (awaited_by session ≡ addresses)) reads.new) }
-    ensures most { OnOk result (reads_by.most_ahead ⟦<Session<R, C, S, P, A> as Pool<C, S, P, A>>⟧ reads.new
+    ensures most { OnOk result (reads_by.most_ahead ⟦<Session<R, C, S, P, A> as Readers<C, S, P, A>>⟧ reads.new
         ≡ limit_of (arc_value crew.now) + 1) }
     ensures unchanged { OnErr result (reads.new ≡ reads.old) }
 {
@@ -187,14 +187,14 @@ where
         requires lawful { P.IsLawful (callback (reads_by.job_of reads)) }
         requires nothing { reads_by.to_read reads ≡ [] }
         requires steady { reads_by.StartsSteady S.FileSystem P.ProcessReadDir C.ReadDirState.Clone
-            C.DirEntryState.Default ⟦<Session<R, C, S, P, A> as Pool<C, S, P, A>>⟧ reads }
+            C.DirEntryState.Default ⟦<Session<R, C, S, P, A> as Readers<C, S, P, A>>⟧ reads }
         ensures by { by_crew result.0 ≡ true }
         ensures job { job_of result.0 ≡ reads_by.job_of reads }
         ensures begun { IsBegun C.ReadDirState.Clone (Some (reading read)) result.1 result.0 }
-        ensures most { most_ahead ⟦<Session<R, C, S, P, A> as Pool<C, S, P, A>>⟧ result.0
-            ≤ max (reads_by.most_ahead ⟦<Session<R, C, S, P, A> as Pool<C, S, P, A>>⟧ reads) (limit_of (arc_value crew.now) + 1) }
+        ensures most { most_ahead ⟦<Session<R, C, S, P, A> as Readers<C, S, P, A>>⟧ result.0
+            ≤ max (reads_by.most_ahead ⟦<Session<R, C, S, P, A> as Readers<C, S, P, A>>⟧ reads) (limit_of (arc_value crew.now) + 1) }
         ensures steady { StartsSteady S.FileSystem P.ProcessReadDir C.ReadDirState.Clone C.DirEntryState.Default
-            ⟦<Session<R, C, S, P, A> as Pool<C, S, P, A>>⟧ result.0 }
+            ⟦<Session<R, C, S, P, A> as Readers<C, S, P, A>>⟧ result.0 }
     {
         let why_not = start_reads(&mut reads, crew, busy_timeout, &read).err();
         (begun(reads, read, why_not), why_not)
@@ -215,9 +215,9 @@ where
         requires depth { IfSome read (λ r. AtDepth 0 (reading r).list) }
         ensures from_root { IsFromRoot C.ReadDirState.Clone (option_map reading read) job result.1 result.0 }
         ensures by { (result.1 ≡ Some NotStarted.Memory) ⊎ (by_crew result.0 ≡ true) }
-        ensures most { most_ahead ⟦<Session<R, C, S, P, A> as Pool<C, S, P, A>>⟧ result.0 ≤ limit_of (arc_value crew.now) + 1 }
+        ensures most { most_ahead ⟦<Session<R, C, S, P, A> as Readers<C, S, P, A>>⟧ result.0 ≤ limit_of (arc_value crew.now) + 1 }
         ensures steady { StartsSteady S.FileSystem P.ProcessReadDir C.ReadDirState.Clone C.DirEntryState.Default
-            ⟦<Session<R, C, S, P, A> as Pool<C, S, P, A>>⟧ result.0 }
+            ⟦<Session<R, C, S, P, A> as Readers<C, S, P, A>>⟧ result.0 }
     {
         let Some(read) = read else {
             return (DirEntryIter::refused(alloc, job), Some(NotStarted::Memory));

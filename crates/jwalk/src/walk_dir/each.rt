@@ -4,12 +4,12 @@ ghost use Rattle.jwalk.specs.Each.{BeginsAlone, BeginsOver, CallsWithEach, Calls
 ghost use Rattle.jwalk.specs.WalkDir.{callback_of};
 
 use crate::walk_dir::WalkDirGeneric;
-use jwalk_crew::pool::{NoPool, Pool};
-use jwalk_crew::session::Session;
 use jwalk_read::client_state::ClientState;
 use jwalk_read::dir_entry::DirEntry;
 use jwalk_read::error::Error;
 use jwalk_read::process_read_dir::ProcessReadDir;
+use jwalk_readings::readers::{NoCrew, Readers};
+use jwalk_readings::session::Session;
 use std::alloc::{AllocError, Global};
 use std::sync::Wait;
 use std::thread::Threads;
@@ -22,7 +22,7 @@ impl<C: ClientState, S: FileSystem, P: ProcessReadDir<C, Global>> WalkDirGeneric
     S,
     P,
     Global,
-    NoPool,
+    NoCrew,
 > {
     /// Begins the walk as `into_iter` does, and calls a closure with each of its answers, in order.
     pub fn for_each<F: FnMut(Result<DirEntry<C, Global>, Error<Global>>)>(self, f: F)
@@ -31,7 +31,7 @@ impl<C: ClientState, S: FileSystem, P: ProcessReadDir<C, Global>> WalkDirGeneric
         ensures { CallsWithEach
             (BeginsAlone S.FileSystem P.ProcessReadDir C.ReadDirState.Clone C.DirEntryState.Default self)
             (Answers S.FileSystem P.ProcessReadDir C.ReadDirState.Clone C.DirEntryState.Default
-            ⟦<NoPool as Pool<C, S, P, Global>>⟧) F.FnMut f }
+            ⟦<NoCrew as Readers<C, S, P, Global>>⟧) F.FnMut f }
     {
         self.into_iter().for_each(f)
     }
@@ -51,7 +51,7 @@ impl<C: ClientState, S: FileSystem, P: ProcessReadDir<C, Global>> WalkDirGeneric
         ensures { CallsUntilError
             (BeginsAlone S.FileSystem P.ProcessReadDir C.ReadDirState.Clone C.DirEntryState.Default self)
             (Answers S.FileSystem P.ProcessReadDir C.ReadDirState.Clone C.DirEntryState.Default
-            ⟦<NoPool as Pool<C, S, P, Global>>⟧) F.FnMut f result }
+            ⟦<NoCrew as Readers<C, S, P, Global>>⟧) F.FnMut f result }
     {
         self.into_iter().try_for_each(f)
     }
@@ -70,7 +70,7 @@ impl<C: ClientState, S: FileSystem, P: ProcessReadDir<C, Global>> WalkDirGeneric
         ensures { Appends
             (BeginsAlone S.FileSystem P.ProcessReadDir C.ReadDirState.Clone C.DirEntryState.Default self)
             (Answers S.FileSystem P.ProcessReadDir C.ReadDirState.Clone C.DirEntryState.Default
-            ⟦<NoPool as Pool<C, S, P, Global>>⟧) out.old.items result out.new.items }
+            ⟦<NoCrew as Readers<C, S, P, Global>>⟧) out.old.items result out.new.items }
     {
         out.extend(self.into_iter())
     }
@@ -94,9 +94,9 @@ where
         requires callable { F.IsAlwaysCallable f }
         ensures { CallsWithEach
             (BeginsOver S.FileSystem P.ProcessReadDir C.ReadDirState.Clone C.DirEntryState.Default
-            ⟦<Session<R, C, S, P, Global> as Pool<C, S, P, Global>>⟧ self)
+            ⟦<Session<R, C, S, P, Global> as Readers<C, S, P, Global>>⟧ self)
             (Answers S.FileSystem P.ProcessReadDir C.ReadDirState.Clone C.DirEntryState.Default
-            ⟦<Session<R, C, S, P, Global> as Pool<C, S, P, Global>>⟧) F.FnMut f }
+            ⟦<Session<R, C, S, P, Global> as Readers<C, S, P, Global>>⟧) F.FnMut f }
     {
         let walk = self.into_iter();
         walk.for_each(f)
@@ -118,9 +118,9 @@ where
         requires callable { F.IsAlwaysCallable f }
         ensures { CallsUntilError
             (BeginsOver S.FileSystem P.ProcessReadDir C.ReadDirState.Clone C.DirEntryState.Default
-            ⟦<Session<R, C, S, P, Global> as Pool<C, S, P, Global>>⟧ self)
+            ⟦<Session<R, C, S, P, Global> as Readers<C, S, P, Global>>⟧ self)
             (Answers S.FileSystem P.ProcessReadDir C.ReadDirState.Clone C.DirEntryState.Default
-            ⟦<Session<R, C, S, P, Global> as Pool<C, S, P, Global>>⟧) F.FnMut f result }
+            ⟦<Session<R, C, S, P, Global> as Readers<C, S, P, Global>>⟧) F.FnMut f result }
     {
         let mut walk = self.into_iter();
         walk.try_for_each(f)
@@ -141,9 +141,9 @@ where
         requires { P.IsLawful (callback_of self) }
         ensures { Appends
             (BeginsOver S.FileSystem P.ProcessReadDir C.ReadDirState.Clone C.DirEntryState.Default
-            ⟦<Session<R, C, S, P, Global> as Pool<C, S, P, Global>>⟧ self)
+            ⟦<Session<R, C, S, P, Global> as Readers<C, S, P, Global>>⟧ self)
             (Answers S.FileSystem P.ProcessReadDir C.ReadDirState.Clone C.DirEntryState.Default
-            ⟦<Session<R, C, S, P, Global> as Pool<C, S, P, Global>>⟧) out.old.items result out.new.items }
+            ⟦<Session<R, C, S, P, Global> as Readers<C, S, P, Global>>⟧) out.old.items result out.new.items }
     {
         out.extend(self.into_iter())
     }

@@ -7,8 +7,6 @@ ghost use Rattle.jwalk_read.specs.Error.{failure};
 
 use crate::walk_dir::WalkDirGeneric;
 use crate::walk_dir::crew_start::{CrewWalk, from_root_alone};
-use jwalk_crew::pool::Pool;
-use jwalk_crew::session::Session;
 use jwalk_entries::dir_entry_iter::DirEntryIter;
 use jwalk_read::client_state::ClientState;
 use jwalk_read::error::Error;
@@ -16,6 +14,8 @@ use jwalk_read::job::Job;
 use jwalk_read::mode::Mode;
 use jwalk_read::process_read_dir::{NoProcess, ProcessReadDir};
 use jwalk_readings::crew_reads::started::error_of;
+use jwalk_readings::readers::Readers;
+use jwalk_readings::session::Session;
 use std::alloc::Allocator;
 use std::sync::Wait;
 use std::thread::Threads;
@@ -77,9 +77,9 @@ where
         ensures starts { Starts self result.0 }
         ensures begins { Begins S.FileSystem P.ProcessReadDir C.ReadDirState.Clone C.DirEntryState.Default
             self result.1 result.0 }
-        ensures most { KeepsLimit ⟦<Session<R, C, S, P, A> as Pool<C, S, P, A>>⟧ self result.0 }
+        ensures most { KeepsLimit ⟦<Session<R, C, S, P, A> as Readers<C, S, P, A>>⟧ self result.0 }
         ensures steady { StartsSteady S.FileSystem P.ProcessReadDir C.ReadDirState.Clone C.DirEntryState.Default
-            ⟦<Session<R, C, S, P, A> as Pool<C, S, P, A>>⟧ result.0 }
+            ⟦<Session<R, C, S, P, A> as Readers<C, S, P, A>>⟧ result.0 }
     {
         let alloc = *self.root.allocator();
         let WalkDirGeneric {
@@ -112,9 +112,9 @@ where
         ensures starts { IfOk result (Starts self) }
         ensures begins { IfOk result (Begins S.FileSystem P.ProcessReadDir C.ReadDirState.Clone
             C.DirEntryState.Default self None) }
-        ensures most { IfOk result (KeepsLimit ⟦<Session<R, C, S, P, A> as Pool<C, S, P, A>>⟧ self) }
+        ensures most { IfOk result (KeepsLimit ⟦<Session<R, C, S, P, A> as Readers<C, S, P, A>>⟧ self) }
         ensures steady { IfOk result (StartsSteady S.FileSystem P.ProcessReadDir C.ReadDirState.Clone
-            C.DirEntryState.Default ⟦<Session<R, C, S, P, A> as Pool<C, S, P, A>>⟧) }
+            C.DirEntryState.Default ⟦<Session<R, C, S, P, A> as Readers<C, S, P, A>>⟧) }
         ensures fails { IfErr result (λ error. (failure error ≡ memory)
             ⊎ ((failure error ≡ busy) × ((options_of self).parallelism ≡ parallelism.crew))) }
     {
@@ -132,9 +132,9 @@ where
         ensures starts { Starts self result }
         ensures begins { (why_not : _) × Begins S.FileSystem P.ProcessReadDir C.ReadDirState.Clone
             C.DirEntryState.Default self why_not result }
-        ensures most { KeepsLimit ⟦<Session<R, C, S, P, A> as Pool<C, S, P, A>>⟧ self result }
+        ensures most { KeepsLimit ⟦<Session<R, C, S, P, A> as Readers<C, S, P, A>>⟧ self result }
         ensures steady { StartsSteady S.FileSystem P.ProcessReadDir C.ReadDirState.Clone C.DirEntryState.Default
-            ⟦<Session<R, C, S, P, A> as Pool<C, S, P, A>>⟧ result }
+            ⟦<Session<R, C, S, P, A> as Readers<C, S, P, A>>⟧ result }
     {
         let (walk, _) = self.begin_by();
         walk

@@ -3,11 +3,11 @@ ghost use Rattle.std.specs.Prelude.{◌≡◌, ◌≢◌, true, []};
 ghost use Rattle.jwalk_read.specs.Job.{callback};
 
 use crate::dir_entry_iter::DirEntryIter;
-use jwalk_crew::pool::{Missed, Pool};
 use jwalk_read::client_state::ClientState;
 use jwalk_read::dir_entry::DirEntry;
 use jwalk_read::error::Error;
 use jwalk_read::process_read_dir::ProcessReadDir;
+use jwalk_readings::readers::{Missed, Readers};
 use std::alloc::{AllocError, Allocator};
 use std::thread::Threads;
 use walk_fs::file_system::FileSystem;
@@ -17,7 +17,7 @@ impl<
     S: FileSystem + Send + Sync,
     P: ProcessReadDir<C, A> + Send + Sync,
     A: Allocator + Copy + Send + Sync,
-    L: Pool<C, S, P, A>,
+    L: Readers<C, S, P, A>,
 > DirEntryIter<C, S, P, A, L>
 where
     C::ReadDirState: Send,
@@ -40,7 +40,7 @@ where
     /// directory.
     fn prepare_on<R: Threads + Sync>(&mut self, rt: &R) -> Result<(), AllocError>
         requires { P.IsLawful (callback (job_of self.old)) }
-        ensures { Prepares S.FileSystem P.ProcessReadDir C.ReadDirState.Clone C.DirEntryState.Default L.Pool
+        ensures { Prepares S.FileSystem P.ProcessReadDir C.ReadDirState.Clone C.DirEntryState.Default L.Readers
             self.old result self.new }
     {
         if !self.is_at_directory() {
@@ -55,7 +55,7 @@ where
         rt: &R,
     ) -> Result<Option<Result<DirEntry<C, A>, Error<A>>>, Missed>
         requires { P.IsLawful (callback (job_of self.old)) }
-        ensures { Passes S.FileSystem P.ProcessReadDir C.ReadDirState.Clone C.DirEntryState.Default L.Pool
+        ensures { Passes S.FileSystem P.ProcessReadDir C.ReadDirState.Clone C.DirEntryState.Default L.Readers
             self.old result self.new }
     {
         self.prepare_on(rt)?;
@@ -68,7 +68,7 @@ where
         rt: &R,
     ) -> Result<Option<Result<DirEntry<C, A>, Error<A>>>, Missed>
         requires { P.IsLawful (callback (job_of self.old)) }
-        ensures { GoesOn S.FileSystem P.ProcessReadDir C.ReadDirState.Clone C.DirEntryState.Default L.Pool
+        ensures { GoesOn S.FileSystem P.ProcessReadDir C.ReadDirState.Clone C.DirEntryState.Default L.Readers
             self.old result self.new }
     {
         while let Some(passed) = self.pass_on(rt)? {
@@ -87,7 +87,7 @@ where
     /// block for a reading or for a lock.
     pub fn next_on<R: Threads + Sync>(&mut self, rt: &R) -> Option<Result<DirEntry<C, A>, Error<A>>>
         requires { P.IsLawful (callback (job_of self.old)) }
-        ensures { Answers S.FileSystem P.ProcessReadDir C.ReadDirState.Clone C.DirEntryState.Default L.Pool
+        ensures { Answers S.FileSystem P.ProcessReadDir C.ReadDirState.Clone C.DirEntryState.Default L.Readers
             self.old result self.new }
     {
         if self.refused {
@@ -111,7 +111,7 @@ where
         out: &mut Vec<Result<DirEntry<C, A>, Error<A>>, A>,
     ) -> Result<usize, AllocError>
         requires { P.IsLawful (callback (job_of self.old)) }
-        ensures { Fills S.FileSystem P.ProcessReadDir C.ReadDirState.Clone C.DirEntryState.Default L.Pool
+        ensures { Fills S.FileSystem P.ProcessReadDir C.ReadDirState.Clone C.DirEntryState.Default L.Readers
             n self.old out.old.items result out.new.items self.new }
     {
         let mut filled = 0;

@@ -5,14 +5,14 @@ ghost use Rattle.jwalk_read.specs.Error.{failure};
 ghost use Rattle.jwalk_read.specs.ReadDirSpec.{spec};
 ghost use Rattle.jwalk_read.specs.Job.{callback};
 ghost use Rattle.tree_crew.specs.Crew.{limit_of};
-ghost use Rattle.jwalk_crew.specs.Origin.{CountAlike};
-ghost use Rattle.jwalk_crew.specs.Session.{origin_of, awaited_by};
+ghost use Rattle.jwalk_readings.specs.Origin.{CountAlike};
+ghost use Rattle.jwalk_readings.specs.Session.{origin_of, awaited_by};
 ghost use Rattle.jwalk_readings.specs.CrewReads.{job_of, to_read, start_failure, most_ahead, BeginsBy};
 
 use crate::crew_reads::CrewReads;
-use jwalk_crew::origin::Origin;
-use jwalk_crew::pool::Pool;
-use jwalk_crew::session::Session;
+use crate::origin::Origin;
+use crate::readers::Readers;
+use crate::session::Session;
 use jwalk_order::ordered_queue::OrderedMatcher;
 use jwalk_read::client_state::ClientState;
 use jwalk_read::error::Error;
@@ -66,7 +66,7 @@ where
         ensures to_read { OnOk result (to_read self.new ≡ map spec own.items) }
         ensures begins { OnOk result (BeginsBy (λ session origin addresses.
             (origin_of session ≡ origin) × (awaited_by session ≡ addresses)) self.new) }
-        ensures most { OnOk result (most_ahead ⟦<Session<R, C, S, P, A> as Pool<C, S, P, A>>⟧ self.new
+        ensures most { OnOk result (most_ahead ⟦<Session<R, C, S, P, A> as Readers<C, S, P, A>>⟧ self.new
             ≡ limit_of (arc_value crew.now) + 1) }
         ensures unchanged { OnErr result (self.new ≡ self.old) }
     {
@@ -74,7 +74,7 @@ where
         let job = self.job.clone()?;
         let place = Place::take(crew, busy_timeout)?;
         let origin = Origin::new(job, own);
-        self.pool = Some(Session::start(place, &origin, shared)?);
+        self.readers = Some(Session::start(place, &origin, shared)?);
         let mut own = origin.into_roots();
         own.reverse();
         self.unread = own;
@@ -94,7 +94,7 @@ where
         ensures to_read { IfOk result (λ reads. to_read reads ≡ map spec roots.items) }
         ensures begins { IfOk result (BeginsBy (λ session origin addresses.
             (origin_of session ≡ origin) × (awaited_by session ≡ addresses))) }
-        ensures most { IfOk result (λ reads. most_ahead ⟦<Session<R, C, S, P, A> as Pool<C, S, P, A>>⟧ reads
+        ensures most { IfOk result (λ reads. most_ahead ⟦<Session<R, C, S, P, A> as Readers<C, S, P, A>>⟧ reads
             ≡ limit_of (arc_value crew.now) + 1) }
     {
         let shared = roots.clone()?;

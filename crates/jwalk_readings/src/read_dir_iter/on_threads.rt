@@ -5,7 +5,7 @@ ghost use Rattle.jwalk_read.specs.ReadDir.{outcome};
 ghost use Rattle.jwalk_read.specs.Job.{callback};
 
 use crate::read_dir_iter::ReadDirIter;
-use jwalk_crew::pool::Pool;
+use crate::readers::Readers;
 use jwalk_read::client_state::ClientState;
 use jwalk_read::dir_entry::DirEntry;
 use jwalk_read::error::Error;
@@ -20,7 +20,7 @@ impl<
     S: FileSystem + Send + Sync,
     P: ProcessReadDir<C, A> + Send + Sync,
     A: Allocator + Copy + Send + Sync,
-    L: Pool<C, S, P, A>,
+    L: Readers<C, S, P, A>,
 > ReadDirIter<C, S, P, A, L>
 where
     C::ReadDirState: Send,
@@ -39,7 +39,7 @@ where
     /// If memory runs out. Then nothing is left to be read.
     pub fn prepare_on<R: Threads + Sync>(&mut self, rt: &R) -> Result<(), AllocError>
         requires { P.IsLawful (callback (job_of self.old)) }
-        ensures { Prepares S.FileSystem P.ProcessReadDir C.ReadDirState.Clone C.DirEntryState.Default L.Pool
+        ensures { Prepares S.FileSystem P.ProcessReadDir C.ReadDirState.Clone C.DirEntryState.Default L.Readers
             self.old result self.new }
     {
         match self {
@@ -52,7 +52,7 @@ where
     /// together. `while let Some(read) = reads.next_on(&rt)` is the loop that uses several threads.
     pub fn next_on<R: Threads + Sync>(&mut self, rt: &R) -> Option<Outcome<C, A>>
         requires { P.IsLawful (callback (job_of self.old)) }
-        ensures { Gives S.FileSystem P.ProcessReadDir C.ReadDirState.Clone C.DirEntryState.Default L.Pool false
+        ensures { Gives S.FileSystem P.ProcessReadDir C.ReadDirState.Clone C.DirEntryState.Default L.Readers false
             self.old result self.new }
     {
         match self.prepare_on(rt) {
@@ -70,13 +70,13 @@ where
     ) -> Option<Outcome<C, A>>
         requires lawful { P.IsLawful (callback (job_of self.old)) }
         requires has_directory { IsSome found.now.read_children }
-        ensures gives { Gives S.FileSystem P.ProcessReadDir C.ReadDirState.Clone C.DirEntryState.Default L.Pool
+        ensures gives { Gives S.FileSystem P.ProcessReadDir C.ReadDirState.Clone C.DirEntryState.Default L.Readers
             (by_crew self.old) self.old result self.new }
         ensures next { IsNextBelow (by_crew self.old) (Ok (entry found.now)) (to_read self.old)
-            → Gives S.FileSystem P.ProcessReadDir C.ReadDirState.Clone C.DirEntryState.Default L.Pool false
+            → Gives S.FileSystem P.ProcessReadDir C.ReadDirState.Clone C.DirEntryState.Default L.Readers false
             self.old result self.new }
         ensures of { GivesFirst (by_crew self.old) C.ReadDirState.Clone (KnownOf S.FileSystem P.ProcessReadDir
-            C.ReadDirState.Clone C.DirEntryState.Default L.Pool self.old (Ok (entry found.now)))
+            C.ReadDirState.Clone C.DirEntryState.Default L.Readers self.old (Ok (entry found.now)))
             (greatest_depth (job_of self.old)) (to_read self.old) (option_map outcome result) (to_read self.new) }
     {
         prove!(found.read_children.is_some());

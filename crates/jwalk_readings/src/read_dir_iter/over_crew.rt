@@ -11,8 +11,8 @@ use crate::crew_reads::CrewReads;
 use crate::crew_reads::started::error_of;
 use crate::parallelism::Parallelism;
 use crate::read_dir_iter::ReadDirIter;
-use jwalk_crew::pool::Pool;
-use jwalk_crew::session::Session;
+use crate::readers::Readers;
+use crate::session::Session;
 use jwalk_read::client_state::ClientState;
 use jwalk_read::error::Error;
 use jwalk_read::job::Job;
@@ -63,9 +63,9 @@ where
         ensures read_ahead { IfOk result (λ reads. by_crew reads ≡ false
             → BeginsWith (map spec roots.items) (read_ahead reads)) }
         ensures most { IfOk result (λ reads. IfSome (crew_of parallelism) (λ own.
-            most_ahead ⟦<Session<R, C, S, P, A> as Pool<C, S, P, A>>⟧ reads ≡ limit_of (arc_value own.0) + 1)) }
+            most_ahead ⟦<Session<R, C, S, P, A> as Readers<C, S, P, A>>⟧ reads ≡ limit_of (arc_value own.0) + 1)) }
         ensures steady { IfOk result (StartsSteady S.FileSystem P.ProcessReadDir C.ReadDirState.Clone
-            C.DirEntryState.Default ⟦<Session<R, C, S, P, A> as Pool<C, S, P, A>>⟧) }
+            C.DirEntryState.Default ⟦<Session<R, C, S, P, A> as Readers<C, S, P, A>>⟧) }
         ensures fails { IfErr result (λ error. (failure error ≡ memory)
             ⊎ ((failure error ≡ busy) × (parallelism_value parallelism ≡ value.crew))) }
     {

@@ -9,5 +9,5 @@ invariant-loop g l =
     record {
       lawful : g.P.ProcessReadDir.IsLawful (callback (job_of l.walk));
       crew : by_crew l.walk ≡ true;
-      most : most_ahead g.L.Pool l.walk ≤ most_ahead g.L.Pool l.fn.walk;
+      most : most_ahead g.L.Readers l.walk ≤ most_ahead g.L.Readers l.fn.walk;
     }

@@ -16,14 +16,14 @@ returns-clause-each g c = λ began goes_on.
     let call = c.next-answer.ensures.steps in
     let before = c.ahead-before.ensures.alone c.requires.alone in
     let after = c.ahead.ensures.alone (call.crew ∙ c.requires.alone) in
-    let grown = grows_unless g.S.FileSystem g.P.ProcessReadDir g.C.ReadDirState.Clone g.C.DirEntryState.Default g.L.Pool c.args.walk.now c.next-answer.new.self c.next-answer.result call c.requires.alone began goes_on in
+    let grown = grows_unless g.S.FileSystem g.P.ProcessReadDir g.C.ReadDirState.Clone g.C.DirEntryState.Default g.L.Readers c.args.walk.now c.next-answer.new.self c.next-answer.result call c.requires.alone began goes_on in
     (grown, omega (arith, before, after, grows_each _ _ _ _ _ c.args.walk.now c.next-answer.new.self c.next-answer.result grown))
 
 pub returns-clause-stopped : goal.returns-clause-stopped
 returns-clause-stopped g c = λ stops.
     let call = c.next-answer.ensures.steps in
     let after = c.ahead.ensures.alone (call.crew ∙ c.requires.alone) in
-    after ∙ none_ahead g.S.FileSystem g.P.ProcessReadDir g.C.ReadDirState.Clone g.C.DirEntryState.Default g.L.Pool c.args.walk.now c.next-answer.new.self c.next-answer.result _ (option_map item c.next-answer.result) stops
+    after ∙ none_ahead g.S.FileSystem g.P.ProcessReadDir g.C.ReadDirState.Clone g.C.DirEntryState.Default g.L.Readers c.args.walk.now c.next-answer.new.self c.next-answer.result _ (option_map item c.next-answer.result) stops
 
 pub returns-clause-crew : goal.returns-clause-crew
 returns-clause-crew g c = c.next-answer.ensures.steps.crew

@@ -7,7 +7,7 @@ use Rattle.proved_walk.proofs.batches.count_in_batches.Given as goal
 abbrev pub invariant-loop-found : goal.invariant-loop-found
 invariant-loop-found g l =
     (answered : List _)
-    × Yields (Answers g.S.FileSystem g.P.ProcessReadDir g.C.ReadDirState.Clone g.C.DirEntryState.Default g.L.Pool) l.fn.walk answered l.walk
+    × Yields (Answers g.S.FileSystem g.P.ProcessReadDir g.C.ReadDirState.Clone g.C.DirEntryState.Default g.L.Readers) l.fn.walk answered l.walk
     × (l.count ≡ min (length answered) (2 ^ 64 - 1))
     × (l.found.items ≡ [])
     × (job_of l.walk ≡ job_of l.fn.walk)

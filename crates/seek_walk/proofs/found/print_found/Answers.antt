@@ -11,7 +11,7 @@ use Rattle.seek_walk.proofs.found.print_found.Goals as goal
 pub loop-answer-init : goal.loop-answer-init
 loop-answer-init g c = record {
   lawful = c.requires;
-  so_far = none_found (Answers g.S.FileSystem g.P.ProcessReadDir g.C.ReadDirState.Clone g.C.DirEntryState.Default g.L.Pool) c.args.walk.now
+  so_far = none_found (Answers g.S.FileSystem g.P.ProcessReadDir g.C.ReadDirState.Clone g.C.DirEntryState.Default g.L.Readers) c.args.walk.now
       (sought_of g.T.NameTest.takes c.args.printer.now.filter) (style_of c.args.printer.now.lines)
       (append_known (g.W.Write.contents c.args.out.now) (gathered_of c.args.printer.now.lines));
   sought = refl;
@@ -28,7 +28,7 @@ loop-answer-preserved g c =
     let printed = subst (λ s. Appends old new (found_line s (style_of c.loop-answer.printer.lines) answer)) held.sought c.in_ok-clean.ensures.printed in
     record {
       lawful = rw c.in-Some.ensures.steps.job held.lawful;
-      so_far = one_found (Answers g.S.FileSystem g.P.ProcessReadDir g.C.ReadDirState.Clone g.C.DirEntryState.Default g.L.Pool) c.args.walk.now
+      so_far = one_found (Answers g.S.FileSystem g.P.ProcessReadDir g.C.ReadDirState.Clone g.C.DirEntryState.Default g.L.Readers) c.args.walk.now
           sought (style_of c.args.printer.now.lines) c.loop-answer.walk c.next.new.self
           (append_known (g.W.Write.contents c.args.out.now) (gathered_of c.args.printer.now.lines)) old new
           c.loop-answer.clean c.in_ok-clean.field-0 c.in-Some.answer held.so_far c.in-Some.ensures.steps
@@ -39,7 +39,7 @@ loop-answer-preserved g c =
 
 pub returns-clause-printed : goal.returns-clause-printed
 returns-clause-printed g c =
-    all_found (Answers g.S.FileSystem g.P.ProcessReadDir g.C.ReadDirState.Clone g.C.DirEntryState.Default g.L.Pool) c.args.walk.now
+    all_found (Answers g.S.FileSystem g.P.ProcessReadDir g.C.ReadDirState.Clone g.C.DirEntryState.Default g.L.Readers) c.args.walk.now
     (sought_of g.T.NameTest.takes c.args.printer.now.filter) (style_of c.args.printer.now.lines) c.loop-answer.walk c.next.new.self
     (append_known (g.W.Write.contents c.args.out.now) (gathered_of c.args.printer.now.lines))
     (append_known (g.W.Write.contents c.loop-answer.out) (gathered_of c.loop-answer.printer.lines)) c.loop-answer.clean c.loop-answer.invariant.so_far c.in_default.ensures.steps

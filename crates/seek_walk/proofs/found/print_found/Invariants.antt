@@ -11,7 +11,7 @@ abbrev pub invariant-loop-answer : goal.invariant-loop-answer
 invariant-loop-answer g l =
     record {
       lawful : g.P.ProcessReadDir.IsLawful (callback (job_of l.walk));
-      so_far : FoundSoFar (Answers g.S.FileSystem g.P.ProcessReadDir g.C.ReadDirState.Clone g.C.DirEntryState.Default g.L.Pool) l.fn.walk
+      so_far : FoundSoFar (Answers g.S.FileSystem g.P.ProcessReadDir g.C.ReadDirState.Clone g.C.DirEntryState.Default g.L.Readers) l.fn.walk
           (sought_of g.T.NameTest.takes l.fn.printer.filter) (style_of l.fn.printer.lines) l.walk
           (append_known (g.W.Write.contents l.fn.out) (gathered_of l.fn.printer.lines))
           (append_known (g.W.Write.contents l.out) (gathered_of l.printer.lines)) l.clean;

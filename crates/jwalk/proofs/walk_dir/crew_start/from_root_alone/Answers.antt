@@ -20,13 +20,13 @@ returns-clause-from_root g c =
     alone_from_root g.C.ReadDirState.Clone (option_map reading c.args.read) c.args.job c.from_root-walk.result None is.own (λ no. cc) is.job is.within is.sourced (inr (is.depth started)) is.width is.ahead (λ given counts. held_of given c.args.read c.from_root-walk.result (is.held given counts started))
 
 pub returns-then-is_refused-clause-most : goal.returns-then-is_refused-clause-most
-returns-then-is_refused-clause-most g c = alone_most g.L.Pool (reads_of c.from_root-walk.result) c.from_root-walk.ensures.own
+returns-then-is_refused-clause-most g c = alone_most g.L.Readers (reads_of c.from_root-walk.result) c.from_root-walk.ensures.own
 
 pub returns-clause-most : goal.returns-clause-most
-returns-clause-most g c = alone_most g.L.Pool (reads_of c.from_root-walk.result) c.from_root-walk.ensures.own
+returns-clause-most g c = alone_most g.L.Readers (reads_of c.from_root-walk.result) c.from_root-walk.ensures.own
 
 pub returns-then-is_refused-clause-steady : goal.returns-then-is_refused-clause-steady
-returns-then-is_refused-clause-steady g c = λ given steady. alone_steady g.S.FileSystem g.P.ProcessReadDir g.C.ReadDirState.Clone g.C.DirEntryState.Default g.L.Pool c.from_root-walk.result given c.from_root-walk.ensures.own steady c.from_root-walk.ensures.ahead.done
+returns-then-is_refused-clause-steady g c = λ given steady. alone_steady g.S.FileSystem g.P.ProcessReadDir g.C.ReadDirState.Clone g.C.DirEntryState.Default g.L.Readers c.from_root-walk.result given c.from_root-walk.ensures.own steady c.from_root-walk.ensures.ahead.done
 
 pub returns-clause-steady : goal.returns-clause-steady
-returns-clause-steady g c = λ given steady. alone_steady g.S.FileSystem g.P.ProcessReadDir g.C.ReadDirState.Clone g.C.DirEntryState.Default g.L.Pool c.from_root-walk.result given c.from_root-walk.ensures.own steady c.from_root-walk.ensures.ahead.done
+returns-clause-steady g c = λ given steady. alone_steady g.S.FileSystem g.P.ProcessReadDir g.C.ReadDirState.Clone g.C.DirEntryState.Default g.L.Readers c.from_root-walk.result given c.from_root-walk.ensures.own steady c.from_root-walk.ensures.ahead.done

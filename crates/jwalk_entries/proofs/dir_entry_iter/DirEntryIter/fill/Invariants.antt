@@ -9,7 +9,7 @@ abbrev pub invariant-loop-filled : goal.invariant-loop-filled
 invariant-loop-filled g l =
     record {
       lawful : g.P.ProcessReadDir.IsLawful (callback (job_of l.self));
-      sofar : Filled g.S.FileSystem g.P.ProcessReadDir g.C.ReadDirState.Clone g.C.DirEntryState.Default g.L.Pool l.n l.fn.self l.fn.out.items l.filled l.out.items l.self;
+      sofar : Filled g.S.FileSystem g.P.ProcessReadDir g.C.ReadDirState.Clone g.C.DirEntryState.Default g.L.Readers l.n l.fn.self l.fn.out.items l.filled l.out.items l.self;
     }
 
 abbrev pub decreases-loop-filled : goal.decreases-loop-filled

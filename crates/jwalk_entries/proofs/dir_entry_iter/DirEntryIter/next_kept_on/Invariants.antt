@@ -6,7 +6,7 @@ use Rattle.jwalk_entries.proofs.dir_entry_iter.DirEntryIter.next_kept_on.Given a
 
 -- what was passed over is left out
 abbrev pub invariant-loop-passed : goal.invariant-loop-passed
-invariant-loop-passed g l = PassedOver g.S.FileSystem g.P.ProcessReadDir g.C.ReadDirState.Clone g.C.DirEntryState.Default g.L.Pool l.fn.self l.self
+invariant-loop-passed g l = PassedOver g.S.FileSystem g.P.ProcessReadDir g.C.ReadDirState.Clone g.C.DirEntryState.Default g.L.Readers l.fn.self l.self
 
 abbrev pub decreases-loop-passed : goal.decreases-loop-passed
 decreases-loop-passed g l = weight (greatest_depth (job_of l.self)) (pair_up (items_of l.self) (unread_of l.self))

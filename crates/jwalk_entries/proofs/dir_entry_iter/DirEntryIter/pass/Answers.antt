@@ -26,7 +26,7 @@ returns-in-Some-Err g c =
       refused = refl;
       end = tt;
       steady = λ given steady. steady;
-      passed = passed_alone g.S.FileSystem g.P.ProcessReadDir g.C.ReadDirState.Clone g.C.DirEntryState.Default g.L.Pool old (position_of old) (Err (failure c.in-Some-Err.error)) (map item (reverse c.pop.new.self.items)) items refl;
+      passed = passed_alone g.S.FileSystem g.P.ProcessReadDir g.C.ReadDirState.Clone g.C.DirEntryState.Default g.L.Readers old (position_of old) (Err (failure c.in-Some-Err.error)) (map item (reverse c.pop.new.self.items)) items refl;
       width = refl;
       most = omega arith;
       tells = tt;
@@ -44,7 +44,7 @@ returns-then-is_none g c =
       refused = refl;
       end = tt;
       steady = λ given steady. steady;
-      passed = passed_alone g.S.FileSystem g.P.ProcessReadDir g.C.ReadDirState.Clone g.C.DirEntryState.Default g.L.Pool old (position_of old) (Ok (entry c.in-Some-Ok.found)) (map item (reverse c.pop.new.self.items)) items (is_some-map children c.in-Some-Ok.found.read_children ∙ c.if-is_none.ensures);
+      passed = passed_alone g.S.FileSystem g.P.ProcessReadDir g.C.ReadDirState.Clone g.C.DirEntryState.Default g.L.Readers old (position_of old) (Ok (entry c.in-Some-Ok.found)) (map item (reverse c.pop.new.self.items)) items (is_some-map children c.in-Some-Ok.found.read_children ∙ c.if-is_none.ensures);
       width = refl;
       most = omega arith;
       tells = tt;
@@ -58,17 +58,17 @@ returns-in_ok-entered-in-Some-Ok g c =
     let read = c.read_next in
     let entered = c.in_ok-entered-in-Some-Ok.ensures in
     let items = popped old.items.items c.pop.new.self.items (Ok c.in-Some-Ok.found) (rw c.in-Some-Ok.field-0-is at c.in-Some-Ok.ensures.items) in
-    let next = known_of g.S.FileSystem g.P.ProcessReadDir g.C.ReadDirState.Clone g.C.DirEntryState.Default g.L.Pool old.reads (greatest_depth (job_of old)) (Ok (entry c.in-Some-Ok.found)) (unread_of old) (option_map outcome c.in_ok-read-in-Some-Ok.read) (to_read c.read_next.new.self) (c.if-not-is_next.ensures.below refl) c.in_ok-read-in-Some-Ok.ensures.next in
+    let next = known_of g.S.FileSystem g.P.ProcessReadDir g.C.ReadDirState.Clone g.C.DirEntryState.Default g.L.Readers old.reads (greatest_depth (job_of old)) (Ok (entry c.in-Some-Ok.found)) (unread_of old) (option_map outcome c.in_ok-read-in-Some-Ok.read) (to_read c.read_next.new.self) (c.if-not-is_next.ensures.below refl) c.in_ok-read-in-Some-Ok.ensures.next in
     record {
       crew = ap readings.by_crew entered.reads ∙ read.ensures.crew;
       job = ap readings.job_of entered.reads ∙ read.ensures.job;
       refused = entered.refused;
       end = tt;
       steady = rw entered.reads read.ensures.steady;
-      passed = passed_by_reading g.S.FileSystem g.P.ProcessReadDir g.C.ReadDirState.Clone g.C.DirEntryState.Default g.L.Pool old c.entered.new.self (Ok (entry c.in-Some-Ok.found)) (map item (reverse c.pop.new.self.items)) (option_map outcome c.in_ok-read-in-Some-Ok.read) _ read.new.self
+      passed = passed_by_reading g.S.FileSystem g.P.ProcessReadDir g.C.ReadDirState.Clone g.C.DirEntryState.Default g.L.Readers old c.entered.new.self (Ok (entry c.in-Some-Ok.found)) (map item (reverse c.pop.new.self.items)) (option_map outcome c.in_ok-read-in-Some-Ok.read) _ read.new.self
           items (is_some-map children c.in-Some-Ok.found.read_children ∙ c.if-is_none.ensures) entered.reads next c.in_ok-read-in-Some-Ok.ensures.enters c.in_ok-read-in-Some-Ok.ensures.passes entered.received;
       width = ap readings.width_of entered.reads ∙ read.ensures.width;
-      most = omega (arith, ap (readings.most_ahead g.L.Pool) entered.reads, read.ensures.most);
+      most = omega (arith, ap (readings.most_ahead g.L.Readers) entered.reads, read.ensures.most);
       tells = tt;
       comes = tt;
       stopped = tt;
@@ -89,10 +89,10 @@ returns-in_err-entered-in-Some-Ok g c =
       steady = rw entered.reads read.ensures.steady;
       passed = none_ok _ told.result told.ensures.0;
       width = ap readings.width_of entered.reads ∙ read.ensures.width;
-      most = omega (arith, ap (readings.most_ahead g.L.Pool) entered.reads, read.ensures.most);
+      most = omega (arith, ap (readings.most_ahead g.L.Readers) entered.reads, read.ensures.most);
       tells = tells_refusal (by_crew old) told.result told.ensures.1;
       comes = refused_not_lost _ told.result told.ensures.1;
-      stopped = at_read g.C.ReadDirState.Clone (readings.Known g.S.FileSystem g.P.ProcessReadDir g.C.ReadDirState.Clone g.C.DirEntryState.Default g.L.Pool old.reads) (greatest_depth (job_of old)) outcome c.in_ok-read-in-Some-Ok.read told.result
+      stopped = at_read g.C.ReadDirState.Clone (readings.Known g.S.FileSystem g.P.ProcessReadDir g.C.ReadDirState.Clone g.C.DirEntryState.Default g.L.Readers old.reads) (greatest_depth (job_of old)) outcome c.in_ok-read-in-Some-Ok.read told.result
           (items_of old) (map item (reverse c.pop.new.self.items)) (Ok (entry c.in-Some-Ok.found)) (unread_of old) (to_read read.new.self)
           items (is_some-map children c.in-Some-Ok.found.read_children ∙ c.if-is_none.ensures) entered.stopped c.in_ok-read-in-Some-Ok.ensures.next;
     }

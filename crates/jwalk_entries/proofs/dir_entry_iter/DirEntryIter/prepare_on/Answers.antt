@@ -16,6 +16,6 @@ returns g c =
       width = p.width;
       most = p.most;
       steady = p.steady;
-      prepared = reads_prepared g.S.FileSystem g.P.ProcessReadDir g.C.ReadDirState.Clone g.C.DirEntryState.Default g.L.Pool c.args.self.now c.prepare_on.new.self at c.prepare_on.result p.prepared;
-      stopped = reads_unprepared g.S.FileSystem g.P.ProcessReadDir g.C.ReadDirState.Clone g.C.DirEntryState.Default g.L.Pool c.args.self.now c.prepare_on.new.self at c.prepare_on.result p.some;
+      prepared = reads_prepared g.S.FileSystem g.P.ProcessReadDir g.C.ReadDirState.Clone g.C.DirEntryState.Default g.L.Readers c.args.self.now c.prepare_on.new.self at c.prepare_on.result p.prepared;
+      stopped = reads_unprepared g.S.FileSystem g.P.ProcessReadDir g.C.ReadDirState.Clone g.C.DirEntryState.Default g.L.Readers c.args.self.now c.prepare_on.new.self at c.prepare_on.result p.some;
     }

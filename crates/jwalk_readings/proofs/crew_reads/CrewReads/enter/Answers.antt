@@ -47,7 +47,7 @@ returns-in_err-put_in_front g c =
     let told = c.from_residual-in_err-put_in_front in
     record {
       job = ap job_of c.put_in_front.ensures.others ∙ c.read.ensures.job;
-      most = ap (most_ahead g.L.Pool) c.put_in_front.ensures.others ∙ c.read.ensures.most;
+      most = ap (most_ahead g.L.Readers) c.put_in_front.ensures.others ∙ c.read.ensures.most;
       reading = none_ok _ told.result told.ensures.0;
       stacks = none_ok _ told.result told.ensures.0;
       passes = none_ok _ told.result told.ensures.0;
@@ -66,12 +66,12 @@ returns g c =
     let left = c.in_ok-put_in_front.ensures.to_read ∙ ap (λ l. front ++ l) c.read.ensures.to_read in
     record {
       job = job;
-      most = ap (most_ahead g.L.Pool) c.put_in_front.ensures.others ∙ c.read.ensures.most;
+      most = ap (most_ahead g.L.Readers) c.put_in_front.ensures.others ∙ c.read.ensures.most;
       reading = told_reading g.S.FileSystem g.P.ProcessReadDir g.C.ReadDirState.Clone g.C.DirEntryState.Default (job_of old) (spec c.args.of) (outcome c.in_ok-outcome.outcome) (next_address old) read.told;
       stacks = record { front = front; left = left; clones = c.in_ok-below.ensures };
       passes = ap (λ it. it.matcher) c.put_in_front.ensures.others ∙ read.passed ∙ ap (passed old.matcher) (sym c.if-len-count.false ∙ found);
       value = read.steadily.value (to_read old);
-      steady = λ given steady. front_steady g.S.FileSystem g.P.ProcessReadDir g.C.ReadDirState.Clone g.C.DirEntryState.Default g.L.Pool old c.read.new.self c.put_in_front.new.self front given job c.put_in_front.ensures.others left
+      steady = λ given steady. front_steady g.S.FileSystem g.P.ProcessReadDir g.C.ReadDirState.Clone g.C.DirEntryState.Default g.L.Readers old c.read.new.self c.put_in_front.new.self front given job c.put_in_front.ensures.others left
           (read.steadily.steady (to_read old) front c.in_ok-below.ensures given steady);
       comes = tt;
     }

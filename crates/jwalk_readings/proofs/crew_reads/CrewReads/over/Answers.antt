@@ -16,5 +16,5 @@ returns-clause-begins g c =
     let same = ap (map spec) (ap reverse c.reverse.ensures.items ∙ reverse-reverse c.args.roots.items) in
     record {
       addresses = c.in_ok-matcher.ensures ∙ ap roots (c.len.ensures ∙ c.args.roots.ok.0 ∙ sym (length-map c.args.roots.items spec) ∙ ap length (sym same));
-      pool = refl;
+      readers = refl;
     }

@@ -18,7 +18,7 @@ returns-in-Ok-clause-next g c =
       reading = record {
         lawful = reading.lawful;
         few = reading.few;
-        value = (reading.value, λ given steady. c.in-Ok.ensures.value given (subst (λ l. IsSteadyOver g.S.FileSystem g.P.ProcessReadDir g.C.ReadDirState.Clone g.C.DirEntryState.Default g.L.Pool (job_of old) old.pool old.matcher l given) took steady));
+        value = (reading.value, λ given steady. c.in-Ok.ensures.value given (subst (λ l. IsSteadyOver g.S.FileSystem g.P.ProcessReadDir g.C.ReadDirState.Clone g.C.DirEntryState.Default g.L.Readers (job_of old) old.readers old.matcher l given) took steady));
       };
       stacks = c.in-Ok.ensures.stacks;
     }
@@ -33,7 +33,7 @@ pub returns-in-Ok-clause-steady : goal.returns-in-Ok-clause-steady
 returns-in-Ok-clause-steady g c = λ given steady.
     let old = c.args.self.now in
     let took = popped spec old.unread.items c.pop.new.self.items c.in-Some.of c.in-Some.ensures.items in
-    c.in-Ok.ensures.steady given (subst (λ l. IsSteadyOver g.S.FileSystem g.P.ProcessReadDir g.C.ReadDirState.Clone g.C.DirEntryState.Default g.L.Pool (job_of old) old.pool old.matcher l given) took steady)
+    c.in-Ok.ensures.steady given (subst (λ l. IsSteadyOver g.S.FileSystem g.P.ProcessReadDir g.C.ReadDirState.Clone g.C.DirEntryState.Default g.L.Readers (job_of old) old.readers old.matcher l given) took steady)
 
 pub returns-in-Err-clause-steady : goal.returns-in-Err-clause-steady
 returns-in-Err-clause-steady g c = λ given steady.
@@ -43,4 +43,4 @@ pub returns-in-Err-clause-comes : goal.returns-in-Err-clause-comes
 returns-in-Err-clause-comes g c =
     let old = c.args.self.now in
     let took = popped spec old.unread.items c.pop.new.self.items c.in-Some.of c.in-Some.ensures.items in
-    fewer_not_lost _ _ c.in-Err.missed (λ given steady. subst (λ l. IsSteadyOver g.S.FileSystem g.P.ProcessReadDir g.C.ReadDirState.Clone g.C.DirEntryState.Default g.L.Pool (job_of old) old.pool old.matcher l given) took steady) c.in-Err.ensures.comes
+    fewer_not_lost _ _ c.in-Err.missed (λ given steady. subst (λ l. IsSteadyOver g.S.FileSystem g.P.ProcessReadDir g.C.ReadDirState.Clone g.C.DirEntryState.Default g.L.Readers (job_of old) old.readers old.matcher l given) took steady) c.in-Err.ensures.comes

@@ -11,7 +11,7 @@ use Rattle.jwalk_readings.proofs.read_dir_iter.ReadDirIter.next_of_on.Goals as g
 pub returns-clause-of : goal.returns-clause-of
 returns-clause-of g c =
     let old = c.args.self.now in
-    gives_of g.S.FileSystem g.P.ProcessReadDir g.C.ReadDirState.Clone g.C.DirEntryState.Default g.L.Pool old (greatest_depth (job_of old)) (Ok (entry c.args.found.now)) (to_read old) (option_map outcome c.next_on.result) (to_read c.next_on.new.self) (c.if-not-is_next.ensures.below refl) c.next_on.ensures.first
+    gives_of g.S.FileSystem g.P.ProcessReadDir g.C.ReadDirState.Clone g.C.DirEntryState.Default g.L.Readers old (greatest_depth (job_of old)) (Ok (entry c.args.found.now)) (to_read old) (option_map outcome c.next_on.result) (to_read c.next_on.new.self) (c.if-not-is_next.ensures.below refl) c.next_on.ensures.first
 
 pub returns-clause-gives : goal.returns-clause-gives
-returns-clause-gives g c = gives_any g.S.FileSystem g.P.ProcessReadDir g.C.ReadDirState.Clone g.C.DirEntryState.Default g.L.Pool (by_crew c.args.self.now) c.args.self.now c.next_on.new.self c.next_on.result c.next_on.ensures
+returns-clause-gives g c = gives_any g.S.FileSystem g.P.ProcessReadDir g.C.ReadDirState.Clone g.C.DirEntryState.Default g.L.Readers (by_crew c.args.self.now) c.args.self.now c.next_on.new.self c.next_on.result c.next_on.ensures

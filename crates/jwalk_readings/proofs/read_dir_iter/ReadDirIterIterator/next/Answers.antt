@@ -15,7 +15,7 @@ returns-clause-goes g c =
     let gives = c.next_or_stop.ensures in
     let lawful : g.P.ProcessReadDir.IsLawful (callback (job_of new)) = rw gives.job c.requires in
     let fewer : IfSome c.next_or_stop.result (λ _. spec_weight (greatest_depth (job_of new)) (to_read new) < spec_weight (greatest_depth (job_of old)) (to_read old))
-    = rw gives.job (some_of _ outcome c.next_or_stop.result (gives_fewer g.C.ReadDirState.Clone (Known g.S.FileSystem g.P.ProcessReadDir g.C.ReadDirState.Clone g.C.DirEntryState.Default g.L.Pool old) (job_of old) (to_read old) (to_read new) (by_crew old) (option_map outcome c.next_or_stop.result) gives.first)) in
+    = rw gives.job (some_of _ outcome c.next_or_stop.result (gives_fewer g.C.ReadDirState.Clone (Known g.S.FileSystem g.P.ProcessReadDir g.C.ReadDirState.Clone g.C.DirEntryState.Default g.L.Readers old) (job_of old) (to_read old) (to_read new) (by_crew old) (option_map outcome c.next_or_stop.result) gives.first)) in
     record {
       on = λ f. goes_on c.next_or_stop.result _ lawful fewer;
       keeps = search rules;

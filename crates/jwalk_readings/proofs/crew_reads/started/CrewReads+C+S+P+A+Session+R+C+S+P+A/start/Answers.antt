@@ -4,7 +4,7 @@ use Rattle.jwalk_order.specs.Frontier.{roots}
 use Rattle.jwalk_read.specs.ReadDirSpec.{spec}
 use Rattle.jwalk_read.specs.Job.{callback}
 use Rattle.tree_crew.specs.Crew.{limit_of}
-use Rattle.jwalk_crew.specs.Origin.{begun, CountAlike}
+use Rattle.jwalk_readings.specs.Origin.{begun, CountAlike}
 use Rattle.jwalk_readings.proofs.CrewSteadyFacts.{origin_same, alike_length}
 use Rattle.jwalk_readings.proofs.ResultFacts.{none_on_ok, on_err}
 use Rattle.jwalk_readings.proofs.crew_reads.started.CrewReads+C+S+P+A+Session+R+C+S+P+A.start.Goals as goal
@@ -40,7 +40,7 @@ returns-clause-begins g c =
     = ap (map spec) (ap reverse c.reverse.ensures.items ∙ reverse-reverse c.into_roots-own.result.items ∙ c.into_roots-own.ensures ∙ ap (λ o. o.roots) c.new-origin.ensures) in
     record {
       addresses = c.in_ok-matcher.ensures ∙ ap roots (c.len.ensures ∙ c.args.own.ok.0 ∙ sym (length-map own spec) ∙ ap length (sym same));
-      pool = (c.in_ok-start.ensures.origin ∙ ap begun c.new-origin.ensures ∙ origin_same _ _ _ _ c.in_ok-job.ensures.cases (sym same), c.in_ok-start.ensures.awaits ∙ ap roots (sym (length-map c.args.shared.items spec) ∙ alike_length g.C.ReadDirState.Clone (map spec c.args.shared.items) (map spec own) c.requires.alike ∙ length-map own spec ∙ sym c.args.own.ok.0 ∙ sym c.len.ensures) ∙ sym c.in_ok-matcher.ensures);
+      readers = (c.in_ok-start.ensures.origin ∙ ap begun c.new-origin.ensures ∙ origin_same _ _ _ _ c.in_ok-job.ensures.cases (sym same), c.in_ok-start.ensures.awaits ∙ ap roots (sym (length-map c.args.shared.items spec) ∙ alike_length g.C.ReadDirState.Clone (map spec c.args.shared.items) (map spec own) c.requires.alike ∙ length-map own spec ∙ sym c.args.own.ok.0 ∙ sym c.len.ensures) ∙ sym c.in_ok-matcher.ensures);
     }
 
 pub returns-clause-most : goal.returns-clause-most

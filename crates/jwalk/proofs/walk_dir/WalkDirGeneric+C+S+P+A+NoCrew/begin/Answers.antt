@@ -1,0 +1,42 @@
+use Rattle.std.proofs.Common.{◌≡◌, ◌∙◌, ap}
+use Rattle.walk_model.specs.Options.{Options}
+use Rattle.walk_model.specs.Listing.{paired}
+use Rattle.walk_model.specs.Counted.{Worth}
+use Rattle.walk_model.specs.Job as value
+use Rattle.jwalk_read.specs.ReadDir.{reading}
+use Rattle.jwalk_read.specs.Options.{width_of}
+use Rattle.jwalk_read.specs.Given.{counted_reading}
+use Rattle.jwalk_read.specs.Job.{file_system, callback, options_of, job_by, IsSteady}
+use Rattle.jwalk_entries.specs.DirEntryIter.{held_by}
+use Rattle.jwalk.specs.WalkDir.{job_for, file_system_of, root_of, state_of}
+use Rattle.jwalk.proofs.BeginFacts.{held_view, by_flag}
+use Rattle.jwalk.proofs.walk_dir.WalkDirGeneric+C+S+P+A+NoCrew.begin.Goals as goal
+
+pub returns-clause-starts : goal.returns-clause-starts
+returns-clause-starts g c =
+    let jobs = c.new-job.ensures in
+    record {
+      file_system = ap file_system c.from_root.ensures.job ∙ jobs.file_system;
+      callback = ap callback c.from_root.ensures.job ∙ jobs.callback;
+      options = ap options_of c.from_root.ensures.job ∙ jobs.options;
+      within = c.from_root.ensures.within;
+      sourced = c.from_root.ensures.sourced;
+      start = by_flag c.from_root.result.refused c.from_root.ensures.refused c.from_root.ensures.depth;
+      width = c.from_root.ensures.width ∙ ap (λ o. width_of o.parallelism) jobs.options;
+      ahead = λ alone. c.from_root.ensures.ahead;
+    }
+
+pub returns-clause-holds : goal.returns-clause-holds
+returns-clause-holds g c = λ started given steady.
+    let walk = c.args.self in
+    let made = c.new-job.result in
+    let jobs = c.new-job.ensures in
+    let over : g.row.S.Denot → Options → value.Job Worth Worth = λ fs options. record { fs = g.S.FileSystem.functions fs; options = options; processed = given.processed; default = given.new_entry } in
+    let same : job_by g.S.FileSystem given made ≡ job_for g.S.FileSystem given walk
+    = ap (λ fs. over fs (options_of made)) jobs.file_system ∙ ap (over (file_system_of walk)) jobs.options in
+    let steady_here : IsSteady g.S.FileSystem g.P.ProcessReadDir g.C.ReadDirState.Clone g.C.DirEntryState.Default (file_system made) (callback made) given = rw (jobs.file_system, jobs.callback) steady in
+    let rooted : value.root_list (job_by g.S.FileSystem given made) c.as_str.result.now (given.read_dir_state walk.root_read_dir_state) ≡ value.root_list (job_for g.S.FileSystem given walk) (root_of walk) (given.read_dir_state (state_of walk))
+    = ap (λ k. value.root_list k c.as_str.result.now (given.read_dir_state walk.root_read_dir_state)) same
+    ∙ ap (λ p. value.root_list (job_for g.S.FileSystem given walk) p (given.read_dir_state walk.root_read_dir_state)) c.as_str.ensures.value in
+    held_view (λ r. counted_reading given (reading r)) (value.root_list (job_by g.S.FileSystem given made) c.as_str.result.now (given.read_dir_state walk.root_read_dir_state)) (held_by given c.from_root.result) c.root_list-read.result c.ok.result c.ok.ensures.value (c.from_root.ensures.held given steady.clones started) (c.root_list-read.ensures.value given steady_here)
+    ∙ ap paired rooted

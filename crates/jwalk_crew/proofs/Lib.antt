@@ -1,3 +1,0 @@
-pub mod DueFacts
-pub mod OriginFacts
-mod AtJob

@@ -1,5 +1,0 @@
-pub mod Message
-pub mod Wanted
-pub mod Origin
-pub mod Due
-pub mod Session
