@@ -89,7 +89,7 @@ abbrev pub awaited : {L : Type 0} → Option L → List (List ℕ) → List (Lis
 awaited None addresses = []
 awaited (Some readers) addresses = addresses
 
--- at most how many readings a readers has made and not handed on: none where there is no readers
+-- at most how many readings readers have made and not handed on: none where there are no readers
 abbrev pub most_ready : {L : Type 0} → (L → ℕ) → Option L → ℕ
 most_ready most None = 0
 most_ready most (Some readers) = most readers

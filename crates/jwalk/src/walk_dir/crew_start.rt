@@ -35,6 +35,36 @@ use walk_fs::file_system::FileSystem;
 /// A walk that a crew may read for.
 pub(super) type CrewWalk<R, C, S, P, A> = DirEntryIter<C, S, P, A, Session<R, C, S, P, A>>;
 
+/// A walk at its start.
+#[derive(Drop)]
+pub(super) struct Begun<W> {
+    pub(super) walk: W,
+    // Why its readings didn't begin, if they didn't.
+    pub(super) why_not: Option<NotStarted>,
+}
+
+impl<W> Begun<W> {
+    /// Returns a walk whose readings began.
+    fn reading(walk: W) -> Self
+        ensures { result ≡ record { walk = walk; why_not = None } }
+    {
+        Begun {
+            walk,
+            why_not: None,
+        }
+    }
+
+    /// Returns a walk for whose readings memory ran out.
+    fn refused(walk: W) -> Self
+        ensures { result ≡ record { walk = walk; why_not = Some NotStarted.Memory } }
+    {
+        Begun {
+            walk,
+            why_not: Some(NotStarted::Memory),
+        }
+    }
+}
+
 /// Puts the error that reports a busy crew in place of an entry whose directory is to be read.
 fn make_busy<C: ClientState, A: Allocator + Copy>(found: &mut Result<DirEntry<C, A>, Error<A>>)
     ensures { item found.new ≡ busied (item found.old) }
@@ -88,7 +118,7 @@ fn is_refused(why_not: Option<NotStarted>) -> bool
 }
 
 /// Returns the walk that holds what is left of the root's list after its readings began, or didn't.
-fn begun<
+fn after_start<
     C: ClientState,
     S: FileSystem,
     P: ProcessReadDir<C, A>,
@@ -107,29 +137,25 @@ fn begun<
     DirEntryIter::with_list(ReadDirIter::CrewWalk(reads), list, is_refused(why_not))
 }
 
-/// Returns the walk that begins with the root's list and reads by itself; and why it doesn't begin, if so.
+/// Begins the walk with the root's list, to read by itself.
 pub(super) fn from_root_alone<
     C: ClientState,
     S: FileSystem,
     P: ProcessReadDir<C, A>,
     A: Allocator + Copy,
     L: Readers<C, S, P, A>,
->(
-    alloc: A,
-    job: Job<C, S, P, A>,
-    read: Option<ReadDir<C, A>>,
-) -> (DirEntryIter<C, S, P, A, L>, Option<NotStarted>)
+>(alloc: A, job: Job<C, S, P, A>, read: Option<ReadDir<C, A>>) -> Begun<DirEntryIter<C, S, P, A, L>>
     requires { IfSome read (λ r. AtDepth 0 (reading r).list) }
-    ensures from_root { IsFromRoot C.ReadDirState.Clone (option_map reading read) job result.1 result.0 }
-    ensures most { most_ahead L.Readers result.0 ≡ 0 }
+    ensures from_root { IsFromRoot C.ReadDirState.Clone (option_map reading read) job result.why_not result.walk }
+    ensures most { most_ahead L.Readers result.walk ≡ 0 }
     ensures steady { StartsSteady S.FileSystem P.ProcessReadDir C.ReadDirState.Clone C.DirEntryState.Default
-        L.Readers result.0 }
+        L.Readers result.walk }
 {
     let walk = DirEntryIter::from_root(alloc, job, read);
     if walk.is_refused() {
-        return (walk, Some(NotStarted::Memory));
+        return Begun::refused(walk);
     }
-    (walk, None)
+    Begun::reading(walk)
 }
 
 /// Starts a crew's readings of the directories of a root's list.
@@ -177,54 +203,59 @@ where
     ghost use Rattle.jwalk_read.specs.Job.{options_of};
     ghost use Rattle.jwalk.specs.CrewStart.{IsBegun};
 
-    /// Returns the walk whose directories a crew reads, after its readings began, or didn't; and why they didn't.
+    /// Begins the walk, whose directories a crew reads.
     fn with_reads(
         mut reads: CrewReads<C, S, P, A, Session<R, C, S, P, A>>,
         read: ReadDir<C, A>,
         crew: &Arc<Crew<R>, A>,
         busy_timeout: Option<Duration>,
-    ) -> (CrewWalk<R, C, S, P, A>, Option<NotStarted>)
+    ) -> Begun<CrewWalk<R, C, S, P, A>>
         requires lawful { P.IsLawful (callback (reads_by.job_of reads)) }
         requires nothing { reads_by.to_read reads ≡ [] }
         requires steady { reads_by.StartsSteady S.FileSystem P.ProcessReadDir C.ReadDirState.Clone
             C.DirEntryState.Default ⟦<Session<R, C, S, P, A> as Readers<C, S, P, A>>⟧ reads }
-        ensures by { by_crew result.0 ≡ true }
-        ensures job { job_of result.0 ≡ reads_by.job_of reads }
-        ensures begun { IsBegun C.ReadDirState.Clone (Some (reading read)) result.1 result.0 }
-        ensures most { most_ahead ⟦<Session<R, C, S, P, A> as Readers<C, S, P, A>>⟧ result.0
-            ≤ max (reads_by.most_ahead ⟦<Session<R, C, S, P, A> as Readers<C, S, P, A>>⟧ reads) (limit_of (arc_value crew.now) + 1) }
+        ensures by { by_crew result.walk ≡ true }
+        ensures job { job_of result.walk ≡ reads_by.job_of reads }
+        ensures begun { IsBegun C.ReadDirState.Clone (Some (reading read)) result.why_not result.walk }
+        ensures most { most_ahead ⟦<Session<R, C, S, P, A> as Readers<C, S, P, A>>⟧ result.walk
+            ≤ max (reads_by.most_ahead ⟦<Session<R, C, S, P, A> as Readers<C, S, P, A>>⟧ reads)
+            (limit_of (arc_value crew.now) + 1) }
         ensures steady { StartsSteady S.FileSystem P.ProcessReadDir C.ReadDirState.Clone C.DirEntryState.Default
-            ⟦<Session<R, C, S, P, A> as Readers<C, S, P, A>>⟧ result.0 }
+            ⟦<Session<R, C, S, P, A> as Readers<C, S, P, A>>⟧ result.walk }
     {
         let why_not = start_reads(&mut reads, crew, busy_timeout, &read).err();
-        (begun(reads, read, why_not), why_not)
+        Begun {
+            walk: after_start(reads, read, why_not),
+            why_not,
+        }
     }
 
-    /// Returns the walk that begins with the root's list, whose directories a crew reads; and why it doesn't begin, if
-    /// so. If no place of the crew was free in time, each entry with a directory is replaced by the error that reports
-    /// it. If memory ran out, the walk yields the error that reports it, and nothing else.
+    /// Begins the walk with the root's list, whose directories a crew reads. If no place of the crew was free in time,
+    /// each entry with a directory is replaced by the error that reports it. If memory ran out, the walk yields the error
+    /// that reports it, and nothing else.
     pub(super) fn from_root_by(
         alloc: A,
         job: Job<C, S, P, A>,
         read: Option<ReadDir<C, A>>,
         crew: &Arc<Crew<R>, A>,
         busy_timeout: Option<Duration>,
-    ) -> (CrewWalk<R, C, S, P, A>, Option<NotStarted>)
+    ) -> Begun<CrewWalk<R, C, S, P, A>>
         requires lawful { P.IsLawful (callback job) }
         requires mode { (options_of job).parallelism ≡ parallelism.crew }
         requires depth { IfSome read (λ r. AtDepth 0 (reading r).list) }
-        ensures from_root { IsFromRoot C.ReadDirState.Clone (option_map reading read) job result.1 result.0 }
-        ensures by { (result.1 ≡ Some NotStarted.Memory) ⊎ (by_crew result.0 ≡ true) }
-        ensures most { most_ahead ⟦<Session<R, C, S, P, A> as Readers<C, S, P, A>>⟧ result.0 ≤ limit_of (arc_value crew.now) + 1 }
+        ensures from_root { IsFromRoot C.ReadDirState.Clone (option_map reading read) job result.why_not result.walk }
+        ensures by { (result.why_not ≡ Some NotStarted.Memory) ⊎ (by_crew result.walk ≡ true) }
+        ensures most { most_ahead ⟦<Session<R, C, S, P, A> as Readers<C, S, P, A>>⟧ result.walk
+            ≤ limit_of (arc_value crew.now) + 1 }
         ensures steady { StartsSteady S.FileSystem P.ProcessReadDir C.ReadDirState.Clone C.DirEntryState.Default
-            ⟦<Session<R, C, S, P, A> as Readers<C, S, P, A>>⟧ result.0 }
+            ⟦<Session<R, C, S, P, A> as Readers<C, S, P, A>>⟧ result.walk }
     {
         let Some(read) = read else {
-            return (DirEntryIter::refused(alloc, job), Some(NotStarted::Memory));
+            return Begun::refused(DirEntryIter::refused(alloc, job));
         };
         match CrewReads::new(alloc, job) {
             Ok(reads) => WalkDirGeneric::with_reads(reads, read, crew, busy_timeout),
-            Err(job) => (DirEntryIter::refused(alloc, job), Some(NotStarted::Memory)),
+            Err(job) => Begun::refused(DirEntryIter::refused(alloc, job)),
         }
     }
 }

@@ -6,7 +6,7 @@ ghost use Rattle.walk_model.specs.Error.{memory, busy};
 ghost use Rattle.jwalk_read.specs.Error.{failure};
 
 use crate::walk_dir::WalkDirGeneric;
-use crate::walk_dir::crew_start::{CrewWalk, from_root_alone};
+use crate::walk_dir::crew_start::{Begun, CrewWalk, from_root_alone};
 use jwalk_entries::dir_entry_iter::DirEntryIter;
 use jwalk_read::client_state::ClientState;
 use jwalk_read::error::Error;
@@ -20,7 +20,7 @@ use std::alloc::Allocator;
 use std::sync::Wait;
 use std::thread::Threads;
 use std::time::Clock;
-use tree_crew::crew::{Crew, NotStarted};
+use tree_crew::crew::Crew;
 use walk_fs::file_system::FileSystem;
 
 impl<C: ClientState, S: FileSystem, A: Allocator + Copy, R: Wait + Clock + Drop> WalkDirGeneric<
@@ -71,15 +71,15 @@ where
     ghost use Rattle.jwalk.specs.WalkDir.{callback_of, options_of, Starts, KeepsLimit, Begins};
     ghost use Rattle.jwalk_entries.specs.DirEntryIter.{StartsSteady};
 
-    /// Begins the walk, and returns why it doesn't begin, if so.
-    fn begin_by(self) -> (CrewWalk<R, C, S, P, A>, Option<NotStarted>)
+    /// Begins the walk.
+    fn begin_by(self) -> Begun<CrewWalk<R, C, S, P, A>>
         requires { P.IsLawful (callback_of self) }
-        ensures starts { Starts self result.0 }
+        ensures starts { Starts self result.walk }
         ensures begins { Begins S.FileSystem P.ProcessReadDir C.ReadDirState.Clone C.DirEntryState.Default
-            self result.1 result.0 }
-        ensures most { KeepsLimit ⟦<Session<R, C, S, P, A> as Readers<C, S, P, A>>⟧ self result.0 }
+            self result.why_not result.walk }
+        ensures most { KeepsLimit ⟦<Session<R, C, S, P, A> as Readers<C, S, P, A>>⟧ self result.walk }
         ensures steady { StartsSteady S.FileSystem P.ProcessReadDir C.ReadDirState.Clone C.DirEntryState.Default
-            ⟦<Session<R, C, S, P, A> as Readers<C, S, P, A>>⟧ result.0 }
+            ⟦<Session<R, C, S, P, A> as Readers<C, S, P, A>>⟧ result.walk }
     {
         let alloc = *self.root.allocator();
         let WalkDirGeneric {
@@ -118,9 +118,10 @@ where
         ensures fails { IfErr result (λ error. (failure error ≡ memory)
             ⊎ ((failure error ≡ busy) × ((options_of self).parallelism ≡ parallelism.crew))) }
     {
-        match self.begin_by() {
-            (walk, None) => Ok(walk),
-            (_, Some(why_not)) => Err(error_of(why_not)),
+        let Begun { walk, why_not } = self.begin_by();
+        match why_not {
+            None => Ok(walk),
+            Some(why_not) => Err(error_of(why_not)),
         }
     }
 
@@ -136,7 +137,6 @@ where
         ensures steady { StartsSteady S.FileSystem P.ProcessReadDir C.ReadDirState.Clone C.DirEntryState.Default
             ⟦<Session<R, C, S, P, A> as Readers<C, S, P, A>>⟧ result }
     {
-        let (walk, _) = self.begin_by();
-        walk
+        self.begin_by().walk
     }
 }

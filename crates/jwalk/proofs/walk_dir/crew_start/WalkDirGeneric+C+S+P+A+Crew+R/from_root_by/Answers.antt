@@ -16,7 +16,7 @@ returns-in_default-clause-from_root g c =
 pub returns-in-Ok-clause-from_root : goal.returns-in-Ok-clause-from_root
 returns-in-Ok-clause-from_root g c =
     let is = c.with_reads.ensures in
-    by_from_root g.C.ReadDirState.Clone (option_map reading c.args.read) c.args.job c.with_reads.result.0 c.with_reads.result.1 c.requires.mode (if_some_map reading (λ r. AtDepth 0 r.list) c.args.read c.requires.depth) is.by (is.job ∙ c.in-Ok.ensures.made.0) (rw c.in-Some.is is.begun)
+    by_from_root g.C.ReadDirState.Clone (option_map reading c.args.read) c.args.job c.with_reads.result.walk c.with_reads.result.why_not c.requires.mode (if_some_map reading (λ r. AtDepth 0 r.list) c.args.read c.requires.depth) is.by (is.job ∙ c.in-Ok.ensures.made.0) (rw c.in-Some.is is.begun)
 
 pub returns-in-Err-clause-from_root : goal.returns-in-Err-clause-from_root
 returns-in-Err-clause-from_root g c =

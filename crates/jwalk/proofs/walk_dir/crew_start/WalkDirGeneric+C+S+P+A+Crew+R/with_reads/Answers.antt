@@ -11,7 +11,7 @@ returns g c =
     let old = c.args.reads in
     let new = c.start_reads.new.reads in
     let started = c.start_reads.ensures in
-    let is = c.begun.ensures in
+    let is = c.after_start.ensures in
     let read = reading c.args.read in
     let left =
     subst (IsToRead g.C.ReadDirState.Clone read c.err-why_not.result) (sym (ap readings.to_read is.reads))

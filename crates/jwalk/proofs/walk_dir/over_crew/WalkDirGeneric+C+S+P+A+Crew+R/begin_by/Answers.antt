@@ -8,13 +8,13 @@ use Rattle.jwalk.proofs.walk_dir.over_crew.WalkDirGeneric+C+S+P+A+Crew+R.begin_b
 pub returns-in-Some-clause-starts : goal.returns-in-Some-clause-starts
 returns-in-Some-clause-starts g c =
     let jobs = c.new-job.ensures in
-    starts_from_root g.S.FileSystem g.P.ProcessReadDir g.C.ReadDirState.Clone g.C.DirEntryState.Default c.args.self c.from_root_by.result.0 c.new-job.result jobs.file_system jobs.callback jobs.options (option_map reading c.ok-read.result) c.from_root_by.result.1 c.from_root_by.ensures.from_root
+    starts_from_root g.S.FileSystem g.P.ProcessReadDir g.C.ReadDirState.Clone g.C.DirEntryState.Default c.args.self c.from_root_by.result.walk c.new-job.result jobs.file_system jobs.callback jobs.options (option_map reading c.ok-read.result) c.from_root_by.result.why_not c.from_root_by.ensures.from_root
 
 pub returns-in-Some-clause-begins : goal.returns-in-Some-clause-begins
 returns-in-Some-clause-begins g c =
     let jobs = c.new-job.ensures in
-    begins_from_root g.S.FileSystem g.P.ProcessReadDir g.C.ReadDirState.Clone g.C.DirEntryState.Default c.args.self c.from_root_by.result.0 c.new-job.result jobs.file_system jobs.callback jobs.options (option_map reading c.ok-read.result) c.from_root_by.result.1 c.from_root_by.ensures.from_root
-    (made_root g.S.FileSystem g.P.ProcessReadDir g.C.ReadDirState.Clone g.C.DirEntryState.Default c.args.self c.from_root_by.result.0 c.new-job.result jobs.file_system jobs.callback jobs.options c.as_str.result.now c.as_str.ensures.value _ c.root_list.result c.ok-read.result c.ok-read.ensures.value c.root_list.ensures.value)
+    begins_from_root g.S.FileSystem g.P.ProcessReadDir g.C.ReadDirState.Clone g.C.DirEntryState.Default c.args.self c.from_root_by.result.walk c.new-job.result jobs.file_system jobs.callback jobs.options (option_map reading c.ok-read.result) c.from_root_by.result.why_not c.from_root_by.ensures.from_root
+    (made_root g.S.FileSystem g.P.ProcessReadDir g.C.ReadDirState.Clone g.C.DirEntryState.Default c.args.self c.from_root_by.result.walk c.new-job.result jobs.file_system jobs.callback jobs.options c.as_str.result.now c.as_str.ensures.value _ c.root_list.result c.ok-read.result c.ok-read.ensures.value c.root_list.ensures.value)
     (λ crew some. c.from_root_by.ensures.by)
 
 pub returns-in-Some-clause-most : goal.returns-in-Some-clause-most
@@ -26,11 +26,11 @@ returns-clause-most g c = within_limit _ (λ own. limit_of (arc_value own.0)) c.
 pub returns-clause-starts : goal.returns-clause-starts
 returns-clause-starts g c =
     let jobs = c.new-job.ensures in
-    starts_from_root g.S.FileSystem g.P.ProcessReadDir g.C.ReadDirState.Clone g.C.DirEntryState.Default c.args.self c.from_root_alone.result.0 c.new-job.result jobs.file_system jobs.callback jobs.options (option_map reading c.ok-read.result) c.from_root_alone.result.1 c.from_root_alone.ensures.from_root
+    starts_from_root g.S.FileSystem g.P.ProcessReadDir g.C.ReadDirState.Clone g.C.DirEntryState.Default c.args.self c.from_root_alone.result.walk c.new-job.result jobs.file_system jobs.callback jobs.options (option_map reading c.ok-read.result) c.from_root_alone.result.why_not c.from_root_alone.ensures.from_root
 
 pub returns-clause-begins : goal.returns-clause-begins
 returns-clause-begins g c =
     let jobs = c.new-job.ensures in
-    begins_from_root g.S.FileSystem g.P.ProcessReadDir g.C.ReadDirState.Clone g.C.DirEntryState.Default c.args.self c.from_root_alone.result.0 c.new-job.result jobs.file_system jobs.callback jobs.options (option_map reading c.ok-read.result) c.from_root_alone.result.1 c.from_root_alone.ensures.from_root
-    (made_root g.S.FileSystem g.P.ProcessReadDir g.C.ReadDirState.Clone g.C.DirEntryState.Default c.args.self c.from_root_alone.result.0 c.new-job.result jobs.file_system jobs.callback jobs.options c.as_str.result.now c.as_str.ensures.value _ c.root_list.result c.ok-read.result c.ok-read.ensures.value c.root_list.ensures.value)
+    begins_from_root g.S.FileSystem g.P.ProcessReadDir g.C.ReadDirState.Clone g.C.DirEntryState.Default c.args.self c.from_root_alone.result.walk c.new-job.result jobs.file_system jobs.callback jobs.options (option_map reading c.ok-read.result) c.from_root_alone.result.why_not c.from_root_alone.ensures.from_root
+    (made_root g.S.FileSystem g.P.ProcessReadDir g.C.ReadDirState.Clone g.C.DirEntryState.Default c.args.self c.from_root_alone.result.walk c.new-job.result jobs.file_system jobs.callback jobs.options c.as_str.result.now c.as_str.ensures.value _ c.root_list.result c.ok-read.result c.ok-read.ensures.value c.root_list.ensures.value)
     (λ crew some. absurd (let no : false ≡ true = rw (c.in-None.ensures.none (c.mode.ensures ∙ crew)) at some in cc))

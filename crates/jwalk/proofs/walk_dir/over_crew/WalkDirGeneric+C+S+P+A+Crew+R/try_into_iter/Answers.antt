@@ -3,7 +3,7 @@ use Rattle.jwalk_read.specs.Error.{failure}
 use Rattle.jwalk.proofs.BeginsFacts.{fails_by}
 use Rattle.jwalk.proofs.walk_dir.over_crew.WalkDirGeneric+C+S+P+A+Crew+R.try_into_iter.Goals as goal
 
-pub returns-in_default-Some-clause-fails : goal.returns-in_default-Some-clause-fails
-returns-in_default-Some-clause-fails g c =
+pub returns-in-Some-clause-fails : goal.returns-in-Some-clause-fails
+returns-in-Some-clause-fails g c =
     let begins = c.begin_by.ensures.begins in
-    fails_by _ c.in_default-Some.why_not (failure c.error_of.result) c.error_of.ensures (λ busy. begins.busy (c.in_default-Some.is-1 ∙ busy))
+    fails_by _ c.in-Some.why_not (failure c.error_of.result) c.error_of.ensures (λ busy. begins.busy (c.in-Some.is-1 ∙ busy))

@@ -1,6 +1,6 @@
 use Rattle.std.proofs.Common.{◌∙◌, ap}
 use Rattle.jwalk.specs.CrewStart.{left_of}
-use Rattle.jwalk.proofs.walk_dir.crew_start.begun.Goals as goal
+use Rattle.jwalk.proofs.walk_dir.crew_start.after_start.Goals as goal
 
 pub returns : goal.returns
 returns g c = record {
