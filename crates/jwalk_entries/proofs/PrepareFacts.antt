@@ -16,8 +16,8 @@ use Rattle.jwalk_read.specs.Given.{Given}
 use Rattle.jwalk_read.specs.Job.{greatest_depth}
 use Rattle.jwalk_readings.specs.Reads.{ReadsFirstBy}
 use Rattle.jwalk_readings.specs.declared.readers.Readers as Readers
-use Rattle.tree_crew.specs.declared.session.Missed.{Missed}
-use Rattle.tree_crew.specs.declared.session.Missed.TheVariants.{Memory}
+use Rattle.jwalk_readings.specs.declared.readers.Missed.{Missed}
+use Rattle.jwalk_readings.specs.declared.readers.Missed.TheVariants.{Memory}
 use Rattle.jwalk_readings.specs.declared.read_dir_iter.ReadDirIter.{ReadDirIter}
 use Rattle.jwalk_readings.specs.ReadDirIter as readings
 use Rattle.jwalk_readings.specs.ReadDirIter.{Tells}

@@ -27,7 +27,7 @@ use Rattle.jwalk_read.specs.Job.{options_of, greatest_depth, job_by, IsAsGiven}
 use Rattle.jwalk_order.specs.Frontier.{next_address}
 use Rattle.jwalk_readings.specs.Reads.{ReadsFirstBy}
 use Rattle.jwalk_readings.specs.declared.readers.Readers as Readers
-use Rattle.tree_crew.specs.declared.session.Missed.{Missed}
+use Rattle.jwalk_readings.specs.declared.readers.Missed.{Missed}
 use Rattle.jwalk_readings.specs.CrewReads.{failure_of}
 use Rattle.jwalk_readings.specs.ReadDirIter.{Tells}
 use Rattle.jwalk_readings.proofs.ResultFacts.{none_ok, on_err, fewer_not_lost, passed_not_lost}

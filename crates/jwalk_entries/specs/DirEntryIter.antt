@@ -26,7 +26,7 @@ use Rattle.jwalk_readings.specs.Reads.{ReadsFirstBy}
 use Rattle.jwalk_readings.specs.ReadAhead.{ReadAhead}
 use Rattle.jwalk_readings.specs.ReadAhead as ahead
 use Rattle.jwalk_readings.specs.declared.readers.Readers as Readers
-use Rattle.tree_crew.specs.declared.session.Missed.{Missed}
+use Rattle.jwalk_readings.specs.declared.readers.Missed.{Missed}
 use Rattle.jwalk_readings.specs.ReadDirIter as readings
 use Rattle.jwalk_readings.specs.CrewReads.{IsBelow, IsNextBelow, NotLost, failure_of}
 use Rattle.jwalk_readings.specs.declared.read_dir_iter.ReadDirIter.{ReadDirIter}

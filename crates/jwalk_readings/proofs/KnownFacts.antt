@@ -11,8 +11,8 @@ use Rattle.jwalk_read.specs.declared.job.Job.{Job}
 use Rattle.jwalk_readings.specs.Reads.{ReadsNextBy}
 use Rattle.jwalk_read.specs.Given.{Given, ClonesCount}
 use Rattle.jwalk_read.specs.Job.{IsAsGiven, IsGivenOver}
-use Rattle.tree_crew.specs.declared.session.Missed.{Missed}
-use Rattle.tree_crew.specs.declared.session.Missed.TheVariants.{Memory, Lost}
+use Rattle.jwalk_readings.specs.declared.readers.Missed.{Missed}
+use Rattle.jwalk_readings.specs.declared.readers.Missed.TheVariants.{Memory, Lost}
 use Rattle.jwalk_readings.specs.declared.readers.Readers as Readers
 use Rattle.jwalk_readings.specs.declared.read_dir_iter.ReadDirIter.{ReadDirIter}
 use Rattle.jwalk_readings.specs.declared.read_dir_iter.ReadDirIter.TheVariants.{Walk, CrewWalk}

@@ -8,8 +8,8 @@ use Rattle.jwalk_read.specs.declared.process_read_dir.ProcessReadDir as ProcessR
 use Rattle.jwalk_read.specs.declared.job.Job.{Job}
 use Rattle.jwalk_read.specs.Given.{Given}
 use Rattle.jwalk_readings.specs.ReadAhead.{nothing_ahead}
-use Rattle.tree_crew.specs.declared.session.Missed.{Missed}
-use Rattle.tree_crew.specs.declared.session.Missed.TheVariants.{Memory, Lost}
+use Rattle.jwalk_readings.specs.declared.readers.Missed.{Missed}
+use Rattle.jwalk_readings.specs.declared.readers.Missed.TheVariants.{Memory, Lost}
 use Rattle.jwalk_readings.specs.CrewReads.{failure_of, NotLost}
 use Rattle.jwalk_readings.specs.ReadDirIter.{Tells, EntersNextBy}
 

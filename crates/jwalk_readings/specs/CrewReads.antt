@@ -22,8 +22,8 @@ use Rattle.jwalk_readings.specs.Origin.{Origin, spec_at}
 use Rattle.jwalk_readings.specs.declared.readers.Readers as Readers
 use Rattle.tree_crew.specs.declared.crew.NotStarted.{NotStarted}
 use Rattle.tree_crew.specs.declared.crew.NotStarted.TheVariants as not_started
-use Rattle.tree_crew.specs.declared.session.Missed.{Missed}
-use Rattle.tree_crew.specs.declared.session.Missed.TheVariants.{Memory, Lost}
+use Rattle.jwalk_readings.specs.declared.readers.Missed.{Missed}
+use Rattle.jwalk_readings.specs.declared.readers.Missed.TheVariants.{Memory, Lost}
 use Rattle.jwalk_readings.specs.declared.crew_reads.CrewReads.{CrewReads}
 
 module _ {C S P A L R E : Type 0} where

@@ -12,9 +12,27 @@ use crate::wanted::Wanted;
 use jwalk_order::ordered::Ordered;
 use jwalk_read::client_state::ClientState;
 use jwalk_read::process_read_dir::ProcessReadDir;
-use std::alloc::Allocator;
-pub use tree_crew::session::Missed;
+use std::alloc::{AllocError, Allocator};
 use walk_fs::file_system::FileSystem;
+
+/// Why a reading didn't come.
+#[derive(Clone, Copy, Debug, PartialEq, Eq)]
+pub enum Missed {
+    /// Memory ran out.
+    Memory,
+    /// There is none, or another came in its place.
+    Lost,
+}
+
+impl From<AllocError> for Missed {
+    ghost use Rattle.jwalk_readings.specs.declared.readers.Missed.TheVariants.{Memory};
+
+    ghost from_gives = { λ _ missed. missed ≡ Memory };
+
+    fn from(_refused: AllocError) -> Self {
+        Missed::Memory
+    }
+}
 
 /// What gives the readings of a walk's directories, made ahead by others. Users name it as a bound only.
 pub trait Readers<

@@ -67,7 +67,9 @@ impl<
     ghost most = { λ session. read_ahead_of session + 1 };
 
     fn next(&mut self, wanted: &Wanted<A>) -> Result<Ordered<Message<C, S, P, A>, A>, Missed> {
-        let item = self.readings.next()?;
+        let Some(item) = self.readings.next()? else {
+            return Err(Missed::Lost);
+        };
         let child_count = item.child_count();
         let Ordered {
             value: message,

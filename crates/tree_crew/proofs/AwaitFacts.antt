@@ -2,7 +2,7 @@
 use Rattle.std.proofs.Common.{◌≡◌, ◌∙◌, ℕ, suc, ◌+◌, List, [], ◌∷◌, ◌++◌, map, length, Some, slice_get, option_to_list, Ok, refl, sym, ap, ap₂, subst, arith}
 use Rattle.std.specs.Prelude.{flat_map}
 use Rattle.std.proofs.lemmas.Grind.{flat_map-append}
-use Rattle.std.proofs.lemmas.List.{length-map}
+use Rattle.std.proofs.lemmas.List.{append-nil, length-map}
 use Rattle.std.proofs.lemmas.Option.{none-some}
 use Rattle.jwalk_order.specs.Frontier.{next_address, passed, children_from, roots as root_addresses}
 use Rattle.jwalk_order.specs.declared.ordered.Ordered.{Ordered}
@@ -11,8 +11,9 @@ use Rattle.jwalk_board.specs.declared.board.plan.Plan as Plan
 use Rattle.tree_crew.specs.Message.{Message}
 use Rattle.tree_crew.specs.Origin.{Origin, IsReadingWith, at_address}
 use Rattle.tree_crew.specs.Shared.{IsReadingAt}
+use Rattle.tree_crew.specs.Whole.{ArePreorder}
 use Rattle.tree_crew.proofs.OriginFacts.{AreAsGiven, at_child}
-use Rattle.tree_crew.proofs.PreorderFacts.{below, below-first}
+use Rattle.tree_crew.proofs.PreorderFacts.{below, below-first, one_more, readings-are}
 
 module _ {S Q : Type 0} (t : PlanTree S Q) (roots : List S) where
   -- what is at these addresses
@@ -46,16 +47,45 @@ module _ {S Q : Type 0} (t : PlanTree S Q) (roots : List S) where
   pub left_roots : left (root_addresses (length roots)) ≡ roots
   left_roots = numbered_left (λ i. i ∷ []) (λ i b n. []) roots (λ i. refl) roots 0 (λ k. (let z : 0 + k ≡ k = omega arith in ap (slice_get roots) z)) (λ j n. children_from j [] n) (λ j. refl) (λ j n. refl)
 
-module _ {J A T U : Type 0} (p : Plan.Ghosts J A T U) (law : AreAsGiven p) (origin : Origin T J) (given : p.Given) (fixed : p.IsFixed origin.plan given) (falls : Falls (p.tree origin.plan given)) where
-  abbrev pub to_come : List (List ℕ) → List p.ReadingValue
-  to_come awaited = map (p.tree origin.plan given).reading (below (p.tree origin.plan given) (left (p.tree origin.plan given) (map (p.spec_value given) origin.roots) awaited))
+module _ {J A T U : Type 0} (p : Plan.Ghosts J A T U) (origin : Origin T J) where
+  -- what comes at these addresses and below them, over what the plan is fixed over
+  abbrev pub to_come : p.Given → List (List ℕ) → List p.ReadingValue
+  to_come given awaited = map (p.tree origin.plan given).reading (below (p.tree origin.plan given) (left (p.tree origin.plan given) (map (p.spec_value given) origin.roots) awaited))
 
-  -- What comes is the first of what is to come.
-  pub first_comes : (before after : List (List ℕ)) (item : Ordered (Message T U J) A) (read : U) → item.value.outcome ≡ Ok read → IsReadingAt p origin before item after → to_come before ≡ p.reading_value given read ∷ to_come after
-  first_comes before after item read is r =
+  -- What was found, and what is to come at the awaited addresses, is what was to come in all.
+  abbrev pub HasFound : List U → List (List ℕ) → Type 0
+  HasFound found awaited = (given : p.Given) → p.IsFixed origin.plan given → map (p.reading_value given) found ++ to_come given awaited ≡ map (p.tree origin.plan given).reading (below (p.tree origin.plan given) (map (p.spec_value given) origin.roots))
+
+  -- At first nothing was found, and the roots' addresses are awaited.
+  pub nothing_found : (found : List U) (awaited : List (List ℕ)) → found ≡ [] → awaited ≡ root_addresses (length origin.roots) → HasFound found awaited
+  nothing_found found awaited none begun given fixed =
       let t = p.tree origin.plan given in
-      let with_children : IsReadingWith p origin.plan item.value.of item.child_count read = rw is at r.of.reading in
-      let both = law origin.plan item.value.of read with_children.children with_children.made given fixed in
-      let count : item.child_count ≡ length (t.children (p.spec_value given item.value.of)) = with_children.count_is ∙ sym (length-map with_children.children (p.spec_value given)) ∙ ap length both.1 in
-      left_passed t (map (p.spec_value given) origin.roots) falls before (p.spec_value given item.value.of) item.child_count (rw r.next at r.of.at given fixed) count
-      ∙ ap₂ (λ x l. x ∷ to_come l) (sym both.0) (sym r.further)
+      let roots = map (p.spec_value given) origin.roots in
+      ap (λ l. map (p.reading_value given) l ++ to_come given awaited) none
+      ∙ ap (λ l. map t.reading (below t l)) (ap (left t roots) (begun ∙ ap root_addresses (sym (length-map origin.roots (p.spec_value given)))) ∙ left_roots t roots)
+
+  -- In the end nothing is awaited, and all was found.
+  pub all_found : (found : List U) (awaited : List (List ℕ)) → awaited ≡ [] → HasFound found awaited → ArePreorder p origin.plan origin.roots found
+  all_found found awaited none has given fixed =
+      let t = p.tree origin.plan given in
+      sym (append-nil (map (p.reading_value given) found))
+      ∙ ap (λ l. map (p.reading_value given) found ++ to_come given l) (sym none)
+      ∙ has given fixed
+      ∙ sym (readings-are t (map (p.spec_value given) origin.roots))
+
+  module _ (law : AreAsGiven p) (falls : (plan : J) (given : p.Given) → p.IsFixed plan given → Falls (p.tree plan given)) where
+    -- What comes is the first of what is to come.
+    first_comes : (given : p.Given) → p.IsFixed origin.plan given → (before after : List (List ℕ)) (item : Ordered (Message T U J) A) (read : U) → item.value.outcome ≡ Ok read → IsReadingAt p origin before item after
+        → to_come given before ≡ p.reading_value given read ∷ to_come given after
+    first_comes given fixed before after item read is r =
+        let t = p.tree origin.plan given in
+        let with_children : IsReadingWith p origin.plan item.value.of item.child_count read = rw is at r.of.reading in
+        let both = law origin.plan item.value.of read with_children.children with_children.made given fixed in
+        let count : item.child_count ≡ length (t.children (p.spec_value given item.value.of)) = with_children.count_is ∙ sym (length-map with_children.children (p.spec_value given)) ∙ ap length both.1 in
+        left_passed t (map (p.spec_value given) origin.roots) (falls origin.plan given fixed) before (p.spec_value given item.value.of) item.child_count (rw r.next at r.of.at given fixed) count
+        ∙ ap₂ (λ x l. x ∷ to_come given l) (sym both.0) (sym r.further)
+
+    -- So it is found next.
+    pub next_found : (found : List U) (before after : List (List ℕ)) (item : Ordered (Message T U J) A) (read : U) → item.value.outcome ≡ Ok read → IsReadingAt p origin before item after → HasFound found before → HasFound (found ++ read ∷ []) after
+    next_found found before after item read is r has given fixed =
+        one_more (p.reading_value given) found read (to_come given after) _ (to_come given before) (has given fixed) (first_comes given fixed before after item read is r)

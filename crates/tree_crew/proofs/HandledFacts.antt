@@ -5,7 +5,7 @@ use Rattle.keyed_slot.specs.declared.slot.KeyedSlot.{KeyedSlot}
 use Rattle.keyed_slot.specs.declared.slot.Receipt.{Receipt}
 use Rattle.jwalk_board.specs.Board.{Board, Finishes}
 use Rattle.tree_crew.specs.declared.arrival.Arrival.{Arrival}
-use Rattle.tree_crew.specs.declared.arrival.Arrival.TheVariants.{Entered, Lost, Memory, Wait}
+use Rattle.tree_crew.specs.declared.arrival.Arrival.TheVariants.{Entered, Done, Memory, Wait}
 use Rattle.tree_crew.specs.Arrival.{Arrives}
 use Rattle.tree_crew.specs.Message.{Message}
 use Rattle.jwalk_order.specs.declared.ordered.Ordered.{Ordered}
@@ -42,7 +42,7 @@ module _ {T U J A : Type 0} where
       → CallsNobody calls → CallsIfEntered limit arrival board before after calls
   calls_nobody limit (Entered item) other board before after calls nobody = absurd (other item refl)
   calls_nobody limit Memory other board before after calls nobody = nobody
-  calls_nobody limit Lost other board before after calls nobody = nobody
+  calls_nobody limit Done other board before after calls nobody = nobody
   calls_nobody limit Wait other board before after calls nobody = nobody
 
   -- one step on a board that was taken and put back by the key

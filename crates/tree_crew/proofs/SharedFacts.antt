@@ -4,7 +4,7 @@ use Rattle.jwalk_order.specs.declared.ordered.Ordered.{Ordered}
 use Rattle.jwalk_board.specs.Board.{Board, HandsOut, Finishes}
 use Rattle.jwalk_board.specs.declared.board.plan.Plan as Plan
 use Rattle.tree_crew.specs.declared.arrival.Arrival.{Arrival}
-use Rattle.tree_crew.specs.declared.arrival.Arrival.TheVariants.{Entered, Memory, Lost, Wait}
+use Rattle.tree_crew.specs.declared.arrival.Arrival.TheVariants.{Entered, Memory, Done, Wait}
 use Rattle.tree_crew.specs.declared.steps.Turn.{Turn}
 use Rattle.tree_crew.specs.declared.steps.Turn.TheVariants as turn
 use Rattle.tree_crew.specs.Arrival.{Arrives}
@@ -59,7 +59,7 @@ module _ {J A T U : Type 0} (p : Plan.Ghosts J A T U) (origin : Origin T J) (old
       | inr gives ↦ handed_board gives.item gives.hands_out
     ]
   ]
-  arrived_board Lost comes = same_of comes.unchanged
+  arrived_board Done comes = same_of comes.unchanged
   arrived_board Wait comes = same_of comes.unchanged
 
   pub arrived_within : (limit : ℕ) (a : Arrival T U J A) → Arrives old a new → IsWithin limit old → IsWithin limit new
@@ -71,7 +71,7 @@ module _ {J A T U : Type 0} (p : Plan.Ghosts J A T U) (origin : Origin T J) (old
       | inr gives ↦ handed_within limit old new gives.item gives.hands_out within
     ]
   ]
-  arrived_within limit Lost comes within = same_within limit old new comes.unchanged within
+  arrived_within limit Done comes within = same_within limit old new comes.unchanged within
   arrived_within limit Wait comes within = same_within limit old new comes.unchanged within
 
   pub arrived_of : (a : Arrival T U J A) → Arrives old a new → IsArrivalOf p origin old.frontier a new.frontier
@@ -82,7 +82,7 @@ module _ {J A T U : Type 0} (p : Plan.Ghosts J A T U) (origin : Origin T J) (old
     further = ap (λ b. b.frontier) comes.0.others;
   }
   arrived_of Memory comes = tt
-  arrived_of Lost comes = comes.refused.1
+  arrived_of Done comes = comes.refused.1
   arrived_of Wait comes = ap (λ b. b.frontier) comes.unchanged
 
   pub handed_in_of : {D F : Type 0} (r : Result D F) → ChildrenAreGiven p → (a : List ℕ) (message : Message T U J) (children : List T) → IsMadeAt p origin a message children

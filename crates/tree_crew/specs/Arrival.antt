@@ -6,7 +6,7 @@ use Rattle.jwalk_board.specs.Refusal.{RefusesHandOut}
 use Rattle.jwalk_board.specs.declared.board.refusal.HandOutRefusal.{HandOutRefusal}
 use Rattle.jwalk_board.specs.declared.board.refusal.HandOutRefusal.TheVariants as refused
 use Rattle.tree_crew.specs.declared.arrival.Arrival.{Arrival}
-use Rattle.tree_crew.specs.declared.arrival.Arrival.TheVariants.{Entered, Memory, Lost, Wait}
+use Rattle.tree_crew.specs.declared.arrival.Arrival.TheVariants.{Entered, Memory, Done, Wait}
 use Rattle.tree_crew.specs.Message.{Message}
 
 -- The board hands out nothing, for this cause, and stays as it is.
@@ -19,7 +19,7 @@ module _ {T U J A : Type 0} where
   abbrev pub IsChecked : Ordered (Message T U J) A → Arrival T U J A → Type 0
   IsChecked item (Entered came) = (came ≡ item) × IsOk item.value.outcome
   IsChecked item Memory = IsErr item.value.outcome
-  IsChecked item Lost = ⊥
+  IsChecked item Done = ⊥
   IsChecked item Wait = ⊥
 
   -- The board hands out a message, and this is checked.
@@ -32,5 +32,5 @@ module _ {T U J A : Type 0} where
   abbrev pub Arrives : Board T (Message T U J) → Arrival T U J A → Board T (Message T U J) → Type 0
   Arrives old (Entered item) new = HandsOut item old new × IsOk item.value.outcome
   Arrives old Memory new = Refuses old refused.Stopped new ⊎ (Refuses old refused.Memory new ⊎ Gives old Memory new)
-  Arrives old Lost new = Refuses old refused.Done new
+  Arrives old Done new = Refuses old refused.Done new
   Arrives old Wait new = Refuses old refused.NotReady new

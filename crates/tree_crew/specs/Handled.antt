@@ -7,7 +7,7 @@ use Rattle.keyed_slot.specs.declared.slot.Receipt.{Receipt}
 use Rattle.jwalk_order.specs.IndexPath.{address}
 use Rattle.jwalk_board.specs.Board.{Board, Finishes, IsNextReady}
 use Rattle.tree_crew.specs.declared.arrival.Arrival.{Arrival}
-use Rattle.tree_crew.specs.declared.arrival.Arrival.TheVariants.{Entered, Lost, Memory, Wait}
+use Rattle.tree_crew.specs.declared.arrival.Arrival.TheVariants.{Entered, Done, Memory, Wait}
 use Rattle.tree_crew.specs.Arrival.{Arrives}
 use Rattle.tree_crew.specs.Message.{Message}
 use Rattle.tree_crew.specs.declared.hand_in.HandIn.{HandIn}
@@ -57,7 +57,7 @@ module _ {T U J A : Type 0} where
   abbrev pub CallsIfEntered : ℕ → Arrival T U J A → Board T (Message T U J) → Sleepers → Sleepers → Called → Type 0
   CallsIfEntered limit (Entered item) board before after calls = CallsTakers limit board before after calls
   CallsIfEntered limit Memory board before after calls = CallsNobody calls
-  CallsIfEntered limit Lost board before after calls = CallsNobody calls
+  CallsIfEntered limit Done board before after calls = CallsNobody calls
   CallsIfEntered limit Wait board before after calls = CallsNobody calls
 
   -- What the walk finds is what came of the board, which was taken and put back by the key. Or the board is out: the walk ends, and the key did nothing.

@@ -1,14 +1,13 @@
 -- The outcome of a step on the board that a walk and its workers share.
-use Rattle.std.specs.Prelude.{◌≡◌, ℕ, List, [], IsOk, Result, Ok, Err}
+use Rattle.std.specs.Prelude.{◌≡◌, ℕ, List, [], IsOk, Option, Some, None, Result, Ok, Err}
+use Rattle.std.specs.declared.alloc.AllocError.{AllocError}
 use Rattle.jwalk_order.specs.Frontier.{next_address, passed}
 use Rattle.jwalk_order.specs.Ordered.{address_of, child_count_of}
 use Rattle.jwalk_order.specs.declared.ordered.Ordered.{Ordered}
 use Rattle.jwalk_order.specs.Addressed.{addressed}
 use Rattle.jwalk_board.specs.declared.board.plan.Plan as Plan
 use Rattle.tree_crew.specs.declared.arrival.Arrival.{Arrival}
-use Rattle.tree_crew.specs.declared.arrival.Arrival.TheVariants.{Entered, Memory, Lost, Wait}
-use Rattle.tree_crew.specs.declared.session.Missed.{Missed}
-use Rattle.tree_crew.specs.declared.session.Missed.TheVariants as missed
+use Rattle.tree_crew.specs.declared.arrival.Arrival.TheVariants.{Entered, Memory, Done, Wait}
 use Rattle.tree_crew.specs.declared.steps.Turn.{Turn}
 use Rattle.tree_crew.specs.declared.steps.Turn.TheVariants as turn
 use Rattle.tree_crew.specs.Message.{Message}
@@ -33,11 +32,11 @@ module _ {J A T U : Type 0} (p : Plan.Ghosts J A T U) (origin : Origin T J) wher
   abbrev pub IsArrivalOf : List (List ℕ) → Arrival T U J A → List (List ℕ) → Type 0
   IsArrivalOf before (Entered item) after = IsReadingAt before item after
   IsArrivalOf before Memory after = Unit {0}
-  IsArrivalOf before Lost after = before ≡ []
+  IsArrivalOf before Done after = before ≡ []
   IsArrivalOf before Wait after = after ≡ before
 
   -- what a walk that waited for its next reading is given in the end
-  abbrev pub IsAnswerOf : List (List ℕ) → Result (Ordered (Message T U J) A) Missed → List (List ℕ) → Type 0
-  IsAnswerOf before (Ok item) after = IsReadingAt before item after
-  IsAnswerOf before (Err missed.Memory) after = Unit {0}
-  IsAnswerOf before (Err missed.Lost) after = before ≡ []
+  abbrev pub IsAnswerOf : List (List ℕ) → Result (Option (Ordered (Message T U J) A)) AllocError → List (List ℕ) → Type 0
+  IsAnswerOf before (Ok (Some item)) after = IsReadingAt before item after
+  IsAnswerOf before (Ok None) after = before ≡ []
+  IsAnswerOf before (Err refused) after = Unit {0}

@@ -13,8 +13,8 @@ pub(crate) enum Arrival<T, U, J, A: Allocator + Copy> {
     Entered(Ordered<Message<T, U, J, A>, A>),
     /// Memory ran out: the board is stopped or fails for it, or the reading's own message reports it.
     Memory,
-    /// It won't come: the board is done.
-    Lost,
+    /// There is none: all were handed out.
+    Done,
     /// It isn't ready yet.
     Wait,
 }
@@ -41,7 +41,7 @@ pub(crate) fn arrive<T: Drop, U: Drop, J: Drop, A: Allocator + Copy>(
         Ok(item) => checked(item),
         Err(HandOutRefusal::Stopped) => Arrival::Memory,
         Err(HandOutRefusal::Memory) => Arrival::Memory,
-        Err(HandOutRefusal::Done) => Arrival::Lost,
+        Err(HandOutRefusal::Done) => Arrival::Done,
         Err(HandOutRefusal::NotReady) => Arrival::Wait,
     }
 }

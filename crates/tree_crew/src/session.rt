@@ -25,25 +25,6 @@ use std::sync::{Arc, Wait};
 use std::thread::Threads;
 use std::time::Clock;
 
-/// Why a reading didn't come.
-#[derive(Clone, Copy, Debug, PartialEq, Eq)]
-pub enum Missed {
-    /// Memory ran out.
-    Memory,
-    /// There is none, or another came in its place.
-    Lost,
-}
-
-impl From<AllocError> for Missed {
-    ghost use Rattle.tree_crew.specs.declared.session.Missed.TheVariants.{Memory};
-
-    ghost from_gives = { λ _ missed. missed ≡ Memory };
-
-    fn from(_refused: AllocError) -> Self {
-        Missed::Memory
-    }
-}
-
 /// The readings of a tree, made by a crew's workers. It has a place of the crew.
 ///
 /// Dropping it gives the place back and ends the workers, each after the specification that it is reading. The drop
@@ -79,7 +60,7 @@ impl<
     }
 }
 
-/// Blocks until the next reading is there, or it is known why it won't come.
+/// Blocks until the next reading is there, or none will come.
 fn wait_for<
     R: Wait + Clock + Drop,
     T: Drop,
@@ -89,7 +70,7 @@ fn wait_for<
 >(
     shared: &Shared<R, T, U, J, A>,
     key: &mut Key<Work<T, U, J, A>>,
-) -> Result<Ordered<Message<T, U, J, A>, A>, Missed>
+) -> Result<Option<Ordered<Message<T, U, J, A>, A>>, AllocError>
     requires opens { Opens key.old shared.now.work }
     requires home { is_out key.old ≡ false }
     ensures opens { Opens key.new shared.now.work }
@@ -104,10 +85,10 @@ fn wait_for<
             Arrival::Entered(item) => {
                 drop(sleepers);
                 shared.call(calls);
-                return Ok(item);
+                return Ok(Some(item));
             }
-            Arrival::Memory => return Err(Missed::Memory),
-            Arrival::Lost => return Err(Missed::Lost),
+            Arrival::Done => return Ok(None),
+            Arrival::Memory => return Err(AllocError),
             Arrival::Wait => {
                 sleepers.add_walk();
                 let (woken, timed_out) = wait_a_turn(rt, &shared.arrived, sleepers);
@@ -134,7 +115,7 @@ impl<
     /// # Errors
     ///
     /// `Memory` if memory ran out, the workers' or for the hand-out. `Lost` if all readings were handed out.
-    pub fn next(&mut self) -> Result<Ordered<Message<T, U, J, A>, A>, Missed>
+    pub fn next(&mut self) -> Result<Option<Ordered<Message<T, U, J, A>, A>>, AllocError>
         ensures origin { origin_of self.new ≡ origin_of self.old }
         ensures read_ahead { read_ahead_of self.new ≡ read_ahead_of self.old }
         ensures answer { IsAnswerOf J.Plan (origin_of self.old) (awaited_by self.old) result (awaited_by self.new) }

@@ -1,15 +1,14 @@
 //! All readings of a tree, by a crew.
-ghost use Rattle.std.specs.Prelude.{◌≡◌, IfOk, length, map};
+ghost use Rattle.std.specs.Prelude.{◌≡◌, IfOk, length};
 ghost use Rattle.std.specs.Arc.{arc_value};
 ghost use Rattle.jwalk_order.specs.Frontier.{roots as root_addresses};
-ghost use Rattle.jwalk_board.specs.Plan.{readings_in_preorder};
 ghost use Rattle.tree_crew.specs.Session.{awaited_by, origin_of};
-ghost use Rattle.tree_crew.specs.Whole.{values};
+ghost use Rattle.tree_crew.specs.Whole.{ArePreorder};
 
 use crate::crew::Place;
 use crate::incomplete::Incomplete;
 use crate::origin::Origin;
-use crate::session::{Missed, Session};
+use crate::session::Session;
 use jwalk_board::board::Plan;
 use std::alloc::Allocator;
 use std::sync::{Arc, Wait};
@@ -23,29 +22,24 @@ fn take_all<
     U: Drop,
     J: Plan<A, Spec = T, Reading = U> + Drop,
     A: Allocator + Copy,
->(alloc: A, session: &mut Session<R, T, U, J, A>) -> Result<Vec<U, A>, Incomplete>
-    ghost given: { J.Given }
-    requires fixed { J.IsFixed (origin_of session.old).plan given }
-    requires begun { awaited_by session.old ≡ root_addresses (length (origin_of session.old).roots) }
-    ensures { IfOk result (λ v. map (J.reading_value given) v.items
-        ≡ values (readings_in_preorder (J.tree (origin_of session.old).plan given) (map (J.spec_value given)
-        (origin_of session.old).roots))) }
+>(rt: &R, alloc: A, session: &mut Session<R, T, U, J, A>) -> Result<Vec<U, A>, Incomplete>
+    requires { awaited_by session.old ≡ root_addresses (length (origin_of session.old).roots) }
+    ensures { IfOk result (λ v. ArePreorder J.Plan (origin_of session.old).plan (origin_of session.old).roots
+        v.items) }
 {
     let mut found = Vec::new(alloc);
-    loop {
-        match session.next() {
-            Ok(item) => {
-                let reading = item.value.into_outcome()?;
-                found.push(reading)?;
-            }
-            Err(Missed::Lost) => return Ok(found),
-            Err(Missed::Memory) => return Err(Incomplete::Memory),
-        }
+    for _ in rt.forever() {
+        let Some(item) = session.next()? else {
+            return Ok(found);
+        };
+        let reading = item.value.into_outcome()?;
+        found.push(reading)?;
     }
+    unreachable!()
 }
 
-/// Returns all readings of a tree, made ahead by the workers of a crew. If the tree's plan is fixed, they are those of its
-/// preorder, whatever the crew. It blocks until the last of them is made.
+/// Returns all readings of a tree, made ahead by the workers of a crew. Wherever the tree's plan is fixed, they are those
+/// of its preorder, whatever the crew. It blocks until the last of them is made.
 ///
 /// # Errors
 ///
@@ -57,13 +51,11 @@ pub fn read_all<
     J: Plan<A, Spec = T, Reading = U> + Drop + Send + Sync + 'static,
     A: Allocator + Copy + Send + Sync + 'static,
 >(place: Place<R, A>, plan: Arc<J, A>, roots: Vec<T, A>) -> Result<Vec<U, A>, Incomplete>
-    ghost given: { J.Given }
-    requires lawful { J.IsLawful (arc_value plan) }
-    requires fixed { J.IsFixed (arc_value plan) given }
-    ensures { IfOk result (λ v. map (J.reading_value given) v.items
-        ≡ values (readings_in_preorder (J.tree (arc_value plan) given) (map (J.spec_value given) roots.items))) }
+    requires { J.IsLawful (arc_value plan) }
+    ensures { IfOk result (λ v. ArePreorder J.Plan (arc_value plan) roots.items v.items) }
 {
+    let crew = place.crew().clone()?;
     let alloc = *roots.allocator();
     let mut session = Session::start_from(place, Origin::new(plan, roots))?;
-    take_all(alloc, &mut session)
+    take_all(&crew.rt, alloc, &mut session)
 }

@@ -1,20 +1,10 @@
-use Rattle.std.proofs.Common.{◌≡◌, ◌++◌, map, length}
+use Rattle.std.proofs.Common.{◌≡◌}
 use Rattle.tree_crew.specs.Session.{origin_of, awaited_by}
-use Rattle.tree_crew.proofs.PreorderFacts.{below}
-use Rattle.tree_crew.proofs.AwaitFacts.{left}
+use Rattle.tree_crew.proofs.AwaitFacts.{HasFound}
 use Rattle.tree_crew.proofs.whole.take_all.Given as goal
 
 -- what was found and what is awaited are the preorder
-abbrev pub invariant-loop-item : goal.invariant-loop-item
-invariant-loop-item g l =
-    let t = g.J.Plan.tree (origin_of l.fn.session).plan g.given in
-    let roots = map (g.J.Plan.spec_value g.given) (origin_of l.fn.session).roots in
-    record {
-      origin : origin_of l.session ≡ origin_of l.fn.session;
-      same : map (g.J.Plan.reading_value g.given) l.found.items ++ map t.reading (below t (left t roots (awaited_by l.session))) ≡ map t.reading (below t roots);
-    }
-
-abbrev pub decreases-loop-item : goal.decreases-loop-item
-decreases-loop-item g l =
-    let t = g.J.Plan.tree (origin_of l.fn.session).plan g.given in
-    length (map t.reading (below t (left t (map (g.J.Plan.spec_value g.given) (origin_of l.fn.session).roots) (awaited_by l.session))))
+abbrev pub invariant-loop : goal.invariant-loop
+invariant-loop g l =
+    ((goal.iterator-loop g).can_next l.iterator' × (goal.iterator-loop g).is_finite l.iterator')
+    × (origin_of l.session ≡ origin_of l.fn.session) × HasFound g.J.Plan (origin_of l.fn.session) l.found.items (awaited_by l.session)
