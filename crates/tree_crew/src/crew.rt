@@ -59,9 +59,9 @@ impl<R: Wait + Clock> Crew<R> {
         }
     }
 
-    /// Returns the same crew, whose workers take nothing to read while this many readings of a walk are ready or in hand,
-    /// but for the one that the walk needs next. Once that many are, they go on when half of them are handed out. A number
-    /// below that of a walk's workers counts as theirs.
+    /// Returns the same crew, whose workers take nothing to read while this many readings of a walk are ready or in
+    /// hand, but for the one that the walk needs next. Once that many are, they go on when half of them are handed out.
+    /// A number below that of a walk's workers counts as theirs.
     pub fn with_read_ahead(mut self, readings: usize) -> Self
         ensures workers { workers_of result ≡ workers_of self }
         ensures read_ahead { limit_of result ≡ max readings (workers_of self) }

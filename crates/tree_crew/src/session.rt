@@ -173,8 +173,8 @@ impl<
         }
     }
 
-    /// Starts the workers of a walk that has a place. From then on they read these specifications, and those below them.
-    /// The specifications are clones of those that the walk begins with.
+    /// Starts the workers of a walk that has a place. From then on they read these specifications, and those below
+    /// them. The specifications are clones of those that the walk begins with.
     ///
     /// # Errors
     ///

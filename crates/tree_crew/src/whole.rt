@@ -38,8 +38,8 @@ fn take_all<
     unreachable!()
 }
 
-/// Returns all readings of a tree, made ahead by the workers of a crew. Wherever the tree's plan is fixed, they are those
-/// of its preorder, whatever the crew. It blocks until the last of them is made.
+/// Returns all readings of a tree, made ahead by the workers of a crew. Wherever the tree's plan is fixed, they are
+/// those of its preorder, whatever the crew. It blocks until the last of them is made.
 ///
 /// # Errors
 ///
