@@ -23,6 +23,7 @@ use Rattle.jwalk_readings.specs.BatchReads.{PassesAddress, IsSteadyBatches}
 use Rattle.jwalk_readings.specs.Reads.{ReadsNextBy}
 use Rattle.jwalk_readings.specs.declared.read_dir_iter.ReadDirIter.{ReadDirIter}
 use Rattle.jwalk_readings.specs.declared.read_dir_iter.ReadDirIter.TheVariants.{Walk, CrewWalk}
+use Rattle.jwalk_readings.specs.declared.crew_reads.CrewReads.{CrewReads}
 use Rattle.jwalk_readings.specs.CrewReads as crew
 use Rattle.jwalk_readings.specs.CrewReads.{IsTold, IsNextBelow, IsSteadyCrew}
 use Rattle.jwalk_readings.specs.declared.readers.Readers as Readers
@@ -131,6 +132,12 @@ module _ {C S P A L R E : Type 0} (files : FileSystem.Ghosts S) (process : Proce
   -- It stays steady over all that it was steady over.
   abbrev pub StaysSteady : ReadDirIter C S P A L R E → ReadDirIter C S P A L R E → Type 0
   StaysSteady old new = (value : Given R E) → IsSteadyReads old value → IsSteadyReads new value
+
+  -- A crew's next reading is handed on, or none is left.
+  abbrev pub CrewReadsNext : CrewReads C S P A L R E → Option (Outcome R E) → CrewReads C S P A L R E → Type 0
+  CrewReadsNext old given new =
+      let known = KnownBy files process clone defaults true (IsSteadyCrew files process clone defaults readers old) (crew.job_of old) (crew.next_address old) in
+      ReadsNextBy clone known (greatest_depth (crew.job_of old)) (crew.to_read old) given (crew.to_read new)
 
   -- What is known of the reading that comes next.
   abbrev pub Known : ReadDirIter C S P A L R E → Spec R → Outcome R E → Type 0

@@ -8,10 +8,10 @@ ghost use Rattle.jwalk_read.specs.Entry.{entry};
 ghost use Rattle.jwalk_read.specs.ReadDirSpec.{spec};
 ghost use Rattle.jwalk_read.specs.ReadDir.{outcome};
 ghost use Rattle.jwalk_read.specs.Job.{greatest_depth, IsReadingBy, IsGivenOver};
-ghost use Rattle.jwalk_readings.specs.Reads.{StacksChildren, ReadsNextBy};
+ghost use Rattle.jwalk_readings.specs.Reads.{StacksChildren};
 ghost use Rattle.jwalk_readings.specs.BatchReads.{PassesAddress};
 ghost use Rattle.jwalk_readings.specs.CrewReads.{job_of, to_read, frontier_of, next_address, IsBelow, IsNextBelow, IsTold, BeginsBy, NotLost, most_ahead, IsSteadyOver, IsSteadyBefore, IsSteadyCrew, StartsSteady, StaysSteady, ReadsSteadily, failure_of};
-ghost use Rattle.jwalk_readings.specs.ReadDirIter.{KnownBy};
+ghost use Rattle.jwalk_readings.specs.ReadDirIter.{CrewReadsNext};
 
 pub mod started;
 
@@ -238,10 +238,8 @@ impl<
         ensures most { most_ahead L.Readers self.new ≤ most_ahead L.Readers self.old }
         ensures steady { StaysSteady S.FileSystem P.ProcessReadDir C.ReadDirState.Clone C.DirEntryState.Default
             L.Readers self.old self.new }
-        ensures next { IfOk result (λ o. ReadsNextBy C.ReadDirState.Clone (KnownBy S.FileSystem P.ProcessReadDir
-            C.ReadDirState.Clone C.DirEntryState.Default true (IsSteadyCrew S.FileSystem P.ProcessReadDir
-            C.ReadDirState.Clone C.DirEntryState.Default L.Readers self.old) (job_of self.old) (next_address self.old))
-            (greatest_depth (job_of self.old)) (to_read self.old) (option_map outcome o) (to_read self.new)) }
+        ensures next { IfOk result (λ o. CrewReadsNext S.FileSystem P.ProcessReadDir C.ReadDirState.Clone
+            C.DirEntryState.Default L.Readers self.old (option_map outcome o) self.new) }
         ensures passes { IfOk result (λ o. PassesAddress (frontier_of self.old) (option_map outcome o)
             (frontier_of self.new)) }
     {

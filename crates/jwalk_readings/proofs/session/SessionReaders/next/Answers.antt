@@ -12,8 +12,8 @@ use Rattle.jwalk_readings.proofs.session.SessionReaders.next.Goals as goal
 pub returns-then-fits-clause-of : goal.returns-then-fits-clause-of
 returns-then-fits-clause-of g c origin from =
     subst (λ o. IsMessageOf g.S.FileSystem g.P.ProcessReadDir g.C.ReadDirState.Clone g.C.DirEntryState.Default o (addressed c.new-item.result)) from
-    (message_of g.S.FileSystem g.P.ProcessReadDir g.C.ReadDirState.Clone g.C.DirEntryState.Default (origin_of c.args.self.now.readings) c.in_ok-item.item c.new-item.result
-    (c.new-item.ensures.value ∙ c.of_crew.ensures) c.new-item.ensures.index_path (c.new-item.ensures.child_count ∙ c.child_count-child_count.ensures) c.in_ok-item.ensures.answer.of)
+    (message_of g.S.FileSystem g.P.ProcessReadDir g.C.ReadDirState.Clone g.C.DirEntryState.Default (origin_of c.args.self.now.readings) c.in-Some.item c.new-item.result
+    (c.new-item.ensures.value ∙ c.of_crew.ensures) c.new-item.ensures.index_path (c.new-item.ensures.child_count ∙ c.child_count-child_count.ensures) (rw c.in-Some.is at c.in_ok-item.ensures.answer).of)
 
 pub returns-else-fits-clause-due : goal.returns-else-fits-clause-due
 returns-else-fits-clause-due g c lost origin from due =
@@ -22,7 +22,7 @@ returns-else-fits-clause-due g c lost origin from due =
     = subst (λ o. IsDue g.S.FileSystem g.P.ProcessReadDir g.C.ReadDirState.Clone g.C.DirEntryState.Default o (awaited_by c.args.self.now) c.args.wanted.now) (sym from) due in
     let fits
     = due_fits g.S.FileSystem g.P.ProcessReadDir g.C.ReadDirState.Clone g.C.DirEntryState.Default (begun began) (awaited_by c.args.self.now) c.args.wanted.now c.new-item.result here
-    (ap address c.new-item.ensures.index_path ∙ c.in_ok-item.ensures.answer.next)
-    (message_of g.S.FileSystem g.P.ProcessReadDir g.C.ReadDirState.Clone g.C.DirEntryState.Default began c.in_ok-item.item c.new-item.result
-    (c.new-item.ensures.value ∙ c.of_crew.ensures) c.new-item.ensures.index_path (c.new-item.ensures.child_count ∙ c.child_count-child_count.ensures) c.in_ok-item.ensures.answer.of) in
+    (ap address c.new-item.ensures.index_path ∙ (rw c.in-Some.is at c.in_ok-item.ensures.answer).next)
+    (message_of g.S.FileSystem g.P.ProcessReadDir g.C.ReadDirState.Clone g.C.DirEntryState.Default began c.in-Some.item c.new-item.result
+    (c.new-item.ensures.value ∙ c.of_crew.ensures) c.new-item.ensures.index_path (c.new-item.ensures.child_count ∙ c.child_count-child_count.ensures) (rw c.in-Some.is at c.in_ok-item.ensures.answer).of) in
     let no : false ≡ true = sym c.if-fits.false ∙ c.fits.ensures.1 fits in absurd cc
