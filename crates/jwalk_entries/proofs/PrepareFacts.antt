@@ -1,5 +1,5 @@
 -- The next item is prepared, and then passed.
-use Rattle.std.proofs.Common.{◌≡◌, ◌≢◌, ◌≤◌, ◌⊎◌, ◌∙◌, Bool, true, List, [], ◌∷◌, ℕ, map, reverse, length, Option, Some, None, Result, Ok, Err, IsErr, IsErrAnd, OnErr, inl, inr, refl, sym, ap, subst, arith, ⊎_elim}
+use Rattle.std.proofs.Common.{◌≡◌, ◌≢◌, ◌≤◌, ◌⊎◌, ◌∙◌, Bool, true, false, List, [], ◌∷◌, ℕ, map, reverse, length, Option, Some, None, Result, Ok, Err, IsErr, IsErrAnd, OnErr, inl, inr, refl, sym, ap, subst, arith, ⊎_elim}
 use Rattle.std.specs.Prelude.{OnOk}
 use Rattle.std.specs.declared.clone.Clone as Clone
 use Rattle.std.specs.declared.default.Default as Default
@@ -34,8 +34,12 @@ use Rattle.jwalk_entries.proofs.AheadFacts.{passed_before}
 pub at_entry : {R E : Type 0} (items rest : List (Item R E)) (x : Item R E) (specs : List (Spec R)) → items ≡ x ∷ rest → has_directory x ≡ true → specs ≢ [] → IsAtDirectory items specs
 at_entry items rest x specs is has some = rw is (has, some)
 
+-- and none below one that has none
+pub not_at_entry : {R E : Type 0} (items rest : List (Item R E)) (x : Item R E) (specs : List (Spec R)) → items ≡ x ∷ rest → has_directory x ≡ false → ¬ IsAtDirectory items specs
+not_at_entry items rest x specs is has = rw is (λ at. (let no : false ≡ true = sym has ∙ at.0 in cc))
+
 -- nothing is to be read below no item
-none_at : {R E : Type 0} (items : List (Item R E)) (specs : List (Spec R)) → items ≡ [] → ¬ IsAtDirectory items specs
+pub none_at : {R E : Type 0} (items : List (Item R E)) (specs : List (Spec R)) → items ≡ [] → ¬ IsAtDirectory items specs
 none_at items specs none = rw none (λ at. at)
 
 -- the same is placed where the same is held

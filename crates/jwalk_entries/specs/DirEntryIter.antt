@@ -21,6 +21,7 @@ use Rattle.jwalk_read.specs.Entry.{item}
 use Rattle.jwalk_read.specs.Given.{Given, counted_item, counted_spec}
 use Rattle.jwalk_read.specs.Job.{options_of, greatest_depth, job_by, IsSteadyJob}
 use Rattle.jwalk_order.specs.Frontier as frontier
+use Rattle.jwalk_order.specs.Addresses.{IsAmong}
 use Rattle.jwalk_order.specs.Frontier.{next_address}
 use Rattle.jwalk_readings.specs.Reads.{ReadsFirstBy}
 use Rattle.jwalk_readings.specs.ReadAhead.{ReadAhead}
@@ -261,7 +262,7 @@ module _ {C S P A L R E : Type 0} (files : FileSystem.Ghosts S) (process : Proce
     pub reads : readings.ReadsForNext files process clone defaults readers old.reads new.reads
     pub items : new.items ≡ old.items
 
-  -- The next item is prepared: some are read for it, or all stays as it is. That fails only where a directory is to be read.
+  -- The next item is prepared: some are read for it, or all stays as it is. Where it enters a directory, and no crew reads, its reading is made then. That fails only where a directory is to be read.
   pub record Prepares {F : Type 0} (old : DirEntryIter C S P A L R E) (result : Result (Unit {0}) F) (new : DirEntryIter C S P A L R E) : Type 0 where
     pub crew : by_crew new ≡ by_crew old
     pub job : job_of new ≡ job_of old
@@ -270,6 +271,7 @@ module _ {C S P A L R E : Type 0} (files : FileSystem.Ghosts S) (process : Proce
     pub most : most_ahead readers new ≤ most_ahead readers old
     pub steady : ReadsStaySteady old new
     pub prepared : OnOk result ((new ≡ old) ⊎ ReadsForNext old new)
+    pub ready : IsAtDirectory (items_of old) (unread_of old) → OnOk result (by_crew old ≡ false → (unread_of new ≡ []) ⊎ IsAmong (readings.next_address new.reads) (early_of new))
     pub stopped : OnErr result (IsAtDirectory (items_of old) (unread_of old))
 
   -- The next item is passed, if there is one, or the reading of its directory is missed.

@@ -1,5 +1,5 @@
 //! A walk's answers, where threads read the directories that are read together.
-ghost use Rattle.std.specs.Prelude.{◌≡◌, ◌≢◌, true, []};
+ghost use Rattle.std.specs.Prelude.{◌≡◌, ◌≢◌, true, false, []};
 ghost use Rattle.jwalk_read.specs.Job.{callback};
 
 use crate::dir_entry_iter::DirEntryIter;
@@ -28,11 +28,14 @@ where
 
     /// Returns whether the next item is a directory's entry, which is to be read if any is left.
     fn is_at_directory(&self) -> bool
-        ensures { result ≡ true → unread_of self.now ≢ [] → IsAtDirectory (items_of self.now) (unread_of self.now) }
+        ensures yes { result ≡ true → unread_of self.now ≢ []
+            → IsAtDirectory (items_of self.now) (unread_of self.now) }
+        ensures no { result ≡ false → ¬ IsAtDirectory (items_of self.now) (unread_of self.now) }
     {
         match self.items.last() {
             Some(Ok(found)) => found.read_children.is_some(),
-            Some(Err(_)) | None => false,
+            Some(Err(_error)) => false,
+            None => false,
         }
     }
 
