@@ -43,28 +43,6 @@ pub(super) struct Begun<W> {
     pub(super) why_not: Option<NotStarted>,
 }
 
-impl<W> Begun<W> {
-    /// Returns a walk whose readings began.
-    fn reading(walk: W) -> Self
-        ensures { result ≡ record { walk = walk; why_not = None } }
-    {
-        Begun {
-            walk,
-            why_not: None,
-        }
-    }
-
-    /// Returns a walk for whose readings memory ran out.
-    fn refused(walk: W) -> Self
-        ensures { result ≡ record { walk = walk; why_not = Some NotStarted.Memory } }
-    {
-        Begun {
-            walk,
-            why_not: Some(NotStarted::Memory),
-        }
-    }
-}
-
 /// Puts the error that reports a busy crew in place of an entry whose directory is to be read.
 fn make_busy<C: ClientState, A: Allocator + Copy>(found: &mut Result<DirEntry<C, A>, Error<A>>)
     ensures { item found.new ≡ busied (item found.old) }
@@ -153,9 +131,15 @@ pub(super) fn from_root_alone<
 {
     let walk = DirEntryIter::from_root(alloc, job, read);
     if walk.is_refused() {
-        return Begun::refused(walk);
+        return Begun {
+            walk,
+            why_not: Some(NotStarted::Memory),
+        };
     }
-    Begun::reading(walk)
+    Begun {
+        walk,
+        why_not: None,
+    }
 }
 
 /// Starts a crew's readings of the directories of a root's list.
@@ -251,11 +235,17 @@ where
             ⟦<Session<R, C, S, P, A> as Readers<C, S, P, A>>⟧ result.walk }
     {
         let Some(read) = read else {
-            return Begun::refused(DirEntryIter::refused(alloc, job));
+            return Begun {
+                walk: DirEntryIter::refused(alloc, job),
+                why_not: Some(NotStarted::Memory),
+            };
         };
         match CrewReads::new(alloc, job) {
             Ok(reads) => WalkDirGeneric::with_reads(reads, read, crew, busy_timeout),
-            Err(job) => Begun::refused(DirEntryIter::refused(alloc, job)),
+            Err(job) => Begun {
+                walk: DirEntryIter::refused(alloc, job),
+                why_not: Some(NotStarted::Memory),
+            },
         }
     }
 }
