@@ -1,6 +1,7 @@
-//! A whole walk over a crew in one list, by the function of `proved_walk`.
+//! Walks over a crew, by the functions of `proved_walk`.
 use jwalk::file_system::FileSystem;
 use jwalk::{Crew, Parallelism, WalkDirGeneric};
+use proved_walk::ahead::ahead_over_crew;
 use proved_walk::by_crew::walk_by_crew;
 use std::alloc::AllocError;
 use std::sync::Arc;
@@ -35,4 +36,37 @@ fn a_whole_walk_by_a_crew_in_one_list(rt: HostRuntime) {
         Err(_) => false,
     };
     assert!(rt; is_shown);
+}
+
+/// How many readings are ahead of a walk over a file system after this many calls, where two workers read, whose
+/// number is the bound.
+fn ahead_by_crew<R: Host, S: FileSystem + Send + Sync + 'static>(
+    rt: &R,
+    fs: S,
+    calls: usize,
+) -> Result<usize, AllocError> {
+    let alloc = rt.alloc();
+    let crew = Crew::new(rt.clone()?, 1, 2);
+    let walk = WalkDirGeneric::with_crew(fs, String::from_str(alloc, "/r")?);
+    match ahead_over_crew::<R, ((), ()), _, _, _>(alloc, crew, 1, walk, calls) {
+        Ok(ahead) => Ok(ahead),
+        Err(_) => Err(AllocError),
+    }
+}
+
+/// Whether no more are ahead of a walk over the small tree than this, after that many calls.
+fn reads_within<R: Host>(rt: &R, calls: usize, most: usize) -> bool {
+    match tree(rt.alloc(), SMALL) {
+        Ok(tree) => matches!(ahead_by_crew(rt, tree, calls), Ok(ahead) if ahead <= most),
+        Err(_) => false,
+    }
+}
+
+#[test]
+fn a_walk_by_a_crew_with_a_bound(rt: HostRuntime) {
+    for calls in [0, 1, 2, 4] {
+        assert!(rt; reads_within(&rt, calls, 3));
+    }
+    // The walk has ended.
+    assert!(rt; reads_within(&rt, 6, 0));
 }

@@ -127,7 +127,7 @@ pub record SetsCrew {C S P A V W R E : Type 0} (old : WalkDirGeneric C S P A V R
   pub root : root_of new ≡ root_of old
   pub state : state_of new ≡ state_of old
 
--- A call of the builder that has a crew of the walk's own read it, and changes nothing else. The crew has this many threads, and 0 leaves their number open; its limit of readings ahead is 1,024, and the walk waits for its place without limit.
+-- A call of the builder that has a crew of the walk's own read it, and changes nothing else. The crew has this many threads, and 0 leaves their number open; it reads at most 1,024 directories ahead, but for the next one, and the walk waits for its place without limit.
 pub record SetsWorkers {H C S P A V R E : Type 0} (count : ℕ) (old : WalkDirGeneric C S P A V R E) (new : WalkDirGeneric C S P A (Crew H) R E) : Type 0 where
   pub options : options_of new ≡ with_parallelism crew (options_of old)
   pub threads : IsSomeAnd new.crew (λ own. 0 < count → workers_of (arc_value own.0) ≡ min count 256)
@@ -138,9 +138,9 @@ pub record SetsWorkers {H C S P A V R E : Type 0} (count : ℕ) (old : WalkDirGe
   pub root : root_of new ≡ root_of old
   pub state : state_of new ≡ state_of old
 
--- Of a walk's crew, at most its limit and one readings are made and not handed on.
-abbrev pub KeepsLimit : {H C S P A L R E : Type 0} → Readers.Ghosts L C S P A R E → WalkDirGeneric C S P A (Crew H) R E → DirEntryIter C S P A L R E → Type 0
-KeepsLimit readers walk it = IfSome walk.crew (λ own. iter.most_ahead readers it ≤ limit_of (arc_value own.0) + 1)
+-- A walk's crew keeps its bound: at most one reading more is made and not handed on.
+abbrev pub KeepsBound : {H C S P A L R E : Type 0} → Readers.Ghosts L C S P A R E → WalkDirGeneric C S P A (Crew H) R E → DirEntryIter C S P A L R E → Type 0
+KeepsBound readers walk it = IfSome walk.crew (λ own. iter.most_ahead readers it ≤ limit_of (arc_value own.0) + 1)
 
 -- A call of the builder that changes the types of the states, of a walk without a callback. The root's state is a default then, and nothing else changes.
 pub record SetsStates {C D S A W R E Q F : Type 0} (is_default : Q → Type 0) (old : WalkDirGeneric C S NoProcess A W R E) (new : WalkDirGeneric D S NoProcess A W Q F) : Type 0 where

@@ -329,8 +329,8 @@ impl<
     }
 
     /// Returns how many directories were read whose readings are not yet handed on. A serial walk reads none ahead.
-    /// Over a crew the number changes while the workers read, but it is at most one more than the crew's limit; the call
-    /// may block for a lock.
+    /// Over a crew the number changes while the workers read, but it is at most one more than the crew's bound. There
+    /// the call may block for a lock.
     pub fn ahead(&self) -> usize
         ensures alone { by_crew self.now ≡ false → result ≡ length (early_of self.now) }
         ensures crew { by_crew self.now ≡ true → result ≤ most_ahead L.Readers self.now }

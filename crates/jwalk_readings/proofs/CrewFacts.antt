@@ -1,5 +1,5 @@
 -- What a crew's message says of the awaited directory.
-use Rattle.std.proofs.Common.{◌≡◌, ◌∙◌, ◌+◌, ℕ, List, Option, Some, None, IsSomeAnd, Ok, Err, IfOk, ap, sym, subst, arith}
+use Rattle.std.proofs.Common.{◌≡◌, ◌∙◌, ◌+◌, ℕ, List, Ok, Err, IfOk, sym, subst, arith}
 use Rattle.std.specs.declared.clone.Clone as Clone
 use Rattle.std.specs.declared.default.Default as Default
 use Rattle.walk_model.specs.Options.{ReadsAs}
@@ -15,7 +15,7 @@ use Rattle.jwalk_read.specs.Job.{options_of, greatest_depth, IsReadingOf, IsRead
 use Rattle.jwalk_readings.specs.declared.wanted.Wanted.{Wanted}
 use Rattle.jwalk_readings.specs.Message.{Message}
 use Rattle.jwalk_readings.specs.Wanted.{IsFor, Fits}
-use Rattle.jwalk_readings.specs.CrewReads.{IsTold, most_ready}
+use Rattle.jwalk_readings.specs.CrewReads.{IsTold}
 
 -- a lawful outcome is one of every directory at this depth, up to the same greatest depth
 lawful_there : {R E : Type 0} (max_depth reads_to : ℕ) (of s : Spec R) (o : Outcome R E) → reads_to ≡ max_depth → of.depth ≡ s.depth → IsLawfulReading reads_to of o → IsLawfulReading max_depth s o
@@ -45,8 +45,3 @@ module _ {C S P A R E : Type 0} (files : FileSystem.Ghosts S) (process : Process
     few = tells.reading.few;
     value = tells;
   }
-
--- if the readers is this one, as many of its readings may be ready as it says
-pub most_of_pool : {L : Type 0} (most : L → ℕ) (p : L) (o : Option L) → IsSomeAnd o (λ q. q ≡ p) → most_ready most o ≡ most p
-most_of_pool most p None is = absurd is
-most_of_pool most p (Some q) is = ap most is

@@ -144,11 +144,6 @@ pub some_of : {X Y : Type 0} (P : Type 0) (f : X → Y) (o : Option X) → IfSom
 some_of P f None h = tt
 some_of P f (Some x) h = h
 
--- where no crew reads, none of its readings is ahead
-pub alone_most : {C S P A L R E : Type 0} (readers : Readers.Ghosts L C S P A R E) (it : ReadDirIter C S P A L R E) → by_crew it ≡ false → most_ahead readers it ≡ 0
-alone_most readers (Walk walk) own = refl
-alone_most readers (CrewWalk reads) own = absurd cc
-
 steady_board : {C S P A R E : Type 0} (files : FileSystem.Ghosts S) (process : ProcessReadDir.Ghosts P C A R E) (clone : Clone.Ghosts R) (defaults : Default.Ghosts E) (walk : BatchReads C S P A R E) (given : Given R E) → IsSteadyJob files process clone defaults walk.job given → (board.read_ahead walk).done ≡ [] → IsSteadyBatches files process clone defaults walk given
 steady_board files process clone defaults walk given steady none =
     let early = board.early_of walk in

@@ -123,6 +123,7 @@ impl<
         ensures job { IfOk result (λ reads. job_of reads ≡ arc_value job) }
         ensures to_read { IfOk result (λ reads. to_read reads ≡ map spec roots.items) }
         ensures begins { IfOk result (BeginsBy (λ given origin addresses. given ≡ readers)) }
+        ensures most { IfOk result (λ reads. most_ahead L.Readers reads ≡ L.most readers) }
     {
         let matcher = OrderedMatcher::with_roots(*roots.allocator(), roots.len())?;
         roots.reverse();

@@ -222,7 +222,7 @@ impl<
     }
 
     /// Returns how many readings were made and not handed on. Over a crew it changes while the workers read, but is at
-    /// most one more than the crew's limit, and the call may block for a lock.
+    /// most one more than the crew's bound, and the call may block for a lock.
     pub fn ahead(&self) -> usize
         ensures alone { by_crew self.now ≡ false → result ≡ length (early_of self.now) }
         ensures crew { by_crew self.now ≡ true → result ≤ most_ahead L.Readers self.now }

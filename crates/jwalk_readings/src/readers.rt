@@ -48,7 +48,7 @@ pub trait Readers<
     /// The addresses of the readings that it has still to give, the next one first.
     ghost awaits: { Self → List (List ℕ) };
 
-    /// How many readings may be made and not handed on. It stays the same.
+    /// At most how many readings are made and not handed on. It stays the same.
     ghost most: { Self → ℕ };
 
     /// Returns the reading that is wanted, once it is there. Over a crew it may block for the reading or for a lock.

@@ -48,8 +48,8 @@ pub fn next_and_ahead<
     (before, answer, walk.ahead())
 }
 
-/// Returns how many readings are ahead of a walk that a crew reads for, after this many calls of `next`: no more than
-/// may be before them.
+/// Returns how many readings are ahead of a walk after this many calls of `next`, where a crew reads for it. However
+/// many calls there were, it is at most what it may be before them.
 pub fn ahead_after<
     C: ClientState,
     S: FileSystem,
@@ -67,9 +67,9 @@ pub fn ahead_after<
     walk.ahead()
 }
 
-/// Returns how many readings are ahead after this many calls of `next`, of a walk for which a crew with this limit
-/// reads. However many calls there were, it is at most one more than the limit, where a limit below the number of the
-/// crew's workers counts as theirs.
+/// Returns how many readings are ahead after this many calls of `next`, of a walk for which a crew with this bound
+/// reads. However many calls there were, it is at most one more than the bound, where one below the number of the
+/// crew's workers counts as that number.
 ///
 /// # Errors
 ///

@@ -68,7 +68,7 @@ where
     C::ReadDirState: Send + 'static,
     C::DirEntryState: Send + 'static,
 {
-    ghost use Rattle.jwalk.specs.WalkDir.{callback_of, options_of, Starts, KeepsLimit, Begins};
+    ghost use Rattle.jwalk.specs.WalkDir.{callback_of, options_of, Starts, KeepsBound, Begins};
     ghost use Rattle.jwalk_entries.specs.DirEntryIter.{StartsSteady};
 
     /// Begins the walk.
@@ -77,7 +77,7 @@ where
         ensures starts { Starts self result.walk }
         ensures begins { Begins S.FileSystem P.ProcessReadDir C.ReadDirState.Clone C.DirEntryState.Default
             self result.why_not result.walk }
-        ensures most { KeepsLimit ⟦<Session<R, C, S, P, A> as Readers<C, S, P, A>>⟧ self result.walk }
+        ensures most { KeepsBound ⟦<Session<R, C, S, P, A> as Readers<C, S, P, A>>⟧ self result.walk }
         ensures steady { StartsSteady S.FileSystem P.ProcessReadDir C.ReadDirState.Clone C.DirEntryState.Default
             ⟦<Session<R, C, S, P, A> as Readers<C, S, P, A>>⟧ result.walk }
     {
@@ -112,7 +112,7 @@ where
         ensures starts { IfOk result (Starts self) }
         ensures begins { IfOk result (Begins S.FileSystem P.ProcessReadDir C.ReadDirState.Clone
             C.DirEntryState.Default self None) }
-        ensures most { IfOk result (KeepsLimit ⟦<Session<R, C, S, P, A> as Readers<C, S, P, A>>⟧ self) }
+        ensures most { IfOk result (KeepsBound ⟦<Session<R, C, S, P, A> as Readers<C, S, P, A>>⟧ self) }
         ensures steady { IfOk result (StartsSteady S.FileSystem P.ProcessReadDir C.ReadDirState.Clone
             C.DirEntryState.Default ⟦<Session<R, C, S, P, A> as Readers<C, S, P, A>>⟧) }
         ensures fails { IfErr result (λ error. (failure error ≡ memory)
@@ -133,7 +133,7 @@ where
         ensures starts { Starts self result }
         ensures begins { (why_not : _) × Begins S.FileSystem P.ProcessReadDir C.ReadDirState.Clone
             C.DirEntryState.Default self why_not result }
-        ensures most { KeepsLimit ⟦<Session<R, C, S, P, A> as Readers<C, S, P, A>>⟧ self result }
+        ensures most { KeepsBound ⟦<Session<R, C, S, P, A> as Readers<C, S, P, A>>⟧ self result }
         ensures steady { StartsSteady S.FileSystem P.ProcessReadDir C.ReadDirState.Clone C.DirEntryState.Default
             ⟦<Session<R, C, S, P, A> as Readers<C, S, P, A>>⟧ result }
     {

@@ -1,8 +1,7 @@
-use Rattle.std.proofs.Common.{Some, None, inl, inr, sym, option_map}
+use Rattle.std.proofs.Common.{Some, None, inl, inr, refl, sym, option_map}
 use Rattle.jwalk_read.specs.ReadDir.{reading}
 use Rattle.tree_crew.specs.declared.crew.NotStarted.TheVariants.{Memory}
-use Rattle.jwalk.proofs.CrewStartFacts.{alone_from_root, held_of}
-use Rattle.jwalk_readings.proofs.GivesFacts.{alone_most}
+use Rattle.jwalk.proofs.CrewStartFacts.{reads_alone, alone_from_root, held_of}
 use Rattle.jwalk_entries.specs.DirEntryIter.{reads_of}
 use Rattle.jwalk_entries.proofs.AnswerFacts.{alone_steady}
 use Rattle.jwalk.proofs.walk_dir.crew_start.from_root_alone.Goals as goal
@@ -20,10 +19,10 @@ returns-clause-from_root g c =
     alone_from_root g.C.ReadDirState.Clone (option_map reading c.args.read) c.args.job c.from_root-walk.result None is.own (λ no. cc) is.job is.within is.sourced (inr (is.depth started)) is.width is.ahead (λ given counts. held_of given c.args.read c.from_root-walk.result (is.held given counts started))
 
 pub returns-then-is_refused-clause-most : goal.returns-then-is_refused-clause-most
-returns-then-is_refused-clause-most g c = alone_most g.L.Readers (reads_of c.from_root-walk.result) c.from_root-walk.ensures.own
+returns-then-is_refused-clause-most g c = rw (reads_alone (reads_of c.from_root-walk.result) c.from_root-walk.ensures.own).1 refl
 
 pub returns-clause-most : goal.returns-clause-most
-returns-clause-most g c = alone_most g.L.Readers (reads_of c.from_root-walk.result) c.from_root-walk.ensures.own
+returns-clause-most g c = rw (reads_alone (reads_of c.from_root-walk.result) c.from_root-walk.ensures.own).1 refl
 
 pub returns-then-is_refused-clause-steady : goal.returns-then-is_refused-clause-steady
 returns-then-is_refused-clause-steady g c = λ given steady. alone_steady g.S.FileSystem g.P.ProcessReadDir g.C.ReadDirState.Clone g.C.DirEntryState.Default g.L.Readers c.from_root-walk.result given c.from_root-walk.ensures.own steady c.from_root-walk.ensures.ahead.done

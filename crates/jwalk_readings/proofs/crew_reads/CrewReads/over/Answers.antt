@@ -6,7 +6,7 @@ use Rattle.jwalk_readings.proofs.ResultFacts.{none_ok}
 use Rattle.jwalk_readings.proofs.crew_reads.CrewReads.over.Goals as goal
 
 pub returns-in_err-matcher : goal.returns-in_err-matcher
-returns-in_err-matcher g c = record { job = none_ok _ c.from_residual.result c.from_residual.ensures.0; to_read = none_ok _ c.from_residual.result c.from_residual.ensures.0; begins = none_ok _ c.from_residual.result c.from_residual.ensures.0 }
+returns-in_err-matcher g c = record { job = none_ok _ c.from_residual.result c.from_residual.ensures.0; to_read = none_ok _ c.from_residual.result c.from_residual.ensures.0; begins = none_ok _ c.from_residual.result c.from_residual.ensures.0; most = none_ok _ c.from_residual.result c.from_residual.ensures.0 }
 
 pub returns-clause-to_read : goal.returns-clause-to_read
 returns-clause-to_read g c = ap (map spec) (ap reverse c.reverse.ensures.items ∙ reverse-reverse c.args.roots.items)

@@ -3,12 +3,8 @@ use Rattle.std.proofs.lemmas.List.{length-map}
 use Rattle.std.specs.Arc.{arc_value}
 use Rattle.jwalk_order.specs.Frontier.{roots}
 use Rattle.jwalk_read.specs.ReadDirSpec.{spec}
-use Rattle.jwalk_readings.proofs.CrewFacts.{most_of_pool}
 use Rattle.jwalk_readings.proofs.CrewSteadyFacts.{begins_by, starts_steady}
 use Rattle.jwalk_readings.proofs.read_dir_iter.ReadDirIter.over_readers.Goals as goal
-
-pub returns-in-Ok-clause-most : goal.returns-in-Ok-clause-most
-returns-in-Ok-clause-most g c = most_of_pool g.L.Readers.most c.args.readers c.in-Ok.reads.readers c.in-Ok.ensures.begins.readers
 
 pub returns-in-Ok-clause-steady : goal.returns-in-Ok-clause-steady
 returns-in-Ok-clause-steady g c = λ comes.
