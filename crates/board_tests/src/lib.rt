@@ -10,6 +10,8 @@ mod board_walk;
 #[cfg(test)]
 mod crew;
 #[cfg(test)]
+mod crew_walk;
+#[cfg(test)]
 mod given;
 #[cfg(test)]
 mod index_path;

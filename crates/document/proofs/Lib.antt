@@ -1,2 +1,1 @@
 mod DocumentFacts
-mod Crosses
