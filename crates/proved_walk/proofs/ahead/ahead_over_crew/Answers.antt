@@ -1,5 +1,5 @@
 use Rattle.std.proofs.Common.{◌∙◌, inl, inr, is_some, ap, arith}
-use Rattle.jwalk.specs.jwalk_readings.Crew.{limit_of}
+use Rattle.jwalk.specs.tree_crew.Crew.{limit_of}
 use Rattle.proved_walk.proofs.ahead.ahead_over_crew.Goals as goal
 
 pub ahead_after-requires-clause-crew : goal.ahead_after-requires-clause-crew
