@@ -1,16 +1,21 @@
 //! Walks that a crew reads for, where each request for memory is refused, or all from each on.
+ghost use Rattle.std.specs.Prelude.{IfSome};
+ghost use Rattle.jwalk.specs.WalkDir.{callback_of};
+
 use crate::refused::rows::{GROUPS, HANDED_ON, MOVED, Row};
-use jwalk::file_system::MemoryFs;
-use jwalk::read_dir::NoProcess;
-use jwalk::{Crew, Error, Parallelism, WalkDirGeneric};
+use jwalk::file_system::{FileSystem, MemoryFs};
+use jwalk::read_dir::{NoProcess, ProcessReadDir};
+use jwalk::{ClientState, Crew, Error, Parallelism, WalkDirGeneric};
 use refused_walks::callbacks::{Callback, Texts};
 use refused_walks::came::{Came, goes};
+use refused_walks::lines::Shown;
 use refused_walks::turns::MOST;
 use refusing_alloc::Refusing;
-use std::alloc::Global;
-use std::sync::Arc;
+use std::alloc::{Allocator, Global};
+use std::sync::{Arc, Wait};
 use std::thread;
-use std::time::Duration;
+use std::thread::Threads;
+use std::time::{Clock, Duration};
 use walk_fixtures::host::Host;
 use walk_fixtures::trees::tree;
 
@@ -64,7 +69,7 @@ fn called<R: Host>(
 }
 
 /// How a walk comes out that didn't begin. A crew of which no thread could be started is busy.
-fn not_begun(error: &Error<Memory>) -> Came {
+fn not_begun<A: Allocator + Copy>(error: &Error<A>) -> Came {
     if error.is_memory() || error.is_busy() {
         Came::Refused(0)
     } else {
@@ -72,19 +77,19 @@ fn not_begun(error: &Error<Memory>) -> Came {
     }
 }
 
-/// How a walk without a callback comes out.
-fn plain_comes<R: Host>(alloc: Global, walk: Option<Plain<R>>, row: &Row) -> Came {
-    let Some(walk) = walk else {
-        return Came::Refused(0);
-    };
-    match walk.try_into_iter() {
-        Ok(walk) => goes(alloc, walk, row.lines),
-        Err(error) => not_begun(&error),
-    }
-}
-
-/// How a walk with a callback comes out.
-fn called_comes<R: Host>(alloc: Global, walk: Option<Called<R>>, row: &Row) -> Came {
+/// How a walk comes out that a crew is to read for, if there was memory for its root.
+fn comes_by<
+    R: Wait + Threads + Clock + Drop + Send + Sync + 'static,
+    C: ClientState + Send + 'static,
+    S: FileSystem + Send + Sync + 'static,
+    P: ProcessReadDir<C, A> + Send + Sync + 'static,
+    A: Allocator + Copy + Send + Sync + 'static,
+>(alloc: Global, walk: Option<WalkDirGeneric<C, S, P, A, Crew<R>>>, row: &Row) -> Came
+where
+    C::ReadDirState: Send + 'static,
+    C::DirEntryState: Shown + Send + 'static,
+    requires { IfSome walk (λ w. P.IsLawful (callback_of w)) }
+{
     let Some(walk) = walk else {
         return Came::Refused(0);
     };
@@ -103,8 +108,8 @@ fn comes<R: Host>(
     row: &Row,
 ) -> Came {
     match row.callback {
-        Some(callback) => called_comes(alloc, called(memory, fs, pool, row, callback), row),
-        None => plain_comes(alloc, plain(memory, fs, pool, row), row),
+        Some(callback) => comes_by(alloc, called(memory, fs, pool, row, callback), row),
+        None => comes_by(alloc, plain(memory, fs, pool, row), row),
     }
 }
 
