@@ -5,7 +5,8 @@ ghost use Rattle.std.specs.Io.KnownBytes.{append_known};
 ghost use Rattle.seek_filter.specs.Filter.{sought_of};
 ghost use Rattle.seek_filter.specs.Lines.{style_of, gathered_of};
 ghost use Rattle.jwalk.specs.DirEntryIter.{Answers};
-ghost use Rattle.jwalk.specs.WalkDir.{file_system_of, options_of, root_of, state_of};
+ghost use Rattle.jwalk.specs.Each.{BeginsOver};
+ghost use Rattle.jwalk.specs.WalkDir.{callback_of, file_system_of, options_of, root_of, state_of};
 ghost use Rattle.jwalk_ignore.specs.Given.{no_rules_yet, rules_alone};
 ghost use Rattle.jwalk_ignore.specs.IgnoreViews.{next_of, settings_of, texts_of};
 ghost use Rattle.seek_walk.specs.Found.{PrintsClean, PrintsFound, YieldsWhole};
@@ -19,8 +20,7 @@ use crate::sought_test::SoughtTest;
 use jwalk::crew::Session;
 use jwalk::file_system::FileSystem;
 use jwalk::read_dir::{NoProcess, ProcessReadDir};
-use jwalk::{Crew, DirEntryIter, Readers, WalkDirGeneric};
-use jwalk_ignore::chain::Chain;
+use jwalk::{ClientState, Crew, DirEntryIter, Readers, WalkDirGeneric};
 use jwalk_ignore::ignore_files::IgnoreFiles;
 use jwalk_ignore::texts::Texts;
 use seek_filter::halt::Halt;
@@ -34,63 +34,78 @@ use std::sync::{Arc, Wait};
 use std::thread::Threads;
 use std::time::Clock;
 
-/// A walk under way over a shared file system, with states, a callback and a crew.
-type Below<T, C, S, P> = DirEntryIter<C, Arc<S>, P, Global, Session<T, C, Arc<S>, P, Global>>;
-
 /// A walk that isn't begun, with the states of ignore files.
 type Plain<T, S> = WalkDirGeneric<KeptStates, Arc<S>, NoProcess, Global, Crew<T>>;
 
-/// A walk without ignore files.
-type All<T, S> = Below<T, ((), ()), S, Excluding>;
+/// A walk under way without ignore files.
+type All<T, S> = DirEntryIter<
+    ((), ()),
+    Arc<S>,
+    Excluding,
+    Global,
+    Session<T, ((), ()), Arc<S>, Excluding, Global>,
+>;
 
-/// A walk that honours them.
-type Kept<T, S, X> = Below<T, KeptStates, S, KeptRules<X>>;
-
-/// Begins a walk that honours these rules.
-fn begin_kept<
-    T: Wait + Threads + Clock + Clone + Drop + Send + Sync + 'static,
+/// Begins a walk that a crew may read for, and prints what is found by it.
+fn print_begun<
+    T: Wait + Threads + Clock + Drop + Send + Sync + 'static,
+    C: ClientState + Send + 'static,
     S: FileSystem + Send + Sync + 'static,
-    X: Texts + Send + Sync + 'static,
->(walk: Plain<T, S>, rules: IgnoreFiles<Arc<X>, Excluding>) -> Kept<T, S, X>
-    ensures { S.IsFixed (arc_value (file_system_of walk)) → X.IsFixed (arc_value (texts_of rules))
-        → rules_alone (state_of walk) ≡ no_rules_yet → YieldsWhole
-        (Answers ⟦<Arc<S> as FileSystem>⟧ ⟦<KeptRules<X> as ProcessReadDir<((Chain, ()), ()), Global>>⟧
-        ⟦<(Chain, ()) as Clone>⟧ ⟦<() as Default>⟧
-        ⟦<Session<T, ((Chain, ()), ()), Arc<S>, KeptRules<X>, Global> as Readers<((Chain, ()), ()), Arc<S>, KeptRules<X>, Global>>⟧)
-        result (given_kept (settings_of rules) (X.functions (arc_value (texts_of rules))) (excluded_of (next_of rules)))
-        (ignoring_walk (S.functions (arc_value (file_system_of walk))) (X.functions (arc_value (texts_of rules)))
-        (settings_of rules) (excluded_of (next_of rules)) (options_of walk) (root_of walk)) }
+    P: ProcessReadDir<C, Global> + Send + Sync + 'static,
+    W: Write,
+    E: Write,
+>(
+    walk: WalkDirGeneric<C, S, P, Global, Crew<T>>,
+    printer: &mut Printer<'_, SoughtTest<'_>>,
+    out: &mut W,
+    err: &mut E,
+) -> Result<bool, Halt>
+where
+    C::ReadDirState: Send + 'static,
+    C::DirEntryState: Send + 'static,
+    requires { P.IsLawful (callback_of walk) }
+    ensures printed { (it : _) × BeginsOver S.FileSystem P.ProcessReadDir C.ReadDirState.Clone C.DirEntryState.Default
+        ⟦<Session<T, C, S, P, Global> as Readers<C, S, P, Global>>⟧ walk it
+        × IfOk result (PrintsFound (Answers S.FileSystem P.ProcessReadDir C.ReadDirState.Clone C.DirEntryState.Default
+        ⟦<Session<T, C, S, P, Global> as Readers<C, S, P, Global>>⟧) it
+        (sought_of takes_of printer.old.filter) (style_of printer.old.lines)
+        (append_known (W.contents out.old) (gathered_of printer.old.lines))
+        (append_known (W.contents out.new) (gathered_of printer.new.lines))) }
+    ensures sought { sought_of takes_of printer.new.filter ≡ sought_of takes_of printer.old.filter }
+    ensures style { style_of printer.new.lines ≡ style_of printer.old.lines }
 {
-    walk.skip_hidden(false)
-        .process_read_dir(KeptRules { rules })
-        .into_iter()
+    let mut answers = walk.into_iter();
+    print_found(&mut answers, printer, out, err)
 }
 
-/// Prints what is found by a walk that honours rules.
-fn print_kept<
+/// Begins a walk that honours these rules, and prints what is found by it.
+fn search_walk<
     T: Wait + Threads + Clock + Clone + Drop + Send + Sync + 'static,
     S: FileSystem + Send + Sync + 'static,
     X: Texts + Send + Sync + 'static,
     W: Write,
     E: Write,
 >(
-    answers: Kept<T, S, X>,
+    walk: Plain<T, S>,
+    rules: IgnoreFiles<Arc<X>, Excluding>,
     printer: &mut Printer<'_, SoughtTest<'_>>,
     out: &mut W,
     err: &mut E,
 ) -> Result<bool, Halt>
-    ensures printed { IfOk result (PrintsFound
-        (Answers ⟦<Arc<S> as FileSystem>⟧ ⟦<KeptRules<X> as ProcessReadDir<((Chain, ()), ()), Global>>⟧
-        ⟦<(Chain, ()) as Clone>⟧ ⟦<() as Default>⟧
-        ⟦<Session<T, ((Chain, ()), ()), Arc<S>, KeptRules<X>, Global> as Readers<((Chain, ()), ()), Arc<S>, KeptRules<X>, Global>>⟧)
-        answers (sought_of takes_of printer.old.filter) (style_of printer.old.lines)
+    ensures whole { IfOk result (λ clean. clean ≡ true → S.IsFixed (arc_value (file_system_of walk))
+        → X.IsFixed (arc_value (texts_of rules)) → rules_alone (state_of walk) ≡ no_rules_yet → PrintsClean
+        (ignoring_walk (S.functions (arc_value (file_system_of walk))) (X.functions (arc_value (texts_of rules)))
+        (settings_of rules) (excluded_of (next_of rules)) (options_of walk) (root_of walk))
+        (sought_of takes_of printer.old.filter) (style_of printer.old.lines)
         (append_known (W.contents out.old) (gathered_of printer.old.lines))
         (append_known (W.contents out.new) (gathered_of printer.new.lines))) }
     ensures sought { sought_of takes_of printer.new.filter ≡ sought_of takes_of printer.old.filter }
     ensures style { style_of printer.new.lines ≡ style_of printer.old.lines }
 {
-    let mut answers = answers;
-    print_found(&mut answers, printer, out, err)
+    let walk = walk
+        .skip_hidden(false)
+        .process_read_dir(KeptRules { rules });
+    print_begun(walk, printer, out, err)
 }
 
 /// What is asked for, and what it is looked for in.
@@ -190,7 +205,7 @@ impl<
         let walk = self
             .options()
             .walk_of::<KeptStates, _, _, _>(disk, root, &self.crew)?;
-        print_kept(begin_kept(walk, rules), printer, out, err)
+        search_walk(walk, rules, printer, out, err)
     }
 
     /// Searches below a root, prints what is found and reports errors. Returns whether there was none.

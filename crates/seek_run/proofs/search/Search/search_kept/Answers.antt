@@ -1,9 +1,8 @@
-use Rattle.std.proofs.Common.{◌≡◌, ◌∙◌, ap, map, subst, sym}
+use Rattle.std.proofs.Common.{◌≡◌, ◌∙◌, ap, subst, sym}
 use Rattle.std.specs.Prelude.{is_some}
 use Rattle.std.specs.Arc.{arc_value}
 use Rattle.std.proofs.lemmas.Result.{IfOk-weaker}
 use Rattle.jwalk.specs.walk_model.Counted.{blank, both}
-use Rattle.jwalk.specs.jwalk_read.Entry.{item}
 use Rattle.jwalk.specs.WalkDir.{file_system_of, options_of, state_of}
 use Rattle.jwalk_ignore.specs.ChainWorth.{chain_worth}
 use Rattle.jwalk_ignore.specs.Given.{no_rules_yet, rules_alone}
@@ -12,10 +11,9 @@ use Rattle.jwalk_ignore.specs.declared.settings.Settings.{Settings}
 use Rattle.seek_walk.specs.Options.{options_for, with_crew}
 use Rattle.seek_walk.specs.declared.options.WalkOptions.{WalkOptions}
 use Rattle.seek_walk.proofs.CleanFacts.{printed_as}
-use Rattle.seek_walk.proofs.WholeFacts.{clean_entries, printed_whole}
 use Rattle.seek_words.specs.Asks.{texts_of}
 use Rattle.seek_run.specs.Excluding.{excluded_by, excluded_of, excluding}
-use Rattle.seek_run.specs.Search.{excluded_asked, given_kept, options_asked, settings_asked}
+use Rattle.seek_run.specs.Search.{excluded_asked, options_asked, settings_asked}
 use Rattle.seek_run.proofs.SearchFacts.{hidden_by_crew, ignoring_same}
 use Rattle.seek_run.proofs.search.Search.search_kept.Goals as goal
 
@@ -38,12 +36,10 @@ returns-clause-whole g c =
     let options : options_of walk ≡ with_crew (is_some self.crew) (options_asked asked)
     = built.options ∙ ap (λ (o : WalkOptions). options_for o (is_some self.crew)) c.options.ensures in
     let state : rules_alone (state_of walk) ≡ no_rules_yet = ap (λ chain. both (chain_worth chain) blank) built.state.0 in
-    let given = given_kept (settings_of rules) (g.X.Texts.functions (arc_value (texts_in rules))) (excluded_of (next_of rules)) in
-    IfOk-weaker c.print_kept.result _ _
-    (λ clean prints. λ is fixed told.
+    IfOk-weaker c.search_walk.result _ _
+    (λ clean whole. λ is fixed told.
     printed_as
     (ignoring_same (ap g.S.FileSystem.functions over) (ap g.X.Texts.functions from) settings lines options (built.root ∙ c.in_ok-root.ensures.ok)
     ∙ hidden_by_crew (ignoring (settings_asked asked) texts (excluding excluded)) (is_some self.crew) (g.S.FileSystem.functions (arc_value self.disk)) (options_asked asked) c.args.root.now no_rules_yet)
-    (printed_whole given _ _ _ _ clean (map item prints.0) _ is prints.2 prints.3
-    (c.begin_kept.ensures (subst g.S.FileSystem.IsFixed (sym over) fixed) (subst g.X.Texts.IsFixed (sym from) told) state prints.0 prints.1 (clean_entries prints.0 (sym prints.2 ∙ is)))))
-    c.print_kept.ensures.printed
+    (whole is (subst g.S.FileSystem.IsFixed (sym over) fixed) (subst g.X.Texts.IsFixed (sym from) told) state))
+    c.search_walk.ensures.whole
