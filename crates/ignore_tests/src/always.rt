@@ -1,15 +1,18 @@
 //! What walks leave that honour ignore files, in each way and over a crew.
+ghost use Rattle.jwalk.specs.WalkDir.{callback_of};
+
 use crate::left::text_of;
 use crate::planted::{Planted, Rules};
-use jwalk::file_system::MemoryFs;
+use jwalk::file_system::{FileSystem, MemoryFs};
 use jwalk::read_dir::{NoProcess, ProcessReadDir};
-use jwalk::{Crew, Parallelism, WalkDirGeneric};
+use jwalk::{ClientState, Crew, Parallelism, WalkDirGeneric};
 use jwalk_ignore::chain::Chain;
 use jwalk_ignore::ignore_files::IgnoreFiles;
 use jwalk_ignore::memory_texts::MemoryTexts;
 use std::alloc::{AllocError, Global};
-use std::sync::Arc;
+use std::sync::{Arc, Wait};
 use std::thread::Threads;
+use std::time::Clock;
 use walk_fixtures::answers::Answer;
 use walk_fixtures::host::Host;
 use walk_ways::ways::{Asked, Setting, WAYS, Way, all_of};
@@ -45,6 +48,24 @@ impl ProcessReadDir<Rules, Global> for SharedRules {
 
 /// A walk yet to begin that a crew is to read for.
 type CrewWalk<R> = WalkDirGeneric<Rules, Arc<MemoryFs>, NoProcess, Global, Crew<R>>;
+
+/// Returns all that a walk yields that a crew may read for.
+fn all_by_crew<
+    R: Wait + Threads + Clock + Drop + Send + Sync + 'static,
+    C: ClientState + Send + 'static,
+    S: FileSystem + Send + Sync + 'static,
+    P: ProcessReadDir<C, Global> + Send + Sync + 'static,
+>(
+    alloc: Global,
+    walk: WalkDirGeneric<C, S, P, Global, Crew<R>>,
+) -> Result<Vec<Answer<C>>, AllocError>
+where
+    C::ReadDirState: Send + 'static,
+    C::DirEntryState: Send + 'static,
+    requires { P.IsLawful (callback_of walk) }
+{
+    all_of(alloc, walk.into_iter())
+}
 
 /// A tree with files of rules, which a crew's workers share.
 #[derive(Drop)]
@@ -105,7 +126,7 @@ impl Shared {
             .skip_hidden(false)
             .follow_links(self.follows)
             .parallelism(by_crew);
-        all_of(alloc, walk.process_read_dir(self.rules()?).into_iter())
+        all_by_crew(alloc, walk.process_read_dir(self.rules()?))
     }
 
     /// Returns whether walks from `/r` leave this, in each way and over a crew of two.
