@@ -1,4 +1,4 @@
-//! Messages of workers, the reading that is waited for, and places.
+//! Messages of workers, and the reading that is waited for.
 use crate::given::{self, Refusing, States, address, roots_of};
 use jwalk_board::board::{Board, HandOutRefusal};
 use jwalk_order::ordered::Ordered;
@@ -15,7 +15,6 @@ use jwalk_readings::wanted::Wanted;
 use std::alloc::Global;
 use std::io::ErrorKind;
 use std::sync::Arc;
-use tree_crew::places::Places;
 
 type Spec = ReadDirSpec<States>;
 
@@ -355,26 +354,4 @@ fn are_compared_by_paths(alloc: Global) -> Option<bool> {
 #[test]
 fn lists_of_ancestors_are_compared_by_their_paths(rt: HostRuntime) {
     assert!(rt; are_compared_by_paths(rt.alloc()) == Some(true));
-}
-
-// Places.
-
-/// Whether the only place is taken once until it is given back.
-fn is_taken_once(places: &mut Places) -> bool {
-    if places.in_use() != 0 || !places.take() || places.take() || places.in_use() != 1 {
-        return false;
-    }
-    places.give_back();
-    places.take() && places.places() == 1
-}
-
-#[test]
-fn a_place_is_taken_once_until_it_is_given_back(rt: HostRuntime) {
-    assert!(rt; is_taken_once(&mut Places::new(1)));
-}
-
-#[test]
-fn no_places_count_as_one(rt: HostRuntime) {
-    let mut places = Places::new(0);
-    assert!(rt; places.places() == 1 && places.take() && !places.take());
 }

@@ -1,10 +1,10 @@
-//! A plan that reads no directories, by a crew.
+//! A plan that reads no directories, by a crew; and a crew's places.
 use board_fixtures::family::Family;
 use std::alloc::Global;
 use std::sync::{Arc, Wait};
 use std::thread::Threads;
-use std::time::Clock;
-use tree_crew::crew::{Crew, Place};
+use std::time::{Clock, Duration};
+use tree_crew::crew::{Crew, NotStarted, Place};
 use tree_crew::origin::Origin;
 use tree_crew::session::Session;
 use tree_crew::whole::read_all;
@@ -79,4 +79,35 @@ fn readings_of_two_families_by_a_crew_one_at_a_time(rt: HostRuntime) {
         }
         assert_eq!(rt; crew.late_wakes(), 0);
     }
+}
+
+// Places.
+
+/// Whether a crew has one place, which is taken once until it is given back.
+fn is_taken_once<R: Wait + Clock + Drop>(crew: &Arc<Crew<R>>) -> bool {
+    for _ in 0..2 {
+        let Ok(place) = Place::take(crew, None) else {
+            return false;
+        };
+        let other = Place::take(crew, Some(Duration::ZERO));
+        if !matches!(other, Err(NotStarted::Busy)) || crew.in_use() != 1 {
+            return false;
+        }
+        drop(place);
+    }
+    crew.in_use() == 0
+}
+
+#[test]
+fn a_place_is_taken_once_until_it_is_given_back(rt: HostRuntime) {
+    let crew = Crew::new(rt.clone().expect(&rt, "runtime"), 1, 1);
+    let crew = Arc::new(rt.alloc(), crew).expect(&rt, "crew");
+    assert!(rt; is_taken_once(&crew));
+}
+
+#[test]
+fn no_places_count_as_one(rt: HostRuntime) {
+    let crew = Crew::new(rt.clone().expect(&rt, "runtime"), 0, 1);
+    let crew = Arc::new(rt.alloc(), crew).expect(&rt, "crew");
+    assert!(rt; is_taken_once(&crew));
 }

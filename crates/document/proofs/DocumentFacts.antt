@@ -2,9 +2,8 @@
 use Rattle.std.proofs.Common.{◌≡◌, ℕ, zero, suc, List, [], ◌∷◌, ◌++◌, map, refl, sym, ap, ◌∙◌, append_assoc}
 use Rattle.std.specs.Prelude.{flat_map}
 use Rattle.std.proofs.lemmas.List.{append-nil}
-use Rattle.jwalk_board.specs.Plan.{readings_in_preorder}
-use Rattle.tree_crew.specs.Whole.{values}
-use Rattle.tree_crew.proofs.PreorderFacts.{below, below-first, readings-are}
+use Rattle.jwalk_board.specs.Plan.{readings_in_preorder, values}
+use Rattle.jwalk_board.proofs.PreorderValues.{below, below-first, readings-are}
 use Rattle.document.specs.declared.document.Document.{Document}
 use Rattle.document.specs.declared.document.Line.{Line}
 use Rattle.document.specs.declared.document.Told.{Told}

@@ -3,6 +3,7 @@ pub mod Hands
 pub mod Left
 pub mod Opens
 pub mod Plays
+pub mod PreorderValues
 pub mod Preorders
 pub mod Steps
 pub mod UnderWay

@@ -17,6 +17,10 @@ abbrev pub forest : {S : Type 0} → (List ℕ → S → List (Addressed S)) →
 forest subtree a i [] = []
 forest subtree a i (s ∷ specs) = subtree (a ++ i ∷ []) s ++ forest subtree a (i + 1) specs
 
+-- what is at addresses, without them
+abbrev pub values : {V : Type 0} → List (Addressed V) → List V
+values = map (λ x. x.value)
+
 module _ {S R : Type 0} (t : PlanTree S R) where
   -- a specification at its address
   abbrev pub node : List ℕ → S → Addressed S

@@ -8,30 +8,30 @@ use Rattle.jwalk_order.specs.Frontier.{next_address, passed, children_from, root
 use Rattle.jwalk_order.specs.declared.ordered.Ordered.{Ordered}
 use Rattle.jwalk_board.specs.Plan.{PlanTree, Falls}
 use Rattle.jwalk_board.specs.declared.board.plan.Plan as Plan
+use Rattle.jwalk_board.proofs.PreorderValues.{below, below-first, one_more, readings-are}
 use Rattle.tree_crew.specs.Message.{Message}
 use Rattle.tree_crew.specs.Origin.{Origin, IsReadingWith, at_address}
 use Rattle.tree_crew.specs.Shared.{IsReadingAt}
 use Rattle.tree_crew.specs.Whole.{ArePreorder}
 use Rattle.tree_crew.proofs.OriginFacts.{AreAsGiven, at_child}
-use Rattle.tree_crew.proofs.PreorderFacts.{below, below-first, one_more, readings-are}
 
 module _ {S Q : Type 0} (t : PlanTree S Q) (roots : List S) where
   -- what is at these addresses
   abbrev pub left : List (List ℕ) → List S
   left = flat_map (λ a. option_to_list (at_address t.children roots a))
 
-  numbered_left : (at : ℕ → List ℕ) (from : ℕ → List ℕ → ℕ → List (List ℕ)) (all : List S) → ((i : ℕ) → at_address t.children roots (at i) ≡ slice_get all i) → (ys : List S) (i : ℕ) → ((k : ℕ) → slice_get all (i + k) ≡ slice_get ys k)
+  numbered_left : (at : ℕ → List ℕ) (all : List S) → ((i : ℕ) → at_address t.children roots (at i) ≡ slice_get all i) → (ys : List S) (i : ℕ) → ((k : ℕ) → slice_get all (i + k) ≡ slice_get ys k)
       → (lists : ℕ → ℕ → List (List ℕ)) → ((j : ℕ) → lists j 0 ≡ []) → ((j n : ℕ) → lists j (suc n) ≡ at j ∷ lists (j + 1) n) → left (lists i (length ys)) ≡ ys
-  numbered_left at from all each [] i is lists none more = ap left (none i)
-  numbered_left at from all each (y ∷ ys) i is lists none more =
+  numbered_left at all each [] i is lists none more = ap left (none i)
+  numbered_left at all each (y ∷ ys) i is lists none more =
       let here : at_address t.children roots (at i) ≡ Some y = each i ∙ (let z : i + 0 ≡ i = omega arith in subst (λ k. slice_get all k ≡ Some y) z (is 0)) in
       ap left (more i (length ys))
       ∙ ap (λ o. option_to_list o ++ left (lists (i + 1) (length ys))) here
-      ∙ ap (λ l. y ∷ l) (numbered_left at from all each ys (i + 1) (λ k. (let z : i + suc k ≡ (i + 1) + k = omega arith in subst (λ m. slice_get all m ≡ slice_get ys k) z (is (suc k)))) lists none more)
+      ∙ ap (λ l. y ∷ l) (numbered_left at all each ys (i + 1) (λ k. (let z : i + suc k ≡ (i + 1) + k = omega arith in subst (λ m. slice_get all m ≡ slice_get ys k) z (is (suc k)))) lists none more)
 
   -- at the children of an address are its children
   children_left : (a : List ℕ) (s : S) → at_address t.children roots a ≡ Some s → left (children_from 0 a (length (t.children s))) ≡ t.children s
-  children_left a s there = numbered_left (λ i. a ++ i ∷ []) (λ i b n. []) (t.children s) (λ i. at_child t.children roots a i s there) (t.children s) 0 (λ k. (let z : 0 + k ≡ k = omega arith in ap (slice_get (t.children s)) z)) (λ j n. children_from j a n) (λ j. refl) (λ j n. refl)
+  children_left a s there = numbered_left (λ i. a ++ i ∷ []) (t.children s) (λ i. at_child t.children roots a i s there) (t.children s) 0 (λ k. (let z : 0 + k ≡ k = omega arith in ap (slice_get (t.children s)) z)) (λ j n. children_from j a n) (λ j. refl) (λ j n. refl)
 
   -- Its children take the place of one that is passed.
   pub left_passed : Falls t → (awaited : List (List ℕ)) (s : S) (count : ℕ) → at_address t.children roots (next_address awaited) ≡ Some s → count ≡ length (t.children s)
@@ -45,7 +45,7 @@ module _ {S Q : Type 0} (t : PlanTree S Q) (roots : List S) where
 
   -- at the roots' addresses are the roots
   pub left_roots : left (root_addresses (length roots)) ≡ roots
-  left_roots = numbered_left (λ i. i ∷ []) (λ i b n. []) roots (λ i. refl) roots 0 (λ k. (let z : 0 + k ≡ k = omega arith in ap (slice_get roots) z)) (λ j n. children_from j [] n) (λ j. refl) (λ j n. refl)
+  left_roots = numbered_left (λ i. i ∷ []) roots (λ i. refl) roots 0 (λ k. (let z : 0 + k ≡ k = omega arith in ap (slice_get roots) z)) (λ j n. children_from j [] n) (λ j. refl) (λ j n. refl)
 
 module _ {J A T U : Type 0} (p : Plan.Ghosts J A T U) (origin : Origin T J) where
   -- what comes at these addresses and below them, over what the plan is fixed over

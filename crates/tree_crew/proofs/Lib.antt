@@ -3,5 +3,4 @@ mod ArrivalFacts
 mod HandledFacts
 mod SharedFacts
 mod PaceFacts
-pub mod PreorderFacts
 mod AwaitFacts

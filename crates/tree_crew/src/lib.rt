@@ -13,7 +13,7 @@ pub mod incomplete;
 pub mod message;
 pub mod origin;
 mod pace;
-pub mod places;
+mod places;
 pub mod session;
 mod shared;
 mod sleepers;

@@ -1,7 +1,6 @@
 //! All readings of a tree.
 ghost use Rattle.std.specs.Prelude.{◌≡◌, ◌≤◌, IfOk, map};
-ghost use Rattle.jwalk_board.specs.Plan.{readings_in_preorder};
-ghost use Rattle.tree_walk.specs.Whole.{values};
+ghost use Rattle.jwalk_board.specs.Plan.{readings_in_preorder, values};
 
 use crate::board_walk::BoardWalk;
 use jwalk_board::board::Plan;

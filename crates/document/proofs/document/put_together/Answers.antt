@@ -1,8 +1,7 @@
 use Rattle.std.proofs.Common.{◌∙◌, sym, ap, map}
 use Rattle.std.proofs.lemmas.List.{map-id}
 use Rattle.std.proofs.lemmas.Result.{IfOk-weaker}
-use Rattle.jwalk_board.specs.Plan.{readings_in_preorder}
-use Rattle.tree_crew.specs.Whole.{values}
+use Rattle.jwalk_board.specs.Plan.{readings_in_preorder, values}
 use Rattle.document.specs.declared.document.Line.TheVariants.{Part}
 use Rattle.document.specs.Document.{document_tree}
 use Rattle.document.proofs.DocumentFacts.{told_whole}

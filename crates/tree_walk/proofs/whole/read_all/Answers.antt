@@ -1,8 +1,9 @@
 use Rattle.std.proofs.Common.{◌≡◌, ◌++◌, [], map, length, sym, ap, ◌∙◌, subst, arith}
 use Rattle.std.proofs.lemmas.List.{append-nil}
+use Rattle.jwalk_board.proofs.PreorderValues.{below, readings-are, one_more}
 use Rattle.tree_walk.specs.Reads.{IsAsGiven}
 use Rattle.tree_walk.specs.BoardWalk.{GivesFirst, to_read}
-use Rattle.tree_walk.proofs.WholeFacts.{below, stays_given, first_given, readings-are, one_more}
+use Rattle.tree_walk.proofs.WholeFacts.{stays_given, first_given}
 use Rattle.tree_walk.proofs.whole.read_all.Goals as goal
 
 pub loop-found-preserved : goal.loop-found-preserved

@@ -3,9 +3,8 @@ use Rattle.std.proofs.Common.{◌≡◌, ℕ, zero, suc, ◌+◌, List, [], ◌�
 use Rattle.std.proofs.lemmas.List.{map-append}
 use Rattle.std.proofs.lemmas.Simd.{map-map}
 use Rattle.jwalk_order.specs.Addressed.{Addressed}
-use Rattle.jwalk_board.specs.Plan.{PlanTree, Falls, forest, read, subtree, subtree_within, specs_in_preorder, readings_in_preorder}
+use Rattle.jwalk_board.specs.Plan.{PlanTree, Falls, forest, read, subtree, subtree_within, specs_in_preorder, readings_in_preorder, values}
 use Rattle.jwalk_board.proofs.Preorders.{subtree-is}
-use Rattle.tree_crew.specs.Whole.{values}
 
 module _ {S Q : Type 0} (t : PlanTree S Q) where
   -- the specifications that lie at and below these, in preorder
