@@ -3,7 +3,7 @@ ghost use Rattle.std.specs.Prelude.{◌≡◌, ◌||◌, IfOk, map};
 ghost use Rattle.std.specs.List.{list_any};
 ghost use Rattle.jwalk.specs.DirEntryIter.{NoneRefused};
 ghost use Rattle.jwalk.specs.WalkDir.{file_system_of};
-ghost use Rattle.jwalk.specs.jwalk_read.Entry.{item};
+ghost use Rattle.jwalk.specs.jwalk_core.Entry.{item};
 ghost use Rattle.jwalk_ignore.specs.IgnoreViews.{settings_of, texts_of};
 ghost use Rattle.ignore_client.specs.Given.{IsWholeWalk};
 ghost use Rattle.ignore_client.specs.Packages.{CountsPackages, ignoring_packages, is_manifest, with_mark};

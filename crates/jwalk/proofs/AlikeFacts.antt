@@ -8,12 +8,12 @@ use Rattle.walk_model.specs.Job as value
 use Rattle.walk_model.specs.FileSystem.{Functions}
 use Rattle.walk_model.specs.Walk.{whole_walk, stateless_walk}
 use Rattle.walk_fs.specs.declared.file_system.FileSystem as FileSystem
-use Rattle.jwalk_read.specs.declared.process_read_dir.ProcessReadDir as ProcessReadDir
-use Rattle.jwalk_read.specs.Given.{Given}
-use Rattle.jwalk_read.specs.Job.{IsSteady}
-use Rattle.jwalk_readings.specs.declared.readers.Readers as Readers
-use Rattle.jwalk_entries.specs.declared.dir_entry_iter.DirEntryIter.{DirEntryIter}
-use Rattle.jwalk_entries.specs.DirEntryIter.{to_come}
+use Rattle.jwalk_core.specs.declared.process_read_dir.ProcessReadDir as ProcessReadDir
+use Rattle.jwalk_core.specs.Given.{Given}
+use Rattle.jwalk_core.specs.Job.{IsSteady}
+use Rattle.jwalk_core.specs.declared.readers.Readers as Readers
+use Rattle.jwalk_core.specs.declared.dir_entry_iter.DirEntryIter.{DirEntryIter}
+use Rattle.jwalk_core.specs.DirEntryIter.{to_come}
 use Rattle.jwalk.specs.declared.walk_dir.WalkDirGeneric.{WalkDirGeneric}
 use Rattle.jwalk.specs.WalkDir.{file_system_of, callback_of, root_of, state_of, options_of, job_for, Starts, Holds}
 use Rattle.jwalk.proofs.WholeFacts.{comes_whole}

@@ -12,21 +12,21 @@ use Rattle.walk_model.specs.Listing.{paired}
 use Rattle.walk_model.specs.Job as value
 use Rattle.walk_model.specs.Job.{root_list}
 use Rattle.walk_fs.specs.declared.file_system.FileSystem as FileSystem
-use Rattle.jwalk_read.specs.declared.process_read_dir.ProcessReadDir as ProcessReadDir
-use Rattle.jwalk_read.specs.declared.job.Job.{Job}
-use Rattle.jwalk_read.specs.declared.read_dir.ReadDir.{ReadDir}
-use Rattle.jwalk_read.specs.ReadDir.{reading}
-use Rattle.jwalk_read.specs.Options.{width_of}
-use Rattle.jwalk_read.specs.Given.{Given, counted_reading}
-use Rattle.jwalk_read.specs.Job as job
-use Rattle.jwalk_read.specs.Job.{file_system, callback, job_by, IsSteady}
+use Rattle.jwalk_core.specs.declared.process_read_dir.ProcessReadDir as ProcessReadDir
+use Rattle.jwalk_core.specs.declared.job.Job.{Job}
+use Rattle.jwalk_core.specs.declared.read_dir.ReadDir.{ReadDir}
+use Rattle.jwalk_core.specs.ReadDir.{reading}
+use Rattle.jwalk_core.specs.Options.{width_of}
+use Rattle.jwalk_core.specs.Given.{Given, counted_reading}
+use Rattle.jwalk_core.specs.Job as job
+use Rattle.jwalk_core.specs.Job.{file_system, callback, job_by, IsSteady}
 use Rattle.tree_crew.specs.declared.crew.NotStarted.{NotStarted}
 use Rattle.tree_crew.specs.declared.crew.NotStarted.TheVariants.{Busy, Memory}
-use Rattle.jwalk_entries.specs.DirEntryIter.{by_crew, held_by}
-use Rattle.jwalk_readings.specs.CrewReads.{start_failure}
+use Rattle.jwalk_core.specs.DirEntryIter.{by_crew, held_by}
+use Rattle.jwalk_core.specs.CrewReads.{start_failure}
 use Rattle.jwalk.specs.CrewStart.{HoldsList, IsFromRoot}
 use Rattle.jwalk.specs.WalkDir.{file_system_of, callback_of, root_of, state_of, options_of, job_for, Starts, HoldsBusy, HoldsUnless, Begins}
-use Rattle.jwalk_entries.specs.declared.dir_entry_iter.DirEntryIter.{DirEntryIter}
+use Rattle.jwalk_core.specs.declared.dir_entry_iter.DirEntryIter.{DirEntryIter}
 use Rattle.jwalk.specs.declared.walk_dir.WalkDirGeneric.{WalkDirGeneric}
 
 -- what is held for a view is held for the value that is viewed

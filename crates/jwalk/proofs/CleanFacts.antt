@@ -16,18 +16,18 @@ use Rattle.walk_model.specs.Held.{pair_up, first_source, after_first}
 use Rattle.walk_model.specs.Walk.{whole_walk}
 use Rattle.walk_model.proofs.CountedFacts.{counted-has_directory}
 use Rattle.walk_fs.specs.declared.file_system.FileSystem as FileSystem
-use Rattle.jwalk_read.specs.declared.process_read_dir.ProcessReadDir as ProcessReadDir
-use Rattle.jwalk_read.specs.declared.error.Error.{Error}
-use Rattle.jwalk_read.specs.declared.dir_entry.DirEntry.{DirEntry}
-use Rattle.jwalk_read.specs.Given.{Given, counted_item, counted_spec, counted_outcome, counted_list}
-use Rattle.jwalk_read.specs.Job.{greatest_depth, job_by, IsSteady}
+use Rattle.jwalk_core.specs.declared.process_read_dir.ProcessReadDir as ProcessReadDir
+use Rattle.jwalk_core.specs.declared.error.Error.{Error}
+use Rattle.jwalk_core.specs.declared.dir_entry.DirEntry.{DirEntry}
+use Rattle.jwalk_core.specs.Given.{Given, counted_item, counted_spec, counted_outcome, counted_list}
+use Rattle.jwalk_core.specs.Job.{greatest_depth, job_by, IsSteady}
 use Rattle.tree_crew.specs.declared.crew.NotStarted.{NotStarted}
 use Rattle.tree_crew.specs.declared.crew.NotStarted.TheVariants.{Busy, Memory}
-use Rattle.jwalk_readings.specs.declared.readers.Readers as Readers
-use Rattle.jwalk_entries.specs.declared.dir_entry_iter.DirEntryIter.{DirEntryIter}
+use Rattle.jwalk_core.specs.declared.readers.Readers as Readers
+use Rattle.jwalk_core.specs.declared.dir_entry_iter.DirEntryIter.{DirEntryIter}
 use Rattle.jwalk.specs.declared.walk_dir.WalkDirGeneric.{WalkDirGeneric}
 use Rattle.jwalk.specs.CrewStart.{busied, busy_pair}
-use Rattle.jwalk_entries.specs.DirEntryIter.{job_of, min_depth_of, held, held_by, refusal, items_of, unread_of, to_come, NoneRefused, IsSteadyWalk, Answers, Fills}
+use Rattle.jwalk_core.specs.DirEntryIter.{job_of, min_depth_of, held, held_by, refusal, items_of, unread_of, to_come, NoneRefused, IsSteadyWalk, Answers, Fills}
 use Rattle.jwalk.specs.WalkDir.{file_system_of, callback_of, root_of, state_of, job_for, ReportsBusy, NoneBusy, Starts, HoldsBusy, HoldsUnless}
 use Rattle.jwalk.proofs.WholeFacts.{all_answered, answered_whole, comes_whole, entries_tell, filled_came}
 

@@ -8,33 +8,33 @@ use Rattle.walk_model.specs.Error.{memory, busy}
 use Rattle.walk_model.specs.Entry.{Item, AtDepth, has_directory}
 use Rattle.walk_model.specs.Options.{crew}
 use Rattle.walk_model.specs.ReadDir.{Spec, Reading, children, AreClones}
-use Rattle.jwalk_read.specs.declared.read_dir.ReadDir.{ReadDir}
-use Rattle.jwalk_read.specs.ReadDir.{reading}
+use Rattle.jwalk_core.specs.declared.read_dir.ReadDir.{ReadDir}
+use Rattle.jwalk_core.specs.ReadDir.{reading}
 use Rattle.walk_model.specs.Listing.{Pair, nothing, paired}
 use Rattle.walk_model.specs.Held.{pair_up, sources, first_source, after_first}
 use Rattle.walk_model.proofs.HeldFacts.{directories}
 use Rattle.walk_fs.specs.declared.file_system.FileSystem as FileSystem
-use Rattle.jwalk_read.specs.declared.process_read_dir.ProcessReadDir as ProcessReadDir
-use Rattle.jwalk_read.specs.Given.{Given, counted_reading, ClonesCount}
-use Rattle.jwalk_read.specs.declared.job.Job.{Job}
-use Rattle.jwalk_read.specs.Options as options
-use Rattle.jwalk_read.specs.Job.{options_of, greatest_depth}
-use Rattle.jwalk_readings.specs.declared.readers.Readers as Readers
+use Rattle.jwalk_core.specs.declared.process_read_dir.ProcessReadDir as ProcessReadDir
+use Rattle.jwalk_core.specs.Given.{Given, counted_reading, ClonesCount}
+use Rattle.jwalk_core.specs.declared.job.Job.{Job}
+use Rattle.jwalk_core.specs.Options as options
+use Rattle.jwalk_core.specs.Job.{options_of, greatest_depth}
+use Rattle.jwalk_core.specs.declared.readers.Readers as Readers
 use Rattle.tree_crew.specs.declared.crew.NotStarted.{NotStarted}
 use Rattle.tree_crew.specs.declared.crew.NotStarted.TheVariants.{Busy, Memory}
-use Rattle.jwalk_readings.specs.BatchReads.{BatchReads}
-use Rattle.jwalk_readings.specs.ReadAhead.{BeginsWith}
-use Rattle.jwalk_entries.specs.DirEntryIter.{reads_of, is_refused, by_crew, width_of, read_ahead, job_of, items_of, unread_of, held, held_by, IsWithin, IsSourced, IsRefused, ArePlaced}
+use Rattle.jwalk_core.specs.BatchReads.{BatchReads}
+use Rattle.jwalk_core.specs.ReadAhead.{BeginsWith}
+use Rattle.jwalk_core.specs.DirEntryIter.{reads_of, is_refused, by_crew, width_of, read_ahead, job_of, items_of, unread_of, held, held_by, IsWithin, IsSourced, IsRefused, ArePlaced}
 use Rattle.jwalk.specs.CrewStart.{busied, busy_pair, left_of, IsToRead, IsBegun, HoldsList, IsFromRoot}
-use Rattle.jwalk_readings.specs.CrewReads as reads_by
-use Rattle.jwalk_readings.specs.declared.crew_reads.CrewReads.{CrewReads}
-use Rattle.jwalk_readings.specs.ReadDirIter as readings
-use Rattle.jwalk_readings.specs.declared.read_dir_iter.ReadDirIter.{ReadDirIter}
-use Rattle.jwalk_readings.specs.declared.read_dir_iter.ReadDirIter.TheVariants.{Walk, CrewWalk}
-use Rattle.jwalk_entries.specs.declared.dir_entry_iter.DirEntryIter.{DirEntryIter}
-use Rattle.jwalk_readings.proofs.CrewSteadyFacts.{starts_steady}
-use Rattle.jwalk_entries.proofs.PlacedFacts.{list_placed, unread_placed}
-use Rattle.jwalk_entries.proofs.AnswerFacts.{held_refused, rest_sourced, list_sourced, holds_list, within_root}
+use Rattle.jwalk_core.specs.CrewReads as reads_by
+use Rattle.jwalk_core.specs.declared.crew_reads.CrewReads.{CrewReads}
+use Rattle.jwalk_core.specs.ReadDirIter as readings
+use Rattle.jwalk_core.specs.declared.read_dir_iter.ReadDirIter.{ReadDirIter}
+use Rattle.jwalk_core.specs.declared.read_dir_iter.ReadDirIter.TheVariants.{Walk, CrewWalk}
+use Rattle.jwalk_core.specs.declared.dir_entry_iter.DirEntryIter.{DirEntryIter}
+use Rattle.jwalk_core.proofs.CrewSteadyFacts.{starts_steady}
+use Rattle.jwalk_core.proofs.PlacedFacts.{list_placed, unread_placed}
+use Rattle.jwalk_core.proofs.AnswerFacts.{held_refused, rest_sourced, list_sourced, holds_list, within_root}
 
 module _ {R E : Type 0} where
   -- errors have no depth

@@ -19,21 +19,21 @@ use Rattle.walk_model.specs.Job.{reading, root_list}
 use Rattle.walk_model.specs.Walk.{whole_walk, stateless_walk}
 use Rattle.walk_model.proofs.HeldFacts.{alone}
 use Rattle.walk_fs.specs.declared.file_system.FileSystem as FileSystem
-use Rattle.jwalk_read.specs.declared.process_read_dir.ProcessReadDir as ProcessReadDir
-use Rattle.jwalk_read.specs.declared.error.Error.{Error}
-use Rattle.jwalk_read.specs.declared.dir_entry.DirEntry.{DirEntry}
-use Rattle.jwalk_read.specs.Error.{failure}
-use Rattle.jwalk_read.specs.Entry.{item}
-use Rattle.jwalk_read.specs.Given.{Given, counted_item, counted_spec, counted_list}
-use Rattle.jwalk_read.specs.Job.{options_of, greatest_depth, job_by, IsSteady}
-use Rattle.jwalk_readings.specs.declared.readers.Readers as Readers
-use Rattle.jwalk_entries.specs.declared.dir_entry_iter.DirEntryIter.{DirEntryIter}
+use Rattle.jwalk_core.specs.declared.process_read_dir.ProcessReadDir as ProcessReadDir
+use Rattle.jwalk_core.specs.declared.error.Error.{Error}
+use Rattle.jwalk_core.specs.declared.dir_entry.DirEntry.{DirEntry}
+use Rattle.jwalk_core.specs.Error.{failure}
+use Rattle.jwalk_core.specs.Entry.{item}
+use Rattle.jwalk_core.specs.Given.{Given, counted_item, counted_spec, counted_list}
+use Rattle.jwalk_core.specs.Job.{options_of, greatest_depth, job_by, IsSteady}
+use Rattle.jwalk_core.specs.declared.readers.Readers as Readers
+use Rattle.jwalk_core.specs.declared.dir_entry_iter.DirEntryIter.{DirEntryIter}
 use Rattle.jwalk.specs.declared.walk_dir.WalkDirGeneric.{WalkDirGeneric}
-use Rattle.jwalk_entries.specs.DirEntryIter.{by_crew, is_refused, job_of, min_depth_of, items_of, unread_of, held, held_by, refusal, to_come, TellsMemory, NoneRefused, IsRefused, StartsSteady, IsSteadyWalk, Answers, Fills}
+use Rattle.jwalk_core.specs.DirEntryIter.{by_crew, is_refused, job_of, min_depth_of, items_of, unread_of, held, held_by, refusal, to_come, TellsMemory, NoneRefused, IsRefused, StartsSteady, IsSteadyWalk, Answers, Fills}
 use Rattle.jwalk.specs.WalkDir as builder
 use Rattle.jwalk.specs.WalkDir.{file_system_of, callback_of, root_of, state_of, job_for, Starts, Holds}
-use Rattle.jwalk_entries.proofs.AnswerFacts.{held_by_nothing, alone_steady}
-use Rattle.jwalk_entries.proofs.FillFacts.{stays_steady, come}
+use Rattle.jwalk_core.proofs.AnswerFacts.{held_by_nothing, alone_steady}
+use Rattle.jwalk_core.proofs.FillFacts.{stays_steady, come}
 
 module _ {C A R E : Type 0} where
   -- answers that end with the error that says that memory ran out say so

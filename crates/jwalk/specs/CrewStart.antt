@@ -8,13 +8,13 @@ use Rattle.walk_model.specs.ReadDir.{Spec, Reading, children, AreClones}
 use Rattle.walk_model.specs.Listing.{Pair, nothing, paired}
 use Rattle.tree_crew.specs.declared.crew.NotStarted.{NotStarted}
 use Rattle.tree_crew.specs.declared.crew.NotStarted.TheVariants.{Busy, Memory}
-use Rattle.jwalk_read.specs.declared.job.Job.{Job}
-use Rattle.jwalk_read.specs.Options as options
-use Rattle.jwalk_read.specs.Given.{Given, counted_reading, ClonesCount}
-use Rattle.jwalk_read.specs.Job.{options_of}
-use Rattle.jwalk_readings.specs.ReadAhead.{BeginsWith}
-use Rattle.jwalk_entries.specs.DirEntryIter.{is_refused, by_crew, job_of, items_of, unread_of, width_of, read_ahead, held, held_by, IsWithin, IsSourced, IsRefused}
-use Rattle.jwalk_entries.specs.declared.dir_entry_iter.DirEntryIter.{DirEntryIter}
+use Rattle.jwalk_core.specs.declared.job.Job.{Job}
+use Rattle.jwalk_core.specs.Options as options
+use Rattle.jwalk_core.specs.Given.{Given, counted_reading, ClonesCount}
+use Rattle.jwalk_core.specs.Job.{options_of}
+use Rattle.jwalk_core.specs.ReadAhead.{BeginsWith}
+use Rattle.jwalk_core.specs.DirEntryIter.{is_refused, by_crew, job_of, items_of, unread_of, width_of, read_ahead, held, held_by, IsWithin, IsSourced, IsRefused}
+use Rattle.jwalk_core.specs.declared.dir_entry_iter.DirEntryIter.{DirEntryIter}
 
 -- what a busy crew leaves of an item: the error that says so, if the item has a directory to be read
 abbrev pub busied : {R E : Type 0} → Item R E → Item R E

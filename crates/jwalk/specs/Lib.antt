@@ -2,21 +2,19 @@ pub mod WalkDir
 pub mod CrewStart
 pub mod Each
 -- what callers cite of a walk's answers and of its readings
-pub use Rattle.jwalk_entries.specs.DirEntryIter as DirEntryIter
-pub use Rattle.jwalk_entries.specs.Step as Step
-pub use Rattle.jwalk_readings.specs.ReadDirIter as ReadDirIter
-pub use Rattle.jwalk_readings.specs.CrewReads as CrewReads
-pub use Rattle.jwalk_readings.specs.Parallelism as Parallelism
+pub use Rattle.jwalk_core.specs.DirEntryIter as DirEntryIter
+pub use Rattle.jwalk_core.specs.Step as Step
+pub use Rattle.jwalk_core.specs.ReadDirIter as ReadDirIter
+pub use Rattle.jwalk_core.specs.CrewReads as CrewReads
+pub use Rattle.jwalk_core.specs.Parallelism as Parallelism
 -- what callers cite of the crates below, each under its crate's name
 pub use Rattle.walk_model.specs as walk_model
 pub use Rattle.walk_fs.specs as walk_fs
 pub use Rattle.real_fs.specs as real_fs
 pub use Rattle.memory_fs.specs as memory_fs
-pub use Rattle.jwalk_read.specs as jwalk_read
+pub use Rattle.jwalk_core.specs as jwalk_core
 pub use Rattle.jwalk_callbacks.specs as jwalk_callbacks
 pub use Rattle.jwalk_order.specs as jwalk_order
 pub use Rattle.jwalk_board.specs as jwalk_board
 pub use Rattle.tree_walk.specs as tree_walk
-pub use Rattle.jwalk_readings.specs as jwalk_readings
 pub use Rattle.tree_crew.specs as tree_crew
-pub use Rattle.jwalk_entries.specs as jwalk_entries

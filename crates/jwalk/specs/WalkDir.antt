@@ -10,28 +10,28 @@ use Rattle.walk_model.specs.Listing.{paired}
 use Rattle.walk_model.specs.Counted.{Worth, blank}
 use Rattle.walk_model.specs.Job.{Job, root_list}
 use Rattle.walk_fs.specs.declared.file_system.FileSystem as FileSystem
-use Rattle.jwalk_read.specs.declared.process_read_dir.ProcessReadDir as ProcessReadDir
-use Rattle.jwalk_read.specs.declared.process_read_dir.NoProcess.{NoProcess}
-use Rattle.jwalk_read.specs.declared.error.Error.{Error}
-use Rattle.jwalk_read.specs.declared.dir_entry.DirEntry.{DirEntry}
-use Rattle.jwalk_read.specs.Entry.{item}
-use Rattle.jwalk_read.specs.Options.{options_value, width_of}
-use Rattle.jwalk_read.specs.Given.{Given, counted_item}
-use Rattle.jwalk_read.specs.Job as job
-use Rattle.jwalk_read.specs.Job.{file_system, callback, IsSteady}
-use Rattle.jwalk_readings.specs.ReadAhead.{BeginsWith}
-use Rattle.jwalk_entries.specs.DirEntryIter as iter
+use Rattle.jwalk_core.specs.declared.process_read_dir.ProcessReadDir as ProcessReadDir
+use Rattle.jwalk_core.specs.declared.process_read_dir.NoProcess.{NoProcess}
+use Rattle.jwalk_core.specs.declared.error.Error.{Error}
+use Rattle.jwalk_core.specs.declared.dir_entry.DirEntry.{DirEntry}
+use Rattle.jwalk_core.specs.Entry.{item}
+use Rattle.jwalk_core.specs.Options.{options_value, width_of}
+use Rattle.jwalk_core.specs.Given.{Given, counted_item}
+use Rattle.jwalk_core.specs.Job as job
+use Rattle.jwalk_core.specs.Job.{file_system, callback, IsSteady}
+use Rattle.jwalk_core.specs.ReadAhead.{BeginsWith}
+use Rattle.jwalk_core.specs.DirEntryIter as iter
 use Rattle.tree_crew.specs.declared.crew.Crew.{Crew}
 use Rattle.tree_crew.specs.Crew.{workers_of, limit_of}
-use Rattle.jwalk_readings.specs.declared.readers.Readers as Readers
+use Rattle.jwalk_core.specs.declared.readers.Readers as Readers
 use Rattle.tree_crew.specs.declared.crew.NotStarted.{NotStarted}
 use Rattle.tree_crew.specs.declared.crew.NotStarted.TheVariants.{Busy, Memory}
-use Rattle.jwalk_readings.specs.declared.parallelism.Parallelism.{Parallelism}
-use Rattle.jwalk_readings.specs.Parallelism.{parallelism_value, crew_of}
+use Rattle.jwalk_core.specs.declared.parallelism.Parallelism.{Parallelism}
+use Rattle.jwalk_core.specs.Parallelism.{parallelism_value, crew_of}
 use Rattle.jwalk.specs.CrewStart.{busy_pair}
-use Rattle.jwalk_entries.specs.DirEntryIter.{by_crew, job_of, items_of, held, held_by, IsWithin, IsSourced, IsRefused}
+use Rattle.jwalk_core.specs.DirEntryIter.{by_crew, job_of, items_of, held, held_by, IsWithin, IsSourced, IsRefused}
 use Rattle.jwalk.specs.declared.walk_dir.WalkDirGeneric.{WalkDirGeneric}
-use Rattle.jwalk_entries.specs.declared.dir_entry_iter.DirEntryIter.{DirEntryIter}
+use Rattle.jwalk_core.specs.declared.dir_entry_iter.DirEntryIter.{DirEntryIter}
 
 -- the item is the error that reports a busy crew
 abbrev pub ReportsBusy : {R E : Type 0} → Item R E → Type 0

@@ -1,7 +1,7 @@
 //! The builder of a walk.
 ghost use Rattle.std.specs.Prelude.{◌≡◌, ◌⊎◌, true, false, None, string_bytes, IfOk, IfErr};
 ghost use Rattle.walk_model.specs.Error.{memory};
-ghost use Rattle.jwalk_read.specs.Error.{failure};
+ghost use Rattle.jwalk_core.specs.Error.{failure};
 
 mod crew_start;
 mod each;
@@ -11,15 +11,15 @@ mod workers;
 
 use jwalk_callbacks::by_fn::ByFn;
 use jwalk_callbacks::calls::Closure;
-use jwalk_entries::dir_entry_iter::DirEntryIter;
-use jwalk_read::client_state::ClientState;
-use jwalk_read::dir_entry::DirEntry;
-use jwalk_read::error::Error;
-use jwalk_read::job::Job;
-use jwalk_read::options::Options;
-use jwalk_read::process_read_dir::{NoProcess, ProcessReadDir};
-use jwalk_readings::parallelism::Parallelism;
-use jwalk_readings::readers::NoCrew;
+use jwalk_core::client_state::ClientState;
+use jwalk_core::dir_entry::DirEntry;
+use jwalk_core::dir_entry_iter::DirEntryIter;
+use jwalk_core::error::Error;
+use jwalk_core::job::Job;
+use jwalk_core::options::Options;
+use jwalk_core::parallelism::Parallelism;
+use jwalk_core::process_read_dir::{NoProcess, ProcessReadDir};
+use jwalk_core::readers::NoCrew;
 use real_fs::real_fs::RealFs;
 use std::alloc::{AllocError, Allocator, Global};
 use std::rt::{Files, HostRuntime};
@@ -248,7 +248,7 @@ impl<C: ClientState, S: FileSystem, P: ProcessReadDir<C, A>, A: Allocator + Copy
     NoCrew,
 > {
     ghost use Rattle.jwalk.specs.WalkDir.{callback_of, Starts, Holds};
-    ghost use Rattle.jwalk_entries.specs.DirEntryIter.{by_crew, is_refused, IsRefused};
+    ghost use Rattle.jwalk_core.specs.DirEntryIter.{by_crew, is_refused, IsRefused};
 
     /// Begins the walk, whether memory runs out or not.
     fn begin(self) -> DirEntryIter<C, S, P, A>
@@ -355,7 +355,7 @@ impl<C: ClientState, S: FileSystem, A: Allocator + Copy> IntoIterator
     type IntoIter = DirEntryIter<C, S, NoProcess, A>;
 
     ghost use Rattle.jwalk.specs.WalkDir.{Starts, Holds};
-    ghost use Rattle.jwalk_entries.specs.DirEntryIter.{by_crew, IsRefused};
+    ghost use Rattle.jwalk_core.specs.DirEntryIter.{by_crew, IsRefused};
 
     ghost into_iter_gives = { λ walk it. (by_crew it ≡ false) × Starts walk it × (IsRefused it ⊎ Holds S.FileSystem
         ⟦<NoProcess as ProcessReadDir<C, A>>⟧ C.ReadDirState.Clone C.DirEntryState.Default walk it) };

@@ -1,12 +1,12 @@
 //! Entries that are kept if a test of them is true.
 ghost use Rattle.std.specs.Prelude.{map};
-ghost use Rattle.jwalk_read.specs.Entry.{item};
+ghost use Rattle.jwalk_core.specs.Entry.{item};
 ghost use Rattle.jwalk_callbacks.specs.FilterEntry.{IsAnswered, IsFilteredBy};
 
-use jwalk_read::client_state::ClientState;
-use jwalk_read::dir_entry::DirEntry;
-use jwalk_read::error::Error;
-use jwalk_read::process_read_dir::ProcessReadDir;
+use jwalk_core::client_state::ClientState;
+use jwalk_core::dir_entry::DirEntry;
+use jwalk_core::error::Error;
+use jwalk_core::process_read_dir::ProcessReadDir;
 use std::alloc::{AllocError, Allocator};
 use walk_model::file_type::FileType;
 

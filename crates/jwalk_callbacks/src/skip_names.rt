@@ -1,12 +1,12 @@
 //! Directories that are yielded and not entered, by their names.
 ghost use Rattle.std.specs.Prelude.{◌≡◌, map, string_bytes};
-ghost use Rattle.jwalk_read.specs.Entry.{item};
+ghost use Rattle.jwalk_core.specs.Entry.{item};
 ghost use Rattle.jwalk_callbacks.specs.SkipNames.{is_one_of, skipped_item};
 
-use jwalk_read::client_state::ClientState;
-use jwalk_read::dir_entry::DirEntry;
-use jwalk_read::error::Error;
-use jwalk_read::process_read_dir::ProcessReadDir;
+use jwalk_core::client_state::ClientState;
+use jwalk_core::dir_entry::DirEntry;
+use jwalk_core::error::Error;
+use jwalk_core::process_read_dir::ProcessReadDir;
 use std::alloc::{AllocError, Allocator, Global};
 
 /// A callback by which directories of some names are yielded and not entered.

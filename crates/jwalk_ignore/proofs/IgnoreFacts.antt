@@ -4,7 +4,7 @@ use Rattle.std.specs.Prelude.{OnOk}
 use Rattle.jwalk.specs.walk_model.Counted.{Worth, both}
 use Rattle.jwalk.specs.walk_model.Entry.{Item}
 use Rattle.jwalk.specs.walk_model.Job.{Processing}
-use Rattle.jwalk.specs.jwalk_read.Given.{Given, IsProcessed, counted_item}
+use Rattle.jwalk.specs.jwalk_core.Given.{Given, IsProcessed, counted_item}
 use Rattle.jwalk_ignore.specs.Chain as value
 use Rattle.jwalk_ignore.specs.ChainViews.{chain_value}
 use Rattle.jwalk_ignore.specs.ChainWorth.{chain_worth, rules_of, second_in, with_chain}

@@ -5,7 +5,7 @@ use Rattle.jwalk.specs.walk_model.FileSystem.{Functions}
 use Rattle.jwalk.specs.walk_model.Job.{Job, KeepsDepthsOf, Processing}
 use Rattle.jwalk.specs.walk_model.Options.{Options}
 use Rattle.jwalk.specs.walk_model.ReadDir.{list_depth}
-use Rattle.jwalk.specs.jwalk_read.Given.{Given}
+use Rattle.jwalk.specs.jwalk_core.Given.{Given}
 use Rattle.jwalk_ignore.specs.Chain.{no_rules}
 use Rattle.jwalk_ignore.specs.ChainViews.{chain_value}
 use Rattle.jwalk_ignore.specs.ChainWorth.{chain_worth, rules_of, with_chain}

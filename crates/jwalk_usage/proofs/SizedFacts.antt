@@ -14,10 +14,10 @@ use Rattle.jwalk.specs.walk_model.Options.{Options}
 use Rattle.jwalk.specs.walk_model.Entry.{Children, Entry, Item, metadata_of}
 use Rattle.jwalk.specs.walk_model.Counted.{Worth, blank, number, bytes, children_by}
 use Rattle.jwalk.specs.walk_model.Walk.{whole_walk, stateless_walk}
-use Rattle.jwalk.specs.jwalk_read.declared.dir_entry.DirEntry.{DirEntry}
-use Rattle.jwalk.specs.jwalk_read.declared.error.Error.{Error}
-use Rattle.jwalk.specs.jwalk_read.Entry.{item}
-use Rattle.jwalk.specs.jwalk_read.Given.{counted_item}
+use Rattle.jwalk.specs.jwalk_core.declared.dir_entry.DirEntry.{DirEntry}
+use Rattle.jwalk.specs.jwalk_core.declared.error.Error.{Error}
+use Rattle.jwalk.specs.jwalk_core.Entry.{item}
+use Rattle.jwalk.specs.jwalk_core.Given.{counted_item}
 use Rattle.jwalk.specs.jwalk_callbacks.declared.size.Size.{Size}
 use Rattle.jwalk.specs.jwalk_callbacks.declared.size.Size.TheVariants.{Unasked, Len, Failed}
 use Rattle.jwalk.specs.jwalk_callbacks.WithSizes.{with_asked, counted_size, size_worth, sizing, job_sizing}

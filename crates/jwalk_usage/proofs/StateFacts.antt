@@ -5,7 +5,7 @@ use Rattle.std.proofs.lemmas.List.Sums.{sum_by-cons}
 use Rattle.jwalk.specs.walk_model.FileType.{is_dir, is_file, is_symlink}
 use Rattle.jwalk.specs.walk_model.FileSystem.{Functions}
 use Rattle.jwalk.specs.walk_model.Entry.{Item}
-use Rattle.jwalk.specs.jwalk_read.Given.{Given, counted_item}
+use Rattle.jwalk.specs.jwalk_core.Given.{Given, counted_item}
 use Rattle.jwalk_usage.specs.Totals.{is_other, entry_of, errors_of, bytes_of, totals}
 use Rattle.jwalk_usage.proofs.TotalFacts.{by_numbers}
 

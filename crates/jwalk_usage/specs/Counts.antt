@@ -7,9 +7,9 @@ use Rattle.jwalk.specs.walk_model.declared.metadata.Metadata.{Metadata}
 use Rattle.jwalk.specs.walk_model.FileType.{is_dir, is_file, is_symlink}
 use Rattle.jwalk.specs.walk_model.FileSystem.{Functions}
 use Rattle.jwalk.specs.walk_model.Entry.{Item}
-use Rattle.jwalk.specs.jwalk_read.declared.dir_entry.DirEntry.{DirEntry}
-use Rattle.jwalk.specs.jwalk_read.declared.error.Error.{Error}
-use Rattle.jwalk.specs.jwalk_read.Entry.{item}
+use Rattle.jwalk.specs.jwalk_core.declared.dir_entry.DirEntry.{DirEntry}
+use Rattle.jwalk.specs.jwalk_core.declared.error.Error.{Error}
+use Rattle.jwalk.specs.jwalk_core.Entry.{item}
 use Rattle.jwalk.specs.DirEntryIter.{TellsMemory, NoneRefused}
 use Rattle.jwalk_usage.specs.declared.report.Usage.{Usage}
 use Rattle.jwalk_usage.specs.declared.report.UsageFault.{UsageFault}

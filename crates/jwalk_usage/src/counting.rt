@@ -1,6 +1,6 @@
 //! One answer after another, counted.
 ghost use Rattle.std.specs.Prelude.{◌≡◌, option_map};
-ghost use Rattle.jwalk.specs.jwalk_read.Entry.{children};
+ghost use Rattle.jwalk.specs.jwalk_core.Entry.{children};
 ghost use Rattle.jwalk_usage.specs.Totals.{has_failed};
 
 use crate::report::{Usage, UsageFault};
@@ -26,8 +26,8 @@ pub(crate) fn has_failed<C: ClientState, A: Allocator + Copy>(
 impl Usage {
     ghost use Rattle.std.specs.Prelude.{◌≡◌, ◌≤◌, ◌+◌, ◌^◌, ◌⊎◌, Ok, Err, IfErr, OnOk};
     ghost use Rattle.jwalk.specs.walk_model.Error.{memory};
-    ghost use Rattle.jwalk.specs.jwalk_read.Entry.{entry, item};
-    ghost use Rattle.jwalk.specs.jwalk_read.Error.{failure};
+    ghost use Rattle.jwalk.specs.jwalk_core.Entry.{entry, item};
+    ghost use Rattle.jwalk.specs.jwalk_core.Error.{failure};
     ghost use Rattle.jwalk.specs.DirEntryIter.{TellsMemory};
     ghost use Rattle.jwalk_usage.specs.Counts.{nothing, with_type, with_length, with_one, CountsType, IsTooGreat, CannotCount};
 

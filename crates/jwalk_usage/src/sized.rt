@@ -14,7 +14,7 @@ use std::fmt::Debug;
 
 impl Usage {
     ghost use Rattle.std.specs.Prelude.{◌≡◌, Ok, IfErr, OnOk};
-    ghost use Rattle.jwalk.specs.jwalk_read.Entry.{entry, item};
+    ghost use Rattle.jwalk.specs.jwalk_core.Entry.{entry, item};
     ghost use Rattle.jwalk.specs.DirEntryIter.{TellsMemory};
     ghost use Rattle.jwalk_usage.specs.Counts.{IsTooGreat};
     ghost use Rattle.jwalk_usage.specs.Sized.{with_size, with_sized, CannotCountSize};

@@ -3,10 +3,10 @@ use Rattle.std.proofs.Common.{◌≡◌, ◌∙◌, ◌<◌, ℕ, suc, true, fal
 use Rattle.std.specs.Prelude.{filter, is_some}
 use Rattle.jwalk.specs.walk_model.Entry.{Item, has_directory}
 use Rattle.jwalk.specs.walk_model.Counted.{children_by, item_by}
-use Rattle.jwalk.specs.jwalk_read.declared.dir_entry.DirEntry.{DirEntry}
-use Rattle.jwalk.specs.jwalk_read.declared.error.Error.{Error}
-use Rattle.jwalk.specs.jwalk_read.Entry.{item}
-use Rattle.jwalk.specs.jwalk_read.Given.{Given, counted_list, IsProcessed}
+use Rattle.jwalk.specs.jwalk_core.declared.dir_entry.DirEntry.{DirEntry}
+use Rattle.jwalk.specs.jwalk_core.declared.error.Error.{Error}
+use Rattle.jwalk.specs.jwalk_core.Entry.{item}
+use Rattle.jwalk.specs.jwalk_core.Given.{Given, counted_list, IsProcessed}
 use Rattle.proved_walk.specs.HandsOnNames.{worth_of, handed, names_handed_on}
 
 -- lists of equal length, where each item of one is seen as that of the other, changed

@@ -20,22 +20,22 @@ use Rattle.jwalk.specs.jwalk_order.IndexPath.{address}
 use Rattle.jwalk.specs.jwalk_order.Ordered.{address_of, child_count_of}
 use Rattle.jwalk.specs.jwalk_order.declared.index_path.IndexPath.{IndexPath}
 use Rattle.jwalk.specs.jwalk_order.declared.ordered.Ordered.{Ordered}
-use Rattle.jwalk.specs.jwalk_read.declared.process_read_dir.ProcessReadDir as ProcessReadDir
-use Rattle.jwalk.specs.jwalk_read.declared.error.Error.{Error}
-use Rattle.jwalk.specs.jwalk_read.declared.read_dir_spec.ReadDirSpec.{ReadDirSpec}
-use Rattle.jwalk.specs.jwalk_read.ReadDirSpec.{spec}
-use Rattle.jwalk.specs.jwalk_read.Given.{Given, counted_spec, counted_outcome}
-use Rattle.jwalk.specs.jwalk_read.declared.job.Job.{Job}
-use Rattle.jwalk.specs.jwalk_read.declared.read_dir.ReadDir.{ReadDir}
-use Rattle.jwalk.specs.jwalk_read.Job.{IsReadingOf, greatest_depth, job_by}
-use Rattle.jwalk.specs.jwalk_read.ReadDir.{outcome}
-use Rattle.jwalk.specs.jwalk_readings.Message.{Message, IsLawfulMessage}
-use Rattle.jwalk.specs.jwalk_readings.Wanted.{Fits}
-use Rattle.jwalk.specs.jwalk_readings.declared.wanted.Wanted.{Wanted}
-use Rattle.jwalk.specs.jwalk_readings.Due.{IsDue}
-use Rattle.jwalk.specs.jwalk_readings.Origin.{Origin, CountAlike, IsAt, IsMessageOf}
-use Rattle.jwalk.specs.jwalk_readings.declared.readers.Readers as Readers
-use Rattle.jwalk.specs.jwalk_readings.declared.read_dir_iter.ReadDirIter.{ReadDirIter}
+use Rattle.jwalk.specs.jwalk_core.declared.process_read_dir.ProcessReadDir as ProcessReadDir
+use Rattle.jwalk.specs.jwalk_core.declared.error.Error.{Error}
+use Rattle.jwalk.specs.jwalk_core.declared.read_dir_spec.ReadDirSpec.{ReadDirSpec}
+use Rattle.jwalk.specs.jwalk_core.ReadDirSpec.{spec}
+use Rattle.jwalk.specs.jwalk_core.Given.{Given, counted_spec, counted_outcome}
+use Rattle.jwalk.specs.jwalk_core.declared.job.Job.{Job}
+use Rattle.jwalk.specs.jwalk_core.declared.read_dir.ReadDir.{ReadDir}
+use Rattle.jwalk.specs.jwalk_core.Job.{IsReadingOf, greatest_depth, job_by}
+use Rattle.jwalk.specs.jwalk_core.ReadDir.{outcome}
+use Rattle.jwalk.specs.jwalk_core.Message.{Message, IsLawfulMessage}
+use Rattle.jwalk.specs.jwalk_core.Wanted.{Fits}
+use Rattle.jwalk.specs.jwalk_core.declared.wanted.Wanted.{Wanted}
+use Rattle.jwalk.specs.jwalk_core.Due.{IsDue}
+use Rattle.jwalk.specs.jwalk_core.Origin.{Origin, CountAlike, IsAt, IsMessageOf}
+use Rattle.jwalk.specs.jwalk_core.declared.readers.Readers as Readers
+use Rattle.jwalk.specs.jwalk_core.declared.read_dir_iter.ReadDirIter.{ReadDirIter}
 use Rattle.jwalk.specs.ReadDirIter.{job_of, to_read, IsSteadyReads, Gives}
 use Rattle.jwalk.proofs.OriginFacts.{below_read, child_at}
 use Rattle.jwalk.proofs.DueFacts.{due_fits}

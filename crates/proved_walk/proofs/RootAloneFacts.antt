@@ -2,7 +2,7 @@
 use Rattle.std.proofs.Common.{◌≡◌, ℕ, List, Option, Some, None, Result, Ok, Err, map, ap, sym}
 use Rattle.jwalk.specs.walk_model.Entry.{Item}
 use Rattle.jwalk.specs.walk_model.Counted.{blank}
-use Rattle.jwalk.specs.jwalk_read.Given.{counted_item, IsProcessed}
+use Rattle.jwalk.specs.jwalk_core.Given.{counted_item, IsProcessed}
 use Rattle.std.specs.Prelude.{OnOk}
 use Rattle.proved_walk.specs.RootAlone.{emptied, root_alone}
 

@@ -10,13 +10,13 @@ use Rattle.jwalk.specs.walk_fs.declared.file_system.FileSystem as FileSystem
 use Rattle.jwalk.specs.jwalk_order.Addressed.{Addressed}
 use Rattle.jwalk.specs.jwalk_order.IndexPath.{address}
 use Rattle.jwalk.specs.jwalk_order.declared.index_path.IndexPath.{IndexPath}
-use Rattle.jwalk.specs.jwalk_read.declared.process_read_dir.ProcessReadDir as ProcessReadDir
-use Rattle.jwalk.specs.jwalk_read.declared.read_dir_spec.ReadDirSpec.{ReadDirSpec}
-use Rattle.jwalk.specs.jwalk_read.ReadDirSpec.{spec}
-use Rattle.jwalk.specs.jwalk_read.Given.{counted_spec}
-use Rattle.jwalk.specs.jwalk_read.declared.job.Job.{Job}
-use Rattle.jwalk.specs.jwalk_read.Job.{greatest_depth, job_by}
-use Rattle.jwalk.specs.jwalk_readings.Origin.{Origin, IsAt}
+use Rattle.jwalk.specs.jwalk_core.declared.process_read_dir.ProcessReadDir as ProcessReadDir
+use Rattle.jwalk.specs.jwalk_core.declared.read_dir_spec.ReadDirSpec.{ReadDirSpec}
+use Rattle.jwalk.specs.jwalk_core.ReadDirSpec.{spec}
+use Rattle.jwalk.specs.jwalk_core.Given.{counted_spec}
+use Rattle.jwalk.specs.jwalk_core.declared.job.Job.{Job}
+use Rattle.jwalk.specs.jwalk_core.Job.{greatest_depth, job_by}
+use Rattle.jwalk.specs.jwalk_core.Origin.{Origin, IsAt}
 use Rattle.jwalk.specs.WalkDir.{stateless}
 
 module _ {C A R E : Type 0} where

@@ -3,7 +3,7 @@ use Rattle.std.specs.Prelude.{ℕ, List, [], Option, Some, None}
 use Rattle.jwalk.specs.walk_model.Entry.{Item}
 use Rattle.jwalk.specs.walk_model.Counted.{blank}
 use Rattle.jwalk.specs.walk_model.Job.{Processing, KeepsDepthsOf}
-use Rattle.jwalk.specs.jwalk_read.Given.{Given}
+use Rattle.jwalk.specs.jwalk_core.Given.{Given}
 
 module _ {R E : Type 0} where
   -- the root's list stays, and nothing of every other list

@@ -6,7 +6,7 @@ use Rattle.jwalk.specs.walk_model.Entry.{Item, AtDepth}
 use Rattle.jwalk.specs.walk_model.ReadDir.{list_depth}
 use Rattle.jwalk.specs.walk_model.Counted.{blank}
 use Rattle.jwalk.specs.walk_model.Job.{Processing, KeepsDepthsOf}
-use Rattle.jwalk.specs.jwalk_read.Given.{Given}
+use Rattle.jwalk.specs.jwalk_core.Given.{Given}
 
 module _ {R E : Type 0} where
   -- what the callback makes of a list

@@ -1,5 +1,5 @@
 //! Numbers as states.
-ghost use Rattle.jwalk.specs.jwalk_read.Job.{IsSteady};
+ghost use Rattle.jwalk.specs.jwalk_core.Job.{IsSteady};
 ghost use Rattle.proved_walk.specs.Numbers.{numbers};
 
 use jwalk::file_system::{FileSystem, MemoryFs};

@@ -3,8 +3,8 @@ ghost use Rattle.std.specs.Prelude.{◌≡◌, IfOk, map, string_bytes};
 ghost use Rattle.jwalk.specs.walk_model.Counted.{blank};
 ghost use Rattle.jwalk.specs.walk_model.Options.{defaults};
 ghost use Rattle.jwalk.specs.walk_model.Walk.{whole_walk};
-ghost use Rattle.jwalk.specs.jwalk_read.Entry.{item};
-ghost use Rattle.jwalk.specs.jwalk_read.Given.{counted_list};
+ghost use Rattle.jwalk.specs.jwalk_core.Entry.{item};
+ghost use Rattle.jwalk.specs.jwalk_core.Given.{counted_list};
 ghost use Rattle.jwalk.specs.DirEntryIter.{NoneRefused};
 ghost use Rattle.proved_walk.specs.RootAlone.{root_alone, emptied, empties};
 

@@ -1,5 +1,5 @@
 //! Texts as states.
-ghost use Rattle.jwalk.specs.jwalk_read.Job.{IsSteady};
+ghost use Rattle.jwalk.specs.jwalk_core.Job.{IsSteady};
 ghost use Rattle.proved_walk.specs.Texts.{texts};
 
 use jwalk::file_system::{FileSystem, MemoryFs};

@@ -4,8 +4,8 @@ ghost use Rattle.jwalk.specs.walk_model.Counted.{blank};
 ghost use Rattle.jwalk.specs.walk_model.Error.{memory, busy};
 ghost use Rattle.jwalk.specs.walk_model.Options.{defaults};
 ghost use Rattle.jwalk.specs.walk_model.Walk.{whole_walk};
-ghost use Rattle.jwalk.specs.jwalk_read.Error.{failure};
-ghost use Rattle.jwalk.specs.jwalk_read.Given.{counted_list};
+ghost use Rattle.jwalk.specs.jwalk_core.Error.{failure};
+ghost use Rattle.jwalk.specs.jwalk_core.Given.{counted_list};
 ghost use Rattle.jwalk.specs.DirEntryIter.{NoneRefused};
 ghost use Rattle.proved_walk.specs.Turned.{turned, turns};
 

@@ -2,7 +2,7 @@
 ghost use Rattle.std.specs.Prelude.{◌≡◌, ◌<◌, ◌^◌, ◌∷◌, [], true, map};
 ghost use Rattle.jwalk.specs.walk_model.Entry.{AtDepth};
 ghost use Rattle.jwalk.specs.walk_model.ReadDir.{list_depth};
-ghost use Rattle.jwalk.specs.jwalk_read.Entry.{item};
+ghost use Rattle.jwalk.specs.jwalk_core.Entry.{item};
 
 use crate::lines::Given;
 use jwalk::DirEntry;

@@ -1,7 +1,7 @@
 //! How walks come out.
 ghost use Rattle.jwalk.specs.DirEntryIter.{job_of};
 ghost use Rattle.jwalk.specs.WalkDir.{callback_of};
-ghost use Rattle.jwalk.specs.jwalk_read.Job.{callback};
+ghost use Rattle.jwalk.specs.jwalk_core.Job.{callback};
 
 use crate::lines::{Given, Shown, are_first, is_line, is_refusal};
 use jwalk::file_system::FileSystem;

@@ -1,7 +1,7 @@
 //! How walks come out that threads read.
 ghost use Rattle.jwalk.specs.DirEntryIter.{job_of};
 ghost use Rattle.jwalk.specs.WalkDir.{callback_of};
-ghost use Rattle.jwalk.specs.jwalk_read.Job.{callback};
+ghost use Rattle.jwalk.specs.jwalk_core.Job.{callback};
 
 use crate::came::{Came, Taken, goes_after, if_over, not_begun};
 use crate::lines::{Given, Shown, is_line, is_refusal};

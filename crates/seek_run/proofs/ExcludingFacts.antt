@@ -5,7 +5,7 @@ use Rattle.std.specs.List.{filter}
 use Rattle.jwalk.specs.walk_model.Entry.{Item, AtDepth}
 use Rattle.jwalk.specs.walk_model.ReadDir.{Reading}
 use Rattle.jwalk.specs.walk_model.Counted.{Worth}
-use Rattle.jwalk.specs.jwalk_read.Given.{Given, counted_item, counted_reading, IsProcessed}
+use Rattle.jwalk.specs.jwalk_core.Given.{Given, counted_item, counted_reading, IsProcessed}
 use Rattle.jwalk_ignore.specs.MadeDepths.{filter_at}
 use Rattle.jwalk_ignore.specs.Pattern.{Pattern}
 use Rattle.jwalk_ignore.proofs.ListFacts.{filter_by, filter_none}

@@ -5,7 +5,7 @@ use Rattle.jwalk.specs.walk_model.Entry.{Item}
 use Rattle.jwalk.specs.walk_model.FileType.{is_dir}
 use Rattle.jwalk.specs.walk_model.Job.{KeepsDepthsOf, Processing}
 use Rattle.jwalk.specs.walk_model.Counted.{Worth}
-use Rattle.jwalk.specs.jwalk_read.Given.{Given}
+use Rattle.jwalk.specs.jwalk_core.Given.{Given}
 use Rattle.jwalk_ignore.specs.Chain.{is_ignored}
 use Rattle.jwalk_ignore.specs.Line.{patterns_of}
 use Rattle.jwalk_ignore.specs.MadeDepths.{filter_at}

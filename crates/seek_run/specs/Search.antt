@@ -8,7 +8,7 @@ use Rattle.jwalk.specs.walk_model.Job.{Job, Processing}
 use Rattle.jwalk.specs.walk_model.Options.{Options, with_skip_hidden}
 use Rattle.jwalk.specs.walk_model.Paths.{join, dot}
 use Rattle.jwalk.specs.walk_model.Walk.{whole_walk}
-use Rattle.jwalk.specs.jwalk_read.Given.{Given}
+use Rattle.jwalk.specs.jwalk_core.Given.{Given}
 use Rattle.jwalk_ignore.specs.Given.{ignoring-KeepsDepthsOf, no_rules_yet, rules_alone}
 use Rattle.jwalk_ignore.specs.IgnoreViews.{ignoring}
 use Rattle.jwalk_ignore.specs.Texts.{Texts}

@@ -4,10 +4,10 @@ use Rattle.std.specs.List.{list_all}
 use Rattle.std.specs.Io.KnownBytes.{Appends}
 use Rattle.walk_model.specs.Counted.{Worth}
 use Rattle.walk_model.specs.Entry.{Item}
-use Rattle.jwalk_read.specs.declared.dir_entry.DirEntry.{DirEntry}
-use Rattle.jwalk_read.specs.declared.error.Error.{Error}
-use Rattle.jwalk_read.specs.Entry.{item}
-use Rattle.jwalk_read.specs.Given.{Given, counted_item}
+use Rattle.jwalk_core.specs.declared.dir_entry.DirEntry.{DirEntry}
+use Rattle.jwalk_core.specs.declared.error.Error.{Error}
+use Rattle.jwalk_core.specs.Entry.{item}
+use Rattle.jwalk_core.specs.Given.{Given, counted_item}
 use Rattle.seek_filter.specs.Sought.{Sought}
 use Rattle.seek_filter.specs.declared.paths.Style.{Style}
 use Rattle.seek_walk.specs.Found.{found_line, found_lines, is_clean, PrintsClean}

@@ -11,10 +11,10 @@ use Rattle.walk_text.specs.declared.asked.Asked.{Asked}
 use Rattle.walk_run.specs.Totals.{totals_line}
 use Rattle.walk_run.specs.AskedWalk.{written}
 use Rattle.jwalk.specs.jwalk_callbacks.WithSizes.{with_asked}
-use Rattle.jwalk_read.specs.declared.dir_entry.DirEntry.{DirEntry}
-use Rattle.jwalk_read.specs.declared.error.Error.{Error}
-use Rattle.jwalk_read.specs.Entry.{item}
-use Rattle.jwalk_read.specs.Given.{Given, counted_item}
+use Rattle.jwalk_core.specs.declared.dir_entry.DirEntry.{DirEntry}
+use Rattle.jwalk_core.specs.declared.error.Error.{Error}
+use Rattle.jwalk_core.specs.Entry.{item}
+use Rattle.jwalk_core.specs.Given.{Given, counted_item}
 
 module _ (fs : Functions) (asked : Asked) (l : List (Item Worth Worth)) where
   -- what is written where no totals are asked for

@@ -5,7 +5,7 @@ use Rattle.std.specs.declared.sync.Arc.{Arc}
 use Rattle.std.specs.declared.clone.Clone as Clone
 use Rattle.std.specs.declared.default.Default as Default
 use Rattle.walk_fs.specs.declared.file_system.FileSystem as FileSystem
-use Rattle.jwalk_read.specs.declared.process_read_dir.ProcessReadDir as ProcessReadDir
+use Rattle.jwalk_core.specs.declared.process_read_dir.ProcessReadDir as ProcessReadDir
 use Rattle.jwalk.specs.jwalk_callbacks.declared.size.Size.{Size}
 use Rattle.jwalk.specs.jwalk_callbacks.declared.with_sizes.WithSizes.{WithSizes}
 use Rattle.jwalk.specs.jwalk_callbacks.WithSizes.{asks}

@@ -5,8 +5,8 @@ use Rattle.std.specs.Iterator.{Drains}
 use Rattle.std.specs.Io.KnownBytes.{Appends}
 use Rattle.walk_model.specs.FileSystem.{Functions}
 use Rattle.walk_model.specs.Entry.{Item}
-use Rattle.jwalk_read.specs.declared.dir_entry.DirEntry.{DirEntry}
-use Rattle.jwalk_read.specs.declared.error.Error.{Error}
+use Rattle.jwalk_core.specs.declared.dir_entry.DirEntry.{DirEntry}
+use Rattle.jwalk_core.specs.declared.error.Error.{Error}
 use Rattle.jwalk.specs.jwalk_callbacks.declared.size.Size.{Size}
 use Rattle.jwalk_usage.specs.declared.report.Usage.{Usage}
 use Rattle.jwalk_usage.specs.Totals.{totals, usage_text}

@@ -1,15 +1,15 @@
 //! Walks whose answers are handed to a closure, or appended to a list.
-ghost use Rattle.jwalk_entries.specs.DirEntryIter.{Answers};
+ghost use Rattle.jwalk_core.specs.DirEntryIter.{Answers};
 ghost use Rattle.jwalk.specs.Each.{BeginsAlone, BeginsOver, CallsWithEach, CallsUntilError, Appends};
 ghost use Rattle.jwalk.specs.WalkDir.{callback_of};
 
 use crate::walk_dir::WalkDirGeneric;
-use jwalk_read::client_state::ClientState;
-use jwalk_read::dir_entry::DirEntry;
-use jwalk_read::error::Error;
-use jwalk_read::process_read_dir::ProcessReadDir;
-use jwalk_readings::readers::{NoCrew, Readers};
-use jwalk_readings::session::Session;
+use jwalk_core::client_state::ClientState;
+use jwalk_core::dir_entry::DirEntry;
+use jwalk_core::error::Error;
+use jwalk_core::process_read_dir::ProcessReadDir;
+use jwalk_core::readers::{NoCrew, Readers};
+use jwalk_core::session::Session;
 use std::alloc::{AllocError, Global};
 use std::sync::Wait;
 use std::thread::Threads;

@@ -1,21 +1,21 @@
 //! Walks over a crew.
 ghost use Rattle.std.specs.Prelude.{◌≡◌, ◌⊎◌, string_bytes, IfOk, IfErr, IfSome, IfNone, Some, None};
 ghost use Rattle.walk_model.specs.Options as parallelism;
-ghost use Rattle.jwalk_read.specs.Options.{mode_value};
+ghost use Rattle.jwalk_core.specs.Options.{mode_value};
 ghost use Rattle.walk_model.specs.Error.{memory, busy};
-ghost use Rattle.jwalk_read.specs.Error.{failure};
+ghost use Rattle.jwalk_core.specs.Error.{failure};
 
 use crate::walk_dir::WalkDirGeneric;
 use crate::walk_dir::crew_start::{Begun, CrewWalk, from_root_alone};
-use jwalk_entries::dir_entry_iter::DirEntryIter;
-use jwalk_read::client_state::ClientState;
-use jwalk_read::error::Error;
-use jwalk_read::job::Job;
-use jwalk_read::mode::Mode;
-use jwalk_read::process_read_dir::{NoProcess, ProcessReadDir};
-use jwalk_readings::crew_reads::started::error_of;
-use jwalk_readings::readers::Readers;
-use jwalk_readings::session::Session;
+use jwalk_core::client_state::ClientState;
+use jwalk_core::crew_reads::started::error_of;
+use jwalk_core::dir_entry_iter::DirEntryIter;
+use jwalk_core::error::Error;
+use jwalk_core::job::Job;
+use jwalk_core::mode::Mode;
+use jwalk_core::process_read_dir::{NoProcess, ProcessReadDir};
+use jwalk_core::readers::Readers;
+use jwalk_core::session::Session;
 use std::alloc::Allocator;
 use std::sync::Wait;
 use std::thread::Threads;
@@ -69,7 +69,7 @@ where
     C::DirEntryState: Send + 'static,
 {
     ghost use Rattle.jwalk.specs.WalkDir.{callback_of, options_of, Starts, KeepsBound, Begins};
-    ghost use Rattle.jwalk_entries.specs.DirEntryIter.{StartsSteady};
+    ghost use Rattle.jwalk_core.specs.DirEntryIter.{StartsSteady};
 
     /// Begins the walk.
     fn begin_by(self) -> Begun<CrewWalk<R, C, S, P, A>>

@@ -1,8 +1,8 @@
 //! Walks with states of other types beside directories and entries.
 
 use crate::walk_dir::WalkDirGeneric;
-use jwalk_read::client_state::ClientState;
-use jwalk_read::process_read_dir::NoProcess;
+use jwalk_core::client_state::ClientState;
+use jwalk_core::process_read_dir::NoProcess;
 use std::alloc::Allocator;
 use std::fmt::Debug;
 use walk_fs::file_system::FileSystem;

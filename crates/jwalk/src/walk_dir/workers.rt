@@ -3,10 +3,10 @@ ghost use Rattle.std.specs.Prelude.{◌≡◌, ◌<◌, IfOk};
 
 use crate::host::Host;
 use crate::walk_dir::WalkDirGeneric;
-use jwalk_read::client_state::ClientState;
-use jwalk_read::process_read_dir::ProcessReadDir;
-use jwalk_readings::parallelism::Parallelism;
-use jwalk_readings::readers::NoCrew;
+use jwalk_core::client_state::ClientState;
+use jwalk_core::parallelism::Parallelism;
+use jwalk_core::process_read_dir::ProcessReadDir;
+use jwalk_core::readers::NoCrew;
 use std::alloc::{AllocError, Allocator};
 use std::sync::Arc;
 use std::thread::{Threads, available_parallelism};

@@ -1,7 +1,7 @@
 use Rattle.std.proofs.Common.{rules, tests, sym, ◌∙◌}
 use Rattle.std.proofs.lemmas.Iterator.{YieldsList-from_slice}
 use Rattle.std.proofs.lemmas.Iterator.Search.{any_from_yields_List}
-use Rattle.jwalk.specs.jwalk_read.Entry.{item}
+use Rattle.jwalk.specs.jwalk_core.Entry.{item}
 use Rattle.ignore_client.specs.Packages.{is_manifest}
 use Rattle.jwalk_ignore.proofs.ListFacts.{list_any-map}
 use Rattle.ignore_client.proofs.packages.holds_manifest.Goals as goal

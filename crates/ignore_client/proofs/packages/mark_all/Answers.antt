@@ -1,6 +1,6 @@
 use Rattle.std.proofs.Common.{length, map, ap, sym, ◌∙◌}
 use Rattle.std.proofs.lemmas.List.{with_items_is}
-use Rattle.jwalk.specs.jwalk_read.Entry.{item}
+use Rattle.jwalk.specs.jwalk_core.Entry.{item}
 use Rattle.ignore_client.specs.Packages.{with_mark}
 use Rattle.ignore_client.proofs.PackageFacts.{changed_more, changed_all}
 use Rattle.ignore_client.proofs.packages.mark_all.Goals as goal

@@ -1,4 +1,4 @@
-use Rattle.jwalk.specs.jwalk_read.Entry.{item}
+use Rattle.jwalk.specs.jwalk_core.Entry.{item}
 use Rattle.ignore_client.specs.Packages.{with_mark}
 use Rattle.ignore_client.proofs.PackageFacts.{IsChangedTo}
 use Rattle.ignore_client.proofs.packages.mark_all.Given as goal

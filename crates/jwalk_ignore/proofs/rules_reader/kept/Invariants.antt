@@ -1,6 +1,6 @@
 use Rattle.std.proofs.Common.{◌≡◌, map}
 use Rattle.std.specs.List.{filter}
-use Rattle.jwalk.specs.jwalk_read.Entry.{item}
+use Rattle.jwalk.specs.jwalk_core.Entry.{item}
 use Rattle.jwalk_ignore.specs.Chain.{place_in}
 use Rattle.jwalk_ignore.specs.ChainViews.{chain_value}
 use Rattle.jwalk_ignore.specs.IgnoreFiles.{is_kept}

@@ -1,5 +1,5 @@
 use Rattle.std.proofs.Common.{◌≡◌, ◌≤◌, true}
-use Rattle.jwalk.specs.jwalk_read.Job.{callback}
+use Rattle.jwalk.specs.jwalk_core.Job.{callback}
 use Rattle.jwalk.specs.DirEntryIter.{by_crew, job_of, most_ahead}
 use Rattle.proved_walk.proofs.ahead.ahead_after.Given as goal
 

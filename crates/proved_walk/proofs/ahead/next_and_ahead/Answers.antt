@@ -1,6 +1,6 @@
 use Rattle.std.proofs.Common.{◌∙◌, ◌-◌, arith}
 use Rattle.std.specs.Prelude.{option_map}
-use Rattle.jwalk.specs.jwalk_read.Entry.{item}
+use Rattle.jwalk.specs.jwalk_core.Entry.{item}
 use Rattle.proved_walk.proofs.AheadFacts.{none_ahead, grows_each, grows_unless, fewer_ahead}
 use Rattle.proved_walk.proofs.ahead.next_and_ahead.Goals as goal
 

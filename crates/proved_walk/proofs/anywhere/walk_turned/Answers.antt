@@ -1,7 +1,7 @@
 use Rattle.std.proofs.Common.{◌≡◌, ◌∙◌, refl, sym, ap, reverse, subst}
 use Rattle.std.proofs.lemmas.Result.{IfOk-weaker}
 use Rattle.jwalk.specs.walk_model.Options.{defaults}
-use Rattle.jwalk.specs.jwalk_read.Entry.{item}
+use Rattle.jwalk.specs.jwalk_core.Entry.{item}
 use Rattle.jwalk.specs.WalkDir.{file_system_of, options_of}
 use Rattle.proved_walk.specs.Turned.{turned}
 use Rattle.proved_walk.proofs.TurnedFacts.{made_turned}

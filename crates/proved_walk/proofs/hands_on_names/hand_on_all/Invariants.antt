@@ -1,6 +1,6 @@
 use Rattle.std.proofs.Common.{◌≡◌, ℕ, ◌<◌, ◌≤◌, get_or}
-use Rattle.jwalk.specs.jwalk_read.Entry.{item}
-use Rattle.jwalk.specs.jwalk_read.Given.{counted_item}
+use Rattle.jwalk.specs.jwalk_core.Entry.{item}
+use Rattle.jwalk.specs.jwalk_core.Given.{counted_item}
 use Rattle.proved_walk.specs.HandsOnNames.{worth_of, handed, names_handed_on}
 use Rattle.proved_walk.proofs.hands_on_names.hand_on_all.Given as goal
 

@@ -1,6 +1,6 @@
 use Rattle.std.proofs.Common.{◌∙◌, map, sym, ap, refl}
 use Rattle.std.specs.Arc.{arc_value}
-use Rattle.jwalk.specs.jwalk_read.ReadDirSpec.{spec}
+use Rattle.jwalk.specs.jwalk_core.ReadDirSpec.{spec}
 use Rattle.proved_walk.proofs.OwnReadersFacts.{if_ok_both, roots_stacked}
 use Rattle.proved_walk.proofs.own_readers.made_for.Goals as goal
 

@@ -1,6 +1,6 @@
 use Rattle.std.proofs.Common.{rules}
 use Rattle.std.proofs.lemmas.Fn.{All-from_retain}
-use Rattle.jwalk.specs.jwalk_read.Entry.{item}
+use Rattle.jwalk.specs.jwalk_core.Entry.{item}
 use Rattle.refused_walks.proofs.Depths.{IsAt, all_at}
 use Rattle.refused_walks.proofs.callbacks.keep_depth.Goals as goal
 

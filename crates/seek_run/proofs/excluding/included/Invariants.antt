@@ -1,6 +1,6 @@
 use Rattle.std.proofs.Common.{◌≡◌, map}
 use Rattle.std.specs.List.{filter}
-use Rattle.jwalk.specs.jwalk_read.Entry.{item}
+use Rattle.jwalk.specs.jwalk_core.Entry.{item}
 use Rattle.jwalk_ignore.specs.Rules.{rules_value}
 use Rattle.seek_run.specs.Excluding.{is_included}
 use Rattle.seek_run.proofs.excluding.included.Given as goal

@@ -2,8 +2,8 @@ use Rattle.std.proofs.Common.{◌≡◌, ◌∙◌, ap, map, refl, subst, sym}
 use Rattle.std.specs.Arc.{arc_value}
 use Rattle.std.proofs.lemmas.Result.{IfOk-weaker}
 use Rattle.jwalk.specs.walk_model.Counted.{blank, both}
-use Rattle.jwalk.specs.jwalk_read.Entry.{item}
-use Rattle.jwalk.specs.jwalk_read.Job.{IsSteady}
+use Rattle.jwalk.specs.jwalk_core.Entry.{item}
+use Rattle.jwalk.specs.jwalk_core.Job.{IsSteady}
 use Rattle.jwalk.specs.WalkDir.{file_system_of, callback_of}
 use Rattle.jwalk.proofs.CleanFacts.{clean_whole}
 use Rattle.jwalk.proofs.WholeFacts.{steady_begun}

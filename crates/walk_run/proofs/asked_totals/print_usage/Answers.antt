@@ -4,8 +4,8 @@ use Rattle.std.specs.List.{list_all}
 use Rattle.std.specs.Io.KnownBytes.{Appends}
 use Rattle.walk_model.specs.Counted.{blank}
 use Rattle.walk_model.specs.Walk.{stateless_walk}
-use Rattle.jwalk_read.specs.Entry.{item}
-use Rattle.jwalk_read.specs.Job.{IsSteady}
+use Rattle.jwalk_core.specs.Entry.{item}
+use Rattle.jwalk_core.specs.Job.{IsSteady}
 use Rattle.jwalk.specs.jwalk_callbacks.WithSizes.{asks, counted_size, size_worth, sizing}
 use Rattle.jwalk.specs.WalkDir.{file_system_of, callback_of, options_of, root_of}
 use Rattle.jwalk.proofs.CleanFacts.{clean_whole}

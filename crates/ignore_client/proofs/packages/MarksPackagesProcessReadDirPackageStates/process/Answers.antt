@@ -1,5 +1,5 @@
 use Rattle.std.proofs.Common.{map}
-use Rattle.jwalk.specs.jwalk_read.Entry.{item}
+use Rattle.jwalk.specs.jwalk_core.Entry.{item}
 use Rattle.jwalk.specs.walk_model.ReadDir.{list_depth}
 use Rattle.ignore_client.specs.Packages.{marks_keep}
 use Rattle.ignore_client.proofs.PackageFacts.{marks_made}

@@ -3,11 +3,11 @@ use Rattle.walk_model.specs.Options.{Options}
 use Rattle.walk_model.specs.Listing.{paired}
 use Rattle.walk_model.specs.Counted.{Worth}
 use Rattle.walk_model.specs.Job as value
-use Rattle.jwalk_read.specs.ReadDir.{reading}
-use Rattle.jwalk_read.specs.Options.{width_of}
-use Rattle.jwalk_read.specs.Given.{counted_reading}
-use Rattle.jwalk_read.specs.Job.{file_system, callback, options_of, job_by, IsSteady}
-use Rattle.jwalk_entries.specs.DirEntryIter.{held_by}
+use Rattle.jwalk_core.specs.ReadDir.{reading}
+use Rattle.jwalk_core.specs.Options.{width_of}
+use Rattle.jwalk_core.specs.Given.{counted_reading}
+use Rattle.jwalk_core.specs.Job.{file_system, callback, options_of, job_by, IsSteady}
+use Rattle.jwalk_core.specs.DirEntryIter.{held_by}
 use Rattle.jwalk.specs.WalkDir.{job_for, file_system_of, root_of, state_of}
 use Rattle.jwalk.proofs.BeginFacts.{held_view, by_flag}
 use Rattle.jwalk.proofs.walk_dir.WalkDirGeneric+C+S+P+A+NoCrew.begin.Goals as goal

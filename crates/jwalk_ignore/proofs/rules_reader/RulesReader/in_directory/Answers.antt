@@ -1,5 +1,5 @@
 use Rattle.std.proofs.Common.{map}
-use Rattle.jwalk.specs.jwalk_read.Entry.{item}
+use Rattle.jwalk.specs.jwalk_core.Entry.{item}
 use Rattle.jwalk_ignore.specs.ChainViews.{chain_value}
 use Rattle.jwalk_ignore.specs.IgnoreFiles.{is_shown}
 use Rattle.jwalk_ignore.proofs.ReaderFacts.{left_at, left_from}

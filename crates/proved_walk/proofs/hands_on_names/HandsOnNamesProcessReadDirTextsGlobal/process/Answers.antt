@@ -1,5 +1,5 @@
 use Rattle.std.proofs.Common.{map}
-use Rattle.jwalk.specs.jwalk_read.Entry.{item}
+use Rattle.jwalk.specs.jwalk_core.Entry.{item}
 use Rattle.proved_walk.specs.HandsOnNames.{names_handed_on}
 use Rattle.jwalk.proofs.GivenFacts.{depth_of_made}
 use Rattle.proved_walk.proofs.HandedFacts.{made_by, made_for}

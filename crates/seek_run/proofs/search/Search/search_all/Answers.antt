@@ -1,6 +1,6 @@
 use Rattle.std.proofs.Common.{◌∙◌, map, sym}
 use Rattle.std.proofs.lemmas.Result.{IfOk-weaker}
-use Rattle.jwalk.specs.jwalk_read.Entry.{item}
+use Rattle.jwalk.specs.jwalk_core.Entry.{item}
 use Rattle.seek_walk.proofs.WholeFacts.{clean_entries, printed_whole}
 use Rattle.seek_run.specs.Search.{excluded_asked, given_all}
 use Rattle.seek_run.proofs.search.Search.search_all.Goals as goal

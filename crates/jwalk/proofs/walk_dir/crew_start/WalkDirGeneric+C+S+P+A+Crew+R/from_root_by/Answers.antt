@@ -1,11 +1,11 @@
 use Rattle.std.proofs.Common.{option_map, inl, inr, refl, ap, ◌∙◌, arith}
 use Rattle.walk_model.specs.Entry.{AtDepth}
-use Rattle.jwalk_read.specs.Options as options
-use Rattle.jwalk_read.specs.ReadDir.{reading}
-use Rattle.jwalk_read.specs.Job.{options_of}
+use Rattle.jwalk_core.specs.Options as options
+use Rattle.jwalk_core.specs.ReadDir.{reading}
+use Rattle.jwalk_core.specs.Job.{options_of}
 use Rattle.jwalk.proofs.CrewStartFacts.{reads_alone, refused_from_root, by_from_root, if_some_map}
-use Rattle.jwalk_entries.specs.DirEntryIter.{reads_of}
-use Rattle.jwalk_entries.proofs.AnswerFacts.{alone_steady}
+use Rattle.jwalk_core.specs.DirEntryIter.{reads_of}
+use Rattle.jwalk_core.proofs.AnswerFacts.{alone_steady}
 use Rattle.jwalk.proofs.walk_dir.crew_start.WalkDirGeneric+C+S+P+A+Crew+R.from_root_by.Goals as goal
 
 pub returns-in_default-clause-from_root : goal.returns-in_default-clause-from_root

@@ -1,7 +1,7 @@
 use Rattle.std.proofs.Common.{◌∙◌, sym, ap, subst}
-use Rattle.jwalk_read.specs.ReadDir.{reading}
-use Rattle.jwalk_readings.specs.ReadDirIter as readings
-use Rattle.jwalk_readings.specs.CrewReads as reads_by
+use Rattle.jwalk_core.specs.ReadDir.{reading}
+use Rattle.jwalk_core.specs.ReadDirIter as readings
+use Rattle.jwalk_core.specs.CrewReads as reads_by
 use Rattle.jwalk.specs.CrewStart.{IsToRead}
 use Rattle.jwalk.proofs.CrewStartFacts.{left_placed, left_to_read, left_most, left_steady}
 use Rattle.jwalk.proofs.walk_dir.crew_start.WalkDirGeneric+C+S+P+A+Crew+R.with_reads.Goals as goal

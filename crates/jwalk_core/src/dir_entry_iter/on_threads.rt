@@ -1,0 +1,131 @@
+//! A walk's answers, where threads read the directories that are read together.
+ghost use Rattle.std.specs.Prelude.{◌≡◌, ◌≢◌, true, false, []};
+ghost use Rattle.jwalk_core.specs.Job.{callback};
+
+use crate::client_state::ClientState;
+use crate::dir_entry::DirEntry;
+use crate::dir_entry_iter::DirEntryIter;
+use crate::error::Error;
+use crate::process_read_dir::ProcessReadDir;
+use crate::readers::{Missed, Readers};
+use std::alloc::{AllocError, Allocator};
+use std::thread::Threads;
+use walk_fs::file_system::FileSystem;
+
+impl<
+    C: ClientState + Send,
+    S: FileSystem + Send + Sync,
+    P: ProcessReadDir<C, A> + Send + Sync,
+    A: Allocator + Copy + Send + Sync,
+    L: Readers<C, S, P, A>,
+> DirEntryIter<C, S, P, A, L>
+where
+    C::ReadDirState: Send,
+    C::DirEntryState: Send,
+{
+    ghost use Rattle.jwalk_core.specs.DirEntryIter.{job_of, items_of, unread_of, Prepares, Passes, GoesOn, Answers, Fills};
+    ghost use Rattle.jwalk_core.specs.Step.{IsAtDirectory};
+
+    /// Returns whether the next item is a directory's entry, which is to be read if any is left.
+    fn is_at_directory(&self) -> bool
+        ensures yes { result ≡ true → unread_of self.now ≢ []
+            → IsAtDirectory (items_of self.now) (unread_of self.now) }
+        ensures no { result ≡ false → ¬ IsAtDirectory (items_of self.now) (unread_of self.now) }
+    {
+        match self.items.last() {
+            Some(Ok(found)) => found.read_children.is_some(),
+            Some(Err(_error)) => false,
+            None => false,
+        }
+    }
+
+    /// Makes sure that the next item can be passed without a reading. Nothing is read unless that item enters a
+    /// directory.
+    fn prepare_on<R: Threads + Sync>(&mut self, rt: &R) -> Result<(), AllocError>
+        requires { P.IsLawful (callback (job_of self.old)) }
+        ensures { Prepares S.FileSystem P.ProcessReadDir C.ReadDirState.Clone C.DirEntryState.Default L.Readers
+            self.old result self.new }
+    {
+        if !self.is_at_directory() {
+            return Ok(());
+        }
+        self.reads.prepare_on(rt)
+    }
+
+    /// Passes the next item on, like `pass`.
+    fn pass_on<R: Threads + Sync>(
+        &mut self,
+        rt: &R,
+    ) -> Result<Option<Result<DirEntry<C, A>, Error<A>>>, Missed>
+        requires { P.IsLawful (callback (job_of self.old)) }
+        ensures { Passes S.FileSystem P.ProcessReadDir C.ReadDirState.Clone C.DirEntryState.Default L.Readers
+            self.old result self.new }
+    {
+        self.prepare_on(rt)?;
+        self.pass()
+    }
+
+    /// Returns the next item that is yielded, like `next_kept`.
+    fn next_kept_on<R: Threads + Sync>(
+        &mut self,
+        rt: &R,
+    ) -> Result<Option<Result<DirEntry<C, A>, Error<A>>>, Missed>
+        requires { P.IsLawful (callback (job_of self.old)) }
+        ensures { GoesOn S.FileSystem P.ProcessReadDir C.ReadDirState.Clone C.DirEntryState.Default L.Readers
+            self.old result self.new }
+    {
+        while let Some(passed) = self.pass_on(rt)? {
+            if let Some(answer) = self.kept(passed) {
+                return Ok(Some(answer));
+            }
+        }
+        Ok(None)
+    }
+
+    /// Returns the next answer, like `Iterator::next`, with threads of this runtime to read the directories that are
+    /// read together.
+    ///
+    /// `while let Some(answer) = walk.next_on(&rt)` is the loop that uses several threads. A `for` loop, and an
+    /// iterator's adapters, call `Iterator::next`: the answers and their order are the same there. Over a crew both may
+    /// block for a reading or for a lock.
+    pub fn next_on<R: Threads + Sync>(&mut self, rt: &R) -> Option<Result<DirEntry<C, A>, Error<A>>>
+        requires { P.IsLawful (callback (job_of self.old)) }
+        ensures { Answers S.FileSystem P.ProcessReadDir C.ReadDirState.Clone C.DirEntryState.Default L.Readers
+            self.old result self.new }
+    {
+        if self.refused {
+            self.refused = false;
+            return Some(Err(Error::memory()));
+        }
+        let came = self.next_kept_on(rt);
+        self.answer(came)
+    }
+
+    /// Appends up to `n` answers to `out`, like [`fill`](DirEntryIter::fill), with threads of this runtime to read the
+    /// directories that are read together.
+    ///
+    /// # Errors
+    ///
+    /// If memory runs out for the place, as with `fill`.
+    pub fn fill_on<R: Threads + Sync>(
+        &mut self,
+        rt: &R,
+        n: usize,
+        out: &mut Vec<Result<DirEntry<C, A>, Error<A>>, A>,
+    ) -> Result<usize, AllocError>
+        requires { P.IsLawful (callback (job_of self.old)) }
+        ensures { Fills S.FileSystem P.ProcessReadDir C.ReadDirState.Clone C.DirEntryState.Default L.Readers
+            n self.old out.old.items result out.new.items self.new }
+    {
+        let mut filled = 0;
+        while filled < n {
+            out.reserve(1)?;
+            let Some(answer) = self.next_on(rt) else {
+                return Ok(filled);
+            };
+            out.push_reserved(answer);
+            filled += 1;
+        }
+        Ok(filled)
+    }
+}

@@ -1,0 +1,124 @@
+//! Readings by workers.
+ghost use Rattle.std.specs.Prelude.{◌≡◌, [], IsErr, IsTrue, ◌↔◌, MatchResult, map};
+ghost use Rattle.std.specs.Arc.{arc_value};
+ghost use Rattle.walk_model.specs.ReadDir.{children_of, AreClones};
+ghost use Rattle.jwalk_core.specs.ReadDirSpec.{spec};
+ghost use Rattle.jwalk_core.specs.ReadDir.{outcome};
+ghost use Rattle.jwalk_core.specs.Job.{callback};
+ghost use Rattle.jwalk_core.specs.Message.{IsLawfulMessage, told};
+
+use crate::client_state::ClientState;
+use crate::job::Job;
+use crate::process_read_dir::ProcessReadDir;
+use crate::read_dir::Outcome;
+use crate::read_dir_spec::ReadDirSpec;
+use std::alloc::{AllocError, Allocator, Global};
+use std::marker::Model;
+use std::sync::Arc;
+use tree_crew::message as tree;
+use walk_fs::file_system::FileSystem;
+
+/// What a crew whose plan is a job calls a message.
+pub(crate) type Told<C, S, P, A> = tree::Message<
+    ReadDirSpec<C, A>,
+    Outcome<C, A>,
+    Job<C, S, P, A>,
+    A,
+>;
+
+/// A reading by a worker: the job that read, the directory that was read, and the outcome, or that memory ran out.
+pub struct Message<
+    C: ClientState,
+    S: FileSystem,
+    P: ProcessReadDir<C, A>,
+    A: Allocator + Copy = Global,
+> {
+    reading: Told<C, S, P, A>,
+}
+
+impl<C: ClientState, S: FileSystem, P: ProcessReadDir<C, A>, A: Allocator + Copy> Drop
+    for Message<C, S, P, A> {
+    fn drop(self) {
+        let Message { reading: _ } = self;
+    }
+}
+
+impl<C: ClientState, S: FileSystem, P: ProcessReadDir<C, A>, A: Allocator + Copy> Model
+    for Message<C, S, P, A> {
+    ghost use Rattle.jwalk_core.specs.Message.{Message as State, IsLawfulMessage, told};
+
+    ghost Value = { State C S P A C.ReadDirState C.DirEntryState };
+
+    ghost view = { λ m. told m.reading };
+
+    ghost invariant = { λ m. IsLawfulMessage S.FileSystem P.ProcessReadDir C.ReadDirState.Clone
+        C.DirEntryState.Default (told m.reading) };
+}
+
+impl<C: ClientState, S: FileSystem, P: ProcessReadDir<C, A>, A: Allocator + Copy> Message<
+    C,
+    S,
+    P,
+    A,
+> {
+    /// Reads a directory: returns the message, and the directories below it. There are none if memory ran out, for the
+    /// reading or for the list of these directories.
+    pub fn read(
+        job: Arc<Job<C, S, P, A>, A>,
+        of: ReadDirSpec<C, A>,
+    ) -> (Self, Vec<ReadDirSpec<C, A>, A>)
+        requires { P.IsLawful (callback (arc_value job)) }
+        ensures job { result.0.job ≡ arc_value job }
+        ensures of { result.0.of ≡ of }
+        ensures lawful { IsLawfulMessage S.FileSystem P.ProcessReadDir C.ReadDirState.Clone
+            C.DirEntryState.Default result.0 }
+        ensures children { MatchResult result.0.outcome
+            (λ o. AreClones C.ReadDirState.is_clone (children_of (outcome o)) (map spec result.1.items))
+            (λ _. result.1.items ≡ []) }
+    {
+        let alloc = *of.path.allocator();
+        let (reading, below) = tree::Message::read(alloc, job, of);
+        (Message { reading }, below)
+    }
+
+    /// Returns a crew's message as a walk's.
+    pub(crate) fn of_crew(reading: Told<C, S, P, A>) -> Self
+        requires { IsLawfulMessage S.FileSystem P.ProcessReadDir C.ReadDirState.Clone C.DirEntryState.Default
+            (told reading) }
+        ensures { result ≡ told reading }
+    {
+        Message { reading }
+    }
+
+    /// Returns the job that read.
+    pub fn job(&self) -> &Job<C, S, P, A>
+        ensures { result.now ≡ self.now.job }
+    {
+        self.reading.plan()
+    }
+
+    /// Returns the directory that was read.
+    pub fn of(&self) -> &ReadDirSpec<C, A>
+        ensures { result.now ≡ self.now.of }
+    {
+        self.reading.of()
+    }
+
+    /// Returns whether memory ran out.
+    pub fn is_refused(&self) -> bool
+        ensures { IsTrue result ↔ IsErr self.now.outcome }
+    {
+        self.reading.is_refused()
+    }
+
+    /// Returns the outcome of the directory's reading, or that memory ran out. It is the job's reading of the
+    /// directory.
+    pub fn into_outcome(self) -> Result<Outcome<C, A>, AllocError>
+        ensures outcome { result ≡ self.outcome }
+        ensures lawful { IsLawfulMessage S.FileSystem P.ProcessReadDir C.ReadDirState.Clone
+            C.DirEntryState.Default self }
+    {
+        let Message { reading } = self;
+        reading.into_outcome()
+    }
+}

@@ -1,0 +1,311 @@
+//! Readings in preorder.
+ghost use Rattle.std.specs.Prelude.{◌≡◌, ◌≢◌, ◌≤◌, ◌+◌, true, false, Ok, [], length, map, IfOk, IfErr, OnOk, OnErr, IsSome, option_map};
+ghost use Rattle.walk_model.specs.Error.{memory};
+ghost use Rattle.jwalk_core.specs.Error.{failure};
+ghost use Rattle.jwalk_core.specs.Entry.{entry};
+ghost use Rattle.jwalk_core.specs.ReadDirSpec.{spec};
+ghost use Rattle.jwalk_core.specs.ReadDir.{outcome};
+ghost use Rattle.jwalk_core.specs.Job.{callback};
+
+mod on_threads;
+mod over_crew;
+mod over_readers;
+
+use crate::batch_reads::BatchReads;
+use crate::client_state::ClientState;
+use crate::crew_reads::{CrewReads, error_of};
+use crate::dir_entry::DirEntry;
+use crate::error::Error;
+use crate::job::Job;
+use crate::mode::Mode;
+use crate::parallelism::Parallelism;
+use crate::process_read_dir::ProcessReadDir;
+use crate::read_dir::{Outcome, ReadDir};
+use crate::read_dir_spec::ReadDirSpec;
+use crate::readers::{Missed, NoCrew, Readers};
+use std::alloc::{AllocError, Allocator, Global};
+use walk_fs::file_system::FileSystem;
+
+/// An iterator over readings, each before those of its own directories: the one of the first directory not given yet
+/// comes next, and then those below it.
+///
+/// If memory runs out, one error is yielded whose `is_memory` is true, and then `None`. If a crew's reading is lost,
+/// one error is yielded whose `is_lost` is true, and then `None`.
+///
+/// No reading is lost if three things hold. The file system's answers stay the same, the callback always does the same,
+/// and the iterator is asked for no other directory than the next one.
+///
+/// Over a crew, calls may block: `next` and `next_of`, on threads or not, for a reading, and these, `ahead` and the drop
+/// for a lock.
+pub enum ReadDirIter<
+    C: ClientState,
+    S: FileSystem,
+    P: ProcessReadDir<C, A>,
+    A: Allocator + Copy = Global,
+    L = NoCrew,
+> {
+    /// One directory or several are read together, when a reading is asked for that isn't there yet.
+    Walk(BatchReads<C, S, P, A>),
+    /// The workers of a crew read ahead.
+    CrewWalk(CrewReads<C, S, P, A, L>),
+}
+
+impl<C: ClientState, S: FileSystem, P: ProcessReadDir<C, A>, A: Allocator + Copy, L: Drop> Drop
+    for ReadDirIter<C, S, P, A, L> {
+    fn drop(self) {
+        match self {
+            ReadDirIter::Walk(_) => (),
+            ReadDirIter::CrewWalk(_) => (),
+        }
+    }
+}
+
+impl<
+    C: ClientState,
+    S: FileSystem,
+    P: ProcessReadDir<C, A>,
+    A: Allocator + Copy,
+    L: Readers<C, S, P, A>,
+> ReadDirIter<C, S, P, A, L> {
+    ghost use Rattle.jwalk_core.specs.Options as options;
+    ghost use Rattle.jwalk_core.specs.Options.{mode_value};
+    ghost use Rattle.jwalk_core.specs.Job.{greatest_depth};
+    ghost use Rattle.jwalk_core.specs.Reads.{ReadsNextBy};
+    ghost use Rattle.jwalk_core.specs.ReadAhead.{nothing_ahead, BeginsWith};
+    ghost use Rattle.jwalk_core.specs.BatchReads.{PassesAddress};
+    ghost use Rattle.jwalk_core.specs.CrewReads.{failure_of, IsNextBelow, NotLost};
+    ghost use Rattle.jwalk_core.specs.ReadDirIter.{by_crew, job_of, to_read, width_of, read_ahead, early_of, frontier_of, next_address, Tells, most_ahead, IsSteadyReads, StaysSteady, Known, KnownOf, EntersNextBy, GivesFirst, Gives};
+
+    /// Returns readings with nothing to read yet, by no crew.
+    pub(crate) fn new(alloc: A, job: Job<C, S, P, A>, mode: Mode) -> Self
+        ensures own { by_crew result ≡ false }
+        ensures job { job_of result ≡ job }
+        ensures width { width_of result ≡ options.width_of (mode_value mode) }
+        ensures to_read { to_read result ≡ [] }
+        ensures read_ahead { read_ahead result ≡ nothing_ahead }
+    {
+        ReadDirIter::Walk(BatchReads::new(alloc, job, mode.width()))
+    }
+
+    /// Puts these directories in place of what was to be read, if no crew reads. They alone are queued, in their order,
+    /// and none is read yet.
+    ///
+    /// # Errors
+    ///
+    /// If memory runs out. Then nothing is left to be read, and nothing is ahead.
+    pub(crate) fn begin(&mut self, roots: Vec<ReadDirSpec<C, A>, A>) -> Result<(), AllocError>
+        requires { by_crew self.old ≡ false }
+        ensures own { by_crew self.new ≡ false }
+        ensures job { job_of self.new ≡ job_of self.old }
+        ensures width { width_of self.new ≡ width_of self.old }
+        ensures to_read { OnOk result (to_read self.new ≡ map spec roots.items) }
+        ensures read_ahead { OnOk result (BeginsWith (map spec roots.items) (read_ahead self.new)) }
+        ensures stopped { OnErr result (to_read self.new ≡ []) }
+        ensures nothing_ahead { OnErr result (read_ahead self.new ≡ nothing_ahead) }
+    {
+        match self {
+            ReadDirIter::Walk(walk) => walk.begin(roots),
+            ReadDirIter::CrewWalk(_) => unreachable!(),
+        }
+    }
+
+    /// Returns the readings of these directories and of all that is below them, by no crew.
+    fn alone(
+        job: Job<C, S, P, A>,
+        roots: Vec<ReadDirSpec<C, A>, A>,
+        mode: Mode,
+    ) -> Result<Self, Error<A>>
+        ensures own { IfOk result (λ reads. by_crew reads ≡ false) }
+        ensures job { IfOk result (λ reads. job_of reads ≡ job) }
+        ensures width { IfOk result (λ reads. width_of reads ≡ options.width_of (mode_value mode)) }
+        ensures to_read { IfOk result (λ reads. to_read reads ≡ map spec roots.items) }
+        ensures read_ahead { IfOk result (λ reads. BeginsWith (map spec roots.items) (read_ahead reads)) }
+        ensures memory { IfErr result (λ error. failure error ≡ memory) }
+    {
+        let mut reads = ReadDirIter::new(*roots.allocator(), job, mode);
+        match reads.begin(roots) {
+            Ok(()) => Ok(reads),
+            Err(_) => Err(Error::memory()),
+        }
+    }
+
+    /// Returns the next reading.
+    pub(crate) fn read_next(&mut self) -> Result<Option<Outcome<C, A>>, Missed>
+        requires { P.IsLawful (callback (job_of self.old)) }
+        ensures crew { by_crew self.new ≡ by_crew self.old }
+        ensures job { job_of self.new ≡ job_of self.old }
+        ensures width { width_of self.new ≡ width_of self.old }
+        ensures ahead { length (early_of self.new) + 1 ≤ length (early_of self.old) + width_of self.old }
+        ensures tells { IfErr result (λ missed. Tells (by_crew self.old) (failure_of missed)) }
+        ensures some { OnErr result (to_read self.old ≢ []) }
+        ensures stopped { OnErr result (to_read self.new ≡ []) }
+        ensures nothing_ahead { OnErr result (read_ahead self.new ≡ nothing_ahead) }
+        ensures most { most_ahead L.Readers self.new ≤ most_ahead L.Readers self.old }
+        ensures steady { StaysSteady S.FileSystem P.ProcessReadDir C.ReadDirState.Clone C.DirEntryState.Default L.Readers
+            self.old self.new }
+        ensures next { IfOk result (λ o. ReadsNextBy C.ReadDirState.Clone
+            (Known S.FileSystem P.ProcessReadDir C.ReadDirState.Clone C.DirEntryState.Default L.Readers self.old)
+            (greatest_depth (job_of self.old)) (to_read self.old) (option_map outcome o) (to_read self.new)) }
+        ensures enters { IfOk result (λ o. EntersNextBy S.FileSystem P.ProcessReadDir C.ReadDirState.Clone
+            C.DirEntryState.Default (by_crew self.old) (job_of self.old) (width_of self.old)
+            (next_address self.old) (read_ahead self.old) (option_map outcome o) (read_ahead self.new)) }
+        ensures passes { IfOk result (λ o. PassesAddress (frontier_of self.old) (option_map outcome o)
+            (frontier_of self.new)) }
+        ensures comes { IfErr result (NotLost (IsSteadyReads S.FileSystem P.ProcessReadDir C.ReadDirState.Clone
+            C.DirEntryState.Default L.Readers self.old)) }
+    {
+        match self {
+            ReadDirIter::Walk(walk) => Ok(walk.read_next()?),
+            ReadDirIter::CrewWalk(reads) => reads.read_next(),
+        }
+    }
+
+    /// Returns whether the directory that comes next is the one below an entry, or none is left. It is called only if a
+    /// crew reads.
+    pub(crate) fn is_next(&self, found: &DirEntry<C, A>) -> bool
+        ensures own { result ≡ false → by_crew self.now ≡ true }
+        ensures some { result ≡ false → to_read self.now ≢ [] }
+        ensures below { result ≡ true → IsNextBelow (by_crew self.now) (Ok (entry found.now)) (to_read self.now) }
+        ensures other { result ≡ false → ¬ IsNextBelow (by_crew self.now) (Ok (entry found.now)) (to_read self.now) }
+    {
+        match self {
+            ReadDirIter::Walk(_) => true,
+            ReadDirIter::CrewWalk(reads) => reads.is_next(found),
+        }
+    }
+
+    /// Returns the next reading; or the error that reports why it won't come, and then nothing is left to be read.
+    fn next_or_stop(&mut self) -> Option<Outcome<C, A>>
+        requires { P.IsLawful (callback (job_of self.old)) }
+        ensures { Gives S.FileSystem P.ProcessReadDir C.ReadDirState.Clone C.DirEntryState.Default L.Readers false
+            self.old result self.new }
+    {
+        match self.read_next() {
+            Ok(read) => read,
+            Err(missed) => Some(Err(error_of(missed))),
+        }
+    }
+
+    /// Returns the reading of an entry's directory. It is the next one if the entries are those of the readings so far
+    /// in the walk's order. The entry must have `read_children`. `None` means that nothing is left to be read.
+    ///
+    /// Over a crew it is the reading of the entry's directory, or the error whose `is_lost` is true: after that nothing
+    /// is left to be read. There the call may block for a reading or for a lock.
+    pub fn next_of(&mut self, found: &DirEntry<C, A>) -> Option<Result<ReadDir<C, A>, Error<A>>>
+        requires lawful { P.IsLawful (callback (job_of self.old)) }
+        requires has_directory { IsSome found.now.read_children }
+        ensures gives { Gives S.FileSystem P.ProcessReadDir C.ReadDirState.Clone C.DirEntryState.Default L.Readers
+            (by_crew self.old) self.old result self.new }
+        ensures next { IsNextBelow (by_crew self.old) (Ok (entry found.now)) (to_read self.old)
+            → Gives S.FileSystem P.ProcessReadDir C.ReadDirState.Clone C.DirEntryState.Default L.Readers false
+            self.old result self.new }
+        ensures of { GivesFirst (by_crew self.old) C.ReadDirState.Clone (KnownOf S.FileSystem P.ProcessReadDir
+            C.ReadDirState.Clone C.DirEntryState.Default L.Readers self.old (Ok (entry found.now)))
+            (greatest_depth (job_of self.old)) (to_read self.old) (option_map outcome result) (to_read self.new) }
+    {
+        prove!(found.read_children.is_some());
+        if !self.is_next(found) {
+            self.stop();
+            return Some(Err(Error::lost()));
+        }
+        self.next_or_stop()
+    }
+
+    /// Returns the job that it reads with.
+    pub(crate) fn job(&self) -> &Job<C, S, P, A>
+        ensures { result.now ≡ job_of self.now }
+    {
+        match self {
+            ReadDirIter::Walk(walk) => walk.job(),
+            ReadDirIter::CrewWalk(reads) => reads.job(),
+        }
+    }
+
+    /// Returns how many readings were made and not handed on. Over a crew it changes while the workers read, but is at
+    /// most one more than the crew's bound, and the call may block for a lock.
+    pub fn ahead(&self) -> usize
+        ensures alone { by_crew self.now ≡ false → result ≡ length (early_of self.now) }
+        ensures crew { by_crew self.now ≡ true → result ≤ most_ahead L.Readers self.now }
+    {
+        match self {
+            ReadDirIter::Walk(walk) => walk.ahead(),
+            ReadDirIter::CrewWalk(reads) => reads.ahead(),
+        }
+    }
+
+    /// Drops what is not read yet, and what was read early.
+    pub(crate) fn stop(&mut self)
+        ensures crew { by_crew self.new ≡ by_crew self.old }
+        ensures job { job_of self.new ≡ job_of self.old }
+        ensures width { width_of self.new ≡ width_of self.old }
+        ensures to_read { to_read self.new ≡ [] }
+        ensures read_ahead { read_ahead self.new ≡ nothing_ahead }
+        ensures most { most_ahead L.Readers self.new ≡ 0 }
+        ensures steady { StaysSteady S.FileSystem P.ProcessReadDir C.ReadDirState.Clone C.DirEntryState.Default L.Readers
+            self.old self.new }
+    {
+        match self {
+            ReadDirIter::Walk(walk) => walk.stop(),
+            ReadDirIter::CrewWalk(reads) => reads.stop(),
+        }
+    }
+}
+
+impl<C: ClientState, S: FileSystem, P: ProcessReadDir<C, A>, A: Allocator + Copy> ReadDirIter<
+    C,
+    S,
+    P,
+    A,
+    NoCrew,
+> {
+    ghost use Rattle.jwalk_core.specs.Options as options;
+    ghost use Rattle.jwalk_core.specs.ReadAhead.{BeginsWith};
+    ghost use Rattle.jwalk_core.specs.Parallelism.{parallelism_value};
+    ghost use Rattle.jwalk_core.specs.ReadDirIter.{by_crew, job_of, to_read, width_of, read_ahead};
+
+    /// Returns the readings of these directories and of all that is below them.
+    ///
+    /// # Errors
+    ///
+    /// If memory runs out.
+    pub fn try_new(
+        job: Job<C, S, P, A>,
+        roots: Vec<ReadDirSpec<C, A>, A>,
+        parallelism: Parallelism<NoCrew, A>,
+    ) -> Result<Self, Error<A>>
+        ensures own { IfOk result (λ reads. by_crew reads ≡ false) }
+        ensures job { IfOk result (λ reads. job_of reads ≡ job) }
+        ensures width { IfOk result (λ reads. width_of reads ≡ options.width_of (parallelism_value parallelism)) }
+        ensures to_read { IfOk result (λ reads. to_read reads ≡ map spec roots.items) }
+        ensures read_ahead { IfOk result (λ reads. BeginsWith (map spec roots.items) (read_ahead reads)) }
+        ensures memory { IfErr result (λ error. failure error ≡ memory) }
+    {
+        ReadDirIter::alone(job, roots, parallelism.mode())
+    }
+}
+
+impl<
+    C: ClientState,
+    S: FileSystem,
+    P: ProcessReadDir<C, A>,
+    A: Allocator + Copy,
+    L: Readers<C, S, P, A>,
+> Iterator for ReadDirIter<C, S, P, A, L> {
+    type Item = Result<ReadDir<C, A>, Error<A>>;
+
+    ghost use Rattle.std.specs.Iterator.{at_most};
+    ghost use Rattle.walk_model.specs.Held.{spec_weight};
+    ghost use Rattle.jwalk_core.specs.Job.{greatest_depth};
+    ghost use Rattle.jwalk_core.specs.ReadDirIter.{job_of, to_read, Gives};
+
+    ghost can_next = { λ s. P.IsLawful (callback (job_of s)) };
+
+    ghost next_gives = { Gives S.FileSystem P.ProcessReadDir C.ReadDirState.Clone C.DirEntryState.Default L.Readers
+        false };
+
+    ghost remaining = { λ s. at_most (spec_weight (greatest_depth (job_of s)) (to_read s)) };
+
+    fn next(&mut self) -> Option<Result<ReadDir<C, A>, Error<A>>> {
+        self.next_or_stop()
+    }
+}

@@ -1,0 +1,89 @@
+//! Readings in preorder, with threads for those that are made together.
+ghost use Rattle.std.specs.Prelude.{false, Ok, IsSome, option_map};
+ghost use Rattle.jwalk_core.specs.Entry.{entry};
+ghost use Rattle.jwalk_core.specs.ReadDir.{outcome};
+ghost use Rattle.jwalk_core.specs.Job.{callback};
+
+use crate::client_state::ClientState;
+use crate::dir_entry::DirEntry;
+use crate::error::Error;
+use crate::process_read_dir::ProcessReadDir;
+use crate::read_dir::Outcome;
+use crate::read_dir_iter::ReadDirIter;
+use crate::readers::Readers;
+use std::alloc::{AllocError, Allocator};
+use std::thread::Threads;
+use walk_fs::file_system::FileSystem;
+
+impl<
+    C: ClientState + Send,
+    S: FileSystem + Send + Sync,
+    P: ProcessReadDir<C, A> + Send + Sync,
+    A: Allocator + Copy + Send + Sync,
+    L: Readers<C, S, P, A>,
+> ReadDirIter<C, S, P, A, L>
+where
+    C::ReadDirState: Send,
+    C::DirEntryState: Send,
+{
+    ghost use Rattle.jwalk_core.specs.Job.{greatest_depth};
+    ghost use Rattle.jwalk_core.specs.CrewReads.{IsNextBelow};
+    ghost use Rattle.jwalk_core.specs.ReadDirIter.{by_crew, job_of, to_read, KnownOf, GivesFirst, Gives, Prepares};
+
+    /// Makes sure that the next reading is made, if any is left and no crew reads. If it isn't made yet, the directories
+    /// that are read together with it are read, on several threads if there are enough of them to be worth it. The next
+    /// call then reads nothing.
+    ///
+    /// # Errors
+    ///
+    /// If memory runs out. Then nothing is left to be read.
+    pub(crate) fn prepare_on<R: Threads + Sync>(&mut self, rt: &R) -> Result<(), AllocError>
+        requires { P.IsLawful (callback (job_of self.old)) }
+        ensures { Prepares S.FileSystem P.ProcessReadDir C.ReadDirState.Clone C.DirEntryState.Default L.Readers
+            self.old result self.new }
+    {
+        match self {
+            ReadDirIter::Walk(walk) => walk.prepare_on(rt),
+            ReadDirIter::CrewWalk(_) => Ok(()),
+        }
+    }
+
+    /// Returns the next reading, like `Iterator::next`, with threads of this runtime to make those that are made
+    /// together. `while let Some(read) = reads.next_on(&rt)` is the loop that uses several threads.
+    pub fn next_on<R: Threads + Sync>(&mut self, rt: &R) -> Option<Outcome<C, A>>
+        requires { P.IsLawful (callback (job_of self.old)) }
+        ensures { Gives S.FileSystem P.ProcessReadDir C.ReadDirState.Clone C.DirEntryState.Default L.Readers false
+            self.old result self.new }
+    {
+        match self.prepare_on(rt) {
+            Ok(()) => self.next_or_stop(),
+            Err(_) => Some(Err(Error::memory())),
+        }
+    }
+
+    /// Returns the reading of an entry's directory, like [`next_of`](ReadDirIter::next_of), with threads of this runtime
+    /// to make those that are made together.
+    pub fn next_of_on<R: Threads + Sync>(
+        &mut self,
+        rt: &R,
+        found: &DirEntry<C, A>,
+    ) -> Option<Outcome<C, A>>
+        requires lawful { P.IsLawful (callback (job_of self.old)) }
+        requires has_directory { IsSome found.now.read_children }
+        ensures gives { Gives S.FileSystem P.ProcessReadDir C.ReadDirState.Clone C.DirEntryState.Default L.Readers
+            (by_crew self.old) self.old result self.new }
+        ensures next { IsNextBelow (by_crew self.old) (Ok (entry found.now)) (to_read self.old)
+            → Gives S.FileSystem P.ProcessReadDir C.ReadDirState.Clone C.DirEntryState.Default L.Readers false
+            self.old result self.new }
+        ensures of { GivesFirst (by_crew self.old) C.ReadDirState.Clone (KnownOf S.FileSystem P.ProcessReadDir
+            C.ReadDirState.Clone C.DirEntryState.Default L.Readers self.old (Ok (entry found.now)))
+            (greatest_depth (job_of self.old)) (to_read self.old) (option_map outcome result) (to_read self.new) }
+    {
+        prove!(found.read_children.is_some());
+        if !self.is_next(found) {
+            self.stop();
+            return Some(Err(Error::lost()));
+        }
+        self.next_on(rt)
+    }
+}
