@@ -1,10 +1,6 @@
 //! Moves played on a board.
-ghost use Rattle.std.specs.Prelude.{◌≡◌, false, map, IfOk, replicate};
-ghost use Rattle.jwalk_order.specs.Addressed.{addresses_of};
-ghost use Rattle.jwalk_board.specs.Plan.{readings_in_preorder, specs_in_preorder};
-ghost use Rattle.jwalk_board.specs.Rehearsal.{MatchesRun, IsInOrder};
-ghost use Rattle.jwalk_board.specs.Run.{run_of_moves};
-ghost use Rattle.jwalk_board.specs.Stage.{rehearsed};
+ghost use Rattle.std.specs.Prelude.{◌≡◌, false, IfOk, replicate};
+ghost use Rattle.jwalk_board.specs.Stage.{MatchesMoves, HandsOutInOrder};
 
 use super::Board;
 use super::moves::Move;
@@ -43,14 +39,8 @@ pub fn rehearse<P: Plan<A>, A: Allocator + Copy>(
     moves: &[Move],
 ) -> Result<Rehearsal<P::Spec, P::Reading, A>, Refused>
     requires { P.IsLawful plan.now }
-    ensures matches_run { (given : P.Given) → P.IsFixed plan.now given
-        → IfOk result (λ made. let roots = map (P.spec_value given) roots.items in
-        MatchesRun (P.tree plan.now given) roots
-        (run_of_moves (addresses_of (specs_in_preorder (P.tree plan.now given) roots)) workers moves.now)
-        (rehearsed (P.spec_value given) (P.reading_value given) made)) }
-    ensures in_order { (given : P.Given) → P.IsFixed plan.now given → IfOk result (λ made.
-        IsInOrder (readings_in_preorder (P.tree plan.now given) (map (P.spec_value given) roots.items))
-        (rehearsed (P.spec_value given) (P.reading_value given) made)) }
+    ensures matches_run { MatchesMoves P.Plan plan.now roots.items result workers moves.now }
+    ensures in_order { HandsOutInOrder P.Plan plan.now roots.items result }
     ensures running { IfOk result (λ made. made.board.stopped ≡ false) }
 {
     let hands = empty_hands(alloc, workers)?;

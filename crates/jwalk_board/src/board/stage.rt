@@ -1,8 +1,6 @@
 // A rehearsal under way.
-ghost use Rattle.std.specs.Prelude.{List, OnOk};
-ghost use Rattle.jwalk_board.specs.Plan.{Falls, PlanTree};
-ghost use Rattle.jwalk_board.specs.Rehearsal.{PlaysMove};
-ghost use Rattle.jwalk_board.specs.Stage.{stage_of, IsUnderWay};
+ghost use Rattle.std.specs.Prelude.{OnOk};
+ghost use Rattle.jwalk_board.specs.Stage.{IsUnderWay, PlaysByPlan, PlaysOnAny};
 
 use super::moves::Move;
 use super::plan::{Plan, Refused};
@@ -24,9 +22,7 @@ fn take<P: Plan<A>, A: Allocator + Copy>(
 ) -> Result<(), Refused>
     requires { IsUnderWay stage.old.hands.items stage.old.done.board }
     ensures kept { OnOk result (IsUnderWay stage.new.hands.items stage.new.done.board) }
-    ensures follows { (given : P.Given) (t : PlanTree P.SpecValue P.ReadingValue) (roots : List P.SpecValue) → Falls t
-        → PlaysMove t roots (Move.Take worker) (stage_of (P.spec_value given) (P.reading_value given) stage.old) result
-        (stage_of (P.spec_value given) (P.reading_value given) stage.new) }
+    ensures follows { PlaysOnAny P.Plan (Move.Take worker) stage.old result stage.new }
 {
     if worker >= stage.hands.len() {
         return Ok(());
@@ -52,9 +48,7 @@ fn hand_out<P: Plan<A>, A: Allocator + Copy>(
 ) -> Result<(), Refused>
     requires { IsUnderWay stage.old.hands.items stage.old.done.board }
     ensures kept { OnOk result (IsUnderWay stage.new.hands.items stage.new.done.board) }
-    ensures follows { (given : P.Given) (t : PlanTree P.SpecValue P.ReadingValue) (roots : List P.SpecValue) → Falls t
-        → PlaysMove t roots Move.HandOut (stage_of (P.spec_value given) (P.reading_value given) stage.old) result
-        (stage_of (P.spec_value given) (P.reading_value given) stage.new) }
+    ensures follows { PlaysOnAny P.Plan Move.HandOut stage.old result stage.new }
 {
     match stage.done.board.hand_out() {
         Ok(item) => Ok(stage.done.handed_out.push(item)?),
@@ -74,10 +68,7 @@ fn finish<P: Plan<A>, A: Allocator + Copy>(
     requires lawful { P.IsLawful plan.now }
     requires under_way { IsUnderWay stage.old.hands.items stage.old.done.board }
     ensures kept { OnOk result (IsUnderWay stage.new.hands.items stage.new.done.board) }
-    ensures follows { (given : P.Given) → P.IsFixed plan.now given → (roots : List P.SpecValue)
-        → PlaysMove (P.tree plan.now given) roots (Move.Finish worker)
-        (stage_of (P.spec_value given) (P.reading_value given) stage.old) result
-        (stage_of (P.spec_value given) (P.reading_value given) stage.new) }
+    ensures follows { PlaysByPlan P.Plan (Move.Finish worker) stage.old result stage.new plan.now }
 {
     if worker >= stage.hands.len() {
         return Ok(());
@@ -105,10 +96,7 @@ pub(super) fn play<P: Plan<A>, A: Allocator + Copy>(
     requires lawful { P.IsLawful plan.now }
     requires under_way { IsUnderWay stage.old.hands.items stage.old.done.board }
     ensures kept { OnOk result (IsUnderWay stage.new.hands.items stage.new.done.board) }
-    ensures follows { (given : P.Given) → P.IsFixed plan.now given → (roots : List P.SpecValue)
-        → PlaysMove (P.tree plan.now given) roots next
-        (stage_of (P.spec_value given) (P.reading_value given) stage.old) result
-        (stage_of (P.spec_value given) (P.reading_value given) stage.new) }
+    ensures follows { PlaysByPlan P.Plan next stage.old result stage.new plan.now }
 {
     match next {
         Move::Take(worker) => take::<P, A>(stage, worker),
