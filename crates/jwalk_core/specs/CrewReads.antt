@@ -1,5 +1,5 @@
 -- Readings that a crew makes ahead, and what is known of each.
-use Rattle.std.specs.Prelude.{◌≡◌, ℕ, Bool, true, false, List, [], ◌∷◌, ◌++◌, map, reverse, length, Option, Some, None, Ok, Err, IfOk, IfSome, IsSomeAnd}
+use Rattle.std.specs.Prelude.{◌≡◌, ℕ, Bool, true, false, List, [], ◌∷◌, ◌++◌, map, reverse, length, Option, Some, None, Result, Ok, Err, IfOk, IfErr, IfSome, IsSomeAnd}
 use Rattle.std.specs.Arc.{arc_value}
 use Rattle.std.specs.declared.clone.Clone as Clone
 use Rattle.std.specs.declared.default.Default as Default
@@ -16,7 +16,7 @@ use Rattle.jwalk_core.specs.declared.job.Job.{Job}
 use Rattle.jwalk_core.specs.ReadDirSpec.{spec}
 use Rattle.jwalk_core.specs.ReadDir.{outcome as view}
 use Rattle.jwalk_core.specs.Given.{Given, counted_spec}
-use Rattle.jwalk_core.specs.Job.{options_of, IsReadingOf, IsSteadyJob, IsGivenOver}
+use Rattle.jwalk_core.specs.Job.{options_of, greatest_depth, IsReadingOf, IsReadingBy, IsSteadyJob, IsGivenOver}
 use Rattle.jwalk_core.specs.Message.{Message}
 use Rattle.jwalk_core.specs.Origin.{Origin, spec_at}
 use Rattle.jwalk_core.specs.declared.readers.Readers as Readers
@@ -138,3 +138,20 @@ module _ {C S P A L R E : Type 0} (files : FileSystem.Ghosts S) (process : Proce
     pub value : (rest : List (Spec R)) → IsGivenOver files (IsSteadyOver (job_of old) old.readers old.matcher (first ∷ rest)) (job_of old) first outcome
     pub steady : (rest front : List (Spec R)) → AreClones clone.is_clone (children_of outcome) front
         → (given : Given R E) → IsSteadyOver (job_of old) old.readers old.matcher (first ∷ rest) given → IsSteadyOver (job_of old) new.readers new.matcher (front ++ rest) given
+
+  module _ (old : CrewReads C S P A L R E) (first : Spec R) where
+    -- It is a reading of this directory, which comes next, as a worker reported it.
+    abbrev pub IsReportedFor : Outcome R E → Type 0
+    IsReportedFor = IsReadingBy (IsTold files process clone defaults (job_of old) (next_address old)) (greatest_depth (job_of old)) first
+
+    -- It is the definition's reading of this directory, over all over which what was to be read was steady.
+    abbrev pub IsGivenFor : Outcome R E → Type 0
+    IsGivenFor = IsGivenOver files (IsSteadyBefore old first) (job_of old) first
+
+    -- What is left is steady over all that it was steady over with this directory before it.
+    abbrev pub StaysSteadyAfter : CrewReads C S P A L R E → Type 0
+    StaysSteadyAfter new = (given : Given R E) → IsSteadyBefore old first given → IsSteadyCrew new given
+
+    -- The reading of this directory isn't lost, whatever else was to be read, if that was steady.
+    abbrev pub IsNotLostFirst : {O : Type 0} → Result O Missed → Type 0
+    IsNotLostFirst result = (rest : List (Spec R)) → IfErr result (NotLost (IsSteadyOver (job_of old) old.readers old.matcher (first ∷ rest)))

@@ -1,5 +1,5 @@
 -- A job as a value, and what its readings are.
-use Rattle.std.specs.Prelude.{◌≡◌, ◌<◌, ◌^◌, ◌++◌, ◌∷◌, [], ℕ, Bool, List, Some, length, if◌then◌else◌}
+use Rattle.std.specs.Prelude.{◌≡◌, ◌<◌, ◌^◌, ◌++◌, ◌∷◌, [], ℕ, Bool, List, Some, Result, IfOk, length, if◌then◌else◌}
 use Rattle.std.specs.declared.clone.Clone as Clone
 use Rattle.std.specs.declared.default.Default as Default
 use Rattle.walk_model.specs.Options as value_options
@@ -12,7 +12,11 @@ use Rattle.walk_fs.specs.declared.file_system.FileSystem as FileSystem
 use Rattle.jwalk_core.specs.declared.process_read_dir.ProcessReadDir as ProcessReadDir
 use Rattle.jwalk_core.specs.declared.job.Job.{Job}
 use Rattle.jwalk_core.specs.Options.{options_value}
-use Rattle.jwalk_core.specs.Given.{Given, counted_spec, counted_outcome, ClonesCount, DefaultsCount}
+use Rattle.jwalk_core.specs.declared.dir_entry.DirEntry.{DirEntry}
+use Rattle.jwalk_core.specs.declared.error.Error.{Error}
+use Rattle.jwalk_core.specs.declared.read_dir.ReadDir.{ReadDir}
+use Rattle.jwalk_core.specs.ReadDir.{reading}
+use Rattle.jwalk_core.specs.Given.{Given, counted_spec, counted_list, counted_reading, counted_outcome, ClonesCount, DefaultsCount}
 
 module _ {C S P A R E : Type 0} where
   abbrev pub file_system : Job C S P A R E → S
@@ -82,3 +86,8 @@ module _ {C S P A R E : Type 0} (files : FileSystem.Ghosts S) (process : Process
   -- A reading of the directory, as a value over a steady job.
   abbrev pub IsReadingOf : Job C S P A R E → Spec R → Outcome R E → Type 0
   IsReadingOf job = IsReadingOver files (IsSteadyJob job) job
+
+  -- Over all that the job is steady over, the list is what the callback, as it is given, makes of these items of a directory.
+  abbrev pub ProcessesItems : {F : Type 0} → Job C S P A R E → Spec R → List (Result (DirEntry C A R E) (Error A)) → Result (ReadDir C A R E) F → Type 0
+  ProcessesItems job of items result = (given : Given R E) → IsSteadyJob job given
+      → IfOk result (λ r. processed_by given (options_of job).sort of (counted_list given items) ≡ counted_reading given (reading r))

@@ -7,10 +7,9 @@ ghost use Rattle.jwalk_core.specs.Error.{failure};
 ghost use Rattle.jwalk_core.specs.Entry.{entry};
 ghost use Rattle.jwalk_core.specs.ReadDirSpec.{spec};
 ghost use Rattle.jwalk_core.specs.ReadDir.{outcome};
-ghost use Rattle.jwalk_core.specs.Job.{greatest_depth, IsReadingBy, IsGivenOver};
 ghost use Rattle.jwalk_core.specs.Reads.{StacksChildren};
 ghost use Rattle.jwalk_core.specs.BatchReads.{PassesAddress};
-ghost use Rattle.jwalk_core.specs.CrewReads.{job_of, to_read, frontier_of, next_address, IsBelow, IsNextBelow, IsTold, BeginsBy, NotLost, most_ahead, IsSteadyOver, IsSteadyBefore, IsSteadyCrew, StartsSteady, StaysSteady, ReadsSteadily, failure_of};
+ghost use Rattle.jwalk_core.specs.CrewReads.{job_of, to_read, frontier_of, next_address, IsBelow, IsNextBelow, IsTold, BeginsBy, NotLost, most_ahead, IsSteadyBefore, IsSteadyCrew, StartsSteady, StaysSteady, ReadsSteadily, IsReportedFor, IsGivenFor, StaysSteadyAfter, IsNotLostFirst, failure_of};
 ghost use Rattle.jwalk_core.specs.ReadDirIter.{CrewReadsNext};
 
 pub mod started;
@@ -164,9 +163,8 @@ impl<
         ensures passed { IfOk result (λ read. frontier_of self.new ≡ passed (frontier_of self.old) read.1) }
         ensures steadily { IfOk result (λ read. ReadsSteadily S.FileSystem P.ProcessReadDir C.ReadDirState.Clone
             C.DirEntryState.Default L.Readers self.old (spec of.now) (outcome read.0) read.1 self.new) }
-        ensures comes { (rest : _) → IfErr result (NotLost (IsSteadyOver S.FileSystem P.ProcessReadDir
-            C.ReadDirState.Clone C.DirEntryState.Default L.Readers (job_of self.old) self.old.readers self.old.matcher
-            (spec of.now ∷ rest))) }
+        ensures comes { IsNotLostFirst S.FileSystem P.ProcessReadDir C.ReadDirState.Clone C.DirEntryState.Default
+            L.Readers self.old (spec of.now) result }
     {
         let Some(readers) = &mut self.readers else {
             return Err(Missed::Lost);
@@ -198,20 +196,16 @@ impl<
     fn enter(&mut self, of: ReadDirSpec<C, A>) -> Result<Outcome<C, A>, Missed>
         ensures job { job_of self.new ≡ job_of self.old }
         ensures most { most_ahead L.Readers self.new ≡ most_ahead L.Readers self.old }
-        ensures reading { IfOk result (λ read. IsReadingBy (IsTold S.FileSystem P.ProcessReadDir
-            C.ReadDirState.Clone C.DirEntryState.Default (job_of self.old) (next_address self.old))
-            (greatest_depth (job_of self.old)) (spec of) (outcome read)) }
+        ensures reading { IfOk result (λ read. IsReportedFor S.FileSystem P.ProcessReadDir C.ReadDirState.Clone
+            C.DirEntryState.Default L.Readers self.old (spec of) (outcome read)) }
         ensures stacks { IfOk result (λ read. StacksChildren C.ReadDirState.Clone (to_read self.old)
             (outcome read) (to_read self.new)) }
         ensures passes { IfOk result (λ read. frontier_of self.new
             ≡ passed (frontier_of self.old) (length (children_of (outcome read)))) }
-        ensures value { IfOk result (λ read. IsGivenOver S.FileSystem (IsSteadyBefore S.FileSystem
-            P.ProcessReadDir C.ReadDirState.Clone C.DirEntryState.Default L.Readers self.old (spec of))
-            (job_of self.old) (spec of) (outcome read)) }
-        ensures steady { OnOk result ((given : _) → IsSteadyBefore S.FileSystem P.ProcessReadDir
-            C.ReadDirState.Clone C.DirEntryState.Default L.Readers self.old (spec of) given
-            → IsSteadyCrew S.FileSystem P.ProcessReadDir C.ReadDirState.Clone C.DirEntryState.Default L.Readers
-            self.new given) }
+        ensures value { IfOk result (λ read. IsGivenFor S.FileSystem P.ProcessReadDir C.ReadDirState.Clone
+            C.DirEntryState.Default L.Readers self.old (spec of) (outcome read)) }
+        ensures steady { OnOk result (StaysSteadyAfter S.FileSystem P.ProcessReadDir C.ReadDirState.Clone
+            C.DirEntryState.Default L.Readers self.old (spec of) self.new) }
         ensures comes { IfErr result (NotLost (IsSteadyBefore S.FileSystem P.ProcessReadDir C.ReadDirState.Clone
             C.DirEntryState.Default L.Readers self.old (spec of))) }
     {

@@ -11,8 +11,8 @@ ghost use Rattle.jwalk_core.specs.Entry.{entry, item, children};
 ghost use Rattle.jwalk_core.specs.ReadDirSpec.{spec};
 ghost use Rattle.jwalk_core.specs.ReadDir.{outcome, reading};
 ghost use Rattle.jwalk_core.specs.Options.{options_value};
-ghost use Rattle.jwalk_core.specs.Given.{counted_spec, counted_reading, counted_list, counted_entry, DefaultsCount};
-ghost use Rattle.jwalk_core.specs.Job.{file_system, callback, options_of, job_by, IsSteadyJob, IsReadingOf, ancestors_in, processed_by, ByValue};
+ghost use Rattle.jwalk_core.specs.Given.{counted_spec, counted_list, counted_entry, DefaultsCount};
+ghost use Rattle.jwalk_core.specs.Job.{file_system, callback, options_of, job_by, IsReadingOf, ancestors_in, ProcessesItems, ByValue};
 ghost use Rattle.jwalk_core.specs.Gathering.{IsListed};
 
 mod gathering;
@@ -197,10 +197,8 @@ impl<C: ClientState, S: FileSystem, P: ProcessReadDir<C, A>, A: Allocator + Copy
         requires depth { AtDepth ((spec of.now).depth + 1) (map item items.items) }
         ensures depth { IfOk result (λ r. AtDepth ((spec of.now).depth + 1) (reading r).list) }
         ensures few { IfOk result (λ r. length (reading r).list < 2 ^ 64) }
-        ensures value { (g : _)
-            → IsSteadyJob S.FileSystem P.ProcessReadDir C.ReadDirState.Clone C.DirEntryState.Default self.now g
-            → IfOk result (λ r. processed_by g (options_of self.now).sort (spec of.now) (counted_list g items.items)
-            ≡ counted_reading g (reading r)) }
+        ensures value { ProcessesItems S.FileSystem P.ProcessReadDir C.ReadDirState.Clone C.DirEntryState.Default
+            self.now (spec of.now) items.items result }
     {
         let mut items = in_order(self.options.sort, items)?;
         let mut state = of.client_read_state.clone()?;
