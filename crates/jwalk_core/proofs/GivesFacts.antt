@@ -1,10 +1,12 @@
 -- What one call of an iterator over readings gives.
-use Rattle.std.proofs.Common.{◌≡◌, ◌≢◌, ◌∙◌, ◌<◌, ◌≤◌, ◌+◌, ◌++◌, [], ◌∷◌, ℕ, Bool, false, Result, Ok, Err, inl, inr, List, Option, Some, None, IfSome, IfOk, map, length, refl, sym, ap}
+use Rattle.std.proofs.Common.{◌≡◌, ◌≢◌, ◌∙◌, ◌<◌, ◌≤◌, ◌+◌, ◌++◌, [], ◌∷◌, ℕ, Bool, true, false, Result, Ok, Err, inl, inr, List, Option, Some, None, IfSome, IfOk, map, length, refl, sym, ap, subst, arith}
 use Rattle.std.specs.Prelude.{option_map}
 use Rattle.std.proofs.lemmas.List.{map-append, length-map, nil_from_length}
 use Rattle.std.proofs.lemmas.List.Elements.{All-nil}
 use Rattle.std.specs.declared.clone.Clone as Clone
 use Rattle.std.specs.declared.default.Default as Default
+use Rattle.walk_model.specs.Error.{lost}
+use Rattle.walk_model.specs.Entry.{Item}
 use Rattle.walk_model.specs.ReadDir.{Spec, Outcome, children_of}
 use Rattle.walk_model.specs.Preorder.{preorder}
 use Rattle.walk_model.specs.Held.{spec_weight}
@@ -31,8 +33,9 @@ use Rattle.jwalk_core.specs.BatchReads.{BatchReads, PassesAddress, IsSteadyBatch
 use Rattle.jwalk_core.specs.declared.readers.Readers as Readers
 use Rattle.jwalk_core.specs.declared.read_dir_iter.ReadDirIter.{ReadDirIter}
 use Rattle.jwalk_core.specs.declared.read_dir_iter.ReadDirIter.TheVariants.{Walk, CrewWalk}
-use Rattle.jwalk_core.specs.ReadDirIter.{by_crew, job_of, to_read, width_of, read_ahead, early_of, frontier_of, next_address, Tells, GivesError, GivesFirst, GivesPreorder, most_ahead, Known, EntersNextBy, IsSteadyReads, StartsSteady, StaysSteady, Gives}
-use Rattle.jwalk_core.proofs.KnownFacts.{tells_memory, clones_if_steady, known_if_steady}
+use Rattle.jwalk_core.specs.CrewReads.{IsNextBelow}
+use Rattle.jwalk_core.specs.ReadDirIter.{by_crew, job_of, to_read, width_of, read_ahead, early_of, frontier_of, next_address, Tells, GivesError, GivesFirst, GivesPreorder, most_ahead, Known, EntersNextBy, IsSteadyReads, StartsSteady, StaysSteady, Gives, GivesOf}
+use Rattle.jwalk_core.proofs.KnownFacts.{tells_memory, clones_if_steady, known_if_steady, gives_of}
 
 module _ {C S P A R E : Type 0} (clone : Clone.Ghosts R) (known : Spec R → Outcome R E → Type 0) (job : Job C S P A R E) (old new : List (Spec R)) where
   module _ (files : FileSystem.Ghosts S) (given : Given R E) (cloned : ClonesCount clone given) (as_given : (s : Spec R) (o : Outcome R E) → known s o → IsAsGiven files given job s o) where
@@ -138,6 +141,30 @@ gives_any files process clone defaults readers b old new read gives = record {
   first = gives.first;
   preorder = λ given steady. none_lost b _ _ _ _ _ (gives.preorder given steady);
 }
+
+-- a crew's readings are made by others
+none_ahead : {C S P A L R E : Type 0} (old new : ReadDirIter C S P A L R E) → by_crew old ≡ true → by_crew new ≡ by_crew old → length (early_of new) + 1 ≤ length (early_of old) + width_of old
+none_ahead (CrewWalk old) (CrewWalk new) by same = omega arith
+none_ahead (CrewWalk old) (Walk new) by same = absurd cc
+none_ahead (Walk old) new by same = absurd cc
+
+module _ {C S P A L R E : Type 0} (files : FileSystem.Ghosts S) (process : ProcessReadDir.Ghosts P C A R E) (clone : Clone.Ghosts R) (defaults : Default.Ghosts E) (readers : Readers.Ghosts L C S P A R E) (old new : ReadDirIter C S P A L R E) (asked : Item R E) where
+  -- the reading of an item's directory, where that comes next
+  pub gives_asked : (read : Option (Result (ReadDir C A R E) (Error A))) → IsNextBelow (by_crew old) asked (to_read old) → Gives files process clone defaults readers false old read new → GivesOf files process clone defaults readers old asked read new
+  gives_asked read below gives = record {
+    gives = gives_any files process clone defaults readers (by_crew old) old new read gives;
+    next = λ _. gives;
+    of = gives_of files process clone defaults readers old (greatest_depth (job_of old)) asked (to_read old) (option_map outcome read) (to_read new) below gives.first;
+  }
+
+  -- where another one does, the readings end
+  pub other_asked : (error : Error A) → failure error ≡ lost → by_crew old ≡ true → ¬ IsNextBelow (by_crew old) asked (to_read old) → by_crew new ≡ by_crew old → job_of new ≡ job_of old → width_of new ≡ width_of old
+      → most_ahead readers new ≤ most_ahead readers old → StaysSteady files process clone defaults readers old new → to_read old ≢ [] → to_read new ≡ [] → read_ahead new ≡ nothing_ahead
+      → GivesOf files process clone defaults readers old asked (Some (Err error)) new
+  other_asked error is_lost by other crew job width most steady some none nothing =
+      let tells : Tells (by_crew old) (failure error) = subst (λ b. Tells b (failure error)) (sym by) (inr is_lost) in
+      let gives = gives_stopped files process clone defaults readers old new (by_crew old) error tells (λ given steady. tells) crew job width (none_ahead old new by crew) most steady some none nothing in
+      record { gives = gives; next = λ below. absurd (other below); of = inl (record { error = failure error; told = refl; tells = tells }, some, none) }
 
 -- what is said of any value is said of its view
 pub some_of : {X Y : Type 0} (P : Type 0) (f : X → Y) (o : Option X) → IfSome (option_map f o) (λ _. P) → IfSome o (λ _. P)

@@ -182,3 +182,9 @@ module _ {C S P A L R E : Type 0} (files : FileSystem.Ghosts S) (process : Proce
     pub first : GivesFirst (by_crew old) clone (Known old) (greatest_depth (job_of old)) (to_read old) (option_map outcome given) (to_read new)
     pub preorder : (value : Given R E) → IsSteadyReads old value
         → GivesPreorder may_lose (reading (job_by files value (job_of old))) (greatest_depth (job_of old)) (map (counted_spec value) (to_read old)) (option_map (counted_outcome value) (option_map outcome given)) (map (counted_spec value) (to_read new))
+
+  -- One call that is asked for the reading of an item's directory. A crew's readings end where that isn't the directory that comes next.
+  pub record GivesOf (old : ReadDirIter C S P A L R E) (asked : Item R E) (given : Option (Result (ReadDir C A R E) (Error A))) (new : ReadDirIter C S P A L R E) : Type 0 where
+    pub gives : Gives (by_crew old) old given new
+    pub next : IsNextBelow (by_crew old) asked (to_read old) → Gives false old given new
+    pub of : GivesFirst (by_crew old) clone (KnownOf old asked) (greatest_depth (job_of old)) (to_read old) (option_map outcome given) (to_read new)

@@ -74,7 +74,7 @@ impl<
     ghost use Rattle.jwalk_core.specs.ReadAhead.{nothing_ahead, BeginsWith};
     ghost use Rattle.jwalk_core.specs.BatchReads.{PassesAddress};
     ghost use Rattle.jwalk_core.specs.CrewReads.{failure_of, IsNextBelow, NotLost};
-    ghost use Rattle.jwalk_core.specs.ReadDirIter.{by_crew, job_of, to_read, width_of, read_ahead, early_of, frontier_of, next_address, Tells, most_ahead, IsSteadyReads, StaysSteady, Known, KnownOf, EntersNextBy, GivesFirst, Gives};
+    ghost use Rattle.jwalk_core.specs.ReadDirIter.{by_crew, job_of, to_read, width_of, read_ahead, early_of, frontier_of, next_address, Tells, most_ahead, IsSteadyReads, StaysSteady, Known, EntersNextBy, Gives, GivesOf};
 
     /// Returns readings with nothing to read yet, by no crew.
     pub(crate) fn new(alloc: A, job: Job<C, S, P, A>, mode: Mode) -> Self
@@ -194,14 +194,8 @@ impl<
     pub fn next_of(&mut self, found: &DirEntry<C, A>) -> Option<Result<ReadDir<C, A>, Error<A>>>
         requires lawful { P.IsLawful (callback (job_of self.old)) }
         requires has_directory { IsSome found.now.read_children }
-        ensures gives { Gives S.FileSystem P.ProcessReadDir C.ReadDirState.Clone C.DirEntryState.Default L.Readers
-            (by_crew self.old) self.old result self.new }
-        ensures next { IsNextBelow (by_crew self.old) (Ok (entry found.now)) (to_read self.old)
-            → Gives S.FileSystem P.ProcessReadDir C.ReadDirState.Clone C.DirEntryState.Default L.Readers false
-            self.old result self.new }
-        ensures of { GivesFirst (by_crew self.old) C.ReadDirState.Clone (KnownOf S.FileSystem P.ProcessReadDir
-            C.ReadDirState.Clone C.DirEntryState.Default L.Readers self.old (Ok (entry found.now)))
-            (greatest_depth (job_of self.old)) (to_read self.old) (option_map outcome result) (to_read self.new) }
+        ensures { GivesOf S.FileSystem P.ProcessReadDir C.ReadDirState.Clone C.DirEntryState.Default L.Readers
+            self.old (Ok (entry found.now)) result self.new }
     {
         prove!(found.read_children.is_some());
         if !self.is_next(found) {

@@ -1,7 +1,6 @@
 //! Readings in preorder, with threads for those that are made together.
-ghost use Rattle.std.specs.Prelude.{false, Ok, IsSome, option_map};
+ghost use Rattle.std.specs.Prelude.{false, Ok, IsSome};
 ghost use Rattle.jwalk_core.specs.Entry.{entry};
-ghost use Rattle.jwalk_core.specs.ReadDir.{outcome};
 ghost use Rattle.jwalk_core.specs.Job.{callback};
 
 use crate::client_state::ClientState;
@@ -26,9 +25,7 @@ where
     C::ReadDirState: Send,
     C::DirEntryState: Send,
 {
-    ghost use Rattle.jwalk_core.specs.Job.{greatest_depth};
-    ghost use Rattle.jwalk_core.specs.CrewReads.{IsNextBelow};
-    ghost use Rattle.jwalk_core.specs.ReadDirIter.{by_crew, job_of, to_read, KnownOf, GivesFirst, Gives, Prepares};
+    ghost use Rattle.jwalk_core.specs.ReadDirIter.{job_of, Gives, GivesOf, Prepares};
 
     /// Makes sure that the next reading is made, if any is left and no crew reads. If it isn't made yet, the directories
     /// that are read together with it are read, on several threads if there are enough of them to be worth it. The next
@@ -70,14 +67,8 @@ where
     ) -> Option<Outcome<C, A>>
         requires lawful { P.IsLawful (callback (job_of self.old)) }
         requires has_directory { IsSome found.now.read_children }
-        ensures gives { Gives S.FileSystem P.ProcessReadDir C.ReadDirState.Clone C.DirEntryState.Default L.Readers
-            (by_crew self.old) self.old result self.new }
-        ensures next { IsNextBelow (by_crew self.old) (Ok (entry found.now)) (to_read self.old)
-            → Gives S.FileSystem P.ProcessReadDir C.ReadDirState.Clone C.DirEntryState.Default L.Readers false
-            self.old result self.new }
-        ensures of { GivesFirst (by_crew self.old) C.ReadDirState.Clone (KnownOf S.FileSystem P.ProcessReadDir
-            C.ReadDirState.Clone C.DirEntryState.Default L.Readers self.old (Ok (entry found.now)))
-            (greatest_depth (job_of self.old)) (to_read self.old) (option_map outcome result) (to_read self.new) }
+        ensures { GivesOf S.FileSystem P.ProcessReadDir C.ReadDirState.Clone C.DirEntryState.Default L.Readers
+            self.old (Ok (entry found.now)) result self.new }
     {
         prove!(found.read_children.is_some());
         if !self.is_next(found) {
