@@ -1,8 +1,8 @@
 //! Rehearsals of a small family.
-use crate::given::{counts, is_at};
+use crate::given::{counts, is_at, played};
 use crate::levels::Levels;
 use board_fixtures::family::{Family, MOVES};
-use jwalk_board::board::{Move, Plan, Refused, Rehearsal, rehearse};
+use jwalk_board::board::{Move, Plan};
 use jwalk_order::index_path::IndexPath;
 use jwalk_order::ordered::Ordered;
 use std::alloc::Global;
@@ -18,19 +18,6 @@ struct Outcome {
 
 // None of these promises anything: what comes back is compared, and no test carries the contract of a rehearsal to its
 // end.
-
-fn played<P: Plan<Global, Spec = u8, Reading = u8>>(
-    alloc: Global,
-    plan: &P,
-    roots: &[u8],
-    workers: usize,
-    moves: &[Move],
-) -> Result<Rehearsal<u8, u8>, Refused>
-    requires { P.IsLawful plan.now }
-{
-    let roots = Vec::from_slice(alloc, roots)?;
-    rehearse(alloc, plan, roots, workers, moves)
-}
 
 fn are_taken(taken: &[IndexPath], wanted: &[&[usize]]) -> bool {
     for (path, indices) in taken.iter().zip(wanted) {

@@ -1,6 +1,7 @@
 //! Rehearsals of many moves.
+use crate::given::played;
 use crate::levels::Levels;
-use jwalk_board::board::{Move, Refused, Rehearsal, rehearse};
+use jwalk_board::board::Move;
 use std::alloc::{AllocError, Global};
 
 // Down to level 6, with three children each, there are 1 + 3 + 9 + 27 + 81 + 243 + 729.
@@ -14,21 +15,11 @@ fn rounds(alloc: Global, round: &[Move], count: usize) -> Result<Vec<Move>, Allo
     Ok(moves)
 }
 
-// It promises nothing, as in the other tests.
-fn played(
-    alloc: Global,
-    plan: &Levels,
-    workers: usize,
-    moves: &[Move],
-) -> Result<Rehearsal<u8, u8>, Refused> {
-    rehearse(alloc, plan, vec![in alloc; 0]?, workers, moves)
-}
-
 // Plays that many rounds. Returns how many were read, taken and handed out, and how many are left.
 fn totals(alloc: Global, workers: usize, round: &[Move], count: usize) -> Option<[usize; 4]> {
     let plan = Levels::new(6, 3);
     let moves = rounds(alloc, round, count).ok()?;
-    let made = played(alloc, &plan, workers, moves.as_slice()).ok()?;
+    let made = played(alloc, &plan, &[0], workers, moves.as_slice()).ok()?;
     let left = made.board.pending();
     Some([plan.reads(), made.taken.len(), made.handed_out.len(), left])
 }
