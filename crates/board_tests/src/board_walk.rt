@@ -31,11 +31,17 @@ fn push_next(text: &mut String, next: Result<Option<u8>, AllocError>, ahead: usi
     }
 }
 
+/// A walk over a family that reads two together.
+fn begun(alloc: Global) -> Option<BoardWalk<u8, u8, Family>> {
+    let mut walk = BoardWalk::new(alloc, Family, 2);
+    walk.begin(vec![in alloc; 0_u8].ok()?).ok()?;
+    Some(walk)
+}
+
 /// The readings of a family, two together on threads. In front of each is how many are ahead once it is prepared, and
 /// behind it how many after it was given.
 fn prepared(rt: &(impl Threads + Sync), alloc: Global) -> Option<String> {
-    let mut walk = BoardWalk::new(alloc, Family, 2);
-    walk.begin(vec![in alloc; 0_u8].ok()?).ok()?;
+    let mut walk = begun(alloc)?;
     let mut text = String::new(alloc);
     for _ in 0..10 {
         walk.prepare_on(rt).ok()?;
@@ -56,8 +62,7 @@ fn the_next_is_ready_once_it_is_prepared(rt: HostRuntime) {
 
 /// The readings of a family, two together on threads, until the walk is stopped after some of them.
 fn stopped_after(rt: &(impl Threads + Sync), alloc: Global, count: usize) -> Option<String> {
-    let mut walk = BoardWalk::new(alloc, Family, 2);
-    walk.begin(vec![in alloc; 0_u8].ok()?).ok()?;
+    let mut walk = begun(alloc)?;
     let mut text = String::new(alloc);
     for step in 0..10 {
         if step == count {

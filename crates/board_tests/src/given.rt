@@ -1,7 +1,8 @@
-//! What the tests work on: addresses, items at them, trees in memory and readings. None of it promises anything.
+//! What the tests work on: addresses, items at them, rehearsals, trees in memory and readings. None of it promises
+//! anything.
 ghost use Rattle.walk_model.specs.Tree.{functions_of, only_root};
 
-use jwalk_board::board::Board;
+use jwalk_board::board::{Board, Move, Plan, Refused, Rehearsal, rehearse};
 use jwalk_order::index_path::IndexPath;
 use jwalk_order::ordered::Ordered;
 use jwalk_core::job::Job;
@@ -44,6 +45,20 @@ pub(crate) fn counts<T: Drop, R: Drop>(board: &Board<T, R>) -> [usize; 4] {
         board.ready(),
         board.pending(),
     ]
+}
+
+/// A rehearsal over a plan of numbers, from these roots.
+pub(crate) fn played<P: Plan<Global, Spec = u8, Reading = u8>>(
+    alloc: Global,
+    plan: &P,
+    roots: &[u8],
+    workers: usize,
+    moves: &[Move],
+) -> Result<Rehearsal<u8, u8>, Refused>
+    requires { P.IsLawful plan.now }
+{
+    let roots = Vec::from_slice(alloc, roots)?;
+    rehearse(alloc, plan, roots, workers, moves)
 }
 
 /// A tree in memory with these directories.

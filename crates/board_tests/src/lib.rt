@@ -18,6 +18,8 @@ mod index_path;
 #[cfg(test)]
 mod job_rehearsal;
 #[cfg(test)]
+mod levels;
+#[cfg(test)]
 mod ordered_matcher;
 #[cfg(test)]
 mod ordered_queue;

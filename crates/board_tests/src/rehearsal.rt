@@ -1,52 +1,11 @@
 //! Rehearsals of a small family.
-use crate::given::{counts, is_at};
+use crate::given::{counts, is_at, played};
+use crate::levels::Levels;
 use board_fixtures::family::{Family, MOVES};
-use jwalk_board::board::{Move, Plan, Refused, Rehearsal, rehearse};
+use jwalk_board::board::{Move, Plan};
 use jwalk_order::index_path::IndexPath;
 use jwalk_order::ordered::Ordered;
 use std::alloc::Global;
-
-// A root 0 with the leaves 1 and 2. A reading is the number. Nothing is said of its tree.
-struct Leaves;
-
-impl Plan<Global> for Leaves {
-    ghost use Rattle.jwalk_board.specs.Rows.{family, family-falls};
-    ghost use Rattle.std.specs.Prelude.{ℕ, ◌≡◌};
-
-    type Spec = u8;
-
-    type Reading = u8;
-
-    ghost Given = { Unit {0} };
-
-    ghost SpecValue = { ℕ };
-
-    ghost ReadingValue = { ℕ };
-
-    ghost spec_value = { λ _ s. s };
-
-    ghost reading_value = { λ _ r. r };
-
-    ghost IsLawful = { λ _. Unit {0} };
-
-    ghost IsReading = { λ _ s r _. r ≡ s };
-
-    ghost IsFixed = { λ _ _. ⊥ };
-
-    ghost tree = { λ _ _. family };
-
-    ghost as_given = { λ _ _ _ _ _ _ none. absurd none };
-
-    ghost falls = { λ _ _ _. family-falls };
-
-    fn read(&self, alloc: Global, spec: &u8) -> Result<(u8, Vec<u8>), Refused> {
-        let children = match *spec {
-            0 => vec![in alloc; 1, 2]?,
-            _ => Vec::new(alloc),
-        };
-        Ok((*spec, children))
-    }
-}
 
 // The outcome of a rehearsal.
 struct Outcome {
@@ -59,19 +18,6 @@ struct Outcome {
 
 // None of these promises anything: what comes back is compared, and no test carries the contract of a rehearsal to its
 // end.
-
-fn played<P: Plan<Global, Spec = u8, Reading = u8>>(
-    alloc: Global,
-    plan: &P,
-    roots: &[u8],
-    workers: usize,
-    moves: &[Move],
-) -> Result<Rehearsal<u8, u8>, Refused>
-    requires { P.IsLawful plan.now }
-{
-    let roots = Vec::from_slice(alloc, roots)?;
-    rehearse(alloc, plan, roots, workers, moves)
-}
 
 fn are_taken(taken: &[IndexPath], wanted: &[&[usize]]) -> bool {
     for (path, indices) in taken.iter().zip(wanted) {
@@ -176,5 +122,5 @@ fn a_worker_may_finish_out_of_turn(rt: HostRuntime) {
 
 #[test]
 fn the_second_of_two_leaves_waits_for_the_first(rt: HostRuntime) {
-    assert!(rt; comes_to(rt.alloc(), &Leaves, &[0], 2, TURNED, &PART));
+    assert!(rt; comes_to(rt.alloc(), &Levels::new(1, 2), &[0], 2, TURNED, &PART));
 }
