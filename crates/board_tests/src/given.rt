@@ -3,12 +3,12 @@
 ghost use Rattle.walk_model.specs.Tree.{functions_of, only_root};
 
 use jwalk_board::board::{Board, Move, Plan, Refused, Rehearsal, rehearse};
-use jwalk_order::index_path::IndexPath;
-use jwalk_order::ordered::Ordered;
 use jwalk_core::job::Job;
 use jwalk_core::process_read_dir::NoProcess;
 use jwalk_core::read_dir::ReadDir;
 use jwalk_core::read_dir_spec::ReadDirSpec;
+use jwalk_order::index_path::IndexPath;
+use jwalk_order::ordered::Ordered;
 use memory_fs::memory_fs::MemoryFs;
 use std::alloc::{Allocator, Global};
 use std::io;

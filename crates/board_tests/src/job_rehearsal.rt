@@ -11,7 +11,6 @@ ghost use Rattle.jwalk_core.specs.Plan.{tree_of};
 
 use crate::given::{self, States, address, are_at, is_at, push_names, roots_of};
 use jwalk_board::board::{Move, Refused, Rehearsal, rehearse};
-use jwalk_order::ordered::Ordered;
 use jwalk_core::client_state::ClientState;
 use jwalk_core::error::Error;
 use jwalk_core::job::Job;
@@ -19,6 +18,7 @@ use jwalk_core::options::Options;
 use jwalk_core::process_read_dir::{NoProcess, ProcessReadDir};
 use jwalk_core::read_dir::ReadDir;
 use jwalk_core::read_dir_spec::ReadDirSpec;
+use jwalk_order::ordered::Ordered;
 use memory_fs::memory_fs::MemoryFs;
 use std::alloc::{Allocator, Global};
 use walk_fs::file_system::FileSystem;
