@@ -144,7 +144,7 @@ impl<C: ClientState, A: Allocator + Copy> DirEntry<C, A> {
     }
 
     /// Returns the directories above the entry, empty if links aren't followed. The root has its own path there.
-    pub(crate) fn ancestors(&self) -> &Ancestors<A>
+    pub fn ancestors(&self) -> &Ancestors<A>
         ensures { texts result.now ≡ (entry self.now).ancestors }
     {
         &self.ancestors

@@ -74,7 +74,7 @@ impl<
 
     /// Returns a walk whose start ran out of memory: it yields the error that reports it, and nothing else. The call
     /// itself needs no memory.
-    fn refused(alloc: A, job: Job<C, S, P, A>) -> Self
+    pub fn refused(alloc: A, job: Job<C, S, P, A>) -> Self
         ensures own { by_crew result ≡ false }
         ensures job { job_of result ≡ job }
         ensures refused { is_refused result ≡ true }
