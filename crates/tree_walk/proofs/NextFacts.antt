@@ -12,8 +12,6 @@ use Rattle.jwalk_order.specs.Addresses.{is_same, times, IsAmong}
 use Rattle.jwalk_order.specs.declared.ordered.Ordered.{Ordered}
 use Rattle.jwalk_board.specs.Board.{Board, on_board, IsWhole, HandsOut}
 use Rattle.jwalk_order.specs.Addressed.{Addressed, addressed, addresses_of}
-use Rattle.jwalk_board.specs.Refusal.{RefusesHandOut}
-use Rattle.jwalk_board.specs.declared.board.refusal.HandOutRefusal.TheVariants.{NotReady}
 use Rattle.jwalk_order.proofs.Sets.{same, times-append, times-permutation, times-itself}
 use Rattle.jwalk_board.proofs.Opens.{times-addresses_of, times-on_board, next_least, holds_open}
 use Rattle.tree_walk.specs.declared.read.Read.{Read}
@@ -62,17 +60,6 @@ module _ {T R : Type 0} where
         none_in_hand = ap (λ z. z.in_hand) h.others ∙ none;
         running = ap (λ z. z.stopped) h.others ∙ h.running;
       }
-
-  -- what still has to be read is not done
-  pub not_done : (b : Board T (Read T R)) → IsWhole b → b.in_hand ≡ [] → RefusesHandOut b NotReady → ¬ IsAmong (next_address b.frontier) (ahead_on b).done
-  not_done b whole none refused there =
-      let a = next_address b.frontier in
-      let once = whole.once a in
-      let all = times-on_board a b in
-      ⊎_elim
-      (λ (queued : IsAmong a (addresses_of b.queued)). absurd (omega (arith, once, all, queued, there)))
-      (λ (held : IsAmong a b.in_hand). absurd (omega (arith, held, ap (times a) none)))
-      refused.2
 
 -- while something is to be read, there is a first
 pub left_first : {T R : Type 0} (b : Board T (Read T R)) → Keeps b → IsWhole b → b.frontier ≢ [] → (to_give b []).to_read ≢ []

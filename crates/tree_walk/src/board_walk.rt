@@ -7,7 +7,7 @@ ghost use Rattle.tree_walk.specs.BoardWalk.{Keeps, HandsOnNext, GoesOn, Answers,
 
 use crate::batch::{read_batch, read_batch_on};
 use crate::read::Read;
-use jwalk_board::board::{Board, HandOutRefusal, Plan};
+use jwalk_board::board::{Board, Plan};
 use std::alloc::{AllocError, Allocator, Global};
 use std::marker::Model;
 use std::thread::Threads;
@@ -23,13 +23,8 @@ fn hand_on<T: Drop, R: Drop, A: Allocator + Copy>(
 {
     // What holds of every board.
     let _pending = board.pending();
-    match board.hand_out() {
-        Ok(item) => Ok(item.value.reading),
-        Err(HandOutRefusal::Memory) => Err(AllocError),
-        Err(HandOutRefusal::Stopped) => unreachable!(),
-        Err(HandOutRefusal::Done) => unreachable!(),
-        Err(HandOutRefusal::NotReady) => unreachable!(),
-    }
+    let item = board.hand_out_next()?;
+    Ok(item.value.reading)
 }
 
 /// Returns the next reading, or none if nothing is left. If it isn't ready, the least specifications are read first.
