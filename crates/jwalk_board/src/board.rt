@@ -1,5 +1,5 @@
 //! Work and results of a tree, by address.
-ghost use Rattle.std.specs.Prelude.{◌≡◌, ◌+◌, ◌<◌, ◌++◌, ◌↔◌, length, true, IfErr, IfOk, IsTrue, OnErr, OnOk};
+ghost use Rattle.std.specs.Prelude.{◌≡◌, ◌+◌, ◌<◌, ◌++◌, ◌↔◌, false, length, true, IfErr, IfOk, IsTrue, OnErr, OnOk};
 ghost use Rattle.std.specs.List.Sorted.{IsPermutation};
 ghost use Rattle.jwalk_order.specs.IndexPath.{address as indices_of};
 ghost use Rattle.jwalk_order.specs.Addressed.{numbered};
@@ -13,7 +13,7 @@ use jwalk_order::index_path::IndexPath;
 use jwalk_order::ordered::Ordered;
 use jwalk_order::ordered_queue::OrderedMatcher;
 use jwalk_order::sibling_queue::SiblingQueue;
-use std::alloc::{Allocator, Global};
+use std::alloc::{AllocError, Allocator, Global};
 use std::marker::Model;
 
 mod moves;
@@ -212,9 +212,28 @@ impl<T: Drop, R: Drop, A: Allocator + Copy> Board<T, R, A> {
         if least.index_path != *self.matcher.looking_for() {
             return Err(HandOutRefusal::NotReady);
         }
-        let Ok(()) = self.matcher.advance_past(least) else {
-            return Err(HandOutRefusal::Memory);
+        match self.hand_out_next() {
+            Ok(item) => Ok(item),
+            Err(_) => Err(HandOutRefusal::Memory),
+        }
+    }
+
+    /// Hands out the reading at the next address, which is ready, with the count of its children. The address after it
+    /// is then next.
+    ///
+    /// # Errors
+    ///
+    /// If memory runs out. Then the board is unchanged.
+    pub fn hand_out_next(&mut self) -> Result<Ordered<R, A>, AllocError>
+        requires running { self.old.stopped ≡ false }
+        requires ready { IsNextReady self.old }
+        ensures handed_out { IfOk result (λ item. HandsOut item self.old self.new) }
+        ensures unchanged { OnErr result (self.new ≡ self.old) }
+    {
+        let Some(least) = self.ready.peek() else {
+            unreachable!()
         };
+        self.matcher.advance_past(least)?;
         match self.ready.pop() {
             Some(item) => Ok(item),
             None => unreachable!(),

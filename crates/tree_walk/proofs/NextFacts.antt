@@ -1,7 +1,8 @@
 -- What one call returns, from what a board hands on.
 use Rattle.std.proofs.Common.{◌≡◌, ◌≢◌, ◌<◌, ◌≤◌, ◌+◌, ℕ, zero, suc, true, false, cond, List, [], ◌∷◌, ◌++◌, map, length, refl, sym, ap, ◌∙◌, arith, subst, ⊎_elim, inl, inr}
-use Rattle.std.specs.Prelude.{Option, Some, None, IsSomeAnd, All}
+use Rattle.std.specs.Prelude.{Some, All}
 use Rattle.std.specs.List.Sorted.{IsPermutation}
+use Rattle.std.proofs.Math.Nat.{eq-zero-or-pos}
 use Rattle.std.proofs.lemmas.List.{map-append}
 use Rattle.std.proofs.lemmas.List.Elements.{All-head, All-tail}
 use Rattle.std.proofs.lemmas.List.Sorted.{IsPermutation-map}
@@ -9,16 +10,14 @@ use Rattle.jwalk_order.specs.Frontier.{passed, next_address}
 use Rattle.jwalk_order.specs.IndexPath.{is_before}
 use Rattle.jwalk_order.specs.Addresses.{is_same, times, IsAmong}
 use Rattle.jwalk_order.specs.declared.ordered.Ordered.{Ordered}
-use Rattle.jwalk_board.specs.Board.{Board, IsWhole, HandsOut}
+use Rattle.jwalk_board.specs.Board.{Board, on_board, IsWhole, HandsOut}
 use Rattle.jwalk_order.specs.Addressed.{Addressed, addressed, addresses_of}
-use Rattle.jwalk_board.specs.Refusal.{RefusesHandOut}
-use Rattle.jwalk_board.specs.declared.board.refusal.HandOutRefusal.TheVariants.{NotReady}
 use Rattle.jwalk_order.proofs.Sets.{same, times-append, times-permutation, times-itself}
-use Rattle.jwalk_board.proofs.Opens.{times-addresses_of, times-on_board, next_least}
+use Rattle.jwalk_board.proofs.Opens.{times-addresses_of, times-on_board, next_least, holds_open}
 use Rattle.tree_walk.specs.declared.read.Read.{Read}
 use Rattle.tree_walk.specs.Reads.{spec_of, to_give, IsSound, ReadsSome}
 use Rattle.tree_walk.specs.ReadAhead.{ReadAhead, ahead_on, unread, StandsBefore, ReadsLeast, HandsOnAt, EntersNext}
-use Rattle.tree_walk.specs.BoardWalk.{Keeps, ReadsBatch, HandsOnNext, HandsOnIfAny, GoesOn}
+use Rattle.tree_walk.specs.BoardWalk.{Keeps, ReadsBatch, HandsOnNext, GoesOn}
 use Rattle.tree_walk.proofs.Steps.{some_to_read, gives-handed_out}
 use Rattle.tree_walk.proofs.ReadFacts.{reads_none, some_give, hands_less, some_more}
 
@@ -62,17 +61,6 @@ module _ {T R : Type 0} where
         running = ap (λ z. z.stopped) h.others ∙ h.running;
       }
 
-  -- what still has to be read is not done
-  pub not_done : (b : Board T (Read T R)) → IsWhole b → b.in_hand ≡ [] → RefusesHandOut b NotReady → ¬ IsAmong (next_address b.frontier) (ahead_on b).done
-  not_done b whole none refused there =
-      let a = next_address b.frontier in
-      let once = whole.once a in
-      let all = times-on_board a b in
-      ⊎_elim
-      (λ (queued : IsAmong a (addresses_of b.queued)). absurd (omega (arith, once, all, queued, there)))
-      (λ (held : IsAmong a b.in_hand). absurd (omega (arith, held, ap (times a) none)))
-      refused.2
-
 -- while something is to be read, there is a first
 pub left_first : {T R : Type 0} (b : Board T (Read T R)) → Keeps b → IsWhole b → b.frontier ≢ [] → (to_give b []).to_read ≢ []
 left_first b keeps whole some = some_to_read (λ s. s) spec_of b whole keeps.none_in_hand some
@@ -100,11 +88,16 @@ module _ {T R : Type 0} (is_reading : T → R → List T → Type 0) (width : �
               cc
         ] refl some
 
-    -- The next of what is to be read is read with the least.
-    pub next_is_read : 1 ≤ width → old.in_hand ≡ [] → RefusesHandOut old NotReady → IsAmong (next_address old.frontier) new.done
-    next_is_read wide none refused =
+    -- The next of what is to be read, where it isn't ready, is read with the least.
+    pub next_is_read : 1 ≤ width → old.in_hand ≡ [] → old.frontier ≢ [] → ¬ IsAmong (next_address old.frontier) (addresses_of old.ready) → IsAmong (next_address old.frontier) new.done
+    next_is_read wide none left unread =
         let a = next_address old.frontier in
-        let queued : 0 < times a (addresses_of old.queued) = ⊎_elim (λ (q : IsAmong a (addresses_of old.queued)). q) (λ (held : IsAmong a old.in_hand). absurd (omega (arith, held, ap (times a) none))) refused.2 in
+        let on : 0 < times a (on_board old) = (holds_open old whole).next_is_open left in
+        let gone : times a old.in_hand ≡ 0 = ap (times a) none in
+        let queued : IsAmong a (addresses_of old.queued) = ⊎_elim
+        (λ (not_ready : times a (addresses_of old.ready) ≡ 0). omega (arith, on, times-on_board a old, not_ready, gone))
+        (λ (there : 0 < times a (addresses_of old.ready)). absurd (unread there))
+        (eq-zero-or-pos (times a (addresses_of old.ready))) in
         let some : 1 ≤ length reads.batch = omega (arith, reads.number, wide, some_at a old.queued queued) in
         let done = times-permutation a (addresses_of reads.batch ++ reads.left.done) new.done reads.join.done in
         elim (times a (addresses_of reads.left.queue)) as (λ n. times a (addresses_of reads.left.queue) ≡ n → IsAmong a new.done) [
@@ -113,10 +106,6 @@ module _ {T R : Type 0} (is_reading : T → R → List T → Type 0) (width : �
         ] refl
 
   module _ (old : Board T (Read T R)) (keeps : Keeps old) where
-    -- while something is to be read, there is a first
-    pub first_left : IsWhole old → old.frontier ≢ [] → (to_give old []).to_read ≢ []
-    first_left whole some = some_to_read (λ s. s) spec_of old whole keeps.none_in_hand some
-
     -- What is handed on goes on.
     goes_on : (mid new : Board T (Read T R)) (given : R) → mid.frontier ≡ old.frontier → ReadsSome is_reading width (to_give old []) (to_give mid []) → HandsOnNext mid given new
         → length (to_give mid []).made ≤ length (to_give old []).made + width → EntersNext spec_of (IsSound is_reading) width (next_address old.frontier) (ahead_on old) (Some given) (ahead_on new) → GoesOn is_reading width old (Some given) new
@@ -128,20 +117,15 @@ module _ {T R : Type 0} (is_reading : T → R → List T → Type 0) (width : �
           enters = enters;
         }
 
-    -- A call without a new reading goes on.
-    pub answer_goes_on : 1 ≤ width → (new : Board T (Read T R)) (answer : Option R) → HandsOnIfAny old answer new → GoesOn is_reading width old answer new
-    answer_goes_on wide new None h =
-        let nothing : (to_give old []).to_read ≡ [] = rw h.0 refl in
-        subst (GoesOn is_reading width old None) (sym h.1)
-        (record { keeps = keeps; ahead = omega (arith, wide); next = (nothing, refl); enters = refl })
-    answer_goes_on wide new (Some given) h =
+    -- What is handed on without a new reading goes on.
+    pub ready_goes_on : (new : Board T (Read T R)) (given : R) → HandsOnNext old given new → GoesOn is_reading width old (Some given) new
+    ready_goes_on new given h =
         goes_on old new given refl (reads_none is_reading width (to_give old [])) h (omega arith) (inl (was_done (next_address old.frontier) (ahead_on old) (ahead_on new) h.at, h.at))
 
     -- What is handed on after some were read goes on.
-    pub made_goes_on : IsWhole old → RefusesHandOut old NotReady → (mid new : Board T (Read T R)) (answer : Option R) → ReadsBatch is_reading width old mid
-        → IsSomeAnd answer (λ given. HandsOnNext mid given new) → GoesOn is_reading width old answer new
-    made_goes_on whole refused mid new None reads h = absurd h
-    made_goes_on whole refused mid new (Some given) reads h =
+    pub made_goes_on : ¬ IsAmong (next_address old.frontier) (addresses_of old.ready) → (mid new : Board T (Read T R)) (given : R) → ReadsBatch is_reading width old mid
+        → HandsOnNext mid given new → GoesOn is_reading width old (Some given) new
+    made_goes_on unread mid new given reads h =
         let more = some_more is_reading width (to_give old []) (to_give mid []) reads.reads in
         goes_on mid new given reads.frontier reads.reads h (omega (arith, more))
-        (inr (not_done old whole keeps.none_in_hand refused, (ahead_on mid, reads.least, subst (λ l. HandsOnAt (next_address l) (ahead_on mid) (ahead_on new)) reads.frontier h.at)))
+        (inr (unread, (ahead_on mid, reads.least, subst (λ l. HandsOnAt (next_address l) (ahead_on mid) (ahead_on new)) reads.frontier h.at)))

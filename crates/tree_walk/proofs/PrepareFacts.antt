@@ -3,7 +3,6 @@ use Rattle.std.proofs.Common.{◌≡◌, ◌≢◌, ◌≤◌, ◌<◌, ◌+◌,
 use Rattle.std.specs.Prelude.{Option, Some, None, Result, Ok, Err, IsErr, ◌⊎◌}
 use Rattle.std.specs.List.Sorted.{IsPermutation}
 use lib.ListN.{length-append}
-use Rattle.std.proofs.Math.Nat.{eq-zero-or-pos}
 use Rattle.std.proofs.lemmas.List.{nil_from_length, length-map}
 use Rattle.std.proofs.lemmas.List.Sorted.{length_permutation, IsPermutation-trans}
 use Rattle.std.specs.declared.alloc.AllocError.{AllocError}
@@ -11,8 +10,8 @@ use Rattle.jwalk_order.specs.Frontier.{passed, next_address}
 use Rattle.jwalk_order.specs.Addresses.{times, IsAmong}
 use Rattle.jwalk_order.specs.Addressed.{Addressed, addresses_of}
 use Rattle.jwalk_order.proofs.Sets.{times-itself}
-use Rattle.jwalk_board.specs.Board.{Board, IsWhole, HoldsOpen, IsOpen, of_frontier, of_parent, on_board}
-use Rattle.jwalk_board.proofs.Opens.{times-on_board, holds_open}
+use Rattle.jwalk_board.specs.Board.{Board, IsWhole, HoldsOpen, IsOpen, of_frontier, of_parent}
+use Rattle.jwalk_board.proofs.Opens.{times-on_board}
 use Rattle.tree_walk.specs.declared.read.Read.{Read}
 use Rattle.tree_walk.specs.ToGive.{with_below}
 use Rattle.tree_walk.specs.Reads.{spec_of, IsSound}
@@ -42,13 +41,7 @@ module _ {T R : Type 0} (is_reading : T → R → List T → Type 0) (width : �
   -- The next of a board that was not ready is read with the least.
   pub reads_for_next : (b c : Board T (Read T R)) → 1 ≤ width → Keeps b → IsWhole b → b.frontier ≢ [] → ¬ IsAmong (next_address b.frontier) (addresses_of b.ready) → ReadsBatch is_reading width b c → ReadsForNext is_reading width (Some b) (Some c)
   reads_for_next b c wide keeps whole some unread reads =
-      let a = next_address b.frontier in
-      let on : 0 < times a (on_board b) = (holds_open b whole).next_is_open some in
-      let queued : IsAmong a (addresses_of b.queued) = ⊎_elim
-      (λ (none : times a (addresses_of b.ready) ≡ 0). (let gone : times a b.in_hand ≡ 0 = ap (times a) keeps.none_in_hand in omega (arith, on, times-on_board a b, none, gone)))
-      (λ (there : 0 < times a (addresses_of b.ready)). absurd (unread there))
-      (eq-zero-or-pos (times a (addresses_of b.ready))) in
-      let read : IsAmong a (addresses_of c.ready) = next_is_read is_reading width b (ahead_on c) whole reads.least wide keeps.none_in_hand (keeps.running, some, inl queued) in
+      let read : IsAmong (next_address b.frontier) (addresses_of c.ready) = next_is_read is_reading width b (ahead_on c) whole reads.least wide keeps.none_in_hand some unread in
       record {
         some = left_first b keeps whole some;
         unread = unread;

@@ -20,10 +20,6 @@ use Rattle.tree_walk.specs.Reads.{spec_of, to_give, IsSound, ReadsSome}
 use Rattle.tree_walk.specs.BoardWalk.{HandsOnNext, GivesFirst}
 use Rattle.tree_walk.proofs.Steps.{gives-taken, gives-finished}
 
-pub on_err : {X F : Type 0} (r : Result X F) {P Q : Type 0} → (P → Q) → OnErr r P → OnErr r Q
-on_err (Ok x) f h = tt
-on_err (Err e) f h = f h
-
 pub if_ok : {X F : Type 0} (r : Result X F) {P Q : X → Type 0} → ((x : X) → P x → Q x) → IfOk r P → IfOk r Q
 if_ok (Ok x) f h = f x h
 if_ok (Err e) f h = tt

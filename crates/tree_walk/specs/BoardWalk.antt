@@ -45,11 +45,6 @@ module _ {T R : Type 0} where
     pub none_in_hand : new.in_hand ≡ []
     pub running : new.stopped ≡ false
 
-  -- It is handed on, or nothing is left to be read and all stays as it is.
-  abbrev pub HandsOnIfAny : Board T (Read T R) → Option R → Board T (Read T R) → Type 0
-  HandsOnIfAny old (Some given) new = HandsOnNext old given new
-  HandsOnIfAny old None new = (old.frontier ≡ []) × (new ≡ old)
-
   -- What holds of a board between calls: it is running, and nothing is in hand.
   pub record Keeps (b : Board T (Read T R)) : Type 0 where
     pub running : b.stopped ≡ false

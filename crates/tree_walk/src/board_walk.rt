@@ -1,80 +1,33 @@
 //! Readings of a tree in preorder.
-ghost use Rattle.std.specs.Prelude.{◌≡◌, ◌≢◌, ◌≤◌, [], false, length};
-ghost use Rattle.std.specs.Prelude.{None, IfOk, IfErr, IfSome, IsSomeAnd, IfNone, OnOk, OnErr};
-ghost use Rattle.jwalk_order.specs.Frontier.{next_address};
-ghost use Rattle.jwalk_order.specs.Addresses.{IsAmong};
-ghost use Rattle.jwalk_order.specs.Addressed.{addresses_of};
-ghost use Rattle.jwalk_board.specs.Refusal.{RefusesHandOut};
-ghost use Rattle.jwalk_board.specs.declared.board.refusal.HandOutRefusal.TheVariants.{NotReady};
+ghost use Rattle.std.specs.Prelude.{◌≡◌, ◌≢◌, ◌≤◌, [], false, length, None, IfOk, OnOk, OnErr};
+ghost use Rattle.jwalk_board.specs.Board.{IsNextReady};
 ghost use Rattle.tree_walk.specs.Reads.{to_give};
 ghost use Rattle.tree_walk.specs.ReadAhead.{BeginsWith};
-ghost use Rattle.tree_walk.specs.BoardWalk.{Keeps, HandsOnNext, HandsOnIfAny, GoesOn, Answers, Prepares};
+ghost use Rattle.tree_walk.specs.BoardWalk.{Keeps, HandsOnNext, GoesOn, Answers, Prepares};
 
 use crate::batch::{read_batch, read_batch_on};
 use crate::read::Read;
-use jwalk_board::board::{Board, HandOutRefusal, Plan};
+use jwalk_board::board::{Board, Plan};
 use std::alloc::{AllocError, Allocator, Global};
 use std::marker::Model;
 use std::thread::Threads;
 
-/// Hands on the next reading, if it is ready.
+/// Hands on the next reading, which is ready.
 fn hand_on<T: Drop, R: Drop, A: Allocator + Copy>(
     board: &mut Board<T, Read<T, R>, A>,
-) -> Result<R, HandOutRefusal>
-    requires { board.old.in_hand ≡ [] }
-    ensures hands_on { IfOk result (λ given. HandsOnNext board.old given board.new) }
-    ensures refused { IfErr result (RefusesHandOut board.old) }
-    ensures unchanged { OnErr result (board.new ≡ board.old) }
+) -> Result<R, AllocError>
+    requires none_in_hand { board.old.in_hand ≡ [] }
+    requires running { board.old.stopped ≡ false }
+    requires ready { IsNextReady board.old }
+    ensures { IfOk result (λ given. HandsOnNext board.old given board.new) }
 {
     // What holds of every board.
     let _pending = board.pending();
-    let item = board.hand_out()?;
+    let item = board.hand_out_next()?;
     Ok(item.value.reading)
 }
 
-/// Hands on the next reading, which is ready.
-fn hand_on_ready<T: Drop, R: Drop, A: Allocator + Copy>(
-    board: &mut Board<T, Read<T, R>, A>,
-) -> Result<Option<R>, AllocError>
-    requires none_in_hand { board.old.in_hand ≡ [] }
-    requires running { board.old.stopped ≡ false }
-    requires some { board.old.frontier ≢ [] }
-    requires ready { IsAmong (next_address board.old.frontier) (addresses_of board.old.ready) }
-    ensures { IfOk result (λ o. IsSomeAnd o (λ given. HandsOnNext board.old given board.new)) }
-{
-    // What holds of every board.
-    let _pending = board.pending();
-    match hand_on(board) {
-        Ok(reading) => Ok(Some(reading)),
-        Err(HandOutRefusal::Memory) => Err(AllocError),
-        Err(HandOutRefusal::Stopped) => unreachable!(),
-        Err(HandOutRefusal::Done) => unreachable!(),
-        Err(HandOutRefusal::NotReady) => unreachable!(),
-    }
-}
-
-/// Returns what a walk yields without a reading that isn't made yet: none of it if such a reading is next.
-fn answer_ready<T: Drop, R: Drop, A: Allocator + Copy>(
-    board: &mut Board<T, Read<T, R>, A>,
-) -> Option<Result<Option<R>, AllocError>>
-    requires none_in_hand { board.old.in_hand ≡ [] }
-    requires running { board.old.stopped ≡ false }
-    ensures answer { IfSome result (λ answer. IfOk answer (λ o. HandsOnIfAny board.old o board.new)) }
-    ensures some { IfSome result (λ answer. OnErr answer (board.old.frontier ≢ [])) }
-    ensures unread { IfNone result (RefusesHandOut board.old NotReady) }
-    ensures unchanged { IfNone result (board.new ≡ board.old) }
-{
-    match hand_on(board) {
-        Ok(reading) => Some(Ok(Some(reading))),
-        Err(HandOutRefusal::Done) => Some(Ok(None)),
-        Err(HandOutRefusal::NotReady) => None,
-        Err(HandOutRefusal::Memory) => Some(Err(AllocError)),
-        // Nothing stops the board.
-        Err(HandOutRefusal::Stopped) => unreachable!(),
-    }
-}
-
-/// Returns the next reading. If it isn't there yet, the least specifications are read first.
+/// Returns the next reading, or none if nothing is left. If it isn't ready, the least specifications are read first.
 fn read_next<T: Drop, R: Drop, J: Plan<A, Spec = T, Reading = R>, A: Allocator + Copy>(
     alloc: A,
     plan: &J,
@@ -87,13 +40,14 @@ fn read_next<T: Drop, R: Drop, J: Plan<A, Spec = T, Reading = R>, A: Allocator +
     ensures some { OnErr result ((to_give board.old []).to_read ≢ []) }
     ensures goes_on { IfOk result (λ o. GoesOn (J.IsReading plan.now) width board.old o board.new) }
 {
-    // What holds of every board.
-    let _pending = board.pending();
-    if let Some(answer) = answer_ready(board) {
-        return answer;
+    let pending = board.pending();
+    if !board.is_next_ready() {
+        if pending == 0 {
+            return Ok(None);
+        }
+        read_batch(alloc, plan, board, width)?;
     }
-    read_batch(alloc, plan, board, width)?;
-    hand_on_ready(board)
+    Ok(Some(hand_on(board)?))
 }
 
 /// Readings in preorder: a specification's, and then those of all that is below it. Up to a width of them are made

@@ -3,7 +3,7 @@ use Rattle.jwalk_order.specs.Frontier.{next_address}
 use Rattle.jwalk_order.specs.Ordered.{address_of}
 use Rattle.jwalk_order.specs.Addresses.{times}
 use Rattle.jwalk_order.specs.Addressed.{addresses_of}
-use Rattle.jwalk_board.proofs.Steps.{waits, not_ready, hands_out, keeps_handed_out}
+use Rattle.jwalk_board.proofs.Steps.{waits, not_ready}
 use Rattle.jwalk_board.proofs.board.Board.hand_out.Goals as goal
 
 pub returns-in_default-clause-refused : goal.returns-in_default-clause-refused
@@ -21,17 +21,3 @@ returns-then-ne-clause-refused g c =
       some,
       waits _ c.self.invariant some (not_ready _ c.self.invariant (address_of c.in-Some.least.now) c.in-Some.ensures.some c.in-Some.ensures.least other),
     )
-
-pub invariant_of-self-2 : goal.invariant_of-self-2
-invariant_of-self-2 g c =
-    let some : c.self.inside.matcher ≢ [] = search rules in
-    let next : address_of c.in-Some.least.now ≡ next_address c.self.inside.matcher = search rules in
-    keeps_handed_out _ c.self.invariant c.in-Some-pop.item _ _
-    (hands_out _ c.in-Some.least.now c.in-Some-pop.item _ _ c.if-self.false some c.in-Some.ensures.some c.in-Some.ensures.top next c.in-Ok.ensures.passed c.in-Some-pop.ensures.items c.in-Some-pop.ensures.top)
-
-pub returns-clause-handed_out : goal.returns-clause-handed_out
-returns-clause-handed_out g c =
-    let some : c.self.inside.matcher ≢ [] = search rules in
-    let next : address_of c.in-Some.least.now ≡ next_address c.self.inside.matcher = search rules in
-    rw (← c.self.view_is)
-    (hands_out _ c.in-Some.least.now c.in-Some-pop.item _ _ c.if-self.false some c.in-Some.ensures.some c.in-Some.ensures.top next c.in-Ok.ensures.passed c.in-Some-pop.ensures.items c.in-Some-pop.ensures.top)
