@@ -20,6 +20,8 @@ enum Step {
     FinishesNone(&'static [usize]),
     // The item at this address is handed out, with that many children, or none.
     HandsOut(Result<(&'static [usize], usize), HandOutRefusal>),
+    // The next reading, which is ready, is handed out: at this address, with that many children.
+    HandsOutNext(&'static [usize], usize),
     // Only children of only children are taken, finished and handed out, on 299 levels.
     GoesDown,
     // That many are queued, in hand, ready and pending.
@@ -90,6 +92,16 @@ fn hands_out(board: &mut Names, wanted: Result<(&[usize], usize), HandOutRefusal
     }
 }
 
+fn hands_out_next(board: &mut Names, indices: &[usize], child_count: usize) -> bool {
+    if board.is_stopped() || !board.is_next_ready() {
+        return false;
+    }
+    match board.hand_out_next() {
+        Ok(item) => is_at(&item, indices, child_count),
+        Err(_) => false,
+    }
+}
+
 // Takes the only child of only children at each address down to this one, finishes it with one child and hands it out.
 fn goes_down(board: &mut Names, alloc: Global, indices: &[usize]) -> bool {
     for length in 1..indices.len() {
@@ -118,6 +130,7 @@ fn goes(board: &mut Names, alloc: Global, step: &Step) -> bool {
         Step::FinishesRoot(child_count) => finishes_root(board, alloc, *child_count),
         Step::FinishesNone(indices) => finishes_none(board, alloc, indices),
         Step::HandsOut(wanted) => hands_out(board, *wanted),
+        Step::HandsOutNext(indices, child_count) => hands_out_next(board, indices, *child_count),
         Step::GoesDown => goes_down(board, alloc, [0; 300].as_slice()),
         Step::Counts(wanted) => counts(board) == *wanted,
         Step::Stops => stops(board),
@@ -171,6 +184,24 @@ fn a_root_with_two_leaves_is_handed_out_in_order(rt: HostRuntime) {
         Step::Takes(Err(TakeRefusal::Stopped)),
     ];
     all_go(&rt, 1, STEPS);
+}
+
+#[test]
+fn the_next_reading_is_handed_out_once_it_is_ready(rt: HostRuntime) {
+    const STEPS: &[Step] = &[
+        Step::Takes(Ok(&[0])),
+        Step::Takes(Ok(&[1])),
+        Step::Finishes(&[1], "b", &[]),
+        Step::HandsOut(Err(HandOutRefusal::NotReady)),
+        Step::Finishes(&[0], "a", &["c"]),
+        Step::HandsOutNext(&[0], 1),
+        Step::Takes(Ok(&[0, 0])),
+        Step::Finishes(&[0, 0], "c", &[]),
+        Step::HandsOutNext(&[0, 0], 0),
+        Step::HandsOutNext(&[1], 0),
+        Step::Counts([0, 0, 0, 0]),
+    ];
+    all_go(&rt, 2, STEPS);
 }
 
 #[test]

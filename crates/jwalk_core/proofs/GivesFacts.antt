@@ -1,11 +1,10 @@
 -- What one call of an iterator over readings gives.
-use Rattle.std.proofs.Common.{◌≡◌, ◌≢◌, ◌∙◌, ◌<◌, ◌≤◌, ◌+◌, ◌++◌, [], ◌∷◌, ℕ, Bool, true, false, Result, Ok, Err, inl, inr, List, Option, Some, None, IfSome, IfOk, map, length, refl, sym, ap, subst, arith}
+use Rattle.std.proofs.Common.{◌≡◌, ◌≢◌, ◌∙◌, ◌<◌, ◌≤◌, ◌+◌, ◌++◌, [], ◌∷◌, ℕ, Bool, false, Result, Ok, Err, inl, inr, List, Option, Some, None, IfSome, IfOk, map, length, refl, sym, ap}
 use Rattle.std.specs.Prelude.{option_map}
 use Rattle.std.proofs.lemmas.List.{map-append, length-map, nil_from_length}
 use Rattle.std.proofs.lemmas.List.Elements.{All-nil}
 use Rattle.std.specs.declared.clone.Clone as Clone
 use Rattle.std.specs.declared.default.Default as Default
-use Rattle.walk_model.specs.Error.{lost}
 use Rattle.walk_model.specs.Entry.{Item}
 use Rattle.walk_model.specs.ReadDir.{Spec, Outcome, children_of}
 use Rattle.walk_model.specs.Preorder.{preorder}
@@ -142,12 +141,6 @@ gives_any files process clone defaults readers b old new read gives = record {
   preorder = λ given steady. none_lost b _ _ _ _ _ (gives.preorder given steady);
 }
 
--- a crew's readings are made by others
-none_ahead : {C S P A L R E : Type 0} (old new : ReadDirIter C S P A L R E) → by_crew old ≡ true → by_crew new ≡ by_crew old → length (early_of new) + 1 ≤ length (early_of old) + width_of old
-none_ahead (CrewWalk old) (CrewWalk new) by same = omega arith
-none_ahead (CrewWalk old) (Walk new) by same = absurd cc
-none_ahead (Walk old) new by same = absurd cc
-
 module _ {C S P A L R E : Type 0} (files : FileSystem.Ghosts S) (process : ProcessReadDir.Ghosts P C A R E) (clone : Clone.Ghosts R) (defaults : Default.Ghosts E) (readers : Readers.Ghosts L C S P A R E) (old new : ReadDirIter C S P A L R E) (asked : Item R E) where
   -- the reading of an item's directory, where that comes next
   pub gives_asked : (read : Option (Result (ReadDir C A R E) (Error A))) → IsNextBelow (by_crew old) asked (to_read old) → Gives files process clone defaults readers false old read new → GivesOf files process clone defaults readers old asked read new
@@ -156,15 +149,6 @@ module _ {C S P A L R E : Type 0} (files : FileSystem.Ghosts S) (process : Proce
     next = λ _. gives;
     of = gives_of files process clone defaults readers old (greatest_depth (job_of old)) asked (to_read old) (option_map outcome read) (to_read new) below gives.first;
   }
-
-  -- where another one does, the readings end
-  pub other_asked : (error : Error A) → failure error ≡ lost → by_crew old ≡ true → ¬ IsNextBelow (by_crew old) asked (to_read old) → by_crew new ≡ by_crew old → job_of new ≡ job_of old → width_of new ≡ width_of old
-      → most_ahead readers new ≤ most_ahead readers old → StaysSteady files process clone defaults readers old new → to_read old ≢ [] → to_read new ≡ [] → read_ahead new ≡ nothing_ahead
-      → GivesOf files process clone defaults readers old asked (Some (Err error)) new
-  other_asked error is_lost by other crew job width most steady some none nothing =
-      let tells : Tells (by_crew old) (failure error) = subst (λ b. Tells b (failure error)) (sym by) (inr is_lost) in
-      let gives = gives_stopped files process clone defaults readers old new (by_crew old) error tells (λ given steady. tells) crew job width (none_ahead old new by crew) most steady some none nothing in
-      record { gives = gives; next = λ below. absurd (other below); of = inl (record { error = failure error; told = refl; tells = tells }, some, none) }
 
 -- what is said of any value is said of its view
 pub some_of : {X Y : Type 0} (P : Type 0) (f : X → Y) (o : Option X) → IfSome (option_map f o) (λ _. P) → IfSome o (λ _. P)
