@@ -1,5 +1,12 @@
-//! What a walk does: one reading of a directory by a job, which readings are made and when, and a walk's entries and
-//! errors in strict depth-first order.
+//! What a walk does, from one directory's listing to entries and errors in strict depth-first order.
+//!
+//! - One reading: a `job` lists a directory and gives a `read_dir`, by its `options`, the callback of
+//!   `process_read_dir`, and the `ancestors` that tell loops. Its items are a `dir_entry` or an `error`, each directory
+//!   with its `read_children`. A `read_dir_spec` says which directory is to be read.
+//! - Readings in order: `read_dir_iter`, over `batch_reads`, which are made in turn or on threads, or over `crew_reads`,
+//!   which others make ahead. What gives the latter are `readers`: a crew's `session`, whose workers hand in a `message`
+//!   where one is `wanted`. `parallelism` and `mode` say which of them reads.
+//! - Entries in order: `dir_entry_iter`.
 #![tactic(auto)]
 
 pub mod ancestors;
