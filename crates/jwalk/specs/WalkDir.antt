@@ -1,17 +1,18 @@
 -- A walk as its builder describes it.
-use Rattle.std.specs.Prelude.{◌≡◌, ◌⊎◌, ◌<◌, ◌≤◌, ◌+◌, ℕ, min, true, false, List, [], ◌∷◌, map, Option, Some, None, IfSome, IsSome, IsSomeAnd, Result, Ok, Err, string_bytes}
+use Rattle.std.specs.Prelude.{◌≡◌, ◌⊎◌, ◌≤◌, ◌+◌, ℕ, true, false, List, [], ◌∷◌, map, Option, Some, None, IfSome, IsSome, Result, Ok, Err, string_bytes}
 use Rattle.std.specs.Arc.{arc_value}
 use Rattle.std.specs.declared.clone.Clone as Clone
 use Rattle.std.specs.declared.default.Default as Default
+use Rattle.std.specs.declared.sync.Arc.{Arc}
+use Rattle.std.specs.declared.time.Duration.{Duration}
 use Rattle.walk_model.specs.Error.{busy}
-use Rattle.walk_model.specs.Options.{Options, crew, with_parallelism}
+use Rattle.walk_model.specs.Options.{Options, crew}
 use Rattle.walk_model.specs.Entry.{Item, AtDepth}
 use Rattle.walk_model.specs.Listing.{paired}
 use Rattle.walk_model.specs.Counted.{Worth, blank}
 use Rattle.walk_model.specs.Job.{Job, root_list}
 use Rattle.walk_fs.specs.declared.file_system.FileSystem as FileSystem
 use Rattle.jwalk_core.specs.declared.process_read_dir.ProcessReadDir as ProcessReadDir
-use Rattle.jwalk_core.specs.declared.process_read_dir.NoProcess.{NoProcess}
 use Rattle.jwalk_core.specs.declared.error.Error.{Error}
 use Rattle.jwalk_core.specs.declared.dir_entry.DirEntry.{DirEntry}
 use Rattle.jwalk_core.specs.Entry.{item}
@@ -22,12 +23,10 @@ use Rattle.jwalk_core.specs.Job.{file_system, callback, IsSteady}
 use Rattle.jwalk_core.specs.ReadAhead.{BeginsWith}
 use Rattle.jwalk_core.specs.DirEntryIter as iter
 use Rattle.tree_crew.specs.declared.crew.Crew.{Crew}
-use Rattle.tree_crew.specs.Crew.{workers_of, limit_of}
+use Rattle.tree_crew.specs.Crew.{limit_of}
 use Rattle.jwalk_core.specs.declared.readers.Readers as Readers
 use Rattle.tree_crew.specs.declared.crew.NotStarted.{NotStarted}
 use Rattle.tree_crew.specs.declared.crew.NotStarted.TheVariants.{Busy, Memory}
-use Rattle.jwalk_core.specs.declared.parallelism.Parallelism.{Parallelism}
-use Rattle.jwalk_core.specs.Parallelism.{parallelism_value, crew_of}
 use Rattle.jwalk.specs.CrewStart.{busy_pair}
 use Rattle.jwalk_core.specs.DirEntryIter.{by_crew, job_of, items_of, held, held_by, IsWithin, IsSourced, IsRefused}
 use Rattle.jwalk.specs.declared.walk_dir.WalkDirGeneric.{WalkDirGeneric}
@@ -53,10 +52,54 @@ stateless = record {
   new_entry = blank;
 }
 
+-- What a builder describes: the walk that it is to begin.
+pub record Described (S P A W R : Type 0) : Type 0 where
+  pub options : Options
+  pub file_system : S
+  pub callback : P
+  pub root : List ℕ
+  pub state : R
+  pub crew : Option (Arc W A × Option Duration)
+
+-- the same with another callback
+abbrev pub with_callback : {S P Q A W R : Type 0} → Q → Described S P A W R → Described S Q A W R
+with_callback new d = record {
+  options = d.options;
+  file_system = d.file_system;
+  callback = new;
+  root = d.root;
+  state = d.state;
+  crew = d.crew;
+}
+
+-- the same with another state for the root's list
+abbrev pub with_state : {S P A W R Q : Type 0} → Q → Described S P A W R → Described S P A W Q
+with_state new d = record {
+  options = d.options;
+  file_system = d.file_system;
+  callback = d.callback;
+  root = d.root;
+  state = new;
+  crew = d.crew;
+}
+
+-- the same with another crew, and how long the walk waits for a place of it
+abbrev pub with_crew : {S P A V W R : Type 0} → Option (Arc W A × Option Duration) → Described S P A V R → Described S P A W R
+with_crew new d = record {
+  options = d.options;
+  file_system = d.file_system;
+  callback = d.callback;
+  root = d.root;
+  state = d.state;
+  crew = new;
+}
+
 module _ {C S P A W R E : Type 0} where
+  -- the file system that it walks
   abbrev pub file_system_of : WalkDirGeneric C S P A W R E → S
   file_system_of walk = walk.fs
 
+  -- its callback
   abbrev pub callback_of : WalkDirGeneric C S P A W R E → P
   callback_of walk = walk.process
 
@@ -72,32 +115,25 @@ module _ {C S P A W R E : Type 0} where
   abbrev pub options_of : WalkDirGeneric C S P A W R E → Options
   options_of walk = options_value walk.options
 
-  -- One call of the builder: it changes only the options.
-  pub record Sets (set : Options) (old new : WalkDirGeneric C S P A W R E) : Type 0 where
-    pub options : options_of new ≡ set
-    pub file_system : file_system_of new ≡ file_system_of old
-    pub callback : callback_of new ≡ callback_of old
-    pub root : root_of new ≡ root_of old
-    pub state : state_of new ≡ state_of old
-    pub crew : new.crew ≡ old.crew
+  -- all that it describes
+  abbrev pub described : WalkDirGeneric C S P A W R E → Described S P A W R
+  described walk = record {
+    options = options_of walk;
+    file_system = file_system_of walk;
+    callback = callback_of walk;
+    root = root_of walk;
+    state = state_of walk;
+    crew = walk.crew;
+  }
 
-  -- A call of the builder that changes only how directories are read: the option, and the crew that is to read.
-  pub record SetsParallelism (set : Parallelism W A) (old new : WalkDirGeneric C S P A W R E) : Type 0 where
-    pub options : options_of new ≡ with_parallelism (parallelism_value set) (options_of old)
-    pub crew : new.crew ≡ crew_of set
-    pub file_system : file_system_of new ≡ file_system_of old
-    pub callback : callback_of new ≡ callback_of old
-    pub root : root_of new ≡ root_of old
-    pub state : state_of new ≡ state_of old
-
-  -- A call of the builder that changes only the root's state.
-  pub record SetsState (set : R) (old new : WalkDirGeneric C S P A W R E) : Type 0 where
-    pub state : state_of new ≡ set
-    pub options : options_of new ≡ options_of old
-    pub file_system : file_system_of new ≡ file_system_of old
-    pub callback : callback_of new ≡ callback_of old
-    pub root : root_of new ≡ root_of old
-    pub crew : new.crew ≡ old.crew
+  -- A call of the builder returns one that is as this description says, part by part.
+  pub record Sets (set : Described S P A W R) (new : WalkDirGeneric C S P A W R E) : Type 0 where
+    pub options : options_of new ≡ set.options
+    pub file_system : file_system_of new ≡ set.file_system
+    pub callback : callback_of new ≡ set.callback
+    pub root : root_of new ≡ set.root
+    pub state : state_of new ≡ set.state
+    pub crew : new.crew ≡ set.crew
 
   -- what its readings are made of, over a fixed file system and what is given
   abbrev pub job_for : FileSystem.Ghosts S → Given R E → WalkDirGeneric C S P A W R E → Job Worth Worth
@@ -119,45 +155,9 @@ module _ {C S P A W R E : Type 0} where
     pub width : iter.width_of it ≡ width_of (options_of walk).parallelism
     pub ahead : iter.by_crew it ≡ false → BeginsWith (iter.unread_of it) (iter.read_ahead it)
 
--- A call of the builder that makes room for a crew, and changes nothing else.
-pub record SetsCrew {C S P A V W R E : Type 0} (old : WalkDirGeneric C S P A V R E) (new : WalkDirGeneric C S P A W R E) : Type 0 where
-  pub options : options_of new ≡ options_of old
-  pub file_system : file_system_of new ≡ file_system_of old
-  pub callback : callback_of new ≡ callback_of old
-  pub root : root_of new ≡ root_of old
-  pub state : state_of new ≡ state_of old
-
--- A call of the builder that has a crew of the walk's own read it, and changes nothing else. The crew has this many threads, and 0 leaves their number open; it reads at most 1,024 directories ahead, but for the next one, and the walk waits for its place without limit.
-pub record SetsWorkers {H C S P A V R E : Type 0} (count : ℕ) (old : WalkDirGeneric C S P A V R E) (new : WalkDirGeneric C S P A (Crew H) R E) : Type 0 where
-  pub options : options_of new ≡ with_parallelism crew (options_of old)
-  pub threads : IsSomeAnd new.crew (λ own. 0 < count → workers_of (arc_value own.0) ≡ min count 256)
-  pub read_ahead : IsSomeAnd new.crew (λ own. limit_of (arc_value own.0) ≡ 1024)
-  pub limit : IsSomeAnd new.crew (λ own. own.1 ≡ None)
-  pub file_system : file_system_of new ≡ file_system_of old
-  pub callback : callback_of new ≡ callback_of old
-  pub root : root_of new ≡ root_of old
-  pub state : state_of new ≡ state_of old
-
 -- A walk's crew keeps its bound: at most one reading more is made and not handed on.
 abbrev pub KeepsBound : {H C S P A L R E : Type 0} → Readers.Ghosts L C S P A R E → WalkDirGeneric C S P A (Crew H) R E → DirEntryIter C S P A L R E → Type 0
 KeepsBound readers walk it = IfSome walk.crew (λ own. iter.most_ahead readers it ≤ limit_of (arc_value own.0) + 1)
-
--- A call of the builder that changes the types of the states, of a walk without a callback. The root's state is a default then, and nothing else changes.
-pub record SetsStates {C D S A W R E Q F : Type 0} (is_default : Q → Type 0) (old : WalkDirGeneric C S NoProcess A W R E) (new : WalkDirGeneric D S NoProcess A W Q F) : Type 0 where
-  pub state : is_default (state_of new)
-  pub options : options_of new ≡ options_of old
-  pub file_system : file_system_of new ≡ file_system_of old
-  pub root : root_of new ≡ root_of old
-  pub crew : new.crew ≡ old.crew
-
--- A call of the builder that replaces the walk's callback, and changes nothing else.
-pub record SetsCallback {C S P Q A W R E : Type 0} (process : Q) (old : WalkDirGeneric C S P A W R E) (new : WalkDirGeneric C S Q A W R E) : Type 0 where
-  pub callback : callback_of new ≡ process
-  pub options : options_of new ≡ options_of old
-  pub file_system : file_system_of new ≡ file_system_of old
-  pub root : root_of new ≡ root_of old
-  pub state : state_of new ≡ state_of old
-  pub crew : new.crew ≡ old.crew
 
 module _ {C S P A W L R E : Type 0} (files : FileSystem.Ghosts S) (process : ProcessReadDir.Ghosts P C A R E) (clone : Clone.Ghosts R) (defaults : Default.Ghosts E) where
   -- The iterator holds the root's list.

@@ -129,8 +129,9 @@ impl<
     A: Allocator + Copy,
     W: Drop,
 > WalkDirGeneric<C, S, P, A, W> {
-    ghost use Rattle.walk_model.specs.Options.{with_sort, with_skip_hidden, with_follow_links, with_min_depth, with_max_depth};
-    ghost use Rattle.jwalk.specs.WalkDir.{root_of, options_of, Sets, SetsParallelism, SetsState, SetsCallback};
+    ghost use Rattle.walk_model.specs.Options.{with_sort, with_skip_hidden, with_follow_links, with_min_depth, with_max_depth, with_parallelism};
+    ghost use Rattle.jwalk_core.specs.Parallelism.{parallelism_value, crew_of};
+    ghost use Rattle.jwalk.specs.WalkDir.{root_of, options_of, described, with_callback, Sets};
 
     /// Returns the root's path as it was given.
     pub fn root(&self) -> &str
@@ -142,7 +143,7 @@ impl<
     /// Sets whether the entries of a directory are sorted by the bytes of their names, with its errors last. Off by
     /// default: then they come in the file system's order.
     pub fn sort(mut self, sort: bool) -> Self
-        ensures { Sets (with_sort sort (options_of self)) self result }
+        ensures { Sets (record (described self) { options = with_sort sort (options_of self) }) result }
     {
         self.options = self.options.with_sort(sort);
         self
@@ -151,7 +152,7 @@ impl<
     /// Sets whether names that start with a dot are left out. On by default. The root is never left out. A name whose
     /// type can't be read is yielded as an error, hidden or not.
     pub fn skip_hidden(mut self, skip_hidden: bool) -> Self
-        ensures { Sets (with_skip_hidden skip_hidden (options_of self)) self result }
+        ensures { Sets (record (described self) { options = with_skip_hidden skip_hidden (options_of self) }) result }
     {
         self.options = self.options.with_skip_hidden(skip_hidden);
         self
@@ -168,7 +169,7 @@ impl<
     /// `/s`. And a loop that the texts don't show is followed until the greatest depth or the file system ends it, as
     /// that of a link in each of two directories to the other: `/r/a/l` to `../b`, and `/r/b/m` to `../a`.
     pub fn follow_links(mut self, follow_links: bool) -> Self
-        ensures { Sets (with_follow_links follow_links (options_of self)) self result }
+        ensures { Sets (record (described self) { options = with_follow_links follow_links (options_of self) }) result }
     {
         self.options = self.options.with_follow_links(follow_links);
         self
@@ -177,7 +178,7 @@ impl<
     /// Sets the least depth of the entries that are yielded, 0 by default. It is lowered to the greatest depth if it is
     /// above that. Directories nearer to the root are still read, and errors are yielded whatever their depth.
     pub fn min_depth(mut self, depth: usize) -> Self
-        ensures { Sets (with_min_depth depth (options_of self)) self result }
+        ensures { Sets (record (described self) { options = with_min_depth depth (options_of self) }) result }
     {
         self.options = self.options.with_min_depth(depth);
         self
@@ -187,7 +188,7 @@ impl<
     /// least depth if it is below that. A directory at this depth is yielded and not read. A depth below 2 makes the
     /// walk serial; a later `parallelism` overrides that.
     pub fn max_depth(mut self, depth: usize) -> Self
-        ensures { Sets (with_max_depth depth (options_of self)) self result }
+        ensures { Sets (record (described self) { options = with_max_depth depth (options_of self) }) result }
     {
         self.options = self.options.with_max_depth(depth);
         self
@@ -200,7 +201,10 @@ impl<
     /// `while let Some(answer) = walk.next_on(&rt)` does so. A `for` loop and adapters call `Iterator::next`, which reads
     /// the same directories one after another.
     pub fn parallelism(mut self, parallelism: Parallelism<W, A>) -> Self
-        ensures { SetsParallelism parallelism self result }
+        ensures { Sets (record (described self) {
+          options = with_parallelism (parallelism_value parallelism) (options_of self);
+          crew = crew_of parallelism;
+        }) result }
     {
         self.options = self.options.with_mode(parallelism.mode());
         self.crew = parallelism.into_crew();
@@ -210,7 +214,7 @@ impl<
     /// Sets the state with which the root's list begins, the default state by default. States are handed down the tree:
     /// each directory's reading begins with a clone of the state that the reading of its parent left.
     pub fn root_read_dir_state(mut self, state: C::ReadDirState) -> Self
-        ensures { SetsState state self result }
+        ensures { Sets (record (described self) { state = state }) result }
     {
         self.root_read_dir_state = state;
         self
@@ -227,7 +231,7 @@ impl<
         self,
         process: Q,
     ) -> WalkDirGeneric<C, S, Q, A, W>
-        ensures { SetsCallback process self result }
+        ensures { Sets (with_callback process (described self)) result }
     {
         WalkDirGeneric {
             fs: self.fs,
@@ -315,7 +319,7 @@ impl<C: ClientState, S: FileSystem, P: ProcessReadDir<C, Global>, W: Drop> WalkD
     W,
 > {
     ghost use Rattle.jwalk_callbacks.specs.ByFn.{closure_of};
-    ghost use Rattle.jwalk.specs.WalkDir.{callback_of, SetsCallback};
+    ghost use Rattle.jwalk.specs.WalkDir.{callback_of, described, with_callback, Sets};
 
     /// Returns the same walk with a closure as its callback, whose types need not be written.
     ///
@@ -335,7 +339,7 @@ impl<C: ClientState, S: FileSystem, P: ProcessReadDir<C, Global>, W: Drop> WalkD
             + Drop,
     >(self, f: F) -> WalkDirGeneric<C, S, ByFn<Closure<F>>, Global, W>
         ensures closure { closure_of (callback_of result) ≡ f }
-        ensures rest { SetsCallback (callback_of result) self result }
+        ensures rest { Sets (with_callback (callback_of result) (described self)) result }
     {
         WalkDirGeneric {
             fs: self.fs,

@@ -1,4 +1,3 @@
-pub mod Builder
 pub mod ByteClass
 pub mod ByteTest
 pub mod Class

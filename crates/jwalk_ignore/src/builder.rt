@@ -1,5 +1,7 @@
 //! Walks that honour ignore files.
-ghost use Rattle.jwalk_ignore.specs.Builder.{SetsIgnoreFiles};
+ghost use Rattle.std.specs.Prelude.{false};
+ghost use Rattle.jwalk.specs.walk_model.Options.{with_skip_hidden};
+ghost use Rattle.jwalk.specs.WalkDir.{options_of, described, with_callback, Sets};
 
 use crate::chain::Chain;
 use crate::ignore_files::IgnoreFiles;
@@ -26,7 +28,9 @@ pub fn with_ignore_files<
     walk: WalkDirGeneric<((Chain<A>, B), E), S, O, A, W>,
     rules: IgnoreFiles<X, P>,
 ) -> WalkDirGeneric<((Chain<A>, B), E), S, IgnoreFiles<X, P>, A, W>
-    ensures { SetsIgnoreFiles rules walk result }
+    ensures { Sets (record (with_callback rules (described walk)) {
+      options = with_skip_hidden false (options_of walk);
+    }) result }
 {
     walk.skip_hidden(false).process_read_dir(rules)
 }

@@ -14,7 +14,7 @@ impl<C: ClientState, S: FileSystem, A: Allocator + Copy, W: Drop> WalkDirGeneric
     A,
     W,
 > {
-    ghost use Rattle.jwalk.specs.WalkDir.{SetsStates};
+    ghost use Rattle.jwalk.specs.WalkDir.{state_of, described, with_state, Sets};
 
     /// Returns the same walk with states of these types beside directories and entries: `walk.states::<usize, u64>()`.
     /// The root's list begins with the default of `B`, and a state that was set before is dropped. A callback is set
@@ -22,7 +22,8 @@ impl<C: ClientState, S: FileSystem, A: Allocator + Copy, W: Drop> WalkDirGeneric
     pub fn states<B: Clone + Default + Debug + Drop, E: Default + Debug + Drop>(
         self,
     ) -> WalkDirGeneric<(B, E), S, NoProcess, A, W>
-        ensures { SetsStates B.is_default self result }
+        ensures state { B.is_default (state_of result) }
+        ensures rest { Sets (with_state (state_of result) (described self)) result }
     {
         WalkDirGeneric {
             fs: self.fs,

@@ -1,5 +1,5 @@
 //! Walks that threads of their own read ahead.
-ghost use Rattle.std.specs.Prelude.{◌≡◌, ◌<◌, IfOk};
+ghost use Rattle.std.specs.Prelude.{◌≡◌, ◌<◌, min, None, IfOk, IsSomeAnd};
 
 use crate::host::Host;
 use crate::walk_dir::WalkDirGeneric;
@@ -33,7 +33,11 @@ impl<C: ClientState, S: FileSystem, P: ProcessReadDir<C, A>, A: Allocator + Copy
     A,
     NoCrew,
 > {
-    ghost use Rattle.jwalk.specs.WalkDir.{SetsCrew, SetsWorkers};
+    ghost use Rattle.std.specs.Arc.{arc_value};
+    ghost use Rattle.walk_model.specs.Options as parallelism;
+    ghost use Rattle.walk_model.specs.Options.{with_parallelism};
+    ghost use Rattle.tree_crew.specs.Crew.{workers_of, limit_of};
+    ghost use Rattle.jwalk.specs.WalkDir.{options_of, described, with_crew, Sets};
 
     /// Returns the same walk, which a crew of `count` threads of its own reads ahead. The threads are started when the
     /// walk begins, read directories while the answers are taken, also in a `for` over `walk.into_iter()`, and end with
@@ -53,7 +57,13 @@ impl<C: ClientState, S: FileSystem, P: ProcessReadDir<C, A>, A: Allocator + Copy
         rt: &R,
         count: usize,
     ) -> Result<WalkDirGeneric<C, S, P, A, Crew<R>>, AllocError>
-        ensures { IfOk result (SetsWorkers count self) }
+        ensures threads { IfOk result (λ walk. IsSomeAnd walk.crew (λ own. 0 < count
+            → workers_of (arc_value own.0) ≡ min count 256)) }
+        ensures read_ahead { IfOk result (λ walk. IsSomeAnd walk.crew (λ own. limit_of (arc_value own.0) ≡ 1024)) }
+        ensures limit { IfOk result (λ walk. IsSomeAnd walk.crew (λ own. own.1 ≡ None)) }
+        ensures rest { IfOk result (λ walk. Sets (record (with_crew walk.crew (described self)) {
+          options = with_parallelism parallelism.crew (options_of self);
+        }) walk) }
     {
         let alloc = *self.root.allocator();
         let crew = Crew::new(rt.clone()?, 1, threads_for(rt, count));
@@ -68,7 +78,7 @@ impl<C: ClientState, S: FileSystem, P: ProcessReadDir<C, A>, A: Allocator + Copy
 
     /// Returns the same walk, with room for a crew.
     fn for_crew<W: Drop>(self) -> WalkDirGeneric<C, S, P, A, W>
-        ensures { SetsCrew self result }
+        ensures { Sets (with_crew None (described self)) result }
     {
         WalkDirGeneric {
             fs: self.fs,

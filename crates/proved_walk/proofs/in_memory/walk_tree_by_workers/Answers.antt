@@ -13,7 +13,7 @@ use Rattle.proved_walk.proofs.in_memory.walk_tree_by_workers.Goals as goal
 pub returns : goal.returns
 returns g c = λ none free.
     let walk = c.in_ok-workers.field-0 in
-    let set = c.in_ok-workers.ensures in
+    let set = c.in_ok-workers.ensures.rest in
     let made = c.new.ensures in
     let ran = c.in_ok-collect_into.ensures in
     let begun = ran.begun in
