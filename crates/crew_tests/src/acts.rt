@@ -4,6 +4,7 @@ use jwalk::file_system::FileSystem;
 use jwalk::read_dir::{NoProcess, ProcessReadDir};
 use jwalk::{Crew, Readers};
 use std::alloc::{AllocError, Global};
+use std::process::Abort;
 use std::sync::Arc;
 use std::thread;
 use std::time::{Clock, Duration};
@@ -192,6 +193,11 @@ pub fn first_wrong<R: Host>(rt: &R, scene: &Scene, acts: &[Act<'_>]) -> Option<u
         Ok(stand) => wrong(rt, &stand, acts),
         Err(_) => Some(0),
     }
+}
+
+/// Goes through these acts over the crew and the tree of a scene: each succeeds.
+pub fn all_go<R: Host + Abort>(rt: &R, scene: &Scene, acts: &[Act<'_>]) {
+    assert_eq!(rt; first_wrong(rt, scene, acts), None);
 }
 
 /// Whether a walk with a callback yields this over a tree, if its crew has two workers.

@@ -3,6 +3,7 @@ use crate::acts::{come_ahead, comes};
 use crate::crewed::{Asked, Reader, Stand, Walk};
 use jwalk::file_system::{BuildError, MemoryFs};
 use std::alloc::Global;
+use std::process::Abort;
 use std::thread;
 use std::time::Duration;
 use walk_fixtures::host::Host;
@@ -35,10 +36,10 @@ fn flat(alloc: Global) -> Result<MemoryFs, BuildError> {
     Ok(fs)
 }
 
-/// A crew of two workers with the bound, and that tree.
-fn stand<R: Host>(rt: &R) -> Result<Stand<R, Watched>, BuildError> {
+/// A crew of two workers with a bound, and that tree.
+fn stand<R: Host>(rt: &R, bound: usize) -> Result<Stand<R, Watched>, BuildError> {
     let fs = Watched::new(flat(rt.alloc())?, Failing::Never);
-    Ok(Stand::reading_ahead(rt, fs, 2, BOUND)?)
+    Ok(Stand::reading_ahead(rt, fs, 2, bound)?)
 }
 
 /// The walk, and why it doesn't begin.
@@ -79,7 +80,7 @@ fn is_bounded<R: Host>(rt: &R, stand: &Stand<R, Watched>, pause: u64) -> bool {
 /// Whether it is so with these pauses, and nobody slept until a turn was over while there was something to do.
 fn keeps_the_bound<R: Host>(rt: &R, pauses: &[u64]) -> Result<bool, BuildError> {
     for pause in pauses {
-        let stand = stand(rt)?;
+        let stand = stand(rt, BOUND)?;
         if !is_bounded(rt, &stand, *pause) || stand.crew.late_wakes() != 0 {
             return Ok(false);
         }
@@ -103,26 +104,26 @@ fn nobody_sleeps_until_a_turn_is_over_while_there_is_something_to_do(
     Ok(())
 }
 
-/// How many readings are ahead of a walk that nobody asks, over a crew whose bound is that many, once its two workers
-/// rest.
-fn rests_at<R: Host>(rt: &R, bound: usize) -> Result<Option<usize>, BuildError> {
-    let fs = Watched::new(flat(rt.alloc())?, Failing::Never);
-    let stand = Stand::reading_ahead(rt, fs, 2, bound)?;
-    let Some(walk) = begun(&stand) else {
-        return Ok(None);
-    };
+/// How many readings are ahead of a walk that nobody asks, once its two workers rest.
+fn at_rest<R: Host>(rt: &R, stand: &Stand<R, Watched>) -> Option<usize> {
+    let walk = begun(stand)?;
     if rests(rt, &*stand.fs) {
-        Ok(Some(walk.ahead()))
+        Some(walk.ahead())
     } else {
-        Ok(None)
+        None
     }
+}
+
+/// Compares that number over crews with these bounds.
+fn rest_at<R: Host + Abort>(rt: &R, rows: &[(usize, usize)]) -> Result<(), BuildError> {
+    for (bound, ahead) in rows {
+        let stand = stand(rt, *bound)?;
+        assert_eq!(rt; at_rest(rt, &stand), Some(*ahead));
+    }
+    Ok(())
 }
 
 #[test]
 fn a_bound_below_the_number_of_workers_counts_as_that(rt: HostRuntime) -> Result<(), BuildError> {
-    assert_eq!(rt; rests_at(&rt, 0)?, Some(2));
-    assert_eq!(rt; rests_at(&rt, 1)?, Some(2));
-    assert_eq!(rt; rests_at(&rt, 3)?, Some(3));
-    assert_eq!(rt; rests_at(&rt, usize::MAX)?, Some(41));
-    Ok(())
+    rest_at(&rt, &[(0, 2), (1, 2), (3, 3), (usize::MAX, 41)])
 }

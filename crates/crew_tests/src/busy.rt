@@ -1,5 +1,5 @@
 //! Walks whose crew is busy, and how many a crew serves.
-use crate::acts::{Act, Going, Scene, first_wrong};
+use crate::acts::{Act, Going, Scene, all_go};
 use crate::crewed::{Asked, Reader, Taken};
 use walk_fixtures::trees::{FORKED, GROUPED};
 use walk_fixtures::watched::Failing;
@@ -52,7 +52,7 @@ fn in_use_always_zero(rt: HostRuntime) {
         Act::Last(Going::Drops),
         Act::InUse(0),
     ];
-    assert_eq!(rt; first_wrong(&rt, &ONE_PLACE, ACTS), None);
+    all_go(&rt, &ONE_PLACE, ACTS);
 }
 
 #[test]
@@ -61,10 +61,7 @@ fn a_busy_crew_is_told_of_above_the_least_depth_too(rt: HostRuntime) {
         settings: &[Setting::Min(1)],
         ..IMPATIENT
     };
-    assert_eq!(rt;
-        first_wrong(&rt, &ONE_PLACE, &[Act::Begins(PATIENT), Act::IsBusy(DEEP)]),
-        None
-    );
+    all_go(&rt, &ONE_PLACE, &[Act::Begins(PATIENT), Act::IsBusy(DEEP)]);
 }
 
 #[test]
@@ -81,7 +78,7 @@ fn a_root_without_a_directory_is_answered_by_a_busy_crew(rt: HostRuntime) {
         Act::Last(Going::Drops),
         Act::InUse(0),
     ];
-    assert_eq!(rt; first_wrong(&rt, &ONE_PLACE, ACTS), None);
+    all_go(&rt, &ONE_PLACE, ACTS);
 }
 
 #[test]
@@ -93,7 +90,7 @@ fn a_root_without_a_directory_takes_a_place(rt: HostRuntime) {
         Act::Last(Going::Drops),
         Act::InUse(0),
     ];
-    assert_eq!(rt; first_wrong(&rt, &ONE_PLACE, ACTS), None);
+    all_go(&rt, &ONE_PLACE, ACTS);
 }
 
 #[test]
@@ -123,7 +120,7 @@ fn as_many_walks_at_once_as_there_are_places(rt: HostRuntime) {
         Act::Last(Going::Drops),
         Act::InUse(0),
     ];
-    assert_eq!(rt; first_wrong(&rt, &TWO_PLACES, ACTS), None);
+    all_go(&rt, &TWO_PLACES, ACTS);
 }
 
 #[test]
@@ -133,7 +130,7 @@ fn who_waits_gets_the_place_that_is_given_back(rt: HostRuntime) {
         Act::Answers(Taken::AtOnce, PATIENT_FROM_FILE, "0 f /t/a.txt"),
         Act::InUse(0),
     ];
-    assert_eq!(rt; first_wrong(&rt, &ONE_PLACE, ACTS), None);
+    all_go(&rt, &ONE_PLACE, ACTS);
 }
 
 #[test]
@@ -157,5 +154,5 @@ fn no_places_and_no_workers_count_as_one(rt: HostRuntime) {
             "0 d /t/group 1; 1 f /t/group 1/d.txt",
         ),
     ];
-    assert_eq!(rt; first_wrong(&rt, &NO_PLACES, ACTS), None);
+    all_go(&rt, &NO_PLACES, ACTS);
 }

@@ -1,6 +1,7 @@
 //! Walks that are dropped before their end.
-use crate::acts::{Act, Going, Scene, first_wrong};
+use crate::acts::{Act, Going, Scene, all_go, first_wrong};
 use crate::crewed::{Asked, Reader};
+use walk_fixtures::host::Host;
 use walk_fixtures::trees::{FORKED, Step};
 use walk_fixtures::watched::Failing;
 use walk_ways::ways::Setting;
@@ -13,8 +14,8 @@ const WALK: Asked<'static> = Asked {
     then: &[],
 };
 
-#[test]
-fn the_place_is_given_back_after_any_number_of_answers(rt: HostRuntime) {
+/// The number of the first act that doesn't succeed, where a walk is dropped after that many answers and another begins.
+fn wrong_after<R: Host>(rt: &R, count: usize) -> Option<usize> {
     const SCENE: Scene = Scene {
         steps: FORKED,
         failing: Failing::Never,
@@ -25,21 +26,21 @@ fn the_place_is_given_back_after_any_number_of_answers(rt: HostRuntime) {
         reader: Reader::CrewWithin(10),
         ..WALK
     };
+    let acts = [
+        Act::Begins(WALK),
+        Act::Last(Going::Comes(count)),
+        Act::Last(Going::Drops),
+        Act::InUse(0),
+        Act::Begins(NEXT),
+        Act::Last(Going::Comes(7)),
+    ];
+    first_wrong(rt, &SCENE, &acts)
+}
+
+#[test]
+fn the_place_is_given_back_after_any_number_of_answers(rt: HostRuntime) {
     for count in 0..8 {
-        let acts = [
-            Act::Begins(WALK),
-            Act::Last(Going::Comes(count)),
-            Act::Last(Going::Drops),
-            Act::InUse(0),
-            Act::Begins(NEXT),
-            Act::Last(Going::Comes(7)),
-        ];
-        assert_eq!(rt;
-            first_wrong(&rt, &SCENE, &acts),
-            None,
-            "after {} answers",
-            count
-        );
+        assert_eq!(rt; wrong_after(&rt, count), None, "after {} answers", count);
     }
 }
 
@@ -72,5 +73,5 @@ fn readers_outlive_the_walk(rt: HostRuntime) {
         Act::Rests,
         Act::InUse(0),
     ];
-    assert_eq!(rt; first_wrong(&rt, &SCENE, ACTS), None);
+    all_go(&rt, &SCENE, ACTS);
 }

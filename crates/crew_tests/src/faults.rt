@@ -2,11 +2,30 @@
 use crate::acts::{Act, Scene, first_wrong};
 use crate::crewed::{Asked, Reader, Taken};
 use std::io::ErrorKind;
+use walk_fixtures::host::Host;
 use walk_fixtures::trees::{GROUPED, SMALL, Step};
 use walk_fixtures::watched::Failing;
 
 /// A tree, the root of a walk, where the tree fails, and the walk's answers.
 type Row = (&'static [Step], &'static str, Failing, &'static str);
+
+/// The number of the first act that doesn't succeed: all answers of the walk, and then no place is in use.
+fn wrong_of<R: Host>(rt: &R, (steps, root, failing, answers): &Row) -> Option<usize> {
+    let scene = Scene {
+        steps: *steps,
+        failing: *failing,
+        places: 1,
+        workers: 2,
+    };
+    let walk = Asked {
+        root: *root,
+        settings: &[],
+        reader: Reader::Crew,
+        then: &[],
+    };
+    let acts = [Act::Answers(Taken::AtOnce, walk, *answers), Act::InUse(0)];
+    first_wrong(rt, &scene, &acts)
+}
 
 #[test]
 fn failures_of_workers_told_where_they_are_met(rt: HostRuntime) {
@@ -38,20 +57,7 @@ fn failures_of_workers_told_where_they_are_met(rt: HostRuntime) {
             "! 0 - memory",
         ),
     ];
-    for (steps, root, failing, answers) in ROWS {
-        let scene = Scene {
-            steps: *steps,
-            failing: *failing,
-            places: 1,
-            workers: 2,
-        };
-        let walk = Asked {
-            root: *root,
-            settings: &[],
-            reader: Reader::Crew,
-            then: &[],
-        };
-        let acts = [Act::Answers(Taken::AtOnce, walk, *answers), Act::InUse(0)];
-        assert_eq!(rt; first_wrong(&rt, &scene, &acts), None, "{}", *answers);
+    for row in ROWS {
+        assert_eq!(rt; wrong_of(&rt, row), None, "{}", row.3);
     }
 }

@@ -1,5 +1,5 @@
 //! Options of walks that may be over a crew.
-use crate::acts::{Act, Going, Scene, first_wrong};
+use crate::acts::{Act, Going, Scene, all_go};
 use crate::crewed::{Asked, Reader, Taken};
 use walk_fixtures::trees::FORKED;
 use walk_fixtures::watched::Failing;
@@ -58,7 +58,7 @@ fn a_walk_takes_a_place_where_the_crew_is_to_read(rt: HostRuntime) {
         Act::Last(Going::Ends(ALL)),
         Act::InUse(0),
     ];
-    assert_eq!(rt; first_wrong(&rt, &TWO_WORKERS, ACTS), None);
+    all_go(&rt, &TWO_WORKERS, ACTS);
 }
 
 #[test]
@@ -80,7 +80,7 @@ fn a_small_depth_makes_a_walk_serial_until_it_is_told_again(rt: HostRuntime) {
         Act::InUse(1),
         Act::Last(Going::Ends(SHALLOW)),
     ];
-    assert_eq!(rt; first_wrong(&rt, &TWO_WORKERS, ACTS), None);
+    all_go(&rt, &TWO_WORKERS, ACTS);
 }
 
 #[test]
@@ -94,7 +94,7 @@ fn a_walk_without_the_crew_is_not_busy(rt: HostRuntime) {
         Act::InUse(1),
         Act::Last(Going::Ends(ALL)),
     ];
-    assert_eq!(rt; first_wrong(&rt, &TWO_WORKERS, ACTS), None);
+    all_go(&rt, &TWO_WORKERS, ACTS);
 }
 
 #[test]
@@ -118,17 +118,17 @@ fn all_directories_are_read_ahead(rt: HostRuntime) {
         Act::Last(Going::Ahead(0)),
         Act::Last(Going::Ends("")),
     ];
-    assert_eq!(rt; first_wrong(&rt, &TWO_WORKERS, ACTS), None);
+    all_go(&rt, &TWO_WORKERS, ACTS);
 }
 
 #[test]
 fn a_for_loop_over_a_walk(rt: HostRuntime) {
     const ACTS: &[Act<'static>] = &[Act::Answers(Taken::Looped, BY_CREW, ALL), Act::InUse(0)];
-    assert_eq!(rt; first_wrong(&rt, &TWO_WORKERS, ACTS), None);
+    all_go(&rt, &TWO_WORKERS, ACTS);
 }
 
 #[test]
 fn a_walk_whose_calls_may_use_threads_too(rt: HostRuntime) {
     const ACTS: &[Act<'static>] = &[Act::Answers(Taken::OnThreads, BY_CREW, ALL)];
-    assert_eq!(rt; first_wrong(&rt, &TWO_WORKERS, ACTS), None);
+    all_go(&rt, &TWO_WORKERS, ACTS);
 }

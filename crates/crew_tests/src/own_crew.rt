@@ -1,11 +1,11 @@
 //! Walks that a crew of their own reads.
 ghost use Rattle.jwalk.specs.WalkDir.{callback_of};
 
-use crate::crewed::States;
+use crate::crewed::{States, WalkBy};
 use jwalk::crew::Session;
 use jwalk::file_system::{BuildError, FileSystem, MemoryFs};
 use jwalk::read_dir::{NoProcess, ProcessReadDir};
-use jwalk::{Crew, DirEntryIter, WalkDirGeneric};
+use jwalk::{Crew, Readers, WalkDirGeneric};
 use std::alloc::{AllocError, Global};
 use walk_fixtures::answers::{Answer, are_lines};
 use walk_fixtures::host::Host;
@@ -14,13 +14,7 @@ use walk_ways::builders::over_tree;
 use walk_ways::ways::{Setting, all_looped, all_of, with_all};
 
 /// A walk under way that a crew of its own reads.
-type Walk<R> = DirEntryIter<
-    States,
-    MemoryFs,
-    NoProcess,
-    Global,
-    Session<R, States, MemoryFs, NoProcess>,
->;
+type Walk<R> = WalkBy<MemoryFs, Session<R, States, MemoryFs, NoProcess>>;
 
 /// How all answers of a walk are taken.
 #[derive(Clone, Copy)]
@@ -65,7 +59,10 @@ impl Row {
 }
 
 /// All answers of a walk by calls of `next`.
-fn by_next<R: Host>(alloc: Global, mut walk: Walk<R>) -> Result<Vec<Answer>, AllocError> {
+fn by_next<S: FileSystem, L: Readers<States, S, NoProcess, Global>>(
+    alloc: Global,
+    mut walk: WalkBy<S, L>,
+) -> Result<Vec<Answer>, AllocError> {
     let mut found = Vec::new(alloc);
     for _ in 0..u64::MAX {
         let Some(answer) = walk.next() else {
@@ -77,9 +74,9 @@ fn by_next<R: Host>(alloc: Global, mut walk: Walk<R>) -> Result<Vec<Answer>, All
 }
 
 /// All answers of a walk, taken in this way.
-fn answers_of<R: Host>(
+fn answers_of<S: FileSystem, L: Readers<States, S, NoProcess, Global>>(
     alloc: Global,
-    walk: Walk<R>,
+    walk: WalkBy<S, L>,
     way: Taken,
 ) -> Result<Vec<Answer>, AllocError> {
     match way {

@@ -2,6 +2,7 @@
 use crate::crewed::{Asked, Reader};
 use crate::random_trees::random_tree;
 use crate::serial::are_serial;
+use std::process::Abort;
 use walk_fixtures::dice::Dice;
 use walk_fixtures::host::Host;
 use walk_ways::ways::Setting;
@@ -48,17 +49,22 @@ fn first_that_differs<R: Host>(rt: &R, workers: usize) -> Option<usize> {
     None
 }
 
+/// Compares the walks of each seed: none differ with and without a crew of that many workers for a walk.
+fn none_differs<R: Host + Abort>(rt: &R, workers: usize) {
+    assert_eq!(rt; first_that_differs(rt, workers), None);
+}
+
 #[test]
 fn random_trees_with_one_worker(rt: HostRuntime) {
-    assert_eq!(rt; first_that_differs(&rt, 1), None);
+    none_differs(&rt, 1);
 }
 
 #[test]
 fn random_trees_with_two_workers(rt: HostRuntime) {
-    assert_eq!(rt; first_that_differs(&rt, 2), None);
+    none_differs(&rt, 2);
 }
 
 #[test]
 fn random_trees_with_four_workers(rt: HostRuntime) {
-    assert_eq!(rt; first_that_differs(&rt, 4), None);
+    none_differs(&rt, 4);
 }

@@ -1,7 +1,8 @@
 //! Two directories that are read at the same time.
-use jwalk::{Crew, Parallelism, WalkDirGeneric};
+use crate::crewed::{Asked, Reader, Stand};
+use jwalk::file_system::FileSystem;
+use jwalk::read_dir::NoProcess;
 use std::alloc::AllocError;
-use std::sync::Arc;
 use walk_fixtures::answers::{Answer, are_lines};
 use walk_fixtures::host::Host;
 use walk_fixtures::meeting::{Meeting, Place};
@@ -14,20 +15,24 @@ fn both<R: Host>(rt: &R, patience: u64) -> Result<Meeting<R>, AllocError> {
 }
 
 /// All that a walk over the two yields, for which a crew of two workers reads.
-fn answers_by_two<R: Host>(rt: &R, fs: Meeting<R>) -> Result<Vec<Answer>, AllocError> {
-    let alloc = rt.alloc();
-    let by_crew = Parallelism::RayonExistingPool {
-        pool: Arc::new(alloc, Crew::new(rt.clone()?, 1, 2))?,
-        busy_timeout: None,
+fn answers_by_two<R: Host, S: FileSystem + Send + Sync + 'static>(
+    rt: &R,
+    fs: S,
+) -> Result<Vec<Answer>, AllocError> {
+    const WALK: Asked<'static> = Asked {
+        root: "/r",
+        settings: &[],
+        reader: Reader::Crew,
+        then: &[],
     };
-    let walk = WalkDirGeneric::with_crew(fs, String::from_str(alloc, "/r")?);
-    all_of(alloc, walk.parallelism(by_crew).into_iter())
+    let stand = Stand::new(rt, fs, 1, 2)?;
+    stand.found(&WALK, NoProcess)
 }
 
 /// All that a walk over the two yields, which that many workers of its own read.
-fn answers_by_own<R: Host>(
+fn answers_by_own<R: Host, S: FileSystem + Send + Sync + 'static>(
     rt: &R,
-    fs: Meeting<R>,
+    fs: S,
     workers: usize,
 ) -> Result<Vec<Answer>, AllocError> {
     let walk = builder(rt.alloc(), fs, "/r")?;
