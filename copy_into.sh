@@ -1,5 +1,5 @@
 #!/usr/bin/env bash
-# Copies the library into another repository: jwalk and jwalk_usage, and each crate of this one that they use.
+# Copies the library into another repository: jwalk, jwalk_usage and jwalk_ignore, and each crate that they use.
 #
 #     ./copy_into.sh DIR
 #
@@ -18,7 +18,7 @@ cd "$(dirname "$0")"
 # The crates that a crate uses, by its line of crates.txt; those of the toolchain have none.
 uses() { sed -n "s/^$1://p" crates.txt; }
 
-wanted=(jwalk jwalk_usage)
+wanted=(jwalk jwalk_usage jwalk_ignore)
 for ((at = 0; at < ${#wanted[@]}; at++)); do
     for name in $(uses "${wanted[at]}"); do
         if grep -q "^$name:" crates.txt && [[ " ${wanted[*]} " != *" $name "* ]]; then

@@ -3,8 +3,8 @@
 
     python3 bench/alike.py [TREES [SEED [PROGRAM]]]
 
-Build the program first: (cd crates/walk && rt run). Each of TREES trees (2,000 where none is given) comes of a seed of its
-own, the first of which is SEED (1 where none is given): directories, some of which can't be read, files and links, hidden
+Build the program first: (cd crates/walk && rt run). Each of TREES trees (2,000 where none is given) is made from a seed of
+its own, the first of which is SEED (1 where none is given): directories, some of which can't be read, files and links, hidden
 names among them, and options and a root at random. One tree in ten is large. Each way of reading must print the lines of the
 serial walk, in their order, and end with its status. Where one doesn't, its seed, its words and the first line that differs
 are printed, and the script ends with 1.

@@ -53,7 +53,7 @@ fn crew_of_one_thread(rt: HostRuntime) -> Result<(), AllocError> {
     Ok(())
 }
 
-// A walk that reads its directories itself (the wrong body `workers_walk_serially`) misses the second of the two.
+// A walk with one worker (the wrong body `workers_of_one`) misses the second of the two.
 #[test]
 fn two_workers_of_a_walk_s_own_read_at_the_same_time(rt: HostRuntime) -> Result<(), AllocError> {
     let found = answers_by_own(&rt, both(&rt, 5_000)?, 2)?;

@@ -8,7 +8,7 @@ use Rattle.document.specs.declared.document.Line.{Line}
 use Rattle.document.specs.declared.document.Line.TheVariants as line
 use Rattle.document.specs.declared.document.Told.{Told}
 use Rattle.document.specs.declared.document.Told.TheVariants as told
-use Rattle.document.specs.declared.place.Place.{Place}
+use Rattle.document.specs.declared.line_to_read.LineToRead.{LineToRead}
 
 -- the lines of the part with this number
 abbrev pub lines_at : Document → ℕ → Option (List Line)
@@ -40,29 +40,29 @@ abbrev pub tells : Document → ℕ → Line → List Told
 tells document zero l = told_of_line document zero l ∷ []
 tells document (suc levels) l = told_of_line document (suc levels) l ∷ flat_map (tells document levels) (lines_for document l)
 
-abbrev pub place_of : ℕ → Line → Place
-place_of levels l = record { line = l; levels = levels }
+abbrev pub to_read : ℕ → Line → LineToRead
+to_read levels l = record { line = l; levels = levels }
 
-abbrev pub told_of : Document → Place → Told
+abbrev pub told_of : Document → LineToRead → Told
 told_of document p = told_of_line document p.levels p.line
 
--- the places of the lines that are read for a line
-abbrev pub places_for : Document → ℕ → Line → List Place
-places_for document zero l = []
-places_for document (suc levels) l = map (place_of levels) (lines_for document l)
+-- the same, each with the levels that are left for it
+abbrev pub to_read_for : Document → ℕ → Line → List LineToRead
+to_read_for document zero l = []
+to_read_for document (suc levels) l = map (to_read levels) (lines_for document l)
 
-abbrev pub places_below : Document → Place → List Place
-places_below document p = places_for document p.levels p.line
+abbrev pub to_read_below : Document → LineToRead → List LineToRead
+to_read_below document p = to_read_for document p.levels p.line
 
--- a document as a tree of places
-abbrev pub document_tree : Document → PlanTree Place Told
-document_tree document = record { reading = told_of document; children = places_below document; height = λ p. p.levels }
+-- a document as a tree of lines to be read
+abbrev pub document_tree : Document → PlanTree LineToRead Told
+document_tree document = record { reading = told_of document; children = to_read_below document; height = λ p. p.levels }
 
-lower : (levels : ℕ) (lines : List Line) → All (λ (c : Place). c.levels < suc levels) (map (place_of levels) lines)
+lower : (levels : ℕ) (lines : List Line) → All (λ (c : LineToRead). c.levels < suc levels) (map (to_read levels) lines)
 lower levels [] = All-nil _
-lower levels (l ∷ lines) = All-cons (λ (c : Place). c.levels < suc levels) (place_of levels l) (map (place_of levels) lines) (omega arith) (lower levels lines)
+lower levels (l ∷ lines) = All-cons (λ (c : LineToRead). c.levels < suc levels) (to_read levels l) (map (to_read levels) lines) (omega arith) (lower levels lines)
 
-falls_from : (document : Document) (levels : ℕ) (l : Line) → All (λ (c : Place). c.levels < levels) (places_for document levels l)
+falls_from : (document : Document) (levels : ℕ) (l : Line) → All (λ (c : LineToRead). c.levels < levels) (to_read_for document levels l)
 falls_from document zero l = All-nil _
 falls_from document (suc levels) l = lower levels (lines_for document l)
 

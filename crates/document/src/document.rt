@@ -2,7 +2,7 @@
 ghost use Rattle.std.specs.Prelude.{◌≡◌, IfOk, option_map};
 ghost use Rattle.document.specs.Document.{lines_at, tells};
 
-use crate::place::Place;
+use crate::line_to_read::LineToRead;
 use std::alloc::Allocator;
 use std::fmt;
 use std::sync::{Arc, Wait};
@@ -58,9 +58,9 @@ impl Document {
     }
 }
 
-/// Returns what is told of a part: of its lines, and of the parts that they name, which are entered up to a number of
-/// levels. A crew reads the lines ahead. It is what one reader tells, who goes into each part where it is named. It
-/// blocks until a place of the crew is free, and until all is read.
+/// Returns what is told of a part: the part, and then its lines, where each part that they name is entered in its
+/// place, up to `levels` deep. A crew reads the lines ahead. The result is what a single reader tells who enters each
+/// part where it is named. It blocks until a place of the crew is free, and until all is read.
 ///
 /// # Errors
 ///
@@ -78,7 +78,7 @@ pub fn put_together<
     ensures { IfOk result (λ v. v.items ≡ tells document levels (Line.Part part)) }
 {
     // begin together
-    let root = Place {
+    let root = LineToRead {
         line: Line::Part(part),
         levels,
     };

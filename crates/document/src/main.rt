@@ -3,7 +3,7 @@
 #![tactic(auto)]
 
 mod document;
-mod place;
+mod line_to_read;
 
 use document::{Document, Line, put_together};
 use std::sync::Arc;

@@ -143,7 +143,7 @@ module _ {C S P A L R E : Type 0} where
 
   module _ (clone : Clone.Ghosts R) (read : Option (Reading R E)) (begun : Job C S P A R E) (it : DirEntryIter C S P A L R E) where
     -- a start at which memory ran out
-    pub refused_from_root : by_crew it ≡ false → job_of it ≡ begun → is_refused it ≡ true → items_of it ≡ [] → unread_of it ≡ [] → width_of it ≡ options.width_of (options_of begun).parallelism → BeginsWith (unread_of it) (read_ahead it) → IsFromRoot clone read begun (Some Memory) it
+    pub refused_from_root : by_crew it ≡ false → job_of it ≡ begun → is_refused it ≡ true → items_of it ≡ [] → unread_of it ≡ [] → width_of it ≡ options.width_of (options_of begun).parallelism → BeginsWith (unread_of it) (frontier_of it) (read_ahead it) → IsFromRoot clone read begun (Some Memory) it
     refused_from_root own job refused none nothing_unread width ahead =
         let refusal : IsRefused it = record { tells = holds_refusal it refused none; nothing_unread = nothing_unread } in
         record {
@@ -173,7 +173,7 @@ module _ {C S P A L R E : Type 0} where
     }
 
     -- one that reads by itself
-    pub alone_from_root : (why_not : Option NotStarted) → by_crew it ≡ false → ¬ (why_not ≡ Some Busy) → job_of it ≡ begun → IsWithin it → IsSourced it → IsRefused it ⊎ AtDepth 0 (items_of it) → width_of it ≡ options.width_of (options_of begun).parallelism → BeginsWith (unread_of it) (read_ahead it) → HoldsList clone read why_not it → IsFromRoot clone read begun why_not it
+    pub alone_from_root : (why_not : Option NotStarted) → by_crew it ≡ false → ¬ (why_not ≡ Some Busy) → job_of it ≡ begun → IsWithin it → IsSourced it → IsRefused it ⊎ AtDepth 0 (items_of it) → width_of it ≡ options.width_of (options_of begun).parallelism → BeginsWith (unread_of it) (frontier_of it) (read_ahead it) → HoldsList clone read why_not it → IsFromRoot clone read begun why_not it
     alone_from_root why_not own not_busy job within sourced start width ahead holds = record {
       job = job;
       within = within;

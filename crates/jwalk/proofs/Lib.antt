@@ -5,7 +5,6 @@ pub mod CleanFacts
 pub mod AlikeFacts
 mod CrewStartFacts
 -- what callers cite of a walk's answers
-pub use Rattle.jwalk_core.proofs.AnswerFacts as AnswerFacts
 pub use Rattle.jwalk_core.proofs.FillFacts as FillFacts
 pub use Rattle.jwalk_core.proofs.SameFacts as SameFacts
 -- what callers cite of a callback's lists

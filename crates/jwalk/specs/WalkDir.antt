@@ -144,7 +144,7 @@ module _ {C S P A W R E : Type 0} where
     default = given.new_entry;
   }
 
-  -- A walk that begins, whatever its file system returns. It is over the builder's file system, callback and options, and no entry it holds is too deep. What it has to read are the directories of what it holds, as many together as the options say. Where no crew reads, only these are queued, in order, and none is read yet. It holds a list of the root's depth, or the error that says that memory ran out at the start.
+  -- A walk that begins, whatever its file system returns. It is over the builder's file system, callback and options, and no entry it holds is too deep. What it has to read are the directories of what it holds, as many together as the options say. Where no crew reads, only these are queued, in order, and are to be entered, and none is read yet. It holds a list of the root's depth, or the error that says that memory ran out at the start.
   pub record Starts {L : Type 0} (walk : WalkDirGeneric C S P A W R E) (it : DirEntryIter C S P A L R E) : Type 0 where
     pub file_system : file_system (job_of it) ≡ file_system_of walk
     pub callback : callback (job_of it) ≡ callback_of walk
@@ -153,7 +153,7 @@ module _ {C S P A W R E : Type 0} where
     pub sourced : IsSourced it
     pub start : IsRefused it ⊎ AtDepth 0 (items_of it)
     pub width : iter.width_of it ≡ width_of (options_of walk).parallelism
-    pub ahead : iter.by_crew it ≡ false → BeginsWith (iter.unread_of it) (iter.read_ahead it)
+    pub ahead : iter.by_crew it ≡ false → BeginsWith (iter.unread_of it) (iter.frontier_of it) (iter.read_ahead it)
 
 -- A walk's crew keeps its bound: at most one reading more is made and not handed on.
 abbrev pub KeepsBound : {H C S P A L R E : Type 0} → Readers.Ghosts L C S P A R E → WalkDirGeneric C S P A (Crew H) R E → DirEntryIter C S P A L R E → Type 0

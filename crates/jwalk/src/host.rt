@@ -5,7 +5,7 @@ use std::time::Clock;
 
 /// A runtime whose threads can read for a walk, as the `HostRuntime` of `main`.
 ///
-/// A function of one's own that has a crew, or calls [`workers`](crate::WalkDirGeneric::workers), is generic over it:
+/// Your own function that has a crew, or calls [`workers`](crate::WalkDirGeneric::workers), is generic over it:
 /// `fn f<R: Host>(rt: &R, ..)`. It can't name `HostRuntime` in its place, which has these abilities in `main` and in
 /// tests alone.
 pub trait Host: Wait + Threads + Clock + Clone + Drop + Send + Sync + 'static {}

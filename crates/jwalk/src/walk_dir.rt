@@ -194,12 +194,13 @@ impl<
         self
     }
 
-    /// Sets how directories are read, one at a time by default. It changes neither the answers nor their order. It
-    /// changes which directories have been read when an entry is yielded, and how fast the walk is.
+    /// Sets how directories are read, one at a time by default. Over a file system that always returns the same it
+    /// changes neither the answers nor their order, unless memory runs out or a crew is busy. It changes which
+    /// directories have been read when an entry is yielded, and how fast the walk is.
     ///
-    /// Several threads read the directories that are read together if the answers are taken by `next_on` or `fill_on`:
-    /// `while let Some(answer) = walk.next_on(&rt)` does so. A `for` loop and adapters call `Iterator::next`, which reads
-    /// the same directories one after another.
+    /// A crew's workers read ahead whichever call takes the answers. Several threads read a batch only if the answers
+    /// are taken by `next_on` or `fill_on`: `while let Some(answer) = walk.next_on(&rt)` does so. A `for` loop,
+    /// adapters and `for_each` call `Iterator::next`, which reads the same directories one after another.
     pub fn parallelism(mut self, parallelism: Parallelism<W, A>) -> Self
         ensures { Sets (record (described self) {
           options = with_parallelism (parallelism_value parallelism) (options_of self);
@@ -324,9 +325,9 @@ impl<C: ClientState, S: FileSystem, P: ProcessReadDir<C, Global>, W: Drop> WalkD
     /// Returns the same walk with a closure as its callback, whose types need not be written.
     ///
     /// The closure is called with the depth and the path of a directory, the state and the list. It may change the
-    /// state and the list. For the root's list the depth is `None` and the path is the root's parent. An entry whose
-    /// depth it changes is dropped. It may fail only if memory runs out, and must be safe to call with whatever the
-    /// walk finds.
+    /// state and the list. For the root's list the depth is `None`, and the path is the root's parent, or empty if the
+    /// root's entry is an error. An entry whose depth it changes is dropped. It may fail only if memory runs out, and
+    /// must be safe to call with whatever the walk finds.
     ///
     /// A walk over another allocator than `Global` takes `process_read_dir(ByFn::new(..))`.
     pub fn process_read_dir_by<

@@ -19,7 +19,7 @@ use Rattle.jwalk_order.specs.Addressed.{Addressed, addresses_of, child_addresses
 use Rattle.jwalk_board.specs.Plan.{PlanTree, Falls, forest, node, read, subtree, specs_in_preorder, readings_in_preorder}
 use Rattle.jwalk_board.specs.Rehearsal.{Stage, MatchesRun, IsInOrder, Follows, trees}
 use Rattle.jwalk_order.specs.Siblings.{parent_address}
-use Rattle.jwalk_board.specs.Run.{Run, is_among, is_queued, moved, move, taken_by, take_first, take_by, finish_by, hand_out_next}
+use Rattle.jwalk_board.specs.Run.{Run, is_among, is_queued, moved, move, taken_by, take_first, take_by, finish_by, hand_out_if_finished}
 use Rattle.jwalk_board.specs.declared.board.moves.Move.{Move}
 use Rattle.jwalk_order.proofs.Children.{IsChild, HasParent, has_parent, child_from_times, times_from_child, times-contains, times-child_addresses, addresses_of-numbered}
 use Rattle.jwalk_board.proofs.Hands.{in_hands-taken, in_hands-finished, in_hands-none, get_set_cases, get_replicate, Splits, splits, get_past, contains_map, find_first, find_none, times-filter}
@@ -344,10 +344,10 @@ module _ {S R : Type 0} (t : PlanTree S R) where
       at_end : st.made.board.frontier ≡ [] → f.left ≡ []
       at_end e = none_left f.left (f.left_frontier ∙ e)
 
-      pub skips_done : st.made.board.frontier ≡ [] → hand_out_next r (slice_get (addresses_of (specs_in_preorder t roots)) r.handed_out) ≡ r
+      pub skips_done : st.made.board.frontier ≡ [] → hand_out_if_finished r (slice_get (addresses_of (specs_in_preorder t roots)) r.handed_out) ≡ r
       skips_done e =
           let all = specs_in_preorder t roots in
-          ap (hand_out_next r)
+          ap (hand_out_if_finished r)
           (get_past r.handed_out (addresses_of all) (drop-map (λ x. x.at) r.handed_out all ∙ ap addresses_of (f.left_are ∙ ap (trees t) (at_end e))))
 
       -- the next specification, and what comes after it
@@ -377,7 +377,7 @@ module _ {S R : Type 0} (t : PlanTree S R) where
 
       pub skips_not_ready : st.made.board.frontier ≢ []
           → (0 < times (next_address st.made.board.frontier) (addresses_of st.made.board.queued)) ⊎ (0 < times (next_address st.made.board.frontier) st.made.board.in_hand)
-          → hand_out_next r (slice_get (addresses_of (specs_in_preorder t roots)) r.handed_out) ≡ r
+          → hand_out_if_finished r (slice_get (addresses_of (specs_in_preorder t roots)) r.handed_out) ≡ r
       skips_not_ready some waits =
           let b = st.made.board in
           let n = next some in
@@ -385,10 +385,10 @@ module _ {S R : Type 0} (t : PlanTree S R) where
           let there : 0 < times a (addresses_of b.queued) + times a b.in_hand = ⊎_elim (λ (m : 0 < times a (addresses_of b.queued)). omega arith) (λ (m : 0 < times a b.in_hand). omega arith) waits in
           let h : 0 < times a (on_board b) = omega (arith, times-on_board a b) in
           let none : times a r.finished ≡ 0 = omega (arith, f.finished a, f.whole.once a, times-on_board a b, not_handed_out a h) in
-          ap (hand_out_next r) (next_of_run n ∙ ap Some n.is_next) ∙ ap (λ v. cond v (record r { handed_out = r.handed_out + 1 }) r) (is_among-none a r.finished none)
+          ap (hand_out_if_finished r) (next_of_run n ∙ ap Some n.is_next) ∙ ap (λ v. cond v (record r { handed_out = r.handed_out + 1 }) r) (is_among-none a r.finished none)
 
       pub follows_hand_out : st.made.board.frontier ≢ [] → (y : Addressed R) (ready : List (Addressed R)) → y.at ≡ next_address st.made.board.frontier → IsPermutation st.made.board.ready (y ∷ ready)
-          → Follows t roots (hand_out_next r (slice_get (addresses_of (specs_in_preorder t roots)) r.handed_out))
+          → Follows t roots (hand_out_if_finished r (slice_get (addresses_of (specs_in_preorder t roots)) r.handed_out))
           (record {
             hands = st.hands;
             made = record {
@@ -412,8 +412,8 @@ module _ {S R : Type 0} (t : PlanTree S R) where
           let y-at : y.at ≡ x.at = ap (λ w. w.at) y-read in
           let was_ready : 0 < times y.at (addresses_of b.ready) = omega (arith, times-addresses_of y.at b.ready (y ∷ ready) rd, times-itself y.at (addresses_of ready)) in
           let was : 0 < times x.at r.finished = subst (λ w. 0 < times w r.finished) y-at (omega (arith, f.finished y.at)) in
-          let run : hand_out_next r (slice_get (addresses_of all) r.handed_out) ≡ record r { handed_out = r.handed_out + 1 } =
-          ap (hand_out_next r) (next_of_run n) ∙ ap (λ v. cond v (record r { handed_out = r.handed_out + 1 }) r) (is_among-some x.at r.finished was) in
+          let run : hand_out_if_finished r (slice_get (addresses_of all) r.handed_out) ≡ record r { handed_out = r.handed_out + 1 } =
+          ap (hand_out_if_finished r) (next_of_run n) ∙ ap (λ v. cond v (record r { handed_out = r.handed_out + 1 }) r) (is_among-some x.at r.finished was) in
           let frontier : List (List ℕ) = passed b.frontier y.child_count in
           let m : Board S R = record b { ready = ready; frontier = frontier } in
           let front : b.frontier ≡ x.at ∷ addresses_of n.others = sym f.left_frontier ∙ ap addresses_of n.first in

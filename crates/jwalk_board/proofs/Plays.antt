@@ -19,7 +19,7 @@ use Rattle.jwalk_order.specs.IndexPath.{is_before}
 use Rattle.std.proofs.lemmas.List.Elements.{All-map}
 use Rattle.std.proofs.lemmas.List.Sorted.{IsPermutation-map}
 use Rattle.jwalk_board.specs.Rehearsal.{Follows}
-use Rattle.jwalk_board.specs.Run.{Run, take_by, finish_by, hand_out_next}
+use Rattle.jwalk_board.specs.Run.{Run, take_by, finish_by, hand_out_if_finished}
 use Rattle.jwalk_board.specs.declared.board.refusal.TakeRefusal.{TakeRefusal}
 use Rattle.jwalk_board.specs.declared.board.refusal.TakeRefusal.TheVariants as taking
 use Rattle.jwalk_board.specs.declared.board.refusal.HandOutRefusal.{HandOutRefusal}
@@ -88,7 +88,7 @@ module _ {T Q S R : Type 0} (v : T → S) (w : Q → R) where
 
   pub hand_out_refused : (t : PlanTree S R) → Falls t → (roots : List S) (r : Run) (hands : List (Option (Addressed S))) (handed : List (Addressed R)) (taken : List (List ℕ)) (b : Board T Q) (cause : HandOutRefusal)
       → Follows t roots r (record { hands = hands; made = record { handed_out = handed; taken = taken; board = seen_board v w b } })
-      → RefusesHandOut b cause → cause ≢ handing_out.Memory → hand_out_next r (slice_get (addresses_of (specs_in_preorder t roots)) r.handed_out) ≡ r
+      → RefusesHandOut b cause → cause ≢ handing_out.Memory → hand_out_if_finished r (slice_get (addresses_of (specs_in_preorder t roots)) r.handed_out) ≡ r
   hand_out_refused t falls roots r hands handed taken b handing_out.Stopped f refused other = absurd (false≢true (sym f.running ∙ refused))
   hand_out_refused t falls roots r hands handed taken b handing_out.Done f refused other = skips_done t falls roots r _ f refused.1
   hand_out_refused t falls roots r hands handed taken b handing_out.NotReady f refused other =
@@ -130,8 +130,8 @@ module _ {T Q S R : Type 0} (v : T → S) (w : Q → R) where
 
     pub played_hand_out : (hands : List (Option (Addressed S))) (handed : List (Addressed R)) (taken : List (List ℕ)) (b c : Board T Q) (item : Ordered Q A)
         → Follows t roots r (record { hands = hands; made = record { handed_out = handed; taken = taken; board = seen_board v w b } }) → HandsOut item b c
-        → Follows t roots (hand_out_next r (slice_get (addresses_of (specs_in_preorder t roots)) r.handed_out))
+        → Follows t roots (hand_out_if_finished r (slice_get (addresses_of (specs_in_preorder t roots)) r.handed_out))
         (record { hands = hands; made = record { handed_out = handed ++ seen_item w item ∷ []; taken = taken; board = seen_board v w c } })
     played_hand_out hands handed taken b c item f h =
-        stage_as t roots (hand_out_next r (slice_get (addresses_of (specs_in_preorder t roots)) r.handed_out)) _ _ _ _ _ _ _ _ refl refl refl (ap (seen_board v w) h.others)
+        stage_as t roots (hand_out_if_finished r (slice_get (addresses_of (specs_in_preorder t roots)) r.handed_out)) _ _ _ _ _ _ _ _ refl refl refl (ap (seen_board v w) h.others)
         (follows_hand_out t falls roots r _ f h.some (seen_item w item) (map (seen w) c.ready) h.next (IsPermutation-map (seen w) b.ready (addressed item ∷ c.ready) h.ready))

@@ -43,14 +43,14 @@ finish_by r k (Some None) = r
 finish_by r k (Some (Some a)) = record r { hands = slice_set r.hands k None; finished = a ∷ r.finished }
 
 -- The next address is handed out if it is finished.
-abbrev pub hand_out_next : Run → Option (List ℕ) → Run
-hand_out_next r None = r
-hand_out_next r (Some a) = cond (is_among a r.finished) (record r { handed_out = r.handed_out + 1 }) r
+abbrev pub hand_out_if_finished : Run → Option (List ℕ) → Run
+hand_out_if_finished r None = r
+hand_out_if_finished r (Some a) = cond (is_among a r.finished) (record r { handed_out = r.handed_out + 1 }) r
 
 abbrev pub move : List (List ℕ) → Run → Move → Run
 move all r (Take k) = take_by all r k (slice_get r.hands k)
 move all r (Finish k) = finish_by r k (slice_get r.hands k)
-move all r HandOut = hand_out_next r (slice_get all r.handed_out)
+move all r HandOut = hand_out_if_finished r (slice_get all r.handed_out)
 
 abbrev pub moved : List (List ℕ) → Run → List Move → Run
 moved all r [] = r

@@ -46,8 +46,8 @@ at_read clone known max_depth view (Some o) (Err refused) items rest x specs lef
 
 module _ {R : Type 0} where
   -- where nothing is to be read, nothing is queued
-  pub begins_with_none : (specs : List (Spec R)) (ahead : ReadAhead R) → specs ≡ [] → ahead ≡ nothing_ahead → BeginsWith specs ahead
-  begins_with_none specs ahead none nothing = rw (none, nothing) (record { queue = record { moves = []; below = tt; is = refl }; done = refl })
+  pub begins_with_none : (specs : List (Spec R)) (frontier : List (List ℕ)) (ahead : ReadAhead R) → specs ≡ [] → frontier ≡ [] → ahead ≡ nothing_ahead → BeginsWith specs frontier ahead
+  begins_with_none specs frontier ahead none nowhere nothing = rw (none, nowhere, nothing) (record { queue = record { moves = []; below = tt; is = refl }; done = refl; to_enter = refl })
 
 -- positions are the same where their parts are
 pub same_position : {R E : Type 0} {items others : List (Item R E)} {unread left : List (Spec R)} {frontier addresses : List (List ℕ)} {ahead then : ReadAhead R} → items ≡ others → unread ≡ left → frontier ≡ addresses → ahead ≡ then

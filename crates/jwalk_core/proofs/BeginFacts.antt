@@ -29,8 +29,8 @@ module _ {C A R E X F : Type 0} where
   begun_to_read (Ok x) roots b same = ap (map spec) same
   begun_to_read (Err e) roots b same = tt
 
-  pub begun_ahead : (r : Result X F) (roots : List (ReadDirSpec C A R E)) (b : Option (Board (ReadDirSpec C A R E) (Read C A R E))) → OnOk r (trees.BeginsWith roots (tree.ahead_of b)) → OnOk r (BeginsWith (map spec roots) (ahead_of b))
-  begun_ahead (Ok x) roots b begins = seen_begins spec roots (tree.ahead_of b) begins
+  pub begun_ahead : (r : Result X F) (roots : List (ReadDirSpec C A R E)) (b : Option (Board (ReadDirSpec C A R E) (Read C A R E))) → OnOk r (trees.BeginsWith roots (tree.frontier_on b) (tree.ahead_of b)) → OnOk r (BeginsWith (map spec roots) (tree.frontier_on b) (ahead_of b))
+  begun_ahead (Ok x) roots b begins = seen_begins spec roots (tree.frontier_on b) (tree.ahead_of b) begins
   begun_ahead (Err e) roots b begins = tt
 
   -- where memory ran out, nothing is left

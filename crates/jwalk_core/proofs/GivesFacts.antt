@@ -167,6 +167,6 @@ steady_at_rest files process clone defaults readers (Walk walk) given own steady
 steady_at_rest files process clone defaults readers (CrewWalk reads) given own steady none = absurd cc
 
 -- so readings that begin with their roots are steady, if no crew makes them
-pub alone_steady : {C S P A L R E F : Type 0} (files : FileSystem.Ghosts S) (process : ProcessReadDir.Ghosts P C A R E) (clone : Clone.Ghosts R) (defaults : Default.Ghosts E) (readers : Readers.Ghosts L C S P A R E) (roots : List (Spec R)) (made : Result (ReadDirIter C S P A L R E) F) → IfOk made (λ it. by_crew it ≡ false) → IfOk made (λ it. BeginsWith roots (read_ahead it)) → IfOk made (StartsSteady files process clone defaults readers)
+pub alone_steady : {C S P A L R E F : Type 0} (files : FileSystem.Ghosts S) (process : ProcessReadDir.Ghosts P C A R E) (clone : Clone.Ghosts R) (defaults : Default.Ghosts E) (readers : Readers.Ghosts L C S P A R E) (roots : List (Spec R)) (made : Result (ReadDirIter C S P A L R E) F) → IfOk made (λ it. by_crew it ≡ false) → IfOk made (λ it. BeginsWith roots (frontier_of it) (read_ahead it)) → IfOk made (StartsSteady files process clone defaults readers)
 alone_steady files process clone defaults readers roots (Ok it) own begins = λ given steady. steady_at_rest files process clone defaults readers it given own steady begins.done
 alone_steady files process clone defaults readers roots (Err f) own begins = tt

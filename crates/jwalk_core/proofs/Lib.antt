@@ -1,7 +1,7 @@
 pub mod GivenFacts
 mod TieFacts
 mod PathListFacts
-pub mod ListFacts
+mod ListFacts
 mod GatheredFacts
 mod ReadingFacts
 mod OrderedFacts
@@ -9,19 +9,19 @@ mod WalkedTrees
 pub mod DueFacts
 pub mod OriginFacts
 mod AtJob
-pub mod SeenFacts
-pub mod ReadFacts
-pub mod BatchStepFacts
-pub mod BeginFacts
-pub mod BatchPrepareFacts
-pub mod StackFacts
+mod SeenFacts
+mod ReadFacts
+mod BatchStepFacts
+mod BeginFacts
+mod BatchPrepareFacts
+mod StackFacts
 pub mod ResultFacts
 pub mod AlikeFacts
-pub mod KnownFacts
+mod KnownFacts
 mod CrewFacts
 pub mod CrewSteadyFacts
-pub mod GivesFacts
-pub mod PreparedReadFacts
+mod GivesFacts
+mod PreparedReadFacts
 mod ItemFacts
 pub mod PlacedFacts
 mod ReceivedFacts

@@ -7,8 +7,9 @@ use Rattle.std.proofs.lemmas.List.Elements.{All-nil, All-cons, All-head, All-tai
 use Rattle.std.proofs.lemmas.List.Sorted.{IsPermutation-map}
 use Rattle.jwalk_order.specs.IndexPath.{is_before}
 use Rattle.jwalk_order.specs.Addressed.{Addressed, addresses_of, numbered}
+use Rattle.jwalk_order.specs.Frontier.{roots as root_addresses}
 use Rattle.jwalk_board.specs.Seen.{seen}
-use Rattle.tree_walk.specs.ReadAhead.{ReadAhead, BeginsWith, StandsBefore, LeastLeave, HandsOnAt, below, Joins, unread, ReadsLeast, Enters, EntersNext}
+use Rattle.tree_walk.specs.ReadAhead.{ReadAhead, BeginsWith, ComesBefore, LeastLeave, HandsOnAt, below, Joins, unread, ReadsLeast, Enters, EntersNext}
 
 -- specifications that are numbered are seen so
 numbered-seen : {T V : Type 0} (v : T → V) (a : List ℕ) (i : ℕ) (xs : List T) → map (seen v) (numbered a i xs) ≡ numbered a i (map v xs)
@@ -29,16 +30,16 @@ module _ {T V : Type 0} (v : T → V) where
   abbrev seen_as : ReadAhead T → ReadAhead V
   seen_as a = record { queue = map (seen v) a.queue; done = a.done }
 
-  pub seen_begins : (roots : List T) (new : ReadAhead T) → BeginsWith roots new → BeginsWith (map v roots) (seen_as new)
-  seen_begins roots new b = record { queue = subst (λ l. IsPermutation l (map (seen v) new.queue)) (numbered-seen v [] 0 roots) (IsPermutation-map (seen v) (numbered [] 0 roots) new.queue b.queue); done = b.done }
+  pub seen_begins : (roots : List T) (frontier : List (List ℕ)) (new : ReadAhead T) → BeginsWith roots frontier new → BeginsWith (map v roots) frontier (seen_as new)
+  seen_begins roots frontier new b = record { queue = subst (λ l. IsPermutation l (map (seen v) new.queue)) (numbered-seen v [] 0 roots) (IsPermutation-map (seen v) (numbered [] 0 roots) new.queue b.queue); done = b.done; to_enter = b.to_enter ∙ ap root_addresses (sym (length-map v roots)) }
 
-  seen_before : (x : Addressed T) (others : List (Addressed T)) → StandsBefore x others → StandsBefore (seen v x) (map (seen v) others)
+  seen_before : (x : Addressed T) (others : List (Addressed T)) → ComesBefore x others → ComesBefore (seen v x) (map (seen v) others)
   seen_before x others before = All-map (λ (y : Addressed V). is_before x.at y.at ≡ true) (seen v) others before
 
   seen_leave : (taken : List (Addressed T)) (old new : ReadAhead T) → LeastLeave taken old new → LeastLeave (map (seen v) taken) (seen_as old) (seen_as new)
   seen_leave taken old new l = record {
     queue = subst (IsPermutation (map (seen v) old.queue)) (map-append (seen v) taken new.queue) (IsPermutation-map (seen v) old.queue (taken ++ new.queue) l.queue);
-    least = All-map (λ x. StandsBefore x (map (seen v) new.queue)) (seen v) taken (All-weaker (λ x. StandsBefore x new.queue) (λ x. StandsBefore (seen v x) (map (seen v) new.queue)) (λ x. seen_before x new.queue) taken l.least);
+    least = All-map (λ x. ComesBefore x (map (seen v) new.queue)) (seen v) taken (All-weaker (λ x. ComesBefore x new.queue) (λ x. ComesBefore (seen v x) (map (seen v) new.queue)) (λ x. seen_before x new.queue) taken l.least);
     done = l.done;
   }
 

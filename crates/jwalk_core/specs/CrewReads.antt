@@ -98,7 +98,7 @@ most_ready most (Some readers) = most readers
 abbrev pub IsMadeFor : {C S P A L R E : Type 0} → Readers.Ghosts L C S P A R E → L → Origin C S P A R E → List (List ℕ) → Type 0
 IsMadeFor readers p origin addresses = readers.comes_from p origin × (readers.awaits p ≡ addresses)
 
--- Readings begin: the directories that are to be read are at the addresses of roots, and this holds of the readers that gives their readings.
+-- Readings begin: the directories that are to be read are at the addresses of roots, and this holds of the readers that give their readings.
 pub record BeginsBy {C S P A L R E : Type 0} (made : L → Origin C S P A R E → List (List ℕ) → Type 0) (it : CrewReads C S P A L R E) : Type 0 where
   pub addresses : it.matcher ≡ frontier.roots (length (to_read it))
   pub readers : IsSomeAnd it.readers (λ p. made p (record { job = job_of it; roots = to_read it }) it.matcher)

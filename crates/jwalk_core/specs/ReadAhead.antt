@@ -21,9 +21,9 @@ ReadAhead R = tree.ReadAhead (Spec R)
 abbrev pub nothing_ahead : {R : Type 0} → ReadAhead R
 nothing_ahead = tree.nothing_ahead
 
--- The roots are queued, at `[0]`, `[1]` and so on.
-abbrev pub BeginsWith : {R : Type 0} → List (Spec R) → ReadAhead R → Type 0
-BeginsWith roots new = tree.BeginsWith roots new
+-- The roots are queued, at `[0]`, `[1]` and so on, and these addresses are to be entered.
+abbrev pub BeginsWith : {R : Type 0} → List (Spec R) → List (List ℕ) → ReadAhead R → Type 0
+BeginsWith roots frontier new = tree.BeginsWith roots frontier new
 
 -- The reading at an address is handed on: it leaves those that are done.
 abbrev pub HandsOnAt : {R : Type 0} → List ℕ → ReadAhead R → ReadAhead R → Type 0

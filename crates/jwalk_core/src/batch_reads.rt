@@ -17,8 +17,8 @@ use std::thread::Threads;
 use tree_walk::board_walk::BoardWalk;
 use walk_fs::file_system::FileSystem;
 
-/// Readings in preorder: a directory's, and then those of all that is below it. Up to a width of directories are read
-/// together, when a reading is asked for that isn't there yet.
+/// Readings in preorder: a directory's, and then those of all that is below it. Up to `width` directories are read
+/// together, when a reading is asked for that isn't made yet.
 pub struct BatchReads<C: ClientState, S, P, A: Allocator + Copy = Global> {
     walk: BoardWalk<ReadDirSpec<C, A>, Outcome<C, A>, Job<C, S, P, A>, A>,
 }
@@ -57,6 +57,7 @@ impl<C: ClientState, S: FileSystem, P: ProcessReadDir<C, A>, A: Allocator + Copy
         ensures to_read { to_read result ≡ [] }
         ensures early { early_of result ≡ [] }
         ensures read_ahead { read_ahead result ≡ nothing_ahead }
+        ensures frontier { frontier_of result ≡ [] }
     {
         BatchReads {
             walk: BoardWalk::new(alloc, job, width),
@@ -73,7 +74,8 @@ impl<C: ClientState, S: FileSystem, P: ProcessReadDir<C, A>, A: Allocator + Copy
         ensures width { self.new.width ≡ self.old.width }
         ensures to_read { OnOk result (to_read self.new ≡ map spec roots.items) }
         ensures early { early_of self.new ≡ [] }
-        ensures read_ahead { OnOk result (BeginsWith (map spec roots.items) (read_ahead self.new)) }
+        ensures read_ahead { OnOk result (BeginsWith (map spec roots.items) (frontier_of self.new)
+            (read_ahead self.new)) }
         ensures stopped { OnErr result (to_read self.new ≡ []) }
         ensures nothing_ahead { OnErr result (read_ahead self.new ≡ nothing_ahead) }
     {
@@ -96,7 +98,8 @@ impl<C: ClientState, S: FileSystem, P: ProcessReadDir<C, A>, A: Allocator + Copy
         ensures width { IfOk result (λ reads. reads.width ≡ width) }
         ensures to_read { IfOk result (λ reads. to_read reads ≡ map spec roots.items) }
         ensures early { IfOk result (λ reads. early_of reads ≡ []) }
-        ensures read_ahead { IfOk result (λ reads. BeginsWith (map spec roots.items) (read_ahead reads)) }
+        ensures read_ahead { IfOk result (λ reads. BeginsWith (map spec roots.items) (frontier_of reads)
+            (read_ahead reads)) }
     {
         let mut reads = BatchReads::new(alloc, job, width);
         reads.begin(roots)?;
@@ -110,12 +113,12 @@ impl<C: ClientState, S: FileSystem, P: ProcessReadDir<C, A>, A: Allocator + Copy
         self.walk.plan()
     }
 
-    /// Returns the next reading, or none if all was read. If it isn't made yet, the least of the unread directories are
-    /// read, as many as are read together, one after another.
+    /// Returns the next reading, or none if nothing is left to be read. If it isn't made yet, the least of the unread
+    /// directories are read first, up to the width, one after another.
     ///
     /// # Errors
     ///
-    /// If memory runs out in any of these readings. Then nothing is left to be read.
+    /// If memory runs out. Then nothing is left to be read.
     pub fn read_next(&mut self) -> Result<Option<Outcome<C, A>>, AllocError>
         requires { P.IsLawful (callback self.old.job) }
         ensures job { self.new.job ≡ self.old.job }
@@ -153,6 +156,7 @@ impl<C: ClientState, S: FileSystem, P: ProcessReadDir<C, A>, A: Allocator + Copy
         ensures to_read { to_read self.new ≡ [] }
         ensures early { early_of self.new ≡ [] }
         ensures read_ahead { read_ahead self.new ≡ nothing_ahead }
+        ensures frontier { frontier_of self.new ≡ [] }
         ensures steady { StaysSteady S.FileSystem P.ProcessReadDir C.ReadDirState.Clone C.DirEntryState.Default
             self.old self.new }
     {
@@ -175,12 +179,12 @@ where
     ghost use Rattle.jwalk_core.specs.BatchReads.{to_read, read_ahead, next_of, StaysSteady, ReadsForNext};
 
     /// Makes sure that the next reading is made, if any is left. If it isn't made yet, the least of the unread directories
-    /// are read, as many as are read together, on several threads if there are enough of them to be worth it. The call of
+    /// are read, up to the width, on several threads if there are enough of them to be worth it. The call of
     /// [`read_next`](BatchReads::read_next) that follows then reads nothing.
     ///
     /// # Errors
     ///
-    /// If memory runs out in any of these readings. Then nothing is left to be read.
+    /// If memory runs out. Then nothing is left to be read.
     pub fn prepare_on<R: Threads + Sync>(&mut self, rt: &R) -> Result<(), AllocError>
         requires { P.IsLawful (callback self.old.job) }
         ensures job { self.new.job ≡ self.old.job }

@@ -42,7 +42,7 @@ pub struct CrewReads<
     matcher: OrderedMatcher<A>,
     // The directories whose readings are still to be handed on, the next one last.
     unread: Vec<ReadDirSpec<C, A>, A>,
-    // None after the walk was stopped.
+    // None before the readings begin, and after they were stopped.
     readers: Option<L>,
 }
 
@@ -153,7 +153,7 @@ impl<
         }
     }
 
-    /// The reading of the directory that comes next, and how many directories are in it by its message.
+    /// Returns the reading of the directory that comes next, and how many directories are in it by its message.
     fn read(&mut self, of: &ReadDirSpec<C, A>) -> Result<(Outcome<C, A>, usize), Missed>
         ensures job { job_of self.new ≡ job_of self.old }
         ensures to_read { to_read self.new ≡ to_read self.old }
@@ -191,8 +191,8 @@ impl<
         Ok(())
     }
 
-    /// The reading of the directory that comes next, with those below it in its place: it is lost where its message
-    /// has another count than the number of directories in it.
+    /// Returns the reading of the directory that comes next, and puts those below it in its place. It is lost where its
+    /// message has another count than the number of directories in it.
     fn enter(&mut self, of: ReadDirSpec<C, A>) -> Result<Outcome<C, A>, Missed>
         ensures job { job_of self.new ≡ job_of self.old }
         ensures most { most_ahead L.Readers self.new ≡ most_ahead L.Readers self.old }

@@ -32,9 +32,10 @@ pub struct DirEntry<C: ClientState, A: Allocator + Copy = Global> {
     pub client_state: C::DirEntryState,
     /// The path of the directory that the entry was listed in.
     pub parent_path: Arc<String<A>, A>,
-    /// The directory to be read below the entry: set if it is a directory, unless a callback took it away.
+    /// The directory to be read below the entry: set if it is a directory, or a root that is a link to one, unless a
+    /// callback took it away.
     pub read_children: Option<ReadChildren<C, A>>,
-    pub(crate) through_link: bool,
+    through_link: bool,
     #[derive_where(skip)]
     pub(crate) ancestors: Ancestors<A>,
 }
@@ -197,7 +198,7 @@ impl<C: ClientState, A: Allocator + Copy> DirEntry<C, A> {
         }
     }
 
-    /// Returns the entry of a link with the directory at its path to be read, if the link leads to one.
+    /// Returns the entry with the directory at this path to be read, if what is there is one. `target` is its metadata.
     pub(crate) fn with_directory(mut self, path: Arc<String<A>, A>, target: Metadata) -> Self
         ensures { entry result
             ≡ (if is_dir (type_of target) then record (entry self) { read_children = children_at true (text path) }

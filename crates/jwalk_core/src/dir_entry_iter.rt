@@ -69,7 +69,7 @@ impl<
     ghost use Rattle.jwalk_core.specs.Options as options;
     ghost use Rattle.jwalk_core.specs.Job.{options_of};
     ghost use Rattle.jwalk_core.specs.ReadAhead.{nothing_ahead, BeginsWith};
-    ghost use Rattle.jwalk_core.specs.DirEntryIter.{reads_of, by_crew, is_refused, job_of, min_depth_of, items_of, unread_of, width_of, read_ahead, early_of, held_by, IsWithin, IsSourced, IsRefused, most_ahead, ReadsStaySteady, Passes, GoesOn, Answers, AnswersWhatCame, Fills, Counts};
+    ghost use Rattle.jwalk_core.specs.DirEntryIter.{reads_of, by_crew, is_refused, job_of, min_depth_of, items_of, unread_of, width_of, frontier_of, read_ahead, early_of, held_by, IsWithin, IsSourced, IsRefused, most_ahead, ReadsStaySteady, Passes, GoesOn, Answers, AnswersWhatCame, Fills, Counts};
     ghost use Rattle.jwalk_core.specs.Step.{Receives};
 
     /// Returns a walk whose start ran out of memory: it yields the error that reports it, and nothing else. The call
@@ -81,7 +81,7 @@ impl<
         ensures items { items_of result ≡ [] }
         ensures unread { unread_of result ≡ [] }
         ensures width { width_of result ≡ options.width_of (options_of job).parallelism }
-        ensures ahead { BeginsWith (unread_of result) (read_ahead result) }
+        ensures ahead { BeginsWith (unread_of result) (frontier_of result) (read_ahead result) }
     {
         let mode = job.options().mode();
         DirEntryIter {
@@ -91,7 +91,8 @@ impl<
         }
     }
 
-    /// Returns the walk over these readings that holds a root's list, and whose start may have run out of memory.
+    /// Returns the walk over these readings that holds a root's list. If `refused`, memory ran out: the walk first
+    /// yields the error that reports it.
     pub fn with_list(
         reads: ReadDirIter<C, S, P, A, L>,
         list: Vec<Result<DirEntry<C, A>, Error<A>>, A>,
@@ -120,15 +121,15 @@ impl<
         ensures children { OnOk result (AreClones C.ReadDirState.is_clone
             (children (reading read)) (unread_of self.new)) }
         ensures width { width_of self.new ≡ width_of self.old }
-        ensures ahead { OnOk result (BeginsWith (unread_of self.new) (read_ahead self.new)) }
+        ensures ahead { OnOk result (BeginsWith (unread_of self.new) (frontier_of self.new) (read_ahead self.new)) }
     {
         self.reads.begin(read.read_children_specs()?)?;
         self.receive(read)?;
         Ok(())
     }
 
-    /// Returns the walk that begins with the root's list. If memory ran out, it yields the error that reports it, and
-    /// nothing else.
+    /// Returns the walk that begins with the root's list, which is `None` if memory ran out for it. If memory ran out,
+    /// the walk yields the error that reports it, and nothing else.
     pub fn from_root(alloc: A, job: Job<C, S, P, A>, read: Option<ReadDir<C, A>>) -> Self
         requires { IfSome read (λ r. AtDepth 0 (reading r).list) }
         ensures own { by_crew result ≡ false }
@@ -138,7 +139,7 @@ impl<
         ensures sourced { IsSourced result }
         ensures depth { is_refused result ≡ false → AtDepth 0 (items_of result) }
         ensures width { width_of result ≡ options.width_of (options_of job).parallelism }
-        ensures ahead { BeginsWith (unread_of result) (read_ahead result) }
+        ensures ahead { BeginsWith (unread_of result) (frontier_of result) (read_ahead result) }
         ensures held { (g : _) → ClonesCount C.ReadDirState.Clone g → is_refused result ≡ false
             → IsSomeAnd read (λ r. held_by g result ≡ paired (counted_reading g (reading r))) }
     {
@@ -177,6 +178,7 @@ impl<
         ensures items { items_of self.new ≡ [] }
         ensures unread { unread_of self.new ≡ [] }
         ensures read_ahead { read_ahead self.new ≡ nothing_ahead }
+        ensures frontier { by_crew self.old ≡ false → frontier_of self.new ≡ [] }
         ensures most { most_ahead L.Readers self.new ≡ 0 }
         ensures steady { ReadsStaySteady S.FileSystem P.ProcessReadDir C.ReadDirState.Clone C.DirEntryState.Default
             L.Readers self.old self.new }

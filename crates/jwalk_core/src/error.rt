@@ -7,7 +7,7 @@ use std::sync::Arc;
 
 #[derive(Drop)]
 #[derive_where(Debug)]
-pub(crate) enum ErrorInner<A: Allocator + Copy> {
+enum ErrorInner<A: Allocator + Copy> {
     Io {
         path: Option<Arc<String<A>, A>>,
         err: io::Error,
@@ -86,7 +86,7 @@ impl<A: Allocator + Copy> Error<A> {
         }
     }
 
-    /// Returns the error of a walk that a crew has no place for.
+    /// Returns the error of a walk for which a crew had no free place in time, or could start no worker.
     pub fn busy() -> Self
         ensures { failure result ≡ busy }
     {
@@ -106,7 +106,7 @@ impl<A: Allocator + Copy> Error<A> {
         }
     }
 
-    /// Returns the error of a walk whose crew gave no reading, or a wrong one, of a directory that was entered.
+    /// Returns the error of a reading that didn't come ([`is_lost`](Error::is_lost)).
     pub fn lost() -> Self
         ensures { failure result ≡ lost }
     {
@@ -175,7 +175,7 @@ impl<A: Allocator + Copy> Error<A> {
         }
     }
 
-    /// Returns whether a crew had no place for the walk.
+    /// Returns whether a crew had no free place in time for the walk, or could start no worker.
     pub fn is_busy(&self) -> bool
         ensures { IsTrue result ↔ (failure self.now ≡ busy) }
     {
@@ -189,7 +189,8 @@ impl<A: Allocator + Copy> Error<A> {
         matches!(self.inner, ErrorInner::Memory)
     }
 
-    /// Returns whether a crew gave no reading, or a wrong one, of a directory that was entered.
+    /// Returns whether a reading didn't come: a crew gave none, or a wrong one, of a directory that was entered, or
+    /// `ReadDirIter::next_of` was asked for another directory than the next.
     pub fn is_lost(&self) -> bool
         ensures { IsTrue result ↔ (failure self.now ≡ lost) }
     {

@@ -133,7 +133,7 @@ impl<C: ClientState, S: FileSystem, P: ProcessReadDir<C, A>, A: Allocator + Copy
     }
 
     /// Returns what a name in a directory gives: nothing if it is hidden and skipped.
-    pub(super) fn named(
+    fn named(
         &self,
         of: &ReadDirSpec<C, A>,
         inside: &Ancestors<A>,
@@ -204,6 +204,7 @@ impl<C: ClientState, S: FileSystem, P: ProcessReadDir<C, A>, A: Allocator + Copy
         let mut state = of.client_read_state.clone()?;
         self.process
             .process(Some(of.depth), of.path.as_str(), &mut state, &mut items)?;
+        // A vector's length fits a `usize`.
         let _count = items.len();
         Ok(ReadDir::new(state, items))
     }

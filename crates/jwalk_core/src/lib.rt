@@ -4,8 +4,9 @@
 //!   `process_read_dir`, and the `ancestors` that tell loops. Its items are a `dir_entry` or an `error`, each directory
 //!   with its `read_children`. A `read_dir_spec` says which directory is to be read.
 //! - Readings in order: `read_dir_iter`, over `batch_reads`, which are made in turn or on threads, or over `crew_reads`,
-//!   which others make ahead. What gives the latter are `readers`: a crew's `session`, whose workers hand in a `message`
-//!   where one is `wanted`. `parallelism` and `mode` say which of them reads.
+//!   which others make ahead and `readers` give. Those of a crew are its `session`: its workers hand in each reading as
+//! a
+//!   `message`, and `wanted` says which one a walk waits for. `parallelism` and `mode` say which of them reads.
 //! - Entries in order: `dir_entry_iter`.
 #![tactic(auto)]
 

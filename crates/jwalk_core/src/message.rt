@@ -19,12 +19,7 @@ use tree_crew::message as tree;
 use walk_fs::file_system::FileSystem;
 
 /// What a crew whose plan is a job calls a message.
-pub(crate) type Told<C, S, P, A> = tree::Message<
-    ReadDirSpec<C, A>,
-    Outcome<C, A>,
-    Job<C, S, P, A>,
-    A,
->;
+type CrewMessage<C, S, P, A> = tree::Message<ReadDirSpec<C, A>, Outcome<C, A>, Job<C, S, P, A>, A>;
 
 /// A reading by a worker: the job that read, the directory that was read, and the outcome, or that memory ran out.
 pub struct Message<
@@ -33,7 +28,7 @@ pub struct Message<
     P: ProcessReadDir<C, A>,
     A: Allocator + Copy = Global,
 > {
-    reading: Told<C, S, P, A>,
+    reading: CrewMessage<C, S, P, A>,
 }
 
 impl<C: ClientState, S: FileSystem, P: ProcessReadDir<C, A>, A: Allocator + Copy> Drop
@@ -82,7 +77,7 @@ impl<C: ClientState, S: FileSystem, P: ProcessReadDir<C, A>, A: Allocator + Copy
     }
 
     /// Returns a crew's message as a walk's.
-    pub(crate) fn of_crew(reading: Told<C, S, P, A>) -> Self
+    pub(crate) fn of_crew(reading: CrewMessage<C, S, P, A>) -> Self
         requires { IsLawfulMessage S.FileSystem P.ProcessReadDir C.ReadDirState.Clone C.DirEntryState.Default
             (told reading) }
         ensures { result ≡ told reading }

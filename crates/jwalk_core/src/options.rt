@@ -13,11 +13,11 @@ use std::alloc::Allocator;
 #[derive(Clone, Copy)]
 pub struct Options {
     pub(crate) sort: bool,
-    pub(crate) skip_hidden: bool,
-    pub(crate) follow_links: bool,
-    pub(crate) min_depth: usize,
-    pub(crate) max_depth: usize,
-    pub(crate) mode: Mode,
+    skip_hidden: bool,
+    follow_links: bool,
+    min_depth: usize,
+    max_depth: usize,
+    mode: Mode,
     ghost in_order: { min_depth ≤ max_depth },
 }
 

@@ -13,8 +13,8 @@ use std::time::Duration;
 pub enum Parallelism<W = NoCrew, A: Allocator + Copy = Global> {
     /// One directory at a time, when its entry is yielded. The default.
     Serial,
-    /// Ahead of the walk, by the workers of a crew. If no place of the crew is free, the walk blocks until one is, as
-    /// long as `busy_timeout` says, or without limit. After that the crew is busy for it.
+    /// Ahead of the walk, by the workers of a crew. If no place of the crew is free, the start of the walk blocks until
+    /// one is, for at most `busy_timeout`. If none is free in time, an error whose `is_busy` is true reports it.
     RayonExistingPool {
         /// The crew.
         pool: Arc<W, A>,

@@ -20,9 +20,9 @@ pub trait ProcessReadDir<C: ClientState, A: Allocator + Copy>: Drop {
     ghost Makes: { Self → Given C.ReadDirState C.DirEntryState → Type 0 };
 
     /// Works on the list of the directory at `path`, which has this depth. For the list of the root alone, `depth` is
-    /// `None` and `path` is the root's parent. It may change `state`, which the directories of the list begin with. It
-    /// may reorder the list, drop items, change their states, and take away or move `read_children`; but an entry keeps
-    /// its depth.
+    /// `None` and `path` is the root's parent, or empty if the root's entry is an error. It may change `state`, which
+    /// the directories of the list begin with. It may reorder the list, drop items, change their states, and take away
+    /// or move `read_children`; but an entry keeps its depth.
     ///
     /// It isn't called for a directory that couldn't be listed, nor for one at the greatest depth. Where threads or a
     /// crew read, several of them may call it at the same time, each with a list of its own.

@@ -11,17 +11,15 @@ ghost use Rattle.jwalk_core.specs.ReadDir.{outcome, reading};
 use crate::client_state::ClientState;
 use crate::dir_entry::DirEntry;
 use crate::error::Error;
-pub use crate::job::Job;
-pub use crate::process_read_dir::{NoProcess, ProcessReadDir};
-pub use crate::read_dir_spec::ReadDirSpec;
+use crate::read_dir_spec::ReadDirSpec;
 use jwalk_order::index_path::IndexPath;
 use jwalk_order::ordered::Ordered;
 use std::alloc::{AllocError, Allocator, Global};
 
 /// What a directory's reading gave: its list, and the state that it left.
 pub struct ReadDir<C: ClientState, A: Allocator + Copy = Global> {
-    pub(crate) read_dir_state: C::ReadDirState,
-    pub(crate) results_list: Vec<Result<DirEntry<C, A>, Error<A>>, A>,
+    read_dir_state: C::ReadDirState,
+    results_list: Vec<Result<DirEntry<C, A>, Error<A>>, A>,
 }
 
 impl<C: ClientState, A: Allocator + Copy> Drop for ReadDir<C, A> {
@@ -124,7 +122,7 @@ impl<C: ClientState, A: Allocator + Copy> ReadDir<C, A> {
     }
 
     /// Returns the directories to be read below the entries of the list, in its order: one for each entry that has
-    /// `read_children`. Each begins with the state named there or with a clone of the one that this reading left.
+    /// `read_children`. Each begins with a clone of the state named there, or else of the one that this reading left.
     ///
     /// # Errors
     ///

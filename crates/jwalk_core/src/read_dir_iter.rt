@@ -83,6 +83,7 @@ impl<
         ensures width { width_of result ≡ options.width_of (mode_value mode) }
         ensures to_read { to_read result ≡ [] }
         ensures read_ahead { read_ahead result ≡ nothing_ahead }
+        ensures frontier { frontier_of result ≡ [] }
     {
         ReadDirIter::Walk(BatchReads::new(alloc, job, mode.width()))
     }
@@ -99,7 +100,8 @@ impl<
         ensures job { job_of self.new ≡ job_of self.old }
         ensures width { width_of self.new ≡ width_of self.old }
         ensures to_read { OnOk result (to_read self.new ≡ map spec roots.items) }
-        ensures read_ahead { OnOk result (BeginsWith (map spec roots.items) (read_ahead self.new)) }
+        ensures read_ahead { OnOk result (BeginsWith (map spec roots.items) (frontier_of self.new)
+            (read_ahead self.new)) }
         ensures stopped { OnErr result (to_read self.new ≡ []) }
         ensures nothing_ahead { OnErr result (read_ahead self.new ≡ nothing_ahead) }
     {
@@ -119,7 +121,8 @@ impl<
         ensures job { IfOk result (λ reads. job_of reads ≡ job) }
         ensures width { IfOk result (λ reads. width_of reads ≡ options.width_of (mode_value mode)) }
         ensures to_read { IfOk result (λ reads. to_read reads ≡ map spec roots.items) }
-        ensures read_ahead { IfOk result (λ reads. BeginsWith (map spec roots.items) (read_ahead reads)) }
+        ensures read_ahead { IfOk result (λ reads. BeginsWith (map spec roots.items) (frontier_of reads)
+            (read_ahead reads)) }
         ensures memory { IfErr result (λ error. failure error ≡ memory) }
     {
         let mut reads = ReadDirIter::new(*roots.allocator(), job, mode);
@@ -160,8 +163,8 @@ impl<
         }
     }
 
-    /// Returns whether the directory that comes next is the one below an entry, or none is left. It is called only if a
-    /// crew reads.
+    /// Returns whether the directory that comes next is the one below an entry, or none is left. Where no crew reads,
+    /// the entry isn't looked at, and it is always true.
     pub(crate) fn is_next(&self, found: &DirEntry<C, A>) -> bool
         ensures own { result ≡ false → by_crew self.now ≡ true }
         ensures some { result ≡ false → to_read self.now ≢ [] }
@@ -234,6 +237,7 @@ impl<
         ensures width { width_of self.new ≡ width_of self.old }
         ensures to_read { to_read self.new ≡ [] }
         ensures read_ahead { read_ahead self.new ≡ nothing_ahead }
+        ensures frontier { by_crew self.old ≡ false → frontier_of self.new ≡ [] }
         ensures most { most_ahead L.Readers self.new ≡ 0 }
         ensures steady { StaysSteady S.FileSystem P.ProcessReadDir C.ReadDirState.Clone C.DirEntryState.Default L.Readers
             self.old self.new }
@@ -255,7 +259,7 @@ impl<C: ClientState, S: FileSystem, P: ProcessReadDir<C, A>, A: Allocator + Copy
     ghost use Rattle.jwalk_core.specs.Options as options;
     ghost use Rattle.jwalk_core.specs.ReadAhead.{BeginsWith};
     ghost use Rattle.jwalk_core.specs.Parallelism.{parallelism_value};
-    ghost use Rattle.jwalk_core.specs.ReadDirIter.{by_crew, job_of, to_read, width_of, read_ahead};
+    ghost use Rattle.jwalk_core.specs.ReadDirIter.{by_crew, job_of, to_read, width_of, read_ahead, frontier_of};
 
     /// Returns the readings of these directories and of all that is below them.
     ///
@@ -271,7 +275,8 @@ impl<C: ClientState, S: FileSystem, P: ProcessReadDir<C, A>, A: Allocator + Copy
         ensures job { IfOk result (λ reads. job_of reads ≡ job) }
         ensures width { IfOk result (λ reads. width_of reads ≡ options.width_of (parallelism_value parallelism)) }
         ensures to_read { IfOk result (λ reads. to_read reads ≡ map spec roots.items) }
-        ensures read_ahead { IfOk result (λ reads. BeginsWith (map spec roots.items) (read_ahead reads)) }
+        ensures read_ahead { IfOk result (λ reads. BeginsWith (map spec roots.items) (frontier_of reads)
+            (read_ahead reads)) }
         ensures memory { IfErr result (λ error. failure error ≡ memory) }
     {
         ReadDirIter::alone(job, roots, parallelism.mode())

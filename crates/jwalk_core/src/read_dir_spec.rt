@@ -15,7 +15,7 @@ use std::sync::Arc;
 /// Which directory to read, and with which state to begin.
 pub struct ReadDirSpec<C: ClientState, A: Allocator + Copy = Global> {
     pub(crate) depth: usize,
-    pub(crate) ancestors: Ancestors<A>,
+    ancestors: Ancestors<A>,
     /// The path of the directory.
     pub path: Arc<String<A>, A>,
     /// The state that its reading begins with.

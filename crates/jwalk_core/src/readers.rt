@@ -34,7 +34,8 @@ impl From<AllocError> for Missed {
     }
 }
 
-/// What gives the readings of a walk's directories, made ahead by others. Users name it as a bound only.
+/// What gives the readings of a walk's directories, made ahead by others: the `Session` of a crew, or a type of one's
+/// own that is given to `ReadDirIter::over_readers`.
 pub trait Readers<
     C: ClientState,
     S: FileSystem,

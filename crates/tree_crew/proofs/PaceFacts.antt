@@ -6,14 +6,14 @@ use Rattle.jwalk_order.specs.Addressed.{addressed}
 use Rattle.jwalk_order.specs.Ordered.{address_of}
 use Rattle.jwalk_order.specs.declared.ordered.Ordered.{Ordered}
 use Rattle.jwalk_board.specs.Board.{Board, IsNew, Takes, HandsOut, Finishes}
-use Rattle.tree_crew.specs.Pace.{ahead_of, CountsTakers, IsWithin, MayTake}
+use Rattle.tree_crew.specs.Pace.{ready_or_in_hand, CountsTakers, IsWithin, MayTake}
 use Rattle.tree_crew.specs.Steps.{Turns}
 use Rattle.tree_crew.specs.declared.steps.Turn.{Turn}
 use Rattle.tree_crew.specs.declared.steps.Turn.TheVariants as turn
 
 module _ {T R : Type 0} (b : Board T R) (limit : ℕ) (rests : Bool) where
   -- where something may be taken, no more than the limit are ready or in hand
-  pub may_most : MayTake limit rests b → ahead_of b ≤ limit
+  pub may_most : MayTake limit rests b → ready_or_in_hand b ≤ limit
   may_most may = elim may [
     | inl free ↦ omega (arith, free.2)
     | inr next ↦ next.1
@@ -39,7 +39,7 @@ module _ {T R : Type 0} (limit : ℕ) (old new : Board T R) where
   pub stopped_within : new ≡ record old { stopped = true } → IsWithin limit old → IsWithin limit new
   stopped_within is within = subst (IsWithin limit) (sym is) within
 
-  pub taken_within : {A : Type 0} (item : Ordered T A) → Takes item old new → ahead_of old ≤ limit → IsWithin limit new
+  pub taken_within : {A : Type 0} (item : Ordered T A) → Takes item old new → ready_or_in_hand old ≤ limit → IsWithin limit new
   taken_within item takes most =
       let in_hand : length new.in_hand ≡ length (address_of item ∷ old.in_hand) = length_permutation _ _ takes.in_hand in
       let ready : length new.ready ≡ length old.ready = ap (λ b. length b.ready) takes.others in

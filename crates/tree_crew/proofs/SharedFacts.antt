@@ -82,7 +82,7 @@ module _ {J A T U : Type 0} (p : Plan.Ghosts J A T U) (origin : Origin T J) (old
     further = ap (λ b. b.frontier) comes.0.others;
   }
   arrived_of Memory comes = tt
-  arrived_of Done comes = comes.refused.1
+  arrived_of Done comes = (comes.refused.1, ap (λ b. b.frontier) comes.unchanged)
   arrived_of Wait comes = ap (λ b. b.frontier) comes.unchanged
 
   pub handed_in_of : {D F : Type 0} (r : Result D F) → ChildrenAreGiven p → (a : List ℕ) (message : Message T U J) (children : List T) → IsMadeAt p origin a message children

@@ -21,7 +21,7 @@ use Rattle.tree_crew.specs.Sleepers.{CallsNobody, CallsTakers}
 use Rattle.tree_crew.specs.Steps.{Turns}
 
 module _ {T R : Type 0} where
-  -- The board is stopped, and is else as it was.
+  -- The board is stopped, and is otherwise unchanged.
   abbrev pub Stops : Board T R → Board T R → Type 0
   Stops old new = new ≡ record old { stopped = true }
 
@@ -53,14 +53,14 @@ module _ {T U J A : Type 0} where
     pub put : board_in works.1 ≡ Some new
     pub steps : step old new
 
-  -- Whom the walk calls: where a reading came, as many workers as may take something then, and else nobody.
+  -- Whom the walk calls: where a reading came, as many workers as may take something then, and otherwise nobody.
   abbrev pub CallsIfEntered : ℕ → Arrival T U J A → Board T (Message T U J) → Sleepers → Sleepers → Called → Type 0
   CallsIfEntered limit (Entered item) board before after calls = CallsTakers limit board before after calls
   CallsIfEntered limit Memory board before after calls = CallsNobody calls
   CallsIfEntered limit Done board before after calls = CallsNobody calls
   CallsIfEntered limit Wait board before after calls = CallsNobody calls
 
-  -- What the walk finds is what came of the board, which was taken and put back by the key. Or the board is out: the walk ends, and the key did nothing.
+  -- What the walk finds is what the hand-out gave; the board was taken and put back by the key. Or the board is out: the walk ends, and the key did nothing.
   abbrev pub ArrivesOrIsOut : Arrival T U J A → Option (Work T U J A) × Option (Work T U J A) → Option (Work T U J A) × Option (Work T U J A) → Type 0
   ArrivesOrIsOut arrival before after = IsHandled (λ old new. Arrives old arrival new) after ⊎ ((arrival ≡ Memory) × (after ≡ before))
 

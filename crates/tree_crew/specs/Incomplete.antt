@@ -12,5 +12,5 @@ not_started start.Memory = Memory
 
 -- the text of the error
 abbrev pub text_of : Incomplete → List ℕ
-text_of Busy = codes "no worker could be started"
+text_of Busy = codes "no place was free in time, or no worker could be started"
 text_of Memory = codes "memory ran out for the readings"

@@ -5,16 +5,16 @@ use Rattle.jwalk_board.specs.Next.{IsNextQueued}
 
 module _ {T R : Type 0} where
   -- how many readings are ready or in hand
-  abbrev pub ahead_of : Board T R → ℕ
-  ahead_of b = length b.ready + length b.in_hand
+  abbrev pub ready_or_in_hand : Board T R → ℕ
+  ready_or_in_hand b = length b.ready + length b.in_hand
 
   -- At most as many as the limit, and one, are ready or in hand.
   abbrev pub IsWithin : ℕ → Board T R → Type 0
-  IsWithin limit b = ahead_of b ≤ limit + 1
+  IsWithin limit b = ready_or_in_hand b ≤ limit + 1
 
   -- A worker may take something that is queued: whatever comes first, if fewer than the limit are ready or in hand and the workers don't rest; and the next one to be handed out, if no more than the limit are.
   abbrev pub MayTake : ℕ → Bool → Board T R → Type 0
-  MayTake limit rests b = ((rests ≡ false) × (b.queued ≢ []) × (ahead_of b < limit)) ⊎ (IsNextQueued b × (ahead_of b ≤ limit))
+  MayTake limit rests b = ((rests ≡ false) × (b.queued ≢ []) × (ready_or_in_hand b < limit)) ⊎ (IsNextQueued b × (ready_or_in_hand b ≤ limit))
 
   -- Something is queued, and no worker may take it yet.
   pub record HoldsBack (limit : ℕ) (rests : Bool) (b : Board T R) : Type 0 where
@@ -25,5 +25,5 @@ module _ {T R : Type 0} where
   -- How many workers may take something: as many as there is room for, where they don't rest; else the one that takes the next.
   pub record CountsTakers (limit : ℕ) (rests : Bool) (b : Board T R) (count : ℕ) : Type 0 where
     pub some : (0 < count) ↔ MayTake limit rests b
-    pub room : rests ≡ false → ahead_of b < limit → count ≡ min (length b.queued) (limit - ahead_of b)
-    pub full : (rests ≡ true) ⊎ (limit ≤ ahead_of b) → count ≤ 1
+    pub room : rests ≡ false → ready_or_in_hand b < limit → count ≡ min (length b.queued) (limit - ready_or_in_hand b)
+    pub full : (rests ≡ true) ⊎ (limit ≤ ready_or_in_hand b) → count ≤ 1

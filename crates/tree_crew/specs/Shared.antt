@@ -32,11 +32,11 @@ module _ {J A T U : Type 0} (p : Plan.Ghosts J A T U) (origin : Origin T J) wher
   abbrev pub IsArrivalOf : List (List ℕ) → Arrival T U J A → List (List ℕ) → Type 0
   IsArrivalOf before (Entered item) after = IsReadingAt before item after
   IsArrivalOf before Memory after = Unit {0}
-  IsArrivalOf before Done after = before ≡ []
+  IsArrivalOf before Done after = (before ≡ []) × (after ≡ before)
   IsArrivalOf before Wait after = after ≡ before
 
   -- what a walk that waited for its next reading is given in the end
   abbrev pub IsAnswerOf : List (List ℕ) → Result (Option (Ordered (Message T U J) A)) AllocError → List (List ℕ) → Type 0
   IsAnswerOf before (Ok (Some item)) after = IsReadingAt before item after
-  IsAnswerOf before (Ok None) after = before ≡ []
+  IsAnswerOf before (Ok None) after = (before ≡ []) × (after ≡ before)
   IsAnswerOf before (Err refused) after = Unit {0}

@@ -1,7 +1,7 @@
 -- Whom a hand-out calls of those who sleep.
 use Rattle.std.specs.Prelude.{◌≡◌, ◌↔◌, ◌+◌, ◌-◌, ◌<◌, ℕ, false, min, IsTrue}
 use Rattle.jwalk_board.specs.Board.{Board}
-use Rattle.tree_crew.specs.Pace.{ahead_of, CountsTakers}
+use Rattle.tree_crew.specs.Pace.{ready_or_in_hand, CountsTakers}
 use Rattle.tree_crew.specs.declared.sleepers.Sleepers.{Sleepers}
 use Rattle.tree_crew.specs.declared.steps.Called.{Called}
 
@@ -17,9 +17,9 @@ pub record CallsNobody (calls : Called) : Type 0 where
 module _ {T R : Type 0} where
   -- Workers that rested still do: more than half the limit is ready or in hand.
   abbrev pub StillRests : ℕ → Sleepers → Board T R → Type 0
-  StillRests limit before board = IsTrue before.rests × (limit < ahead_of board + ahead_of board)
+  StillRests limit before board = IsTrue before.rests × (limit < ready_or_in_hand board + ready_or_in_hand board)
 
-  -- As many workers are called as may take something, and not the walk. Who rested doesn't any longer once the readings are down to half the limit.
+  -- As many workers are called as may take something, and not the walk. Workers that rested stop resting once the readings are down to half the limit.
   pub record CallsTakers (limit : ℕ) (board : Board T R) (before after : Sleepers) (calls : Called) : Type 0 where
     pub takers : ℕ
     pub may : CountsTakers limit after.rests board takers

@@ -11,7 +11,7 @@ use std::alloc::Allocator;
 pub(crate) enum Arrival<T, U, J, A: Allocator + Copy> {
     /// It came.
     Entered(Ordered<Message<T, U, J, A>, A>),
-    /// Memory ran out: the board is stopped or fails for it, or the reading's own message reports it.
+    /// Memory ran out: the board is stopped, missing, or fails for it, or the reading's own message reports it.
     Memory,
     /// There is none: all were handed out.
     Done,

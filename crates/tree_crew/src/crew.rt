@@ -77,7 +77,8 @@ impl<R: Wait + Clock> Crew<R> {
     }
 
     /// Returns how often a worker or a walk slept until its turn of 50 milliseconds was over though there was something
-    /// to do, and nobody had called it. There are none but by a mistake of this crate.
+    /// to do, and nobody had called it. Any number but 0 is a bug of this crate, unless a session was asked again after
+    /// an error.
     pub fn late_wakes(&self) -> usize {
         self.late.load(Ordering::SeqCst)
     }
@@ -103,16 +104,18 @@ impl<R: Wait + Clock> Crew<R> {
         self.read_ahead
     }
 
-    /// Blocks until a place is free, and takes it. Returns false if none was free within the limit.
+    /// Blocks until a place is free, and takes it. Returns false if none was free within the limit, or if there is a
+    /// limit and the clock can't be read.
     fn take_place(&self, limit: Option<Duration>) -> bool {
         let patience = Patience::from_now(&self.rt, limit);
+        let mut places = self.places.lock(&self.rt);
         for _ in self.rt.forever() {
-            let mut places = self.places.lock(&self.rt);
             if places.take() {
                 return true;
             }
-            if !patience.wait(&self.rt, &self.freed, places) {
-                return false;
+            match patience.wait(&self.rt, &self.freed, places) {
+                Some(woken) => places = woken,
+                None => return false,
             }
         }
         unreachable!()
@@ -147,7 +150,7 @@ impl From<AllocError> for NotStarted {
     }
 }
 
-/// A place of a crew, which is in use until this is dropped.
+/// A place of a crew, in use until this is dropped. The drop may block for a lock.
 pub struct Place<R: Wait + Clock + Drop, A: Allocator + Copy = Global> {
     crew: Arc<Crew<R>, A>,
 }
@@ -164,7 +167,8 @@ impl<R: Wait + Clock + Drop, A: Allocator + Copy> Place<R, A> {
     ///
     /// # Errors
     ///
-    /// `Busy` if no place was free in time. `Memory` if memory ran out for sharing the crew.
+    /// `Busy` if no place was free in time, or if there is a limit and the clock can't be read. `Memory` if memory ran
+    /// out for sharing the crew.
     pub fn take(crew: &Arc<Crew<R>, A>, busy_timeout: Option<Duration>) -> Result<Self, NotStarted>
         ensures { IfOk result (λ place. arc_value place.crew ≡ arc_value crew.now) }
     {

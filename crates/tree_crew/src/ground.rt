@@ -6,7 +6,7 @@ use std::alloc::Allocator;
 use std::snapshot::Snapshot;
 
 /// What the slot of a walk's board is made for: where the walk's readings come from, and how many of them may be ready or
-/// in hand. Clauses alone read it.
+/// in hand. Only clauses read it.
 pub(crate) struct Ground<T, J, A: Allocator + Copy> {
     origin: Snapshot<Origin<T, J, A>>,
     limit: Snapshot<usize>,

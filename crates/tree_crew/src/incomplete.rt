@@ -9,7 +9,7 @@ use std::fmt;
 /// Why not all readings of a tree came.
 #[derive(Clone, Copy, Debug, PartialEq, Eq)]
 pub enum Incomplete {
-    /// No worker could be started.
+    /// No place was free in time, or no worker could be started.
     Busy,
     /// Memory ran out.
     Memory,
@@ -23,7 +23,7 @@ impl fmt::Display for Incomplete {
 
     fn fmt<W: fmt::Write>(&self, f: &mut fmt::Formatter<W>) -> fmt::Result {
         f.write_str(match self {
-            Incomplete::Busy => "no worker could be started",
+            Incomplete::Busy => "no place was free in time, or no worker could be started",
             Incomplete::Memory => "memory ran out for the readings",
         })
     }

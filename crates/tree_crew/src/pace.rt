@@ -1,6 +1,6 @@
 //! How far ahead workers may read.
 ghost use Rattle.std.specs.Prelude.{◌≡◌, ◌⊎◌, ◌+◌, ◌≤◌, ◌<◌, ◌↔◌, [], true, false, IfNone, IfSome, IsTrue};
-ghost use Rattle.tree_crew.specs.Pace.{ahead_of, CountsTakers, HoldsBack, MayTake};
+ghost use Rattle.tree_crew.specs.Pace.{ready_or_in_hand, CountsTakers, HoldsBack, MayTake};
 
 use jwalk_board::board::Board;
 use std::alloc::Allocator;
@@ -10,8 +10,8 @@ use std::alloc::Allocator;
 pub(crate) struct Pace {
     /// How many readings may be ready or in hand. The next one to be handed out may be one more.
     limit: usize,
-    /// Whether the workers rest: one found the limit reached, and more than half of it is still ready or in hand. They
-    /// make the next reading alone then.
+    /// Whether the workers rest: one found the limit reached, and more than half of it is still ready or in hand. Until
+    /// then they make only the next reading.
     rests: bool,
 }
 
@@ -26,8 +26,8 @@ impl Pace {
 
     /// Returns how many more readings may be ready or in hand, or none where there are more than the limit.
     fn room<T: Drop, R: Drop, A: Allocator + Copy>(self, board: &Board<T, R, A>) -> Option<usize>
-        ensures some { IfSome result (λ room. room + ahead_of board.now ≡ self.limit) }
-        ensures none { IfNone result (self.limit < ahead_of board.now) }
+        ensures some { IfSome result (λ room. room + ready_or_in_hand board.now ≡ self.limit) }
+        ensures none { IfNone result (self.limit < ready_or_in_hand board.now) }
     {
         self.limit
             .checked_sub(board.ready())?
@@ -39,7 +39,7 @@ impl Pace {
         self,
         board: &Board<T, R, A>,
     ) -> bool
-        ensures { IsTrue result ↔ (ahead_of board.now + ahead_of board.now ≤ self.limit) }
+        ensures { IsTrue result ↔ (ready_or_in_hand board.now + ready_or_in_hand board.now ≤ self.limit) }
     {
         match self.room(board) {
             Some(room) => self.limit - room <= room,

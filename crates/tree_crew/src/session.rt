@@ -109,12 +109,14 @@ impl<
 > Session<R, T, U, J, A> {
     ghost use Rattle.tree_crew.specs.Session.{origin_of, awaited_by, read_ahead_of};
 
-    /// Returns the next reading in preorder, once it is there. It may block for the reading or for a lock. The
-    /// addresses of the specifications below it are awaited from then on, in place of its own.
+    /// Returns the next reading in preorder, once it is there, or none if all were handed out. It may block for the
+    /// reading or for a lock. The addresses of the specifications below it are awaited from then on, in place of its
+    /// own.
     ///
     /// # Errors
     ///
-    /// `Memory` if memory ran out, the workers' or for the hand-out. `Lost` if all readings were handed out.
+    /// If memory ran out, for the hand-out or for a worker. A reading may have been passed over then, so the session is
+    /// not to be asked again.
     pub fn next(&mut self) -> Result<Option<Ordered<Message<T, U, J, A>, A>>, AllocError>
         ensures origin { origin_of self.new ≡ origin_of self.old }
         ensures read_ahead { read_ahead_of self.new ≡ read_ahead_of self.old }
@@ -178,7 +180,8 @@ impl<
     ///
     /// # Errors
     ///
-    /// `Memory` if memory runs out. `Busy` if no worker could be started. After an error the place is given back.
+    /// `Memory` if memory runs out. `Busy` if no worker could be started; if only some could be, these read. After an
+    /// error the place is given back, for which the call may block for a lock.
     pub fn start(
         place: Place<R, A>,
         origin: &Origin<T, J, A>,

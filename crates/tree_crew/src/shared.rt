@@ -50,10 +50,10 @@ use std::time::Clock;
 /// What a walk and its workers share.
 ///
 /// While the walk waits somebody works. The reading that it waits for is in one of three places. It is ready: the walk
-/// takes it. Or it is in hand: its worker comes back, and calls the walk. Or it is queued: then it is the least that is,
-/// and no more than the limit are ready or in hand, since one more are only while the next reading is among them. So a
-/// worker may take it, whatever the pace is. It came next by a hand-out, which called a worker if all slept; and a worker
-/// that doesn't sleep has a turn before it does.
+/// takes it. Or it is in hand: its worker comes back, and calls the walk. Or it is queued: then it is the least that is
+/// queued, and at most the limit are ready or in hand, since one more is there only if the next reading is among them.
+/// So a worker may take it, whatever the pace is. It came next by the hand-out of a reading, which called a worker if
+/// all slept; and a worker that doesn't sleep has a turn before it does.
 pub(crate) struct Shared<
     R: Wait + Clock + Drop,
     T: Drop,
@@ -66,8 +66,9 @@ pub(crate) struct Shared<
     pub(crate) plan: Arc<J, A>,
     /// The lock. Whoever works on the board holds it, and shows its guard, whose type doesn't say of which lock it is.
     pub(crate) sleepers: Mutex<Sleepers>,
-    /// The board. It is taken out and put back while the lock is held, so that nobody finds it out. Whoever takes it
-    /// knows that all that is on it comes from where the walk began. The walk has the key: it alone hands readings out.
+    /// The board. It is taken out and put back while the lock is held, so that nobody finds it missing. Whoever takes
+    /// it knows that all that is on it comes from where the walk began. The walk has the key: it alone hands readings
+    /// out.
     pub(crate) work: KeyedSlot<Work<T, U, J, A>, A>,
     /// Notified when a worker may find something queued, or nothing more will be.
     pub(crate) queued: Condvar,
@@ -214,7 +215,7 @@ impl<
         };
         let turn = take_turn(&mut *board, pace);
         held.note_turn(&turn);
-        self.crew.count_late(held.has_overslept(turn.is_found()));
+        self.crew.count_late(held.take_overslept(turn.has_found()));
         let calls = Called::after_turn(&*board, &turn, pace);
         (turn, calls, Ok(self.put_back(held, board, loan)))
     }
@@ -243,7 +244,7 @@ impl<
         let mut board = work.into_board();
         let arrival = arrive(&mut *board);
         let came = matches!(arrival, Arrival::Entered(_));
-        self.crew.count_late(held.has_overslept(came));
+        self.crew.count_late(held.take_overslept(came));
         let calls = held.after_arrival(came, &*board, self.crew.read_ahead());
         self.work.put_back_with(Work::new(board), key);
         (arrival, calls)
@@ -271,7 +272,7 @@ impl<
         }
     }
 
-    /// How many readings are ready. The receipt is for the board as it was.
+    /// Returns how many readings are ready. The receipt is for the board as it was.
     pub(crate) fn ready(&self, held: &mut MutexGuard<'_, Sleepers>) -> (usize, Handled<T, U, J, A>)
         ensures most { result.0 ≤ limit_at self.now.work + 1 }
         ensures handled { IfOk result.1 (IsReceiptFor self.now.work (Counts result.0)) }

@@ -19,18 +19,19 @@ use std::alloc::Allocator;
 pub(crate) struct Sleepers {
     workers: usize,
     called: usize,
-    /// A worker found the limit of what is read ahead reached, and it isn't down to half since. The workers make the next
-    /// reading alone then, so that they work on many in a row rather than on one for each that is handed out.
+    /// A worker found the limit of what is read ahead reached, and the readings haven't been down to half of it since.
+    /// Until then the workers make only the next reading, so that they work on many in a row rather than on one for
+    /// each that is handed out.
     rests: bool,
     walk: bool,
-    /// Who woke last did so because its turn was over, and nobody had called it.
+    /// Whoever woke last did so because its turn was over, and nobody had called it.
     overslept: bool,
     /// Somebody who held the lock didn't find the board. So a reading may have been lost, and the walk ends.
     board_missed: bool,
 }
 
 impl Sleepers {
-    /// Nobody sleeps.
+    /// Returns that nobody sleeps.
     pub(crate) fn none() -> Self
         ensures { result.board_missed ≡ false }
     {
@@ -44,28 +45,28 @@ impl Sleepers {
         }
     }
 
-    /// The board wasn't there.
+    /// Notes that the board wasn't there.
     pub(crate) fn set_board_missed(&mut self)
         ensures { self.new.board_missed ≡ true }
     {
         self.board_missed = true;
     }
 
-    /// Whether the board was missed, now or before.
+    /// Returns whether the board was missed, now or before.
     pub(crate) fn board_missed(&self) -> bool
         ensures { result ≡ self.now.board_missed }
     {
         self.board_missed
     }
 
-    /// A worker goes to sleep.
+    /// Notes that a worker goes to sleep.
     pub(crate) fn add_worker(&mut self)
         ensures { self.new.board_missed ≡ self.old.board_missed }
     {
         self.workers = self.workers.saturating_add(1);
     }
 
-    /// A worker woke, maybe because its turn was over.
+    /// Notes that a worker woke, maybe because its turn was over.
     pub(crate) fn remove_worker(&mut self, timed_out: bool)
         ensures { self.new.board_missed ≡ self.old.board_missed }
     {
@@ -74,14 +75,14 @@ impl Sleepers {
         self.called = self.called.saturating_sub(1);
     }
 
-    /// The walk goes to sleep.
+    /// Notes that the walk goes to sleep.
     pub(crate) fn add_walk(&mut self)
         ensures { self.new.board_missed ≡ self.old.board_missed }
     {
         self.walk = true;
     }
 
-    /// The walk woke, maybe because its turn was over.
+    /// Notes that the walk woke, maybe because its turn was over.
     pub(crate) fn remove_walk(&mut self, timed_out: bool)
         ensures { self.new.board_missed ≡ self.old.board_missed }
     {
@@ -89,9 +90,9 @@ impl Sleepers {
         self.walk = false;
     }
 
-    /// Returns whether who woke last slept too long: its turn was over, nobody had called it, and it found something to
-    /// do now.
-    pub(crate) fn has_overslept(&mut self, found: bool) -> bool
+    /// Returns whether whoever woke last slept too long: its turn was over, nobody had called it, and it found
+    /// something to do now. The note of it is cleared.
+    pub(crate) fn take_overslept(&mut self, found: bool) -> bool
         ensures { self.new ≡ record self.old { overslept = false } }
     {
         let late = self.overslept && found;
@@ -99,7 +100,7 @@ impl Sleepers {
         late
     }
 
-    /// Whether the workers rest.
+    /// Returns whether the workers rest.
     pub(crate) fn rests(&self) -> bool
         ensures { result ≡ self.now.rests }
     {

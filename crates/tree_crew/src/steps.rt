@@ -43,7 +43,7 @@ pub(crate) enum Turn<T, A: Allocator + Copy> {
 
 impl<T, A: Allocator + Copy> Turn<T, A> {
     /// Returns whether the worker found something to do, or that nothing will come.
-    pub(crate) fn is_found(&self) -> bool {
+    pub(crate) fn has_found(&self) -> bool {
         match self {
             Turn::Read(_) | Turn::End => true,
             Turn::Wait | Turn::Rest => false,
@@ -97,7 +97,7 @@ pub(crate) struct Called {
 }
 
 impl Called {
-    /// Everyone.
+    /// Returns a call of everyone.
     pub(crate) fn all() -> Self
         ensures { result.walk ≡ true }
     {
@@ -107,7 +107,7 @@ impl Called {
         }
     }
 
-    /// Nobody.
+    /// Returns a call of nobody.
     pub(crate) fn none() -> Self
         ensures { CallsNobody result }
     {
@@ -119,10 +119,7 @@ impl Called {
 
     /// Returns whom to call after a step that left the board at work: as many workers as may take something, and the
     /// walk if its next reading is ready.
-    pub(crate) fn after<T: Drop, R: Drop, A: Allocator + Copy>(
-        board: &Board<T, R, A>,
-        pace: Pace,
-    ) -> Self
+    fn after<T: Drop, R: Drop, A: Allocator + Copy>(board: &Board<T, R, A>, pace: Pace) -> Self
         ensures workers { CountsTakers pace.limit pace.rests board.now result.workers }
         ensures walk { IsTrue result.walk ↔ IsNextReady board.now }
     {

@@ -71,8 +71,8 @@ impl<
         }
     }
 
-    /// Hands in what was read, if anything, and takes a specification as soon as one is queued: none once the board is
-    /// done or stopped. There is a receipt for what was handed in.
+    /// Hands in what was read, if anything, and takes a specification as soon as one may be taken: none once the board
+    /// is done or stopped. There is a receipt for what was handed in.
     fn next(
         &self,
         read: Option<HandIn<T, U, J, A>>,
@@ -117,7 +117,8 @@ impl<
         unreachable!()
     }
 
-    /// Reads a specification that was taken. Returns none if memory runs out, and the board is stopped then.
+    /// Reads a specification that was taken. If memory runs out for the reading, its message reports it. Returns none
+    /// if it runs out for the plan's clone, and the board is stopped then.
     fn read(&self, item: Ordered<T, A>) -> Option<HandIn<T, U, J, A>>
         requires lawful { J.IsLawful (arc_value (arc_value self.now.shared).plan) }
         requires at { IsAt J.Plan (origin_at (arc_value self.now.shared).work) (address_of item) item.value }

@@ -24,7 +24,7 @@ use Rattle.tree_walk.specs.declared.batch.Made.{Made}
 use Rattle.tree_walk.specs.ToGive.{IsHeld, MakesAll}
 use Rattle.tree_walk.specs.Reads.{spec_of, to_give, IsSound}
 use Rattle.tree_walk.specs.Batch.{hand_of, held_by, with_children, IsMadeOf, made_at}
-use Rattle.tree_walk.specs.ReadAhead.{ReadAhead, ahead_on, unread, below, BeginsWith, Joins, LeastLeave, StandsBefore, ReadsLeast}
+use Rattle.tree_walk.specs.ReadAhead.{ReadAhead, ahead_on, unread, below, BeginsWith, Joins, LeastLeave, ComesBefore, ReadsLeast}
 use Rattle.tree_walk.specs.BoardWalk.{ReadsBatch}
 use Rattle.tree_walk.proofs.BatchFacts.{reads_batch, as_many, none_held}
 use Rattle.tree_walk.proofs.ReadFacts.{reads_none, reads_one, none_left}
@@ -56,10 +56,11 @@ taken_first b c item whole t =
 
 module _ {T R : Type 0} where
   -- A new board begins with its roots.
-  pub begins : (specs : List T) (b : Board T (Read T R)) → IsNew specs b → BeginsWith specs (ahead_on b)
+  pub begins : (specs : List T) (b : Board T (Read T R)) → IsNew specs b → BeginsWith specs b.frontier (ahead_on b)
   begins specs b new = record {
     queue = new.queued;
     done = ap addresses_of new.ready;
+    to_enter = new.frontier;
   }
 
   -- nothing has left yet
@@ -75,12 +76,12 @@ module _ {T R : Type 0} where
       let one : Addressed T = addressed item in
       let more : IsPermutation before (one ∷ now) = t.queued in
       let is : map addressed taken ++ one ∷ now ≡ map addressed (taken ++ item ∷ []) ++ now = sym (ap (λ l. l ++ now) (map-append addressed taken (item ∷ [])) ∙ append_assoc (map addressed taken) (one ∷ []) now) in
-      let still : (x : Addressed T) → StandsBefore x before → StandsBefore x now = λ x first_of. All-tail (λ y. is_before x.at y.at ≡ true) one now (All-permutation (λ y. is_before x.at y.at ≡ true) before (one ∷ now) more first_of) in
+      let still : (x : Addressed T) → ComesBefore x before → ComesBefore x now = λ x first_of. All-tail (λ y. is_before x.at y.at ≡ true) one now (All-permutation (λ y. is_before x.at y.at ≡ true) before (one ∷ now) more first_of) in
       record {
         queue = subst (IsPermutation first.queue) is (IsPermutation-trans first.queue (map addressed taken ++ before) (map addressed taken ++ one ∷ now) so_far.queue (IsPermutation-append_right (map addressed taken) before (one ∷ now) more));
-        least = subst (All (λ x. StandsBefore x now)) (sym (map-append addressed taken (item ∷ []))) (All-append (λ x. StandsBefore x now) (map addressed taken) (one ∷ [])
-            (All-weaker (λ x. StandsBefore x before) (λ x. StandsBefore x now) still (map addressed taken) so_far.least)
-            (All-cons (λ x. StandsBefore x now) one [] (taken_first b c item whole t) (All-nil _)));
+        least = subst (All (λ x. ComesBefore x now)) (sym (map-append addressed taken (item ∷ []))) (All-append (λ x. ComesBefore x now) (map addressed taken) (one ∷ [])
+            (All-weaker (λ x. ComesBefore x before) (λ x. ComesBefore x now) still (map addressed taken) so_far.least)
+            (All-cons (λ x. ComesBefore x now) one [] (taken_first b c item whole t) (All-nil _)));
         done = ap (λ z. addresses_of z.ready) t.others ∙ so_far.done;
       }
 

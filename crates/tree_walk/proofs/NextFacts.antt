@@ -16,7 +16,7 @@ use Rattle.jwalk_order.proofs.Sets.{same, times-append, times-permutation, times
 use Rattle.jwalk_board.proofs.Opens.{times-addresses_of, times-on_board, next_least, holds_open}
 use Rattle.tree_walk.specs.declared.read.Read.{Read}
 use Rattle.tree_walk.specs.Reads.{spec_of, to_give, IsSound, ReadsSome}
-use Rattle.tree_walk.specs.ReadAhead.{ReadAhead, ahead_on, unread, StandsBefore, ReadsLeast, HandsOnAt, EntersNext}
+use Rattle.tree_walk.specs.ReadAhead.{ReadAhead, ahead_on, unread, ComesBefore, ReadsLeast, HandsOnAt, EntersNext}
 use Rattle.tree_walk.specs.BoardWalk.{Keeps, ReadsBatch, HandsOnNext, GoesOn}
 use Rattle.tree_walk.proofs.Steps.{some_to_read, gives-handed_out}
 use Rattle.tree_walk.proofs.ReadFacts.{reads_none, some_give, hands_less, some_more}
@@ -82,7 +82,7 @@ module _ {T R : Type 0} (is_reading : T → R → List T → Type 0) (width : �
         elim reads.batch as (λ b. reads.batch ≡ b → 1 ≤ length b → ⊥) [
           | [] ↦ λ is h. absurd (omega (arith, h))
           | x ∷ rest ↦ λ is h.
-              let first : StandsBefore (unread spec_of x) reads.left.queue = All-head (λ y. StandsBefore y reads.left.queue) (unread spec_of x) (map (unread spec_of) rest) (subst (λ b. All (λ y. StandsBefore y reads.left.queue) (map (unread spec_of) b)) is reads.leave.least) in
+              let first : ComesBefore (unread spec_of x) reads.left.queue = All-head (λ y. ComesBefore y reads.left.queue) (unread spec_of x) (map (unread spec_of) rest) (subst (λ b. All (λ y. ComesBefore y reads.left.queue) (map (unread spec_of) b)) is reads.leave.least) in
               let among : 0 < times x.at (addresses_of reads.batch) = subst (λ b. 0 < times x.at (addresses_of b)) (sym is) (omega (arith, times-itself x.at (addresses_of rest))) in
               let no : false ≡ true = sym (next_least old whole x.at (omega (arith, read_or_left x.at, among, times-on_board x.at old))) ∙ before_each x.at reads.left.queue first (next_address old.frontier) there in
               cc

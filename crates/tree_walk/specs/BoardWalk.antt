@@ -63,6 +63,10 @@ module _ {T R J : Type 0} (w : BoardWalk T R J) where
   abbrev pub read_ahead : ReadAhead T
   read_ahead = ahead_of w.board
 
+  -- the addresses of the specifications that are still to be entered, the next one first
+  abbrev pub frontier_of : List (List ℕ)
+  frontier_of = frontier_on w.board
+
 module _ {T R : Type 0} (is_reading : T → R → List T → Type 0) (width : ℕ) where
   -- Some of the least are read, at most this many, and nothing is handed on.
   pub record ReadsBatch (old new : Board T (Read T R)) : Type 0 where

@@ -3,6 +3,7 @@ use Rattle.std.specs.Prelude.{◌≡◌, ◌⊎◌, ℕ, true, min, List, [], �
 use Rattle.std.specs.List.Sorted.{IsPermutation}
 use Rattle.jwalk_order.specs.IndexPath.{is_before}
 use Rattle.jwalk_order.specs.Addresses.{IsAmong}
+use Rattle.jwalk_order.specs.Frontier.{roots as root_addresses}
 use Rattle.jwalk_board.specs.Board.{Board}
 use Rattle.jwalk_order.specs.Addressed.{Addressed, addresses_of, numbered}
 
@@ -21,19 +22,20 @@ abbrev pub ahead_on : {V Q : Type 0} → Board V Q → ReadAhead V
 ahead_on b = record { queue = b.queued; done = addresses_of b.ready }
 
 module _ {V : Type 0} where
-  -- The roots are queued, at `[0]`, `[1]` and so on.
-  pub record BeginsWith (roots : List V) (new : ReadAhead V) : Type 0 where
+  -- The roots are queued, at `[0]`, `[1]` and so on, and these addresses are to be entered.
+  pub record BeginsWith (roots : List V) (frontier : List (List ℕ)) (new : ReadAhead V) : Type 0 where
     pub queue : IsPermutation (numbered [] 0 roots) new.queue
     pub done : new.done ≡ []
+    pub to_enter : frontier ≡ root_addresses (length roots)
 
   -- The address of the first comes before all of these.
-  abbrev pub StandsBefore : Addressed V → List (Addressed V) → Type 0
-  StandsBefore x others = All (λ y. is_before x.at y.at ≡ true) others
+  abbrev pub ComesBefore : Addressed V → List (Addressed V) → Type 0
+  ComesBefore x others = All (λ y. is_before x.at y.at ≡ true) others
 
   -- The least of the queue leave it: each comes before all that stay.
   pub record LeastLeave (taken : List (Addressed V)) (old new : ReadAhead V) : Type 0 where
     pub queue : IsPermutation old.queue (taken ++ new.queue)
-    pub least : All (λ x. StandsBefore x new.queue) taken
+    pub least : All (λ x. ComesBefore x new.queue) taken
     pub done : new.done ≡ old.done
 
   -- The reading at an address is handed on: it leaves those that are done.

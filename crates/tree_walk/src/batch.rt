@@ -26,7 +26,7 @@ pub(crate) struct Made<T, R, A: Allocator + Copy> {
 }
 
 /// Takes the least specifications that are queued: that many, or all if there are fewer.
-pub(crate) fn take_batch<T: Drop, R: Drop, A: Allocator + Copy>(
+fn take_batch<T: Drop, R: Drop, A: Allocator + Copy>(
     alloc: A,
     board: &mut Board<T, Read<T, R>, A>,
     width: usize,
@@ -81,12 +81,11 @@ fn make<T: Drop, R: Drop, J: Plan<A, Spec = T, Reading = R>, A: Allocator + Copy
 }
 
 /// Reads what was taken, one after another.
-pub(crate) fn read_in_turn<
-    T: Drop,
-    R: Drop,
-    J: Plan<A, Spec = T, Reading = R>,
-    A: Allocator + Copy,
->(alloc: A, plan: &J, taken: Vec<Ordered<T, A>, A>) -> Result<Vec<Made<T, R, A>, A>, AllocError>
+fn read_in_turn<T: Drop, R: Drop, J: Plan<A, Spec = T, Reading = R>, A: Allocator + Copy>(
+    alloc: A,
+    plan: &J,
+    taken: Vec<Ordered<T, A>, A>,
+) -> Result<Vec<Made<T, R, A>, A>, AllocError>
     requires { J.IsLawful plan.now }
     ensures { IfOk result (λ v. AllZip (IsMadeOf (J.IsReading plan.now)) taken.items v.items) }
 {
@@ -98,7 +97,7 @@ pub(crate) fn read_in_turn<
 }
 
 /// Reads what was taken, on several threads if there is enough of it.
-pub(crate) fn read_on_threads<
+fn read_on_threads<
     W: Threads + Sync,
     T: Drop + Send,
     R: Drop + Send,
@@ -128,7 +127,7 @@ pub(crate) fn read_on_threads<
 }
 
 /// Finishes what was made, the last first, so that the children come in order of their addresses.
-pub(crate) fn finish_batch<T: Drop, R: Drop, A: Allocator + Copy>(
+fn finish_batch<T: Drop, R: Drop, A: Allocator + Copy>(
     board: &mut Board<T, Read<T, R>, A>,
     mut made: Vec<Made<T, R, A>, A>,
 ) -> Result<(), AllocError>

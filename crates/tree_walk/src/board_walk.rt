@@ -50,14 +50,14 @@ fn read_next<T: Drop, R: Drop, J: Plan<A, Spec = T, Reading = R>, A: Allocator +
     Ok(Some(hand_on(board)?))
 }
 
-/// Readings in preorder: a specification's, and then those of all that is below it. Up to a width of them are made
-/// together, when a reading is asked for that isn't there yet.
+/// Readings in preorder: a specification's, and then those of all that is below it. Up to `width` of them are made
+/// together, when one is asked for that isn't made yet.
 pub struct BoardWalk<T, R, J, A: Allocator + Copy = Global> {
     alloc: A,
     plan: J,
     // How many are read together, 1 at least.
     width: usize,
-    // None after the walk was stopped.
+    // None before the walk begins, and after it was stopped.
     board: Option<Board<T, Read<T, R>, A>>,
 }
 
@@ -89,7 +89,7 @@ impl<T: Drop, R: Drop, J: Plan<A, Spec = T, Reading = R>, A: Allocator + Copy> B
     J,
     A,
 > {
-    ghost use Rattle.tree_walk.specs.BoardWalk.{to_read, early_of, read_ahead};
+    ghost use Rattle.tree_walk.specs.BoardWalk.{to_read, early_of, read_ahead, frontier_of};
 
     /// Returns a walk with nothing to read yet, which is to read that many specifications together.
     pub fn new(alloc: A, plan: J, width: usize) -> Self
@@ -116,7 +116,7 @@ impl<T: Drop, R: Drop, J: Plan<A, Spec = T, Reading = R>, A: Allocator + Copy> B
         ensures width { self.new.width ≡ self.old.width }
         ensures to_read { OnOk result (to_read self.new ≡ roots.items) }
         ensures early { OnOk result (early_of self.new ≡ []) }
-        ensures read_ahead { OnOk result (BeginsWith roots.items (read_ahead self.new)) }
+        ensures read_ahead { OnOk result (BeginsWith roots.items (frontier_of self.new) (read_ahead self.new)) }
         ensures stopped { OnErr result (self.new.board ≡ None) }
     {
         match Board::new(roots) {
@@ -138,12 +138,12 @@ impl<T: Drop, R: Drop, J: Plan<A, Spec = T, Reading = R>, A: Allocator + Copy> B
         &self.plan
     }
 
-    /// Returns the next reading, or none if all was read. If it isn't made yet, the least of what is unread is read, as
-    /// many as are read together, one after another.
+    /// Returns the next reading, or none if nothing is left to be read. If it isn't made yet, the least of the unread
+    /// specifications are read first, up to the width, one after another.
     ///
     /// # Errors
     ///
-    /// If memory runs out in any of these readings. Then nothing is left to be read.
+    /// If memory runs out. Then nothing is left to be read.
     pub fn read_next(&mut self) -> Result<Option<R>, AllocError>
         requires { J.IsLawful self.old.plan }
         ensures plan { self.new.plan ≡ self.old.plan }
@@ -187,13 +187,13 @@ impl<
     J: Plan<A, Spec = T, Reading = R> + Sync,
     A: Allocator + Copy + Send + Sync,
 > BoardWalk<T, R, J, A> {
-    /// Makes sure that the next reading is ready, if any is left. If it isn't made yet, the least of what is unread is
-    /// read, as many as are read together, on several threads if there are enough of them to be worth it. The call of
-    /// [`read_next`](BoardWalk::read_next) that follows then reads nothing.
+    /// Makes sure that the next reading is ready, if any is left. If it isn't made yet, the least of the unread
+    /// specifications are read, up to the width, on several threads if there are enough of them to be worth it. The
+    /// call of [`read_next`](BoardWalk::read_next) that follows then reads nothing.
     ///
     /// # Errors
     ///
-    /// If memory runs out in any of these readings. Then nothing is left to be read.
+    /// If memory runs out. Then nothing is left to be read.
     pub fn prepare_on<W: Threads + Sync>(&mut self, rt: &W) -> Result<(), AllocError>
         requires { J.IsLawful self.old.plan }
         ensures plan { self.new.plan ≡ self.old.plan }
@@ -216,11 +216,12 @@ impl<
         }
     }
 
-    /// Does the same as [`read_next`](BoardWalk::read_next), with what is read together read on several threads.
+    /// Does the same as [`read_next`](BoardWalk::read_next), with what is read together read on several threads, if
+    /// there is enough of it.
     ///
     /// # Errors
     ///
-    /// If memory runs out in any of these readings. Then nothing is left to be read.
+    /// If memory runs out. Then nothing is left to be read.
     pub fn read_next_on<W: Threads + Sync>(&mut self, rt: &W) -> Result<Option<R>, AllocError>
         requires { J.IsLawful self.old.plan }
         ensures plan { self.new.plan ≡ self.old.plan }

@@ -14,7 +14,8 @@ pub struct Read<T, R> {
     pub reading: R,
 }
 
-/// Finishes what was taken, unless memory runs out.
+/// Finishes a reading on a board. Only what is in hand on a board at work is finished, so each refusal is reported as
+/// out of memory.
 pub(crate) fn finish<T: Drop, R: Drop, A: Allocator + Copy>(
     board: &mut Board<T, R, A>,
     address: IndexPath<A>,

@@ -6,8 +6,7 @@ use crate::board_walk::BoardWalk;
 use jwalk_board::board::Plan;
 use std::alloc::{AllocError, Allocator};
 
-/// Returns all readings of a tree. If its plan is fixed, they are those of its preorder, however many are made
-/// together.
+/// Returns all readings of a tree whose plan is fixed: those of its preorder, however many are made together.
 ///
 /// # Errors
 ///

@@ -28,7 +28,8 @@ fn shared<S: FileSystem, A: Allocator>(alloc: A, fs: S) -> Result<Arc<S, A>, All
 
 /// Walks over a file system as is asked for, and prints the line of what the answers come to. Returns the status: 0 if
 /// the walk ended and no answer was an error, and 1 otherwise. Directories are read in turn, or by a crew: no batch is
-/// read by threads. Who reads a directory asks the sizes of its files too.
+/// read by threads. Whichever thread reads a
+/// directory also asks for the sizes of its files.
 ///
 /// # Errors
 ///

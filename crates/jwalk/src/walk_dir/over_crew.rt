@@ -8,7 +8,7 @@ ghost use Rattle.jwalk_core.specs.Error.{failure};
 use crate::walk_dir::WalkDirGeneric;
 use crate::walk_dir::crew_start::{Begun, CrewWalk, from_root_alone};
 use jwalk_core::client_state::ClientState;
-use jwalk_core::crew_reads::started::error_of;
+use jwalk_core::crew_reads::started::start_error;
 use jwalk_core::dir_entry_iter::DirEntryIter;
 use jwalk_core::error::Error;
 use jwalk_core::job::Job;
@@ -100,8 +100,8 @@ where
         }
     }
 
-    /// Begins the walk: makes its root's list, and starts the crew's workers. It first blocks until a place of its crew
-    /// is free, as long as its `busy_timeout` says. A walk that isn't to be read by a crew takes no place.
+    /// Begins the walk: makes its root's list, and starts the crew's workers. It blocks until a place of its crew is
+    /// free, for at most its `busy_timeout`. A walk that isn't to be read by a crew takes no place.
     ///
     /// # Errors
     ///
@@ -121,7 +121,7 @@ where
         let Begun { walk, why_not } = self.begin_by();
         match why_not {
             None => Ok(walk),
-            Some(why_not) => Err(error_of(why_not)),
+            Some(why_not) => Err(start_error(why_not)),
         }
     }
 

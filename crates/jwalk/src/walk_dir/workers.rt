@@ -43,11 +43,12 @@ impl<C: ClientState, S: FileSystem, P: ProcessReadDir<C, A>, A: Allocator + Copy
     /// walk begins, read directories while the answers are taken, also in a `for` over `walk.into_iter()`, and end with
     /// the walk. Its answers and their order are those of a serial walk.
     ///
-    /// A count of 0 stands for the number of threads that can run side by side ([`available_parallelism`]), 1 where
-    /// that isn't known. More than 256 count as 256. (In [`Crew::new`], 0 counts as 1.)
+    /// A count of 0 means as many threads as can run side by side ([`available_parallelism`]), or 1 where that isn't
+    /// known. More than 256 count as 256. (In [`Crew::new`], 0 counts as 1.)
     ///
-    /// The walk is busy only if no thread can be started: then `into_iter` yields an error whose `is_busy` is true.
-    /// Walks that are to share one crew are made by `with_crew`.
+    /// The walk is busy only if no thread can be started. Then `try_into_iter` fails with an error whose `is_busy` is
+    /// true, and the walk of `into_iter` yields that error in place of a root that would be read. Walks that are to
+    /// share one crew are made by `with_crew`.
     ///
     /// # Errors
     ///

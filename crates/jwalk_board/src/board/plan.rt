@@ -9,8 +9,10 @@ pub trait Plan<A: Allocator + Copy> {
     ghost use Rattle.std.specs.Prelude.{◌≡◌, List, map, IfOk};
     ghost use Rattle.jwalk_board.specs.Plan.{PlanTree, Falls};
 
+    /// What is read.
     type Spec: Drop;
 
+    /// What the reading of a specification is.
     type Reading: Drop;
 
     // What a promise on values takes to be given: nothing, or how states count and what results from them.
@@ -25,7 +27,7 @@ pub trait Plan<A: Allocator + Copy> {
 
     ghost reading_value: { Given → Self.Reading → ReadingValue };
 
-    // It may be asked for readings.
+    // Whether it may be asked for readings.
     ghost IsLawful: { Self → Type 0 };
 
     // What a reading of a specification and its children are, whatever is given.
@@ -47,11 +49,7 @@ pub trait Plan<A: Allocator + Copy> {
         spec: &Self::Spec,
     ) -> Result<(Self::Reading, Vec<Self::Spec, A>), Refused>
         requires { IsLawful self.now }
-        ensures made { IfOk result (λ r. IsReading self.now spec.now r.0 r.1.items) }
-        ensures reading { (given : Given) → IsFixed self.now given → IfOk result (λ r.
-            reading_value given r.0 ≡ (tree self.now given).reading (spec_value given spec.now)) }
-        ensures children { (given : Given) → IsFixed self.now given → IfOk result (λ r.
-            map (spec_value given) r.1.items ≡ (tree self.now given).children (spec_value given spec.now)) };
+        ensures { IfOk result (λ r. IsReading self.now spec.now r.0 r.1.items) };
 
     // Where the plan is fixed, a reading and its children are those of its tree.
     ghost as_given: { (p : Self) (spec : Self.Spec) (reading : Self.Reading) (children : List Self.Spec)

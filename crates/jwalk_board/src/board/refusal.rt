@@ -11,7 +11,7 @@ pub enum TakeRefusal {
     Empty,
     /// Nothing is queued or in hand.
     Done,
-    /// Memory runs out.
+    /// Memory ran out.
     Memory,
 }
 
@@ -22,7 +22,7 @@ pub enum FinishRefusal {
     Stopped,
     /// The address is not in hand.
     NotInHand,
-    /// Memory runs out.
+    /// Memory ran out.
     Memory,
 }
 
@@ -35,7 +35,7 @@ pub enum HandOutRefusal {
     Done,
     /// The next address is queued or in hand.
     NotReady,
-    /// Memory runs out.
+    /// Memory ran out.
     Memory,
 }
 

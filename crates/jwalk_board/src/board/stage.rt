@@ -1,4 +1,4 @@
-// A rehearsal under way.
+//! A rehearsal under way.
 ghost use Rattle.std.specs.Prelude.{OnOk};
 ghost use Rattle.jwalk_board.specs.Stage.{IsUnderWay, PlaysByPlan, PlaysOnAny};
 
@@ -9,7 +9,7 @@ use super::rehearsal::Rehearsal;
 use jwalk_order::ordered::Ordered;
 use std::alloc::{AllocError, Allocator};
 
-// What was done so far, and what each worker holds.
+/// What was done so far, and what each worker holds.
 #[derive(Drop)]
 pub(super) struct Stage<T, R, A: Allocator + Copy> {
     pub(super) hands: Vec<Option<Ordered<T, A>>, A>,

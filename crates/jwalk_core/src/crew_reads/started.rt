@@ -27,7 +27,7 @@ use tree_crew::crew::{Crew, NotStarted, Place};
 use walk_fs::file_system::FileSystem;
 
 /// Returns the error that reports why a crew's readings don't begin.
-pub fn error_of<A: Allocator + Copy>(why_not: NotStarted) -> Error<A>
+pub fn start_error<A: Allocator + Copy>(why_not: NotStarted) -> Error<A>
     ensures { failure result ≡ start_failure why_not }
 {
     match why_not {
@@ -48,11 +48,12 @@ where
     C::DirEntryState: Send + 'static,
 {
     /// Starts a crew's readings of these directories, and of those below them. The directories are given twice: once
-    /// for the walk, and once for the workers. It blocks until a place of the crew is free, no longer than the limit.
+    /// for the walk, and once for the workers. It blocks until a place of the crew is free, for at most `busy_timeout`.
     ///
     /// # Errors
     ///
-    /// Why the readings don't begin. Nothing is to be read then.
+    /// `Memory` if memory runs out. `Busy` if no place was free in time, or no worker could be started. After an error
+    /// the readings are unchanged, and no place is taken.
     pub fn start(
         &mut self,
         crew: &Arc<Crew<R>, A>,
@@ -82,7 +83,12 @@ where
         Ok(())
     }
 
-    /// Returns the readings of these directories, and of those below them, that a crew makes.
+    /// Returns the readings of these directories, and of those below them, that a crew makes. It blocks as
+    /// [`start`](CrewReads::start) does.
+    ///
+    /// # Errors
+    ///
+    /// As [`start`](CrewReads::start).
     pub(crate) fn by_workers(
         crew: &Arc<Crew<R>, A>,
         busy_timeout: Option<Duration>,

@@ -1,4 +1,4 @@
-// The texts of errors.
+//! The texts of errors.
 ghost use Rattle.std.specs.Prelude.{◌≡◌, ℕ, List, Some, IfOk, string_bytes};
 ghost use Rattle.std.specs.Fmt.{DisplaysOnOk, WritesOnOk};
 ghost use Rattle.jwalk_core.specs.Error.{failure, kind_or_other, loop_text, text_with, text_of};

@@ -1,4 +1,4 @@
-// The items of a directory while it is listed.
+//! The items of a directory while it is listed.
 ghost use Rattle.std.specs.Prelude.{◌≡◌, ◌+◌, ◌<◌, ◌^◌, []};
 ghost use Rattle.jwalk_core.specs.Ancestors.{texts};
 ghost use Rattle.jwalk_core.specs.ReadDirSpec.{spec};

@@ -1,4 +1,4 @@
-// Entries made from paths, and what is found behind a link that is followed.
+//! Entries made from paths, and what is found behind a link that is followed.
 ghost use Rattle.std.specs.Prelude.{◌≡◌, ◌&&◌, ◌++◌, ◌∷◌, [], true, Ok, Err, IfOk, MatchResult, if◌then◌else◌};
 ghost use Rattle.walk_model.specs.Entry.{AtDepth, path_of};
 ghost use Rattle.walk_model.specs.FileType.{is_symlink};

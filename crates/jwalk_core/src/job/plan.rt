@@ -1,4 +1,4 @@
-// A job as a plan.
+//! A job as a plan.
 ghost use Rattle.walk_model.specs.ReadDir.{Spec, Outcome};
 ghost use Rattle.walk_model.specs.Counted.{Worth};
 ghost use Rattle.jwalk_core.specs.ReadDirSpec.{spec};

@@ -1,4 +1,4 @@
-// The list that a walk begins with.
+//! The list that a walk begins with.
 ghost use Rattle.std.specs.Prelude.{◌≡◌, ◌∷◌, [], false, Some, Ok, Err, IfOk, MatchResult, if◌then◌else◌};
 ghost use Rattle.walk_model.specs.Error.{io};
 ghost use Rattle.walk_model.specs.Entry.{AtDepth};
@@ -134,7 +134,8 @@ impl<C: ClientState, S: FileSystem, P: ProcessReadDir<C, A>, A: Allocator + Copy
     }
 
     /// Returns the list that a walk begins with: the root's entry, or the error met when it was asked for, after the
-    /// callback. The callback is called with no depth, the root's parent path and this state.
+    /// callback. The callback is called with no depth, this state, and the path of the root's parent, or an empty one
+    /// after an error.
     ///
     /// If links are followed, a root that is a link is replaced by what it leads to. Else it stays a link, and a
     /// directory behind it is read below it. A root that is a broken link is an error with its path.

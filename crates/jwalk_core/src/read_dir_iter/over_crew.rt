@@ -9,7 +9,7 @@ ghost use Rattle.jwalk_core.specs.ReadDirSpec.{spec};
 
 use crate::client_state::ClientState;
 use crate::crew_reads::CrewReads;
-use crate::crew_reads::started::error_of;
+use crate::crew_reads::started::start_error;
 use crate::error::Error;
 use crate::job::Job;
 use crate::parallelism::Parallelism;
@@ -40,11 +40,11 @@ where
     ghost use Rattle.jwalk_core.specs.ReadAhead.{BeginsWith};
     ghost use Rattle.tree_crew.specs.Crew.{limit_of};
     ghost use Rattle.jwalk_core.specs.Parallelism.{parallelism_value, is_by_crew, crew_of};
-    ghost use Rattle.jwalk_core.specs.ReadDirIter.{by_crew, job_of, to_read, width_of, read_ahead, most_ahead, StartsSteady};
+    ghost use Rattle.jwalk_core.specs.ReadDirIter.{by_crew, job_of, to_read, width_of, read_ahead, frontier_of, most_ahead, StartsSteady};
 
     /// Returns the readings of these directories and of all that is below them, like `try_new`, but a crew may read.
-    /// Its workers begin at once. The call first blocks until a place of the crew is free, as long as its
-    /// `busy_timeout` says.
+    /// Its workers begin at once. The call first blocks until a place of the crew is free, for at most the
+    /// `busy_timeout` of `parallelism`.
     ///
     /// # Errors
     ///
@@ -61,7 +61,7 @@ where
         ensures width { IfOk result (λ reads. width_of reads ≡ options.width_of (parallelism_value parallelism)) }
         ensures to_read { IfOk result (λ reads. to_read reads ≡ map spec roots.items) }
         ensures read_ahead { IfOk result (λ reads. by_crew reads ≡ false
-            → BeginsWith (map spec roots.items) (read_ahead reads)) }
+            → BeginsWith (map spec roots.items) (frontier_of reads) (read_ahead reads)) }
         ensures most { IfOk result (λ reads. IfSome (crew_of parallelism) (λ own.
             most_ahead ⟦<Session<R, C, S, P, A> as Readers<C, S, P, A>>⟧ reads ≡ limit_of (arc_value own.0) + 1)) }
         ensures steady { IfOk result (StartsSteady S.FileSystem P.ProcessReadDir C.ReadDirState.Clone
@@ -74,7 +74,7 @@ where
             Some((crew, busy_timeout)) => {
                 match CrewReads::by_workers(&crew, busy_timeout, job, roots) {
                     Ok(reads) => Ok(ReadDirIter::CrewWalk(reads)),
-                    Err(why_not) => Err(error_of(why_not)),
+                    Err(why_not) => Err(start_error(why_not)),
                 }
             }
             None => ReadDirIter::alone(job, roots, mode),

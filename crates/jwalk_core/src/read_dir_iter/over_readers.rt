@@ -28,9 +28,9 @@ impl<
     ghost use Rattle.jwalk_core.specs.CrewReads.{IsMadeFor};
     ghost use Rattle.jwalk_core.specs.ReadDirIter.{by_crew, job_of, to_read, most_ahead, StartsSteady};
 
-    /// The readings of these directories and of all that is below them, as its readers give them. Only a reading of the
-    /// directory that comes next, made by this job's options, is handed on. Readers that read by this very job have a
-    /// clone of the `Arc`.
+    /// Returns the readings of these directories and of all that is below them, as these readers give them. Only a
+    /// reading of the directory that comes next, made by this job's options, is handed on. Readers that read by this
+    /// very job have a clone of the `Arc`.
     ///
     /// # Errors
     ///

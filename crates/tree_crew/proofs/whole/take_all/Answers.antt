@@ -19,4 +19,4 @@ loop-preserved g c =
 
 pub returns-in_default : goal.returns-in_default
 returns-in_default g c =
-    all_found g.J.Plan (origin_of c.args.session.now) c.loop.found.items (awaited_by c.loop.session) (rw c.in_default.is at c.in_ok-item.ensures.answer) c.loop.invariant.2
+    all_found g.J.Plan (origin_of c.args.session.now) c.loop.found.items (awaited_by c.loop.session) (rw c.in_default.is at c.in_ok-item.ensures.answer).0 c.loop.invariant.2

@@ -57,9 +57,10 @@ returns-in-Ok-clause-follows g c = λ given fixed roots r f.
     let k = c.args.worker in
     let there : k < length hands.items = omega (arith, hands.ok.0, c.len.ensures) in
     let holds = get_read hands.items k c.index_mut.result.now there c.index_mut.ensures.value ∙ ap Some (sym c.take.ensures.value ∙ c.in-Some.is) in
+    let as_given = g.met.P.Plan.as_given c.args.plan.now c.in-Some.item.value c.in_ok-reading.reading c.in_ok-reading.children.items c.in_ok-reading.ensures given fixed in
     stage_as t roots (finish_by r k (slice_get r.hands k)) _ _ _ _ _ _ _ _ (ap (λ z. map (option_map (seen_item v)) (set hands.items k z)) c.take.ensures.after) refl refl refl
     (played_finish v w t falls roots r hands.items (map (seen_item w) done.handed_out.items) (map address done.taken.items) done.board c.finish.new.self k c.in-Some.item
-    c.in_ok-reading.reading c.in_ok-reading.children.items f holds (c.in_ok-reading.ensures.reading given fixed) (c.in_ok-reading.ensures.children given fixed) c.in-Ok.ensures.finished)
+    c.in_ok-reading.reading c.in_ok-reading.children.items f holds as_given.0 as_given.1 c.in-Ok.ensures.finished)
 
 pub returns-then-worker-len-clause-kept : goal.returns-then-worker-len-clause-kept
 returns-then-worker-len-clause-kept g c = c.requires.under_way

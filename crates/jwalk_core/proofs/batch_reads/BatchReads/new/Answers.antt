@@ -1,5 +1,6 @@
 use Rattle.std.proofs.Common.{ap}
 use Rattle.std.proofs.lemmas.List.Elements.{All-nil}
+use Rattle.tree_walk.specs.BoardWalk.{frontier_on}
 use Rattle.jwalk_core.specs.BatchReads.{to_read_on, early_on, ahead_of}
 use Rattle.jwalk_core.proofs.batch_reads.BatchReads.new.Goals as goal
 
@@ -14,3 +15,6 @@ returns-clause-early g c = ap early_on c.new.ensures.nothing
 
 pub returns-clause-read_ahead : goal.returns-clause-read_ahead
 returns-clause-read_ahead g c = ap ahead_of c.new.ensures.nothing
+
+pub returns-clause-frontier : goal.returns-clause-frontier
+returns-clause-frontier g c = ap frontier_on c.new.ensures.nothing

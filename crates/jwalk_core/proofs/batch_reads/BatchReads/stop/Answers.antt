@@ -20,5 +20,8 @@ returns-clause-early g c = rw c.stop.ensures refl
 pub returns-clause-read_ahead : goal.returns-clause-read_ahead
 returns-clause-read_ahead g c = rw c.stop.ensures refl
 
+pub returns-clause-frontier : goal.returns-clause-frontier
+returns-clause-frontier g c = rw c.stop.ensures refl
+
 pub returns-clause-steady : goal.returns-clause-steady
 returns-clause-steady g c = rw (← c.self.view_is, c.stop.ensures) (λ given steady. record { steady = steady.steady; early = All-nil _ })

@@ -57,5 +57,5 @@ returns-clause-width g c = ap readings.width_of c.in_ok-receive.ensures.reads 鈭
 pub returns-clause-ahead : goal.returns-clause-ahead
 returns-clause-ahead g c =
     let begun = c.in_ok-begin.ensures in
-    subst (位 reads. BeginsWith (readings.to_read reads) (readings.read_ahead reads)) (sym c.in_ok-receive.ensures.reads)
-    (subst (位 specs. BeginsWith specs (readings.read_ahead c.begin.new.self)) (sym begun.to_read) begun.read_ahead)
+    subst (位 reads. BeginsWith (readings.to_read reads) (readings.frontier_of reads) (readings.read_ahead reads)) (sym c.in_ok-receive.ensures.reads)
+    (subst (位 specs. BeginsWith specs (readings.frontier_of c.begin.new.self) (readings.read_ahead c.begin.new.self)) (sym begun.to_read) begun.read_ahead)

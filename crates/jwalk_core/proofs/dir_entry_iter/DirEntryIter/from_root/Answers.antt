@@ -69,7 +69,7 @@ pub returns-in-Err-clause-width : goal.returns-in-Err-clause-width
 returns-in-Err-clause-width g c = c.stop.ensures.width ∙ c.begin.ensures.width ∙ c.refused-walk.ensures.width
 
 pub returns-in-Err-clause-ahead : goal.returns-in-Err-clause-ahead
-returns-in-Err-clause-ahead g c = begins_with_none _ _ c.stop.ensures.unread c.stop.ensures.read_ahead
+returns-in-Err-clause-ahead g c = begins_with_none _ _ _ c.stop.ensures.unread (c.stop.ensures.frontier c.begin.ensures.own) c.stop.ensures.read_ahead
 
 pub returns-in-Err-clause-held : goal.returns-in-Err-clause-held
 returns-in-Err-clause-held g c = λ given counts started. absurd (let no : true ≡ false = sym (c.stop.ensures.refused ∙ c.begin.ensures.refused ∙ c.refused-walk.ensures.refused) ∙ started in cc)

@@ -12,5 +12,5 @@ returns g c = record {
   items = ap (λ l. map item (reverse l)) c.new-2.ensures.items;
   unread = c.new.ensures.to_read;
   width = c.new.ensures.width ∙ ap width_of (c.mode-mode.ensures ∙ ap (λ o. o.parallelism) c.options.ensures);
-  ahead = begins_with_none _ _ c.new.ensures.to_read c.new.ensures.read_ahead;
+  ahead = begins_with_none _ _ _ c.new.ensures.to_read c.new.ensures.frontier c.new.ensures.read_ahead;
 }

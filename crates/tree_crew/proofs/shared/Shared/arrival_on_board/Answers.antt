@@ -38,7 +38,7 @@ returns-clause-handled g c =
 pub returns-clause-calls : goal.returns-clause-calls
 returns-clause-calls g c =
     let limit = c.read_ahead.ensures ∙ (ap limit_of c.deref-3.ensures ∙ c.args.self.now.own.1) in
-    let noted = c.deref_mut-3.ensures.value ∙ (c.has_overslept.ensures ∙ ap not_overslept c.deref_mut-2.ensures.value) in
+    let noted = c.deref_mut-3.ensures.value ∙ (c.take_overslept.ensures ∙ ap not_overslept c.deref_mut-2.ensures.value) in
     let calls = c.after_arrival-calls in
     calls_on (limit_at c.args.self.now.work) _ _ _ _ _ _ _ _ _ _ c.in-Some.ensures.taken c.put_back_with.ensures.put
     (c.deref_mut.ensures.value ∙ ap box_value c.into_board-board.ensures) (ap box_value c.new.ensures)

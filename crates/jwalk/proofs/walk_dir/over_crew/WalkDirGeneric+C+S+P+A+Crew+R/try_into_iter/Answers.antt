@@ -6,4 +6,4 @@ use Rattle.jwalk.proofs.walk_dir.over_crew.WalkDirGeneric+C+S+P+A+Crew+R.try_int
 pub returns-in-Some-clause-fails : goal.returns-in-Some-clause-fails
 returns-in-Some-clause-fails g c =
     let begins = c.begin_by-walk.ensures.begins in
-    fails_by _ c.in-Some.why_not (failure c.error_of.result) c.error_of.ensures (λ busy. begins.busy (c.in-Some.is ∙ busy))
+    fails_by _ c.in-Some.why_not (failure c.start_error.result) c.start_error.ensures (λ busy. begins.busy (c.in-Some.is ∙ busy))

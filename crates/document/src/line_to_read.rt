@@ -1,6 +1,6 @@
 //! How the lines of a document are read.
 ghost use Rattle.std.specs.Prelude.{◌≡◌, IfOk, map};
-ghost use Rattle.document.specs.Document.{place_of};
+ghost use Rattle.document.specs.Document.{to_read};
 
 use crate::document::{Document, Line, Told};
 use jwalk_board::board::{Plan, Refused};
@@ -8,62 +8,62 @@ use std::alloc::{AllocError, Allocator};
 
 /// A line that is to be read, and how many levels of parts may be entered for it.
 #[derive(Clone, Copy, Drop)]
-pub struct Place {
+pub struct LineToRead {
     pub line: Line,
     pub levels: usize,
 }
 
-impl Place {
-    /// Returns a line as a place.
+impl LineToRead {
+    /// Returns a line that is to be read.
     fn of(line: &Line, levels: usize) -> Self
-        ensures { result ≡ place_of levels line.now }
+        ensures { result ≡ to_read levels line.now }
     {
-        Place {
+        LineToRead {
             line: *line,
             levels,
         }
     }
 }
 
-/// Returns lines as places.
-fn places<A: Allocator + Copy>(
+/// Returns lines that are to be read.
+fn lines_to_read<A: Allocator + Copy>(
     alloc: A,
     lines: &[Line],
     levels: usize,
-) -> Result<Vec<Place, A>, AllocError>
-    ensures { IfOk result (λ v. v.items ≡ map (place_of levels) lines.now) }
+) -> Result<Vec<LineToRead, A>, AllocError>
+    ensures { IfOk result (λ v. v.items ≡ map (to_read levels) lines.now) }
 {
-    let mut places = Vec::with_capacity(alloc, lines.len())?;
-    for index in 0..lines.len() {
-        places.push(Place::of(&lines[index], levels))?;
+    let mut to_read = Vec::with_capacity(alloc, lines.len())?;
+    for line in lines {
+        to_read.push_reserved(LineToRead::of(line, levels));
     }
-    Ok(places)
+    Ok(to_read)
 }
 
 impl<A: Allocator + Copy> Plan<A> for Document {
     ghost use Rattle.std.specs.Prelude.{◌≡◌};
-    ghost use Rattle.document.specs.declared.place.Place.{Place as PlaceValue};
+    ghost use Rattle.document.specs.declared.line_to_read.LineToRead.{LineToRead as LineToReadValue};
     ghost use Rattle.document.specs.declared.document.Told.{Told as ToldValue};
-    ghost use Rattle.document.specs.Document.{told_of, places_below, document_tree, document_falls};
+    ghost use Rattle.document.specs.Document.{told_of, to_read_below, document_tree, document_falls};
 
-    type Spec = Place;
+    type Spec = LineToRead;
 
     type Reading = Told;
 
     ghost Given = { Unit {0} };
 
-    ghost SpecValue = { PlaceValue };
+    ghost SpecValue = { LineToReadValue };
 
     ghost ReadingValue = { ToldValue };
 
-    ghost spec_value = { λ _ place. place };
+    ghost spec_value = { λ _ line. line };
 
     ghost reading_value = { λ _ told. told };
 
     ghost IsLawful = { λ _. Unit {0} };
 
-    ghost IsReading = { λ document place told below. (told ≡ told_of document place)
-        × (map (λ s. s) below ≡ places_below document place) };
+    ghost IsReading = { λ document line told below. (told ≡ told_of document line)
+        × (map (λ s. s) below ≡ to_read_below document line) };
 
     ghost IsFixed = { λ _ _. Unit {0} };
 
@@ -74,16 +74,16 @@ impl<A: Allocator + Copy> Plan<A> for Document {
     ghost falls = { λ document _ _. document_falls document };
 
     // begin read
-    fn read(&self, alloc: A, place: &Place) -> Result<(Told, Vec<Place, A>), Refused> {
-        let part = match place.line {
+    fn read(&self, alloc: A, of: &LineToRead) -> Result<(Told, Vec<LineToRead, A>), Refused> {
+        let part = match of.line {
             Line::Text(text) => return Ok((Told::Text(text), Vec::new(alloc))),
             Line::Part(part) => part,
         };
         match self.lines_of(part) {
             None => Ok((Told::Missing(part), Vec::new(alloc))),
-            Some(lines) => match place.levels.checked_sub(1) {
+            Some(lines) => match of.levels.checked_sub(1) {
                 None => Ok((Told::TooDeep(part), Vec::new(alloc))),
-                Some(levels) => Ok((Told::Begins(part), places(alloc, lines, levels)?)),
+                Some(levels) => Ok((Told::Begins(part), lines_to_read(alloc, lines, levels)?)),
             },
         }
     }
