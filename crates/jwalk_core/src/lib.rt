@@ -5,8 +5,7 @@
 //!   with its `read_children`. A `read_dir_spec` says which directory is to be read.
 //! - Readings in order: `read_dir_iter`, over `batch_reads`, which are made in turn or on threads, or over `crew_reads`,
 //!   which others make ahead and `readers` give. Those of a crew are its `session`: its workers hand in each reading as
-//! a
-//!   `message`, and `wanted` says which one a walk waits for. `parallelism` and `mode` say which of them reads.
+//!   a `message`, and `wanted` says which one a walk waits for. `parallelism` and `mode` say which of them reads.
 //! - Entries in order: `dir_entry_iter`.
 #![tactic(auto)]
 
