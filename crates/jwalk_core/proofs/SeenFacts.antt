@@ -31,7 +31,7 @@ module _ {T V : Type 0} (v : T → V) where
   seen_as a = record { queue = map (seen v) a.queue; done = a.done }
 
   pub seen_begins : (roots : List T) (frontier : List (List ℕ)) (new : ReadAhead T) → BeginsWith roots frontier new → BeginsWith (map v roots) frontier (seen_as new)
-  seen_begins roots frontier new b = record { queue = subst (λ l. IsPermutation l (map (seen v) new.queue)) (numbered-seen v [] 0 roots) (IsPermutation-map (seen v) (numbered [] 0 roots) new.queue b.queue); done = b.done; to_enter = b.to_enter ∙ ap root_addresses (sym (length-map v roots)) }
+  seen_begins roots frontier new b = record { queue = subst (λ l. IsPermutation l (map (seen v) new.queue)) (numbered-seen v [] 0 roots) (IsPermutation-map (seen v) (numbered [] 0 roots) new.queue b.queue); done = b.done; to_enter = b.to_enter ∙ ap root_addresses (sym (length-map roots v)) }
 
   seen_before : (x : Addressed T) (others : List (Addressed T)) → ComesBefore x others → ComesBefore (seen v x) (map (seen v) others)
   seen_before x others before = All-map (λ (y : Addressed V). is_before x.at y.at ≡ true) (seen v) others before
