@@ -24,7 +24,7 @@ use Rattle.tree_crew.specs.declared.crew.NotStarted.{NotStarted}
 use Rattle.tree_crew.specs.declared.crew.NotStarted.TheVariants.{Busy, Memory}
 use Rattle.jwalk_core.specs.BatchReads.{BatchReads}
 use Rattle.jwalk_core.specs.ReadAhead.{BeginsWith}
-use Rattle.jwalk_core.specs.DirEntryIter.{reads_of, is_refused, by_crew, width_of, read_ahead, job_of, items_of, unread_of, held, held_by, IsWithin, IsSourced, IsRefused, ArePlaced}
+use Rattle.jwalk_core.specs.DirEntryIter.{reads_of, is_refused, by_crew, width_of, frontier_of, read_ahead, job_of, items_of, unread_of, held, held_by, IsWithin, IsSourced, IsRefused, ArePlaced}
 use Rattle.jwalk.specs.CrewStart.{busied, busy_pair, left_of, IsToRead, IsBegun, HoldsList, IsFromRoot}
 use Rattle.jwalk_core.specs.CrewReads as reads_by
 use Rattle.jwalk_core.specs.declared.crew_reads.CrewReads.{CrewReads}
