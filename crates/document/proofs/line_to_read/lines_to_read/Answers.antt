@@ -1,10 +1,12 @@
 use Rattle.std.proofs.Common.{◌≡◌, ◌+◌, ◌<◌, ◌++◌, ◌∷◌, [], ◌∙◌, ap, sym, map, take, length, get_or, arith, refl}
 use Rattle.std.proofs.lemmas.List.{map-append, take_more, take_all}
+use Rattle.document.specs.declared.document.Line.{Line}
+use Rattle.document.specs.declared.document.Line.TheVariants.{Text}
 use Rattle.document.specs.Document.{to_read}
 use Rattle.document.proofs.line_to_read.lines_to_read.Goals as goal
 
 pub loop-line-init : goal.loop-line-init
-loop-line-init g c = rw c.in_ok-to_read.ensures.items (record { items = refl; count = refl; room = omega (arith, c.in_ok-to_read.ensures.capacity, c.len.ensures) })
+loop-line-init g c = rw c.in_ok-to_read.ensures.items (record { items = refl; count = refl; room = omega (arith, c.in_ok-to_read.ensures.capacity) })
 
 pub push_reserved-requires : goal.push_reserved-requires
 push_reserved-requires g c = omega (arith, c.loop-line.to_read.ok.0, c.loop-line.invariant.count, c.loop-line.invariant.room)
@@ -14,14 +16,14 @@ loop-line-preserved g c =
     let line = to_read c.args.levels in
     let xs = c.args.lines.now in
     let i = c.loop-line.line-index in
-    let x = c.line-item.result in
+    let none : Line = Text (record { ref_ptr = (0, 0); now = [] }) in
     let lt : i < length xs = omega arith in
-    let at : x ≡ get_or xs i x = cc in
-    let gone : map line (take (i + 1) xs) ≡ map line (take i xs) ++ line x ∷ [] = ap (map line) (take_more xs i x lt ∙ ap (λ y. take i xs ++ y ∷ []) (sym at)) ∙ map-append line (take i xs) (x ∷ []) in
+    let gone : map line (take (i + 1) xs) ≡ map line (take i xs) ++ line (get_or xs i none) ∷ [] = ap (map line) (take_more xs i none lt) ∙ map-append line (take i xs) (get_or xs i none ∷ []) in
+    let of : c.of.result ≡ line (get_or xs i none) = c.of.ensures in
     record {
       items = c.push_reserved.ensures.items
           ∙ ap (λ l. l ++ c.of.result ∷ []) c.loop-line.invariant.items
-          ∙ ap (λ l. map line (take i xs) ++ l ∷ []) c.of.ensures
+          ∙ ap (λ l. map line (take i xs) ++ l ∷ []) of
           ∙ sym gone;
       count = omega (arith, c.push_reserved.ensures.len, c.loop-line.invariant.count);
       room = omega (arith, c.push_reserved.ensures.capacity, c.loop-line.invariant.room);
