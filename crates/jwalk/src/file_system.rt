@@ -8,4 +8,5 @@ pub use walk_fs::file_system::FileSystem;
 pub use walk_fs::listed::Listed;
 pub use walk_fs::sink::Sink;
 pub use walk_model::file_type::FileType;
-pub use walk_model::metadata::Metadata;
+pub use walk_model::metadata::{Details, Identity, Metadata, Moment};
+pub use walk_model::seen::Seen;

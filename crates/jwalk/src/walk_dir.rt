@@ -129,7 +129,7 @@ impl<
     A: Allocator + Copy,
     W: Drop,
 > WalkDirGeneric<C, S, P, A, W> {
-    ghost use Rattle.walk_model.specs.Options.{with_sort, with_skip_hidden, with_follow_links, with_min_depth, with_max_depth, with_parallelism};
+    ghost use Rattle.walk_model.specs.Options.{with_sort, with_skip_hidden, with_follow_links, with_same_file_system, with_keep_metadata, with_min_depth, with_max_depth, with_parallelism};
     ghost use Rattle.jwalk_core.specs.Parallelism.{parallelism_value, crew_of};
     ghost use Rattle.jwalk.specs.WalkDir.{root_of, options_of, described, with_callback, Sets};
 
@@ -172,6 +172,25 @@ impl<
         ensures { Sets (record (described self) { options = with_follow_links follow_links (options_of self) }) result }
     {
         self.options = self.options.with_follow_links(follow_links);
+        self
+    }
+
+    /// Sets whether the walk stays on one file system. Off by default. A directory that is known to be on another device
+    /// than the directory it lies in is then yielded and not read (as by `find -xdev`). The root is always read, and
+    /// so is what a file system knows no device of. Each directory that is read costs one more call of `metadata`.
+    pub fn same_file_system(mut self, same_file_system: bool) -> Self
+        ensures { Sets (record (described self) { options = with_same_file_system same_file_system (options_of self) }) result }
+    {
+        self.options = self.options.with_same_file_system(same_file_system);
+        self
+    }
+
+    /// Sets whether an entry keeps the metadata that its type came with, for `DirEntry::metadata_seen`. Off by default.
+    /// It costs memory, a block of some 150 bytes for each entry, but no call of the file system.
+    pub fn keep_metadata(mut self, keep_metadata: bool) -> Self
+        ensures { Sets (record (described self) { options = with_keep_metadata keep_metadata (options_of self) }) result }
+    {
+        self.options = self.options.with_keep_metadata(keep_metadata);
         self
     }
 

@@ -30,6 +30,7 @@ entry name type entered = Ok (record {
   depth = 1;
   file_name = name;
   file_type = type;
+  seen = None;
   client_state = tt;
   parent_path = codes "/r";
   through_link = false;

@@ -2,6 +2,7 @@
 use Rattle.std.specs.Prelude.{◌≡◌, ℕ, true, List, [], ◌∷◌, Ok, Err, if◌then◌else◌, bytes_eq, codes, refl}
 use Rattle.std.specs.declared.io.ErrorKind.TheVariants as kind
 use Rattle.walk_model.specs.declared.file_type.FileType.TheVariants as type
+use Rattle.walk_model.specs.declared.seen.Seen.TheVariants.{TypeAlone}
 use Rattle.walk_model.specs.Metadata.{metadata}
 use Rattle.walk_model.specs.FileSystem.{Functions}
 use Rattle.walk_model.specs.Entry.{Item, path_of}
@@ -45,7 +46,7 @@ root_sized = refl
 -- a directory of one file whose metadata can't be read
 abbrev unreadable : Functions
 unreadable = record {
-  list_of = λ path. Ok (Ok (record { name = codes "f"; file_type = Ok type.File }) ∷ []);
+  list_of = λ path. Ok (Ok (record { name = codes "f"; seen = Ok (TypeAlone type.File) }) ∷ []);
   meta_of = λ path. Err kind.NotFound;
   link_meta_of = λ path. if bytes_eq path (codes "/d") then Ok (metadata type.Dir 0) else Err kind.PermissionDenied;
   target_of = λ path. Err kind.NotFound;

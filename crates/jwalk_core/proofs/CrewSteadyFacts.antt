@@ -65,7 +65,7 @@ some_placed at f (a ∷ more) first rest is = λ none. cc
 
 -- the same options read alike
 reads_as_same : (these others : Options) → these ≡ others → ReadsAs these others
-reads_as_same these others same = record { sort = ap (λ o. o.sort) same; skip_hidden = ap (λ o. o.skip_hidden) same; follow_links = ap (λ o. o.follow_links) same; max_depth = ap (λ o. o.max_depth) same }
+reads_as_same these others same = record { sort = ap (λ o. o.sort) same; skip_hidden = ap (λ o. o.skip_hidden) same; follow_links = ap (λ o. o.follow_links) same; same_file_system = ap (λ o. o.same_file_system) same; keep_metadata = ap (λ o. o.keep_metadata) same; max_depth = ap (λ o. o.max_depth) same }
 
 -- where the first is replaced by its children, these come before the others
 passed_placed : {X Y : Type 0} (at : List ℕ → Option Y) (f : X → Y) (addresses : List (List ℕ)) (first : X) (rest front : List X) → map at addresses ≡ map (λ x. Some (f x)) (first ∷ rest) → ((i : ℕ) → at (next_address addresses ++ i ∷ []) ≡ slice_get (map f front) i)

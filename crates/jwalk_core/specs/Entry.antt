@@ -18,6 +18,7 @@ module _ {C A R E : Type 0} where
     depth = e.depth;
     file_name = string_bytes e.file_name;
     file_type = e.file_type;
+    seen = option_map (λ boxed. boxed.value) e.seen;
     client_state = e.client_state;
     parent_path = text e.parent_path;
     through_link = e.through_link;

@@ -12,6 +12,7 @@ use Rattle.jwalk_core.specs.ReadDirSpec.{spec}
 use Rattle.jwalk_core.specs.Given.{Given, counted_spec, counted_list, DefaultsCount}
 use Rattle.jwalk_core.specs.declared.job.gathering.Gathering.{Gathering}
 use Rattle.jwalk_core.specs.Job.{file_system, job_by}
+use Rattle.jwalk_core.specs.Inside.{AsksOn, IsInside}
 
 -- The directory can be listed, and this holds of its listing.
 abbrev pub IsListed : Functions → List ℕ → (List Listed → Type 0) → Type 0
@@ -28,6 +29,8 @@ module _ {C S P A R E : Type 0} {c : Default.Ghosts C} {cd : Debug.Ghosts C} {rc
     pub job : last.job.now ≡ first.job.now
     pub of : last.of.now ≡ first.of.now
     pub depth : AtDepth (depth_below first) (map item first.items.items) → AtDepth (depth_below first) (map item last.items.items)
+    pub asks : files.IsFixed (file_system first.job.now) → AsksOn (files.functions (file_system first.job.now)) first.inside last.inside
     pub value : (given : Given R E) → files.IsFixed (file_system first.job.now) → DefaultsCount defaults given
+        → IsInside (job_by files given first.job.now) (counted_spec given (spec first.of.now)) first.inside
         → counted_list given last.items.items
         ≡ counted_list given first.items.items ++ value.raw (job_by files given first.job.now) (counted_spec given (spec first.of.now)) listing

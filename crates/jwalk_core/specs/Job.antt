@@ -1,5 +1,5 @@
 -- A job as a value, and what its readings are.
-use Rattle.std.specs.Prelude.{◌≡◌, ◌<◌, ◌^◌, ◌++◌, ◌∷◌, [], ℕ, Bool, List, Some, Result, IfOk, length, if◌then◌else◌}
+use Rattle.std.specs.Prelude.{◌≡◌, ◌<◌, ◌^◌, ℕ, Bool, List, Some, Result, IfOk, length, if◌then◌else◌}
 use Rattle.std.specs.declared.clone.Clone as Clone
 use Rattle.std.specs.declared.default.Default as Default
 use Rattle.walk_model.specs.Options as value_options
@@ -39,10 +39,6 @@ job_by files given job = record {
   processed = given.processed;
   default = given.new_entry;
 }
-
--- the ancestors of what is in a directory: none are kept where links aren't followed
-abbrev pub ancestors_in : {R : Type 0} → value_options.Options → Spec R → List (List ℕ)
-ancestors_in options of = if options.follow_links then of.ancestors ++ of.path ∷ [] else []
 
 -- what a callback, as it is given, makes of the items that a directory was found to have, sorted if that is asked for
 abbrev pub processed_by : {R E : Type 0} → Given R E → Bool → Spec R → List (Item Worth Worth) → Reading Worth Worth

@@ -8,6 +8,7 @@ pub mod Given
 pub mod Sorting
 pub mod ReadDir
 pub mod Job
+pub mod Inside
 pub mod Gathering
 pub mod Plan
 pub mod PlanFacts

@@ -1,12 +1,18 @@
 //! The directories above an entry.
-ghost use Rattle.std.specs.Prelude.{◌≡◌, ◌↔◌, ◌++◌, ◌∷◌, [], IfOk, IsTrue, map, option_map};
-ghost use Rattle.walk_model.specs.Job.{looped_to};
+ghost use Rattle.std.specs.Prelude.{◌≡◌, List, ℕ, ◌↔◌, ◌++◌, ◌∷◌, [], IfOk, IsTrue, map, option_map};
+ghost use Rattle.walk_model.specs.Paths.{normalised};
+ghost use Rattle.walk_model.specs.FileSystem.{Functions};
+ghost use Rattle.walk_model.specs.Job as value;
+ghost use Rattle.walk_fs.specs.Place.{place_seen};
 ghost use Rattle.jwalk_core.specs.Text.{text};
-ghost use Rattle.jwalk_core.specs.Ancestors.{texts};
+ghost use Rattle.jwalk_core.specs.Ancestors.{texts, AreKnown};
 
 use std::alloc::{AllocError, Allocator, Global};
 use std::sync::Arc;
+use walk_fs::fault::Fault;
+use walk_fs::file_system::FileSystem;
 use walk_fs::place::Place;
+use walk_model::metadata::Identity;
 
 /// The paths of the directories above an entry, that of the root first: a shared list of shared paths. There is no list
 /// if links aren't followed.
@@ -17,6 +23,46 @@ pub struct Ancestors<A: Allocator + Copy = Global> {
 impl<A: Allocator + Copy> Drop for Ancestors<A> {
     fn drop(self) {
         let Ancestors { paths: _ } = self;
+    }
+}
+
+/// Returns which file is at a path, through its last link, if the file system knows it.
+pub(crate) fn identity_at<S: FileSystem>(fs: &S, path: &str) -> Result<Option<Identity>, AllocError>
+    ensures { S.IsFixed fs.now
+        → IfOk result (λ found. found ≡ value.identity_at (S.functions fs.now) path.now) }
+{
+    match fs.metadata(path) {
+        Ok(metadata) => Ok(metadata.identity()),
+        Err(Fault::Io(_)) => Ok(None),
+        Err(Fault::Memory) => Err(AllocError),
+    }
+}
+
+/// Returns whether a directory above is what a link leads to: the same file, if both are known, or else the place that
+/// the link's text leads to.
+fn is_target<A: Allocator + Copy>(
+    target: Option<Identity>,
+    place: &Place<'_, A>,
+    above: Option<Identity>,
+    path: &str,
+) -> bool
+    ensures { (words : List ℕ) → place_seen place.now ≡ normalised words
+        → result ≡ value.is_target target words above path.now }
+{
+    match (target, above) {
+        (Some(target), Some(above)) => target.is_same_file(above),
+        _ => place.is_at(path),
+    }
+}
+
+/// Returns the last of some identities and those before it.
+fn split_identity(known: &[Option<Identity>]) -> (Option<Identity>, &[Option<Identity>])
+    ensures { (before : _) (last : _) → known.now ≡ before ++ last ∷ []
+        → (result.0 ≡ last) × (result.1.now ≡ before) }
+{
+    match known.split_last() {
+        Some((last, before)) => (*last, before),
+        None => (None, known),
     }
 }
 
@@ -78,7 +124,29 @@ impl<A: Allocator + Copy> Ancestors<A> {
         })
     }
 
-    /// Returns a handle of the nearest of these paths that is the same place as a path.
+    /// Returns which files they are, that of the root first, as far as the file system knows it.
+    ///
+    /// # Errors
+    ///
+    /// If memory runs out.
+    pub(crate) fn identities<S: FileSystem>(
+        &self,
+        alloc: A,
+        fs: &S,
+    ) -> Result<Vec<Option<Identity>, A>, AllocError>
+        ensures { S.IsFixed fs.now → IfOk result (λ known. known.items
+            ≡ map (value.identity_at (S.functions fs.now)) (texts self.now)) }
+    {
+        let paths = self.paths();
+        let mut known = Vec::with_capacity(alloc, paths.len())?;
+        for path in paths {
+            known.push(identity_at(fs, path.as_str())?)?;
+        }
+        Ok(known)
+    }
+
+    /// Returns a handle of the nearest of these paths that a link leads to. `target` is which file the link leads to, if
+    /// it is known: then `known` are the identities of these directories. `path` is where its text leads to.
     ///
     /// # Errors
     ///
@@ -86,17 +154,23 @@ impl<A: Allocator + Copy> Ancestors<A> {
     pub(crate) fn nearest(
         &self,
         alloc: A,
+        target: Option<Identity>,
+        known: &[Option<Identity>],
         path: &str,
     ) -> Result<Option<Arc<String<A>, A>>, AllocError>
-        ensures { IfOk result (λ o. option_map text o ≡ looped_to path.now (texts self.now)) }
+        ensures { (fs : Functions) → AreKnown fs target (texts self.now) known.now
+            → IfOk result (λ o. option_map text o ≡ value.looped_to fs target path.now (texts self.now)) }
     {
         let place = Place::new(alloc, path)?;
         let mut left = self.paths();
+        let mut identities = known;
         while let Some((last, above)) = left.split_last() {
-            if place.is_at(last.as_str()) {
+            let (identity, others) = split_identity(identities);
+            if is_target(target, &place, identity, last.as_str()) {
                 return Ok(Some(last.clone()?));
             }
             left = above;
+            identities = others;
         }
         Ok(None)
     }

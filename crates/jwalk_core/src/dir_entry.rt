@@ -36,6 +36,8 @@ pub struct DirEntry<C: ClientState, A: Allocator + Copy = Global> {
     /// callback took it away.
     pub read_children: Option<ReadChildren<C, A>>,
     through_link: bool,
+    // In a box, so that an entry without it has no room for it.
+    seen: Option<Box<Metadata, A>>,
     #[derive_where(skip)]
     pub(crate) ancestors: Ancestors<A>,
 }
@@ -80,6 +82,7 @@ impl<C: ClientState, A: Allocator + Copy> DirEntry<C, A> {
         depth: usize,
         file_name: String<A>,
         file_type: FileType,
+        seen: Option<Box<Metadata, A>>,
         parent_path: Arc<String<A>, A>,
         read_children: Option<ReadChildren<C, A>>,
         through_link: bool,
@@ -90,6 +93,7 @@ impl<C: ClientState, A: Allocator + Copy> DirEntry<C, A> {
           depth = depth;
           file_name = string_bytes file_name;
           file_type = file_type;
+          seen = option_map (λ boxed. boxed.value) seen;
           client_state = (entry result).client_state;
           parent_path = text parent_path;
           through_link = through_link;
@@ -101,6 +105,7 @@ impl<C: ClientState, A: Allocator + Copy> DirEntry<C, A> {
             depth,
             file_name,
             file_type,
+            seen,
             client_state: C::DirEntryState::default(),
             parent_path,
             read_children,
@@ -128,6 +133,16 @@ impl<C: ClientState, A: Allocator + Copy> DirEntry<C, A> {
         ensures { result ≡ (entry self.now).file_type }
     {
         self.file_type
+    }
+
+    /// Returns the metadata that its type came with, if the walk keeps metadata and the file system gave it then.
+    pub fn metadata_seen(&self) -> Option<&Metadata>
+        ensures { option_copied result ≡ (entry self.now).seen }
+    {
+        match &self.seen {
+            Some(metadata) => Some(metadata.as_ref()),
+            None => None,
+        }
     }
 
     /// Returns whether its path is that of a link: one that is yielded as a link, or one that was followed.

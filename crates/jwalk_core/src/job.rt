@@ -1,8 +1,8 @@
 //! One reading of a directory.
-ghost use Rattle.std.specs.Prelude.{◌≡◌, ◌+◌, ◌<◌, ◌^◌, Some, IfOk, IfErr, length, map, option_map, option_to_list, string_bytes};
+ghost use Rattle.std.specs.Prelude.{◌≡◌, ◌+◌, ◌<◌, ◌^◌, None, Some, if◌then◌else◌, IfOk, IfErr, length, map, option_map, option_to_list, string_bytes};
 ghost use Rattle.walk_model.specs.Entry.{AtDepth, children_at};
-ghost use Rattle.walk_model.specs.FileType.{is_dir};
 ghost use Rattle.walk_model.specs.Paths.{join};
+ghost use Rattle.walk_model.specs.Seen.{type_seen};
 ghost use Rattle.walk_model.specs.Job as value;
 ghost use Rattle.walk_fs.specs.Views.{named_as, FailsAs};
 ghost use Rattle.jwalk_core.specs.Text.{text};
@@ -12,15 +12,17 @@ ghost use Rattle.jwalk_core.specs.ReadDirSpec.{spec};
 ghost use Rattle.jwalk_core.specs.ReadDir.{outcome, reading};
 ghost use Rattle.jwalk_core.specs.Options.{options_value};
 ghost use Rattle.jwalk_core.specs.Given.{counted_spec, counted_list, counted_entry, DefaultsCount};
-ghost use Rattle.jwalk_core.specs.Job.{file_system, callback, options_of, job_by, IsReadingOf, ancestors_in, ProcessesItems, ByValue};
+ghost use Rattle.jwalk_core.specs.Job.{file_system, callback, options_of, job_by, IsReadingOf, ProcessesItems, ByValue};
+ghost use Rattle.jwalk_core.specs.Inside.{AsksOn, IsInside};
 ghost use Rattle.jwalk_core.specs.Gathering.{IsListed};
 
 mod gathering;
+mod inside;
 mod links;
 mod plan;
 mod root;
 
-use crate::ancestors::Ancestors;
+use crate::ancestors::identity_at;
 use crate::client_state::ClientState;
 use crate::dir_entry::DirEntry;
 use crate::error::Error;
@@ -31,6 +33,7 @@ use crate::read_dir::ReadDir;
 use crate::read_dir_spec::ReadDirSpec;
 use crate::sorting::in_order;
 use gathering::Gathering;
+use inside::Inside;
 use links::{ancestors_below, joined};
 use std::alloc::{AllocError, Allocator, Global};
 use std::io;
@@ -38,7 +41,8 @@ use std::marker::PhantomData;
 use std::sync::Mutex;
 use walk_fs::fault::Fault;
 use walk_fs::file_system::FileSystem;
-use walk_model::file_type::FileType;
+use walk_model::metadata::Metadata;
+use walk_model::seen::Seen;
 
 /// What reads one directory: a file system, a callback, and the options that a reading follows.
 pub struct Job<C: ClientState, S, P, A: Allocator + Copy = Global> {
@@ -62,20 +66,38 @@ impl<C: ClientState, S: Drop, P: Drop, A: Allocator + Copy> Drop for Job<C, S, P
     }
 }
 
-/// Returns the directory that an entry of this type, with a name in a directory, is to be read from.
+/// Returns the directory that an entry of this name in a directory is to be read from, if it is entered.
 fn children_in<C: ClientState, A: Allocator + Copy>(
     alloc: A,
     directory: &str,
     name: &str,
-    file_type: FileType,
+    is_entered: bool,
 ) -> Result<Option<ReadChildren<C, A>>, AllocError>
     ensures { IfOk result (λ o. option_map children o
-        ≡ children_at (is_dir file_type) (join directory.now name.now)) }
+        ≡ children_at is_entered (join directory.now name.now)) }
 {
-    if !file_type.is_dir() {
+    if !is_entered {
         return Ok(None);
     }
     Ok(Some(ReadChildren::new(joined(alloc, directory, name)?)))
+}
+
+/// Returns the metadata that an entry keeps.
+fn kept<A: Allocator + Copy>(
+    alloc: A,
+    options: Options,
+    seen: Option<Metadata>,
+) -> Result<Option<Box<Metadata, A>>, AllocError>
+    ensures { IfOk result (λ kept. option_map (λ boxed. boxed.value) kept
+        ≡ (if (options_value options).keep_metadata then seen else None)) }
+{
+    if !options.keep_metadata() {
+        return Ok(None);
+    }
+    match seen {
+        Some(metadata) => Ok(Some(Box::new(alloc, metadata)?)),
+        None => Ok(None),
+    }
 }
 
 impl<C: ClientState, S: FileSystem, P: ProcessReadDir<C, A>, A: Allocator + Copy> Job<C, S, P, A> {
@@ -102,29 +124,53 @@ impl<C: ClientState, S: FileSystem, P: ProcessReadDir<C, A>, A: Allocator + Copy
         self.options
     }
 
+    /// Returns what the entries of a directory share. The file system is asked which file the directory is if the walk
+    /// stays on one file system.
+    ///
+    /// # Errors
+    ///
+    /// If memory runs out.
+    fn inside(&self, of: &ReadDirSpec<C, A>) -> Result<Inside<A>, AllocError>
+        ensures { ByValue S.FileSystem C.DirEntryState.Default self.now (λ g job.
+            IfOk result (λ inside. IsInside job (counted_spec g (spec of.now)) inside)) }
+    {
+        let follow_links = self.options.follow_links();
+        let ancestors = ancestors_below(self.alloc, follow_links, of.ancestors(), &of.path)?;
+        if !self.options.same_file_system() {
+            return Ok(Inside::new(ancestors, None));
+        }
+        let within = identity_at(&self.fs, of.path.as_str())?;
+        Ok(Inside::new(ancestors, within))
+    }
+
     /// Returns the entry of a name in a directory.
     fn entry_in(
         &self,
         of: &ReadDirSpec<C, A>,
-        inside: &Ancestors<A>,
+        inside: &Inside<A>,
         name: String<A>,
-        file_type: FileType,
+        seen: Seen,
     ) -> Result<DirEntry<C, A>, AllocError>
         requires fits { (spec of.now).depth + 1 < 2 ^ 64 }
-        requires inside { texts inside.now ≡ ancestors_in (options_of self.now) (spec of.now) }
         ensures depth { IfOk result (λ e. e.depth ≡ (spec of.now).depth + 1) }
+        ensures ancestors { IfOk result (λ e. (entry e).ancestors ≡ texts inside.now.ancestors) }
         ensures value { (g : _) → DefaultsCount C.DirEntryState.Default g
+            → IsInside (job_by S.FileSystem g self.now) (counted_spec g (spec of.now)) inside.now
             → IfOk result (λ e. counted_entry g (entry e)
             ≡ value.entry_in (job_by S.FileSystem g self.now)
-            (counted_spec g (spec of.now)) (string_bytes name) file_type) }
+            (counted_spec g (spec of.now)) (string_bytes name) seen) }
     {
         let parent_path = of.path.clone()?;
-        let ancestors = inside.share()?;
-        let read_children = children_in(self.alloc, of.path.as_str(), name.as_str(), file_type)?;
+        let ancestors = inside.ancestors().share()?;
+        let file_type = seen.file_type();
+        let kept = kept(self.alloc, self.options, seen.metadata())?;
+        let is_entered = inside.enters(file_type, seen.identity());
+        let read_children = children_in(self.alloc, of.path.as_str(), name.as_str(), is_entered)?;
         Ok(DirEntry::new(
             of.depth() + 1,
             name,
             file_type,
+            kept,
             parent_path,
             read_children,
             false,
@@ -136,29 +182,31 @@ impl<C: ClientState, S: FileSystem, P: ProcessReadDir<C, A>, A: Allocator + Copy
     fn named(
         &self,
         of: &ReadDirSpec<C, A>,
-        inside: &Ancestors<A>,
+        inside: &mut Inside<A>,
         name: &str,
-        file_type: io::Result<FileType>,
+        seen: io::Result<Seen>,
     ) -> Result<Option<Result<DirEntry<C, A>, Error<A>>>, AllocError>
         requires fits { (spec of.now).depth + 1 < 2 ^ 64 }
-        requires inside { texts inside.now ≡ ancestors_in (options_of self.now) (spec of.now) }
         ensures depth { IfOk result (λ o. AtDepth ((spec of.now).depth + 1) (map item (option_to_list o))) }
+        ensures asks { S.IsFixed (file_system self.now)
+            → IfOk result (λ _. AsksOn (S.functions (file_system self.now)) inside.old inside.new) }
         ensures value { ByValue S.FileSystem C.DirEntryState.Default self.now (λ g job.
-            IfOk result (λ o. counted_list g (option_to_list o)
-            ≡ value.named job (counted_spec g (spec of.now)) (named_as name.now file_type))) }
+            IsInside job (counted_spec g (spec of.now)) inside.old
+            → IfOk result (λ o. counted_list g (option_to_list o)
+            ≡ value.named job (counted_spec g (spec of.now)) (named_as name.now seen))) }
     {
-        match file_type {
+        match seen {
             Err(err) => {
                 let path = joined(self.alloc, of.path.as_str(), name)?;
                 Ok(Some(Err(Error::from_path(of.depth() + 1, path, err))))
             }
-            Ok(file_type) => {
+            Ok(seen) => {
                 if self.options.skips(name) {
                     return Ok(None);
                 }
                 let name = String::from_str(self.alloc, name)?;
-                let found = self.entry_in(of, inside, name, file_type)?;
-                Ok(Some(self.followed(found)?))
+                let found = self.entry_in(of, inside, name, seen)?;
+                Ok(Some(self.followed(found, inside)?))
             }
         }
     }
@@ -177,8 +225,7 @@ impl<C: ClientState, S: FileSystem, P: ProcessReadDir<C, A>, A: Allocator + Copy
         ensures failed { S.IsFixed (file_system self.now) → IfErr result (λ fault.
             FailsAs fault ((S.functions (file_system self.now)).list_of (text of.now.path))) }
     {
-        let follow_links = self.options.follow_links();
-        let inside = ancestors_below(self.alloc, follow_links, of.ancestors(), &of.path)?;
+        let inside = self.inside(of)?;
         let mut gathering = Gathering::new(self, of, inside);
         self.fs
             .read_dir_into(self.alloc, of.path.as_str(), &mut gathering)?;

@@ -15,6 +15,8 @@ pub struct Options {
     pub(crate) sort: bool,
     skip_hidden: bool,
     follow_links: bool,
+    same_file_system: bool,
+    keep_metadata: bool,
     min_depth: usize,
     max_depth: usize,
     mode: Mode,
@@ -29,7 +31,7 @@ fn is_hidden(name: &str) -> bool
 }
 
 impl Options {
-    ghost use Rattle.walk_model.specs.Options.{defaults, with_sort, with_skip_hidden, with_follow_links, with_min_depth, with_max_depth, with_parallelism, ReadsAs};
+    ghost use Rattle.walk_model.specs.Options.{defaults, with_sort, with_skip_hidden, with_follow_links, with_same_file_system, with_keep_metadata, with_min_depth, with_max_depth, with_parallelism, ReadsAs};
     ghost use Rattle.walk_model.specs.Listing.{is_answered};
     ghost use Rattle.jwalk_core.specs.Entry.{item};
     ghost use Rattle.jwalk_core.specs.Options.{mode_value, options_value};
@@ -42,6 +44,8 @@ impl Options {
             sort: false,
             skip_hidden: true,
             follow_links: false,
+            same_file_system: false,
+            keep_metadata: false,
             min_depth: 0,
             max_depth: usize::MAX,
             mode: Mode::Serial,
@@ -69,6 +73,22 @@ impl Options {
         ensures { options_value result ≡ with_follow_links follow_links (options_value self) }
     {
         self.follow_links = follow_links;
+        self
+    }
+
+    /// Sets whether directories on another file system than the one that they lie in are left unread.
+    pub fn with_same_file_system(mut self, same_file_system: bool) -> Self
+        ensures { options_value result ≡ with_same_file_system same_file_system (options_value self) }
+    {
+        self.same_file_system = same_file_system;
+        self
+    }
+
+    /// Sets whether an entry keeps the metadata that its type came with.
+    pub fn with_keep_metadata(mut self, keep_metadata: bool) -> Self
+        ensures { options_value result ≡ with_keep_metadata keep_metadata (options_value self) }
+    {
+        self.keep_metadata = keep_metadata;
         self
     }
 
@@ -106,6 +126,8 @@ impl Options {
         self.sort == other.sort
             && self.skip_hidden == other.skip_hidden
             && self.follow_links == other.follow_links
+            && self.same_file_system == other.same_file_system
+            && self.keep_metadata == other.keep_metadata
             && self.max_depth == other.max_depth
     }
 
@@ -143,6 +165,20 @@ impl Options {
         ensures { result ≡ (options_value self).follow_links }
     {
         self.follow_links
+    }
+
+    /// Returns whether a walk stays on one file system.
+    pub(crate) fn same_file_system(self) -> bool
+        ensures { result ≡ (options_value self).same_file_system }
+    {
+        self.same_file_system
+    }
+
+    /// Returns whether metadata is kept.
+    pub(crate) fn keep_metadata(self) -> bool
+        ensures { result ≡ (options_value self).keep_metadata }
+    {
+        self.keep_metadata
     }
 
     /// Returns the least depth, which is no greater than the greatest.

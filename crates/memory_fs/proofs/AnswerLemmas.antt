@@ -4,10 +4,11 @@ use Rattle.std.specs.Prelude.{option_and_then}
 use Rattle.std.specs.Option.{option_map}
 use Rattle.std.specs.declared.io.ErrorKind.{ErrorKind}
 use Rattle.std.specs.declared.io.ErrorKind.TheVariants as kind
-use Rattle.walk_model.specs.declared.file_type.FileType.{FileType}
+use Rattle.walk_model.specs.declared.seen.Seen.{Seen}
+use Rattle.walk_model.specs.declared.seen.Seen.TheVariants.{Whole}
 use Rattle.walk_model.specs.FileSystem.{Listed}
-use Rattle.walk_model.specs.Tree.{Place, directory, child, look_up, at_found, listing_at, node_metadata, target_at, type_at}
-use Rattle.memory_fs.specs.Child.{Child, Dir, File, Link, type_of}
+use Rattle.walk_model.specs.Tree.{Place, directory, child, look_up, at_found, listing_at, node_metadata, target_at, seen_at}
+use Rattle.memory_fs.specs.Child.{Child, Dir, File, Link, metadata_of as child_metadata}
 use Rattle.memory_fs.specs.Hit.{Hit, on_dir, on_file, on_link, metadata_of}
 use Rattle.memory_fs.specs.Branch.{Branch, branch_at, children_at, denied_at, child_of, at_end, names_of, node_of, tree_of_table, found, IsSettled, listed_child, listing_of, AreFound, IsSound}
 use Rattle.memory_fs.proofs.TableLemmas.{at_end-append}
@@ -56,10 +57,10 @@ no_target-node table (on_dir i) settled = refl
 no_target-node table (on_file len) settled = refl
 no_target-node table (on_link holder target) settled = absurd settled
 
-type-node : (table : List Branch) (c : Child) → type_at (Some (node_of table c)) ≡ type_of c
-type-node table (Dir i) = refl
-type-node table (File len) = refl
-type-node table (Link target) = refl
+seen-node : (table : List Branch) (c : Child) → seen_at (Some (node_of table c)) ≡ Whole (child_metadata c)
+seen-node table (Dir i) = refl
+seen-node table (File len) = refl
+seen-node table (Link target) = refl
 
 module _ (table : List Branch) (sound : IsSound table) (follow : Bool) (path : List ℕ) where
   pub metadata-found : (h : Hit) → found table follow path ≡ Ok h → at_found (λ place. node_metadata (tree_of_table table place)) (look_up (tree_of_table table) follow path) ≡ Ok (metadata_of h)
@@ -91,17 +92,17 @@ module _ (table : List Branch) (sound : IsSound table) (follow : Bool) (path : L
       (λ place e. ap (λ (o : Option Child). listing_at (tree_of_table table) place (option_map (node_of table) o)) e)
 
   abbrev listed_at : Place → List ℕ → Listed
-  listed_at place name = Ok (record { name = name; file_type = Ok (type_at (tree_of_table table (child place name))) })
+  listed_at place name = Ok (record { name = name; seen = Ok (seen_at (tree_of_table table (child place name))) })
 
-  abbrev listed_as : List ℕ → FileType → Listed
-  listed_as name type = Ok (record { name = name; file_type = Ok type })
+  abbrev listed_as : List ℕ → Seen → Listed
+  listed_as name seen = Ok (record { name = name; seen = Ok seen })
 
-  -- a name is listed with the type of its child
+  -- a name is listed with the metadata of its child
   listed-names : (place : Place) (i : ℕ) → at_end table (Dir 0) place ≡ Some (Dir i) → (es : List (List ℕ × Child)) → AreFound (children_at table i) es → map (listed_at place) (names_of es) ≡ listing_of es
   listed-names place i stands [] found = refl
   listed-names place i stands (e ∷ es) found =
       let o = at_end-append table (Dir 0) place e.0 ∙ ap (option_and_then (λ x. child_of table x e.0)) stands ∙ found.0 in
-      ap (λ (t : FileType). listed_as e.0 t ∷ map (listed_at place) (names_of es)) (ap (λ (x : Option Child). type_at (option_map (node_of table) x)) o ∙ type-node table e.1)
+      ap (λ (t : Seen). listed_as e.0 t ∷ map (listed_at place) (names_of es)) (ap (λ (x : Option Child). seen_at (option_map (node_of table) x)) o ∙ seen-node table e.1)
       ∙ ap (λ (ls : List Listed). listed_child e ∷ ls) (listed-names place i stands es found.1)
 
   listing-listed : (i : ℕ) → found table follow path ≡ Ok (on_dir i) → denied_at table i ≡ None → AreFound (children_at table i) (children_at table i)

@@ -7,7 +7,8 @@ use Rattle.std.specs.declared.io.ErrorKind.TheVariants as kind
 use Rattle.walk_model.specs.Paths.{Component, root, here, up, plain, components, last_of, all_but_last, name_of}
 use Rattle.walk_model.specs.Tree.{Node, directory, file, link, Tree, link_limit}
 use Rattle.walk_model.specs.FileSystem.{Listed}
-use Rattle.memory_fs.specs.Child.{Child, Dir, File, Link, type_of}
+use Rattle.walk_model.specs.declared.seen.Seen.TheVariants.{Whole}
+use Rattle.memory_fs.specs.Child.{Child, Dir, File, Link, metadata_of}
 use Rattle.memory_fs.specs.Hit.{Hit, on_dir, on_file, on_link, hit_seen, hit_of}
 use Rattle.memory_fs.specs.declared.hit.Hit.{Hit as CodeHit}
 use Rattle.memory_fs.specs.declared.build_error.BuildError.{BuildError}
@@ -96,7 +97,7 @@ names_of children = map (λ e. e.0) children
 
 -- a child as a listing gives it
 abbrev pub listed_child : List ℕ × Child → Listed
-listed_child e = Ok (record { name = e.0; file_type = Ok (type_of e.1) })
+listed_child e = Ok (record { name = e.0; seen = Ok (Whole (metadata_of e.1)) })
 
 -- the children as a listing gives them
 abbrev pub listing_of : List (List ℕ × Child) → List Listed

@@ -1,7 +1,8 @@
--- What contracts see of a child, and the type that a file system returns for it.
-use Rattle.std.specs.Prelude.{ℕ, List, string_bytes}
-use Rattle.walk_model.specs.declared.file_type.FileType.{FileType}
+-- What contracts see of a child, and the metadata that a file system returns for it.
+use Rattle.std.specs.Prelude.{ℕ, List, length, string_bytes}
 use Rattle.walk_model.specs.declared.file_type.FileType.TheVariants as type
+use Rattle.walk_model.specs.declared.metadata.Metadata.{Metadata}
+use Rattle.walk_model.specs.Metadata.{metadata}
 use Rattle.memory_fs.specs.declared.child.Child.{Child as CodeChild}
 use Rattle.memory_fs.specs.declared.child.Child.TheVariants as code
 
@@ -16,7 +17,7 @@ child_seen (code.Dir index) = Dir index
 child_seen (code.File len) = File len
 child_seen (code.Link target) = Link (string_bytes target)
 
-abbrev pub type_of : Child → FileType
-type_of (Dir index) = type.Dir
-type_of (File len) = type.File
-type_of (Link target) = type.Symlink
+abbrev pub metadata_of : Child → Metadata
+metadata_of (Dir index) = metadata type.Dir 0
+metadata_of (File len) = metadata type.File len
+metadata_of (Link target) = metadata type.Symlink (length target)

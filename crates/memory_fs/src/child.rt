@@ -4,6 +4,7 @@ ghost use Rattle.std.specs.Prelude.{◌≡◌};
 use crate::hit::Hit;
 use std::alloc::Allocator;
 use walk_model::file_type::FileType;
+use walk_model::metadata::Metadata;
 
 /// A directory by its index in the table, a file by its length, or a link by its target.
 #[derive(Drop)]
@@ -14,17 +15,17 @@ pub enum Child<A: Allocator + Copy> {
 }
 
 impl<A: Allocator + Copy> Child<A> {
-    ghost use Rattle.memory_fs.specs.Child.{child_seen, type_of};
+    ghost use Rattle.memory_fs.specs.Child.{child_seen, metadata_of};
     ghost use Rattle.memory_fs.specs.Hit.{hit_seen, hit_of};
 
-    /// Returns the type that a listing shows.
-    pub(crate) fn file_type(&self) -> FileType
-        ensures { result ≡ type_of (child_seen self.now) }
+    /// Returns the type and the length that a listing shows. A directory has length 0, a link as many bytes as its target.
+    pub(crate) fn metadata(&self) -> Metadata
+        ensures { result ≡ metadata_of (child_seen self.now) }
     {
         match self {
-            Child::Dir(_) => FileType::Dir,
-            Child::File(_) => FileType::File,
-            Child::Link(_) => FileType::Symlink,
+            Child::Dir(_) => Metadata::new(FileType::Dir, 0),
+            Child::File(len) => Metadata::new(FileType::File, *len),
+            Child::Link(target) => Metadata::new(FileType::Symlink, target.len() as u64),
         }
     }
 

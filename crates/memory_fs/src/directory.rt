@@ -12,6 +12,7 @@ use std::alloc::{AllocError, Allocator};
 use std::hash::{BuildHasherDefault, FoldHasher};
 use std::io::ErrorKind;
 use walk_fs::sink::Sink;
+use walk_model::seen::Seen;
 
 /// The children by name, in order of creation, and the index of the directory that holds this one. If this one was
 /// denied, also the error kind that reading it fails with.
@@ -92,13 +93,13 @@ impl<A: Allocator + Copy> Directory<A> {
         self.denied = Some(kind);
     }
 
-    /// Gives the children to `sink` in order of creation, each with its type. Each name is that of one child.
+    /// Gives the children to `sink` in order of creation, each with its metadata. Each name is that of one child.
     pub(crate) fn list_into<K: Sink>(&self, sink: &mut K) -> Result<(), AllocError>
         ensures items { OnOk result (TakesAll K.Took (listing_of (branch self.now).children) sink.old sink.new) }
         ensures found { AreFound (branch self.now).children (branch self.now).children }
     {
         for (name, child) in &self.children {
-            sink.take(name.as_str(), Ok(child.file_type()))?;
+            sink.take_seen(name.as_str(), Ok(Seen::Whole(child.metadata())))?;
         }
         Ok(())
     }

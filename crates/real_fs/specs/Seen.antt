@@ -25,8 +25,12 @@ pub record IsFault (e : Error) (f : Fault) : Type 0 where
   pub memory : error_kind e ≡ OutOfMemory → f ≡ Memory
   pub system : error_kind e ≢ OutOfMemory → f ≡ Io e
 
--- The type and the length are those that were found, or the error is the fault.
+-- The type and the length are those that were found.
+abbrev pub IsFound : found.Metadata → Metadata → Type 0
+IsFound m seen = (type_of seen ≡ type_seen m) × (len_of seen ≡ fs.metadata_len m)
+
+-- It is what was found, or the error is the fault.
 abbrev pub IsSeen : Result found.Metadata Error → Result Metadata Fault → Type 0
-IsSeen (Ok m) (Ok seen) = (type_of seen ≡ type_seen m) × (len_of seen ≡ fs.metadata_len m)
+IsSeen (Ok m) (Ok seen) = IsFound m seen
 IsSeen (Err e) (Err f) = IsFault e f
 IsSeen _ _ = ⊥

@@ -5,7 +5,7 @@ ghost use Rattle.walk_model.specs.FileSystem as value;
 ghost use Rattle.walk_fs.specs.Views.{IfIo, TakesAll};
 ghost use Rattle.real_fs.specs.Texts.{children};
 
-use crate::seen::{fault, file_type};
+use crate::seen::{fault, whole};
 use crate::texts::{is_child, slash_ended, split_name};
 use std::alloc::{AllocError, Allocator};
 use std::io::{ErrorKind, Read};
@@ -13,7 +13,7 @@ use std::rt::Files;
 use std::{io, str};
 use walk_fs::fault::Fault;
 use walk_fs::sink::Sink;
-use walk_model::file_type::FileType;
+use walk_model::seen::Seen;
 
 /// How often one directory is opened at most, if each time before was interrupted.
 const MOST_OPENS: usize = 100;
@@ -27,13 +27,13 @@ struct Listing<A: Allocator + Copy> {
     path: String<A>,
 }
 
-/// Returns the type of what is at a path, no link followed. Fails only if memory runs out: any other error is returned
+/// Returns what is known of a path, no link followed. Fails only if memory runs out: any other error is returned
 /// as the answer.
-fn type_at<R: Files>(rt: &R, path: &str) -> Result<io::Result<FileType>, AllocError>
+fn seen_at<R: Files>(rt: &R, path: &str) -> Result<io::Result<Seen>, AllocError>
     ensures { IfOk result (λ found. IfErr found (λ e. error_kind e ≢ ErrorKind.OutOfMemory)) }
 {
     match rt.symlink_metadata(path) {
-        Ok(found) => Ok(Ok(file_type(&found))),
+        Ok(found) => Ok(Ok(Seen::Whole(whole(&found)))),
         Err(error) => match fault(error) {
             Fault::Io(error) => Ok(Err(error)),
             Fault::Memory => Err(AllocError),
@@ -77,8 +77,8 @@ impl<A: Allocator + Copy> Listing<A> {
         self.path.clear();
         self.path.push_str(dir)?;
         self.path.push_str(name)?;
-        let file_type = type_at(rt, self.path.as_str())?;
-        sink.take(name, file_type)
+        let seen = seen_at(rt, self.path.as_str())?;
+        sink.take_seen(name, seen)
     }
 
     /// Gives the items of names that were read together, each ended by a NUL.

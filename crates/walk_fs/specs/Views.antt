@@ -5,6 +5,8 @@ use Rattle.std.specs.declared.io.ErrorKind.{ErrorKind}
 use Rattle.std.specs.declared.io.Error.{Error}
 use Rattle.walk_model.specs.FileSystem as value
 use Rattle.walk_model.specs.declared.file_type.FileType.{FileType}
+use Rattle.walk_model.specs.declared.seen.Seen.{Seen}
+use Rattle.walk_model.specs.declared.seen.Seen.TheVariants.{TypeAlone}
 use Rattle.walk_fs.specs.declared.listed.Listed.{Listed}
 use Rattle.walk_fs.specs.declared.fault.Fault.{Fault}
 use Rattle.walk_fs.specs.declared.fault.Fault.TheVariants.{Io, Memory}
@@ -14,12 +16,16 @@ abbrev pub by_kind : {X Y : Type 0} → (X → Y) → Result X Error → Result 
 by_kind view (Ok x) = Ok (view x)
 by_kind view (Err e) = Err (error_kind e)
 
--- a name with its type, or with the error in its place
-abbrev pub named_as : List ℕ → Result FileType Error → value.Named
-named_as name file_type = record { name = name; file_type = by_kind (λ t. t) file_type }
+-- a name with what is seen of it, or with the error in its place
+abbrev pub named_as : List ℕ → Result Seen Error → value.Named
+named_as name seen = record { name = name; seen = by_kind (λ t. t) seen }
+
+-- a name with its type alone, or with the error in its place
+abbrev pub typed_as : List ℕ → Result FileType Error → value.Named
+typed_as name type = record { name = name; seen = by_kind TypeAlone type }
 
 abbrev pub named : {A : Type 0} → Listed A → value.Named
-named item = named_as (string_bytes item.name) item.file_type
+named item = named_as (string_bytes item.name) item.seen
 
 -- an item of a listing
 abbrev pub listed : {A : Type 0} → Result (Listed A) Error → value.Listed

@@ -21,7 +21,7 @@ fn take_item<A: Allocator + Copy, K: Sink>(
     ensures { OnOk result (TakesAll K.Took (listed item ∷ []) sink.old sink.new) }
 {
     match item {
-        Ok(Listed { name, file_type }) => sink.take(name.as_str(), file_type),
+        Ok(Listed { name, seen }) => sink.take_seen(name.as_str(), seen),
         Err(error) => sink.take_error(error),
     }
 }

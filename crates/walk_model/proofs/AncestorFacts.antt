@@ -6,6 +6,8 @@ use Rattle.std.specs.Result.{result_and}
 use Rattle.std.specs.declared.io.ErrorKind.{ErrorKind}
 use Rattle.walk_model.specs.FileType.{is_dir, is_symlink}
 use Rattle.walk_model.specs.Metadata.{type_of}
+use Rattle.walk_model.specs.declared.metadata.Identity.{Identity}
+use Rattle.walk_model.specs.declared.metadata.Metadata.{Metadata}
 use Rattle.walk_model.specs.Paths.{join}
 use Rattle.walk_model.specs.FileSystem.{Named, Listed, Functions}
 use Rattle.walk_model.specs.Options.{Options}
@@ -96,18 +98,18 @@ module _ {R E : Type 0} (job : Job R E) where
   and_few x (Ok leads) h = h
   and_few x (Err error) h = tt
 
-  reached_few : (e x : Entry R E) → Few (Ok x) → Few (value.reached job e x)
-  reached_few e x = and_few x (value.leads_on job.fs e.depth e.ancestors e.parent_path (path_of e) x.file_type)
+  reached_few : (within : Option Identity) (e : Entry R E) (m : Metadata) → Few (Ok e) → Few (value.reached job within e m)
+  reached_few within e m h = and_few (value.behind job within e m) (value.leads_on job.fs e.depth e.ancestors e.parent_path (path_of e) m) h
 
   then_few : (f : Entry R E → Item R E) (x : Item R E) → ((e : Entry R E) → Few (Ok e) → Few (f e)) → Few x → Few (either f Err x)
   then_few f (Ok e) next h = next e h
   then_few f (Err g) next h = tt
 
   -- an entry after the link rule
-  followed_few : (e : Entry R E) → Few (Ok e) → Few (value.followed job e)
-  followed_few e h =
+  followed_few : (within : Option Identity) (e : Entry R E) → Few (Ok e) → Few (value.followed job within e)
+  followed_few within e h =
       of_cond job.options.follow_links (job.options.follow_links && is_symlink e.file_type) _ (Ok e)
-      (then_few (value.reached job e) (value.made job e.depth (path_of e) true e.ancestors) (reached_few e) (made_few e.depth (path_of e) true e.ancestors h))
+      (of_either job.options.follow_links (value.reached job within e) _ (job.fs.meta_of (path_of e)) (λ m. reached_few within e m h) (λ kind. tt))
       h
 
   one_more : (follow : Bool) (ancestors : List (List ℕ)) (path : List ℕ) (depth : ℕ) → length ancestors ≤ most_above follow depth → length (cond follow (ancestors ++ path ∷ []) []) ≤ most_above follow (depth + 1)
@@ -119,10 +121,10 @@ module _ {R E : Type 0} (job : Job R E) where
   one_more_at false path = omega arith
 
   named_few : (spec : Spec R) (n : Named) → Above spec.ancestors spec.depth → AllFew (value.named job spec n)
-  named_few spec n h = elim n.file_type as (λ t. AllFew (either (value.shown job spec n.name) (λ kind. Err (io (spec.depth + 1) (Some (join spec.path n.name)) kind) ∷ []) t)) [
-    | Ok type ↦ elim (job.options.skip_hidden && is_hidden n.name) as (λ b. AllFew (cond b [] (value.followed job (value.entry_in job spec n.name type) ∷ []))) [
+  named_few spec n h = elim n.seen as (λ t. AllFew (either (value.shown job spec n.name) (λ kind. Err (io (spec.depth + 1) (Some (join spec.path n.name)) kind) ∷ []) t)) [
+    | Ok type ↦ elim (job.options.skip_hidden && is_hidden n.name) as (λ b. AllFew (cond b [] (value.followed job (value.within job spec) (value.entry_in job spec n.name type) ∷ []))) [
       | true ↦ tt
-      | false ↦ (followed_few (value.entry_in job spec n.name type) (one_more job.options.follow_links spec.ancestors spec.path spec.depth h), tt)
+      | false ↦ (followed_few (value.within job spec) (value.entry_in job spec n.name type) (one_more job.options.follow_links spec.ancestors spec.path spec.depth h), tt)
     ]
     | Err kind ↦ (tt, tt)
   ]
@@ -149,8 +151,8 @@ module _ {R E : Type 0} (job : Job R E) where
   root_few : (path : List ℕ) → Few (value.root_item job path)
   root_few path =
       let own : List (List ℕ) = if job.options.follow_links then path ∷ [] else [] in
-      then_few (λ e. either (value.with_target job) Err (value.followed job e)) (value.made job 0 path false own)
-      (λ e h. then_few (value.with_target job) (value.followed job e) target_few (followed_few e h))
+      then_few (λ e. either (value.with_target job) Err (value.followed job None e)) (value.made job 0 path false own)
+      (λ e h. then_few (value.with_target job) (value.followed job None e) target_few (followed_few None e h))
       (made_few 0 path false own (one_more_at job.options.follow_links path))
 
   module _ (keeps : (depth : Option ℕ) (path : List ℕ) (state : R) (list : List (Item R E)) → AllFew list → AllFew (job.processed depth path state list).list) where

@@ -1,12 +1,31 @@
 -- Lists and outcomes keep their directories, depths and order once their states are counted.
-use Rattle.std.proofs.Common.{◌≡◌, ℕ, List, [], ◌∷◌, ◌++◌, map, Option, Some, None, option_to_list, unwrap_or, is_some, Bool, true, false, cond, Ok, Err, refl, sym, ap, ◌∙◌}
+use Rattle.std.proofs.Common.{◌≡◌, ℕ, List, [], ◌∷◌, ◌++◌, map, Option, Some, None, option_to_list, unwrap_or, is_some, Bool, true, cond, Ok, Err, refl, sym, ap, ◌∙◌}
 use Rattle.std.specs.Prelude.{flat_map, option_map}
 use Rattle.std.proofs.lemmas.List.{map-append}
-use Rattle.walk_model.specs.Entry.{Entry, Item, Children, children_at, has_directory, AtDepth}
-use Rattle.walk_model.specs.ReadDir.{Spec, Outcome, spec_below, spec_of, children_of, list_of, IsLawfulReading}
+use Rattle.walk_model.specs.Entry.{Entry, Item, children_at, has_directory, AtDepth}
+use Rattle.walk_model.specs.ReadDir.{Spec, Outcome, spec_of, children_of, list_of, IsLawfulReading}
 use Rattle.walk_model.specs.Listing.{after_reading, is_answered}
-use Rattle.walk_model.specs.Sorting.{stands_before, put, arranged}
+use Rattle.walk_model.specs.Sorting.{arranged}
 use Rattle.walk_model.specs.Counted.{children_by, spec_by, entry_by, item_by, outcome_by}
+use Rattle.walk_model.proofs.ViewFacts.{View, viewed-arranged, viewed-in_order, viewed-after_reading, viewed-is_answered, viewed-spec_of, viewed-with_directory}
+
+counted-unwrap_or : {R V : Type 0} (view : R → V) (state : R) (o : Option R) → view (unwrap_or o state) ≡ unwrap_or (option_map view o) (view state)
+counted-unwrap_or view state None = refl
+counted-unwrap_or view state (Some s) = refl
+
+-- the view in which states are counted
+abbrev counted_view : {R E V W : Type 0} → (R → V) → (E → W) → View R E V W
+counted_view view mark = record {
+  state_by = view;
+  mark = mark;
+  seen_by = λ seen. seen;
+  children_by = children_by view;
+  read_children_by = option_map (children_by view);
+  is_each = λ o. refl;
+  same_new = λ path. refl;
+  same_failed = λ f c. refl;
+  same_below = λ depth ancestors state c. ap (λ s. record { depth = depth; path = c.path; ancestors = ancestors; state = s }) (counted-unwrap_or view state c.state);
+}
 
 module _ {R E V W : Type 0} (view : R → V) (mark : E → W) where
   -- an item has a directory, or has none
@@ -16,33 +35,28 @@ module _ {R E V W : Type 0} (view : R → V) (mark : E → W) where
 
   -- an item once its directory was read
   pub counted-after_reading : (outcome : Outcome R E) (x : Item R E) → after_reading (outcome_by view mark outcome) (item_by view mark x) ≡ item_by view mark (after_reading outcome x)
-  counted-after_reading (Ok r) x = refl
-  counted-after_reading (Err f) (Err g) = refl
-  counted-after_reading (Err f) (Ok e) =
-      elim e.read_children as (λ o. after_reading (outcome_by view mark (Err f)) (item_by view mark (Ok (record e { read_children = o }))) ≡ item_by view mark (after_reading (Err f) (Ok (record e { read_children = o })))) [ None ↦ refl | Some c ↦ refl ]
+  counted-after_reading outcome x = sym (viewed-after_reading (counted_view view mark) outcome x)
 
   pub counted-is_answered : (least : ℕ) (x : Item R E) → is_answered least (item_by view mark x) ≡ is_answered least x
-  counted-is_answered least (Ok e) = refl
-  counted-is_answered least (Err f) = refl
+  counted-is_answered least x = viewed-is_answered (counted_view view mark) least x
 
   pub counted-list_of : (outcome : Outcome R E) → list_of (outcome_by view mark outcome) ≡ map (item_by view mark) (list_of outcome)
   counted-list_of (Ok r) = refl
   counted-list_of (Err f) = refl
 
-  counted-spec_below : (state : R) (e : Entry R E) (o : Option (Children R)) → option_to_list (option_map (spec_below (view state) (entry_by view mark e)) (option_map (children_by view) o)) ≡ map (spec_by view) (option_to_list (option_map (spec_below state e) o))
-  counted-spec_below state e None = refl
-  counted-spec_below state e (Some c) =
-      elim c.state as (λ o. ◌≡◌ {A = List (Spec V)} (record { depth = e.depth; path = c.path; ancestors = e.ancestors; state = unwrap_or (option_map view o) (view state) } ∷ []) (record { depth = e.depth; path = c.path; ancestors = e.ancestors; state = view (unwrap_or o state) } ∷ [])) [ None ↦ refl | Some s ↦ refl ]
+  counted-listed : (o : Option (Spec R)) → option_to_list (option_map (spec_by view) o) ≡ map (spec_by view) (option_to_list o)
+  counted-listed None = refl
+  counted-listed (Some spec) = refl
+
+  counted-spec_of : (state : R) (x : Item R E) → option_to_list (spec_of (view state) (item_by view mark x)) ≡ map (spec_by view) (option_to_list (spec_of state x))
+  counted-spec_of state x = ap option_to_list (sym (viewed-spec_of (counted_view view mark) state x)) ∙ counted-listed (spec_of state x)
 
   counted-children : (state : R) (l : List (Item R E)) → flat_map (λ item. option_to_list (spec_of (view state) item)) (map (item_by view mark) l) ≡ map (spec_by view) (flat_map (λ item. option_to_list (spec_of state item)) l)
   counted-children state [] = refl
-  counted-children state (Err f ∷ l) = counted-children state l
-  counted-children state (Ok e ∷ l) =
-      let mine : List (Spec R) = option_to_list (spec_of {E = E} state (Ok e)) in
+  counted-children state (x ∷ l) =
+      let mine : List (Spec R) = option_to_list (spec_of state x) in
       let others : List (Spec R) = flat_map (λ item. option_to_list (spec_of state item)) l in
-      ap (λ m. m ++ flat_map (λ item. option_to_list (spec_of (view state) item)) (map (item_by view mark) l)) (counted-spec_below state e e.read_children)
-      ∙ ap (λ m. map (spec_by view) mine ++ m) (counted-children state l)
-      ∙ sym (map-append (spec_by view) mine others)
+      rw (counted-spec_of state x) (ap (λ m. map (spec_by view) mine ++ m) (counted-children state l) ∙ sym (map-append (spec_by view) mine others))
 
   -- the directories of an outcome
   pub counted-children_of : (outcome : Outcome R E) → children_of (outcome_by view mark outcome) ≡ map (spec_by view) (children_of outcome)
@@ -61,29 +75,12 @@ module _ {R E V W : Type 0} (view : R → V) (mark : E → W) where
   counted-IsLawfulReading max_depth s (Err f) h = h
 
   -- nor does the order by name
-  counted-stands_before : (x y : Item R E) → stands_before (item_by view mark x) (item_by view mark y) ≡ stands_before x y
-  counted-stands_before (Ok x) (Ok y) = refl
-  counted-stands_before (Ok x) (Err f) = refl
-  counted-stands_before (Err f) y = refl
-
-  counted-put : (x : Item R E) (ys : List (Item R E)) → put (item_by view mark x) (map (item_by view mark) ys) ≡ map (item_by view mark) (put x ys)
-  counted-put x [] = refl
-  counted-put x (y ∷ ys) =
-      rw (counted-stands_before y x)
-      (elim (stands_before y x) as (λ b. cond b (item_by view mark y ∷ put (item_by view mark x) (map (item_by view mark) ys)) (item_by view mark x ∷ item_by view mark y ∷ map (item_by view mark) ys) ≡ map (item_by view mark) (cond b (y ∷ put x ys) (x ∷ y ∷ ys))) [
-        | true ↦ ap (λ l. item_by view mark y ∷ l) (counted-put x ys)
-        | false ↦ refl
-      ])
-
   pub counted-arranged : (l : List (Item R E)) → arranged (map (item_by view mark) l) ≡ map (item_by view mark) (arranged l)
-  counted-arranged [] = refl
-  counted-arranged (x ∷ l) = ap (put (item_by view mark x)) (counted-arranged l) ∙ counted-put x (arranged l)
+  counted-arranged l = sym (viewed-arranged (counted_view view mark) l)
 
   pub counted-in_order : (sort : Bool) (l : List (Item R E)) → map (item_by view mark) (cond sort (arranged l) l) ≡ cond sort (arranged (map (item_by view mark) l)) (map (item_by view mark) l)
-  counted-in_order true l = sym (counted-arranged l)
-  counted-in_order false l = refl
+  counted-in_order sort l = viewed-in_order (counted_view view mark) sort l
 
   -- nor does a directory behind a link
   pub counted-with_directory : (e : Entry R E) (dir : Bool) (path : List ℕ) → entry_by view mark (cond dir (record e { read_children = children_at true path }) e) ≡ cond dir (record (entry_by view mark e) { read_children = children_at true path }) (entry_by view mark e)
-  counted-with_directory e true path = refl
-  counted-with_directory e false path = refl
+  counted-with_directory e dir path = viewed-with_directory (counted_view view mark) e dir path

@@ -3,6 +3,7 @@ pub mod CloneFacts
 pub mod CountedFacts
 pub mod DepthFacts
 pub mod HeldFacts
+pub mod KeptFacts
 pub mod PathEnds
 pub mod PathFacts
 pub mod PathJoins
@@ -13,4 +14,5 @@ pub mod PreorderFacts
 pub mod ReadingFacts
 pub mod SortingFacts
 pub mod StatesFacts
+pub mod ViewFacts
 pub mod WithinFacts

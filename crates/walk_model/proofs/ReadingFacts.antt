@@ -1,9 +1,11 @@
 -- The depths of a reading's entries.
-use Rattle.std.proofs.Common.{ℕ, ◌+◌, ◌<◌, Bool, true, false, cond, ◌&&◌, List, [], ◌∷◌, Some, Result, Ok, Err, inl, inr, refl, arith}
+use Rattle.std.proofs.Common.{ℕ, ◌+◌, ◌<◌, Bool, true, false, cond, ◌&&◌, List, [], ◌∷◌, Option, Some, Result, Ok, Err, inl, inr, refl, arith}
 use Rattle.std.proofs.lemmas.Bool.Decides.{leb_tells}
 use Rattle.std.specs.Result.{result_and}
 use Rattle.std.specs.declared.io.ErrorKind.{ErrorKind}
-use Rattle.walk_model.specs.declared.file_type.FileType.{FileType}
+use Rattle.walk_model.specs.declared.metadata.Identity.{Identity}
+use Rattle.walk_model.specs.declared.metadata.Metadata.{Metadata}
+use Rattle.walk_model.specs.declared.seen.Seen.{Seen}
 use Rattle.walk_model.specs.FileType.{is_symlink}
 use Rattle.walk_model.specs.Paths.{join}
 use Rattle.walk_model.specs.FileSystem.{Named, Listed}
@@ -28,25 +30,25 @@ module _ {R E : Type 0} (job : Job R E) where
   and_at x (Ok leads) = (refl, tt)
   and_at x (Err error) = tt
 
-  reached_at : (e x : Entry R E) → At x.depth (value.reached job e x)
-  reached_at e x = and_at x (value.leads_on job.fs e.depth e.ancestors e.parent_path (path_of e) x.file_type)
+  reached_at : (within : Option Identity) (e : Entry R E) (m : Metadata) → At e.depth (value.reached job within e m)
+  reached_at within e m = and_at (value.behind job within e m) (value.leads_on job.fs e.depth e.ancestors e.parent_path (path_of e) m)
 
   -- an entry after the link rule is where it was
-  followed_at : (e : Entry R E) → At e.depth (value.followed job e)
-  followed_at e =
-      cond_at e.depth (job.options.follow_links && is_symlink e.file_type) (either (value.reached job e) Err (value.made job e.depth (path_of e) true e.ancestors)) (Ok e)
-      (elim (job.fs.meta_of (path_of e)) as (λ m. At e.depth (either (value.reached job e) Err (either (λ d. Ok (value.made_of job e.depth (path_of e) true e.ancestors d)) (λ kind. Err (io e.depth (Some (path_of e)) kind)) m))) [
-        | Ok d ↦ reached_at e (value.made_of job e.depth (path_of e) true e.ancestors d)
+  followed_at : (within : Option Identity) (e : Entry R E) → At e.depth (value.followed job within e)
+  followed_at within e =
+      cond_at e.depth (job.options.follow_links && is_symlink e.file_type) (either (value.reached job within e) (λ kind. Err (io e.depth (Some (path_of e)) kind)) (job.fs.meta_of (path_of e))) (Ok e)
+      (elim (job.fs.meta_of (path_of e)) as (λ m. At e.depth (either (value.reached job within e) (λ kind. Err (io e.depth (Some (path_of e)) kind)) m)) [
+        | Ok d ↦ reached_at within e d
         | Err kind ↦ tt
       ])
       (refl, tt)
 
-  shown_at : (spec : Spec R) (name : List ℕ) (type : FileType) (skips : Bool) → AtDepth (spec.depth + 1) (cond skips [] (value.followed job (value.entry_in job spec name type) ∷ []))
-  shown_at spec name type true = tt
-  shown_at spec name type false = followed_at (value.entry_in job spec name type)
+  shown_at : (spec : Spec R) (name : List ℕ) (seen : Seen) (skips : Bool) → AtDepth (spec.depth + 1) (cond skips [] (value.followed job (value.within job spec) (value.entry_in job spec name seen) ∷ []))
+  shown_at spec name seen true = tt
+  shown_at spec name seen false = followed_at (value.within job spec) (value.entry_in job spec name seen)
 
   named_at : (spec : Spec R) (n : Named) → AtDepth (spec.depth + 1) (value.named job spec n)
-  named_at spec n = elim n.file_type as (λ t. AtDepth (spec.depth + 1) (either (value.shown job spec n.name) (λ kind. Err (io (spec.depth + 1) (Some (join spec.path n.name)) kind) ∷ []) t)) [
+  named_at spec n = elim n.seen as (λ t. AtDepth (spec.depth + 1) (either (value.shown job spec n.name) (λ kind. Err (io (spec.depth + 1) (Some (join spec.path n.name)) kind) ∷ []) t)) [
     | Ok type ↦ shown_at spec n.name type (job.options.skip_hidden && is_hidden n.name)
     | Err kind ↦ tt
   ]

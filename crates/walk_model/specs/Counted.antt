@@ -25,6 +25,7 @@ module _ {R E V W : Type 0} (view : R → V) (mark : E → W) where
     depth = e.depth;
     file_name = e.file_name;
     file_type = e.file_type;
+    seen = e.seen;
     client_state = mark e.client_state;
     parent_path = e.parent_path;
     through_link = e.through_link;

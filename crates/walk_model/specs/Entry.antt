@@ -18,6 +18,7 @@ pub record Entry (R E : Type 0) : Type 0 where
   pub depth : ℕ
   pub file_name : List ℕ
   pub file_type : FileType
+  pub seen : Option Metadata
   pub client_state : E
   pub parent_path : List ℕ
   pub through_link : Bool

@@ -1,13 +1,13 @@
 -- A file system, as four functions of the path.
 use Rattle.std.specs.Prelude.{ℕ, Bool, List, Result, if◌then◌else◌}
 use Rattle.std.specs.declared.io.ErrorKind.{ErrorKind}
-use Rattle.walk_model.specs.declared.file_type.FileType.{FileType}
 use Rattle.walk_model.specs.declared.metadata.Metadata.{Metadata}
+use Rattle.walk_model.specs.declared.seen.Seen.{Seen}
 
--- an item of a listing that has a name: its type, or the kind of the error in its place
+-- an item of a listing that has a name: what is seen of it, or the kind of the error in its place
 pub record Named : Type 0 where
   pub name : List ℕ
-  pub file_type : Result FileType ErrorKind
+  pub seen : Result Seen ErrorKind
 
 -- an item of a listing: it is named, or it is the kind of an error
 abbrev pub Listed : Type 0

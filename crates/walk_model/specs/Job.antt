@@ -1,10 +1,13 @@
 -- One reading of a directory, and the list of one item that a walk begins with.
-use Rattle.std.specs.Prelude.{ℕ, ◌+◌, nat_le, Bool, true, false, ◌&&◌, List, [], ◌∷◌, ◌++◌, flat_map, find, reverse, Option, Some, None, is_some, unwrap_or, Result, Ok, Err, if◌then◌else◌}
+use Rattle.std.specs.Prelude.{ℕ, ◌+◌, nat_le, Bool, true, false, not, ◌&&◌, List, [], ◌∷◌, ◌++◌, flat_map, find, reverse, Option, Some, None, is_some, unwrap_or, Result, Ok, Err, if◌then◌else◌}
 use Rattle.std.specs.Result.{result_and}
 use Rattle.walk_model.specs.declared.file_type.FileType.{FileType}
+use Rattle.walk_model.specs.declared.metadata.Identity.{Identity}
 use Rattle.walk_model.specs.declared.metadata.Metadata.{Metadata}
+use Rattle.walk_model.specs.declared.seen.Seen.{Seen}
 use Rattle.walk_model.specs.FileType.{is_dir, is_symlink}
-use Rattle.walk_model.specs.Metadata.{type_of}
+use Rattle.walk_model.specs.Metadata.{type_of, identity_of, same_file, is_elsewhere}
+use Rattle.walk_model.specs.Seen.{type_seen, metadata_seen, identity_seen}
 use Rattle.walk_model.specs.FileSystem.{Named, Listed, Functions, metadata_at}
 use Rattle.walk_model.specs.Paths.{join, parent, file_name, same_place}
 use Rattle.walk_model.specs.Error.{Failure, io, looped}
@@ -33,9 +36,22 @@ abbrev pub either : {X F Y : Type 0} → (X → Y) → (F → Y) → Result X F 
 either f g (Ok x) = f x
 either f g (Err e) = g e
 
--- the nearest ancestor, which is the last of the list, that is the same place as a path
-abbrev pub looped_to : List ℕ → List (List ℕ) → Option (List ℕ)
-looped_to path ancestors = find (same_place path) (reverse ancestors)
+-- whether what is found, of a type and an identity, is a directory that is entered from another one: not where it is known to be on another file system
+abbrev pub is_entered : Option Identity → FileType → Option Identity → Bool
+is_entered within type identity = is_dir type && not (is_elsewhere within identity)
+
+-- which file is at a path, through its last link, where that is known
+abbrev pub identity_at : Functions → List ℕ → Option Identity
+identity_at fs path = either identity_of (λ _. None) (fs.meta_of path)
+
+-- whether a directory above a link is what it leads to: the same file where both are known, and else the same place by the link's text
+abbrev pub is_target : Option Identity → List ℕ → Option Identity → List ℕ → Bool
+is_target (Some it) place (Some above) path = same_file it above
+is_target _ place _ path = same_place place path
+
+-- the nearest ancestor, which is the last of the list, that a link with this target leads to
+abbrev pub looped_to : Functions → Option Identity → List ℕ → List (List ℕ) → Option (List ℕ)
+looped_to fs target place ancestors = find (λ path. is_target target place (identity_at fs path) path) (reverse ancestors)
 
 -- the name of an entry made from a path, and its parent: the whole path and nothing if the path has no file name
 abbrev pub own_name : List ℕ → List ℕ
@@ -49,22 +65,27 @@ abbrev pub unless_above : ℕ → List ℕ → Option (List ℕ) → Result (Uni
 unless_above depth path None = Ok tt
 unless_above depth path (Some ancestor) = Err (looped depth ancestor path)
 
--- whether a link at a depth, with a parent and a path of its own and these ancestors, leads on to a target of this type. A directory is looked for among the ancestors, by the link's text below the parent.
-abbrev pub leads_on : Functions → ℕ → List (List ℕ) → List ℕ → List ℕ → FileType → Result (Unit {0}) Failure
-leads_on fs depth ancestors above path type =
-    if is_dir type
+-- whether a link at a depth, with a parent and a path of its own and these ancestors, leads on to a target of which this is known. A directory is looked for among the ancestors, by which file it is or by the link's text below the parent.
+abbrev pub leads_on : Functions → ℕ → List (List ℕ) → List ℕ → List ℕ → Metadata → Result (Unit {0}) Failure
+leads_on fs depth ancestors above path m =
+    if is_dir (type_of m)
     then either
-    (λ target. unless_above depth path (looped_to (join above target) ancestors))
+    (λ target. unless_above depth path (looped_to fs (identity_of m) (join above target) ancestors))
     (λ kind. Err (io depth None kind))
     (fs.target_of path)
     else Ok tt
 
 module _ {R E : Type 0} (job : Job R E) where
+  -- the metadata that an entry keeps, where that is asked for
+  abbrev pub kept : Option Metadata → Option Metadata
+  kept seen = if job.options.keep_metadata then seen else None
+
   abbrev pub made_of : ℕ → List ℕ → Bool → List (List ℕ) → Metadata → Entry R E
   made_of depth path through ancestors m = record {
     depth = depth;
     file_name = own_name path;
     file_type = type_of m;
+    seen = kept (Some m);
     client_state = job.default;
     parent_path = own_parent path;
     through_link = through;
@@ -79,42 +100,51 @@ module _ {R E : Type 0} (job : Job R E) where
       (λ kind. Err (io depth (Some path) kind))
       (metadata_at job.fs through path)
 
-  -- the entry x that is reached through the link e, where that leads on
-  abbrev pub reached : Entry R E → Entry R E → Item R E
-  reached e x = result_and (leads_on job.fs e.depth e.ancestors e.parent_path (path_of e) x.file_type) (Ok x)
+  -- the entry behind a link in a directory, of which this is known
+  abbrev pub behind : Option Identity → Entry R E → Metadata → Entry R E
+  behind within e m = record (made_of e.depth (path_of e) true e.ancestors m) { read_children = children_at (is_entered within (type_of m) (identity_of m)) (path_of e) }
 
-  -- an entry after the link rule: where links are followed, a link is replaced by what it leads to
-  abbrev pub followed : Entry R E → Item R E
-  followed e =
+  -- the entry that is reached through the link e, where that leads on to a target of which this is known
+  abbrev pub reached : Option Identity → Entry R E → Metadata → Item R E
+  reached within e m = result_and (leads_on job.fs e.depth e.ancestors e.parent_path (path_of e) m) (Ok (behind within e m))
+
+  -- an entry of a directory after the link rule: where links are followed, a link is replaced by what it leads to
+  abbrev pub followed : Option Identity → Entry R E → Item R E
+  followed within e =
       if job.options.follow_links && is_symlink e.file_type
-      then either (reached e) Err (made e.depth (path_of e) true e.ancestors)
+      then either (reached within e) (λ kind. Err (io e.depth (Some (path_of e)) kind)) (job.fs.meta_of (path_of e))
       else Ok e
 
   -- the ancestors of what is in a directory: none are kept where links aren't followed
   abbrev pub ancestors_in : Spec R → List (List ℕ)
   ancestors_in spec = if job.options.follow_links then spec.ancestors ++ spec.path ∷ [] else []
 
+  -- which file a directory is, where the walk stays on one file system
+  abbrev pub within : Spec R → Option Identity
+  within spec = if job.options.same_file_system then identity_at job.fs spec.path else None
+
   -- the entry of a name in a directory
-  abbrev pub entry_in : Spec R → List ℕ → FileType → Entry R E
-  entry_in spec name type = record {
+  abbrev pub entry_in : Spec R → List ℕ → Seen → Entry R E
+  entry_in spec name seen = record {
     depth = spec.depth + 1;
     file_name = name;
-    file_type = type;
+    file_type = type_seen seen;
+    seen = kept (metadata_seen seen);
     client_state = job.default;
     parent_path = spec.path;
     through_link = false;
     ancestors = ancestors_in spec;
-    read_children = children_at (is_dir type) (join spec.path name);
+    read_children = children_at (is_entered (within spec) (type_seen seen) (identity_seen seen)) (join spec.path name);
   }
 
-  -- what a name with a type gives: nothing where it is hidden and skipped
-  abbrev pub shown : Spec R → List ℕ → FileType → List (Item R E)
-  shown spec name type =
-      if job.options.skip_hidden && is_hidden name then [] else followed (entry_in spec name type) ∷ []
+  -- what a name gives of which this is seen: nothing where it is hidden and skipped
+  abbrev pub shown : Spec R → List ℕ → Seen → List (Item R E)
+  shown spec name seen =
+      if job.options.skip_hidden && is_hidden name then [] else followed (within spec) (entry_in spec name seen) ∷ []
 
-  -- what a name gives: where its type is an error, that error with the joined path
+  -- what a name gives: where an error is seen, that error with the joined path
   abbrev pub named : Spec R → Named → List (Item R E)
-  named spec n = either (shown spec n.name) (λ kind. Err (io (spec.depth + 1) (Some (join spec.path n.name)) kind) ∷ []) n.file_type
+  named spec n = either (shown spec n.name) (λ kind. Err (io (spec.depth + 1) (Some (join spec.path n.name)) kind) ∷ []) n.seen
 
   -- what one item of a listing gives
   abbrev pub item_of : Spec R → Listed → List (Item R E)
@@ -152,9 +182,9 @@ module _ {R E : Type 0} (job : Job R E) where
   abbrev root_ancestors : List ℕ → List (List ℕ)
   root_ancestors path = if job.options.follow_links then path ∷ [] else []
 
-  -- the root's item before the callback
+  -- the root's item before the callback: a root lies in no directory, and so is entered on any file system
   abbrev pub root_item : List ℕ → Item R E
-  root_item path = either (λ e. either with_target Err (followed e)) Err (made 0 path false (root_ancestors path))
+  root_item path = either (λ e. either with_target Err (followed None e)) Err (made 0 path false (root_ancestors path))
 
   -- the path that the callback is given with the root's item: the root's parent, and nothing if no entry could be made
   abbrev pub root_parent : List ℕ → List ℕ

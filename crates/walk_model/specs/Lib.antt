@@ -1,5 +1,6 @@
 pub mod FileType
 pub mod Metadata
+pub mod Seen
 pub mod Paths
 pub mod PathTexts
 pub mod PathRows
@@ -18,6 +19,7 @@ pub mod Held
 pub mod Preorder
 pub mod Walk
 pub mod States
+pub mod Kept
 pub mod Lines
 pub mod WalkRows
 pub mod CallbackRows

@@ -1,7 +1,9 @@
 -- What a file system knows of a path.
-use Rattle.std.specs.Prelude.{ℕ}
+use Rattle.std.specs.Prelude.{ℕ, Bool, false, not, ◌&&◌, ◌==◌, Option, Some, None, option_map}
 use Rattle.walk_model.specs.declared.file_type.FileType.{FileType}
 use Rattle.walk_model.specs.declared.metadata.Metadata.{Metadata}
+use Rattle.walk_model.specs.declared.metadata.Details.{Details}
+use Rattle.walk_model.specs.declared.metadata.Identity.{Identity}
 
 -- the type
 abbrev pub type_of : Metadata → FileType
@@ -11,6 +13,23 @@ type_of m = m.file_type
 abbrev pub len_of : Metadata → ℕ
 len_of m = m.len
 
--- the metadata of this type and length
+-- what else is known
+abbrev pub details_of : Metadata → Option Details
+details_of m = m.details
+
+-- which file it is, where that is known
+abbrev pub identity_of : Metadata → Option Identity
+identity_of m = option_map (λ (d : Details). d.identity) m.details
+
+-- whether two identities are that of one file
+abbrev pub same_file : Identity → Identity → Bool
+same_file i j = (i.device == j.device) && (i.inode == j.inode)
+
+-- whether two files, where both are known, are on different file systems
+abbrev pub is_elsewhere : Option Identity → Option Identity → Bool
+is_elsewhere (Some i) (Some j) = not (i.device == j.device)
+is_elsewhere _ _ = false
+
+-- the metadata of this type and length, without details
 abbrev pub metadata : FileType → ℕ → Metadata
-metadata type len = record { file_type = type; len = len }
+metadata type len = record { file_type = type; len = len; details = None }

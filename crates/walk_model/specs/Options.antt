@@ -11,6 +11,8 @@ pub record Options : Type 0 where
   pub sort : Bool
   pub skip_hidden : Bool
   pub follow_links : Bool
+  pub same_file_system : Bool
+  pub keep_metadata : Bool
   pub min_depth : ℕ
   pub max_depth : ℕ
   pub parallelism : Parallelism
@@ -21,6 +23,8 @@ defaults = record {
   sort = false;
   skip_hidden = true;
   follow_links = false;
+  same_file_system = false;
+  keep_metadata = false;
   min_depth = 0;
   max_depth = 2 ^ 64 - 1;
   parallelism = serial;
@@ -34,6 +38,12 @@ with_skip_hidden on o = record o { skip_hidden = on }
 
 abbrev pub with_follow_links : Bool → Options → Options
 with_follow_links on o = record o { follow_links = on }
+
+abbrev pub with_same_file_system : Bool → Options → Options
+with_same_file_system on o = record o { same_file_system = on }
+
+abbrev pub with_keep_metadata : Bool → Options → Options
+with_keep_metadata on o = record o { keep_metadata = on }
 
 -- the least depth, lowered to the greatest
 abbrev pub with_min_depth : ℕ → Options → Options
@@ -53,4 +63,6 @@ pub record ReadsAs (these others : Options) : Type 0 where
   pub sort : these.sort ≡ others.sort
   pub skip_hidden : these.skip_hidden ≡ others.skip_hidden
   pub follow_links : these.follow_links ≡ others.follow_links
+  pub same_file_system : these.same_file_system ≡ others.same_file_system
+  pub keep_metadata : these.keep_metadata ≡ others.keep_metadata
   pub max_depth : these.max_depth ≡ others.max_depth

@@ -21,6 +21,7 @@ module _ {R E : Type 0} where
     depth = e.depth;
     file_name = e.file_name;
     file_type = e.file_type;
+    seen = e.seen;
     client_state = blank;
     parent_path = e.parent_path;
     through_link = e.through_link;

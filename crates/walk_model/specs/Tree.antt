@@ -2,9 +2,10 @@
 use Rattle.std.specs.Prelude.{ℕ, zero, suc, Bool, true, false, ◌&&◌, List, [], ◌∷◌, ◌++◌, map, filter, length, not, Option, Some, None, is_some, Result, Ok, Err, if◌then◌else◌, bytes_eq}
 use Rattle.std.specs.declared.io.ErrorKind.{ErrorKind}
 use Rattle.std.specs.declared.io.ErrorKind.TheVariants as kind
-use Rattle.walk_model.specs.declared.file_type.FileType.{FileType}
 use Rattle.walk_model.specs.declared.file_type.FileType.TheVariants as type
 use Rattle.walk_model.specs.declared.metadata.Metadata.{Metadata}
+use Rattle.walk_model.specs.declared.seen.Seen.{Seen}
+use Rattle.walk_model.specs.declared.seen.Seen.TheVariants.{TypeAlone, Whole}
 use Rattle.walk_model.specs.Metadata.{metadata}
 use Rattle.walk_model.specs.FileSystem.{Listed, Functions}
 use Rattle.walk_model.specs.Paths.{Component, root, here, up, plain, components, last_of, all_but_last}
@@ -95,27 +96,29 @@ abbrev pub look_up : Tree → Bool → List ℕ → Result Place ErrorKind
 look_up tree follow [] = Err kind.NotFound
 look_up tree follow (c ∷ cs) = looked_up tree follow link_limit [] (components (c ∷ cs))
 
--- the type of a node, as a listing has it
-abbrev pub type_at : Option Node → FileType
-type_at None = type.Other
-type_at (Some (directory names denied)) = type.Dir
-type_at (Some (file len)) = type.File
-type_at (Some (link target)) = type.Symlink
+-- type and length of a node: a directory has length 0, a link as many bytes as its target
+abbrev pub seen_of : Node → Metadata
+seen_of (directory names denied) = metadata type.Dir 0
+seen_of (file len) = metadata type.File len
+seen_of (link target) = metadata type.Symlink (length target)
 
--- a directory's children with their own types, unless it was denied
+-- a node as a listing has it
+abbrev pub seen_at : Option Node → Seen
+seen_at None = TypeAlone type.Other
+seen_at (Some node) = Whole (seen_of node)
+
+-- a directory's children with their own metadata, unless it was denied
 abbrev pub listing_at : Tree → Place → Option Node → Result (List Listed) ErrorKind
-listing_at tree place (Some (directory names None)) = Ok (map (λ name. Ok (record { name = name; file_type = Ok (type_at (tree (child place name))) })) names)
+listing_at tree place (Some (directory names None)) = Ok (map (λ name. Ok (record { name = name; seen = Ok (seen_at (tree (child place name))) })) names)
 listing_at tree place (Some (directory names (Some denied))) = Err denied
 listing_at tree place (Some (file len)) = Err kind.InvalidInput
 listing_at tree place (Some (link target)) = Err kind.InvalidInput
 listing_at tree place None = Err kind.NotFound
 
--- type and length: a directory has length 0, a link as many bytes as its target
+-- what is known of a node, if there is one
 abbrev pub node_metadata : Option Node → Result Metadata ErrorKind
 node_metadata None = Err kind.NotFound
-node_metadata (Some (directory names denied)) = Ok (metadata type.Dir 0)
-node_metadata (Some (file len)) = Ok (metadata type.File len)
-node_metadata (Some (link target)) = Ok (metadata type.Symlink (length target))
+node_metadata (Some node) = Ok (seen_of node)
 
 -- the target of a link
 abbrev pub target_at : Option Node → Result (List ℕ) ErrorKind

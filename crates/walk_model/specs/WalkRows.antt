@@ -4,6 +4,7 @@ use Rattle.std.specs.Fmt.{digits}
 use Rattle.std.specs.Option.{option_and_then}
 use Rattle.std.specs.declared.io.ErrorKind.TheVariants as kind
 use Rattle.walk_model.specs.declared.file_type.FileType.TheVariants as type
+use Rattle.walk_model.specs.declared.seen.Seen.TheVariants.{TypeAlone}
 use Rattle.walk_model.specs.Metadata.{metadata}
 use Rattle.walk_model.specs.FileSystem.{Functions}
 use Rattle.walk_model.specs.Tree.{only_root, functions_of}
@@ -284,10 +285,10 @@ dot_root_followed = refl
 abbrev faulty : Functions
 faulty = record {
   list_of = λ path. Ok (
-      Ok (record { name = codes ".x"; file_type = Err kind.PermissionDenied })
+      Ok (record { name = codes ".x"; seen = Err kind.PermissionDenied })
       ∷ Err kind.InvalidData
-      ∷ Ok (record { name = codes "b"; file_type = Ok type.File })
-      ∷ Ok (record { name = codes "a"; file_type = Ok type.File })
+      ∷ Ok (record { name = codes "b"; seen = Ok (TypeAlone type.File) })
+      ∷ Ok (record { name = codes "a"; seen = Ok (TypeAlone type.File) })
       ∷ []);
   meta_of = λ path. Err kind.NotFound;
   link_meta_of = λ path. Ok (metadata type.Dir 0);

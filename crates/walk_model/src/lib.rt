@@ -2,6 +2,8 @@
 #![tactic(auto)]
 
 pub mod file_type;
+pub mod kept;
 pub mod laws;
 pub mod metadata;
+pub mod seen;
 pub mod states;

@@ -1,11 +1,9 @@
 //! The items of a directory while it is listed.
 ghost use Rattle.std.specs.Prelude.{◌≡◌, ◌+◌, ◌<◌, ◌^◌, []};
-ghost use Rattle.jwalk_core.specs.Ancestors.{texts};
 ghost use Rattle.jwalk_core.specs.ReadDirSpec.{spec};
-ghost use Rattle.jwalk_core.specs.Job.{options_of, ancestors_in};
 
 use super::Job;
-use crate::ancestors::Ancestors;
+use super::inside::Inside;
 use crate::client_state::ClientState;
 use crate::dir_entry::DirEntry;
 use crate::error::Error;
@@ -16,29 +14,29 @@ use std::io;
 use walk_fs::file_system::FileSystem;
 use walk_fs::sink::Sink;
 use walk_model::file_type::FileType;
+use walk_model::seen::Seen;
 
 /// The entries and errors of a directory that is being listed, each made as soon as its name is known.
 #[derive(Drop)]
 pub(super) struct Gathering<'g, C: ClientState, S, P, A: Allocator + Copy> {
     job: &'g Job<C, S, P, A>,
     of: &'g ReadDirSpec<C, A>,
-    inside: Ancestors<A>,
+    inside: Inside<A>,
     items: Vec<Result<DirEntry<C, A>, Error<A>>, A>,
     ghost fits: { (spec of.now).depth + 1 < 2 ^ 64 },
-    ghost below: { texts inside ≡ ancestors_in (options_of job.now) (spec of.now) },
 }
 
 impl<'g, C: ClientState, S, P, A: Allocator + Copy> Gathering<'g, C, S, P, A> {
-    /// Returns no items yet, of this directory. `inside` are the ancestors of what is in it.
+    /// Returns no items yet, of this directory. `inside` is what they share.
     pub(super) fn new(
         job: &'g Job<C, S, P, A>,
         of: &'g ReadDirSpec<C, A>,
-        inside: Ancestors<A>,
+        inside: Inside<A>,
     ) -> Self
-        requires fits { (spec of.now).depth + 1 < 2 ^ 64 }
-        requires below { texts inside ≡ ancestors_in (options_of job.now) (spec of.now) }
+        requires { (spec of.now).depth + 1 < 2 ^ 64 }
         ensures job { result.job.now ≡ job.now }
         ensures of { result.of.now ≡ of.now }
+        ensures inside { result.inside ≡ inside }
         ensures items { result.items.items ≡ [] }
     {
         Gathering {
@@ -63,13 +61,20 @@ impl<'g, C: ClientState, S: FileSystem, P: ProcessReadDir<C, A>, A: Allocator + 
 
     ghost Took = { λ first listing last. IsGathered S.FileSystem C.DirEntryState.Default first listing last };
 
-    fn take(&mut self, name: &str, file_type: io::Result<FileType>) -> Result<(), AllocError> {
-        match self.job.named(self.of, &self.inside, name, file_type)? {
+    fn take_seen(&mut self, name: &str, seen: io::Result<Seen>) -> Result<(), AllocError> {
+        match self.job.named(self.of, &mut self.inside, name, seen)? {
             Some(item) => {
                 self.items.push(item)?;
                 Ok(())
             }
             None => Ok(()),
+        }
+    }
+
+    fn take(&mut self, name: &str, file_type: io::Result<FileType>) -> Result<(), AllocError> {
+        match file_type {
+            Ok(file_type) => self.take_seen(name, Ok(Seen::TypeAlone(file_type))),
+            Err(error) => self.take_seen(name, Err(error)),
         }
     }
 

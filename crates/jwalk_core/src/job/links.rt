@@ -1,29 +1,34 @@
 //! Entries made from paths, and what is found behind a link that is followed.
-ghost use Rattle.std.specs.Prelude.{◌≡◌, ◌&&◌, ◌++◌, ◌∷◌, [], true, Ok, Err, IfOk, MatchResult, if◌then◌else◌};
-ghost use Rattle.walk_model.specs.Entry.{AtDepth, path_of};
+ghost use Rattle.std.specs.Prelude.{◌≡◌, ◌&&◌, ◌++◌, ◌∷◌, [], true, Some, Ok, Err, option_map, IfOk, MatchResult, if◌then◌else◌};
+ghost use Rattle.walk_model.specs.Error.{io};
+ghost use Rattle.walk_model.specs.Entry.{AtDepth, path_of, children_at};
 ghost use Rattle.walk_model.specs.FileType.{is_symlink};
 ghost use Rattle.walk_model.specs.Job as value;
 ghost use Rattle.walk_model.specs.Paths.{join};
 ghost use Rattle.jwalk_core.specs.Text.{text};
 ghost use Rattle.jwalk_core.specs.Ancestors.{texts};
 ghost use Rattle.jwalk_core.specs.Error.{failure};
-ghost use Rattle.jwalk_core.specs.Entry.{entry, item};
-ghost use Rattle.jwalk_core.specs.Given.{Given, counted_item, counted_entry};
+ghost use Rattle.jwalk_core.specs.Entry.{entry, item, children};
+ghost use Rattle.jwalk_core.specs.Given.{Given, counted_item, counted_entry, DefaultsCount};
 ghost use Rattle.jwalk_core.specs.Job.{file_system, options_of, job_by, ByValue};
+ghost use Rattle.jwalk_core.specs.Inside.{IsAsked, AsksOn};
 
-use super::Job;
+use super::inside::Inside;
+use super::{Job, kept};
 use crate::ancestors::Ancestors;
 use crate::client_state::ClientState;
 use crate::dir_entry::DirEntry;
 use crate::error::Error;
 use crate::metadata::metadata_at;
 use crate::process_read_dir::ProcessReadDir;
+use crate::read_children::ReadChildren;
 use std::alloc::{AllocError, Allocator};
 use std::sync::Arc;
 use walk_fs::fault::Fault;
 use walk_fs::file_system::FileSystem;
 use walk_fs::path_text;
 use walk_model::file_type::FileType;
+use walk_model::metadata::Metadata;
 
 /// Returns the name of an entry made from a path: its file name, or its whole path if it has none.
 fn own_name(path: &str) -> &str
@@ -101,31 +106,32 @@ fn parent_of<A: Allocator + Copy>(
     shared(alloc, parent)
 }
 
-/// Returns whether a link leads on to its target, which is of this type. The link has a path and the path of its parent.
-/// It doesn't lead on if its text below the parent is the same place as a directory above it, nor if the text of the
-/// link to a directory can't be read.
+/// Returns whether a link leads on to its target, of which this is known. The link has a path and the path of its
+/// parent. It doesn't lead on to a directory above it: to the same file, where both are known, or else to the same place
+/// by its text below the parent. Nor if the text of the link to a directory can't be read.
 fn leads_on<S: FileSystem, A: Allocator + Copy>(
     alloc: A,
     fs: &S,
     depth: usize,
-    ancestors: &Ancestors<A>,
+    inside: &mut Inside<A>,
     parent: &str,
     path: &Arc<String<A>, A>,
-    file_type: FileType,
+    target: Metadata,
 ) -> Result<Result<(), Error<A>>, AllocError>
-    ensures { S.IsFixed fs.now → IfOk result (λ r. MatchResult r
-        (λ _. value.leads_on (S.functions fs.now) depth (texts ancestors.now) parent.now (text path.now) file_type
+    ensures asks { S.IsFixed fs.now → IfOk result (λ _. AsksOn (S.functions fs.now) inside.old inside.new) }
+    ensures value { S.IsFixed fs.now → IsAsked (S.functions fs.now) inside.old → IfOk result (λ r. MatchResult r
+        (λ _. value.leads_on (S.functions fs.now) depth (texts inside.old.ancestors) parent.now (text path.now) target
         ≡ Ok tt)
-        (λ e. value.leads_on (S.functions fs.now) depth (texts ancestors.now) parent.now (text path.now) file_type
+        (λ e. value.leads_on (S.functions fs.now) depth (texts inside.old.ancestors) parent.now (text path.now) target
         ≡ Err (failure e))) }
 {
-    if !file_type.is_dir() {
+    if !target.is_dir() {
         return Ok(Ok(()));
     }
     match fs.read_link(alloc, path.as_str()) {
-        Ok(target) => {
-            let place = path_text::join(alloc, parent, target.as_str())?;
-            match ancestors.nearest(alloc, place.as_str())? {
+        Ok(text) => {
+            let place = path_text::join(alloc, parent, text.as_str())?;
+            match inside.nearest(alloc, fs, target.identity(), place.as_str())? {
                 Some(ancestor) => Ok(Err(Error::from_loop(depth, ancestor, path.clone()?))),
                 None => Ok(Ok(())),
             }
@@ -135,7 +141,55 @@ fn leads_on<S: FileSystem, A: Allocator + Copy>(
     }
 }
 
+/// Returns the directory at a path, if it is entered.
+fn directory_at<C: ClientState, A: Allocator + Copy>(
+    path: &Arc<String<A>, A>,
+    is_entered: bool,
+) -> Result<Option<ReadChildren<C, A>>, AllocError>
+    ensures { IfOk result (λ o. option_map children o ≡ children_at is_entered (text path.now)) }
+{
+    if !is_entered {
+        return Ok(None);
+    }
+    Ok(Some(ReadChildren::new(path.clone()?)))
+}
+
 impl<C: ClientState, S: FileSystem, P: ProcessReadDir<C, A>, A: Allocator + Copy> Job<C, S, P, A> {
+    /// Returns the entry of a path of which this is known. A text near by may be that of its parent.
+    fn entry_at(
+        &self,
+        depth: usize,
+        path: &Arc<String<A>, A>,
+        near: &Arc<String<A>, A>,
+        through_link: bool,
+        ancestors: &Ancestors<A>,
+        metadata: Metadata,
+        is_entered: bool,
+    ) -> Result<DirEntry<C, A>, AllocError>
+        ensures depth { IfOk result (λ e. (entry e).depth ≡ depth) }
+        ensures value { (g : _) → DefaultsCount C.DirEntryState.Default g
+            → IfOk result (λ e. counted_entry g (entry e) ≡ record (value.made_of (job_by S.FileSystem g self.now)
+            depth (text path.now) through_link (texts ancestors.now) metadata) {
+              read_children = children_at is_entered (text path.now);
+            }) }
+    {
+        let file_name = String::from_str(self.alloc, own_name(path.as_str()))?;
+        let parent_path = parent_of(self.alloc, path.as_str(), near)?;
+        let ancestors = ancestors.share()?;
+        let kept = kept(self.alloc, self.options, Some(metadata))?;
+        let read_children = directory_at(path, is_entered)?;
+        Ok(DirEntry::new(
+            depth,
+            file_name,
+            metadata.file_type(),
+            kept,
+            parent_path,
+            read_children,
+            through_link,
+            ancestors,
+        ))
+    }
+
     /// Returns the entry of a path, or the error with its depth and path. A text near by may be that of its parent.
     pub(super) fn made(
         &self,
@@ -152,67 +206,86 @@ impl<C: ClientState, S: FileSystem, P: ProcessReadDir<C, A>, A: Allocator + Copy
     {
         match metadata_at(&self.fs, path.as_str(), through_link) {
             Ok(metadata) => {
-                let file_name = String::from_str(self.alloc, own_name(path.as_str()))?;
-                let parent_path = parent_of(self.alloc, path.as_str(), near)?;
-                let directory = path.clone()?;
-                let ancestors = ancestors.share()?;
-                let file_type = metadata.file_type();
-                let found = DirEntry::new(
+                let found = self.entry_at(
                     depth,
-                    file_name,
-                    file_type,
-                    parent_path,
-                    None,
+                    path,
+                    near,
                     through_link,
                     ancestors,
-                );
-                Ok(Ok(found.with_directory(directory, metadata)))
+                    metadata,
+                    metadata.is_dir(),
+                )?;
+                Ok(Ok(found))
             }
             Err(Fault::Io(err)) => Ok(Err(Error::from_path(depth, path.clone()?, err))),
             Err(Fault::Memory) => Err(AllocError),
         }
     }
 
-    /// Returns the entry that a link at a path led to, unless it is a directory above the link by the link's text.
+    /// Returns the entry that a link at a path leads to, unless that is a directory above the link.
     fn reached(
         &self,
         link: &DirEntry<C, A>,
         path: &Arc<String<A>, A>,
-        found: DirEntry<C, A>,
+        target: Metadata,
+        inside: &mut Inside<A>,
     ) -> Result<Result<DirEntry<C, A>, Error<A>>, AllocError>
         requires { text path.now ≡ path_of (entry link.now) }
-        ensures depth { AtDepth (entry link.now).depth (item (Ok found) ∷ [])
-            → IfOk result (λ r. AtDepth (entry link.now).depth (item r ∷ [])) }
-        ensures value { (g : Given C.ReadDirState C.DirEntryState) → S.IsFixed (file_system self.now)
+        ensures depth { IfOk result (λ r. AtDepth (entry link.now).depth (item r ∷ [])) }
+        ensures asks { S.IsFixed (file_system self.now)
+            → IfOk result (λ _. AsksOn (S.functions (file_system self.now)) inside.old inside.new) }
+        ensures value { ByValue S.FileSystem C.DirEntryState.Default self.now (λ g job.
+            IsAsked job.fs inside.old → (entry link.now).ancestors ≡ texts inside.old.ancestors
             → IfOk result (λ r. counted_item g (item r)
-            ≡ value.reached (job_by S.FileSystem g self.now)
-            (counted_entry g (entry link.now)) (counted_entry g (entry found))) }
+            ≡ value.reached job inside.old.within (counted_entry g (entry link.now)) target)) }
     {
-        let above = link.ancestors();
         let leads_on = leads_on(
             self.alloc,
             &self.fs,
             link.depth,
-            above,
+            inside,
             link.parent_path(),
             path,
-            found.file_type,
+            target,
         )?;
-        Ok(leads_on.and(Ok(found)))
+        match leads_on {
+            Ok(()) => {
+                let found = self.entry_at(
+                    link.depth,
+                    path,
+                    &link.parent_path,
+                    true,
+                    inside.ancestors(),
+                    target,
+                    inside.enters(target.file_type(), target.identity()),
+                )?;
+                Ok(Ok(found))
+            }
+            Err(error) => Ok(Err(error)),
+        }
     }
 
     /// Returns the entry that replaces a link that is followed.
-    fn behind(&self, link: &DirEntry<C, A>) -> Result<Result<DirEntry<C, A>, Error<A>>, AllocError>
+    fn behind(
+        &self,
+        link: &DirEntry<C, A>,
+        inside: &mut Inside<A>,
+    ) -> Result<Result<DirEntry<C, A>, Error<A>>, AllocError>
         ensures depth { IfOk result (λ r. AtDepth (entry link.now).depth (item r ∷ [])) }
+        ensures asks { S.IsFixed (file_system self.now)
+            → IfOk result (λ _. AsksOn (S.functions (file_system self.now)) inside.old inside.new) }
         ensures value { ByValue S.FileSystem C.DirEntryState.Default self.now (λ g job.
-            IfOk result (λ r. counted_item g (item r)
-            ≡ value.either (value.reached job (counted_entry g (entry link.now))) Err
-            (value.made job (entry link.now).depth (path_of (entry link.now)) true (entry link.now).ancestors))) }
+            IsAsked job.fs inside.old → (entry link.now).ancestors ≡ texts inside.old.ancestors
+            → IfOk result (λ r. counted_item g (item r)
+            ≡ value.either (value.reached job inside.old.within (counted_entry g (entry link.now)))
+            (λ kind. Err (io (entry link.now).depth (Some (path_of (entry link.now))) kind))
+            (job.fs.meta_of (path_of (entry link.now))))) }
     {
         let path = joined(self.alloc, link.parent_path(), link.file_name())?;
-        match self.made(link.depth, &path, &link.parent_path, true, link.ancestors())? {
-            Ok(found) => self.reached(link, &path, found),
-            Err(error) => Ok(Err(error)),
+        match self.fs.metadata(path.as_str()) {
+            Ok(target) => self.reached(link, &path, target, inside),
+            Err(Fault::Io(err)) => Ok(Err(Error::from_path(link.depth, path, err))),
+            Err(Fault::Memory) => Err(AllocError),
         }
     }
 
@@ -223,17 +296,23 @@ impl<C: ClientState, S: FileSystem, P: ProcessReadDir<C, A>, A: Allocator + Copy
         self.options.follow_links() && file_type.is_symlink()
     }
 
-    /// Returns an entry after the link rule: if links are followed, a link is replaced by what it leads to.
+    /// Returns an entry after the link rule: if links are followed, a link is replaced by what it leads to. `inside` is
+    /// what it shares with the others in its directory.
     pub(super) fn followed(
         &self,
         found: DirEntry<C, A>,
+        inside: &mut Inside<A>,
     ) -> Result<Result<DirEntry<C, A>, Error<A>>, AllocError>
         ensures depth { IfOk result (λ r. AtDepth found.depth (item r ∷ [])) }
+        ensures asks { S.IsFixed (file_system self.now)
+            → IfOk result (λ _. AsksOn (S.functions (file_system self.now)) inside.old inside.new) }
         ensures value { ByValue S.FileSystem C.DirEntryState.Default self.now (λ g job.
-            IfOk result (λ r. counted_item g (item r) ≡ value.followed job (counted_entry g (entry found)))) }
+            IsAsked job.fs inside.old → (entry found).ancestors ≡ texts inside.old.ancestors
+            → IfOk result (λ r. counted_item g (item r)
+            ≡ value.followed job inside.old.within (counted_entry g (entry found)))) }
     {
         if self.gives_way(found.file_type) {
-            return self.behind(&found);
+            return self.behind(&found, inside);
         }
         Ok(Ok(found))
     }

@@ -1,5 +1,5 @@
 //! The list that a walk begins with.
-ghost use Rattle.std.specs.Prelude.{◌≡◌, ◌∷◌, [], false, Some, Ok, Err, IfOk, MatchResult, if◌then◌else◌};
+ghost use Rattle.std.specs.Prelude.{◌≡◌, ◌∷◌, [], false, None, Some, Ok, Err, IfOk, MatchResult, if◌then◌else◌};
 ghost use Rattle.walk_model.specs.Error.{io};
 ghost use Rattle.walk_model.specs.Entry.{AtDepth};
 ghost use Rattle.walk_model.specs.Job as value;
@@ -12,6 +12,7 @@ ghost use Rattle.jwalk_core.specs.Given.{Given, counted_item, counted_reading, c
 ghost use Rattle.jwalk_core.specs.Job.{file_system, callback, options_of, job_by, IsSteadyJob, ByValue};
 
 use super::Job;
+use super::inside::Inside;
 use super::links::{ancestors_below, joined, shared};
 use crate::ancestors::Ancestors;
 use crate::client_state::ClientState;
@@ -91,9 +92,10 @@ impl<C: ClientState, S: FileSystem, P: ProcessReadDir<C, A>, A: Allocator + Copy
         ensures depth { AtDepth 0 (Ok (entry found) ∷ []) → IfOk result (λ r. AtDepth 0 (item r ∷ [])) }
         ensures value { ByValue S.FileSystem C.DirEntryState.Default self.now (λ g job.
             IfOk result (λ r. counted_item g (item r)
-            ≡ value.either (value.with_target job) Err (value.followed job (counted_entry g (entry found))))) }
+            ≡ value.either (value.with_target job) Err (value.followed job None (counted_entry g (entry found))))) }
     {
-        match self.followed(found)? {
+        let mut inside = Inside::new(found.ancestors().share()?, None);
+        match self.followed(found, &mut inside)? {
             Ok(found) => self.with_target(found),
             Err(error) => Ok(Err(error)),
         }

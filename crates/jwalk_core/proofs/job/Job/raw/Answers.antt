@@ -1,15 +1,10 @@
-use Rattle.std.proofs.Common.{◌++◌, ◌∷◌, [], cond, ap, sym, ◌∙◌, string_bytes}
-use Rattle.jwalk_core.specs.Text.{text}
-use Rattle.jwalk_core.specs.Ancestors.{texts}
-use Rattle.jwalk_core.specs.Given.{counted_list}
+use Rattle.std.proofs.Common.{[], ap, subst, sym, ◌∙◌, string_bytes}
+use Rattle.jwalk_core.specs.Given.{counted_list, counted_spec}
+use Rattle.jwalk_core.specs.Inside.{IsInside}
+use Rattle.jwalk_core.specs.Job.{job_by}
+use Rattle.jwalk_core.specs.ReadDirSpec.{spec}
 use Rattle.jwalk_core.proofs.GatheredFacts.{gathered_none, gathered_depth, gathered_value}
 use Rattle.jwalk_core.proofs.job.Job.raw.Goals as goal
-
-pub new-gathering-requires-clause-below : goal.new-gathering-requires-clause-below
-new-gathering-requires-clause-below g c =
-    c.in_ok-inside.ensures
-    ∙ ap (λ b. cond b (texts c.ancestors.result.now ++ text c.args.of.now.path ∷ []) []) c.follow_links-follow_links.ensures
-    ∙ ap (λ l. cond c.args.self.now.options.follow_links (l ++ text c.args.of.now.path ∷ []) []) c.ancestors.ensures
 
 pub returns-clause-depth : goal.returns-clause-depth
 returns-clause-depth g c =
@@ -26,5 +21,7 @@ returns-clause-value g c = λ given fixed default.
       taken.0,
       ap (g.S.FileSystem.functions c.args.self.now.fs).list_of (sym (c.as_str.ensures.value ∙ ap string_bytes c.deref.ensures)) ∙ taken.2 fixed,
       ap (λ v. counted_list given v.items) c.into_items.ensures
-          ∙ gathered_value g.S.FileSystem g.C.DirEntryState.Default c.args.self.now c.args.of.now begun _ taken.0 c.new-gathering.ensures.job c.new-gathering.ensures.of c.new-gathering.ensures.items all given fixed default,
+          ∙ gathered_value g.S.FileSystem g.C.DirEntryState.Default c.args.self.now c.args.of.now begun _ taken.0 c.new-gathering.ensures.job c.new-gathering.ensures.of c.new-gathering.ensures.items
+          (λ given fixed default. subst (IsInside (job_by g.S.FileSystem given c.args.self.now) (counted_spec given (spec c.args.of.now))) (sym c.new-gathering.ensures.inside) (c.in_ok-inside.ensures given fixed default))
+          all given fixed default,
     )

@@ -1,4 +1,4 @@
-use Rattle.std.proofs.Common.{◌≡◌, ℕ, List, [], ◌∷◌, Ok, Err, false, cond, ap, sym}
+use Rattle.std.proofs.Common.{◌≡◌, ℕ, List, [], ◌∷◌, None, Ok, Err, false, cond, ap, sym}
 use Rattle.std.specs.Prelude.{string_bytes}
 use Rattle.walk_model.specs.Entry.{Entry, Item}
 use Rattle.walk_model.specs.Counted.{Worth}
@@ -9,7 +9,7 @@ use Rattle.jwalk_core.specs.Job.{job_by}
 use Rattle.jwalk_core.proofs.job.Job.root_item.Goals as goal
 
 -- the root's item, once its entry was made
-rooted : (job : Job Worth Worth) (path : List ℕ) (e : Entry Worth Worth) (x : Item Worth Worth) → made job 0 path false (cond job.options.follow_links (path ∷ []) []) ≡ Ok e → x ≡ either (with_target job) Err (followed job e) → x ≡ root_item job path
+rooted : (job : Job Worth Worth) (path : List ℕ) (e : Entry Worth Worth) (x : Item Worth Worth) → made job 0 path false (cond job.options.follow_links (path ∷ []) []) ≡ Ok e → x ≡ either (with_target job) Err (followed job None e) → x ≡ root_item job path
 rooted job path e x met is = rw met is
 
 pub returns-in_ok-item-in-Ok-clause-value : goal.returns-in_ok-item-in-Ok-clause-value

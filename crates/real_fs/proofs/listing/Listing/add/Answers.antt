@@ -11,5 +11,5 @@ returns-in_default g c =
 pub returns : goal.returns
 returns g c =
     let took = g.K.Sink.Took in
-    let result = c.take.result in
-    adds_one_if took result c.args.name.now c.args.sink.now c.take.new.self _ (ap Ok c.in-Ok.ensures.cases.0 ∙ sym (told_is c.args.name.now c.in-Ok.ensures.cases.1)) (takes_if took result _ c.args.sink.now c.take.new.self c.take.ensures)
+    let result = c.take_seen.result in
+    adds_one_if took result c.args.name.now c.args.sink.now c.take_seen.new.self _ (ap Ok c.in-Ok.ensures.cases.0 ∙ sym (told_is c.args.name.now c.in-Ok.ensures.cases.1)) (takes_if took result _ c.args.sink.now c.take_seen.new.self c.take_seen.ensures)
