@@ -22,4 +22,5 @@ pub mod States
 pub mod Kept
 pub mod Lines
 pub mod WalkRows
+pub mod IdentityRows
 pub mod CallbackRows
