@@ -7,11 +7,12 @@ use Rattle.walk_model.specs.Error as value
 use Rattle.walk_model.specs.Error.{Failure}
 use Rattle.jwalk_core.specs.declared.error.Error.{Error}
 use Rattle.jwalk_core.specs.declared.error.ErrorInner.{ErrorInner}
-use Rattle.jwalk_core.specs.declared.error.ErrorInner.TheVariants.{Io, Loop, Busy, Memory, Lost}
+use Rattle.jwalk_core.specs.declared.error.ErrorInner.TheVariants.{Io, Unnamed, Loop, Busy, Memory, Lost}
 use Rattle.jwalk_core.specs.Text.{text}
 
 abbrev inner_failure : {A : Type 0} → ℕ → ErrorInner A → Failure
 inner_failure depth (Io path err) = value.io depth (option_map text path) (error_kind err)
+inner_failure depth (Unnamed directory err) = value.unnamed depth (text directory) (error_kind err)
 inner_failure depth (Loop ancestor child) = value.looped depth (text ancestor) (text child)
 inner_failure depth Busy = value.busy
 inner_failure depth Memory = value.memory
@@ -24,6 +25,7 @@ failure e = inner_failure e.depth e.inner
 -- the depth of an error: 0 if it has none
 abbrev pub depth_of : Failure → ℕ
 depth_of (value.io depth path kind) = depth
+depth_of (value.unnamed depth directory kind) = depth
 depth_of (value.looped depth ancestor child) = depth
 depth_of value.busy = 0
 depth_of value.memory = 0
@@ -32,14 +34,21 @@ depth_of value.lost = 0
 -- its path: for a loop, that of the link
 abbrev pub path_of : Failure → Option (List ℕ)
 path_of (value.io depth path kind) = path
+path_of (value.unnamed depth directory kind) = None
 path_of (value.looped depth ancestor child) = Some child
 path_of value.busy = None
 path_of value.memory = None
 path_of value.lost = None
 
+-- for an error with no path of its own, the directory that it came in
+abbrev pub parent_of : Failure → Option (List ℕ)
+parent_of (value.unnamed depth directory kind) = Some directory
+parent_of _ = None
+
 -- for a loop, the directory that the link leads back to
 abbrev pub ancestor_of : Failure → Option (List ℕ)
 ancestor_of (value.io depth path kind) = None
+ancestor_of (value.unnamed depth directory kind) = None
 ancestor_of (value.looped depth ancestor child) = Some ancestor
 ancestor_of value.busy = None
 ancestor_of value.memory = None
@@ -48,6 +57,7 @@ ancestor_of value.lost = None
 -- the kind of its `io::Error`
 abbrev pub kind_of : Failure → Option ErrorKind
 kind_of (value.io depth path kind) = Some kind
+kind_of (value.unnamed depth directory kind) = Some kind
 kind_of (value.looped depth ancestor child) = None
 kind_of value.busy = None
 kind_of value.memory = None
@@ -65,6 +75,7 @@ loop_text child ancestor = codes "File system loop found: " ++ child ++ codes " 
 abbrev pub text_with : List ℕ → Failure → List ℕ
 text_with own (value.io depth (Some path) kind) = codes "IO error for operation on " ++ path ++ codes ": " ++ own
 text_with own (value.io depth None kind) = own
+text_with own (value.unnamed depth directory kind) = own
 text_with own (value.looped depth ancestor child) = loop_text child ancestor
 text_with own value.busy =
     codes "rayon thread-pool too busy or dependency loop detected - aborting before possibility of deadlock"
@@ -74,6 +85,7 @@ text_with own value.lost = codes "a reading of the crew is lost"
 -- the text of an error that has no `io::Error`, whose own text isn't known
 abbrev pub text_of : Failure → Option (List ℕ)
 text_of (value.io depth path kind) = None
+text_of (value.unnamed depth directory kind) = None
 text_of (value.looped depth ancestor child) = Some (loop_text child ancestor)
 text_of value.busy = Some (text_with [] value.busy)
 text_of value.memory = Some (text_with [] value.memory)

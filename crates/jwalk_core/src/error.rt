@@ -12,6 +12,10 @@ enum ErrorInner<A: Allocator + Copy> {
         path: Option<Arc<String<A>, A>>,
         err: io::Error,
     },
+    Unnamed {
+        parent: Arc<String<A>, A>,
+        err: io::Error,
+    },
     Loop {
         ancestor: Arc<String<A>, A>,
         child: Arc<String<A>, A>,
@@ -45,9 +49,9 @@ impl<A: Allocator + Copy> Error<A> {
     ghost use Rattle.std.specs.Prelude.{◌≡◌, ◌↔◌, Some, None, option_map, IsTrue};
     ghost use Rattle.std.specs.Option.{option_copied};
     ghost use Rattle.std.specs.IoError.{error_kind};
-    ghost use Rattle.walk_model.specs.Error.{io, looped, busy, memory, lost};
+    ghost use Rattle.walk_model.specs.Error.{io, unnamed, looped, busy, memory, lost};
     ghost use Rattle.jwalk_core.specs.Text.{text};
-    ghost use Rattle.jwalk_core.specs.Error.{failure, depth_of, path_of, ancestor_of, kind_of};
+    ghost use Rattle.jwalk_core.specs.Error.{failure, depth_of, path_of, parent_of, ancestor_of, kind_of};
 
     /// Returns an error of the file system at a depth, with the path that was asked for.
     pub fn from_path(depth: usize, path: Arc<String<A>, A>, err: io::Error) -> Self
@@ -69,6 +73,16 @@ impl<A: Allocator + Copy> Error<A> {
         Error {
             depth,
             inner: ErrorInner::Io { path: None, err },
+        }
+    }
+
+    /// Returns an error of the file system at a depth, that came in this directory and has no path of its own.
+    pub fn from_item(depth: usize, parent: Arc<String<A>, A>, err: io::Error) -> Self
+        ensures { failure result ≡ unnamed depth (text parent) (error_kind err) }
+    {
+        Error {
+            depth,
+            inner: ErrorInner::Unnamed { parent, err },
         }
     }
 
@@ -117,8 +131,8 @@ impl<A: Allocator + Copy> Error<A> {
     }
 
     /// Returns the path that the error came with; for a loop it is the path of the link. There is none if an item of a
-    /// listing had no name, or if the text of a link could not be read. There is also none if memory ran out, or if a
-    /// crew is the cause.
+    /// listing had no name, or if the text of a link could not be read: `parent_path` then says in which directory.
+    /// There is also none if memory ran out, or if a crew is the cause.
     pub fn path(&self) -> Option<&str>
         ensures { option_copied result ≡ path_of (failure self.now) }
     {
@@ -128,6 +142,17 @@ impl<A: Allocator + Copy> Error<A> {
                 ..
             } => Some(path.as_str()),
             ErrorInner::Loop { child, .. } => Some(child.as_str()),
+            _ => None,
+        }
+    }
+
+    /// Returns the path of the directory that the error came in, if the error has no path of its own: for an item of a
+    /// listing that has no name, and for a link whose text could not be read. It is `None` for all other errors.
+    pub fn parent_path(&self) -> Option<&str>
+        ensures { option_copied result ≡ parent_of (failure self.now) }
+    {
+        match &self.inner {
+            ErrorInner::Unnamed { parent, .. } => Some(parent.as_str()),
             _ => None,
         }
     }
@@ -149,7 +174,8 @@ impl<A: Allocator + Copy> Error<A> {
         ensures { result ≡ depth_of (failure self.now) }
     {
         match &self.inner {
-            ErrorInner::Io { .. } | ErrorInner::Loop { .. } => self.depth,
+            ErrorInner::Io { .. } | ErrorInner::Unnamed { .. } | ErrorInner::Loop { .. } =>
+                self.depth,
             ErrorInner::Busy | ErrorInner::Memory | ErrorInner::Lost => 0,
         }
     }
@@ -159,7 +185,7 @@ impl<A: Allocator + Copy> Error<A> {
         ensures { option_map error_kind (option_copied result) ≡ kind_of (failure self.now) }
     {
         match &self.inner {
-            ErrorInner::Io { err, .. } => Some(err),
+            ErrorInner::Io { err, .. } | ErrorInner::Unnamed { err, .. } => Some(err),
             _ => None,
         }
     }
@@ -170,7 +196,7 @@ impl<A: Allocator + Copy> Error<A> {
     {
         let Error { depth: _, inner } = self;
         match inner {
-            ErrorInner::Io { err, .. } => Some(err),
+            ErrorInner::Io { err, .. } | ErrorInner::Unnamed { err, .. } => Some(err),
             _ => None,
         }
     }

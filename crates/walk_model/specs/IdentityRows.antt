@@ -91,6 +91,12 @@ met_again_below_a_link : over (d (codes "/p") ∷ d (codes "/p/a") ∷ l (codes 
 unfolding whole_walk below digits
 met_again_below_a_link = refl
 
+-- a root that is a link is no directory above itself
+root_that_is_a_link : over (d (codes "/r") ∷ d (codes "/r/a") ∷ f 1 (codes "/r/a/f") ∷ l (codes "a") (codes "/r/k") ∷ []) following (codes "/r/k")
+    ≡ codes "0 D /r/k\n" ∷ codes "1 f /r/k/f\n" ∷ []
+unfolding whole_walk below digits
+root_that_is_a_link = refl
+
 abbrev mounted : List Step
 mounted = d (codes "/r") ∷ f 1 (codes "/r/f") ∷ d (codes "/r/m") ∷ f 2 (codes "/r/m/g") ∷ d (codes "/r/m/s") ∷ f 3 (codes "/r/m/s/h") ∷ []
 

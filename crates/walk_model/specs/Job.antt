@@ -1,5 +1,5 @@
 -- One reading of a directory, and the list of one item that a walk begins with.
-use Rattle.std.specs.Prelude.{ℕ, ◌+◌, nat_le, Bool, true, false, not, ◌&&◌, List, [], ◌∷◌, ◌++◌, flat_map, find, reverse, Option, Some, None, is_some, unwrap_or, Result, Ok, Err, if◌then◌else◌}
+use Rattle.std.specs.Prelude.{ℕ, ◌+◌, ◌==◌, nat_le, Bool, true, false, not, ◌&&◌, List, [], ◌∷◌, ◌++◌, flat_map, find, reverse, Option, Some, None, is_some, unwrap_or, Result, Ok, Err, if◌then◌else◌}
 use Rattle.std.specs.Result.{result_and}
 use Rattle.walk_model.specs.declared.file_type.FileType.{FileType}
 use Rattle.walk_model.specs.declared.metadata.Identity.{Identity}
@@ -10,7 +10,7 @@ use Rattle.walk_model.specs.Metadata.{type_of, identity_of, same_file, is_elsewh
 use Rattle.walk_model.specs.Seen.{type_seen, metadata_seen, identity_seen}
 use Rattle.walk_model.specs.FileSystem.{Named, Listed, Functions, metadata_at}
 use Rattle.walk_model.specs.Paths.{join, parent, file_name, same_place}
-use Rattle.walk_model.specs.Error.{Failure, io, looped}
+use Rattle.walk_model.specs.Error.{Failure, io, unnamed, looped}
 use Rattle.walk_model.specs.Entry.{Entry, Item, children_at, is_hidden, path_of}
 use Rattle.walk_model.specs.ReadDir.{Spec, Reading, Outcome, KeepsDepths, IsLawfulReading}
 use Rattle.walk_model.specs.Options.{Options}
@@ -65,13 +65,17 @@ abbrev pub unless_above : ℕ → List ℕ → Option (List ℕ) → Result (Uni
 unless_above depth path None = Ok tt
 unless_above depth path (Some ancestor) = Err (looped depth ancestor path)
 
+-- which file a link at a depth leads to, where a loop is told by it: not for a root, which has no directory above it but itself
+abbrev pub target_at : ℕ → Metadata → Option Identity
+target_at depth m = if depth == 0 then None else identity_of m
+
 -- whether a link at a depth, with a parent and a path of its own and these ancestors, leads on to a target of which this is known. A directory is looked for among the ancestors, by which file it is or by the link's text below the parent.
 abbrev pub leads_on : Functions → ℕ → List (List ℕ) → List ℕ → List ℕ → Metadata → Result (Unit {0}) Failure
 leads_on fs depth ancestors above path m =
     if is_dir (type_of m)
     then either
-    (λ target. unless_above depth path (looped_to fs (identity_of m) (join above target) ancestors))
-    (λ kind. Err (io depth None kind))
+    (λ target. unless_above depth path (looped_to fs (target_at depth m) (join above target) ancestors))
+    (λ kind. Err (unnamed depth above kind))
     (fs.target_of path)
     else Ok tt
 
@@ -148,7 +152,7 @@ module _ {R E : Type 0} (job : Job R E) where
 
   -- what one item of a listing gives
   abbrev pub item_of : Spec R → Listed → List (Item R E)
-  item_of spec = either (named spec) (λ kind. Err (io (spec.depth + 1) None kind) ∷ [])
+  item_of spec = either (named spec) (λ kind. Err (unnamed (spec.depth + 1) spec.path kind) ∷ [])
 
   -- the items of a listing after the hidden and the link rule, in the file system's order
   abbrev pub raw : Spec R → List Listed → List (Item R E)

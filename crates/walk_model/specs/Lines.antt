@@ -5,7 +5,7 @@ use Rattle.std.specs.declared.io.ErrorKind.TheVariants as kind
 use Rattle.walk_model.specs.declared.file_type.FileType.{FileType}
 use Rattle.walk_model.specs.declared.file_type.FileType.TheVariants as type
 use Rattle.walk_model.specs.FileType.{is_symlink}
-use Rattle.walk_model.specs.Error.{Failure, io, looped, busy, memory, lost}
+use Rattle.walk_model.specs.Error.{Failure, io, unnamed, looped, busy, memory, lost}
 use Rattle.walk_model.specs.Entry.{Children, Entry, Item, path_of}
 
 -- the name that a kind is printed by
@@ -40,6 +40,7 @@ letter_of through_link file_type =
 -- the name of an error's kind
 abbrev pub failure_name : Failure → List ℕ
 failure_name (io depth path kind) = kind_name kind
+failure_name (unnamed depth directory kind) = kind_name kind
 failure_name _ = codes "Other"
 
 -- the text of an error at the end of an entry's line
@@ -62,6 +63,8 @@ module _ {R E : Type 0} where
 abbrev pub failure_line : Failure → List ℕ
 failure_line (io depth path kind) =
     codes "! " ++ (decimal depth ++ (codes " " ++ (unwrap_or path (codes "-") ++ (codes " " ++ (kind_name kind ++ codes "\n")))))
+failure_line (unnamed depth directory kind) =
+    codes "! " ++ (decimal depth ++ (codes " " ++ (codes "-" ++ (codes " " ++ (kind_name kind ++ codes "\n")))))
 failure_line (looped depth ancestor child) =
     codes "! " ++ (decimal depth ++ (codes " " ++ (child ++ (codes " loop " ++ (ancestor ++ codes "\n")))))
 failure_line busy = codes "! 0 - busy\n"

@@ -42,7 +42,7 @@ impl<A: Allocator + Copy> fmt::Display for Told<'_, A> {
                 path.as_str(),
                 self.own
             ),
-            ErrorInner::Io { path: None, .. } => f.write_str(self.own),
+            ErrorInner::Io { path: None, .. } | ErrorInner::Unnamed { .. } => f.write_str(self.own),
             ErrorInner::Loop { ancestor, child } => {
                 write_loop(f, child.as_str(), ancestor.as_str())
             }

@@ -80,7 +80,9 @@ impl<'g, C: ClientState, S: FileSystem, P: ProcessReadDir<C, A>, A: Allocator + 
 
     fn take_error(&mut self, error: io::Error) -> Result<(), AllocError> {
         let depth = self.of.depth() + 1;
-        self.items.push(Err(Error::from_io(depth, error)))?;
+        let parent = self.of.path.clone()?;
+        self.items
+            .push(Err(Error::from_item(depth, parent, error)))?;
         Ok(())
     }
 }

@@ -28,7 +28,7 @@ use walk_fs::fault::Fault;
 use walk_fs::file_system::FileSystem;
 use walk_fs::path_text;
 use walk_model::file_type::FileType;
-use walk_model::metadata::Metadata;
+use walk_model::metadata::{Identity, Metadata};
 
 /// Returns the name of an entry made from a path: its file name, or its whole path if it has none.
 fn own_name(path: &str) -> &str
@@ -106,6 +106,17 @@ fn parent_of<A: Allocator + Copy>(
     shared(alloc, parent)
 }
 
+/// Returns which file a link at a depth leads to, if a loop is told by it. A root's link is told by its text alone, since
+/// a root has no directory above it but itself.
+fn target_at(depth: usize, target: Metadata) -> Option<Identity>
+    ensures { result ≡ value.target_at depth target }
+{
+    if depth == 0 {
+        return None;
+    }
+    target.identity()
+}
+
 /// Returns whether a link leads on to its target, of which this is known. The link has a path and the path of its
 /// parent. It doesn't lead on to a directory above it: to the same file, where both are known, or else to the same place
 /// by its text below the parent. Nor if the text of the link to a directory can't be read.
@@ -114,15 +125,15 @@ fn leads_on<S: FileSystem, A: Allocator + Copy>(
     fs: &S,
     depth: usize,
     inside: &mut Inside<A>,
-    parent: &str,
+    parent: &Arc<String<A>, A>,
     path: &Arc<String<A>, A>,
     target: Metadata,
 ) -> Result<Result<(), Error<A>>, AllocError>
     ensures asks { S.IsFixed fs.now → IfOk result (λ _. AsksOn (S.functions fs.now) inside.old inside.new) }
     ensures value { S.IsFixed fs.now → IsAsked (S.functions fs.now) inside.old → IfOk result (λ r. MatchResult r
-        (λ _. value.leads_on (S.functions fs.now) depth (texts inside.old.ancestors) parent.now (text path.now) target
+        (λ _. value.leads_on (S.functions fs.now) depth (texts inside.old.ancestors) (text parent.now) (text path.now) target
         ≡ Ok tt)
-        (λ e. value.leads_on (S.functions fs.now) depth (texts inside.old.ancestors) parent.now (text path.now) target
+        (λ e. value.leads_on (S.functions fs.now) depth (texts inside.old.ancestors) (text parent.now) (text path.now) target
         ≡ Err (failure e))) }
 {
     if !target.is_dir() {
@@ -130,13 +141,13 @@ fn leads_on<S: FileSystem, A: Allocator + Copy>(
     }
     match fs.read_link(alloc, path.as_str()) {
         Ok(text) => {
-            let place = path_text::join(alloc, parent, text.as_str())?;
-            match inside.nearest(alloc, fs, target.identity(), place.as_str())? {
+            let place = path_text::join(alloc, parent.as_str(), text.as_str())?;
+            match inside.nearest(alloc, fs, target_at(depth, target), place.as_str())? {
                 Some(ancestor) => Ok(Err(Error::from_loop(depth, ancestor, path.clone()?))),
                 None => Ok(Ok(())),
             }
         }
-        Err(Fault::Io(err)) => Ok(Err(Error::from_io(depth, err))),
+        Err(Fault::Io(err)) => Ok(Err(Error::from_item(depth, parent.clone()?, err))),
         Err(Fault::Memory) => Err(AllocError),
     }
 }
@@ -244,7 +255,7 @@ impl<C: ClientState, S: FileSystem, P: ProcessReadDir<C, A>, A: Allocator + Copy
             &self.fs,
             link.depth,
             inside,
-            link.parent_path(),
+            &link.parent_path,
             path,
             target,
         )?;

@@ -46,9 +46,9 @@ loop-last-preserved g c = λ fs given.
     let parts : Option Identity × List (Option Identity) = (c.split_identity-identity.result.0, c.split_identity-identity.result.1.now) in
     let named = c.as_str.ensures.value ∙ ap string_bytes c.deref.ensures in
     let other : leads_to fs target place last ≡ false =
-        sym (leads_to_last fs target place above last c.loop-last.identities.now parts c.split_identity-identity.ensures known)
-        ∙ ap (is_target target place parts.0) (sym named)
-        ∙ sym (c.is_target.ensures place c.in_ok-place.ensures) ∙ c.if-is_target.false in (
+    sym (leads_to_last fs target place above last c.loop-last.identities.now parts c.split_identity-identity.ensures known)
+    ∙ ap (is_target target place parts.0) (sym named)
+    ∙ sym (c.is_target.ensures place c.in_ok-place.ensures) ∙ c.if-is_target.false in (
       known_before fs target above last c.loop-last.identities.now parts c.split_identity-identity.ensures known,
       sym (ap (looped_to fs target place) left ∙ last_first fs target place above last ∙ ap (λ b. cond b (Some last) (looped_to fs target place above)) other) ∙ held.1,
     )
@@ -65,9 +65,9 @@ returns-then-is_target g c = λ fs given.
     let parts : Option Identity × List (Option Identity) = (c.split_identity-identity.result.0, c.split_identity-identity.result.1.now) in
     let named = c.as_str.ensures.value ∙ ap string_bytes c.deref.ensures in
     let same : leads_to fs target place last ≡ true =
-        sym (leads_to_last fs target place above last c.loop-last.identities.now parts c.split_identity-identity.ensures known)
-        ∙ ap (is_target target place parts.0) (sym named)
-        ∙ sym (c.is_target.ensures place c.in_ok-place.ensures) ∙ c.if-is_target.true in
+    sym (leads_to_last fs target place above last c.loop-last.identities.now parts c.split_identity-identity.ensures known)
+    ∙ ap (is_target target place parts.0) (sym named)
+    ∙ sym (c.is_target.ensures place c.in_ok-place.ensures) ∙ c.if-is_target.true in
     ap (λ s. Some (string_bytes s)) c.in_ok-clone.ensures.cases
     ∙ sym (ap (looped_to fs target place) left ∙ last_first fs target place above last ∙ ap (λ b. cond b (Some last) (looped_to fs target place above)) same)
     ∙ held.1
