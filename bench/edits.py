@@ -1,0 +1,161 @@
+#!/usr/bin/env python3
+"""Tries the wrong bodies that the gate doesn't try, those in bench/edits: the prover must refuse each.
+
+    python3 bench/edits.py [--check] [CRATE | CRATE/NAME ..]
+
+An edit is the file bench/edits/CRATE/NAME.edit. All are tried where none is named, of a crate that is named all of its
+own. While the edits of a crate are tried, they stand in the place of crates/CRATE/must-fail, and `rt must-fail CRATE`
+runs on them; the crate's own folder is put back whatever happens, so change nothing in it meanwhile. Each takes what a
+check of its crate takes after a change, and one more if the crate isn't proved yet. The lines of `rt` come first, with
+its reason for each. Then there is a line for each edit, which says whether it is refused, NOT REFUSED, a BAD EDIT, which
+can't be applied or compiled, or NOT TRIED. The script ends with 1 if one isn't refused.
+
+With --check nothing is proved, and it takes a second. Of each edit, also of those that the gate tries, it is looked at
+whether each old text stands once in its file. What doesn't is printed, and the script ends with 1.
+"""
+import os
+import shutil
+import signal
+import subprocess
+import sys
+
+TOP = os.path.dirname(os.path.dirname(os.path.abspath(__file__)))
+
+ASIDE = "must-fail-aside"
+
+VERDICTS = ["NOT REFUSED", "NOT TRIED", "BAD EDIT", "refused"]
+
+
+def read(path):
+    with open(path, encoding="utf-8") as file:
+        return file.read()
+
+
+def edits_in(folder):
+    """The names of the edits in a folder, none if it isn't there."""
+    names = sorted(os.listdir(folder)) if os.path.isdir(folder) else []
+    return [name.removesuffix(".edit") for name in names if name.endswith(".edit")]
+
+
+def edits_of(crate):
+    return edits_in(f"{TOP}/bench/edits/{crate}")
+
+
+def asked_for(words):
+    """The names of the edits that words ask for, by crate."""
+    crates = sorted(os.listdir(f"{TOP}/bench/edits"))
+    asked = {}
+    for word in words or crates:
+        crate, _, name = word.partition("/")
+        names = [name.removesuffix(".edit")] if name else edits_of(crate)
+        if not names or not set(names) <= set(edits_of(crate)):
+            sys.exit(f"{word} is no edit in bench/edits, nor a crate that has some")
+        asked[crate] = sorted({*asked.get(crate, []), *names})
+    return asked
+
+
+def fault_of(crate, path):
+    """Why an edit can't be applied to its crate; nothing if it can. A pair applies to what those before it made."""
+    file, old, texts = None, None, {}
+    for line in read(path).splitlines():
+        if line.startswith("file: "):
+            file = line.removeprefix("file: ")
+            if not file.startswith("src/") or not os.path.isfile(f"{TOP}/crates/{crate}/{file}"):
+                return f"there is no file {file}"
+            texts.setdefault(file, read(f"{TOP}/crates/{crate}/{file}"))
+        elif line.startswith("old: "):
+            old = line.removeprefix("old: ")
+        elif line.startswith("new:"):
+            if not file or not old:
+                return "a new text has no file or no old text"
+            if texts[file].count(old) != 1:
+                return f"this is {texts[file].count(old)} times in {file}, and not once: {old}"
+            texts[file] = texts[file].replace(old, line.removeprefix("new:").removeprefix(" "))
+            old = None
+        elif line:
+            return f"a line is none of an edit: {line}"
+    if all(text == read(f"{TOP}/crates/{crate}/{file}") for file, text in texts.items()):
+        return "it changes nothing"
+    return None
+
+
+def check(asked):
+    """Looks at the edits that are asked for, and at those that the gate tries. Returns how many can't be applied."""
+    paths = [(crate, f"bench/edits/{crate}/{name}.edit") for crate, names in asked.items() for name in names]
+    for crate in sorted(os.listdir(f"{TOP}/crates")):
+        own = f"crates/{crate}/must-fail"
+        paths += [(crate, f"{own}/{name}.edit") for name in edits_in(f"{TOP}/{own}")]
+    bad = 0
+    for crate, path in paths:
+        fault = fault_of(crate, f"{TOP}/{path}")
+        if fault:
+            bad += 1
+            print(f"{path}: BAD EDIT: {fault}")
+    print(f"{len(paths) - bad} of {len(paths)} edits can be applied")
+    return bad
+
+
+def put_back(crate):
+    """Puts a crate's own folder back, if it was set aside, and removes the one in its place."""
+    folder = f"{TOP}/crates/{crate}"
+    if os.path.isdir(f"{folder}/{ASIDE}"):
+        shutil.rmtree(f"{folder}/must-fail", ignore_errors=True)
+        os.rename(f"{folder}/{ASIDE}", f"{folder}/must-fail")
+    if os.path.isdir(f"{folder}/must-fail") and not os.listdir(f"{folder}/must-fail"):
+        os.rmdir(f"{folder}/must-fail")
+
+
+def run_on(crate):
+    """Runs `rt must-fail` on a crate and passes its lines on. Returns the verdict on each edit that it says one of."""
+    words = ["rt", "must-fail", crate]
+    verdicts = {}
+    with subprocess.Popen(words, cwd=TOP, stdout=subprocess.PIPE, stderr=subprocess.STDOUT, text=True) as child:
+        try:
+            for line in child.stdout:
+                print(line, end="", flush=True)
+                _, found, said = line.partition(f"must-fail {crate}/")
+                name, _, said = said.partition(".edit: ")
+                if found:
+                    verdicts[name] = next((it for it in VERDICTS if said.startswith(it)), "NOT TRIED")
+        except BaseException:
+            child.terminate()
+            raise
+    return verdicts
+
+
+def tried(crate, names):
+    """Tries edits of a crate in the place of its own."""
+    folder = f"{TOP}/crates/{crate}"
+    put_back(crate)
+    try:
+        os.makedirs(f"{folder}/must-fail", exist_ok=True)
+        os.rename(f"{folder}/must-fail", f"{folder}/{ASIDE}")
+        os.mkdir(f"{folder}/must-fail")
+        for name in names:
+            shutil.copy(f"{TOP}/bench/edits/{crate}/{name}.edit", f"{folder}/must-fail")
+        return run_on(crate)
+    finally:
+        put_back(crate)
+
+
+def main():
+    words = [word for word in sys.argv[1:] if word != "--check"]
+    asked = asked_for(words)
+    if "--check" in sys.argv:
+        sys.exit(1 if check(asked) else 0)
+    # so that an end by one of these signals puts the folder back
+    for number in (signal.SIGTERM, signal.SIGHUP):
+        signal.signal(number, lambda number, frame: sys.exit(128 + number))
+    results = []
+    for crate, names in asked.items():
+        verdicts = tried(crate, names)
+        results += [(f"{crate}/{name}", verdicts.get(name, "NOT TRIED")) for name in names]
+    for name, verdict in results:
+        print(f"{name}: {verdict}")
+    refused = sum(verdict == "refused" for _, verdict in results)
+    print(f"{refused} of {len(results)} edits are refused")
+    sys.exit(0 if refused == len(results) else 1)
+
+
+if __name__ == "__main__":
+    main()
