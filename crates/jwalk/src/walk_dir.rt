@@ -161,13 +161,17 @@ impl<
     /// Sets whether links are followed: the entry then has the link's own path, and the type of what the link leads to.
     /// Off by default: links are yielded as links, and a root that is a link to a directory is still read.
     ///
-    /// A link to a directory is a loop if its text, joined to the path of the link's parent, is the same place as a
-    /// directory above it (`path_text::same_place`). A loop is yielded as an error that names the nearest such directory.
+    /// A link to a directory is a loop if that is a directory above it. A loop is yielded as an error that names the
+    /// nearest such directory. They are told by device and inode: a directory above is the same if `metadata` of its
+    /// path has those of what the link leads to. Only followed links are tested: a directory above that lies below a
+    /// link under its own name is entered once more.
     ///
-    /// Text alone decides: what the links on the way lead to isn't looked up. So a link may be called a loop that isn't
-    /// one. If `/r/k` is a link to `/s/t`, and `/s/t/l` one to `..`, then `/r/k/l` is a loop on `/r`, though it leads to
-    /// `/s`. And a loop that the texts don't show is followed until the greatest depth or the file system ends it, as
-    /// that of a link in each of two directories to the other: `/r/a/l` to `../b`, and `/r/b/m` to `../a`.
+    /// Where these aren't known, as over a `MemoryFs`, the link's text decides. Joined to the path of the link's
+    /// parent, it is the same place as a directory above (`path_text::same_place`). What the links on the way lead to
+    /// isn't looked up. So a link may be called a loop that isn't one. If `/r/k` is a link to `/s/t`, and `/s/t/l` one
+    /// to `..`, then `/r/k/l` is a loop on `/r`, though it leads to `/s`. And a loop that the texts don't show is
+    /// followed until the greatest depth or the file system ends it, as that of a link in each of two directories to
+    /// the other: `/r/a/l` to `../b`, and `/r/b/m` to `../a`.
     pub fn follow_links(mut self, follow_links: bool) -> Self
         ensures { Sets (record (described self) { options = with_follow_links follow_links (options_of self) }) result }
     {

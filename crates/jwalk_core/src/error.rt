@@ -157,9 +157,9 @@ impl<A: Allocator + Copy> Error<A> {
         }
     }
 
-    /// Returns the directory that a link leads back to, for a loop alone: the nearest one above the link that is the same
-    /// place as the link's text below the link's parent (`path_text::same_place`). Text alone decides, so the file system
-    /// may find another directory by the link.
+    /// Returns the directory that a link leads back to, for a loop alone: the nearest one above the link that is the
+    /// same file as what it leads to. Where it isn't known which file one of them is, it is the same place as the
+    /// link's text below the link's parent (`path_text::same_place`), and the link may lead to another directory.
     pub fn loop_ancestor(&self) -> Option<&str>
         ensures { option_copied result ≡ ancestor_of (failure self.now) }
     {
