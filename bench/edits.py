@@ -6,9 +6,9 @@
 An edit is the file bench/edits/CRATE/NAME.edit. All are tried where none is named, of a crate that is named all of its
 own. While the edits of a crate are tried, they stand in the place of crates/CRATE/must-fail, and `rt must-fail CRATE`
 runs on them; the crate's own folder is put back whatever happens, so change nothing in it meanwhile. Each takes what a
-check of its crate takes after a change, and one more if the crate isn't proved yet. The lines of `rt` come first, with
-its reason for each. Then there is a line for each edit, which says whether it is refused, NOT REFUSED, a BAD EDIT, which
-can't be applied or compiled, or NOT TRIED. The script ends with 1 if one isn't refused.
+check of its crate takes after a change. The lines of `rt` come first, with its reason for each. Then there is a line
+for each edit, which says whether it is refused, NOT REFUSED, a BAD EDIT, which can't be applied or compiled, or NOT
+TRIED. The script ends with 1 if one isn't refused.
 
 With --check nothing is proved, and it takes a second. Of each edit, also of those that the gate tries, it is looked at
 whether each old text stands once in its file. What doesn't is printed, and the script ends with 1.
