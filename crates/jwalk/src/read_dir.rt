@@ -1,4 +1,5 @@
 //! Readings of single directories, and the callbacks that are called with their lists.
+pub use jwalk_callbacks::both::Both;
 pub use jwalk_callbacks::by_fn::ByFn;
 pub use jwalk_callbacks::calls::{Calls, Closure};
 pub use jwalk_callbacks::filter_entry::FilterEntry;

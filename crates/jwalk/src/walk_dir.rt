@@ -244,7 +244,10 @@ impl<
         self
     }
 
-    /// Returns the same walk with this callback instead of its own.
+    /// Returns the same walk with this callback instead of its own: a second call replaces the first callback.
+    ///
+    /// A walk has one callback, that of the last call of this or of `process_read_dir_by`. To have two called, one after
+    /// the other, pass `Both::new(first, second)`.
     ///
     /// The callback is called with each list before the walk goes on with it: the root's first, then that of each
     /// directory as it is read. The list is in its order, and links have been followed. It isn't called for a directory
@@ -345,7 +348,11 @@ impl<C: ClientState, S: FileSystem, P: ProcessReadDir<C, Global>, W: Drop> WalkD
     ghost use Rattle.jwalk_callbacks.specs.ByFn.{closure_of};
     ghost use Rattle.jwalk.specs.WalkDir.{callback_of, described, with_callback, Sets};
 
-    /// Returns the same walk with a closure as its callback, whose types need not be written.
+    /// Returns the same walk with a closure instead of its own callback: a second call replaces the first callback. The
+    /// closure's types need not be written.
+    ///
+    /// A walk has one callback, that of the last call of this or of `process_read_dir`. To have two called, one after the
+    /// other, use `process_read_dir(Both::new(first, second))`, where a closure is `ByFn::new(..)`.
     ///
     /// The closure is called with the depth and the path of a directory, the state and the list. It may change the
     /// state and the list. For the root's list the depth is `None`, and the path is the root's parent, or empty if the

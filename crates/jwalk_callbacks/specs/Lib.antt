@@ -1,3 +1,4 @@
+pub mod Both
 pub mod ByFn
 pub mod FilterEntry
 pub mod Rows

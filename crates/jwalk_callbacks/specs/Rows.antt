@@ -1,5 +1,5 @@
 -- What the callbacks make of a small list, and walks with them over a small tree, row by row.
-use Rattle.std.specs.Prelude.{◌≡◌, ℕ, ◌==◌, Bool, true, false, not, ◌&&◌, List, [], ◌∷◌, map, Some, None, Ok, Err, bytes_eq, codes, refl}
+use Rattle.std.specs.Prelude.{◌≡◌, ℕ, ◌==◌, Bool, true, false, not, ◌&&◌, List, [], ◌∷◌, map, take, Some, None, Ok, Err, bytes_eq, codes, refl}
 use Rattle.std.specs.Borrow.{Bor}
 use Rattle.std.specs.Fmt.{digits}
 use Rattle.std.specs.declared.io.ErrorKind.TheVariants as kind
@@ -16,7 +16,9 @@ use Rattle.walk_model.specs.Lines.{line_of}
 use Rattle.walk_model.specs.TreeRows.{d, f}
 use Rattle.walk_model.specs.Walk.{whole_walk}
 use Rattle.walk_model.specs.WalkRows.{tree_by, sorted}
+use Rattle.jwalk_core.specs.Given.{Given}
 use Rattle.jwalk_callbacks.specs.declared.skip_names.SkipNames.{SkipNames}
+use Rattle.jwalk_callbacks.specs.Both.{chained, chaining, CountsAlike, MakesInTurn}
 use Rattle.jwalk_callbacks.specs.SkipNames.{names_of, skips, skipping, Skips}
 use Rattle.jwalk_callbacks.specs.FilterEntry.{Test, filters, filtering, IsTest, FiltersAs}
 
@@ -74,6 +76,18 @@ errors_stay = refl
 none_dropped_at_the_root : filters no_target None (codes "/") tt items ≡ left items
 none_dropped_at_the_root = refl
 
+-- what a callback makes of a list that leaves its first three items
+abbrev cuts : Processing Nothing Nothing
+cuts depth path state list = left (take 3 list)
+
+dropped_then_cut : chained (filters no_target) cuts (Some 0) (codes "/r") tt items
+    ≡ left (fault ∷ entry (codes "target") File false ∷ entry (codes "src") Dir true ∷ [])
+dropped_then_cut = refl
+
+cut_then_dropped : chained cuts (filters no_target) (Some 0) (codes "/r") tt items
+    ≡ left (fault ∷ entry (codes "target") File false ∷ [])
+cut_then_dropped = refl
+
 -- the lines of a walk from a root over a tree, by name
 abbrev walk_with : Processing Nothing Nothing → List ℕ → List (List ℕ)
 walk_with processed root = map line_of (whole_walk (record {
@@ -93,6 +107,11 @@ walk_that_filters : walk_with (filters no_target) (codes "/r")
 unfolding whole_walk below digits
 walk_that_filters = refl
 
+walk_that_filters_and_skips : walk_with (chained (filters no_target) (skips (codes "src" ∷ []))) (codes "/r")
+    ≡ codes "0 d /r\n" ∷ codes "1 d /r/src\n" ∷ []
+unfolding whole_walk below digits
+walk_that_filters_and_skips = refl
+
 -- a root is entered, and yielded, whatever its name
 walk_from_a_skipped_name : walk_with (skips (codes "target" ∷ [])) (codes "/r/target") ≡ codes "0 d /r/target\n" ∷ codes "1 f /r/target/o\n" ∷ []
 unfolding whole_walk below digits
@@ -108,3 +127,16 @@ skipping_is_made R E it depth path state list = refl
 
 filtering_is_made : (R E : Type 0) (answers : ℕ → Bor (List ℕ) → FileType → Bool → Type 0) (test : Test) → IsTest answers test → FiltersAs answers {R = R} {E = E} (filtering test)
 filtering_is_made R E answers test is = (test, is, λ depth path state list. refl)
+
+-- Two callbacks make in turn what `chaining` gives, if states count alike.
+chaining_is_made : {R E : Type 0} (First Second : Given R E → Type 0) (first second : Given R E)
+    → First first → Second second → CountsAlike second first → MakesInTurn First Second (chaining first second)
+chaining_is_made First Second first second made made' alike = record {
+  first = first;
+  second = second;
+  first_made = made;
+  second_made = made';
+  first_alike = (refl, refl, refl);
+  second_alike = alike;
+  in_turn = λ depth path state list. refl;
+}

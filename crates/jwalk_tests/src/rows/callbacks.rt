@@ -1,4 +1,5 @@
 //! Walks with callbacks and their answers, each read in every way.
+mod both;
 mod closures;
 mod ready;
 mod refusals;

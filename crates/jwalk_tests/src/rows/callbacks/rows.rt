@@ -1,4 +1,5 @@
 //! Walks by name over the groups of files, each with a callback.
+use crate::rows::callbacks::both::{cuts_then_drops, drops_then_cuts};
 use crate::rows::callbacks::closures::Change;
 use crate::rows::callbacks::ready::skip_three;
 use crate::rows::callbacks::refusals::RefusedAt;
@@ -18,6 +19,10 @@ pub enum Callback {
     SkipThree,
     /// The files at depth 1 but for one are kept.
     KeepFiles,
+    /// A name is dropped from each list, and then each is cut after two items.
+    DropsThenCuts,
+    /// Each list is cut first.
+    CutsThenDrops,
     /// Memory runs out for the list of the root, or for those of directories at a depth.
     RefusedAt(Option<usize>),
 }
@@ -58,6 +63,8 @@ impl Row {
                 });
                 asked.shows(rt, filter, way, self.answers)
             }
+            Callback::DropsThenCuts => drops_then_cuts(rt, asked, way, self.answers),
+            Callback::CutsThenDrops => cuts_then_drops(rt, asked, way, self.answers),
             Callback::RefusedAt(at) => asked.shows(rt, RefusedAt { at: *at }, way, self.answers),
         }
     }
