@@ -37,7 +37,7 @@ impl Telling {
             _ => Ok(FileType::File),
         };
         let name = String::from_str(alloc, "x")?;
-        Ok(Ok(Listed { name, file_type }))
+        Ok(Ok(Listed::of_type(name, file_type)))
     }
 
     fn items<A: Allocator + Copy>(

@@ -220,7 +220,7 @@ fn shown(alloc: Global) -> Option<String> {
 fn entries_and_errors_are_shown(rt: HostRuntime) {
     let wanted = "(Some(DirEntry { depth: 0, file_name: \"r\", file_type: Dir, client_state: (), \
                   parent_path: \"/\", read_children: Some(ReadChildren { path: \"/r\", error: None, \
-                  client_read_state: None }), through_link: false, .. }), \
+                  client_read_state: None }), through_link: false, seen: None, .. }), \
                   Error { depth: 0, inner: Lost })";
     assert!(rt; shown(rt.alloc()).as_deref() == Some(wanted));
 }

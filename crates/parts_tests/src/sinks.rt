@@ -11,8 +11,10 @@ use walk_fs::listed::Listed;
 use walk_fs::sink::Sink;
 use walk_model::file_type::FileType;
 use walk_model::metadata::Metadata;
+use walk_model::seen::Seen;
 
-// A sink that notes each item as a word, and fails where it has as many as it may have.
+// A sink that notes each item as its name and its type, with the length if metadata is seen. It fails where it has as
+// many as it may have.
 #[derive(Drop)]
 struct Noted {
     words: Vec<String>,
@@ -32,10 +34,15 @@ impl Noted {
 impl Sink for Noted {
     ghost Took = { λ _ _ _. Unit {0} };
 
-    fn take(&mut self, name: &str, file_type: io::Result<FileType>) -> Result<(), AllocError> {
+    fn take_seen(&mut self, name: &str, seen: io::Result<Seen>) -> Result<(), AllocError> {
         let alloc = *self.words.allocator();
-        let word = match file_type {
-            Ok(file_type) => format!(in alloc; "{name} {file_type:?}")?,
+        let word = match seen {
+            Ok(Seen::TypeAlone(file_type)) => format!(in alloc; "{name} {file_type:?}")?,
+            Ok(Seen::Whole(metadata)) => {
+                let file_type = metadata.file_type();
+                let len = metadata.len();
+                format!(in alloc; "{name} {file_type:?} {len}")?
+            }
             Err(error) => {
                 let kind = error.kind();
                 format!(in alloc; "{name} {kind:?}")?
@@ -69,15 +76,11 @@ impl FileSystem for OneDirectory {
             return Err(Fault::Io(io::Error::from(ErrorKind::NotFound)));
         }
         let mut items = Vec::new(alloc);
-        items.push(Ok(Listed {
-            name: String::from_str(alloc, "b")?,
-            file_type: Ok(FileType::File),
-        }))?;
+        let name = String::from_str(alloc, "b")?;
+        items.push(Ok(Listed::of_type(name, Ok(FileType::File))))?;
         items.push(Err(io::Error::from(ErrorKind::InvalidFilename)))?;
-        items.push(Ok(Listed {
-            name: String::from_str(alloc, "a")?,
-            file_type: Err(io::Error::from(ErrorKind::PermissionDenied)),
-        }))?;
+        let denied = io::Error::from(ErrorKind::PermissionDenied);
+        items.push(Ok(Listed::of_type(String::from_str(alloc, "a")?, Err(denied))))?;
         Ok(items)
     }
 
@@ -133,6 +136,21 @@ fn nothing_is_given_of_a_directory_that_cannot_be_listed(rt: HostRuntime) {
     assert!(rt; has(&sink, &[]));
 }
 
+// Whether a sink that takes a type alone notes it so, and an error in its place.
+fn takes_types_alone(alloc: Global) -> Result<bool, AllocError> {
+    let mut sink = noting(alloc, 3);
+    sink.take("b", Ok(FileType::File))?;
+    sink.take("a", Err(io::Error::from(ErrorKind::PermissionDenied)))?;
+    let whole = Metadata::new(FileType::File, 7);
+    sink.take_seen("c", Ok(Seen::Whole(whole)))?;
+    Ok(has(&sink, &["b File", "a PermissionDenied", "c File 7"]))
+}
+
+#[test]
+fn a_type_alone_is_seen_as_such(rt: HostRuntime) {
+    assert!(rt; takes_types_alone(rt.alloc()) == Ok(true));
+}
+
 #[test]
 fn a_tree_in_memory_gives_children_in_order_of_creation(rt: HostRuntime) {
     let mut fs = MemoryFs::new(rt.alloc());
@@ -142,5 +160,5 @@ fn a_tree_in_memory_gives_children_in_order_of_creation(rt: HostRuntime) {
     assert!(rt; fs.add_dir("/d/a").is_ok());
     let mut sink = noting(rt.alloc(), 3);
     assert!(rt; (&fs).read_dir_into(rt.alloc(), "/d", &mut sink).is_ok());
-    assert!(rt; has(&sink, &["b File", "c Symlink", "a Dir"]));
+    assert!(rt; has(&sink, &["b File 7", "c Symlink 1", "a Dir 0"]));
 }

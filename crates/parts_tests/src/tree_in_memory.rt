@@ -80,7 +80,7 @@ fn names(alloc: Global, items: &[io::Result<Listed>]) -> Option<String> {
     let mut text = String::new(alloc);
     for item in items {
         let item = item.as_ref().ok()?;
-        let is_dir = item.file_type.as_ref().ok()?.is_dir();
+        let is_dir = item.seen.as_ref().ok()?.file_type().is_dir();
         let mark = if is_dir { "/" } else { "" };
         write!(text, " {}{mark}", item.name).ok()?;
     }

@@ -37,10 +37,8 @@ impl Endless {
 /// The listing of each directory.
 fn listing<A: Allocator + Copy>(alloc: A) -> Result<Vec<io::Result<Listed<A>>, A>, AllocError> {
     let mut items = Vec::new(alloc);
-    items.push(Ok(Listed {
-        name: String::from_str(alloc, "d")?,
-        file_type: Ok(FileType::Dir),
-    }))?;
+    let name = String::from_str(alloc, "d")?;
+    items.push(Ok(Listed::of_type(name, Ok(FileType::Dir))))?;
     Ok(items)
 }
 

@@ -2,7 +2,7 @@
 ghost use Rattle.jwalk.specs.walk_model.Tree.{functions_of, only_root};
 
 use crate::by_crew::ByCrew;
-use jwalk::file_system::{Fault, FileSystem, FileType, Listed, MemoryFs, Metadata};
+use jwalk::file_system::{Fault, FileSystem, FileType, Listed, MemoryFs, Metadata, Seen};
 use jwalk::read_dir::NoProcess;
 use std::alloc::{AllocError, Allocator};
 use std::io;
@@ -64,7 +64,7 @@ impl FileSystem for AllDirectories {
         let mut items = self.fs.read_dir(alloc, path)?;
         for item in items.iter_mut() {
             if let Ok(listed) = item {
-                listed.file_type = Ok(FileType::Dir);
+                listed.seen = Ok(Seen::TypeAlone(FileType::Dir));
             }
         }
         Ok(items)

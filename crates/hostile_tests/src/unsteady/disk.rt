@@ -114,7 +114,7 @@ fn item<A: Allocator + Copy>(
         Ok(file_type(dice))
     };
     let name = String::from_str(alloc, name(dice))?;
-    Ok(Ok(Listed { name, file_type }))
+    Ok(Ok(Listed::of_type(name, file_type)))
 }
 
 /// A listing of up to six items.
