@@ -3,6 +3,7 @@ mod folder;
 pub mod lines;
 mod links;
 mod listings;
+mod metadata;
 mod real;
 mod refusals;
 mod sizes;

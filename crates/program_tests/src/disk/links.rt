@@ -1,7 +1,11 @@
 //! Walks over links on the disk.
 use crate::disk::folder::{Step, make, remove};
+use crate::disk::lines::{builder, lines, rest};
 use crate::disk::real::{shows, shows_from};
+use jwalk::file_system::RealFs;
+use std::alloc::{AllocError, Global};
 use std::test::Fail;
+use std::{env, io};
 
 /// A directory of one file, and links to both and to nothing.
 const LINKED: &[Step] = &[
@@ -59,5 +63,82 @@ fn roots_that_are_no_directories(rt: HostRuntime) -> Result<(), Fail> {
     let are_shown = show(&rt, folder.as_str(), ROWS);
     remove(&rt, folder.as_str())?;
     assert!(rt; are_shown);
+    Ok(())
+}
+
+/// What a walk by name yields that follows links to the depth of 6, with `/t` for the folder.
+fn followed(rt: &HostRuntime, root: &str, folder: &str) -> io::Result<String> {
+    let walk = builder(rt.alloc(), RealFs::new(*rt), root)?;
+    let walk = walk.sort(true).follow_links(true).max_depth(6);
+    let found = rest(rt.alloc(), &mut walk.into_iter())?;
+    Ok(lines(rt.alloc(), found.as_slice(), folder)?)
+}
+
+/// A directory, in which a link leads to the folder by its whole path.
+const BACK: &[Step] = &[Step::Dir("/a"), Step::LinkTo("", "/a/l")];
+
+#[test]
+fn a_link_by_a_whole_path_is_a_loop_below_a_whole_path(rt: HostRuntime) -> Result<(), Fail> {
+    let folder = make(&rt, "back", BACK)?;
+    let found = followed(&rt, folder.as_str(), folder.as_str());
+    remove(&rt, folder.as_str())?;
+    assert_eq!(rt; found?.as_str(), "0 d /t\n1 d /t/a\n! 2 /t/a/l loop /t\n");
+    Ok(())
+}
+
+/// What such a walk yields from the folder as the current directory of the process.
+fn followed_here(rt: &HostRuntime, folder: &str) -> io::Result<String> {
+    env::set_current_dir(rt, folder)?;
+    followed(rt, ".", folder)
+}
+
+#[test]
+fn a_link_by_a_whole_path_is_a_loop_below_a_relative_path(rt: HostRuntime) -> Result<(), Fail> {
+    let folder = make(&rt, "back_here", BACK)?;
+    let found = followed_here(&rt, folder.as_str());
+    remove(&rt, folder.as_str())?;
+    assert_eq!(rt; found?.as_str(), "0 d .\n1 d ./a\n! 2 ./a/l loop .\n");
+    Ok(())
+}
+
+/// Two directories, each with two links to the other.
+const TO_EACH_OTHER: &[Step] = &[
+    Step::Dir("/a"),
+    Step::Link("../b", "/a/l"),
+    Step::Link("../b", "/a/m"),
+    Step::Dir("/b"),
+    Step::Link("../a", "/b/l"),
+    Step::Link("../a", "/b/m"),
+];
+
+/// The lines that end there, by their texts: errors of one list come as the disk lists them.
+const ENDED: &str = "! 3 /t/a/l/l loop /t/a\n! 3 /t/a/l/m loop /t/a\n\
+                     ! 3 /t/a/m/l loop /t/a\n! 3 /t/a/m/m loop /t/a\n\
+                     ! 3 /t/b/l/l loop /t/b\n! 3 /t/b/l/m loop /t/b\n\
+                     ! 3 /t/b/m/l loop /t/b\n! 3 /t/b/m/m loop /t/b\n\
+                     0 d /t\n1 d /t/a\n1 d /t/b\n\
+                     2 D /t/a/l\n2 D /t/a/m\n2 D /t/b/l\n2 D /t/b/m\n";
+
+/// The same lines in the order of their texts.
+fn in_order(alloc: Global, lines: &str) -> Result<String, AllocError> {
+    let mut all = Vec::new(alloc);
+    for line in lines.lines() {
+        all.push(line)?;
+    }
+    all.sort()?;
+    let mut text = String::new(alloc);
+    for line in &all {
+        text.push_str(*line)?;
+        text.push_str("\n")?;
+    }
+    Ok(text)
+}
+
+#[test]
+fn two_links_each_in_two_directories_to_each_other_are_loops(rt: HostRuntime) -> Result<(), Fail> {
+    let folder = make(&rt, "each_other", TO_EACH_OTHER)?;
+    let found = followed(&rt, folder.as_str(), folder.as_str());
+    remove(&rt, folder.as_str())?;
+    assert_eq!(rt; in_order(rt.alloc(), found?.as_str())?.as_str(), ENDED);
     Ok(())
 }
