@@ -2,5 +2,8 @@
 mod descriptors;
 mod endless;
 mod failing_calls;
+mod identities;
 mod lies;
+mod numbered;
+mod one_file_system;
 mod vanishing;
