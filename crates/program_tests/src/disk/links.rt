@@ -66,6 +66,16 @@ fn roots_that_are_no_directories(rt: HostRuntime) -> Result<(), Fail> {
     Ok(())
 }
 
+#[test]
+fn a_root_that_is_a_followed_link_to_a_directory(rt: HostRuntime) -> Result<(), Fail> {
+    let folder = make(&rt, "root_link", LINKED)?;
+    let wanted = "0 D /t/to_a\n1 f /t/to_a/x\n";
+    let is_shown = shows_from(&rt, folder.as_str(), "/to_a", true, wanted);
+    remove(&rt, folder.as_str())?;
+    assert!(rt; is_shown);
+    Ok(())
+}
+
 /// What a walk by name yields that follows links to the depth of 6, with `/t` for the folder.
 fn followed(rt: &HostRuntime, root: &str, folder: &str) -> io::Result<String> {
     let walk = builder(rt.alloc(), RealFs::new(*rt), root)?;
