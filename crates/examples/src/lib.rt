@@ -1,0 +1,16 @@
+//! Small programs to copy from, each in a module with a function `run`. The program `example` calls the one that it is
+//! told.
+#![tactic(auto)]
+
+pub mod all_errors;
+pub mod archive;
+pub mod batch_walk;
+pub mod crew_walk;
+pub mod finder;
+pub mod ignore_walk;
+#[cfg(test)]
+mod tests;
+pub mod to_csv;
+pub mod totals;
+pub mod unmarked;
+pub mod usage_walk;

@@ -1,0 +1,190 @@
+//! What each example prints.
+use crate::{
+    all_errors, archive, batch_walk, crew_walk, finder, ignore_walk, to_csv, totals, unmarked,
+    usage_walk,
+};
+use jwalk::WalkDirGeneric;
+use jwalk::file_system::{BuildError, MemoryFs};
+use jwalk::read_dir::NoProcess;
+use std::alloc::{AllocError, Global};
+use std::str::from_utf8;
+use std::{env, fs, io, process};
+
+/// The tree of the walks in memory. A path that ends with a slash is a directory, and each file has four bytes.
+const PHOTOS: &[&str] = &[
+    "photos/",
+    "photos/2025/",
+    "photos/2025/.nobackup",
+    "photos/2025/mountain.jpg",
+    "photos/2026/",
+    "photos/2026/.draft.jpg",
+    "photos/2026/sea, north.jpg",
+    "photos/2026/sea.jpg",
+    "photos/index.txt",
+];
+
+/// Returns that tree.
+fn photos(alloc: Global) -> Result<MemoryFs, BuildError> {
+    let mut tree = MemoryFs::new(alloc);
+    for path in PHOTOS {
+        match path.strip_suffix("/") {
+            Some(folder) => tree.add_dir(folder)?,
+            None => tree.add_file(path, 4)?,
+        }
+    }
+    Ok(tree)
+}
+
+/// Returns the root of that tree.
+fn root(alloc: Global) -> Result<String, AllocError> {
+    String::from_str(alloc, "photos")
+}
+
+/// Returns a walk over it.
+fn walk(alloc: Global) -> Result<WalkDirGeneric<((), ()), MemoryFs, NoProcess>, BuildError> {
+    Ok(WalkDirGeneric::new(photos(alloc)?, root(alloc)?))
+}
+
+/// What is in it and not hidden, by name.
+const PATHS: &str =
+    "photos\nphotos/2025\nphotos/2025/mountain.jpg\nphotos/2026\nphotos/2026/sea, north.jpg\n\
+                     photos/2026/sea.jpg\nphotos/index.txt\n";
+
+#[test]
+fn paths_in_batches(rt: HostRuntime) -> anyhow::Result<()> {
+    let mut out = Vec::new(rt.alloc());
+    batch_walk::run(&rt, walk(rt.alloc())?, &mut out)?;
+    assert!(rt; out.as_slice() == PATHS.as_bytes());
+    Ok(())
+}
+
+#[test]
+fn paths_by_a_crew(rt: HostRuntime) -> anyhow::Result<()> {
+    let mut out = Vec::new(rt.alloc());
+    crew_walk::run(&rt, photos(rt.alloc())?, root(rt.alloc())?, &mut out)?;
+    assert!(rt; out.as_slice() == PATHS.as_bytes());
+    Ok(())
+}
+
+#[test]
+fn files_and_bytes(rt: HostRuntime) -> anyhow::Result<()> {
+    let mut out = Vec::new(rt.alloc());
+    totals::run(&rt, walk(rt.alloc())?, photos(rt.alloc())?, &mut out)?;
+    assert!(rt; out.as_slice() == "6 files, 24 bytes, 0 errors\n".as_bytes());
+    Ok(())
+}
+
+#[test]
+fn files_by_their_ending(rt: HostRuntime) -> anyhow::Result<()> {
+    let mut out = Vec::new(rt.alloc());
+    finder::run(
+        &rt,
+        photos(rt.alloc())?,
+        root(rt.alloc())?,
+        "n.jpg",
+        &mut out,
+    )?;
+    assert!(rt; out.as_slice() == "photos/2025/mountain.jpg\n".as_bytes());
+    Ok(())
+}
+
+#[test]
+fn directories_that_are_not_marked(rt: HostRuntime) -> anyhow::Result<()> {
+    let mut out = Vec::new(rt.alloc());
+    unmarked::run(&rt, walk(rt.alloc())?, &mut out)?;
+    let wanted = "photos\nphotos/2025\nphotos/2026\nphotos/2026/.draft.jpg\n\
+                  photos/2026/sea, north.jpg\nphotos/2026/sea.jpg\nphotos/index.txt\n";
+    assert!(rt; out.as_slice() == wanted.as_bytes());
+    Ok(())
+}
+
+#[test]
+fn lines_of_csv(rt: HostRuntime) -> anyhow::Result<()> {
+    let mut out = Vec::new(rt.alloc());
+    to_csv::run(&rt, walk(rt.alloc())?, &photos(rt.alloc())?, &mut out)?;
+    let wanted = "bytes,path\n4,photos/2025/mountain.jpg\n4,\"photos/2026/sea, north.jpg\"\n\
+                  4,photos/2026/sea.jpg\n4,photos/index.txt\n";
+    assert!(rt; out.as_slice() == wanted.as_bytes());
+    Ok(())
+}
+
+#[test]
+fn the_lines_of_an_archive(rt: HostRuntime) -> anyhow::Result<()> {
+    const INPUT: &[u8] = b"photos/\nphotos/index.txt\nphotos/2026/\nphotos/2026/sea.jpg\n";
+    let mut out = Vec::new(rt.alloc());
+    archive::run(rt.alloc(), INPUT, root(rt.alloc())?, &mut out)?;
+    let wanted = "photos\nphotos/2026\nphotos/2026/sea.jpg\nphotos/index.txt\n";
+    assert!(rt; out.as_slice() == wanted.as_bytes());
+    Ok(())
+}
+
+#[test]
+fn what_errors_are(rt: HostRuntime) -> anyhow::Result<()> {
+    let mut out = Vec::new(rt.alloc());
+    all_errors::run(rt.alloc(), &mut out)?;
+    let wanted = "closed: IO error for operation on /photos/closed: permission denied\n\
+                  a link back to a directory above it: File system loop found: /photos/again points to an \
+                  ancestor /photos\n\
+                  not there: IO error for operation on /photos/broken: entity not found\n\
+                  not there: IO error for operation on /drawings: entity not found\n";
+    assert!(rt; out.as_slice() == wanted.as_bytes());
+    Ok(())
+}
+
+/// Makes a folder on the disk for the test of this name, with files, and returns its path. Each file has the folder
+/// that it is in, its name, and its text.
+fn folder(rt: &HostRuntime, test: &str, files: &[[&str; 3]]) -> io::Result<String> {
+    let temporary = env::temp_dir(rt)?;
+    let temporary = temporary.as_path().as_str();
+    let id = process::id(rt.process());
+    let folder = format!(in rt.alloc(); "{temporary}/jwalk_examples_{test}_{id}")?;
+    for [below, name, text] in files {
+        let parent = format!(in rt.alloc(); "{folder}{below}")?;
+        fs::create_dir_all(rt, parent.as_str())?;
+        let path = format!(in rt.alloc(); "{parent}/{name}")?;
+        fs::write(rt, path.as_str(), text.as_bytes())?;
+    }
+    Ok(folder)
+}
+
+#[test]
+fn totals_of_the_disk(rt: HostRuntime) -> anyhow::Result<()> {
+    const FILES: &[[&str; 3]] = &[
+        ["", "index.txt", "index\n"],
+        ["/2025", "mountain.jpg", "mountain\n"],
+        ["/2026", "sea.jpg", "sea\n"],
+    ];
+    let folder = folder(&rt, "usage", FILES)?;
+    let mut out = Vec::new(rt.alloc());
+    usage_walk::run(&rt, &folder, &mut out)?;
+    fs::remove_dir_all(&rt, folder.as_str())?;
+    assert!(rt; out.as_slice() == "files 3 dirs 3 links 0 others 0 errors 0 bytes 19\n".as_bytes());
+    Ok(())
+}
+
+#[test]
+fn what_ignore_files_leave(rt: HostRuntime) -> anyhow::Result<()> {
+    const FILES: &[[&str; 3]] = &[
+        [
+            "",
+            ".ignore",
+            "# what a build makes\ntarget/\n*.log\n!kept.log\n",
+        ],
+        ["", "notes.txt", ""],
+        ["/docs", "build.log", ""],
+        ["/docs", "guide.txt", ""],
+        ["/docs", "kept.log", ""],
+        ["/target", "out.txt", ""],
+    ];
+    let folder = folder(&rt, "ignore", FILES)?;
+    let mut out = Vec::new(rt.alloc());
+    ignore_walk::run(&rt, &folder, &mut out)?;
+    fs::remove_dir_all(&rt, folder.as_str())?;
+    let paths = from_utf8(out.as_slice())
+        .unwrap_or("")
+        .replace(rt.alloc(), &folder, "project")?;
+    let wanted =
+        "project\nproject/docs\nproject/docs/guide.txt\nproject/docs/kept.log\nproject/notes.txt\n";
+    assert!(rt; paths.as_str() == wanted);
+    Ok(())
+}

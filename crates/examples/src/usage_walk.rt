@@ -1,0 +1,13 @@
+//! Totals: prints how many files, directories and bytes there are below a folder.
+use jwalk::WalkDir;
+use jwalk::file_system::RealFs;
+use jwalk_usage::usage;
+use std::io::Write;
+
+/// Prints the totals of the disk below a root.
+pub fn run<W: Write>(rt: &HostRuntime, root: &str, out: &mut W) -> anyhow::Result<()> {
+    let walk = WalkDir::at(rt, root)?;
+    let totals = usage(&RealFs::new(rt.clone()?), walk.into_iter())?;
+    writeln!(out, "{totals}")?;
+    Ok(())
+}
