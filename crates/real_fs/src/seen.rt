@@ -61,7 +61,7 @@ fn details(found: &fs::Metadata) -> Option<Details> {
         device: found.dev(),
         inode: found.ino(),
     };
-    if identity.device == 0 && identity.inode == 0 {
+    if !identity.is_known() {
         return None;
     }
     Some(Details {

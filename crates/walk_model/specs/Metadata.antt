@@ -1,5 +1,5 @@
 -- What a file system knows of a path.
-use Rattle.std.specs.Prelude.{ℕ, Bool, false, not, ◌&&◌, ◌==◌, Option, Some, None, option_map}
+use Rattle.std.specs.Prelude.{ℕ, Bool, false, not, ◌&&◌, ◌||◌, ◌==◌, Option, Some, None, if◌then◌else◌}
 use Rattle.walk_model.specs.declared.file_type.FileType.{FileType}
 use Rattle.walk_model.specs.declared.metadata.Metadata.{Metadata}
 use Rattle.walk_model.specs.declared.metadata.Details.{Details}
@@ -17,9 +17,17 @@ len_of m = m.len
 abbrev pub details_of : Metadata → Option Details
 details_of m = m.details
 
+-- whether it says which file it is: no file has both numbers 0
+abbrev pub is_known : Identity → Bool
+is_known i = not (i.device == 0) || not (i.inode == 0)
+
+abbrev identity_in : Option Details → Option Identity
+identity_in None = None
+identity_in (Some d) = if is_known d.identity then Some d.identity else None
+
 -- which file it is, where that is known
 abbrev pub identity_of : Metadata → Option Identity
-identity_of m = option_map (λ (d : Details). d.identity) m.details
+identity_of m = identity_in m.details
 
 -- whether two identities are that of one file
 abbrev pub same_file : Identity → Identity → Bool

@@ -22,7 +22,14 @@ pub struct Identity {
 
 impl Identity {
     ghost use Rattle.std.specs.Prelude.{◌==◌};
-    ghost use Rattle.walk_model.specs.Metadata.{same_file};
+    ghost use Rattle.walk_model.specs.Metadata.{is_known, same_file};
+
+    /// Returns whether it says which file it is: no file has both numbers 0.
+    pub fn is_known(self) -> bool
+        ensures { result ≡ is_known self }
+    {
+        self.device != 0 || self.inode != 0
+    }
 
     /// Returns whether both are the same file.
     pub fn is_same_file(self, other: Identity) -> bool
@@ -118,11 +125,14 @@ impl Metadata {
         self.details
     }
 
-    /// Returns which file it is, where that is known.
+    /// Returns which file it is, if that is known: not if both numbers are 0.
     pub fn identity(&self) -> Option<Identity>
         ensures { result ≡ identity_of self.now }
     {
-        self.details.map(|details| details.identity)
+        match self.details {
+            Some(details) if details.identity.is_known() => Some(details.identity),
+            _ => None,
+        }
     }
 
     /// Returns whether it is that of a directory.

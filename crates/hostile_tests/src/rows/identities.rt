@@ -48,7 +48,7 @@ fn a_directory_above_that_is_gone_is_told_by_text(rt: HostRuntime) {
 }
 
 #[test]
-fn two_numbers_of_zero_tell_a_loop(rt: HostRuntime) {
+fn two_numbers_of_zero_say_nothing(rt: HostRuntime) {
     const ROW: Row = Row {
         places: &[
             At::Dir("/r", Numbers(0, 0)),
@@ -57,7 +57,8 @@ fn two_numbers_of_zero_tell_a_loop(rt: HostRuntime) {
         ],
         root: "/r",
         settings: FOLLOW,
-        answers: "0 d /r; ! 1 /r/l loop /r; 1 D /r/m",
+        answers: "0 d /r; 1 D /r/l; ! 1 /r/m loop /r",
+        // Each link, and the directory above for the one whose numbers say something.
         asked: 3,
     };
     assert!(rt; holds(&rt, &ROW));
@@ -84,8 +85,8 @@ fn a_root_without_numbers_is_told_by_text(rt: HostRuntime) {
     const ROW: Row = Row {
         places: &[
             At::Dir("/r", Nothing),
-            At::Link("/r/l", "/s", Numbers(0, 0)),
-            At::Link("/r/m", ".", Numbers(0, 0)),
+            At::Link("/r/l", "/s", Numbers(1, 2)),
+            At::Link("/r/m", ".", Numbers(1, 3)),
         ],
         root: "/r",
         settings: FOLLOW,
@@ -99,7 +100,7 @@ fn a_root_without_numbers_is_told_by_text(rt: HostRuntime) {
 fn links_to_directories_without_numbers_ask_for_none_above(rt: HostRuntime) {
     const ROW: Row = Row {
         places: &[
-            At::Dir("/r", Numbers(0, 0)),
+            At::Dir("/r", Numbers(1, 1)),
             At::Dir("/r/a", Numbers(1, 2)),
             At::Link("/r/a/k", "/s", Nothing),
             At::Link("/r/a/l", "..", Nothing),
