@@ -2,16 +2,16 @@
 #![tactic(auto)]
 
 use examples::{
-    all_errors, archive, batch_walk, crew_walk, finder, ignore_walk, to_csv, totals, unmarked,
-    usage_walk,
+    all_errors, archive, batch_walk, crew_walk, finder, ignore_walk, newest, one_disk, to_csv,
+    totals, unmarked, usage_walk,
 };
 use jwalk::WalkDir;
 use jwalk::file_system::RealFs;
 use std::{env, io};
 
 /// The names that there are.
-const NAMES: &str =
-    "usage_walk ignore_walk batch_walk crew_walk totals finder unmarked to_csv archive all_errors";
+const NAMES: &str = "usage_walk ignore_walk batch_walk crew_walk totals finder unmarked newest one_disk to_csv archive \
+                     all_errors";
 
 fn main(rt: HostRuntime) -> anyhow::Result<()> {
     let mut words = env::args(&rt)?.skip(1);
@@ -31,6 +31,11 @@ fn main(rt: HostRuntime) -> anyhow::Result<()> {
         "totals" => totals::run(&rt, walk, disk, out),
         "finder" => finder::run(&rt, disk, root, words.next().as_deref().unwrap_or(""), out),
         "unmarked" => unmarked::run(&rt, walk, out),
+        "newest" => newest::run(rt.alloc(), walk, out),
+        "one_disk" => {
+            let unread = words.next().unwrap_or(String::new(rt.alloc()));
+            one_disk::run(&rt, walk, unread, out)
+        }
         "to_csv" => to_csv::run(&rt, walk, &disk, out),
         "archive" => archive::run(rt.alloc(), rt.reader(), root, out),
         "all_errors" => all_errors::run(rt.alloc(), out),

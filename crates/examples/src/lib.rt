@@ -8,6 +8,8 @@ pub mod batch_walk;
 pub mod crew_walk;
 pub mod finder;
 pub mod ignore_walk;
+pub mod newest;
+pub mod one_disk;
 #[cfg(test)]
 mod tests;
 pub mod to_csv;

@@ -1,13 +1,14 @@
 //! What each example prints.
 use crate::{
-    all_errors, archive, batch_walk, crew_walk, finder, ignore_walk, to_csv, totals, unmarked,
-    usage_walk,
+    all_errors, archive, batch_walk, crew_walk, finder, ignore_walk, newest, one_disk, to_csv,
+    totals, unmarked, usage_walk,
 };
-use jwalk::WalkDirGeneric;
 use jwalk::file_system::{BuildError, MemoryFs};
 use jwalk::read_dir::NoProcess;
+use jwalk::{WalkDir, WalkDirGeneric};
 use std::alloc::{AllocError, Global};
 use std::str::from_utf8;
+use std::time::{Duration, UNIX_EPOCH};
 use std::{env, fs, io, process};
 
 /// The tree of the walks in memory. A path that ends with a slash is a directory, and each file has four bytes.
@@ -94,6 +95,18 @@ fn directories_that_are_not_marked(rt: HostRuntime) -> anyhow::Result<()> {
     unmarked::run(&rt, walk(rt.alloc())?, &mut out)?;
     let wanted = "photos\nphotos/2025\nphotos/2026\nphotos/2026/.draft.jpg\n\
                   photos/2026/sea, north.jpg\nphotos/2026/sea.jpg\nphotos/index.txt\n";
+    assert!(rt; out.as_slice() == wanted.as_bytes());
+    Ok(())
+}
+
+#[test]
+fn what_is_on_one_disk(rt: HostRuntime) -> anyhow::Result<()> {
+    let mut out = Vec::new(rt.alloc());
+    let unread = String::from_str(rt.alloc(), "2026")?;
+    one_disk::run(&rt, walk(rt.alloc())?, unread, &mut out)?;
+    let wanted =
+        "photos\nphotos/2025\nphotos/2025/.nobackup\nphotos/2025/mountain.jpg\nphotos/2026\n\
+                  photos/index.txt\n";
     assert!(rt; out.as_slice() == wanted.as_bytes());
     Ok(())
 }
@@ -186,5 +199,30 @@ fn what_ignore_files_leave(rt: HostRuntime) -> anyhow::Result<()> {
     let wanted =
         "project\nproject/docs\nproject/docs/guide.txt\nproject/docs/kept.log\nproject/notes.txt\n";
     assert!(rt; paths.as_str() == wanted);
+    Ok(())
+}
+
+/// Writes when a file was written last, in seconds since 1970.
+fn set_written(rt: &HostRuntime, path: &str, seconds: u64) -> io::Result<()> {
+    let Some(time) = UNIX_EPOCH.checked_add(Duration::from_secs(seconds)) else {
+        return Err(io::Error::from(io::ErrorKind::InvalidInput));
+    };
+    fs::File::open(rt, path)?.set_modified(time)
+}
+
+#[test]
+fn the_newest_files(rt: HostRuntime) -> anyhow::Result<()> {
+    let files: &[[&str; 3]] = &[["", "a", ""], ["/s", "b", ""], ["/s", "c", ""]];
+    let folder = folder(&rt, "newest", files)?;
+    for (name, seconds) in [("a", 20), ("s/b", 30), ("s/c", 10)] {
+        set_written(&rt, &format!(in rt.alloc(); "{folder}/{name}")?, seconds)?;
+    }
+    let mut out = Vec::new(rt.alloc());
+    newest::run(rt.alloc(), WalkDir::at(&rt, &folder)?, &mut out)?;
+    fs::remove_dir_all(&rt, folder.as_str())?;
+    let paths = from_utf8(out.as_slice())
+        .unwrap_or("")
+        .replace(rt.alloc(), &folder, "t")?;
+    assert!(rt; paths.as_str() == "30 t/s/b\n20 t/a\n10 t/s/c\n");
     Ok(())
 }

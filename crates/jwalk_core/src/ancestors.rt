@@ -1,5 +1,5 @@
 //! The directories above an entry.
-ghost use Rattle.std.specs.Prelude.{◌≡◌, List, ℕ, ◌↔◌, ◌++◌, ◌∷◌, [], IfOk, IsTrue, map, option_map};
+ghost use Rattle.std.specs.Prelude.{◌≡◌, List, ℕ, ◌↔◌, ◌++◌, ◌∷◌, [], IfOk, IfSome, IsTrue, map, option_map};
 ghost use Rattle.walk_model.specs.Paths.{normalised};
 ghost use Rattle.walk_model.specs.FileSystem.{Functions};
 ghost use Rattle.walk_model.specs.Job as value;
@@ -35,6 +35,22 @@ pub(crate) fn identity_at<S: FileSystem>(fs: &S, path: &str) -> Result<Option<Id
         Ok(metadata) => Ok(metadata.identity()),
         Err(Fault::Io(_)) => Ok(None),
         Err(Fault::Memory) => Err(AllocError),
+    }
+}
+
+/// Returns which file is at a path, and asks nothing if the path is the one before, of which it is known.
+fn identity_after<S: FileSystem>(
+    fs: &S,
+    before: Option<(&str, Option<Identity>)>,
+    path: &str,
+) -> Result<Option<Identity>, AllocError>
+    ensures { S.IsFixed fs.now
+        → IfSome before.entry (λ b. b.1 ≡ value.identity_at (S.functions fs.now) b.0.now)
+        → IfOk result (λ found. found ≡ value.identity_at (S.functions fs.now) path.now) }
+{
+    match before {
+        Some((other, identity)) if other == path => Ok(identity),
+        _ => identity_at(fs, path),
     }
 }
 
@@ -124,7 +140,8 @@ impl<A: Allocator + Copy> Ancestors<A> {
         })
     }
 
-    /// Returns which files they are, that of the root first, as far as the file system knows it.
+    /// Returns which files they are, that of the root first, as far as the file system knows it. The root stands twice
+    /// among the directories above what is in it, and is asked for once.
     ///
     /// # Errors
     ///
@@ -139,8 +156,12 @@ impl<A: Allocator + Copy> Ancestors<A> {
     {
         let paths = self.paths();
         let mut known = Vec::with_capacity(alloc, paths.len())?;
+        let mut before = None;
         for path in paths {
-            known.push(identity_at(fs, path.as_str())?)?;
+            let path = path.as_str();
+            let identity = identity_after(fs, before, path)?;
+            known.push(identity)?;
+            before = Some((path, identity));
         }
         Ok(known)
     }

@@ -22,15 +22,19 @@ loop-path-preserved g c = λ fixed.
     let xs = c.paths-paths.result.now in
     let i = c.loop-path.path-index in
     let x = c.path-item.result in
+    let held = c.loop-path.invariant fixed in
     let at : x ≡ get_or xs i x = cc in
-    let path = c.as_str.ensures.value ∙ ap string_bytes c.deref.ensures ∙ ap text at in
-    one_more asked text xs i x c.loop-path.known.items c.push.new.self.items c.in_ok-identity_at.field-0 c.loop-path-test.true
-    (c.loop-path.invariant fixed) c.in_ok-push.ensures.items (c.in_ok-identity_at.ensures fixed ∙ ap asked path)
+    let named = c.as_str-path.ensures.value ∙ ap string_bytes c.deref.ensures in
+    let found = c.in_ok-identity.ensures fixed held.1 in (
+      one_more asked text xs i x c.loop-path.known.items c.push.new.self.items c.in_ok-identity.identity c.loop-path-test.true
+      held.0 c.in_ok-push.ensures.items (found ∙ ap asked (named ∙ ap text at)),
+      found,
+    )
 
 pub returns : goal.returns
 returns g c = λ fixed.
     let asked = identity_at (g.S.FileSystem.functions c.args.fs.now) in
     let xs = c.paths-paths.result.now in
-    c.loop-path.invariant fixed
+    (c.loop-path.invariant fixed).0
     ∙ ap (λ l. map asked (map text l)) (take_all c.loop-path.path-index xs (omega arith))
     ∙ ap (map asked) c.paths-paths.ensures
