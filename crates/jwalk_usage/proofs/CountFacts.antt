@@ -1,6 +1,7 @@
 -- Answers counted one call after another.
-use Rattle.std.proofs.Common.{◌≡◌, List, [], ◌∷◌, ◌++◌, Option, Some, Result, Ok, Err, IfErr, map, refl, sym, ap, subst, ◌∙◌}
+use Rattle.std.proofs.Common.{◌≡◌, true, List, [], ◌∷◌, ◌++◌, Option, Some, Result, Ok, Err, IfErr, map, refl, sym, ap, subst, ◌∙◌}
 use Rattle.std.specs.Prelude.{IsErrAnd}
+use Rattle.std.specs.List.{list_all}
 use Rattle.std.specs.Iterator.{Yields}
 use Rattle.std.proofs.lemmas.List.{map-append}
 use Rattle.jwalk.specs.walk_model.FileSystem.{Functions}
@@ -13,7 +14,9 @@ use Rattle.jwalk_usage.specs.declared.report.UsageFault.{UsageFault}
 use Rattle.jwalk_usage.specs.declared.report.UsageFault.TheVariants.{TooMany, Memory}
 use Rattle.jwalk_usage.specs.Totals.{totals}
 use Rattle.jwalk_usage.specs.Counts.{nothing, with_one, IsTooGreat, CountsType, CountsTypes, CannotCount, TellsOfLast, Counts, StopsCounting}
+use Rattle.jwalk_usage.specs.Kept.{is_known, kept_totals, with_kept}
 use Rattle.jwalk_usage.proofs.TotalFacts.{totals_push, types_push}
+use Rattle.jwalk_usage.proofs.KeptFacts.{kept_push, all_before}
 
 -- calls and one more
 pub yields_push : {I X : Type 0} (next : I → Option X → I → Type 0) (xs : List X) (x : X) (start now then : I) → Yields next start xs now → next now (Some x) then → Yields next start (xs ++ x ∷ []) then
@@ -42,24 +45,32 @@ module _ {I C A R E : Type 0} (next : I → Option (Result (DirEntry C A R E) (E
   nothing_counted usage is = subst (CountedSoFar start) (sym is) (record {
     answered = [];
     calls = refl;
-    counts = record { none_refused = tt; types = record { files = refl; dirs = refl; links = refl; others = refl }; totals = λ _. refl };
+    counts = record { none_refused = tt; types = record { files = refl; dirs = refl; links = refl; others = refl }; totals = λ _. refl; kept = λ _. refl };
   })
 
   -- one more answer
-  pub one_counted : (now then : I) (old new : Usage) (x : Result (DirEntry C A R E) (Error A)) → CountedSoFar now old → next now (Some x) then → ¬ TellsMemory (item x) → CountsType (item x) old new → (fixed → new ≡ with_one fs (item x) old) → CountedSoFar then new
-  one_counted now then old new x so_far step not type all = record {
+  pub one_counted : (now then : I) (old new : Usage) (x : Result (DirEntry C A R E) (Error A)) → CountedSoFar now old → next now (Some x) then → ¬ TellsMemory (item x) → CountsType (item x) old new → (fixed → new ≡ with_one fs (item x) old) → (is_known (item x) ≡ true → new ≡ with_kept (item x) old) → CountedSoFar then new
+  one_counted now then old new x so_far step not type all known = record {
     answered = so_far.answered ++ x ∷ [];
     calls = yields_push next so_far.answered x start now then so_far.calls step;
     counts = record {
       none_refused = none_push so_far.answered x so_far.counts.none_refused not;
       types = subst (λ l. CountsTypes l new) (sym (map-append item so_far.answered (x ∷ []))) (types_push fs (map item so_far.answered) (item x) old new so_far.counts.types type);
       totals = λ is. all is ∙ ap (with_one fs (item x)) (so_far.counts.totals is) ∙ sym (totals_push fs (map item so_far.answered) (item x)) ∙ ap (totals fs) (sym (map-append item so_far.answered (x ∷ [])));
+      kept = λ is.
+          let before = all_before is_known (map item so_far.answered) (item x) (subst (λ l. list_all is_known l ≡ true) (map-append item so_far.answered (x ∷ [])) is) in
+          known before.1 ∙ ap (with_kept (item x)) (so_far.counts.kept before.0) ∙ sym (kept_push (map item so_far.answered) (item x)) ∙ ap kept_totals (sym (map-append item so_far.answered (x ∷ [])));
     };
   }
 
   -- why the last answer can't be counted, by the totals of all
   tells_of : (now : I) (u : Usage) (x : Result (DirEntry C A R E) (Error A)) (fault : UsageFault) (so_far : CountedSoFar now u) → CannotCount fixed fs (item x) u fault → TellsOfLast fixed fs (map item so_far.answered) (item x) fault
-  tells_of now u x TooMany so_far cannot = λ is. subst IsTooGreat (ap (with_one fs (item x)) (so_far.counts.totals is) ∙ sym (totals_push fs (map item so_far.answered) (item x))) (cannot is)
+  tells_of now u x TooMany so_far cannot = (
+    λ is. subst IsTooGreat (ap (with_one fs (item x)) (so_far.counts.totals is) ∙ sym (totals_push fs (map item so_far.answered) (item x))) (cannot.0 is),
+    λ is.
+        let before = all_before is_known (map item so_far.answered) (item x) is in
+        subst IsTooGreat (ap (with_kept (item x)) (so_far.counts.kept before.0) ∙ sym (kept_push (map item so_far.answered) (item x))) (cannot.1 before.1),
+  )
   tells_of now u x Memory so_far cannot = cannot
 
   -- an answer that can't be counted

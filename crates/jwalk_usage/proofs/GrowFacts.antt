@@ -11,7 +11,7 @@ use Rattle.jwalk_usage.specs.Counts.{IsTooGreat}
 grown : {X : Type 0} (f : X → ℕ) (l m : List X) → sum_by f l ≤ sum_by f (l ++ m)
 grown f l m = omega (arith, sum_by-append f l m)
 
-either : (n a b a' b' : ℕ) → a ≤ a' → (n ≤ b → n ≤ b') → n ≤ max a b → n ≤ max a' b'
+pub either : (n a b a' b' : ℕ) → a ≤ a' → (n ≤ b → n ≤ b') → n ≤ max a b → n ≤ max a' b'
 either n a b a' b' first second most = grind arith
 
 -- If a number of some answers' totals is too great, so is one of the totals of more.

@@ -1,6 +1,9 @@
 pub mod TotalFacts
+pub mod KeptFacts
 pub mod CountFacts
 pub mod StateFacts
+pub mod AddFacts
 pub mod SizedFacts
 pub mod GrowFacts
+pub mod AskedFacts
 pub mod WholeTotals

@@ -1,79 +1,35 @@
--- Answers with sizes, counted one call after another, and what walks with sizes come to.
+-- Totals by sizes, with one more answer, and what walks with sizes come to.
 use Rattle.std.proofs.Common.{◌≡◌, ◌+◌, ℕ, Bool, true, false, cond, ◌&&◌, List, [], ◌∷◌, ◌++◌, Option, Some, None, Result, Ok, Err, map, refl, sym, ap, subst, ◌∙◌}
 use Rattle.std.specs.Prelude.{option_map, is_err}
 use Rattle.std.specs.List.{sum_by}
-use Rattle.std.specs.Iterator.{Yields}
 use Rattle.std.specs.declared.io.ErrorKind.{ErrorKind}
-use Rattle.std.proofs.lemmas.List.{map-append}
 use Rattle.std.proofs.lemmas.List.Sums.{sum_by_push}
 use Rattle.jwalk.specs.walk_model.declared.metadata.Metadata.{Metadata}
 use Rattle.jwalk.specs.walk_model.declared.file_type.FileType.{FileType}
 use Rattle.jwalk.specs.walk_model.FileType.{is_dir, is_file, is_symlink}
 use Rattle.jwalk.specs.walk_model.FileSystem.{Functions}
-use Rattle.jwalk.specs.walk_model.Options.{Options}
+use Rattle.jwalk.specs.walk_model.Options.{Options, with_keep_metadata}
 use Rattle.jwalk.specs.walk_model.Entry.{Children, Entry, Item, metadata_of}
 use Rattle.jwalk.specs.walk_model.Counted.{Worth, blank, number, bytes, children_by}
-use Rattle.jwalk.specs.walk_model.Walk.{whole_walk, stateless_walk}
-use Rattle.jwalk.specs.jwalk_core.declared.dir_entry.DirEntry.{DirEntry}
-use Rattle.jwalk.specs.jwalk_core.declared.error.Error.{Error}
-use Rattle.jwalk.specs.jwalk_core.Entry.{item}
+use Rattle.jwalk.specs.walk_model.Kept.{forgotten_entry, forgotten_item}
+use Rattle.jwalk.specs.walk_model.Walk.{whole_walk, stateless_job, stateless_walk}
+use Rattle.walk_model.proofs.KeptFacts.{metadata_changes_nothing_else}
 use Rattle.jwalk.specs.jwalk_core.Given.{counted_item}
 use Rattle.jwalk.specs.jwalk_callbacks.declared.size.Size.{Size}
 use Rattle.jwalk.specs.jwalk_callbacks.declared.size.Size.TheVariants.{Unasked, Len, Failed}
 use Rattle.jwalk.specs.jwalk_callbacks.WithSizes.{with_asked, counted_size, size_worth, sizing, job_sizing}
 use Rattle.jwalk.proofs.SizedWalks.{walks_are_sized}
-use Rattle.jwalk.specs.DirEntryIter.{TellsMemory}
 use Rattle.jwalk_usage.specs.declared.report.Usage.{Usage}
-use Rattle.jwalk_usage.specs.declared.report.UsageFault.{UsageFault}
-use Rattle.jwalk_usage.specs.declared.report.UsageFault.TheVariants.{TooMany, Memory}
 use Rattle.jwalk_usage.specs.Totals.{one_if, is_other, has_failed, length_in, entry_of, errors_of, bytes_of, totals}
-use Rattle.jwalk_usage.specs.Counts.{nothing, IsTooGreat}
-use Rattle.jwalk_usage.specs.Sized.{is_failure, length_of, errors_in, bytes_in, sized_totals, with_sized, CannotCountSize, TellsOfSize, AddsSizes, StopsAtSize, SizesAddUp}
+use Rattle.jwalk_usage.specs.Sized.{is_failure, length_of, errors_in, bytes_in, sized_totals, with_sized, SizesAddUp}
 use Rattle.jwalk_usage.proofs.TotalFacts.{by_numbers}
 use Rattle.jwalk_usage.proofs.StateFacts.{sum_same, same_type, same_totals}
-use Rattle.jwalk_usage.proofs.CountFacts.{yields_push, none_push}
 
 module _ {R : Type 0} (l : List (Item R Size)) (x : Item R Size) where
   -- the totals with one more answer
-  sized_push : sized_totals (l ++ x ∷ []) ≡ with_sized x (sized_totals l)
+  pub sized_push : sized_totals (l ++ x ∷ []) ≡ with_sized x (sized_totals l)
   sized_push = by_numbers _ _ _ _ _ _ _ _ _ _ _ _
       (sum_by_push (entry_of is_file) l x) (sum_by_push (entry_of is_dir) l x) (sum_by_push (entry_of is_symlink) l x) (sum_by_push (entry_of is_other) l x) (sum_by_push errors_in l x) (sum_by_push bytes_in l x)
-
-module _ {I C A R : Type 0} (next : I → Option (Result (DirEntry C A R Size) (Error A)) → I → Type 0) (start : I) where
-  -- Calls from the start yielded answers, and the usage is what they come to.
-  pub record SizedSoFar (now : I) (usage : Usage) : Type 0 where
-    pub answered : List (Result (DirEntry C A R Size) (Error A))
-    pub calls : Yields next start answered now
-    pub adds : AddsSizes answered usage
-
-  pub nothing_sized : (usage : Usage) → usage ≡ nothing → SizedSoFar start usage
-  nothing_sized usage is = subst (SizedSoFar start) (sym is) (record { answered = []; calls = refl; adds = record { none_refused = tt; totals = refl } })
-
-  -- one more answer
-  pub one_sized : (now then : I) (old new : Usage) (x : Result (DirEntry C A R Size) (Error A)) → SizedSoFar now old → next now (Some x) then → ¬ TellsMemory (item x) → new ≡ with_sized (item x) old → SizedSoFar then new
-  one_sized now then old new x so_far step not counted = record {
-    answered = so_far.answered ++ x ∷ [];
-    calls = yields_push next so_far.answered x start now then so_far.calls step;
-    adds = record {
-      none_refused = none_push so_far.answered x so_far.adds.none_refused not;
-      totals = counted ∙ ap (with_sized (item x)) so_far.adds.totals ∙ sym (sized_push (map item so_far.answered) (item x)) ∙ ap sized_totals (sym (map-append item so_far.answered (x ∷ [])));
-    };
-  }
-
-  -- why the last answer can't be counted, by the totals of all
-  tells_of : (now : I) (u : Usage) (x : Result (DirEntry C A R Size) (Error A)) (fault : UsageFault) (so_far : SizedSoFar now u) → CannotCountSize (item x) u fault → TellsOfSize (map item so_far.answered) (item x) fault
-  tells_of now u x TooMany so_far cannot = subst IsTooGreat (ap (with_sized (item x)) so_far.adds.totals ∙ sym (sized_push (map item so_far.answered) (item x))) cannot
-  tells_of now u x Memory so_far cannot = cannot
-
-  -- an answer that can't be counted
-  pub stops_at : (now then : I) (u : Usage) (x : Result (DirEntry C A R Size) (Error A)) (fault : UsageFault) → SizedSoFar now u → next now (Some x) then → CannotCountSize (item x) u fault → StopsAtSize next start fault
-  stops_at now then u x fault so_far step cannot = record {
-    answered = so_far.answered;
-    last = x;
-    end = then;
-    calls = (now, so_far.calls, step);
-    tells = tells_of now u x fault so_far cannot;
-  }
 
 -- what a state that counts as a size says
 abbrev counts_failed : Worth → Bool
@@ -153,34 +109,46 @@ module _ (fs : Functions) where
   length_asked (Ok m) = refl
   length_asked (Err kind) = refl
 
-  errors_if : (e : Entry Worth Worth) (b : Bool) → is_file e.file_type ≡ b → counted_errors (Ok (cond b (record e { client_state = counted_size (metadata_of fs e) }) e)) ≡ errors_of fs (Ok e)
+  errors_if : (e : Entry Worth Worth) (b : Bool) → is_file e.file_type ≡ b → counted_errors (Ok (cond b (record e { client_state = counted_size (metadata_of fs e) }) e)) ≡ errors_of fs (Ok (forgotten_entry e))
   errors_if e true is = rw (failed_asked (metadata_of fs e)) refl
   errors_if e false is = rw is refl
 
-  bytes_if : (e : Entry Worth Worth) (b : Bool) → is_file e.file_type ≡ b → counted_bytes (Ok (cond b (record e { client_state = counted_size (metadata_of fs e) }) e)) ≡ bytes_of fs (Ok e)
+  bytes_if : (e : Entry Worth Worth) (b : Bool) → is_file e.file_type ≡ b → counted_bytes (Ok (cond b (record e { client_state = counted_size (metadata_of fs e) }) e)) ≡ bytes_of fs (Ok (forgotten_entry e))
   bytes_if e true is = rw (length_asked (metadata_of fs e)) refl
   bytes_if e false is = rw is refl
 
-  errors_asked : (x : Item Worth Worth) → counted_errors (with_asked_size x) ≡ errors_of fs x
+  errors_asked : (x : Item Worth Worth) → counted_errors (with_asked_size x) ≡ errors_of fs (forgotten_item x)
   errors_asked (Ok e) = errors_if e (is_file e.file_type) refl
   errors_asked (Err f) = refl
 
-  bytes_asked : (x : Item Worth Worth) → counted_bytes (with_asked_size x) ≡ bytes_of fs x
+  bytes_asked : (x : Item Worth Worth) → counted_bytes (with_asked_size x) ≡ bytes_of fs (forgotten_item x)
   bytes_asked (Ok e) = bytes_if e (is_file e.file_type) refl
   bytes_asked (Err f) = refl
 
-  -- what is asked counts as the file system returns it
-  totals_asked : (l : List (Item Worth Worth)) → counted_totals (map with_asked_size l) ≡ totals fs l
-  totals_asked l = by_numbers _ _ _ _ _ _ _ _ _ _ _ _
-      (sum_same with_asked_size _ _ (type_asked is_file) l) (sum_same with_asked_size _ _ (type_asked is_dir) l) (sum_same with_asked_size _ _ (type_asked is_symlink) l) (sum_same with_asked_size _ _ (type_asked is_other) l)
-      (sum_same with_asked_size _ _ errors_asked l) (sum_same with_asked_size _ _ bytes_asked l)
+  type_forgotten : (is : FileType → Bool) (x : Item Worth Worth) → entry_of is (with_asked_size x) ≡ entry_of is (forgotten_item x)
+  type_forgotten is (Ok e) = type_asked is (Ok e)
+  type_forgotten is (Err f) = refl
 
--- a walk with sizes comes by them to the totals of the walk without a callback
-pub sized_whole : {B : Type 0} (fs : Functions) (options : Options) (root : List ℕ) (state : Worth) (sized : List (Item B Size)) → map (counted_item (sizing fs)) sized ≡ whole_walk (job_sizing fs options) root state → sized_totals sized ≡ totals fs (stateless_walk fs options root)
+  both_views : (f g : Item Worth Worth → ℕ) → ((x : Item Worth Worth) → f (with_asked_size x) ≡ g (forgotten_item x)) → (l : List (Item Worth Worth)) → sum_by f (map with_asked_size l) ≡ sum_by g (map forgotten_item l)
+  both_views f g each l = sum_same with_asked_size f (λ x. g (forgotten_item x)) each l ∙ sym (sum_same forgotten_item g (λ x. g (forgotten_item x)) (λ x. refl) l)
+
+  -- what is asked counts as the file system returns it
+  totals_asked : (l : List (Item Worth Worth)) → counted_totals (map with_asked_size l) ≡ totals fs (map forgotten_item l)
+  totals_asked l = by_numbers _ _ _ _ _ _ _ _ _ _ _ _
+      (both_views _ _ (type_forgotten is_file) l) (both_views _ _ (type_forgotten is_dir) l) (both_views _ _ (type_forgotten is_symlink) l) (both_views _ _ (type_forgotten is_other) l)
+      (both_views _ _ errors_asked l) (both_views _ _ bytes_asked l)
+
+-- a walk with no callback that keeps no metadata is the one that keeps some, once they are forgotten
+pub forgotten_walk : (fs : Functions) (options : Options) (root : List ℕ) → map forgotten_item (stateless_walk fs options root) ≡ stateless_walk fs (with_keep_metadata false options) root
+forgotten_walk fs options root = (metadata_changes_nothing_else (stateless_job fs options) (λ depth path state list. refl)).walks root blank
+
+-- a walk with sizes comes by them to the totals of the walk without a callback that keeps no metadata
+pub sized_whole : {B : Type 0} (fs : Functions) (options : Options) (root : List ℕ) (state : Worth) (sized : List (Item B Size)) → map (counted_item (sizing fs)) sized ≡ whole_walk (job_sizing fs options) root state → sized_totals sized ≡ totals fs (stateless_walk fs (with_keep_metadata false options) root)
 sized_whole fs options root state sized walked =
     sym (sized_counted fs sized)
     ∙ ap counted_totals (walked ∙ (walks_are_sized fs options root state).items)
     ∙ totals_asked fs (stateless_walk fs options root)
+    ∙ ap (totals fs) (forgotten_walk fs options root)
 
 pub sizes_add_up : {B R E : Type 0} → SizesAddUp B R E
 sizes_add_up fs options root state given sized plain walked unsized =

@@ -7,6 +7,7 @@ use Rattle.jwalk.specs.walk_model.FileSystem.{Functions}
 use Rattle.jwalk.specs.walk_model.Entry.{Item}
 use Rattle.jwalk.specs.jwalk_core.Given.{Given, counted_item}
 use Rattle.jwalk_usage.specs.Totals.{is_other, entry_of, errors_of, bytes_of, totals}
+use Rattle.jwalk_usage.specs.Kept.{errors_kept, bytes_kept, kept_totals}
 use Rattle.jwalk_usage.proofs.TotalFacts.{by_numbers}
 
 -- a sum over other items that count the same
@@ -34,3 +35,19 @@ module _ {R E : Type 0} (given : Given R E) where
       by_numbers _ _ _ _ _ _ _ _ _ _ _ _
       (sum_same view _ _ (same_type is_file) l) (sum_same view _ _ (same_type is_dir) l) (sum_same view _ _ (same_type is_symlink) l) (sum_same view _ _ (same_type is_other) l)
       (sum_same view _ _ (same_errors fs) l) (sum_same view _ _ (same_bytes fs) l)
+
+  same_kept_errors : (x : Item R E) → errors_kept (counted_item given x) ≡ errors_kept x
+  same_kept_errors (Err f) = refl
+  same_kept_errors (Ok e) = elim e.read_children as (λ o. errors_kept (counted_item given (Ok (record e { read_children = o }))) ≡ errors_kept {R = R} {E = E} (Ok (record e { read_children = o }))) [ None ↦ refl | Some c ↦ refl ]
+
+  same_kept_bytes : (x : Item R E) → bytes_kept (counted_item given x) ≡ bytes_kept x
+  same_kept_bytes (Err f) = refl
+  same_kept_bytes (Ok e) = refl
+
+  -- and so are those by the metadata that items keep
+  pub same_kept : (l : List (Item R E)) → kept_totals (map (counted_item given) l) ≡ kept_totals l
+  same_kept l =
+      let view = counted_item given in
+      by_numbers _ _ _ _ _ _ _ _ _ _ _ _
+      (sum_same view _ _ (same_type is_file) l) (sum_same view _ _ (same_type is_dir) l) (sum_same view _ _ (same_type is_symlink) l) (sum_same view _ _ (same_type is_other) l)
+      (sum_same view _ _ same_kept_errors l) (sum_same view _ _ same_kept_bytes l)

@@ -8,6 +8,7 @@ use Rattle.jwalk.specs.jwalk_core.declared.readers.Readers as Readers
 use Rattle.jwalk.specs.jwalk_core.declared.dir_entry_iter.DirEntryIter.{DirEntryIter}
 use Rattle.jwalk.specs.declared.walk_dir.WalkDirGeneric.{WalkDirGeneric}
 use Rattle.jwalk.specs.walk_model.FileSystem.{Functions}
+use Rattle.jwalk.specs.walk_model.Options.{with_keep_metadata}
 use Rattle.jwalk.specs.walk_model.Entry.{Item}
 use Rattle.jwalk.specs.walk_model.ReadDir.{Reading}
 use Rattle.jwalk.specs.walk_model.Counted.{Worth, blank}
@@ -49,9 +50,9 @@ module _ {C S P A L R E : Type 0} (files : FileSystem.Ghosts S) (process : Proce
   whole_counted walk it own starts begun steady fixed counts = counted_over files process clone defaults readers given (files.IsFixed fs) (files.functions fs) usage walk it (steady_start files process clone defaults readers given walk it own starts steady) starts begun steady fixed counts
 
 module _ {C S P A W L R : Type 0} (files : FileSystem.Ghosts S) (process : ProcessReadDir.Ghosts P C A R Size) (clone : Clone.Ghosts R) (defaults : Default.Ghosts Size) (readers : Readers.Ghosts L C S P A R Size) (walk : WalkDirGeneric C S P A W R Size) (it : DirEntryIter C S P A L R Size) (usage : Usage) where
-  -- The usage by sizes of a steady walk from its beginning, whose callback asks for the sizes that the walk's own file system gives, is the totals of the walk without a callback.
+  -- The usage by sizes of a steady walk from its beginning, whose callback asks for the sizes that the walk's own file system gives, is the totals of the walk that has no callback and keeps no metadata.
   pub whole_sized : IsSteadyWalk files process clone defaults readers it (sizing (files.functions (file_system_of walk))) → Starts walk it → IsRefused it ⊎ Holds files process clone defaults walk it → IsSteady files process clone defaults (file_system_of walk) (callback_of walk) (sizing (files.functions (file_system_of walk))) → CountsSizes (Answers files process clone defaults readers) it usage
-      → usage ≡ totals (files.functions (file_system_of walk)) (stateless_walk (files.functions (file_system_of walk)) (options_of walk) (root_of walk))
+      → usage ≡ totals (files.functions (file_system_of walk)) (stateless_walk (files.functions (file_system_of walk)) (with_keep_metadata false (options_of walk)) (root_of walk))
   whole_sized steadily starts begun steady (answered, drains, adds) =
       let fs = files.functions (file_system_of walk) in
       adds.totals

@@ -1,6 +1,6 @@
 -- How answers are counted, one after another.
 use Rattle.std.specs.Prelude.{◌≡◌, ◌≤◌, ◌+◌, ◌^◌, ℕ, max, true, List, [], ◌∷◌, ◌++◌, map, Option, Some, None, Result, Ok, Err, is_err}
-use Rattle.std.specs.List.{sum_by}
+use Rattle.std.specs.List.{sum_by, list_all}
 use Rattle.std.specs.Iterator.{Drains, YieldsThen}
 use Rattle.jwalk.specs.walk_model.declared.file_type.FileType.{FileType}
 use Rattle.jwalk.specs.walk_model.declared.metadata.Metadata.{Metadata}
@@ -14,7 +14,8 @@ use Rattle.jwalk.specs.DirEntryIter.{TellsMemory, NoneRefused}
 use Rattle.jwalk_usage.specs.declared.report.Usage.{Usage}
 use Rattle.jwalk_usage.specs.declared.report.UsageFault.{UsageFault}
 use Rattle.jwalk_usage.specs.declared.report.UsageFault.TheVariants.{TooMany, Memory}
-use Rattle.jwalk_usage.specs.Totals.{one_if, is_other, length_in, entry_of, errors_of, bytes_of, totals}
+use Rattle.jwalk_usage.specs.Totals.{one_if, is_other, length_in, entry_of, is_asked, errors_of, bytes_of, totals}
+use Rattle.jwalk_usage.specs.Kept.{is_known, kept_totals, with_kept}
 
 -- the usage of no answers
 abbrev pub nothing : Usage
@@ -67,27 +68,29 @@ module _ {R E : Type 0} where
     pub links : usage.links ≡ sum_by (entry_of is_symlink) l
     pub others : usage.others ≡ sum_by (entry_of is_other) l
 
-  -- Memory ran out: the answer says so, or it is a file, whose metadata was asked for.
+  -- Memory ran out: the answer says so, or it is a file that keeps no metadata, which was asked for.
   abbrev pub MayRunOut : Item R E → Type 0
-  MayRunOut (Ok e) = is_file e.file_type ≡ true
+  MayRunOut (Ok e) = is_asked e ≡ true
   MayRunOut (Err f) = TellsMemory {R = R} {E = E} (Err f)
 
-  -- Why one more answer can't be counted: over a fixed file system a number gets too great with it, or memory ran out.
+  -- Why one more answer can't be counted: a number gets too great with it, over a fixed file system or if it is no file to be asked, or memory ran out.
   abbrev pub CannotCount : Type 0 → Functions → Item R E → Usage → UsageFault → Type 0
-  CannotCount fixed fs x u TooMany = fixed → IsTooGreat (with_one fs x u)
+  CannotCount fixed fs x u TooMany = (fixed → IsTooGreat (with_one fs x u)) × (is_known x ≡ true → IsTooGreat (with_kept x u))
   CannotCount fixed fs x u Memory = MayRunOut x
 
-  -- Why the last of these answers can't be counted: over a fixed file system a number of their totals is too great, or memory ran out.
+  -- Why the last of these answers can't be counted: a number of their totals is too great, over a fixed file system or if every file keeps its metadata, or memory ran out.
   abbrev pub TellsOfLast : Type 0 → Functions → List (Item R E) → Item R E → UsageFault → Type 0
-  TellsOfLast fixed fs l last TooMany = fixed → IsTooGreat (totals fs (l ++ last ∷ []))
+  TellsOfLast fixed fs l last TooMany =
+      (fixed → IsTooGreat (totals fs (l ++ last ∷ []))) × (list_all is_known (l ++ last ∷ []) ≡ true → IsTooGreat (kept_totals (l ++ last ∷ [])))
   TellsOfLast fixed fs l last Memory = MayRunOut last
 
 module _ {C A R E : Type 0} (fixed : Type 0) (fs : Functions) where
-  -- None of the answers reports that memory ran out, and the usage is what they come to: by their types whatever the file system returns, and all of it over a fixed one.
+  -- None of the answers reports that memory ran out, and the usage is what they come to: by their types whatever the file system returns, and all of it over a fixed one, or if every file keeps its metadata.
   pub record Counts (answered : List (Result (DirEntry C A R E) (Error A))) (usage : Usage) : Type 0 where
     pub none_refused : NoneRefused answered
     pub types : CountsTypes (map item answered) usage
     pub totals : fixed → usage ≡ totals fs (map item answered)
+    pub kept : list_all is_known (map item answered) ≡ true → usage ≡ kept_totals (map item answered)
 
 module _ {I C A R E : Type 0} (next : I → Option (Result (DirEntry C A R E) (Error A)) → I → Type 0) (fixed : Type 0) (fs : Functions) where
   -- Calls from the start yielded answers and then `None`, which left the iterator so, and the usage is what the answers come to.

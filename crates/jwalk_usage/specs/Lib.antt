@@ -1,4 +1,6 @@
 pub mod Totals
+pub mod Kept
 pub mod Counts
+pub mod ByAnswers
 pub mod Rows
 pub mod Sized

@@ -1,26 +1,22 @@
 -- How answers are counted that have the sizes of files in their states.
-use Rattle.std.specs.Prelude.{◌≡◌, ℕ, ◌+◌, Bool, true, false, ◌&&◌, List, [], ◌∷◌, ◌++◌, map, Option, Some, None, Result, Ok, Err, if◌then◌else◌}
+use Rattle.std.specs.Prelude.{◌≡◌, ℕ, ◌+◌, Bool, true, false, ◌&&◌, List, map, Option, Result, Ok, Err, if◌then◌else◌}
 use Rattle.std.specs.List.{sum_by}
-use Rattle.std.specs.Iterator.{Drains, YieldsThen}
 use Rattle.jwalk.specs.walk_model.FileType.{is_dir, is_file, is_symlink}
 use Rattle.jwalk.specs.walk_model.FileSystem.{Functions}
-use Rattle.jwalk.specs.walk_model.Options.{Options}
+use Rattle.jwalk.specs.walk_model.Options.{Options, with_keep_metadata}
 use Rattle.jwalk.specs.walk_model.Entry.{Item}
 use Rattle.jwalk.specs.walk_model.Counted.{Worth}
 use Rattle.jwalk.specs.walk_model.Walk.{whole_walk, stateless_walk}
 use Rattle.jwalk.specs.jwalk_core.declared.dir_entry.DirEntry.{DirEntry}
 use Rattle.jwalk.specs.jwalk_core.declared.error.Error.{Error}
-use Rattle.jwalk.specs.jwalk_core.Entry.{item}
 use Rattle.jwalk.specs.jwalk_core.Given.{Given, counted_item}
 use Rattle.jwalk.specs.jwalk_callbacks.declared.size.Size.{Size}
 use Rattle.jwalk.specs.jwalk_callbacks.declared.size.Size.TheVariants.{Unasked, Len, Failed}
 use Rattle.jwalk.specs.jwalk_callbacks.WithSizes.{sizing, job_sizing}
-use Rattle.jwalk.specs.DirEntryIter.{TellsMemory, NoneRefused}
 use Rattle.jwalk_usage.specs.declared.report.Usage.{Usage}
 use Rattle.jwalk_usage.specs.declared.report.UsageFault.{UsageFault}
-use Rattle.jwalk_usage.specs.declared.report.UsageFault.TheVariants.{TooMany, Memory}
 use Rattle.jwalk_usage.specs.Totals.{one_if, is_other, has_failed, entry_of, totals}
-use Rattle.jwalk_usage.specs.Counts.{IsTooGreat}
+use Rattle.jwalk_usage.specs.ByAnswers.{AddsRest, AddsAll, StopsAdding}
 
 -- whether a size is the error of asking for it
 abbrev pub is_failure : Size → Bool
@@ -71,42 +67,22 @@ module _ {R : Type 0} where
     bytes = u.bytes + bytes_in x;
   }
 
-  -- Why one more answer can't be counted: a number gets too great with it, or it says that memory ran out.
-  abbrev pub CannotCountSize : Item R Size → Usage → UsageFault → Type 0
-  CannotCountSize x u TooMany = IsTooGreat (with_sized x u)
-  CannotCountSize x u Memory = TellsMemory x
-
-  -- Why the last of these answers can't be counted.
-  abbrev pub TellsOfSize : List (Item R Size) → Item R Size → UsageFault → Type 0
-  TellsOfSize l last TooMany = IsTooGreat (sized_totals (l ++ last ∷ []))
-  TellsOfSize l last Memory = TellsMemory last
-
-module _ {C A R : Type 0} where
-  -- None of the answers reports that memory ran out, and the usage is what they come to by their sizes.
-  pub record AddsSizes (answered : List (Result (DirEntry C A R Size) (Error A))) (usage : Usage) : Type 0 where
-    pub none_refused : NoneRefused answered
-    pub totals : usage ≡ sized_totals (map item answered)
-
 module _ {I C A R : Type 0} (next : I → Option (Result (DirEntry C A R Size) (Error A)) → I → Type 0) where
-  -- Calls from the start yielded answers and then `None`, which left the iterator so, and the usage is what the answers come to.
+  -- Calls from the start yielded answers and then `None`, which left the iterator so, and the usage is what the answers come to by their sizes.
   abbrev pub CountsSizesRest : I → I → Usage → Type 0
-  CountsSizesRest start end usage = (answered : List (Result (DirEntry C A R Size) (Error A))) × YieldsThen next start answered None end × AddsSizes answered usage
+  CountsSizesRest = AddsRest sized_totals next
 
   -- the same, wherever the iterator was left
   abbrev pub CountsSizes : I → Usage → Type 0
-  CountsSizes start usage = (answered : List (Result (DirEntry C A R Size) (Error A))) × Drains next start answered × AddsSizes answered usage
+  CountsSizes = AddsAll sized_totals next
 
   -- Calls from the start yielded answers up to one that can't be counted, and this is why.
-  pub record StopsAtSize (start : I) (fault : UsageFault) : Type 0 where
-    pub answered : List (Result (DirEntry C A R Size) (Error A))
-    pub last : Result (DirEntry C A R Size) (Error A)
-    pub end : I
-    pub calls : YieldsThen next start answered (Some last) end
-    pub tells : TellsOfSize (map item answered) (item last) fault
+  abbrev pub StopsAtSize : I → UsageFault → Type 0
+  StopsAtSize = StopsAdding sized_totals next
 
--- Over one fixed file system, from one root and by one set of options, what a walk with sizes yields comes to the same by these as what a walk without a callback yields does by the file system.
+-- Over one fixed file system, from one root and by one set of options, what a walk with sizes yields comes to the same by these as what a walk that has no callback and keeps no metadata yields does by the file system.
 abbrev pub SizesAddUp : Type 0 → Type 0 → Type 0 → Type 0
 SizesAddUp B R E = (fs : Functions) (options : Options) (root : List ℕ) (state : Worth) (given : Given R E) (sized : List (Item B Size)) (plain : List (Item R E))
     → map (counted_item (sizing fs)) sized ≡ whole_walk (job_sizing fs options) root state
-    → map (counted_item given) plain ≡ stateless_walk fs options root
+    → map (counted_item given) plain ≡ stateless_walk fs (with_keep_metadata false options) root
     → sized_totals sized ≡ totals fs plain

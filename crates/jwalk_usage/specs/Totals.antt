@@ -1,12 +1,14 @@
 -- What a list of answers comes to.
-use Rattle.std.specs.Prelude.{ℕ, ◌+◌, Bool, false, not, ◌&&◌, ◌||◌, List, ◌++◌, codes, decimal, Option, None, Some, Result, Ok, Err, is_some, is_err, if◌then◌else◌}
+use Rattle.std.specs.Prelude.{ℕ, ◌+◌, Bool, false, not, ◌&&◌, ◌||◌, List, ◌++◌, codes, decimal, Option, None, Some, option_map, unwrap_or, Result, Ok, Err, is_some, is_err, if◌then◌else◌}
+use Rattle.std.specs.Option.{is_none}
+use Rattle.std.specs.declared.io.ErrorKind.{ErrorKind}
 use Rattle.std.specs.List.{sum_by}
 use Rattle.jwalk.specs.walk_model.declared.file_type.FileType.{FileType}
 use Rattle.jwalk.specs.walk_model.declared.metadata.Metadata.{Metadata}
 use Rattle.jwalk.specs.walk_model.FileType.{is_dir, is_file, is_symlink}
 use Rattle.jwalk.specs.walk_model.Metadata.{len_of}
 use Rattle.jwalk.specs.walk_model.FileSystem.{Functions}
-use Rattle.jwalk.specs.walk_model.Entry.{Children, Item, metadata_of}
+use Rattle.jwalk.specs.walk_model.Entry.{Children, Entry, Item, metadata_of}
 use Rattle.jwalk_usage.specs.declared.report.Usage.{Usage}
 use Rattle.jwalk_usage.specs.declared.report.UsageFault.{UsageFault}
 use Rattle.jwalk_usage.specs.declared.report.UsageFault.TheVariants.{TooMany, Memory}
@@ -35,14 +37,22 @@ module _ {R E : Type 0} where
   entry_of is (Ok e) = one_if (is e.file_type)
   entry_of is (Err f) = 0
 
+  -- an entry's metadata: what it keeps, and what the file system returns if it keeps none
+  abbrev pub known_metadata : Functions → Entry R E → Result Metadata ErrorKind
+  known_metadata fs e = unwrap_or (option_map Ok e.seen) (metadata_of fs e)
+
+  -- whether the file system is asked for an entry's metadata: it is a file that keeps none
+  abbrev pub is_asked : Entry R E → Bool
+  is_asked e = is_file e.file_type && is_none e.seen
+
   -- the errors of an answer: itself, or that of the directory below an entry, or that of a file's metadata
   abbrev pub errors_of : Functions → Item R E → ℕ
-  errors_of fs (Ok e) = one_if (has_failed e.read_children) + one_if (is_file e.file_type && is_err (metadata_of fs e))
+  errors_of fs (Ok e) = one_if (has_failed e.read_children) + one_if (is_file e.file_type && is_err (known_metadata fs e))
   errors_of fs (Err f) = 1
 
   -- the bytes of an answer: the length of a file
   abbrev pub bytes_of : Functions → Item R E → ℕ
-  bytes_of fs (Ok e) = if is_file e.file_type then length_in (metadata_of fs e) else 0
+  bytes_of fs (Ok e) = if is_file e.file_type then length_in (known_metadata fs e) else 0
   bytes_of fs (Err f) = 0
 
   -- the totals of a list of answers over a fixed file system

@@ -1,7 +1,8 @@
 //! One answer after another, counted.
 ghost use Rattle.std.specs.Prelude.{◌≡◌, option_map};
-ghost use Rattle.jwalk.specs.jwalk_core.Entry.{children};
-ghost use Rattle.jwalk_usage.specs.Totals.{has_failed};
+ghost use Rattle.jwalk.specs.jwalk_core.Entry.{children, entry};
+ghost use Rattle.jwalk_usage.specs.Totals.{has_failed, is_asked};
+ghost use Rattle.jwalk_usage.specs.Kept.{length_kept};
 
 use crate::report::{Usage, UsageFault};
 use crate::sums::plus;
@@ -23,13 +24,31 @@ pub(crate) fn has_failed<C: ClientState, A: Allocator + Copy>(
     }
 }
 
+/// Returns whether an entry is a file that keeps no metadata, which is asked for.
+fn is_asked<C: ClientState, A: Allocator + Copy>(found: &DirEntry<C, A>) -> bool
+    ensures { result ≡ is_asked (entry found.now) }
+{
+    found.file_type().is_file() && found.metadata_seen().is_none()
+}
+
+/// Returns the length in the metadata that an entry keeps, and 0 if it keeps none.
+fn length_kept<C: ClientState, A: Allocator + Copy>(found: &DirEntry<C, A>) -> u128
+    ensures { result ≡ length_kept (entry found.now).seen }
+{
+    match found.metadata_seen() {
+        Some(metadata) => metadata.len() as u128,
+        None => 0,
+    }
+}
+
 impl Usage {
-    ghost use Rattle.std.specs.Prelude.{◌≡◌, ◌≤◌, ◌+◌, ◌^◌, ◌⊎◌, Ok, Err, IfErr, OnOk};
+    ghost use Rattle.std.specs.Prelude.{◌≡◌, ◌≤◌, ◌+◌, ◌^◌, ◌⊎◌, true, Ok, Err, IfErr, OnOk};
     ghost use Rattle.jwalk.specs.walk_model.Error.{memory};
     ghost use Rattle.jwalk.specs.jwalk_core.Entry.{entry, item};
     ghost use Rattle.jwalk.specs.jwalk_core.Error.{failure};
     ghost use Rattle.jwalk.specs.DirEntryIter.{TellsMemory};
     ghost use Rattle.jwalk_usage.specs.Counts.{nothing, with_type, with_length, with_one, CountsType, IsTooGreat, CannotCount};
+    ghost use Rattle.jwalk_usage.specs.Kept.{is_known, with_kept};
 
     /// Returns the usage of no answers.
     pub(crate) fn nothing() -> Self
@@ -95,7 +114,27 @@ impl Usage {
         }
     }
 
-    /// Counts an entry by its type, the error of a directory, and the bytes of a file.
+    /// Counts an entry by its type, the error of a directory, and the bytes that a file keeps.
+    pub(crate) fn add_kept_entry<C: ClientState, A: Allocator + Copy>(
+        &mut self,
+        found: &DirEntry<C, A>,
+    ) -> Result<(), UsageFault>
+        ensures counted { OnOk result (self.new ≡ with_kept (Ok (entry found.now)) self.old) }
+        ensures too_many { IfErr result (λ fault. (fault ≡ UsageFault.TooMany)
+            × IsTooGreat (with_kept (Ok (entry found.now)) self.old)) }
+    {
+        self.add_type(found.file_type())?;
+        if has_failed(&found.read_children) {
+            self.errors = plus(self.errors, 1)?;
+        }
+        if found.file_type().is_file() {
+            self.bytes = plus(self.bytes, length_kept(found))?;
+        }
+        Ok(())
+    }
+
+    /// Counts an entry by its type, the error of a directory, and the bytes of a file, which is asked if it keeps none.
+    #[tactic(auto, using(crate::proofs::AskedFacts::counted_as_asked, crate::proofs::AskedFacts::counted_as_known, crate::proofs::AskedFacts::too_great_asked))]
     fn add_entry<S: FileSystem, C: ClientState, A: Allocator + Copy>(
         &mut self,
         fs: &S,
@@ -103,15 +142,14 @@ impl Usage {
     ) -> Result<(), UsageFault>
         ensures counted { OnOk result (S.IsFixed fs.now
             → self.new ≡ with_one (S.functions fs.now) (Ok (entry found.now)) self.old) }
+        ensures kept { OnOk result (is_known (Ok (entry found.now)) ≡ true
+            → self.new ≡ with_kept (Ok (entry found.now)) self.old) }
         ensures types { OnOk result (CountsType (Ok (entry found.now)) self.old self.new) }
         ensures faults { IfErr result (CannotCount (S.IsFixed fs.now) (S.functions fs.now)
             (Ok (entry found.now)) self.old) }
     {
-        self.add_type(found.file_type())?;
-        if has_failed(&found.read_children) {
-            self.errors = plus(self.errors, 1)?;
-        }
-        if found.file_type().is_file() {
+        self.add_kept_entry(found)?;
+        if is_asked(found) {
             self.add_length(found.metadata(fs))?;
         }
         Ok(())
@@ -125,6 +163,7 @@ impl Usage {
     ) -> Result<(), UsageFault>
         ensures counted { OnOk result (S.IsFixed fs.now
             → self.new ≡ with_one (S.functions fs.now) (item answer) self.old) }
+        ensures kept { OnOk result (is_known (item answer) ≡ true → self.new ≡ with_kept (item answer) self.old) }
         ensures types { OnOk result (CountsType (item answer) self.old self.new) }
         ensures told { OnOk result (¬ TellsMemory (item answer)) }
         ensures faults { IfErr result (CannotCount (S.IsFixed fs.now) (S.functions fs.now)

@@ -12,6 +12,7 @@ ghost use Rattle.std.specs.Iterator.{IsFinite};
 ghost use Rattle.jwalk_usage.specs.Counts.{CountsAll, CountsRest, StopsCounting};
 
 mod counting;
+pub mod kept;
 pub mod report;
 pub mod sized;
 pub mod sums;
@@ -19,6 +20,7 @@ pub mod sums;
 use jwalk::error::Result as Answer;
 use jwalk::file_system::FileSystem;
 use jwalk::{ClientState, DirEntry};
+pub use kept::{usage_kept, usage_kept_of_rest};
 pub use report::{Usage, UsageFault};
 pub use sized::{usage_sized, usage_sized_of_rest};
 use std::alloc::Allocator;
@@ -27,15 +29,15 @@ use std::alloc::Allocator;
 /// iterator that ends.
 ///
 /// An entry counts once, by its type. An error counts as one. So does the error of a directory that could not be read,
-/// which is in its entry, and that of a file whose metadata can't be read. The bytes are those of the files: the file
-/// system is asked for the metadata of each entry that is a file, once.
+/// which is in its entry, and that of a file whose metadata can't be read. The bytes are those of the files. The length of
+/// a file that keeps its metadata is known, and nothing is asked. For each other file the file system is asked once.
 ///
 /// Over a crew the call may block, as the calls of the walk do.
 ///
 /// # Errors
 ///
 /// `UsageFault::TooMany` if a number passes the greatest `u128`. `UsageFault::Memory` if an answer reports that memory
-/// ran out, or if memory runs out for a file's metadata. No further answer is taken then.
+/// ran out, or if memory runs out for the metadata of a file that is asked. No further answer is taken then.
 pub fn usage<
     S: FileSystem,
     C: ClientState,

@@ -17,7 +17,8 @@ impl Usage {
     ghost use Rattle.jwalk.specs.jwalk_core.Entry.{entry, item};
     ghost use Rattle.jwalk.specs.DirEntryIter.{TellsMemory};
     ghost use Rattle.jwalk_usage.specs.Counts.{IsTooGreat};
-    ghost use Rattle.jwalk_usage.specs.Sized.{with_size, with_sized, CannotCountSize};
+    ghost use Rattle.jwalk_usage.specs.ByAnswers.{CannotAdd};
+    ghost use Rattle.jwalk_usage.specs.Sized.{with_size, with_sized};
 
     /// Counts the size of a file, or the error in its place.
     fn add_size(&mut self, size: Size) -> Result<(), UsageFault>
@@ -59,7 +60,7 @@ impl Usage {
     ) -> Result<(), UsageFault>
         ensures counted { OnOk result (self.new ≡ with_sized (item answer) self.old) }
         ensures told { OnOk result (¬ TellsMemory (item answer)) }
-        ensures faults { IfErr result (CannotCountSize (item answer) self.old) }
+        ensures faults { IfErr result (CannotAdd (with_sized (item answer) self.old) (item answer)) }
     {
         match answer {
             Ok(found) => self.add_sized_entry(&found),
@@ -113,8 +114,8 @@ pub fn usage_sized_of_rest<
     Ok(usage)
 }
 
-/// Over one fixed file system, a walk with `WithSizes` comes to the same by its sizes as the walk without it does by
-/// what the file system returns.
+/// Over one fixed file system, a walk with `WithSizes` comes to the same by its sizes as the walk that has no
+/// callback and keeps no metadata does by what the file system returns.
 pub fn sizes_add_up<B, R, E>()
     ensures { SizesAddUp B R E }
 {}

@@ -15,7 +15,7 @@ loop-answer-preserved g c =
     record {
       can = on.0;
       ends = on.1;
-      so_far = one_counted _ _ _ _ c.loop-answer.answers c.next.new.self c.loop-answer.usage c.add.new.self c.in-Some.answer c.loop-answer.invariant.so_far c.in-Some.ensures.steps counted.told counted.types counted.counted;
+      so_far = one_counted _ _ _ _ c.loop-answer.answers c.next.new.self c.loop-answer.usage c.add.new.self c.in-Some.answer c.loop-answer.invariant.so_far c.in-Some.ensures.steps counted.told counted.types counted.counted counted.kept;
     }
 
 pub returns-in_err-add-clause-faults : goal.returns-in_err-add-clause-faults

@@ -1,12 +1,14 @@
+use Rattle.jwalk_usage.specs.Sized.{sized_totals, with_sized}
+use Rattle.jwalk_usage.proofs.SizedFacts.{sized_push}
+use Rattle.jwalk_usage.proofs.AddFacts.{nothing_added, one_added, stops_adding}
 use Rattle.jwalk_usage.proofs.CountFacts.{told_by}
-use Rattle.jwalk_usage.proofs.SizedFacts.{nothing_sized, one_sized, stops_at}
 use Rattle.jwalk_usage.proofs.sized.usage_sized_of_rest.Goals as goal
 
 pub loop-answer-init : goal.loop-answer-init
 loop-answer-init g c = record {
   can = c.requires.can;
   ends = c.requires.ends;
-  so_far = nothing_sized _ _ c.nothing-usage.result c.nothing-usage.ensures;
+  so_far = nothing_added sized_totals with_sized sized_push _ _ c.nothing-usage.result c.nothing-usage.ensures;
 }
 
 pub loop-answer-preserved : goal.loop-answer-preserved
@@ -16,10 +18,10 @@ loop-answer-preserved g c =
     record {
       can = on.0;
       ends = on.1;
-      so_far = one_sized _ _ c.loop-answer.answers c.next.new.self c.loop-answer.usage c.add_sized.new.self c.in-Some.answer c.loop-answer.invariant.so_far c.in-Some.ensures.steps counted.told counted.counted;
+      so_far = one_added sized_totals with_sized sized_push _ _ c.loop-answer.answers c.next.new.self c.loop-answer.usage c.add_sized.new.self c.in-Some.answer c.loop-answer.invariant.so_far c.in-Some.ensures.steps counted.told counted.counted;
     }
 
 pub returns-in_err-add_sized-clause-faults : goal.returns-in_err-add_sized-clause-faults
 returns-in_err-add_sized-clause-faults g c =
-    let stopped = stops_at _ _ c.loop-answer.answers c.next.new.self c.loop-answer.usage c.in-Some.answer c.in_err-add_sized.field-0.0 c.loop-answer.invariant.so_far c.in-Some.ensures.steps c.in_err-add_sized.ensures.faults in
+    let stopped = stops_adding sized_totals with_sized sized_push _ _ c.loop-answer.answers c.next.new.self c.loop-answer.usage c.in-Some.answer c.in_err-add_sized.field-0.0 c.loop-answer.invariant.so_far c.in-Some.ensures.steps c.in_err-add_sized.ensures.faults in
     told_by c.from_residual.result c.in_err-add_sized.field-0.0 _ c.from_residual.ensures.1 stopped
