@@ -1,6 +1,6 @@
 -- What the options of a call ask for.
 use Rattle.std.specs.Prelude.{true, false, not, Option, Some, None, is_some, if◌then◌else◌}
-use Rattle.walk_model.specs.Options.{Parallelism, crew, Options, defaults, with_sort, with_skip_hidden, with_follow_links, with_min_depth, with_max_depth, with_parallelism}
+use Rattle.walk_model.specs.Options.{Parallelism, crew, Options, defaults, with_sort, with_skip_hidden, with_follow_links, with_keep_metadata, with_min_depth, with_max_depth, with_parallelism}
 use Rattle.jwalk_core.specs.Options.{mode_value}
 use Rattle.jwalk_core.specs.declared.mode.Mode.TheVariants.{Batches}
 use Rattle.walk_text.specs.declared.asked.Asked.{Asked}
@@ -38,7 +38,7 @@ parallelism_by (Crew workers) = crew
 abbrev pub with_read_by : ReadBy → Options → Options
 with_read_by by = with_parallelism (parallelism_by by)
 
--- the options of the walk that is asked for, by the builder's steps one after another
+-- the options of the walk that is asked for, by the builder's steps one after another: metadata is kept for totals
 abbrev pub options_for : Asked → Options
 options_for asked =
-    where_named with_read_by asked.read_by (where_named with_max_depth asked.max (where_named with_min_depth asked.min (with_follow_links asked.follow (with_skip_hidden (not asked.hidden) (with_sort asked.sort defaults)))))
+    where_named with_read_by asked.read_by (where_named with_max_depth asked.max (where_named with_min_depth asked.min (with_keep_metadata asked.usage (with_follow_links asked.follow (with_skip_hidden (not asked.hidden) (with_sort asked.sort defaults))))))
