@@ -8,6 +8,7 @@ use std::sync::Arc;
 use std::thread::Threads;
 use walk_fixtures::answers::Answer;
 use walk_fixtures::host::Host;
+use walk_fixtures::meeting::{Meeting, Place};
 use walk_fixtures::trees::{GROUPED, Step, tree};
 use walk_fixtures::watched::{Failing, Watched};
 use walk_ways::ways::{Asked, Setting, WAYS, Way};
@@ -83,13 +84,18 @@ fn files_with_their_sizes(rt: HostRuntime) {
     }
 }
 
-/// The sizes that a crew of two workers finds.
-fn sized_by_crew<R: Host>(rt: &R, fs: MemoryFs, root: &str) -> Result<String, AllocError> {
+/// The sizes that a crew of that many workers finds.
+fn sized_by_crew<R: Host, S: FileSystem + Send + Sync + 'static>(
+    rt: &R,
+    fs: S,
+    root: &str,
+    workers: usize,
+) -> Result<String, AllocError> {
     let alloc = rt.alloc();
     let root = String::from_str(alloc, root)?;
     let fs = Arc::new(alloc, fs)?;
     let by_crew = Parallelism::RayonExistingPool {
-        pool: Arc::new(alloc, Crew::new(rt.clone()?, 1, 2))?,
+        pool: Arc::new(alloc, Crew::new(rt.clone()?, 1, workers))?,
         busy_timeout: None,
     };
     // begin with-sizes
@@ -108,12 +114,29 @@ fn sized_by_crew<R: Host>(rt: &R, fs: MemoryFs, root: &str) -> Result<String, Al
 /// Whether they are those of the grouped tree.
 fn is_sized_by_crew<R: Host>(rt: &R) -> Result<bool, BuildError> {
     let fs = tree(rt.alloc(), GROUPED)?;
-    Ok(sized_by_crew(rt, fs, "/t")?.as_str() == GROUPED_SIZES)
+    Ok(sized_by_crew(rt, fs, "/t", 2)?.as_str() == GROUPED_SIZES)
 }
 
 #[test]
 fn files_that_a_crew_asks_for_their_sizes(rt: HostRuntime) {
     assert!(rt; matches!(is_sized_by_crew(&rt), Ok(true)));
+}
+
+// Where the thread that takes the answers asks for sizes, the first of the two files is an error.
+#[test]
+fn two_workers_ask_for_sizes_at_the_same_time(rt: HostRuntime) -> Result<(), AllocError> {
+    let disk = Meeting::new(rt.clone()?, Place::Looks, 5_000);
+    let sizes = sized_by_crew(&rt, disk, "/r", 2)?;
+    assert_eq!(rt; sizes.as_str(), "/r -; /r/a -; /r/a/f 3; /r/b -; /r/b/f 4; ");
+    Ok(())
+}
+
+#[test]
+fn one_worker_asks_for_one_size_at_a_time(rt: HostRuntime) -> Result<(), AllocError> {
+    let disk = Meeting::new(rt.clone()?, Place::Looks, 20);
+    let sizes = sized_by_crew(&rt, disk, "/r", 1)?;
+    assert_eq!(rt; sizes.as_str(), "/r -; /r/a -; /r/a/f Other; /r/b -; /r/b/f 4; ");
+    Ok(())
 }
 
 /// Whether these are the sizes if the walk of a root asks its own tree.

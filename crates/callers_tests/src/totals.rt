@@ -3,7 +3,7 @@ use jwalk::WalkDirGeneric;
 use jwalk::file_system::{BuildError, FileSystem, MemoryFs};
 use jwalk::read_dir::{Size, WithSizes};
 use jwalk_usage::sums::plus;
-use jwalk_usage::{Usage, UsageFault, usage, usage_of_rest, usage_sized};
+use jwalk_usage::{Usage, UsageFault, usage, usage_kept, usage_of_rest, usage_sized};
 use linked_list_allocator::LocalHeap;
 use proved_walk::totals::{totals_of_both, totals_of_walk};
 use std::alloc::{AllocError, Allocator, Global};
@@ -35,6 +35,10 @@ enum Asking {
     Counted,
     /// By the callback `WithSizes`, when their directory is read.
     Read,
+    /// Not at all: their entries keep what the listing of their directory said.
+    Kept,
+    /// By `usage`, which asks none that keeps its metadata.
+    KeptAndCounted,
 }
 
 /// The totals of a walk over a file system from `/t`, where another is asked for sizes.
@@ -54,6 +58,14 @@ fn totals_by<S: FileSystem, F: FileSystem, A: Allocator + Copy>(
             let walk = WalkDirGeneric::<((), Size), _, _, _>::new(fs, root);
             let walk = walk.process_read_dir(WithSizes::new(asked));
             Ok(usage_sized(walk.into_iter()))
+        }
+        Asking::Kept => {
+            let walk = WalkDirGeneric::<((), ()), _, _, _>::new(fs, root);
+            Ok(usage_kept(walk.keep_metadata(true).into_iter()))
+        }
+        Asking::KeptAndCounted => {
+            let walk = WalkDirGeneric::<((), ()), _, _, _>::new(fs, root);
+            Ok(usage(asked, walk.keep_metadata(true).into_iter()))
         }
     }
 }
@@ -148,6 +160,19 @@ fn counts_missing_files(alloc: Global) -> Result<bool, BuildError> {
 #[test]
 fn files_without_metadata_are_errors(rt: HostRuntime) {
     assert!(rt; matches!(counts_missing_files(rt.alloc()), Ok(true)));
+}
+
+/// Whether the totals are those of the grouped tree where its entries keep metadata, though no file is found any more.
+fn counts_kept_files(alloc: Global) -> Result<bool, BuildError> {
+    let fs = tree(alloc, GROUPED)?;
+    let one = totals_by(alloc, &fs, &MemoryFs::new(alloc), Asking::Kept)?;
+    let other = totals_by(alloc, &fs, &MemoryFs::new(alloc), Asking::KeptAndCounted)?;
+    Ok(one == Ok(WHOLE) && other == Ok(WHOLE))
+}
+
+#[test]
+fn files_that_keep_metadata_are_not_asked(rt: HostRuntime) {
+    assert!(rt; matches!(counts_kept_files(rt.alloc()), Ok(true)));
 }
 
 /// Whether an iterator that is lent is left where the counting ended: behind the error that says that memory ran out.
