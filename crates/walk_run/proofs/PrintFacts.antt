@@ -33,6 +33,6 @@ module _ {S C A R E : Type 0} (steps : S → Option (Result (DirEntry C A R E) (
   }
 
   -- the last call, and what is left is written
-  pub all_printed : (now end : S) (old mid new : Option (List ℕ)) (gathered : List ℕ) (clean : Bool) → PrintsSoFar now old (append_known mid gathered) clean → steps now None end → Appends mid new gathered → PrintsAll steps start old new clean
+  pub all_printed : (now end : S) (old mid new : Option (List ℕ)) (gathered : List ℕ) (clean : Bool) → PrintsSoFar now old (append_known mid gathered) clean → steps now None end → Appends mid new gathered → PrintsAll lines_of steps start old new clean
   all_printed now end old mid new gathered clean so_far step rest =
       (so_far.answered, (end, (now, so_far.calls, step)), so_far.all, rest_written old mid new gathered (lines_of (map item so_far.answered)) so_far.lines rest)

@@ -12,7 +12,7 @@ never_zero Memory is = absurd cc
 never_zero TooMany is = absurd cc
 never_zero Output is = absurd cc
 
--- three facts about a result make another
-pub ok_three : {X Y : Type 0} (r : Result X Y) (P Q S T : X → Type 0) → IfOk r P → IfOk r Q → IfOk r S → ((x : X) → P x → Q x → S x → T x) → IfOk r T
-ok_three (Ok x) P Q S T first second third make = make x first second third
-ok_three (Err e) P Q S T first second third make = tt
+-- two facts about a result make another
+pub ok_two : {X Y : Type 0} (r : Result X Y) (P Q S : X → Type 0) → IfOk r P → IfOk r Q → ((x : X) → P x → Q x → S x) → IfOk r S
+ok_two (Ok x) P Q S first second make = make x first second
+ok_two (Err e) P Q S first second make = tt

@@ -22,20 +22,20 @@ use Rattle.walk_text.specs.Asked.{options_for}
 use Rattle.walk_run.specs.Answers.{PrintsAll}
 use Rattle.walk_run.specs.Totals.{totals_line}
 
--- all that a walk from a root yields, as is asked for, over a file system that always returns the same
+-- all that a walk from a root yields, as is asked for, over a file system that always returns the same; for totals its entries keep their metadata
 abbrev pub answers_over : Functions → Asked → List ℕ → List (Item Worth Worth)
 answers_over fs asked root = stateless_walk fs (options_for asked) root
 
 -- what is written of all answers: the line of their totals if that is asked for, and a line for each otherwise
-abbrev pub written : Functions → Asked → List (Item Worth Worth) → List ℕ
-written fs asked l = if asked.usage then totals_line fs l else lines_of l
+abbrev pub written : {R E : Type 0} → Asked → List (Item R E) → List ℕ
+written asked l = if asked.usage then totals_line l else lines_of l
 
 -- All answers were written as is asked for, and none of them is an error.
 pub record PrintsOver (fs : Functions) (asked : Asked) (root : List ℕ) (old new : Option (List ℕ)) : Type 0 where
-  pub prints : Appends old new (written fs asked (answers_over fs asked root))
+  pub prints : Appends old new (written asked (answers_over fs asked root))
   pub clean : list_all is_ok (answers_over fs asked root) ≡ true
 
--- A walk over a file system and from a root, which may have a crew, began as is asked for. It was called until it ended, the line of each answer was written, and no answer was an error.
+-- A walk over a file system and from a root, which may have a crew, began as is asked for. It was called until it ended, what is asked for was written of its answers, and none was an error.
 pub record PrintsBegun (T : Type 0) {C S P A L R E : Type 0} (files : FileSystem.Ghosts S) (process : ProcessReadDir.Ghosts P C A R E) (clone : Clone.Ghosts R) (defaults : Default.Ghosts E) (readers : Readers.Ghosts L C S P A R E) (fs : S) (asked : Asked) (root : List ℕ) (old new : Option (List ℕ)) : Type 0 where
   pub walk : WalkDirGeneric C S P A (Crew T) R E
   pub file_system : file_system_of walk ≡ fs
@@ -43,4 +43,4 @@ pub record PrintsBegun (T : Type 0) {C S P A L R E : Type 0} (files : FileSystem
   pub options : options_of walk ≡ options_for asked
   pub it : DirEntryIter C S P A L R E
   pub starts : Starts walk it
-  pub prints : PrintsAll (Answers files process clone defaults readers) it old new true
+  pub prints : PrintsAll (written asked) (Answers files process clone defaults readers) it old new true

@@ -1,7 +1,6 @@
 pub mod Answers
+pub mod Totals
 pub mod AskedWalk
 pub mod Noting
-pub mod Totals
-pub mod AskedTotals
 pub mod Source
 pub mod Run

@@ -1,16 +1,13 @@
 -- How a call of the program ends.
-use Rattle.std.specs.Prelude.{◌≡◌, ◌≤◌, ◌⊎◌, ℕ, true, false, List, Option, Some, None, is_some, IfSome, IfNone}
+use Rattle.std.specs.Prelude.{◌≡◌, ◌≤◌, ◌⊎◌, ℕ, List, Option, Some, None, is_some, IfSome, IfNone}
 use Rattle.walk_model.specs.Tree as tree
 use Rattle.walk_model.specs.Tree.{functions_of}
 use Rattle.std.specs.declared.clone.Clone as Clone
 use Rattle.std.specs.declared.default.Default as Default
-use Rattle.std.specs.declared.sync.Arc.{Arc}
 use Rattle.walk_fs.specs.declared.file_system.FileSystem as FileSystem
 use Rattle.memory_fs.specs.declared.memory_fs.MemoryFs.{MemoryFs}
 use Rattle.memory_fs.specs.MemoryFs.{tree_of}
 use Rattle.jwalk_core.specs.declared.process_read_dir.ProcessReadDir as ProcessReadDir
-use Rattle.jwalk.specs.jwalk_callbacks.declared.size.Size.{Size}
-use Rattle.jwalk.specs.jwalk_callbacks.declared.with_sizes.WithSizes.{WithSizes}
 use Rattle.jwalk.specs.declared.crew.Readers as Readers
 use Rattle.walk_text.specs.declared.asked.Asked.{Asked}
 use Rattle.walk_text.specs.declared.failure.Failure.{Failure}
@@ -20,7 +17,6 @@ use Rattle.walk_text.specs.Words.{Ask, AreGood, AskForTree}
 use Rattle.walk_text.specs.TextLines.{text_lines}
 use Rattle.walk_text.specs.Built.{Builds, TellsOfInput}
 use Rattle.walk_run.specs.AskedWalk.{PrintsBegun, PrintsOver}
-use Rattle.walk_run.specs.AskedTotals.{CountsBegun}
 use Rattle.walk_run.specs.declared.source.Source.{Source}
 use Rattle.walk_run.specs.declared.source.Source.TheVariants.{Disk, Tree}
 
@@ -39,12 +35,11 @@ IsSource disk None source = source ≡ Disk disk
 IsSource {S} {A} disk (Some t) source = (tree : MemoryFs A) × (source ≡ Tree tree) × (tree_of tree ≡ t)
 
 -- The walk that begins so was printed to its end, or its totals were, and no answer is an error. Its answers are the whole walk over its tree. Without a tree, they are that over the disk, if it always returns the same.
-pub record PrintsWalk (T : Type 0) {C D S P A L M R E : Type 0} (files : FileSystem.Ghosts S) (sources : FileSystem.Ghosts (Source S A)) (shared : FileSystem.Ghosts (Arc (Source S A) A)) (process : ProcessReadDir.Ghosts P C A R E) (sizing : ProcessReadDir.Ghosts (WithSizes (Arc (Source S A) A)) D A R Size) (clone : Clone.Ghosts R) (defaults : Default.Ghosts E) (unasked : Default.Ghosts Size) (readers : Readers.Ghosts L C (Source S A) P A R E) (sharing : Readers.Ghosts M D (Arc (Source S A) A) (WithSizes (Arc (Source S A) A)) A R Size) (disk : S) (words : List (List ℕ)) (to_come old new : Option (List ℕ)) : Type 0 where
+pub record PrintsWalk (T : Type 0) {C S P A L R E : Type 0} (files : FileSystem.Ghosts S) (sources : FileSystem.Ghosts (Source S A)) (process : ProcessReadDir.Ghosts P C A R E) (clone : Clone.Ghosts R) (defaults : Default.Ghosts E) (readers : Readers.Ghosts L C (Source S A) P A R E) (disk : S) (words : List (List ℕ)) (to_come old new : Option (List ℕ)) : Type 0 where
   pub walk : BeginsWalk words to_come
   pub source : Source S A
   pub over : IsSource disk walk.tree source
-  pub begun : walk.asked.usage ≡ false → PrintsBegun T sources process clone defaults readers source walk.asked walk.root old new
-  pub counted : walk.asked.usage ≡ true → CountsBegun T shared sizing clone unasked sharing source walk.asked walk.root old new
+  pub begun : PrintsBegun T sources process clone defaults readers source walk.asked walk.root old new
   pub over_tree : IfSome walk.tree (λ t. PrintsOver (functions_of t) walk.asked walk.root old new)
   pub over_disk : IfNone walk.tree (files.IsFixed disk → PrintsOver (files.functions disk) walk.asked walk.root old new)
 

@@ -1,16 +1,21 @@
-//! The walk that is asked for, over any file system, printed.
-ghost use Rattle.std.specs.Prelude.{◌≡◌, ◌≤◌, false, string_bytes, IfOk, IfErr, OnErr};
+//! The walk that is asked for, over any file system, with its answers printed or their totals.
+ghost use Rattle.std.specs.Prelude.{◌≡◌, ◌≤◌, string_bytes, IfOk, IfErr, OnErr};
+ghost use Rattle.jwalk_core.specs.Job.{callback};
+ghost use Rattle.jwalk.specs.DirEntryIter.{job_of, Answers};
 ghost use Rattle.jwalk.specs.Parallelism.{parallelism_value};
 ghost use Rattle.jwalk.specs.WalkDir.{file_system_of, root_of, options_of};
 ghost use Rattle.walk_text.specs.Asked.{parallelism_by, options_for};
-ghost use Rattle.walk_run.specs.AskedWalk.{PrintsBegun, PrintsOver};
+ghost use Rattle.walk_text.specs.Failure.{status_of};
+ghost use Rattle.walk_run.specs.Answers.{PrintsAll};
+ghost use Rattle.walk_run.specs.AskedWalk.{written, PrintsBegun, PrintsOver};
 
 use crate::answers::status_once;
+use crate::totals::print_totals;
 use crate::walk_printed::print_walked;
 use jwalk::crew::Session;
 use jwalk::file_system::FileSystem;
 use jwalk::read_dir::{NoProcess, ProcessReadDir};
-use jwalk::{ClientState, Crew, Parallelism, Readers, WalkDirGeneric};
+use jwalk::{ClientState, Crew, DirEntryIter, Parallelism, Readers, WalkDirGeneric};
 use std::alloc::{AllocError, Allocator};
 use std::io::Write;
 use std::sync::{Arc, Wait};
@@ -42,8 +47,8 @@ fn parallelism_of<T: Wait + Clock + Clone + Drop, A: Allocator + Copy>(
 }
 
 /// Returns the walk that is asked for, without a callback. Its options are set one after another: the order, hidden
-/// names, links, the least depth, the greatest, and last what directories are read by. The last holds whatever the
-/// greatest depth is.
+/// names, links, metadata, the least depth, the greatest, and last what directories are read by. The last holds whatever
+/// the greatest depth is. Metadata is kept for totals.
 pub fn walk_of<
     C: ClientState,
     T: Wait + Threads + Clock + Clone + Drop,
@@ -63,7 +68,8 @@ pub fn walk_of<
     let mut walk = WalkDirGeneric::with_crew(fs, root)
         .sort(asked.sort)
         .skip_hidden(!asked.hidden)
-        .follow_links(asked.follow);
+        .follow_links(asked.follow)
+        .keep_metadata(asked.usage);
     if let Some(least) = asked.min {
         walk = walk.min_depth(least);
     }
@@ -76,20 +82,53 @@ pub fn walk_of<
     Ok(walk)
 }
 
-/// Walks over a file system as is asked for, and prints one line for each answer, which is for words that ask for no
-/// totals. Returns the status: 0 if the walk ended and no answer was an error, and 1 otherwise.
+/// Prints what is asked for of a walk's answers: the line of their totals, or a line for each. Returns whether none was
+/// an error.
+fn print_answers<
+    T: Threads + Sync,
+    W: Write,
+    C: ClientState + Send,
+    S: FileSystem + Send + Sync,
+    P: ProcessReadDir<C, A> + Send + Sync,
+    A: Allocator + Copy + Send + Sync,
+    L: Readers<C, S, P, A>,
+>(
+    rt: &T,
+    alloc: A,
+    asked: Asked,
+    walk: DirEntryIter<C, S, P, A, L>,
+    out: &mut W,
+) -> Result<bool, Failure>
+where
+    C::ReadDirState: Send,
+    C::DirEntryState: Send,
+    requires { P.IsLawful (callback (job_of walk)) }
+    ensures printed { IfOk result (PrintsAll (written asked) (Answers S.FileSystem P.ProcessReadDir
+        C.ReadDirState.Clone C.DirEntryState.Default L.Readers) walk (W.contents out.old) (W.contents out.new)) }
+    ensures status { IfErr result (λ failure. status_of failure ≡ 1) }
+{
+    if asked.usage {
+        return print_totals(walk, out);
+    }
+    let mut walk = walk;
+    print_walked(rt, alloc, &mut walk, out)
+}
+
+/// Walks over a file system as is asked for, and prints one line for each answer, or the line of their totals. Returns
+/// the status: 0 if the walk ended and no answer was an error, and 1 otherwise.
+///
+/// For totals directories are read in turn, or by a crew: no batch is read by threads then.
 ///
 /// # Errors
 ///
 /// If memory runs out before anything is printed, and for no other cause.
-pub fn print_walk<
+pub fn print_asked<
     T: Wait + Threads + Clock + Clone + Drop + Send + Sync + 'static,
     S: FileSystem + Send + Sync + 'static,
     A: Allocator + Copy + Send + Sync + 'static,
     W: Write,
     E: Write,
 >(rt: &T, alloc: A, fs: S, request: &Request<'_>, out: &mut W, err: &mut E) -> Result<u8, Failure>
-    requires { request.now.asked.usage ≡ false }
     ensures status { IfOk result (λ status. status ≤ 1) }
     ensures memory { IfErr result (λ failure. failure ≡ Failure.Memory) }
     ensures untouched { OnErr result (W.contents out.new ≡ W.contents out.old) }
@@ -103,6 +142,6 @@ pub fn print_walk<
 {
     let root = String::from_str(alloc, request.root)?;
     let walk = walk_of::<((), ()), _, _, _>(rt, fs, root, request.asked)?;
-    let mut answers = walk.into_iter();
-    Ok(status_once(print_walked(rt, alloc, &mut answers, out), err))
+    let answers = walk.into_iter();
+    Ok(status_once(print_answers(rt, alloc, request.asked, answers, out), err))
 }

@@ -2,7 +2,6 @@
 #![tactic(auto)]
 
 mod answers;
-mod asked_totals;
 mod asked_walk;
 mod noting;
 pub mod run;

@@ -3,15 +3,15 @@ ghost use Rattle.std.specs.Prelude.{◌≡◌, ◌≤◌, Err, map, string_bytes
 ghost use Rattle.walk_text.specs.Words.{AreGood, AskForTree};
 ghost use Rattle.walk_run.specs.Run.{BeginsWalk, PrintsWalk, TellsOfCall, Ends};
 
-use crate::asked_totals::print_asked;
+use crate::asked_walk::print_asked;
 use crate::source::Source;
 use jwalk::Readers;
 use jwalk::crew::Session;
 use jwalk::file_system::FileSystem;
-use jwalk::read_dir::{NoProcess, ProcessReadDir, Size, WithSizes};
+use jwalk::read_dir::{NoProcess, ProcessReadDir};
 use std::alloc::Allocator;
 use std::io::{Read, Write};
-use std::sync::{Arc, Wait};
+use std::sync::Wait;
 use std::thread::Threads;
 use std::time::Clock;
 use walk_text::failure::Failure;
@@ -42,12 +42,9 @@ fn try_run<
     ensures untouched { OnErr result (W.contents out.new ≡ W.contents out.old) }
     ensures unread { ¬ (AskForTree (map string_bytes words.now)) → input.new ≡ input.old }
     ensures printed { IfOk result (λ status. status ≡ 0 → PrintsWalk T S.FileSystem
-        ⟦<Source<S, A> as FileSystem>⟧ ⟦<Arc<Source<S, A>, A> as FileSystem>⟧
-        ⟦<NoProcess as ProcessReadDir<((), ()), A>>⟧
-        ⟦<WithSizes<Arc<Source<S, A>, A>> as ProcessReadDir<((), Size), A>>⟧
-        ⟦<() as Clone>⟧ ⟦<() as Default>⟧ ⟦<Size as Default>⟧
+        ⟦<Source<S, A> as FileSystem>⟧ ⟦<NoProcess as ProcessReadDir<((), ()), A>>⟧
+        ⟦<() as Clone>⟧ ⟦<() as Default>⟧
         ⟦<Session<T, ((), ()), Source<S, A>, NoProcess, A> as Readers<((), ()), Source<S, A>, NoProcess, A>>⟧
-        ⟦<Session<T, ((), Size), Arc<Source<S, A>, A>, WithSizes<Arc<Source<S, A>, A>>, A> as Readers<((), Size), Arc<Source<S, A>, A>, WithSizes<Arc<Source<S, A>, A>>, A>>⟧
         disk (map string_bytes words.now) (R.remaining input.old) (W.contents out.old) (W.contents out.new)) }
 {
     let Some(request) = parse_words(words) else {
@@ -83,12 +80,9 @@ pub fn run<
     ensures untouched { result ≡ 2 → W.contents out.new ≡ W.contents out.old }
     ensures unread { ¬ (AskForTree (map string_bytes words.now)) → input.new ≡ input.old }
     ensures printed { result ≡ 0 → PrintsWalk T S.FileSystem
-        ⟦<Source<S, A> as FileSystem>⟧ ⟦<Arc<Source<S, A>, A> as FileSystem>⟧
-        ⟦<NoProcess as ProcessReadDir<((), ()), A>>⟧
-        ⟦<WithSizes<Arc<Source<S, A>, A>> as ProcessReadDir<((), Size), A>>⟧
-        ⟦<() as Clone>⟧ ⟦<() as Default>⟧ ⟦<Size as Default>⟧
+        ⟦<Source<S, A> as FileSystem>⟧ ⟦<NoProcess as ProcessReadDir<((), ()), A>>⟧
+        ⟦<() as Clone>⟧ ⟦<() as Default>⟧
         ⟦<Session<T, ((), ()), Source<S, A>, NoProcess, A> as Readers<((), ()), Source<S, A>, NoProcess, A>>⟧
-        ⟦<Session<T, ((), Size), Arc<Source<S, A>, A>, WithSizes<Arc<Source<S, A>, A>>, A> as Readers<((), Size), Arc<Source<S, A>, A>, WithSizes<Arc<Source<S, A>, A>>, A>>⟧
         disk (map string_bytes words.now) (R.remaining input.old) (W.contents out.old) (W.contents out.new) }
 {
     match try_run(rt, alloc, disk, words, input, out, err) {

@@ -4,15 +4,14 @@ ghost use Rattle.std.specs.Io.KnownBytes.{Appends};
 ghost use Rattle.std.specs.Iterator.{IsFinite};
 ghost use Rattle.jwalk_usage.specs.Totals.{usage_text};
 ghost use Rattle.walk_text.specs.Failure.{status_of};
-ghost use Rattle.walk_run.specs.Totals.{PrintsTotals};
+ghost use Rattle.walk_run.specs.Answers.{PrintsAll};
+ghost use Rattle.walk_run.specs.Totals.{totals_line};
 
 use crate::noting::Noting;
-use jwalk::DirEntry;
 use jwalk::error::Result as Answer;
-use jwalk::read_dir::Size;
-use jwalk_usage::{Usage, UsageFault, usage_sized_of_rest};
+use jwalk::{ClientState, DirEntry};
+use jwalk_usage::{Usage, UsageFault, usage_kept_of_rest};
 use std::alloc::Allocator;
-use std::fmt::Debug;
 use std::io::Write;
 use walk_text::failure::Failure;
 
@@ -38,20 +37,20 @@ fn write_line<W: Write>(usage: &Usage, out: &mut W) -> Result<(), Failure>
     Ok(())
 }
 
-/// Prints what the answers of an iterator come to by the sizes in their entries, and returns whether none was an error.
+/// Prints what the answers of an iterator come to by the metadata that they keep, and returns whether none was an error.
 pub fn print_totals<
-    B: Clone + Default + Debug + Drop,
+    C: ClientState,
     A: Allocator + Copy,
-    I: Iterator<Item = Answer<DirEntry<(B, Size), A>, A>> + Drop,
+    I: Iterator<Item = Answer<DirEntry<C, A>, A>> + Drop,
     W: Write,
 >(answers: I, out: &mut W) -> Result<bool, Failure>
     requires can { I.can_next answers }
     requires ends { IsFinite (I.remaining answers) }
-    ensures printed { IfOk result (PrintsTotals I.next_gives answers (W.contents out.old) (W.contents out.new)) }
+    ensures printed { IfOk result (PrintsAll totals_line I.next_gives answers (W.contents out.old) (W.contents out.new)) }
     ensures status { IfErr result (λ failure. status_of failure ≡ 1) }
 {
     let mut noting = Noting::new(answers);
-    match usage_sized_of_rest(&mut noting) {
+    match usage_kept_of_rest(&mut noting) {
         Ok(usage) => write_line(&usage, out)?,
         Err(fault) => return Err(failure_of(fault)),
     }

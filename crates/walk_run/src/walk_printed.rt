@@ -3,6 +3,7 @@ ghost use Rattle.std.specs.Prelude.{◌≡◌, IfOk, IfErr};
 ghost use Rattle.jwalk_core.specs.Job.{callback};
 ghost use Rattle.jwalk.specs.DirEntryIter.{job_of, Answers};
 ghost use Rattle.walk_text.specs.Failure.{status_of};
+ghost use Rattle.walk_model.specs.Lines.{lines_of};
 ghost use Rattle.walk_run.specs.Answers.{PrintsAll};
 
 use crate::answers::{print_one, room, write_rest};
@@ -29,8 +30,8 @@ where
     C::ReadDirState: Send,
     C::DirEntryState: Send,
     requires { P.IsLawful (callback (job_of walk.old)) }
-    ensures printed { IfOk result (PrintsAll (Answers S.FileSystem P.ProcessReadDir C.ReadDirState.Clone
-        C.DirEntryState.Default L.Readers) walk.old (W.contents out.old) (W.contents out.new)) }
+    ensures printed { IfOk result (PrintsAll lines_of (Answers S.FileSystem P.ProcessReadDir
+        C.ReadDirState.Clone C.DirEntryState.Default L.Readers) walk.old (W.contents out.old) (W.contents out.new)) }
     ensures status { IfErr result (λ failure. status_of failure ≡ 1) }
 {
     let mut gathered = room(alloc)?;

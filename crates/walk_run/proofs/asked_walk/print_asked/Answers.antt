@@ -1,15 +1,15 @@
 use Rattle.std.proofs.Common.{◌∙◌, refl, sym, ap, subst, map, is_ok}
 use Rattle.std.specs.List.{list_all}
 use Rattle.std.specs.Io.KnownBytes.{Appends}
-use Rattle.walk_model.specs.Lines.{lines_of}
 use Rattle.jwalk_core.specs.Entry.{item}
 use Rattle.jwalk_core.specs.Job.{IsSteady}
 use Rattle.jwalk.specs.WalkDir.{file_system_of, callback_of, stateless}
 use Rattle.jwalk.proofs.CleanFacts.{clean_whole}
 use Rattle.jwalk.proofs.WholeFacts.{steady_begun, stateless_of}
 use Rattle.walk_text.specs.Asked.{options_for}
-use Rattle.walk_run.proofs.AskedWalkFacts.{all_entries, same_lines, lines_written}
-use Rattle.walk_run.proofs.asked_walk.print_walk.Goals as goal
+use Rattle.walk_run.specs.AskedWalk.{written}
+use Rattle.walk_run.proofs.AskedWalkFacts.{all_entries, same_written}
+use Rattle.walk_run.proofs.asked_walk.print_asked.Goals as goal
 
 pub returns-clause-walked : goal.returns-clause-walked
 returns-clause-walked g c = λ clean.
@@ -21,7 +21,7 @@ returns-clause-walked g c = λ clean.
       options = built.options;
       it = c.into_iter-answers.result;
       starts = c.into_iter-answers.ensures.starts;
-      prints = rw (c.status_once.ensures.clean clean) at c.print_walked.ensures.printed;
+      prints = rw (c.status_once.ensures.clean clean) at c.print_answers.ensures.printed;
     }
 
 pub returns-clause-printed : goal.returns-clause-printed
@@ -30,7 +30,7 @@ returns-clause-printed g c = λ clean fixed.
     let walk = c.in_ok-walk.walk in
     let built = c.in_ok-walk.ensures in
     let none_failed = c.status_once.ensures.clean clean in
-    let all = rw none_failed at c.print_walked.ensures.printed in
+    let all = rw none_failed at c.print_answers.ensures.printed in
     let begun = c.into_iter-answers.ensures in
     let steady : IsSteady g.S.FileSystem _ _ _ (file_system_of walk) (callback_of walk) stateless
     = record { file_system = subst (g.S.FileSystem.IsFixed) (sym built.file_system) fixed; callback = λ depth path state list. refl; clones = λ x y is. refl; default = λ x is. refl } in
@@ -38,6 +38,6 @@ returns-clause-printed g c = λ clean fixed.
     let listed = clean_whole _ _ _ _ _ stateless walk c.into_iter-answers.result all.0 begun.begins.0 begun.begins.1.holds steadily begun.starts steady all.1 (sym all.2) in
     let asked = listed ∙ stateless_of g.S.FileSystem.functions walk c.args.fs (options_for request.asked) request.root.now built.file_system built.options (built.root ∙ c.in_ok-root.ensures.ok) in
     record {
-      prints = subst (λ l. Appends (g.W.Write.contents c.args.out.now) (g.W.Write.contents c.print_walked.new.out) l) (sym (same_lines stateless (map item all.0)) ∙ ap lines_of asked ∙ lines_written (g.S.FileSystem.functions c.args.fs) request.asked _ c.requires) all.3;
+      prints = subst (λ l. Appends (g.W.Write.contents c.args.out.now) (g.W.Write.contents c.print_answers.new.out) l) (sym (same_written stateless request.asked (map item all.0)) ∙ ap (written request.asked) asked) all.3;
       clean = ap (list_all is_ok) (sym asked) ∙ (all_entries stateless all.0 ∙ sym all.2);
     }
