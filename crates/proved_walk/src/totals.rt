@@ -33,7 +33,7 @@ pub fn totals_of_walk<S: FileSystem, A: Allocator + Copy>(
 /// lent. The second, with the callback `WithSizes`, asks for it where the file's directory is read.
 ///
 /// The two are the same if the four file systems always answer the same, each as the others do, and if the builders have
-/// one root and the same options. The root may be a file, and the least depth any.
+/// one root and the same options, but that the first keeps no metadata. The root may be a file, and the least depth any.
 ///
 /// # Errors
 ///

@@ -1,4 +1,5 @@
-use Rattle.std.proofs.Common.{◌∙◌, refl, sym, ap, ap₂}
+use Rattle.std.proofs.Common.{◌∙◌, false, refl, sym, ap, ap₂}
+use Rattle.jwalk.specs.walk_model.Options.{with_keep_metadata}
 use Rattle.jwalk.specs.walk_model.Walk.{stateless_walk}
 use Rattle.jwalk.specs.jwalk_core.Job.{IsSteady}
 use Rattle.jwalk.specs.jwalk_callbacks.WithSizes.{asks, size_worth, sizing}
@@ -32,6 +33,6 @@ returns g c = λ alike.
     counted
     ∙ ap (λ f. totals f (stateless_walk (g.S.FileSystem.functions (file_system_of plain)) (options_of plain) (root_of plain))) alike.counted_by.1
     ∙ ap (λ f. totals fs (stateless_walk f (options_of plain) (root_of plain))) alike.plain_over.1
-    ∙ sym (ap₂ (λ o r. totals fs (stateless_walk fs o r)) alike.options alike.root)
-    ∙ sym (ap (λ f. totals f (stateless_walk f (options_of sized) (root_of sized))) alike.sized_over.1)
+    ∙ ap₂ (λ o r. totals fs (stateless_walk fs o r)) alike.options (sym alike.root)
+    ∙ sym (ap (λ f. totals f (stateless_walk f (with_keep_metadata false (options_of sized)) (root_of sized))) alike.sized_over.1)
     ∙ sym added
