@@ -1,10 +1,12 @@
 -- What is written of answers and whether they are entries, whatever their states count as.
-use Rattle.std.proofs.Common.{◌≡◌, ℕ, ◌++◌, ◌∙◌, List, [], ◌∷◌, map, Some, None, Result, Ok, Err, is_ok, if◌then◌else◌, ap, ap₂, refl}
+use Rattle.std.proofs.Common.{◌≡◌, ℕ, ◌++◌, ◌∙◌, List, [], ◌∷◌, map, Bool, true, false, Option, Some, None, Result, Ok, Err, is_ok, if◌then◌else◌, ap, ap₂, sym, subst, refl}
 use Rattle.std.specs.List.{list_all}
+use Rattle.std.specs.Io.KnownBytes.{Appends}
 use Rattle.walk_model.specs.Entry.{Item}
 use Rattle.walk_model.specs.Lines.{line_of, lines_of}
 use Rattle.walk_text.specs.declared.asked.Asked.{Asked}
-use Rattle.walk_run.specs.Totals.{usage_line}
+use Rattle.walk_run.specs.Answers.{PrintsAll}
+use Rattle.walk_run.specs.Totals.{usage_line, totals_line}
 use Rattle.walk_run.specs.AskedWalk.{written}
 use Rattle.jwalk_core.specs.declared.dir_entry.DirEntry.{DirEntry}
 use Rattle.jwalk_core.specs.declared.error.Error.{Error}
@@ -31,3 +33,16 @@ module _ {R E : Type 0} (given : Given R E) where
   all_entries [] = refl
   all_entries (Ok e ∷ xs) = all_entries xs
   all_entries (Err f ∷ xs) = refl
+
+module _ {R E : Type 0} (asked : Asked) where
+  -- what is written where totals are asked for
+  pub totals_written : asked.usage ≡ true → (l : List (Item R E)) → totals_line l ≡ written asked l
+  totals_written is l = ap (λ b. if b then totals_line l else lines_of l) (sym is)
+
+  -- and where they aren't
+  pub lines_written : asked.usage ≡ false → (l : List (Item R E)) → lines_of l ≡ written asked l
+  lines_written is l = ap (λ b. if b then totals_line l else lines_of l) (sym is)
+
+  -- A text that is what is asked for was printed.
+  pub printed_as : {S C A : Type 0} (text : List (Item R E) → List ℕ) (steps : S → Option (Result (DirEntry C A R E) (Error A)) → S → Type 0) (answers : S) (old new : Option (List ℕ)) (clean : Bool) → ((l : List (Item R E)) → text l ≡ written asked l) → PrintsAll text steps answers old new clean → PrintsAll (written asked) steps answers old new clean
+  printed_as text steps answers old new clean same all = (all.0, all.1, all.2, subst (λ l. Appends old new l) (same (map item all.0)) all.3)
