@@ -15,10 +15,9 @@ pub returns-clause-printed : goal.returns-clause-printed
 returns-clause-printed g c =
     let made = c.new-noting.ensures in
     let counted = c.in-Ok.ensures.totals in
-    let passed = all_passed_on g.I.Iterator.next_gives counted.0 c.new-noting.result c.usage_kept_of_rest.new.answers counted.1 in
-    (
+    let passed = all_passed_on g.I.Iterator.next_gives counted.0 c.new-noting.result c.usage_kept_of_rest.new.answers counted.1 in (
       counted.0,
       subst (λ s. Drains g.I.Iterator.next_gives s counted.0) made.source passed.0,
       c.is_clean.ensures ∙ passed.1 ∙ ap (λ b. b && list_all is_ok counted.0) made.clean,
-      same_line _ _ _ _ counted.2.totals c.in_ok-write_line-in-Ok.ensures.written
+      same_line _ _ _ _ counted.2.totals c.in_ok-write_line-in-Ok.ensures.written,
     )
