@@ -127,7 +127,10 @@ fn files_that_a_crew_asks_for_their_sizes(rt: HostRuntime) {
 fn two_workers_ask_for_sizes_at_the_same_time(rt: HostRuntime) -> Result<(), AllocError> {
     let disk = Meeting::new(rt.clone()?, Place::Looks, 5_000);
     let sizes = sized_by_crew(&rt, disk, "/r", 2)?;
-    assert_eq!(rt; sizes.as_str(), "/r -; /r/a -; /r/a/f 3; /r/b -; /r/b/f 4; ");
+    assert_eq!(rt;
+        sizes.as_str(),
+        "/r -; /r/a -; /r/a/f 3; /r/b -; /r/b/f 4; "
+    );
     Ok(())
 }
 
@@ -135,7 +138,10 @@ fn two_workers_ask_for_sizes_at_the_same_time(rt: HostRuntime) -> Result<(), All
 fn one_worker_asks_for_one_size_at_a_time(rt: HostRuntime) -> Result<(), AllocError> {
     let disk = Meeting::new(rt.clone()?, Place::Looks, 20);
     let sizes = sized_by_crew(&rt, disk, "/r", 1)?;
-    assert_eq!(rt; sizes.as_str(), "/r -; /r/a -; /r/a/f Other; /r/b -; /r/b/f 4; ");
+    assert_eq!(rt;
+        sizes.as_str(),
+        "/r -; /r/a -; /r/a/f Other; /r/b -; /r/b/f 4; "
+    );
     Ok(())
 }
 

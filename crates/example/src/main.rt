@@ -10,7 +10,8 @@ use jwalk::file_system::RealFs;
 use std::{env, io};
 
 /// The names that there are.
-const NAMES: &str = "usage_walk ignore_walk batch_walk crew_walk totals finder unmarked newest one_disk to_csv archive \
+const NAMES: &str =
+    "usage_walk ignore_walk batch_walk crew_walk totals finder unmarked newest one_disk to_csv archive \
                      all_errors";
 
 fn main(rt: HostRuntime) -> anyhow::Result<()> {

@@ -27,7 +27,7 @@ loop-path-preserved g c = λ fixed.
     let named = c.as_str-path.ensures.value ∙ ap string_bytes c.deref.ensures in
     let found = c.in_ok-identity.ensures fixed held.1 in (
       one_more asked text xs i x c.loop-path.known.items c.push.new.self.items c.in_ok-identity.identity c.loop-path-test.true
-      held.0 c.in_ok-push.ensures.items (found ∙ ap asked (named ∙ ap text at)),
+          held.0 c.in_ok-push.ensures.items (found ∙ ap asked (named ∙ ap text at)),
       found,
     )
 
