@@ -12,6 +12,7 @@ pub fn run<R: Host, S: FileSystem + Send + Sync + 'static, W: Write>(
     unread: String,
     out: &mut W,
 ) -> anyhow::Result<()> {
+    // begin walk
     let mut names = Vec::new(*unread.allocator());
     names.push(unread)?;
     walk.skip_hidden(false)
@@ -22,4 +23,5 @@ pub fn run<R: Host, S: FileSystem + Send + Sync + 'static, W: Write>(
             writeln!(out, "{}", answer?.path()?)?;
             Ok(())
         })
+    // end walk
 }
