@@ -1,0 +1,5 @@
+pub mod Agreement
+pub mod Usage
+pub mod Totals
+pub mod Trees
+pub mod Rows
