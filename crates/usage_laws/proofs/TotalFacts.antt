@@ -20,7 +20,9 @@ use Rattle.walk_model.specs.Counted.{Worth, blank}
 use Rattle.walk_model.specs.Kept.{forgotten_item}
 use Rattle.walk_model.specs.Walk.{stateless_job}
 use Rattle.walk_model.proofs.KeptFacts.{metadata_changes_nothing_else}
-use Rattle.usage_laws.specs.Usage.{Usage, one_if, is_other, has_failed, length_in, entry_of, is_asked, errors_of, bytes_of, totals, length_kept, is_known, errors_kept, bytes_kept, kept_totals}
+use Rattle.jwalk_usage.specs.declared.report.Usage.{Usage}
+use Rattle.jwalk_usage.specs.Totals.{one_if, is_other, has_failed, length_in, entry_of, is_asked, errors_of, bytes_of, totals}
+use Rattle.jwalk_usage.specs.Kept.{length_kept, is_known, errors_kept, bytes_kept, kept_totals}
 use Rattle.usage_laws.specs.Agreement.{KeepsWhatIs}
 use Rattle.usage_laws.specs.Totals.{keeping_walk, asking_walk, SaysAllOfFile, SaysAllOfFiles, KeptTotalsAreTotals, FilesKeepMetadata}
 use Rattle.usage_laws.proofs.EachFacts.{Each, HoldsAsMade, walk_holds}

@@ -9,7 +9,8 @@ use Rattle.walk_model.specs.Options.{Options, with_keep_metadata}
 use Rattle.walk_model.specs.Entry.{Item}
 use Rattle.walk_model.specs.Counted.{Worth}
 use Rattle.walk_model.specs.Walk.{stateless_walk}
-use Rattle.usage_laws.specs.Usage.{is_known, kept_totals, totals}
+use Rattle.jwalk_usage.specs.Totals.{totals}
+use Rattle.jwalk_usage.specs.Kept.{is_known, kept_totals}
 use Rattle.usage_laws.specs.Agreement.{Agrees, IsAskedAlike}
 
 -- what a walk with no callback yields that keeps metadata

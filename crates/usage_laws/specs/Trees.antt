@@ -4,7 +4,8 @@ use Rattle.std.specs.declared.io.ErrorKind.{ErrorKind}
 use Rattle.walk_model.specs.PathTexts.{IsName}
 use Rattle.walk_model.specs.Options.{Options}
 use Rattle.walk_model.specs.Tree.{Place, Node, directory, file, link, Tree, functions_of, only_root, Refusal, add, deny, remove}
-use Rattle.usage_laws.specs.Usage.{kept_totals, totals}
+use Rattle.jwalk_usage.specs.Totals.{totals}
+use Rattle.jwalk_usage.specs.Kept.{kept_totals}
 use Rattle.usage_laws.specs.Agreement.{Agrees, IsAskedAlike}
 use Rattle.usage_laws.specs.Totals.{keeping_walk, asking_walk, SaysAllOfFiles}
 
