@@ -1,8 +1,9 @@
-use Rattle.std.proofs.Common.{map, ap, sym, ◌∙◌, rules}
+use Rattle.std.proofs.Common.{map, ap, sym, ◌∙◌}
 use Rattle.std.specs.Prelude.{fold}
 use Rattle.std.proofs.lemmas.List.{map-id}
 use Rattle.std.proofs.lemmas.Iterator.Adapters.{YieldsList-from_vec}
 use Rattle.std.proofs.lemmas.Iterator.Consumers.{YieldsList-end}
+use Rattle.std.proofs.lemmas.Result.{IfOk-from_err}
 use Rattle.jwalk.specs.jwalk_core.Entry.{item}
 use Rattle.jwalk_ignore.specs.IgnoreFiles.{with_listed}
 use Rattle.jwalk_ignore.specs.MadeDepths.{more_at}
@@ -34,4 +35,4 @@ returns-clause-depth g c = λ depth all before.
     c.loop-found.invariant.depth depth (rw (sym (map-id c.loop-found.yielded) ∙ whole.0) all) before
 
 pub returns-in_err-add_listed-clause-depth : goal.returns-in_err-add_listed-clause-depth
-returns-in_err-add_listed-clause-depth g c = λ depth all before. search rules
+returns-in_err-add_listed-clause-depth g c = λ depth all before. IfOk-from_err c.from_residual.result _ c.from_residual.ensures.0

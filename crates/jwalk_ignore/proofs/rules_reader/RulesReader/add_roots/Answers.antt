@@ -3,6 +3,7 @@ use Rattle.std.specs.Prelude.{fold}
 use Rattle.std.proofs.lemmas.List.{map-id}
 use Rattle.std.proofs.lemmas.Iterator.Adapters.{YieldsList-from_vec}
 use Rattle.std.proofs.lemmas.Iterator.Consumers.{YieldsList-end}
+use Rattle.std.proofs.lemmas.Result.{IfOk-from_err}
 use Rattle.jwalk.specs.jwalk_core.Entry.{item}
 use Rattle.jwalk_ignore.specs.IgnoreFiles.{with_root_item}
 use Rattle.jwalk_ignore.specs.MadeDepths.{more_at}
@@ -32,3 +33,6 @@ returns-clause-depth g c = λ depth all before.
     let begins = c.into_iter-found-iterator.ensures.into_iter_gives in
     let whole = YieldsList-end (YieldsList-from_vec {s = c.into_iter-found-iterator.result} c.args.list.items begins.0 (begins.1 ∙ c.args.list.ok.0)) c.loop-found.yielded c.loop-found.found-iterator c.loop-found.yielded_by c.next.result c.next.new.self c.in-None.is c.next.ensures.steps in
     c.loop-found.invariant.depth depth (rw (sym (map-id c.loop-found.yielded) ∙ whole.0) all) before
+
+pub returns-in_err-add_root_item-clause-depth : goal.returns-in_err-add_root_item-clause-depth
+returns-in_err-add_root_item-clause-depth g c = λ depth all before. IfOk-from_err c.from_residual.result _ c.from_residual.ensures.0
