@@ -3,7 +3,7 @@
 
     python3 bench/again.py [TIMES [SEEDS]]
 
-Build the tests and the program first: (cd crates/crew_tests && rt test), (cd crates/hostile_tests && rt test) and
+Build the tests and the program first: (cd crates/test_crews && rt test), (cd crates/test_hostile && rt test) and
 (cd crates/walk && rt run). Each test of the two crates runs TIMES times (100 where none is given) on all cores and as often
 on one, and has 60 seconds each time. Then random unsteady file systems of SEEDS seeds (200,000) are walked over, 2,000 in
 a run of 300 seconds. Then the program walks over a folder with 1, 2, 4, 16 and 256 workers, on all cores and on one, and
@@ -45,7 +45,7 @@ def passes(words, seconds, env=None):
 def again(times):
     """Plays each test of the crates that many times. Returns how often it didn't pass."""
     wrong = 0
-    for name in ("crew_tests", "hostile_tests"):
+    for name in ("test_crews", "test_hostile"):
         for where, front in CORES.items():
             began = time.time()
             for turn in range(times):
@@ -62,7 +62,7 @@ def seeds(count):
     wrong, began = 0, time.time()
     for first in range(0, count, 2000):
         env = {"JWALK_FIRST_SEED": str(first), "JWALK_SEEDS": str(min(2000, count - first))}
-        said = passes([RUNNER, "--seconds", "300", "--filter", "random_unsteady", tests_of("hostile_tests")], 600, env)
+        said = passes([RUNNER, "--seconds", "300", "--filter", "random_unsteady", tests_of("test_hostile")], 600, env)
         if said is not None:
             wrong += 1
             print(f"seeds from {first}:\n{said}")

@@ -3,7 +3,7 @@
 
     python3 bench/order.py [ROUNDS]
 
-Build the program first: (cd crates/bench_order && rt run). A row has three runs of it: one makes the input alone, and
+Build the program first: (cd crates/test_bench_order && rt run). A row has three runs of it: one makes the input alone, and
 two work on that input, by the standard library's heap alone and by the queue or the board. A time is the processor time
 of a run, the least of ROUNDS (7 where none is given) that take turns, less that of the input. Both must come to the same
 digest of addresses.
@@ -12,7 +12,7 @@ import os
 import subprocess
 import sys
 
-PROGRAM = os.path.join(os.path.dirname(os.path.abspath(__file__)), "..", "crates", "bench_order", "out", "bench_order")
+PROGRAM = os.path.join(os.path.dirname(os.path.abspath(__file__)), "..", "crates", "test_bench_order", "out", "test_bench_order")
 
 PARTS = ["input", "heap", "jwalk"]
 

@@ -6,7 +6,7 @@
 A block of `rust` (which stands for Rattle) or `antt` in these documents is code that the gate checks. The line directly
 above it is a mark, with the file that has this text, or with a file and the name of a part of it:
 
-    <!-- crates/first_walk/src/main.rt -->
+    <!-- crates/example_first_walk/src/main.rt -->
     <!-- crates/examples/src/batch_walk.rt: loop -->
 
 The part is what the file has between its lines `// begin loop` and `// end loop`, which in a file of antt begin with

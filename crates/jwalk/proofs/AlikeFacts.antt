@@ -2,12 +2,12 @@
 use Rattle.std.proofs.Common.{◌≡◌, ◌∙◌, ℕ, List, refl, sym, ap, ap₂}
 use Rattle.std.specs.declared.clone.Clone as Clone
 use Rattle.std.specs.declared.default.Default as Default
-use Rattle.walk_model.specs.Options.{Options, Parallelism, with_parallelism}
-use Rattle.walk_model.specs.Counted.{Worth}
-use Rattle.walk_model.specs.Job as value
-use Rattle.walk_model.specs.FileSystem.{Functions}
-use Rattle.walk_model.specs.Walk.{whole_walk, stateless_walk}
-use Rattle.walk_fs.specs.declared.file_system.FileSystem as FileSystem
+use Rattle.jwalk_model.specs.Options.{Options, Parallelism, with_parallelism}
+use Rattle.jwalk_model.specs.Counted.{Worth}
+use Rattle.jwalk_model.specs.Job as value
+use Rattle.jwalk_model.specs.FileSystem.{Functions}
+use Rattle.jwalk_model.specs.Walk.{whole_walk, stateless_walk}
+use Rattle.jwalk_fs.specs.declared.file_system.FileSystem as FileSystem
 use Rattle.jwalk_core.specs.declared.process_read_dir.ProcessReadDir as ProcessReadDir
 use Rattle.jwalk_core.specs.Given.{Given}
 use Rattle.jwalk_core.specs.Job.{IsSteady}

@@ -1,8 +1,8 @@
 -- How a walk begins.
 use Rattle.std.proofs.Common.{◌≡◌, ◌⊎◌, ◌∙◌, Bool, true, false, List, Option, Result, Ok, Err, IfOk, IsSomeAnd, inl, inr, refl, sym, ap}
 use Rattle.std.specs.Result.{result_ok}
-use Rattle.walk_model.specs.ReadDir.{Reading}
-use Rattle.walk_model.specs.Listing.{Pair, paired}
+use Rattle.jwalk_model.specs.ReadDir.{Reading}
+use Rattle.jwalk_model.specs.Listing.{Pair, paired}
 
 -- a root's list that was made is held, unless memory ran out
 pub held_view : {X F V W : Type 0} (view : X → Reading V W) (v : Reading V W) (held : List (Pair V W)) (read : Result X F) (given : Option X) → given ≡ result_ok read → IsSomeAnd given (λ r. held ≡ paired (view r)) → IfOk read (λ r. v ≡ view r) → held ≡ paired v

@@ -4,14 +4,14 @@ use Rattle.std.specs.Prelude.{option_map}
 use Rattle.std.specs.Result.{result_ok}
 use Rattle.std.specs.declared.clone.Clone as Clone
 use Rattle.std.specs.declared.default.Default as Default
-use Rattle.walk_model.specs.Error.{Failure, memory, busy}
-use Rattle.walk_model.specs.Options.{Options, crew}
-use Rattle.walk_model.specs.ReadDir.{Reading}
-use Rattle.walk_model.specs.Counted.{Worth}
-use Rattle.walk_model.specs.Listing.{paired}
-use Rattle.walk_model.specs.Job as value
-use Rattle.walk_model.specs.Job.{root_list}
-use Rattle.walk_fs.specs.declared.file_system.FileSystem as FileSystem
+use Rattle.jwalk_model.specs.Error.{Failure, memory, busy}
+use Rattle.jwalk_model.specs.Options.{Options, crew}
+use Rattle.jwalk_model.specs.ReadDir.{Reading}
+use Rattle.jwalk_model.specs.Counted.{Worth}
+use Rattle.jwalk_model.specs.Listing.{paired}
+use Rattle.jwalk_model.specs.Job as value
+use Rattle.jwalk_model.specs.Job.{root_list}
+use Rattle.jwalk_fs.specs.declared.file_system.FileSystem as FileSystem
 use Rattle.jwalk_core.specs.declared.process_read_dir.ProcessReadDir as ProcessReadDir
 use Rattle.jwalk_core.specs.declared.job.Job.{Job}
 use Rattle.jwalk_core.specs.declared.read_dir.ReadDir.{ReadDir}

@@ -5,17 +5,17 @@ use Rattle.std.specs.Iterator.{Drains}
 use Rattle.std.specs.List.{list_all}
 use Rattle.std.specs.declared.clone.Clone as Clone
 use Rattle.std.specs.declared.default.Default as Default
-use Rattle.walk_model.specs.Error.{busy, memory}
-use Rattle.walk_model.specs.Entry.{Entry, Item, Children, has_directory}
-use Rattle.walk_model.specs.ReadDir.{Spec, Outcome}
-use Rattle.walk_model.specs.Counted.{Worth, children_by, entry_by}
-use Rattle.walk_model.specs.Listing.{Source, Pair, nothing, unread, was_read, pair, answers, below, listing}
-use Rattle.walk_model.specs.Job.{reading, root_list}
-use Rattle.walk_model.specs.Held as held_value
-use Rattle.walk_model.specs.Held.{pair_up, first_source, after_first}
-use Rattle.walk_model.specs.Walk.{whole_walk}
-use Rattle.walk_model.proofs.CountedFacts.{counted-has_directory}
-use Rattle.walk_fs.specs.declared.file_system.FileSystem as FileSystem
+use Rattle.jwalk_model.specs.Error.{busy, memory}
+use Rattle.jwalk_model.specs.Entry.{Entry, Item, Children, has_directory}
+use Rattle.jwalk_model.specs.ReadDir.{Spec, Outcome}
+use Rattle.jwalk_model.specs.Counted.{Worth, children_by, entry_by}
+use Rattle.jwalk_model.specs.Listing.{Source, Pair, nothing, unread, was_read, pair, answers, below, listing}
+use Rattle.jwalk_model.specs.Job.{reading, root_list}
+use Rattle.jwalk_model.specs.Held as held_value
+use Rattle.jwalk_model.specs.Held.{pair_up, first_source, after_first}
+use Rattle.jwalk_model.specs.Walk.{whole_walk}
+use Rattle.jwalk_model.proofs.CountedFacts.{counted-has_directory}
+use Rattle.jwalk_fs.specs.declared.file_system.FileSystem as FileSystem
 use Rattle.jwalk_core.specs.declared.process_read_dir.ProcessReadDir as ProcessReadDir
 use Rattle.jwalk_core.specs.declared.error.Error.{Error}
 use Rattle.jwalk_core.specs.declared.dir_entry.DirEntry.{DirEntry}

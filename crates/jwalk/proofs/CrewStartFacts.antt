@@ -4,16 +4,16 @@ use Rattle.std.specs.Prelude.{option_map, if◌then◌else◌}
 use Rattle.std.specs.Result.{result_err}
 use Rattle.std.specs.declared.clone.Clone as Clone
 use Rattle.std.specs.declared.default.Default as Default
-use Rattle.walk_model.specs.Error.{memory, busy}
-use Rattle.walk_model.specs.Entry.{Item, AtDepth, has_directory}
-use Rattle.walk_model.specs.Options.{crew}
-use Rattle.walk_model.specs.ReadDir.{Spec, Reading, children, AreClones}
+use Rattle.jwalk_model.specs.Error.{memory, busy}
+use Rattle.jwalk_model.specs.Entry.{Item, AtDepth, has_directory}
+use Rattle.jwalk_model.specs.Options.{crew}
+use Rattle.jwalk_model.specs.ReadDir.{Spec, Reading, children, AreClones}
 use Rattle.jwalk_core.specs.declared.read_dir.ReadDir.{ReadDir}
 use Rattle.jwalk_core.specs.ReadDir.{reading}
-use Rattle.walk_model.specs.Listing.{Pair, nothing, paired}
-use Rattle.walk_model.specs.Held.{pair_up, sources, first_source, after_first}
-use Rattle.walk_model.proofs.HeldFacts.{directories}
-use Rattle.walk_fs.specs.declared.file_system.FileSystem as FileSystem
+use Rattle.jwalk_model.specs.Listing.{Pair, nothing, paired}
+use Rattle.jwalk_model.specs.Held.{pair_up, sources, first_source, after_first}
+use Rattle.jwalk_model.proofs.HeldFacts.{directories}
+use Rattle.jwalk_fs.specs.declared.file_system.FileSystem as FileSystem
 use Rattle.jwalk_core.specs.declared.process_read_dir.ProcessReadDir as ProcessReadDir
 use Rattle.jwalk_core.specs.Given.{Given, counted_reading, ClonesCount}
 use Rattle.jwalk_core.specs.declared.job.Job.{Job}

@@ -10,7 +10,7 @@ pub use Rattle.jwalk_core.proofs.SameFacts as SameFacts
 -- what callers cite of a callback's lists
 pub use Rattle.jwalk_core.proofs.GivenFacts as GivenFacts
 -- what callers cite of callbacks that change states alone, and of sizes
-pub use Rattle.walk_model.proofs.StatesFacts as StatesFacts
+pub use Rattle.jwalk_model.proofs.StatesFacts as StatesFacts
 pub use Rattle.jwalk_callbacks.proofs.SizedWalks as SizedWalks
 -- what callers cite of readings by readers of their own
 pub use Rattle.jwalk_core.proofs.OriginFacts as OriginFacts

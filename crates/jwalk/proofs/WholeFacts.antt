@@ -5,20 +5,20 @@ use Rattle.std.specs.Iterator.{Drains}
 use Rattle.std.specs.List.{list_all}
 use Rattle.std.specs.declared.clone.Clone as Clone
 use Rattle.std.specs.declared.default.Default as Default
-use Rattle.walk_model.specs.FileSystem.{Functions}
-use Rattle.walk_model.specs.Error.{Failure, memory}
-use Rattle.walk_model.specs.Entry.{Item}
-use Rattle.walk_model.specs.Options.{Options}
-use Rattle.walk_model.specs.ReadDir.{Spec}
-use Rattle.walk_model.specs.Counted.{Worth}
-use Rattle.walk_model.specs.Listing.{Pair, nothing, paired, answers}
-use Rattle.walk_model.specs.Held as held_value
-use Rattle.walk_model.specs.Held.{pair_up}
-use Rattle.walk_model.specs.Job as value
-use Rattle.walk_model.specs.Job.{reading, root_list}
-use Rattle.walk_model.specs.Walk.{whole_walk, stateless_walk}
-use Rattle.walk_model.proofs.HeldFacts.{alone}
-use Rattle.walk_fs.specs.declared.file_system.FileSystem as FileSystem
+use Rattle.jwalk_model.specs.FileSystem.{Functions}
+use Rattle.jwalk_model.specs.Error.{Failure, memory}
+use Rattle.jwalk_model.specs.Entry.{Item}
+use Rattle.jwalk_model.specs.Options.{Options}
+use Rattle.jwalk_model.specs.ReadDir.{Spec}
+use Rattle.jwalk_model.specs.Counted.{Worth}
+use Rattle.jwalk_model.specs.Listing.{Pair, nothing, paired, answers}
+use Rattle.jwalk_model.specs.Held as held_value
+use Rattle.jwalk_model.specs.Held.{pair_up}
+use Rattle.jwalk_model.specs.Job as value
+use Rattle.jwalk_model.specs.Job.{reading, root_list}
+use Rattle.jwalk_model.specs.Walk.{whole_walk, stateless_walk}
+use Rattle.jwalk_model.proofs.HeldFacts.{alone}
+use Rattle.jwalk_fs.specs.declared.file_system.FileSystem as FileSystem
 use Rattle.jwalk_core.specs.declared.process_read_dir.ProcessReadDir as ProcessReadDir
 use Rattle.jwalk_core.specs.declared.error.Error.{Error}
 use Rattle.jwalk_core.specs.declared.dir_entry.DirEntry.{DirEntry}

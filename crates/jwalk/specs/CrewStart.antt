@@ -1,11 +1,11 @@
 -- How a walk over a crew begins.
 use Rattle.std.specs.Prelude.{◌≡◌, ◌⊎◌, Bool, true, false, is_some, if◌then◌else◌, List, [], map, Option, Some, None, IsSomeAnd, MatchOption, Ok, Err}
 use Rattle.std.specs.declared.clone.Clone as Clone
-use Rattle.walk_model.specs.Error.{busy}
-use Rattle.walk_model.specs.Entry.{Item, AtDepth}
-use Rattle.walk_model.specs.Options.{crew}
-use Rattle.walk_model.specs.ReadDir.{Spec, Reading, children, AreClones}
-use Rattle.walk_model.specs.Listing.{Pair, nothing, paired}
+use Rattle.jwalk_model.specs.Error.{busy}
+use Rattle.jwalk_model.specs.Entry.{Item, AtDepth}
+use Rattle.jwalk_model.specs.Options.{crew}
+use Rattle.jwalk_model.specs.ReadDir.{Spec, Reading, children, AreClones}
+use Rattle.jwalk_model.specs.Listing.{Pair, nothing, paired}
 use Rattle.tree_crew.specs.declared.crew.NotStarted.{NotStarted}
 use Rattle.tree_crew.specs.declared.crew.NotStarted.TheVariants.{Busy, Memory}
 use Rattle.jwalk_core.specs.declared.job.Job.{Job}

@@ -8,10 +8,10 @@ pub use Rattle.jwalk_core.specs.ReadDirIter as ReadDirIter
 pub use Rattle.jwalk_core.specs.CrewReads as CrewReads
 pub use Rattle.jwalk_core.specs.Parallelism as Parallelism
 -- what callers cite of the crates below, each under its crate's name
-pub use Rattle.walk_model.specs as walk_model
-pub use Rattle.walk_fs.specs as walk_fs
-pub use Rattle.real_fs.specs as real_fs
-pub use Rattle.memory_fs.specs as memory_fs
+pub use Rattle.jwalk_model.specs as jwalk_model
+pub use Rattle.jwalk_fs.specs as jwalk_fs
+pub use Rattle.jwalk_real_fs.specs as jwalk_real_fs
+pub use Rattle.jwalk_memory_fs.specs as jwalk_memory_fs
 pub use Rattle.jwalk_core.specs as jwalk_core
 pub use Rattle.jwalk_callbacks.specs as jwalk_callbacks
 pub use Rattle.jwalk_order.specs as jwalk_order

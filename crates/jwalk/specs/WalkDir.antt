@@ -5,13 +5,13 @@ use Rattle.std.specs.declared.clone.Clone as Clone
 use Rattle.std.specs.declared.default.Default as Default
 use Rattle.std.specs.declared.sync.Arc.{Arc}
 use Rattle.std.specs.declared.time.Duration.{Duration}
-use Rattle.walk_model.specs.Error.{busy}
-use Rattle.walk_model.specs.Options.{Options, crew}
-use Rattle.walk_model.specs.Entry.{Item, AtDepth}
-use Rattle.walk_model.specs.Listing.{paired}
-use Rattle.walk_model.specs.Counted.{Worth, blank}
-use Rattle.walk_model.specs.Job.{Job, root_list}
-use Rattle.walk_fs.specs.declared.file_system.FileSystem as FileSystem
+use Rattle.jwalk_model.specs.Error.{busy}
+use Rattle.jwalk_model.specs.Options.{Options, crew}
+use Rattle.jwalk_model.specs.Entry.{Item, AtDepth}
+use Rattle.jwalk_model.specs.Listing.{paired}
+use Rattle.jwalk_model.specs.Counted.{Worth, blank}
+use Rattle.jwalk_model.specs.Job.{Job, root_list}
+use Rattle.jwalk_fs.specs.declared.file_system.FileSystem as FileSystem
 use Rattle.jwalk_core.specs.declared.process_read_dir.ProcessReadDir as ProcessReadDir
 use Rattle.jwalk_core.specs.declared.error.Error.{Error}
 use Rattle.jwalk_core.specs.declared.dir_entry.DirEntry.{DirEntry}

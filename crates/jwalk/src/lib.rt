@@ -25,6 +25,6 @@ pub use jwalk_core::dir_entry_iter::DirEntryIter;
 pub use jwalk_core::error::{Error, Result};
 pub use jwalk_core::parallelism::Parallelism;
 pub use jwalk_core::{dir_entry, dir_entry_iter, error, read_dir_iter};
+pub use jwalk_fs::path_text;
 pub use jwalk_order::{index_path, ordered, ordered_queue};
 pub use walk_dir::{WalkDir, WalkDirGeneric};
-pub use walk_fs::path_text;

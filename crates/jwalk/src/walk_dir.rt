@@ -1,6 +1,6 @@
 //! The builder of a walk.
 ghost use Rattle.std.specs.Prelude.{◌≡◌, ◌⊎◌, true, false, None, string_bytes, IfOk, IfErr};
-ghost use Rattle.walk_model.specs.Error.{memory};
+ghost use Rattle.jwalk_model.specs.Error.{memory};
 ghost use Rattle.jwalk_core.specs.Error.{failure};
 
 mod crew_start;
@@ -20,12 +20,12 @@ use jwalk_core::options::Options;
 use jwalk_core::parallelism::Parallelism;
 use jwalk_core::process_read_dir::{NoProcess, ProcessReadDir};
 use jwalk_core::readers::NoCrew;
-use real_fs::real_fs::RealFs;
+use jwalk_fs::file_system::FileSystem;
+use jwalk_real_fs::real_fs::RealFs;
 use std::alloc::{AllocError, Allocator, Global};
 use std::rt::{Files, HostRuntime};
 use std::sync::Arc;
 use std::time::Duration;
-use walk_fs::file_system::FileSystem;
 
 /// A walk that has not begun: a root in a file system, and options.
 ///
@@ -53,7 +53,7 @@ pub struct WalkDirGeneric<
 pub type WalkDir<R = HostRuntime, A = Global> = WalkDirGeneric<((), ()), RealFs<R>, NoProcess, A>;
 
 impl<C: ClientState, S: FileSystem, A: Allocator + Copy> WalkDirGeneric<C, S, NoProcess, A> {
-    ghost use Rattle.walk_model.specs.Options.{defaults};
+    ghost use Rattle.jwalk_model.specs.Options.{defaults};
     ghost use Rattle.jwalk.specs.WalkDir.{file_system_of, root_of, state_of, options_of};
 
     /// Returns a walk over a file system from a root, whose text is kept unchanged. All memory that the walk needs
@@ -76,7 +76,7 @@ impl<C: ClientState, S: FileSystem, A: Allocator + Copy, W: Drop> WalkDirGeneric
     A,
     W,
 > {
-    ghost use Rattle.walk_model.specs.Options.{defaults};
+    ghost use Rattle.jwalk_model.specs.Options.{defaults};
     ghost use Rattle.jwalk.specs.WalkDir.{file_system_of, root_of, state_of, options_of};
 
     /// Returns a walk whose crew, if it has one, is set later.
@@ -102,8 +102,8 @@ impl<R: Files + Alloc + Clone + Drop> WalkDirGeneric<((), ()), RealFs<R>, NoProc
 where
     R::A: Copy,
 {
-    ghost use Rattle.walk_model.specs.Options.{defaults};
-    ghost use Rattle.real_fs.specs.RealFs.{runtime_of};
+    ghost use Rattle.jwalk_model.specs.Options.{defaults};
+    ghost use Rattle.jwalk_real_fs.specs.RealFs.{runtime_of};
     ghost use Rattle.jwalk.specs.WalkDir.{file_system_of, root_of, options_of};
 
     /// Returns a walk of the file system that a runtime reaches, from a root: `WalkDir::at(&rt, "/usr")?`. It holds a
@@ -129,7 +129,7 @@ impl<
     A: Allocator + Copy,
     W: Drop,
 > WalkDirGeneric<C, S, P, A, W> {
-    ghost use Rattle.walk_model.specs.Options.{with_sort, with_skip_hidden, with_follow_links, with_same_file_system, with_keep_metadata, with_min_depth, with_max_depth, with_parallelism};
+    ghost use Rattle.jwalk_model.specs.Options.{with_sort, with_skip_hidden, with_follow_links, with_same_file_system, with_keep_metadata, with_min_depth, with_max_depth, with_parallelism};
     ghost use Rattle.jwalk_core.specs.Parallelism.{parallelism_value, crew_of};
     ghost use Rattle.jwalk.specs.WalkDir.{root_of, options_of, described, with_callback, Sets};
 

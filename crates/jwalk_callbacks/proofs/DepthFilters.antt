@@ -3,8 +3,8 @@ use Rattle.std.proofs.Common.{◌≡◌, ◌∙◌, ℕ, Bool, true, false, cond
 use Rattle.std.specs.Prelude.{◌==◌, Option, Result, OnOk}
 use Rattle.std.specs.List.{filter}
 use Rattle.std.proofs.lemmas.Bool.Decides.{nat_tests}
-use Rattle.walk_model.specs.Entry.{Item, AtDepth}
-use Rattle.walk_model.specs.ReadDir.{list_depth}
+use Rattle.jwalk_model.specs.Entry.{Item, AtDepth}
+use Rattle.jwalk_model.specs.ReadDir.{list_depth}
 use Rattle.jwalk_core.specs.Given.{Given, IsProcessed}
 use Rattle.jwalk_core.proofs.GivenFacts.{depth_of_made}
 use Rattle.jwalk_callbacks.specs.ByFn.{is_at, Keeps}

@@ -4,10 +4,10 @@ use Rattle.std.specs.List.{filter, items_where_true}
 use Rattle.std.specs.List.Retain.{IsFiltered, ReturnsInTurn}
 use Rattle.std.proofs.lemmas.List.{length-map}
 use Rattle.std.proofs.lemmas.List.Elements.{filter_from_retain}
-use Rattle.walk_model.specs.declared.file_type.FileType.{FileType}
-use Rattle.walk_model.specs.Entry.{Item, AtDepth}
-use Rattle.walk_model.specs.ReadDir.{list_depth}
-use Rattle.walk_model.specs.Counted.{item_by, reading_by}
+use Rattle.jwalk_model.specs.declared.file_type.FileType.{FileType}
+use Rattle.jwalk_model.specs.Entry.{Item, AtDepth}
+use Rattle.jwalk_model.specs.ReadDir.{list_depth}
+use Rattle.jwalk_model.specs.Counted.{item_by, reading_by}
 use Rattle.jwalk_callbacks.specs.FilterEntry.{Test, stays, filtered_list, filters, IsTest, IsAnswered, IsLeft}
 
 module _ {X Y F : Type 0} (view : X → Y) (R : F → X → Bool → F → Type 0) (S : Y → Bool → Type 0) (f : F) (says : (x : X) (b : Bool) (q : F) → R f x b q → S (view x) b × (q ≡ f)) where

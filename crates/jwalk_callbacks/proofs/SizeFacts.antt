@@ -4,11 +4,11 @@ use Rattle.std.specs.Prelude.{OnOk}
 use Rattle.std.specs.declared.io.ErrorKind.{ErrorKind}
 use Rattle.std.proofs.lemmas.List.{map-set, get_or-map}
 use Rattle.std.proofs.Math.Seq.{map-set_same}
-use Rattle.walk_model.specs.declared.metadata.Metadata.{Metadata}
-use Rattle.walk_model.specs.FileType.{is_file}
-use Rattle.walk_model.specs.FileSystem.{Functions}
-use Rattle.walk_model.specs.Entry.{Item, metadata_of, AtDepth}
-use Rattle.walk_model.specs.Counted.{entry_by, item_by}
+use Rattle.jwalk_model.specs.declared.metadata.Metadata.{Metadata}
+use Rattle.jwalk_model.specs.FileType.{is_file}
+use Rattle.jwalk_model.specs.FileSystem.{Functions}
+use Rattle.jwalk_model.specs.Entry.{Item, metadata_of, AtDepth}
+use Rattle.jwalk_model.specs.Counted.{entry_by, item_by}
 use Rattle.jwalk_core.specs.Given.{Given, IsProcessed}
 use Rattle.jwalk_callbacks.specs.WithSizes.{with_asked, size_of, sized_item, unasked_item, counted_size, PutsSizes}
 use Rattle.jwalk_callbacks.specs.declared.size.Size.{Size}

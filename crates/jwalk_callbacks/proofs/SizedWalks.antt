@@ -2,19 +2,19 @@
 use Rattle.std.proofs.Common.{◌≡◌, ℕ, zero, suc, nat_le, Bool, true, false, cond, List, [], ◌∷◌, ◌++◌, map, Option, Some, None, Result, Ok, Err, refl, sym, ap, subst, ◌∙◌}
 use Rattle.std.specs.Prelude.{flat_map, option_map, IsTrue}
 use Rattle.std.specs.declared.io.ErrorKind.{ErrorKind}
-use Rattle.walk_model.specs.FileType.{is_file}
-use Rattle.walk_model.specs.FileSystem.{Functions, Listed}
-use Rattle.walk_model.specs.Error.{io}
-use Rattle.walk_model.specs.Entry.{Entry, Item, metadata_of, failed}
-use Rattle.walk_model.specs.ReadDir.{Spec, Outcome, spec_of}
-use Rattle.walk_model.specs.Options.{Options}
-use Rattle.walk_model.specs.Counted.{Worth}
-use Rattle.walk_model.specs.Job as value
-use Rattle.walk_model.specs.Job.{Job, either}
-use Rattle.walk_model.specs.Listing.{Source, nothing, unread, was_read, Pair, source_of, pair, paired, pairs_of, after_reading, is_answered, answers, levels_of, stands, opened, below, listing}
-use Rattle.walk_model.specs.Walk.{whole_walk, stateless_walk}
-use Rattle.walk_model.specs.States.{bare_entry, bare_item, bare_outcome}
-use Rattle.walk_model.proofs.StatesFacts.{bare-after_reading, bare-ordered, bare-root_item, states_change_nothing_else}
+use Rattle.jwalk_model.specs.FileType.{is_file}
+use Rattle.jwalk_model.specs.FileSystem.{Functions, Listed}
+use Rattle.jwalk_model.specs.Error.{io}
+use Rattle.jwalk_model.specs.Entry.{Entry, Item, metadata_of, failed}
+use Rattle.jwalk_model.specs.ReadDir.{Spec, Outcome, spec_of}
+use Rattle.jwalk_model.specs.Options.{Options}
+use Rattle.jwalk_model.specs.Counted.{Worth}
+use Rattle.jwalk_model.specs.Job as value
+use Rattle.jwalk_model.specs.Job.{Job, either}
+use Rattle.jwalk_model.specs.Listing.{Source, nothing, unread, was_read, Pair, source_of, pair, paired, pairs_of, after_reading, is_answered, answers, levels_of, stands, opened, below, listing}
+use Rattle.jwalk_model.specs.Walk.{whole_walk, stateless_walk}
+use Rattle.jwalk_model.specs.States.{bare_entry, bare_item, bare_outcome}
+use Rattle.jwalk_model.proofs.StatesFacts.{bare-after_reading, bare-ordered, bare-root_item, states_change_nothing_else}
 use Rattle.jwalk_callbacks.specs.WithSizes.{with_asked, counted_size, job_sizing, HasSize, HaveSizes, WalksAreSized}
 
 module _ (fs : Functions) where

@@ -4,8 +4,8 @@ use Rattle.std.specs.Prelude.{OnOk}
 use Rattle.std.specs.List.{list_any}
 use Rattle.std.proofs.lemmas.List.{map-set, get_or-map, length-map, take_all, drop_all}
 use Rattle.std.proofs.lemmas.List.Edits.{map_over_more}
-use Rattle.walk_model.specs.Entry.{Item}
-use Rattle.walk_model.specs.Counted.{entry_by, item_by, reading_by}
+use Rattle.jwalk_model.specs.Entry.{Item}
+use Rattle.jwalk_model.specs.Counted.{entry_by, item_by, reading_by}
 use Rattle.jwalk_callbacks.specs.SkipNames.{is_one_of, skipped_item, skips}
 
 -- what holds of every result holds of an `Ok`

@@ -1,8 +1,8 @@
 -- One callback after another.
 use Rattle.std.specs.Prelude.{◌≡◌, ℕ, List, Option}
-use Rattle.walk_model.specs.Entry.{Item}
-use Rattle.walk_model.specs.Counted.{Worth}
-use Rattle.walk_model.specs.Job.{Processing, KeepsDepthsOf}
+use Rattle.jwalk_model.specs.Entry.{Item}
+use Rattle.jwalk_model.specs.Counted.{Worth}
+use Rattle.jwalk_model.specs.Job.{Processing, KeepsDepthsOf}
 use Rattle.jwalk_core.specs.Given.{Given}
 use Rattle.jwalk_callbacks.specs.declared.both.Both.{Both}
 

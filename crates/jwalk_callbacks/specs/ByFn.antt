@@ -2,8 +2,8 @@
 use Rattle.std.specs.Prelude.{◌≡◌, ◌==◌, ℕ, Bool, true, List, Option, Result, Ok, Err, OnOk, map}
 use Rattle.std.specs.List.{filter}
 use Rattle.std.specs.declared.alloc.AllocError.{AllocError}
-use Rattle.walk_model.specs.Entry.{Item, AtDepth}
-use Rattle.walk_model.specs.ReadDir.{list_depth}
+use Rattle.jwalk_model.specs.Entry.{Item, AtDepth}
+use Rattle.jwalk_model.specs.ReadDir.{list_depth}
 use Rattle.jwalk_core.specs.Given.{Given, IsProcessed}
 use Rattle.jwalk_callbacks.specs.declared.calls.Closure.{Closure}
 use Rattle.jwalk_callbacks.specs.declared.by_fn.ByFn.{ByFn}

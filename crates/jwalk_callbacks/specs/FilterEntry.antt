@@ -3,11 +3,11 @@ use Rattle.std.specs.Prelude.{◌≡◌, ◌<◌, ◌^◌, IsUtf8, ℕ, Bool, tr
 use Rattle.std.specs.Borrow.{Bor}
 use Rattle.std.specs.List.{filter}
 use Rattle.std.specs.List.Retain.{IsFiltered}
-use Rattle.walk_model.specs.declared.file_type.FileType.{FileType}
-use Rattle.walk_model.specs.Entry.{Entry, Item, AtDepth}
-use Rattle.walk_model.specs.ReadDir.{list_depth}
-use Rattle.walk_model.specs.Counted.{blank}
-use Rattle.walk_model.specs.Job.{Processing, KeepsDepthsOf}
+use Rattle.jwalk_model.specs.declared.file_type.FileType.{FileType}
+use Rattle.jwalk_model.specs.Entry.{Entry, Item, AtDepth}
+use Rattle.jwalk_model.specs.ReadDir.{list_depth}
+use Rattle.jwalk_model.specs.Counted.{blank}
+use Rattle.jwalk_model.specs.Job.{Processing, KeepsDepthsOf}
 use Rattle.jwalk_core.specs.Given.{Given}
 use Rattle.jwalk_callbacks.specs.declared.filter_entry.FilterEntry.{FilterEntry}
 

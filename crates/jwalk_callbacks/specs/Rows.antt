@@ -3,19 +3,19 @@ use Rattle.std.specs.Prelude.{◌≡◌, ℕ, ◌==◌, Bool, true, false, not, 
 use Rattle.std.specs.Borrow.{Bor}
 use Rattle.std.specs.Fmt.{digits}
 use Rattle.std.specs.declared.io.ErrorKind.TheVariants as kind
-use Rattle.walk_model.specs.declared.file_type.FileType.{FileType}
-use Rattle.walk_model.specs.declared.file_type.FileType.TheVariants.{Dir, File}
-use Rattle.walk_model.specs.FileType.{is_dir}
-use Rattle.walk_model.specs.Paths.{join}
-use Rattle.walk_model.specs.Error.{io}
-use Rattle.walk_model.specs.Entry.{Item, children_at}
-use Rattle.walk_model.specs.ReadDir.{Reading}
-use Rattle.walk_model.specs.Job.{Processing}
-use Rattle.walk_model.specs.Listing.{below}
-use Rattle.walk_model.specs.Lines.{line_of}
-use Rattle.walk_model.specs.TreeRows.{d, f}
-use Rattle.walk_model.specs.Walk.{whole_walk}
-use Rattle.walk_model.specs.WalkRows.{tree_by, sorted}
+use Rattle.jwalk_model.specs.declared.file_type.FileType.{FileType}
+use Rattle.jwalk_model.specs.declared.file_type.FileType.TheVariants.{Dir, File}
+use Rattle.jwalk_model.specs.FileType.{is_dir}
+use Rattle.jwalk_model.specs.Paths.{join}
+use Rattle.jwalk_model.specs.Error.{io}
+use Rattle.jwalk_model.specs.Entry.{Item, children_at}
+use Rattle.jwalk_model.specs.ReadDir.{Reading}
+use Rattle.jwalk_model.specs.Job.{Processing}
+use Rattle.jwalk_model.specs.Listing.{below}
+use Rattle.jwalk_model.specs.Lines.{line_of}
+use Rattle.jwalk_model.specs.TreeRows.{d, f}
+use Rattle.jwalk_model.specs.Walk.{whole_walk}
+use Rattle.jwalk_model.specs.WalkRows.{tree_by, sorted}
 use Rattle.jwalk_core.specs.Given.{Given}
 use Rattle.jwalk_callbacks.specs.declared.skip_names.SkipNames.{SkipNames}
 use Rattle.jwalk_callbacks.specs.Both.{chained, chaining, CountsAlike, MakesInTurn}

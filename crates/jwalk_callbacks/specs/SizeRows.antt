@@ -1,17 +1,17 @@
 -- Walks that ask for sizes over small trees, row by row.
 use Rattle.std.specs.Prelude.{◌≡◌, ℕ, true, List, [], ◌∷◌, Ok, Err, if◌then◌else◌, bytes_eq, codes, refl}
 use Rattle.std.specs.declared.io.ErrorKind.TheVariants as kind
-use Rattle.walk_model.specs.declared.file_type.FileType.TheVariants as type
-use Rattle.walk_model.specs.declared.seen.Seen.TheVariants.{TypeAlone}
-use Rattle.walk_model.specs.Metadata.{metadata}
-use Rattle.walk_model.specs.FileSystem.{Functions}
-use Rattle.walk_model.specs.Entry.{Item, path_of}
-use Rattle.walk_model.specs.Options.{Options, with_follow_links}
-use Rattle.walk_model.specs.Counted.{Worth, blank, number, bytes}
-use Rattle.walk_model.specs.Listing.{below}
-use Rattle.walk_model.specs.TreeRows.{d, f, l}
-use Rattle.walk_model.specs.Walk.{whole_walk}
-use Rattle.walk_model.specs.WalkRows.{tree_by, sorted}
+use Rattle.jwalk_model.specs.declared.file_type.FileType.TheVariants as type
+use Rattle.jwalk_model.specs.declared.seen.Seen.TheVariants.{TypeAlone}
+use Rattle.jwalk_model.specs.Metadata.{metadata}
+use Rattle.jwalk_model.specs.FileSystem.{Functions}
+use Rattle.jwalk_model.specs.Entry.{Item, path_of}
+use Rattle.jwalk_model.specs.Options.{Options, with_follow_links}
+use Rattle.jwalk_model.specs.Counted.{Worth, blank, number, bytes}
+use Rattle.jwalk_model.specs.Listing.{below}
+use Rattle.jwalk_model.specs.TreeRows.{d, f, l}
+use Rattle.jwalk_model.specs.Walk.{whole_walk}
+use Rattle.jwalk_model.specs.WalkRows.{tree_by, sorted}
 use Rattle.jwalk_callbacks.specs.WithSizes.{sizes}
 
 -- the paths of entries, each with its state

@@ -1,10 +1,10 @@
 -- Directories that are yielded and not entered, by their names.
 use Rattle.std.specs.Prelude.{◌≡◌, ℕ, Bool, true, false, List, [], ◌∷◌, map, Option, Some, None, Ok, Err, if◌then◌else◌, cond, bytes_eq, string_bytes, refl}
 use Rattle.std.specs.List.{list_any}
-use Rattle.walk_model.specs.Entry.{Entry, Item, AtDepth}
-use Rattle.walk_model.specs.ReadDir.{list_depth}
-use Rattle.walk_model.specs.Counted.{blank}
-use Rattle.walk_model.specs.Job.{Processing, KeepsDepthsOf}
+use Rattle.jwalk_model.specs.Entry.{Entry, Item, AtDepth}
+use Rattle.jwalk_model.specs.ReadDir.{list_depth}
+use Rattle.jwalk_model.specs.Counted.{blank}
+use Rattle.jwalk_model.specs.Job.{Processing, KeepsDepthsOf}
 use Rattle.jwalk_core.specs.Given.{Given}
 use Rattle.jwalk_callbacks.specs.declared.skip_names.SkipNames.{SkipNames}
 

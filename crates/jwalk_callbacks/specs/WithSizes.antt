@@ -1,17 +1,17 @@
 -- Files with their lengths in the states of their entries.
 use Rattle.std.specs.Prelude.{◌≡◌, ℕ, Bool, true, false, cond, List, [], ◌∷◌, map, Option, Result, Ok, Err, if◌then◌else◌, IsTrue, refl}
 use Rattle.std.specs.declared.io.ErrorKind.{ErrorKind}
-use Rattle.walk_model.specs.declared.metadata.Metadata.{Metadata}
-use Rattle.walk_model.specs.Metadata.{len_of}
-use Rattle.walk_model.specs.FileType.{is_file}
-use Rattle.walk_model.specs.FileSystem.{Functions}
-use Rattle.walk_model.specs.Entry.{Entry, Item, metadata_of, AtDepth}
-use Rattle.walk_model.specs.ReadDir.{list_depth}
-use Rattle.walk_model.specs.Counted.{Worth, blank, number, bytes}
-use Rattle.walk_model.specs.Lines.{kind_name}
-use Rattle.walk_model.specs.Options.{Options}
-use Rattle.walk_model.specs.Job.{Job, Processing, KeepsDepthsOf}
-use Rattle.walk_model.specs.Walk.{whole_walk, stateless_walk}
+use Rattle.jwalk_model.specs.declared.metadata.Metadata.{Metadata}
+use Rattle.jwalk_model.specs.Metadata.{len_of}
+use Rattle.jwalk_model.specs.FileType.{is_file}
+use Rattle.jwalk_model.specs.FileSystem.{Functions}
+use Rattle.jwalk_model.specs.Entry.{Entry, Item, metadata_of, AtDepth}
+use Rattle.jwalk_model.specs.ReadDir.{list_depth}
+use Rattle.jwalk_model.specs.Counted.{Worth, blank, number, bytes}
+use Rattle.jwalk_model.specs.Lines.{kind_name}
+use Rattle.jwalk_model.specs.Options.{Options}
+use Rattle.jwalk_model.specs.Job.{Job, Processing, KeepsDepthsOf}
+use Rattle.jwalk_model.specs.Walk.{whole_walk, stateless_walk}
 use Rattle.jwalk_core.specs.Given.{Given}
 use Rattle.jwalk_callbacks.specs.declared.size.Size.{Size}
 use Rattle.jwalk_callbacks.specs.declared.size.Size.TheVariants.{Unasked, Len, Failed}

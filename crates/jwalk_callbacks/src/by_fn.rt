@@ -1,6 +1,6 @@
 //! A closure as a callback.
 ghost use Rattle.std.specs.Prelude.{◌≡◌, ◌<◌, ◌^◌, filter};
-ghost use Rattle.walk_model.specs.ReadDir.{list_depth};
+ghost use Rattle.jwalk_model.specs.ReadDir.{list_depth};
 ghost use Rattle.jwalk_core.specs.Entry.{item};
 ghost use Rattle.jwalk_callbacks.specs.ByFn.{is_at};
 
@@ -81,7 +81,7 @@ impl<
     K: Calls<C::ReadDirState, Vec<Result<DirEntry<C, A>, Error<A>>, A>>,
 > ProcessReadDir<C, A> for ByFn<K> {
     ghost use Rattle.std.specs.Prelude.{map, OnOk};
-    ghost use Rattle.walk_model.specs.Entry.{AtDepth};
+    ghost use Rattle.jwalk_model.specs.Entry.{AtDepth};
     ghost use Rattle.jwalk_core.specs.Given.{IsProcessed};
     ghost use Rattle.jwalk_callbacks.specs.ByFn.{Keeps, MakesBy, call_of};
 

@@ -7,8 +7,8 @@ use jwalk_core::client_state::ClientState;
 use jwalk_core::dir_entry::DirEntry;
 use jwalk_core::error::Error;
 use jwalk_core::process_read_dir::ProcessReadDir;
+use jwalk_model::file_type::FileType;
 use std::alloc::{AllocError, Allocator};
-use walk_model::file_type::FileType;
 
 /// A callback that keeps the entries for which a test of their depth, name and type is true, and drops the others with
 /// all that is below them.

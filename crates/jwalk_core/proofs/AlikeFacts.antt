@@ -2,8 +2,8 @@
 use Rattle.std.proofs.Common.{◌∙◌, List, [], ◌∷◌, map, sym}
 use Rattle.std.specs.declared.clone.Clone as Clone
 use Rattle.std.specs.List.{AllZip}
-use Rattle.walk_model.specs.ReadDir.{Spec, IsClone, AreClones}
-use Rattle.walk_model.proofs.CloneFacts.{counted_clones}
+use Rattle.jwalk_model.specs.ReadDir.{Spec, IsClone, AreClones}
+use Rattle.jwalk_model.proofs.CloneFacts.{counted_clones}
 use Rattle.jwalk_core.specs.declared.read_dir_spec.ReadDirSpec.{ReadDirSpec}
 use Rattle.jwalk_core.specs.ReadDirSpec.{spec}
 use Rattle.jwalk_core.specs.Origin.{CountAlike}

@@ -3,19 +3,19 @@ use Rattle.std.proofs.Common.{◌≡◌, ◌∙◌, ◌<◌, ◌≤◌, ℕ, Boo
 use Rattle.std.specs.Prelude.{option_map}
 use Rattle.std.specs.declared.clone.Clone as Clone
 use Rattle.std.specs.declared.default.Default as Default
-use Rattle.walk_model.specs.Error.{memory}
-use Rattle.walk_model.specs.Entry.{Item, AtDepth, NoDeeper}
-use Rattle.walk_model.specs.ReadDir.{Spec, Reading, Outcome, children, children_of, AreClones}
-use Rattle.walk_model.specs.Counted.{Worth}
-use Rattle.walk_model.specs.Job.{reading}
-use Rattle.walk_model.specs.Listing.{Pair, nothing, paired, answers, listing}
-use Rattle.walk_model.specs.Held as value
-use Rattle.walk_model.specs.Held.{pair_up, weight, AnswersPlainly}
-use Rattle.walk_model.proofs.CloneFacts.{same_length, counted_clones}
-use Rattle.walk_model.proofs.CountedFacts.{counted-is_answered, counted-children_of}
-use Rattle.walk_model.proofs.HeldFacts.{directories, as_many_of, sourced, sourced_count, alone, heavy, pair_up-outcome}
-use Rattle.walk_model.proofs.WithinFacts.{at_depth, is_between}
-use Rattle.walk_fs.specs.declared.file_system.FileSystem as FileSystem
+use Rattle.jwalk_model.specs.Error.{memory}
+use Rattle.jwalk_model.specs.Entry.{Item, AtDepth, NoDeeper}
+use Rattle.jwalk_model.specs.ReadDir.{Spec, Reading, Outcome, children, children_of, AreClones}
+use Rattle.jwalk_model.specs.Counted.{Worth}
+use Rattle.jwalk_model.specs.Job.{reading}
+use Rattle.jwalk_model.specs.Listing.{Pair, nothing, paired, answers, listing}
+use Rattle.jwalk_model.specs.Held as value
+use Rattle.jwalk_model.specs.Held.{pair_up, weight, AnswersPlainly}
+use Rattle.jwalk_model.proofs.CloneFacts.{same_length, counted_clones}
+use Rattle.jwalk_model.proofs.CountedFacts.{counted-is_answered, counted-children_of}
+use Rattle.jwalk_model.proofs.HeldFacts.{directories, as_many_of, sourced, sourced_count, alone, heavy, pair_up-outcome}
+use Rattle.jwalk_model.proofs.WithinFacts.{at_depth, is_between}
+use Rattle.jwalk_fs.specs.declared.file_system.FileSystem as FileSystem
 use Rattle.jwalk_core.specs.declared.process_read_dir.ProcessReadDir as ProcessReadDir
 use Rattle.jwalk_core.specs.declared.error.Error.{Error}
 use Rattle.jwalk_core.specs.declared.dir_entry.DirEntry.{DirEntry}

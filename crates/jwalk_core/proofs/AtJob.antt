@@ -5,10 +5,10 @@ use Rattle.std.specs.declared.clone.Clone as Clone
 use Rattle.std.specs.declared.default.Default as Default
 use Rattle.std.proofs.lemmas.List.{length-map}
 use Rattle.std.proofs.lemmas.Simd.{map-map}
-use Rattle.walk_model.specs.Counted.{Worth}
-use Rattle.walk_model.specs.ReadDir.{Spec, Outcome, children_of}
-use Rattle.walk_model.proofs.CloneFacts.{same_length}
-use Rattle.walk_fs.specs.declared.file_system.FileSystem as FileSystem
+use Rattle.jwalk_model.specs.Counted.{Worth}
+use Rattle.jwalk_model.specs.ReadDir.{Spec, Outcome, children_of}
+use Rattle.jwalk_model.proofs.CloneFacts.{same_length}
+use Rattle.jwalk_fs.specs.declared.file_system.FileSystem as FileSystem
 use Rattle.jwalk_order.specs.Addressed.{Addressed, addressed}
 use Rattle.jwalk_order.specs.IndexPath.{address}
 use Rattle.jwalk_order.specs.Ordered.{address_of, child_count_of}

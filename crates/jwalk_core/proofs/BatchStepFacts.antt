@@ -5,7 +5,7 @@ use Rattle.std.specs.declared.clone.Clone as Clone
 use Rattle.std.specs.declared.default.Default as Default
 use Rattle.std.proofs.lemmas.List.{length-map, nil_from_length}
 use Rattle.std.proofs.lemmas.List.Elements.{All-nil}
-use Rattle.walk_fs.specs.declared.file_system.FileSystem as FileSystem
+use Rattle.jwalk_fs.specs.declared.file_system.FileSystem as FileSystem
 use Rattle.jwalk_board.specs.Board.{Board}
 use Rattle.tree_walk.specs.BoardWalk as tree
 use Rattle.tree_walk.specs.BoardWalk.{left_on, frontier_on, next_on, GivesNext}

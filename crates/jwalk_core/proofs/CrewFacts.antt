@@ -2,10 +2,10 @@
 use Rattle.std.proofs.Common.{◌≡◌, ◌∙◌, ◌+◌, ℕ, List, Ok, Err, IfOk, sym, subst, arith}
 use Rattle.std.specs.declared.clone.Clone as Clone
 use Rattle.std.specs.declared.default.Default as Default
-use Rattle.walk_model.specs.Options.{ReadsAs}
-use Rattle.walk_model.specs.Entry.{AtDepth}
-use Rattle.walk_model.specs.ReadDir.{Spec, Outcome, IsLawfulReading}
-use Rattle.walk_fs.specs.declared.file_system.FileSystem as FileSystem
+use Rattle.jwalk_model.specs.Options.{ReadsAs}
+use Rattle.jwalk_model.specs.Entry.{AtDepth}
+use Rattle.jwalk_model.specs.ReadDir.{Spec, Outcome, IsLawfulReading}
+use Rattle.jwalk_fs.specs.declared.file_system.FileSystem as FileSystem
 use Rattle.jwalk_order.specs.declared.ordered.Ordered.{Ordered}
 use Rattle.jwalk_core.specs.declared.process_read_dir.ProcessReadDir as ProcessReadDir
 use Rattle.jwalk_core.specs.declared.job.Job.{Job}

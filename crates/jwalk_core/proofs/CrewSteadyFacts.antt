@@ -5,12 +5,12 @@ use Rattle.std.proofs.lemmas.Option.{none-some}
 use Rattle.std.specs.declared.alloc.AllocError.{AllocError}
 use Rattle.std.specs.declared.clone.Clone as Clone
 use Rattle.std.specs.declared.default.Default as Default
-use Rattle.walk_model.specs.Options.{Options, ReadsAs}
-use Rattle.walk_model.specs.Counted.{Worth, blank, spec_by}
-use Rattle.walk_model.specs.Job as value
-use Rattle.walk_model.specs.ReadDir.{Spec, Outcome, children_of, AreClones}
-use Rattle.walk_model.proofs.CloneFacts.{same_length}
-use Rattle.walk_fs.specs.declared.file_system.FileSystem as FileSystem
+use Rattle.jwalk_model.specs.Options.{Options, ReadsAs}
+use Rattle.jwalk_model.specs.Counted.{Worth, blank, spec_by}
+use Rattle.jwalk_model.specs.Job as value
+use Rattle.jwalk_model.specs.ReadDir.{Spec, Outcome, children_of, AreClones}
+use Rattle.jwalk_model.proofs.CloneFacts.{same_length}
+use Rattle.jwalk_fs.specs.declared.file_system.FileSystem as FileSystem
 use Rattle.jwalk_order.specs.Frontier.{children_from, roots, passed, next_address}
 use Rattle.jwalk_order.specs.Ordered.{address_of, child_count_of}
 use Rattle.jwalk_order.specs.declared.ordered.Ordered.{Ordered}

@@ -5,12 +5,12 @@ use Rattle.std.proofs.lemmas.List.{map-append, append_assoc}
 use Rattle.std.specs.declared.default.Default as Default
 use Rattle.std.specs.declared.clone.Clone as Clone
 use Rattle.std.specs.declared.fmt.Debug as Debug
-use Rattle.walk_model.specs.FileSystem.{Functions, Listed}
-use Rattle.walk_model.specs.Entry.{AtDepth}
-use Rattle.walk_model.specs.ReadDir.{Spec}
-use Rattle.walk_model.specs.Job as value
-use Rattle.walk_model.proofs.HeldFacts.{AtDepth-append}
-use Rattle.walk_fs.specs.declared.file_system.FileSystem as FileSystem
+use Rattle.jwalk_model.specs.FileSystem.{Functions, Listed}
+use Rattle.jwalk_model.specs.Entry.{AtDepth}
+use Rattle.jwalk_model.specs.ReadDir.{Spec}
+use Rattle.jwalk_model.specs.Job as value
+use Rattle.jwalk_model.proofs.HeldFacts.{AtDepth-append}
+use Rattle.jwalk_fs.specs.declared.file_system.FileSystem as FileSystem
 use Rattle.jwalk_core.specs.declared.dir_entry.DirEntry.{DirEntry}
 use Rattle.jwalk_core.specs.declared.error.Error.{Error}
 use Rattle.jwalk_core.specs.declared.read_dir_spec.ReadDirSpec.{ReadDirSpec}

@@ -1,10 +1,10 @@
 -- Lists that a callback makes as given.
 use Rattle.std.proofs.Common.{◌≡◌, ℕ, List, [], ◌∷◌, Option, Result, Ok, Err, map, ap, sym, ◌∙◌}
 use Rattle.std.specs.Prelude.{OnOk}
-use Rattle.walk_model.specs.Entry.{Item, AtDepth}
-use Rattle.walk_model.specs.ReadDir.{list_depth}
-use Rattle.walk_model.specs.Counted.{item_by}
-use Rattle.walk_model.proofs.CountedFacts.{counted-AtDepth}
+use Rattle.jwalk_model.specs.Entry.{Item, AtDepth}
+use Rattle.jwalk_model.specs.ReadDir.{list_depth}
+use Rattle.jwalk_model.specs.Counted.{item_by}
+use Rattle.jwalk_model.proofs.CountedFacts.{counted-AtDepth}
 use Rattle.jwalk_core.specs.Given.{Given, counted_item, IsProcessed}
 
 -- a list is at the depth that it is at when its states are counted

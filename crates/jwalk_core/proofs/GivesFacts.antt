@@ -5,15 +5,15 @@ use Rattle.std.proofs.lemmas.List.{map-append, length-map, nil_from_length}
 use Rattle.std.proofs.lemmas.List.Elements.{All-nil}
 use Rattle.std.specs.declared.clone.Clone as Clone
 use Rattle.std.specs.declared.default.Default as Default
-use Rattle.walk_model.specs.Entry.{Item}
-use Rattle.walk_model.specs.ReadDir.{Spec, Outcome, children_of}
-use Rattle.walk_model.specs.Preorder.{preorder}
-use Rattle.walk_model.specs.Held.{spec_weight}
-use Rattle.walk_model.specs.Job.{reading}
-use Rattle.walk_model.proofs.CloneFacts.{counted_clones}
-use Rattle.walk_model.proofs.CountedFacts.{counted-children_of, counted-IsLawfulReading}
-use Rattle.walk_model.proofs.PreorderFacts.{preorder-first, fewer_to_read, heavy_specs}
-use Rattle.walk_fs.specs.declared.file_system.FileSystem as FileSystem
+use Rattle.jwalk_model.specs.Entry.{Item}
+use Rattle.jwalk_model.specs.ReadDir.{Spec, Outcome, children_of}
+use Rattle.jwalk_model.specs.Preorder.{preorder}
+use Rattle.jwalk_model.specs.Held.{spec_weight}
+use Rattle.jwalk_model.specs.Job.{reading}
+use Rattle.jwalk_model.proofs.CloneFacts.{counted_clones}
+use Rattle.jwalk_model.proofs.CountedFacts.{counted-children_of, counted-IsLawfulReading}
+use Rattle.jwalk_model.proofs.PreorderFacts.{preorder-first, fewer_to_read, heavy_specs}
+use Rattle.jwalk_fs.specs.declared.file_system.FileSystem as FileSystem
 use Rattle.jwalk_core.specs.declared.process_read_dir.ProcessReadDir as ProcessReadDir
 use Rattle.jwalk_core.specs.declared.job.Job.{Job}
 use Rattle.jwalk_core.specs.declared.error.Error.{Error}

@@ -3,11 +3,11 @@ use Rattle.std.proofs.Common.{◌≡◌, ◌∙◌, ℕ, List, [], ◌∷◌, �
 use Rattle.std.specs.declared.clone.Clone as Clone
 use Rattle.std.specs.declared.default.Default as Default
 use Rattle.std.proofs.lemmas.Option.{slice_get-map}
-use Rattle.walk_model.specs.Job.{reading}
-use Rattle.walk_model.specs.ReadDir.{Spec, Outcome, children_of, AreClones}
-use Rattle.walk_model.proofs.CloneFacts.{counted_clones}
-use Rattle.walk_model.proofs.CountedFacts.{counted-children_of}
-use Rattle.walk_fs.specs.declared.file_system.FileSystem as FileSystem
+use Rattle.jwalk_model.specs.Job.{reading}
+use Rattle.jwalk_model.specs.ReadDir.{Spec, Outcome, children_of, AreClones}
+use Rattle.jwalk_model.proofs.CloneFacts.{counted_clones}
+use Rattle.jwalk_model.proofs.CountedFacts.{counted-children_of}
+use Rattle.jwalk_fs.specs.declared.file_system.FileSystem as FileSystem
 use Rattle.jwalk_core.specs.declared.process_read_dir.ProcessReadDir as ProcessReadDir
 use Rattle.jwalk_core.specs.declared.job.Job.{Job}
 use Rattle.jwalk_core.specs.Given.{Given, counted_spec}

@@ -6,17 +6,17 @@ use Rattle.std.proofs.lemmas.List.{map-append}
 use lib.ListN.{length-append}
 use Rattle.std.specs.declared.clone.Clone as Clone
 use Rattle.std.specs.declared.default.Default as Default
-use Rattle.walk_model.specs.Entry.{Entry, Item, has_directory, NoDeeper}
-use Rattle.walk_model.specs.ReadDir.{Spec, Outcome, children_of, list_of}
-use Rattle.walk_model.specs.Counted.{Worth}
-use Rattle.walk_model.specs.Job as value
-use Rattle.walk_model.specs.Listing.{Pair, after_reading, is_answered, answers, listing}
-use Rattle.walk_model.specs.Held.{first_source, after_first, is_plain, pair_up, weight, AnswersPlainly}
-use Rattle.walk_model.proofs.CloneFacts.{same_length, counted_clones}
-use Rattle.walk_model.proofs.CountedFacts.{counted-has_directory, counted-after_reading, counted-is_answered, counted-list_of, counted-children_of, counted-IsLawfulReading}
-use Rattle.walk_model.proofs.HeldFacts.{directories, directories-append, as_many_of, lighter, lighter_alone, listed, alone, unread_none}
-use Rattle.walk_model.proofs.WithinFacts.{NoDeeper-append, of_reading, after, first_of}
-use Rattle.walk_fs.specs.declared.file_system.FileSystem as FileSystem
+use Rattle.jwalk_model.specs.Entry.{Entry, Item, has_directory, NoDeeper}
+use Rattle.jwalk_model.specs.ReadDir.{Spec, Outcome, children_of, list_of}
+use Rattle.jwalk_model.specs.Counted.{Worth}
+use Rattle.jwalk_model.specs.Job as value
+use Rattle.jwalk_model.specs.Listing.{Pair, after_reading, is_answered, answers, listing}
+use Rattle.jwalk_model.specs.Held.{first_source, after_first, is_plain, pair_up, weight, AnswersPlainly}
+use Rattle.jwalk_model.proofs.CloneFacts.{same_length, counted_clones}
+use Rattle.jwalk_model.proofs.CountedFacts.{counted-has_directory, counted-after_reading, counted-is_answered, counted-list_of, counted-children_of, counted-IsLawfulReading}
+use Rattle.jwalk_model.proofs.HeldFacts.{directories, directories-append, as_many_of, lighter, lighter_alone, listed, alone, unread_none}
+use Rattle.jwalk_model.proofs.WithinFacts.{NoDeeper-append, of_reading, after, first_of}
+use Rattle.jwalk_fs.specs.declared.file_system.FileSystem as FileSystem
 use Rattle.jwalk_core.specs.declared.process_read_dir.ProcessReadDir as ProcessReadDir
 use Rattle.jwalk_core.specs.declared.job.Job.{Job}
 use Rattle.jwalk_core.specs.declared.error.Error.{Error}

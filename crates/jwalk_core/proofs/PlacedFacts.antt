@@ -2,9 +2,9 @@
 use Rattle.std.proofs.Common.{◌≡◌, Bool, true, false, List, [], ◌∷◌, ◌++◌, append-nil, Option, Some, None, option_to_list, Ok, Err, refl, subst}
 use Rattle.std.specs.Prelude.{flat_map, is_some, option_map}
 use Rattle.std.specs.declared.clone.Clone as Clone
-use Rattle.walk_model.specs.Entry.{Entry, Item, Children, has_directory}
-use Rattle.walk_model.specs.ReadDir.{Spec, Outcome, spec_of, spec_below, children_of, list_of, IsClone, AreClones}
-use Rattle.walk_model.specs.Held.{first_source, after_first, is_plain, pair_up}
+use Rattle.jwalk_model.specs.Entry.{Entry, Item, Children, has_directory}
+use Rattle.jwalk_model.specs.ReadDir.{Spec, Outcome, spec_of, spec_below, children_of, list_of, IsClone, AreClones}
+use Rattle.jwalk_model.specs.Held.{first_source, after_first, is_plain, pair_up}
 use Rattle.jwalk_core.specs.declared.job.Job.{Job}
 use Rattle.jwalk_core.specs.CrewReads.{IsBelow, IsNextBelow}
 use Rattle.jwalk_core.specs.Step.{PassesNext, passed_plainly, passed_entering, LeavesOut, none_left_out, one_left_out, ReadsUpTo}

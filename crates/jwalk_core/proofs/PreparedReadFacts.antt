@@ -6,9 +6,9 @@ use Rattle.std.proofs.lemmas.List.Sorted.{length_permutation}
 use lib.ListN.{length-append}
 use Rattle.std.specs.declared.clone.Clone as Clone
 use Rattle.std.specs.declared.default.Default as Default
-use Rattle.walk_model.specs.Error.{memory}
-use Rattle.walk_model.specs.ReadDir.{Spec, Outcome, IsLawfulReading}
-use Rattle.walk_fs.specs.declared.file_system.FileSystem as FileSystem
+use Rattle.jwalk_model.specs.Error.{memory}
+use Rattle.jwalk_model.specs.ReadDir.{Spec, Outcome, IsLawfulReading}
+use Rattle.jwalk_fs.specs.declared.file_system.FileSystem as FileSystem
 use Rattle.jwalk_order.specs.Addressed.{addresses_of}
 use Rattle.jwalk_order.specs.Frontier as order
 use Rattle.jwalk_core.specs.declared.process_read_dir.ProcessReadDir as ProcessReadDir

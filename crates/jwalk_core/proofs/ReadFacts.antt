@@ -7,9 +7,9 @@ use Rattle.std.specs.List.Sorted.{IsPermutation}
 use Rattle.std.proofs.lemmas.List.{map-append, length-map}
 use Rattle.std.proofs.lemmas.List.Elements.{All-nil, All-cons, All-head, All-tail, All-append, All-map, All-weaker}
 use Rattle.std.proofs.lemmas.List.Sorted.{All-permutation}
-use Rattle.walk_model.specs.ReadDir.{Spec, children_of}
-use Rattle.walk_model.proofs.CloneFacts.{same_length}
-use Rattle.walk_fs.specs.declared.file_system.FileSystem as FileSystem
+use Rattle.jwalk_model.specs.ReadDir.{Spec, children_of}
+use Rattle.jwalk_model.proofs.CloneFacts.{same_length}
+use Rattle.jwalk_fs.specs.declared.file_system.FileSystem as FileSystem
 use Rattle.jwalk_order.specs.Frontier.{passed}
 use Rattle.jwalk_board.specs.Board.{Board}
 use Rattle.tree_walk.specs.Reads as tree

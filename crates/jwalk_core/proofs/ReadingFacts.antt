@@ -3,10 +3,10 @@ use Rattle.std.proofs.Common.{◌≡◌, ◌+◌, ◌<◌, ◌^◌, true, false,
 use Rattle.std.specs.Prelude.{nat_le}
 use Rattle.std.specs.declared.clone.Clone as Clone
 use Rattle.std.specs.declared.default.Default as Default
-use Rattle.walk_model.specs.Entry.{AtDepth}
-use Rattle.walk_model.specs.ReadDir.{Spec, Reading}
-use Rattle.walk_model.specs.Job as value
-use Rattle.walk_fs.specs.declared.file_system.FileSystem as FileSystem
+use Rattle.jwalk_model.specs.Entry.{AtDepth}
+use Rattle.jwalk_model.specs.ReadDir.{Spec, Reading}
+use Rattle.jwalk_model.specs.Job as value
+use Rattle.jwalk_fs.specs.declared.file_system.FileSystem as FileSystem
 use Rattle.jwalk_core.specs.declared.process_read_dir.ProcessReadDir as ProcessReadDir
 use Rattle.jwalk_core.specs.declared.job.Job.{Job}
 use Rattle.jwalk_core.specs.Given.{Given, counted_spec, counted_reading}

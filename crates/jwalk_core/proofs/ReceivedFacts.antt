@@ -2,7 +2,7 @@
 use Rattle.std.proofs.Common.{◌≡◌, ◌∙◌, ◌∷◌, [], ◌++◌, List, Result, Ok, Err, OnOk, map, reverse, ap}
 use Rattle.std.specs.Prelude.{if◌then◌else◌, is_ok}
 use Rattle.std.proofs.lemmas.List.{map-append, reverse-append, reverse-reverse}
-use Rattle.walk_model.specs.Entry.{Item}
+use Rattle.jwalk_model.specs.Entry.{Item}
 use Rattle.jwalk_core.specs.declared.error.Error.{Error}
 use Rattle.jwalk_core.specs.declared.dir_entry.DirEntry.{DirEntry}
 use Rattle.jwalk_core.specs.Entry.{item}

@@ -9,8 +9,8 @@ use Rattle.std.specs.declared.cmp.Ordering.{Ordering}
 use Rattle.std.specs.declared.cmp.Ordering.TheVariants.{Less, Equal, Greater}
 use Rattle.std.proofs.lemmas.Cmp.{nat_cmp_total, nat_list_cmp_total}
 use Rattle.std.proofs.lemmas.List.Sorted.{ranks_by}
-use Rattle.walk_model.specs.Entry.{Item}
-use Rattle.walk_model.specs.Sorting.{stands_before}
+use Rattle.jwalk_model.specs.Entry.{Item}
+use Rattle.jwalk_model.specs.Sorting.{stands_before}
 use Rattle.jwalk_core.specs.Sorting.{number, key_of}
 
 module _ {X : Type 0} (p q : X → Bool) (within : (x : X) → p x ≡ true → q x ≡ true) where

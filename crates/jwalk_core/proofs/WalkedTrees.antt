@@ -3,9 +3,9 @@ use Rattle.std.proofs.Common.{◌≡◌, ℕ, zero, suc, ◌+◌, ◌-◌, List,
 use Rattle.std.specs.Prelude.{flat_map}
 use Rattle.std.proofs.lemmas.List.{map-append}
 use Rattle.std.proofs.lemmas.Simd.{map-map}
-use Rattle.walk_model.specs.ReadDir.{Spec, Outcome, children_of}
-use Rattle.walk_model.specs.Job.{Job, reading}
-use Rattle.walk_model.specs.Preorder.{readings}
+use Rattle.jwalk_model.specs.ReadDir.{Spec, Outcome, children_of}
+use Rattle.jwalk_model.specs.Job.{Job, reading}
+use Rattle.jwalk_model.specs.Preorder.{readings}
 use Rattle.jwalk_order.specs.Addressed.{Addressed}
 use Rattle.jwalk_board.specs.Plan.{forest, read, subtree, subtree_within, specs_in_preorder}
 use Rattle.jwalk_core.specs.Plan.{tree_of, TreesAreWalked}

@@ -2,9 +2,9 @@
 use Rattle.std.specs.Prelude.{◌≡◌, IfSome, ℕ, List, [], map, Option, None, Some, String, Vec}
 use Rattle.std.specs.Arc.{arc_value}
 use Rattle.std.specs.declared.sync.Arc.{Arc}
-use Rattle.walk_model.specs.declared.metadata.Identity.{Identity}
-use Rattle.walk_model.specs.FileSystem.{Functions}
-use Rattle.walk_model.specs.Job.{identity_at}
+use Rattle.jwalk_model.specs.declared.metadata.Identity.{Identity}
+use Rattle.jwalk_model.specs.FileSystem.{Functions}
+use Rattle.jwalk_model.specs.Job.{identity_at}
 use Rattle.jwalk_core.specs.declared.ancestors.Ancestors.{Ancestors}
 use Rattle.jwalk_core.specs.Text.{text}
 

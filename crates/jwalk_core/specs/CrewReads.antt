@@ -3,11 +3,11 @@ use Rattle.std.specs.Prelude.{◌≡◌, ℕ, Bool, true, false, List, [], ◌�
 use Rattle.std.specs.Arc.{arc_value}
 use Rattle.std.specs.declared.clone.Clone as Clone
 use Rattle.std.specs.declared.default.Default as Default
-use Rattle.walk_model.specs.Error.{Failure, busy, memory, lost}
-use Rattle.walk_model.specs.Options.{ReadsAs}
-use Rattle.walk_model.specs.Entry.{Item}
-use Rattle.walk_model.specs.ReadDir.{Spec, Outcome, spec_below, children_of, AreClones}
-use Rattle.walk_fs.specs.declared.file_system.FileSystem as FileSystem
+use Rattle.jwalk_model.specs.Error.{Failure, busy, memory, lost}
+use Rattle.jwalk_model.specs.Options.{ReadsAs}
+use Rattle.jwalk_model.specs.Entry.{Item}
+use Rattle.jwalk_model.specs.ReadDir.{Spec, Outcome, spec_below, children_of, AreClones}
+use Rattle.jwalk_fs.specs.declared.file_system.FileSystem as FileSystem
 use Rattle.jwalk_order.specs.Frontier as frontier
 use Rattle.jwalk_order.specs.Ordered.{address_of}
 use Rattle.jwalk_order.specs.declared.ordered.Ordered.{Ordered}

@@ -4,15 +4,15 @@ use Rattle.std.specs.declared.clone.Clone as Clone
 use Rattle.std.specs.declared.default.Default as Default
 use Rattle.std.specs.declared.alloc.AllocError.{AllocError}
 use Rattle.std.specs.Iterator.{Drains, Yields, YieldsThen}
-use Rattle.walk_model.specs.Error.{Failure, memory}
-use Rattle.walk_model.specs.Entry.{Item, has_directory, NoDeeper, IsBetween, AllBetween}
-use Rattle.walk_model.specs.ReadDir.{Spec, Outcome, list_of, children_of}
-use Rattle.walk_model.specs.Counted.{Worth}
-use Rattle.walk_model.specs.Job.{reading}
-use Rattle.walk_model.specs.Listing.{Pair, Source, nothing, unread, was_read, after_reading, is_answered}
-use Rattle.walk_model.specs.Held as value
-use Rattle.walk_model.specs.Held.{pair_up, weight, sources, AnswersPlainly, AreSourced}
-use Rattle.walk_fs.specs.declared.file_system.FileSystem as FileSystem
+use Rattle.jwalk_model.specs.Error.{Failure, memory}
+use Rattle.jwalk_model.specs.Entry.{Item, has_directory, NoDeeper, IsBetween, AllBetween}
+use Rattle.jwalk_model.specs.ReadDir.{Spec, Outcome, list_of, children_of}
+use Rattle.jwalk_model.specs.Counted.{Worth}
+use Rattle.jwalk_model.specs.Job.{reading}
+use Rattle.jwalk_model.specs.Listing.{Pair, Source, nothing, unread, was_read, after_reading, is_answered}
+use Rattle.jwalk_model.specs.Held as value
+use Rattle.jwalk_model.specs.Held.{pair_up, weight, sources, AnswersPlainly, AreSourced}
+use Rattle.jwalk_fs.specs.declared.file_system.FileSystem as FileSystem
 use Rattle.jwalk_core.specs.declared.process_read_dir.ProcessReadDir as ProcessReadDir
 use Rattle.jwalk_core.specs.declared.error.Error.{Error}
 use Rattle.jwalk_core.specs.declared.dir_entry.DirEntry.{DirEntry}

@@ -1,7 +1,7 @@
 -- Entries as values.
 use Rattle.std.specs.Prelude.{option_map, Result, Ok, Err, string_bytes}
-use Rattle.walk_model.specs.Entry as value
-use Rattle.walk_model.specs.Entry.{Children, Item}
+use Rattle.jwalk_model.specs.Entry as value
+use Rattle.jwalk_model.specs.Entry.{Children, Item}
 use Rattle.jwalk_core.specs.declared.dir_entry.DirEntry.{DirEntry}
 use Rattle.jwalk_core.specs.declared.read_children.ReadChildren.{ReadChildren}
 use Rattle.jwalk_core.specs.declared.error.Error.{Error}

@@ -3,8 +3,8 @@ use Rattle.std.specs.Prelude.{ℕ, List, [], ◌++◌, Option, Some, None, optio
 use Rattle.std.specs.IoError.{error_kind}
 use Rattle.std.specs.declared.io.ErrorKind.{ErrorKind}
 use Rattle.std.specs.declared.io.ErrorKind.TheVariants.{Other}
-use Rattle.walk_model.specs.Error as value
-use Rattle.walk_model.specs.Error.{Failure}
+use Rattle.jwalk_model.specs.Error as value
+use Rattle.jwalk_model.specs.Error.{Failure}
 use Rattle.jwalk_core.specs.declared.error.Error.{Error}
 use Rattle.jwalk_core.specs.declared.error.ErrorInner.{ErrorInner}
 use Rattle.jwalk_core.specs.declared.error.ErrorInner.TheVariants.{Io, Unnamed, Loop, Busy, Memory, Lost}

@@ -3,10 +3,10 @@ use Rattle.std.specs.Prelude.{◌≡◌, ◌+◌, ◌++◌, ℕ, List, Ok, map}
 use Rattle.std.specs.declared.default.Default as Default
 use Rattle.std.specs.declared.clone.Clone as Clone
 use Rattle.std.specs.declared.fmt.Debug as Debug
-use Rattle.walk_model.specs.FileSystem.{Functions, Listed}
-use Rattle.walk_model.specs.Entry.{AtDepth}
-use Rattle.walk_model.specs.Job as value
-use Rattle.walk_fs.specs.declared.file_system.FileSystem as FileSystem
+use Rattle.jwalk_model.specs.FileSystem.{Functions, Listed}
+use Rattle.jwalk_model.specs.Entry.{AtDepth}
+use Rattle.jwalk_model.specs.Job as value
+use Rattle.jwalk_fs.specs.declared.file_system.FileSystem as FileSystem
 use Rattle.jwalk_core.specs.Entry.{item}
 use Rattle.jwalk_core.specs.ReadDirSpec.{spec}
 use Rattle.jwalk_core.specs.Given.{Given, counted_spec, counted_list, DefaultsCount}

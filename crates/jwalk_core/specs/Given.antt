@@ -2,10 +2,10 @@
 use Rattle.std.specs.Prelude.{◌≡◌, ℕ, List, Option, Result, map}
 use Rattle.std.specs.declared.clone.Clone as Clone
 use Rattle.std.specs.declared.default.Default as Default
-use Rattle.walk_model.specs.Entry.{Entry, Item}
-use Rattle.walk_model.specs.ReadDir.{Spec, Reading, Outcome}
-use Rattle.walk_model.specs.Counted.{Worth, spec_by, entry_by, item_by, reading_by, outcome_by}
-use Rattle.walk_model.specs.Job.{Processing, KeepsDepthsOf}
+use Rattle.jwalk_model.specs.Entry.{Entry, Item}
+use Rattle.jwalk_model.specs.ReadDir.{Spec, Reading, Outcome}
+use Rattle.jwalk_model.specs.Counted.{Worth, spec_by, entry_by, item_by, reading_by, outcome_by}
+use Rattle.jwalk_model.specs.Job.{Processing, KeepsDepthsOf}
 use Rattle.jwalk_core.specs.declared.dir_entry.DirEntry.{DirEntry}
 use Rattle.jwalk_core.specs.declared.error.Error.{Error}
 use Rattle.jwalk_core.specs.Entry.{item}

@@ -1,9 +1,9 @@
 -- What the entries of one directory share.
 use Rattle.std.specs.Prelude.{◌≡◌, IfSome, Option, None, Some, List, [], Vec, map}
-use Rattle.walk_model.specs.declared.metadata.Identity.{Identity}
-use Rattle.walk_model.specs.FileSystem.{Functions}
-use Rattle.walk_model.specs.ReadDir.{Spec}
-use Rattle.walk_model.specs.Job as value
+use Rattle.jwalk_model.specs.declared.metadata.Identity.{Identity}
+use Rattle.jwalk_model.specs.FileSystem.{Functions}
+use Rattle.jwalk_model.specs.ReadDir.{Spec}
+use Rattle.jwalk_model.specs.Job as value
 use Rattle.jwalk_core.specs.Ancestors.{texts}
 use Rattle.jwalk_core.specs.declared.job.inside.Inside.{Inside}
 

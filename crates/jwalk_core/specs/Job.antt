@@ -2,13 +2,13 @@
 use Rattle.std.specs.Prelude.{◌≡◌, ◌<◌, ◌^◌, ℕ, Bool, List, Some, Result, IfOk, length, if◌then◌else◌}
 use Rattle.std.specs.declared.clone.Clone as Clone
 use Rattle.std.specs.declared.default.Default as Default
-use Rattle.walk_model.specs.Options as value_options
-use Rattle.walk_model.specs.Entry.{Item}
-use Rattle.walk_model.specs.Sorting.{arranged}
-use Rattle.walk_model.specs.ReadDir.{Spec, Reading, Outcome, IsLawfulReading, list_of}
-use Rattle.walk_model.specs.Counted.{Worth}
-use Rattle.walk_model.specs.Job as value
-use Rattle.walk_fs.specs.declared.file_system.FileSystem as FileSystem
+use Rattle.jwalk_model.specs.Options as value_options
+use Rattle.jwalk_model.specs.Entry.{Item}
+use Rattle.jwalk_model.specs.Sorting.{arranged}
+use Rattle.jwalk_model.specs.ReadDir.{Spec, Reading, Outcome, IsLawfulReading, list_of}
+use Rattle.jwalk_model.specs.Counted.{Worth}
+use Rattle.jwalk_model.specs.Job as value
+use Rattle.jwalk_fs.specs.declared.file_system.FileSystem as FileSystem
 use Rattle.jwalk_core.specs.declared.process_read_dir.ProcessReadDir as ProcessReadDir
 use Rattle.jwalk_core.specs.declared.job.Job.{Job}
 use Rattle.jwalk_core.specs.Options.{options_value}

@@ -1,7 +1,7 @@
 -- The options of a walk as a value.
 use Rattle.std.specs.Prelude.{ℕ, ◌==◌, if◌then◌else◌}
-use Rattle.walk_model.specs.Options as value
-use Rattle.walk_model.specs.Options.{serial, batches, crew}
+use Rattle.jwalk_model.specs.Options as value
+use Rattle.jwalk_model.specs.Options.{serial, batches, crew}
 use Rattle.jwalk_core.specs.declared.mode.Mode.{Mode}
 use Rattle.jwalk_core.specs.declared.mode.Mode.TheVariants.{Serial, Batches, Crew}
 use Rattle.jwalk_core.specs.declared.options.Options.{Options}

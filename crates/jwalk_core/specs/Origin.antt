@@ -2,10 +2,10 @@
 use Rattle.std.specs.Prelude.{◌≡◌, ℕ, List, map, length, Option, Some, IfOk}
 use Rattle.std.specs.declared.clone.Clone as Clone
 use Rattle.std.specs.declared.default.Default as Default
-use Rattle.walk_model.specs.Counted.{Worth, spec_by}
-use Rattle.walk_model.specs.Job.{reading}
-use Rattle.walk_model.specs.ReadDir.{Spec, children_of}
-use Rattle.walk_fs.specs.declared.file_system.FileSystem as FileSystem
+use Rattle.jwalk_model.specs.Counted.{Worth, spec_by}
+use Rattle.jwalk_model.specs.Job.{reading}
+use Rattle.jwalk_model.specs.ReadDir.{Spec, children_of}
+use Rattle.jwalk_fs.specs.declared.file_system.FileSystem as FileSystem
 use Rattle.jwalk_order.specs.Addressed.{Addressed}
 use Rattle.jwalk_core.specs.declared.process_read_dir.ProcessReadDir as ProcessReadDir
 use Rattle.jwalk_core.specs.declared.job.Job.{Job}

@@ -3,8 +3,8 @@ use Rattle.std.specs.Prelude.{◌≡◌, ◌==◌, Bool, true, false, if◌then�
 use Rattle.std.specs.Arc.{arc_value}
 use Rattle.std.specs.declared.sync.Arc.{Arc}
 use Rattle.std.specs.declared.time.Duration.{Duration}
-use Rattle.walk_model.specs.Options as value
-use Rattle.walk_model.specs.Options.{serial, batches, crew}
+use Rattle.jwalk_model.specs.Options as value
+use Rattle.jwalk_model.specs.Options.{serial, batches, crew}
 use Rattle.jwalk_core.specs.declared.parallelism.Parallelism.{Parallelism}
 use Rattle.jwalk_core.specs.declared.parallelism.Parallelism.TheVariants.{Serial, RayonExistingPool, RayonNewPool}
 

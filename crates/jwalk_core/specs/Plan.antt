@@ -1,8 +1,8 @@
 -- A job as a plan.
 use Rattle.std.specs.Prelude.{◌≡◌, ◌-◌, List}
-use Rattle.walk_model.specs.ReadDir.{Spec, Outcome, children_of}
-use Rattle.walk_model.specs.Job.{Job, reading}
-use Rattle.walk_model.specs.Preorder.{preorder}
+use Rattle.jwalk_model.specs.ReadDir.{Spec, Outcome, children_of}
+use Rattle.jwalk_model.specs.Job.{Job, reading}
+use Rattle.jwalk_model.specs.Preorder.{preorder}
 use Rattle.jwalk_board.specs.Plan.{PlanTree, readings_in_preorder, values}
 
 -- the tree of a job's readings; a directory's height is the greatest depth less its own, or 0

@@ -3,10 +3,10 @@ use Rattle.std.proofs.Common.{◌≡◌, ℕ, ◌+◌, ◌-◌, ◌<◌, List, [
 use Rattle.std.specs.Prelude.{All, flat_map, option_map}
 use Rattle.std.proofs.lemmas.Bool.Decides.{leb_tells}
 use Rattle.std.proofs.lemmas.List.Elements.{All-nil, All-cons, All-append, All-weaker}
-use Rattle.walk_model.specs.Entry.{Entry, Item, AtDepth}
-use Rattle.walk_model.specs.ReadDir.{Spec, Reading, Outcome, IsLawfulReading, spec_of, spec_below, children, children_of}
-use Rattle.walk_model.specs.Job.{Job, KeepsDepthsOf, reading}
-use Rattle.walk_model.proofs.ReadingFacts.{readings_lawful}
+use Rattle.jwalk_model.specs.Entry.{Entry, Item, AtDepth}
+use Rattle.jwalk_model.specs.ReadDir.{Spec, Reading, Outcome, IsLawfulReading, spec_of, spec_below, children, children_of}
+use Rattle.jwalk_model.specs.Job.{Job, KeepsDepthsOf, reading}
+use Rattle.jwalk_model.proofs.ReadingFacts.{readings_lawful}
 use Rattle.jwalk_board.specs.Plan.{Falls}
 use Rattle.jwalk_core.specs.Plan.{tree_of}
 

@@ -4,12 +4,12 @@ use Rattle.std.specs.Prelude.{Result}
 use Rattle.std.proofs.lemmas.Simd.{map-map}
 use Rattle.std.specs.declared.clone.Clone as Clone
 use Rattle.std.specs.declared.default.Default as Default
-use Rattle.walk_model.specs.ReadDir.{Outcome, AreClones, children_of}
-use Rattle.walk_model.specs.Counted.{Worth}
-use Rattle.walk_model.specs.Job.{reading}
-use Rattle.walk_model.proofs.CloneFacts.{counted_clones}
-use Rattle.walk_model.proofs.CountedFacts.{counted-children_of}
-use Rattle.walk_fs.specs.declared.file_system.FileSystem as FileSystem
+use Rattle.jwalk_model.specs.ReadDir.{Outcome, AreClones, children_of}
+use Rattle.jwalk_model.specs.Counted.{Worth}
+use Rattle.jwalk_model.specs.Job.{reading}
+use Rattle.jwalk_model.proofs.CloneFacts.{counted_clones}
+use Rattle.jwalk_model.proofs.CountedFacts.{counted-children_of}
+use Rattle.jwalk_fs.specs.declared.file_system.FileSystem as FileSystem
 use Rattle.jwalk_core.specs.declared.process_read_dir.ProcessReadDir as ProcessReadDir
 use Rattle.jwalk_core.specs.declared.read_dir_spec.ReadDirSpec.{ReadDirSpec}
 use Rattle.jwalk_core.specs.declared.error.Error.{Error}

@@ -2,8 +2,8 @@
 use Rattle.std.specs.Prelude.{ℕ, List, Option, map}
 use Rattle.std.specs.declared.clone.Clone as Clone
 use Rattle.std.specs.declared.default.Default as Default
-use Rattle.walk_model.specs.ReadDir.{Spec}
-use Rattle.walk_fs.specs.declared.file_system.FileSystem as FileSystem
+use Rattle.jwalk_model.specs.ReadDir.{Spec}
+use Rattle.jwalk_fs.specs.declared.file_system.FileSystem as FileSystem
 use Rattle.jwalk_order.specs.Addresses.{IsAmong}
 use Rattle.jwalk_board.specs.Seen.{seen}
 use Rattle.tree_walk.specs.ReadAhead as tree

@@ -1,6 +1,6 @@
 -- Readings as values.
 use Rattle.std.specs.Prelude.{map, Result, Ok, Err}
-use Rattle.walk_model.specs.ReadDir.{Reading, Outcome}
+use Rattle.jwalk_model.specs.ReadDir.{Reading, Outcome}
 use Rattle.jwalk_core.specs.declared.read_dir.ReadDir.{ReadDir}
 use Rattle.jwalk_core.specs.declared.error.Error.{Error}
 use Rattle.jwalk_core.specs.Error.{failure}

@@ -1,5 +1,5 @@
 -- A directory to be read, as a value.
-use Rattle.walk_model.specs.ReadDir.{Spec}
+use Rattle.jwalk_model.specs.ReadDir.{Spec}
 use Rattle.jwalk_core.specs.declared.read_dir_spec.ReadDirSpec.{ReadDirSpec}
 use Rattle.jwalk_core.specs.Text.{text}
 use Rattle.jwalk_core.specs.Ancestors.{texts}

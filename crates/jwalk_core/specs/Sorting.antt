@@ -1,7 +1,7 @@
 -- The numbers by which a long list is first put in order.
 use Rattle.std.specs.Prelude.{ℕ, ◌-◌, ◌^◌, List, ◌++◌, length, take, drop, replicate, Ok, Err}
 use Rattle.std.specs.Int.{from_be_bytes, w64}
-use Rattle.walk_model.specs.Entry.{Item}
+use Rattle.jwalk_model.specs.Entry.{Item}
 
 -- the first eight bytes as a number, where missing ones are zero
 abbrev pub number : List ℕ → ℕ

@@ -1,10 +1,10 @@
 -- How an iterator passes what it holds: its items and the unread specifications.
 use Rattle.std.specs.Prelude.{◌≡◌, ◌≢◌, true, false, List, [], ◌∷◌, ◌++◌, Option, Some, None}
 use Rattle.std.specs.declared.clone.Clone as Clone
-use Rattle.walk_model.specs.Entry.{Item, has_directory}
-use Rattle.walk_model.specs.ReadDir.{Spec, Outcome, list_of}
-use Rattle.walk_model.specs.Listing.{after_reading, is_answered}
-use Rattle.walk_model.specs.Held.{first_source, is_plain}
+use Rattle.jwalk_model.specs.Entry.{Item, has_directory}
+use Rattle.jwalk_model.specs.ReadDir.{Spec, Outcome, list_of}
+use Rattle.jwalk_model.specs.Listing.{after_reading, is_answered}
+use Rattle.jwalk_model.specs.Held.{first_source, is_plain}
 use Rattle.jwalk_core.specs.declared.job.Job.{Job}
 use Rattle.jwalk_core.specs.Job.{options_of, greatest_depth}
 use Rattle.jwalk_core.specs.Reads.{ReadsFirstBy}

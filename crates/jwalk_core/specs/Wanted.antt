@@ -1,7 +1,7 @@
 -- The awaited reading.
 use Rattle.std.specs.Prelude.{◌≡◌, ℕ, List}
-use Rattle.walk_model.specs.Options.{Options, ReadsAs}
-use Rattle.walk_model.specs.ReadDir.{Spec}
+use Rattle.jwalk_model.specs.Options.{Options, ReadsAs}
+use Rattle.jwalk_model.specs.ReadDir.{Spec}
 use Rattle.jwalk_order.specs.IndexPath.{address}
 use Rattle.jwalk_order.specs.Ordered.{address_of}
 use Rattle.jwalk_order.specs.declared.ordered.Ordered.{Ordered}

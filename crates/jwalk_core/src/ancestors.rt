@@ -1,18 +1,18 @@
 //! The directories above an entry.
 ghost use Rattle.std.specs.Prelude.{◌≡◌, List, ℕ, ◌↔◌, ◌++◌, ◌∷◌, [], IfOk, IfSome, IsTrue, map, option_map};
-ghost use Rattle.walk_model.specs.Paths.{normalised};
-ghost use Rattle.walk_model.specs.FileSystem.{Functions};
-ghost use Rattle.walk_model.specs.Job as value;
-ghost use Rattle.walk_fs.specs.Place.{place_seen};
+ghost use Rattle.jwalk_model.specs.Paths.{normalised};
+ghost use Rattle.jwalk_model.specs.FileSystem.{Functions};
+ghost use Rattle.jwalk_model.specs.Job as value;
+ghost use Rattle.jwalk_fs.specs.Place.{place_seen};
 ghost use Rattle.jwalk_core.specs.Text.{text};
 ghost use Rattle.jwalk_core.specs.Ancestors.{texts, AreKnown};
 
+use jwalk_fs::fault::Fault;
+use jwalk_fs::file_system::FileSystem;
+use jwalk_fs::place::Place;
+use jwalk_model::metadata::Identity;
 use std::alloc::{AllocError, Allocator, Global};
 use std::sync::Arc;
-use walk_fs::fault::Fault;
-use walk_fs::file_system::FileSystem;
-use walk_fs::place::Place;
-use walk_model::metadata::Identity;
 
 /// The paths of the directories above an entry, that of the root first: a shared list of shared paths. There is no list
 /// if links aren't followed.

@@ -11,11 +11,11 @@ use crate::job::Job;
 use crate::process_read_dir::ProcessReadDir;
 use crate::read_dir::Outcome;
 use crate::read_dir_spec::ReadDirSpec;
+use jwalk_fs::file_system::FileSystem;
 use std::alloc::{AllocError, Allocator, Global};
 use std::marker::Model;
 use std::thread::Threads;
 use tree_walk::board_walk::BoardWalk;
-use walk_fs::file_system::FileSystem;
 
 /// Readings in preorder: a directory's, and then those of all that is below it. Up to `width` directories are read
 /// together, when a reading is asked for that isn't made yet.

@@ -1,7 +1,7 @@
 //! Readings that a crew makes ahead.
 ghost use Rattle.std.specs.Prelude.{◌≡◌, ◌≢◌, ◌≤◌, ◌↔◌, ◌∷◌, ◌++◌, true, false, IsTrue, Ok, [], length, map, IfOk, IfErr, MatchResult, OnErr, OnOk, option_map};
 ghost use Rattle.std.specs.Arc.{arc_value};
-ghost use Rattle.walk_model.specs.ReadDir.{children_of};
+ghost use Rattle.jwalk_model.specs.ReadDir.{children_of};
 ghost use Rattle.jwalk_order.specs.Frontier.{passed};
 ghost use Rattle.jwalk_core.specs.Error.{failure};
 ghost use Rattle.jwalk_core.specs.Entry.{entry};
@@ -23,11 +23,11 @@ use crate::read_dir::{Outcome, directories_of};
 use crate::read_dir_spec::ReadDirSpec;
 use crate::readers::{Missed, NoCrew, Readers};
 use crate::wanted::Wanted;
+use jwalk_fs::file_system::FileSystem;
 use jwalk_order::ordered::Ordered;
 use jwalk_order::ordered_queue::OrderedMatcher;
 use std::alloc::{AllocError, AllocFailed, Allocator, Global};
 use std::sync::Arc;
-use walk_fs::file_system::FileSystem;
 
 /// Readings in preorder, which a crew makes ahead. It keeps which address comes next, and which directory is there.
 /// Only a reading of this directory, made by the same options, is handed on.

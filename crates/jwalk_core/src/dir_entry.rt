@@ -1,8 +1,8 @@
 //! An entry of a walk.
 ghost use Rattle.std.specs.Prelude.{◌≡◌, Some, Ok, Err, IfOk, IfErr, IfSome, MatchResult, string_bytes};
 ghost use Rattle.std.specs.declared.io.ErrorKind.{ErrorKind};
-ghost use Rattle.walk_model.specs.Error.{io};
-ghost use Rattle.walk_model.specs.FileSystem.{metadata_at};
+ghost use Rattle.jwalk_model.specs.Error.{io};
+ghost use Rattle.jwalk_model.specs.FileSystem.{metadata_at};
 ghost use Rattle.jwalk_core.specs.Error.{failure, kind_of};
 
 use crate::ancestors::Ancestors;
@@ -10,13 +10,13 @@ use crate::client_state::ClientState;
 use crate::error::Error;
 use crate::metadata::metadata_at;
 pub use crate::read_children::ReadChildren;
+use jwalk_fs::fault::Fault;
+use jwalk_fs::file_system::FileSystem;
+use jwalk_fs::path_text;
+use jwalk_model::file_type::FileType;
+use jwalk_model::metadata::Metadata;
 use std::alloc::{AllocError, Allocator, Global};
 use std::sync::Arc;
-use walk_fs::fault::Fault;
-use walk_fs::file_system::FileSystem;
-use walk_fs::path_text;
-use walk_model::file_type::FileType;
-use walk_model::metadata::Metadata;
 
 /// A file, a directory, a link or anything else that a walk finds.
 #[derive(Drop)]
@@ -68,9 +68,9 @@ fn asked<S: FileSystem, A: Allocator + Copy>(
 
 impl<C: ClientState, A: Allocator + Copy> DirEntry<C, A> {
     ghost use Rattle.std.specs.Prelude.{◌≡◌, ◌||◌, true, Ok, Err, IfOk, IfErr, IfSome, MatchResult, option_map, option_and_then, option_copied, string_bytes, if◌then◌else◌};
-    ghost use Rattle.walk_model.specs.Entry.{path_of, metadata_of, IsErrorOf, with_error, children_at};
-    ghost use Rattle.walk_model.specs.FileType.{is_dir, is_symlink};
-    ghost use Rattle.walk_model.specs.Metadata.{type_of};
+    ghost use Rattle.jwalk_model.specs.Entry.{path_of, metadata_of, IsErrorOf, with_error, children_at};
+    ghost use Rattle.jwalk_model.specs.FileType.{is_dir, is_symlink};
+    ghost use Rattle.jwalk_model.specs.Metadata.{type_of};
     ghost use Rattle.jwalk_core.specs.Text.{text};
     ghost use Rattle.jwalk_core.specs.Ancestors.{texts};
     ghost use Rattle.jwalk_core.specs.Error.{failure, kind_of};

@@ -14,8 +14,8 @@ use crate::process_read_dir::ProcessReadDir;
 use crate::read_dir::{Outcome, ReadDir};
 use crate::read_dir_iter::ReadDirIter;
 use crate::readers::{Missed, NoCrew, Readers};
+use jwalk_fs::file_system::FileSystem;
 use std::alloc::{AllocError, Allocator, Global};
-use walk_fs::file_system::FileSystem;
 
 /// A walk under way: an iterator over its entries and errors, in strict depth-first order.
 ///
@@ -61,9 +61,9 @@ impl<
     L: Readers<C, S, P, A>,
 > DirEntryIter<C, S, P, A, L> {
     ghost use Rattle.std.specs.Prelude.{◌≤◌, ◌++◌, [], false, length, OnOk, IsSome, IfSome, IfNone, IsSomeAnd, option_map, map};
-    ghost use Rattle.walk_model.specs.Entry.{AtDepth};
-    ghost use Rattle.walk_model.specs.ReadDir.{children, AreClones};
-    ghost use Rattle.walk_model.specs.Listing.{paired, is_answered};
+    ghost use Rattle.jwalk_model.specs.Entry.{AtDepth};
+    ghost use Rattle.jwalk_model.specs.ReadDir.{children, AreClones};
+    ghost use Rattle.jwalk_model.specs.Listing.{paired, is_answered};
     ghost use Rattle.jwalk_core.specs.ReadDir.{reading, outcome};
     ghost use Rattle.jwalk_core.specs.Given.{counted_reading, ClonesCount};
     ghost use Rattle.jwalk_core.specs.Options as options;

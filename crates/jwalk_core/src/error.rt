@@ -49,7 +49,7 @@ impl<A: Allocator + Copy> Error<A> {
     ghost use Rattle.std.specs.Prelude.{◌≡◌, ◌↔◌, Some, None, option_map, IsTrue};
     ghost use Rattle.std.specs.Option.{option_copied};
     ghost use Rattle.std.specs.IoError.{error_kind};
-    ghost use Rattle.walk_model.specs.Error.{io, unnamed, looped, busy, memory, lost};
+    ghost use Rattle.jwalk_model.specs.Error.{io, unnamed, looped, busy, memory, lost};
     ghost use Rattle.jwalk_core.specs.Text.{text};
     ghost use Rattle.jwalk_core.specs.Error.{failure, depth_of, path_of, parent_of, ancestor_of, kind_of};
 

@@ -1,10 +1,10 @@
 //! One reading of a directory.
 ghost use Rattle.std.specs.Prelude.{◌≡◌, ◌+◌, ◌<◌, ◌^◌, None, Some, if◌then◌else◌, IfOk, IfErr, length, map, option_map, option_to_list, string_bytes};
-ghost use Rattle.walk_model.specs.Entry.{AtDepth, children_at};
-ghost use Rattle.walk_model.specs.Paths.{join};
-ghost use Rattle.walk_model.specs.Seen.{type_seen};
-ghost use Rattle.walk_model.specs.Job as value;
-ghost use Rattle.walk_fs.specs.Views.{named_as, FailsAs};
+ghost use Rattle.jwalk_model.specs.Entry.{AtDepth, children_at};
+ghost use Rattle.jwalk_model.specs.Paths.{join};
+ghost use Rattle.jwalk_model.specs.Seen.{type_seen};
+ghost use Rattle.jwalk_model.specs.Job as value;
+ghost use Rattle.jwalk_fs.specs.Views.{named_as, FailsAs};
 ghost use Rattle.jwalk_core.specs.Text.{text};
 ghost use Rattle.jwalk_core.specs.Ancestors.{texts};
 ghost use Rattle.jwalk_core.specs.Entry.{entry, item, children};
@@ -34,15 +34,15 @@ use crate::read_dir_spec::ReadDirSpec;
 use crate::sorting::in_order;
 use gathering::Gathering;
 use inside::Inside;
+use jwalk_fs::fault::Fault;
+use jwalk_fs::file_system::FileSystem;
+use jwalk_model::metadata::Metadata;
+use jwalk_model::seen::Seen;
 use links::{ancestors_below, joined};
 use std::alloc::{AllocError, Allocator, Global};
 use std::io;
 use std::marker::PhantomData;
 use std::sync::Mutex;
-use walk_fs::fault::Fault;
-use walk_fs::file_system::FileSystem;
-use walk_model::metadata::Metadata;
-use walk_model::seen::Seen;
 
 /// What reads one directory: a file system, a callback, and the options that a reading follows.
 pub struct Job<C: ClientState, S, P, A: Allocator + Copy = Global> {

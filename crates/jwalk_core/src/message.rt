@@ -1,7 +1,7 @@
 //! Readings by workers.
 ghost use Rattle.std.specs.Prelude.{◌≡◌, [], IsErr, IsTrue, ◌↔◌, MatchResult, map};
 ghost use Rattle.std.specs.Arc.{arc_value};
-ghost use Rattle.walk_model.specs.ReadDir.{children_of, AreClones};
+ghost use Rattle.jwalk_model.specs.ReadDir.{children_of, AreClones};
 ghost use Rattle.jwalk_core.specs.ReadDirSpec.{spec};
 ghost use Rattle.jwalk_core.specs.ReadDir.{outcome};
 ghost use Rattle.jwalk_core.specs.Job.{callback};
@@ -12,11 +12,11 @@ use crate::job::Job;
 use crate::process_read_dir::ProcessReadDir;
 use crate::read_dir::Outcome;
 use crate::read_dir_spec::ReadDirSpec;
+use jwalk_fs::file_system::FileSystem;
 use std::alloc::{AllocError, Allocator, Global};
 use std::marker::Model;
 use std::sync::Arc;
 use tree_crew::message as tree;
-use walk_fs::file_system::FileSystem;
 
 /// What a crew whose plan is a job calls a message.
 type CrewMessage<C, S, P, A> = tree::Message<ReadDirSpec<C, A>, Outcome<C, A>, Job<C, S, P, A>, A>;

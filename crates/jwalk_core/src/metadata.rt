@@ -1,10 +1,10 @@
 //! What a file system knows of a path.
-ghost use Rattle.walk_model.specs.FileSystem.{metadata_at};
-ghost use Rattle.walk_fs.specs.Views.{AnswersValue};
+ghost use Rattle.jwalk_model.specs.FileSystem.{metadata_at};
+ghost use Rattle.jwalk_fs.specs.Views.{AnswersValue};
 
-use walk_fs::fault::Fault;
-use walk_fs::file_system::FileSystem;
-use walk_model::metadata::Metadata;
+use jwalk_fs::fault::Fault;
+use jwalk_fs::file_system::FileSystem;
+use jwalk_model::metadata::Metadata;
 
 /// Returns what a file system knows of a path: through its last link, or of that link itself.
 pub(crate) fn metadata_at<S: FileSystem>(

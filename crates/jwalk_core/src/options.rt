@@ -1,6 +1,6 @@
 //! The options of a walk.
 ghost use Rattle.std.specs.Prelude.{◌≡◌, ◌+◌, ◌^◌, ◌<◌, ◌≤◌, ◌&&◌, ◌↔◌, IsTrue};
-ghost use Rattle.walk_model.specs.Entry.{is_hidden};
+ghost use Rattle.jwalk_model.specs.Entry.{is_hidden};
 
 use crate::client_state::ClientState;
 use crate::dir_entry::DirEntry;
@@ -31,8 +31,8 @@ fn is_hidden(name: &str) -> bool
 }
 
 impl Options {
-    ghost use Rattle.walk_model.specs.Options.{defaults, with_sort, with_skip_hidden, with_follow_links, with_same_file_system, with_keep_metadata, with_min_depth, with_max_depth, with_parallelism, ReadsAs};
-    ghost use Rattle.walk_model.specs.Listing.{is_answered};
+    ghost use Rattle.jwalk_model.specs.Options.{defaults, with_sort, with_skip_hidden, with_follow_links, with_same_file_system, with_keep_metadata, with_min_depth, with_max_depth, with_parallelism, ReadsAs};
+    ghost use Rattle.jwalk_model.specs.Listing.{is_answered};
     ghost use Rattle.jwalk_core.specs.Entry.{item};
     ghost use Rattle.jwalk_core.specs.Options.{mode_value, options_value};
 

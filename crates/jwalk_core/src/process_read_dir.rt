@@ -1,7 +1,7 @@
 //! What a walk's user does with each list.
 ghost use Rattle.std.specs.Prelude.{◌≡◌, ◌<◌, ◌^◌, OnOk, IsOk, map};
-ghost use Rattle.walk_model.specs.Entry.{AtDepth};
-ghost use Rattle.walk_model.specs.ReadDir.{list_depth};
+ghost use Rattle.jwalk_model.specs.Entry.{AtDepth};
+ghost use Rattle.jwalk_model.specs.ReadDir.{list_depth};
 ghost use Rattle.jwalk_core.specs.Entry.{item};
 ghost use Rattle.jwalk_core.specs.Given.{Given, IsProcessed, KeepsLists};
 

@@ -30,7 +30,7 @@ impl<C: ClientState, A: Allocator + Copy> Drop for ReadChildren<C, A> {
 impl<C: ClientState, A: Allocator + Copy> ReadChildren<C, A> {
     ghost use Rattle.std.specs.Prelude.{◌≡◌, option_map, true, Some};
     ghost use Rattle.std.specs.Option.{option_copied};
-    ghost use Rattle.walk_model.specs.Entry.{children_at};
+    ghost use Rattle.jwalk_model.specs.Entry.{children_at};
     ghost use Rattle.jwalk_core.specs.Text.{text};
     ghost use Rattle.jwalk_core.specs.Error.{failure};
     ghost use Rattle.jwalk_core.specs.Entry.{children};

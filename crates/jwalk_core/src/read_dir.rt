@@ -1,6 +1,6 @@
 //! A directory that was read.
 ghost use Rattle.std.specs.Prelude.{◌≡◌, ◌++◌, List, All, IfOk, OnOk, length, map, option_to_list};
-ghost use Rattle.walk_model.specs.ReadDir.{Spec, spec_of, children, children_of, AreClones};
+ghost use Rattle.jwalk_model.specs.ReadDir.{Spec, spec_of, children, children_of, AreClones};
 ghost use Rattle.jwalk_order.specs.Frontier.{children_from};
 ghost use Rattle.jwalk_order.specs.IndexPath.{address as indices_of};
 ghost use Rattle.jwalk_order.specs.Ordered.{address_of, child_count_of};

@@ -1,6 +1,6 @@
 //! Readings in preorder.
 ghost use Rattle.std.specs.Prelude.{◌≡◌, ◌≢◌, ◌≤◌, ◌+◌, true, false, Ok, [], length, map, IfOk, IfErr, OnOk, OnErr, IsSome, option_map};
-ghost use Rattle.walk_model.specs.Error.{memory};
+ghost use Rattle.jwalk_model.specs.Error.{memory};
 ghost use Rattle.jwalk_core.specs.Error.{failure};
 ghost use Rattle.jwalk_core.specs.Entry.{entry};
 ghost use Rattle.jwalk_core.specs.ReadDirSpec.{spec};
@@ -23,8 +23,8 @@ use crate::process_read_dir::ProcessReadDir;
 use crate::read_dir::{Outcome, ReadDir};
 use crate::read_dir_spec::ReadDirSpec;
 use crate::readers::{Missed, NoCrew, Readers};
+use jwalk_fs::file_system::FileSystem;
 use std::alloc::{AllocError, Allocator, Global};
-use walk_fs::file_system::FileSystem;
 
 /// An iterator over readings, each before those of its own directories: the one of the first directory not given yet
 /// comes next, and then those below it.
@@ -293,7 +293,7 @@ impl<
     type Item = Result<ReadDir<C, A>, Error<A>>;
 
     ghost use Rattle.std.specs.Iterator.{at_most};
-    ghost use Rattle.walk_model.specs.Held.{spec_weight};
+    ghost use Rattle.jwalk_model.specs.Held.{spec_weight};
     ghost use Rattle.jwalk_core.specs.Job.{greatest_depth};
     ghost use Rattle.jwalk_core.specs.ReadDirIter.{job_of, to_read, Gives};
 

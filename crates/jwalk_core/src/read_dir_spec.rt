@@ -1,6 +1,6 @@
 //! A directory to be read.
 ghost use Rattle.std.specs.Prelude.{◌≡◌, IfOk, map, unwrap_or, option_to_list};
-ghost use Rattle.walk_model.specs.ReadDir.{spec_of, AreClones};
+ghost use Rattle.jwalk_model.specs.ReadDir.{spec_of, AreClones};
 ghost use Rattle.jwalk_core.specs.Ancestors.{texts};
 ghost use Rattle.jwalk_core.specs.Entry.{item};
 ghost use Rattle.jwalk_core.specs.ReadDirSpec.{spec};
@@ -92,7 +92,7 @@ impl<C: ClientState, A: Allocator + Copy> ReadDirSpec<C, A> {
 /// A clone has a clone of the state and shares the paths. Cloning fails only if memory runs out, or if the state's own
 /// clone fails.
 impl<C: ClientState, A: Allocator + Copy> Clone for ReadDirSpec<C, A> {
-    ghost use Rattle.walk_model.specs.ReadDir.{IsClone};
+    ghost use Rattle.jwalk_model.specs.ReadDir.{IsClone};
 
     ghost is_clone = { λ old new. IsClone C.ReadDirState.is_clone (spec old) (spec new) };
 

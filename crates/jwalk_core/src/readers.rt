@@ -11,9 +11,9 @@ use crate::client_state::ClientState;
 use crate::message::Message;
 use crate::process_read_dir::ProcessReadDir;
 use crate::wanted::Wanted;
+use jwalk_fs::file_system::FileSystem;
 use jwalk_order::ordered::Ordered;
 use std::alloc::{AllocError, Allocator};
-use walk_fs::file_system::FileSystem;
 
 /// Why a reading didn't come.
 #[derive(Clone, Copy, Debug, PartialEq, Eq)]

@@ -15,6 +15,7 @@ use crate::read_dir::Outcome;
 use crate::read_dir_spec::ReadDirSpec;
 use crate::readers::{Missed, Readers};
 use crate::wanted::Wanted;
+use jwalk_fs::file_system::FileSystem;
 use jwalk_order::ordered::Ordered;
 use std::alloc::{Allocator, Global};
 use std::sync::Wait;
@@ -22,7 +23,6 @@ use std::thread::Threads;
 use std::time::Clock;
 use tree_crew::crew::{NotStarted, Place};
 use tree_crew::session as tree;
-use walk_fs::file_system::FileSystem;
 
 /// The readings of a walk's directories, made by a crew's workers. It has a place of the crew.
 ///

@@ -2,7 +2,7 @@
 ghost use Rattle.std.specs.Prelude.{◌≡◌, drop, OnOk, map, IfOk, if◌then◌else◌};
 ghost use Rattle.std.specs.Ordering.{is_lt};
 ghost use Rattle.std.specs.List.Sorted.{IsStableBy};
-ghost use Rattle.walk_model.specs.Sorting.{stands_before, arranged};
+ghost use Rattle.jwalk_model.specs.Sorting.{stands_before, arranged};
 ghost use Rattle.jwalk_core.specs.Entry.{item};
 ghost use Rattle.jwalk_core.specs.Sorting.{number, key_of};
 

@@ -11,11 +11,11 @@ use crate::message::Message;
 use crate::options::Options;
 use crate::process_read_dir::ProcessReadDir;
 use crate::read_dir_spec::ReadDirSpec;
+use jwalk_fs::file_system::FileSystem;
 use jwalk_order::index_path::IndexPath;
 use jwalk_order::ordered::Ordered;
 use std::alloc::{AllocError, Allocator, Global};
 use std::sync::Arc;
-use walk_fs::file_system::FileSystem;
 
 /// Which reading an iterator waits for: that of the directory at an address, by a walk's options.
 pub struct Wanted<A: Allocator + Copy = Global> {

@@ -5,8 +5,8 @@ use Rattle.std.specs.List.{AllZip, filter}
 use Rattle.std.specs.Arc.{arc_value}
 use Rattle.std.specs.declared.sync.Arc.{Arc}
 use Rattle.std.proofs.lemmas.List.{map-append}
-use Rattle.jwalk.specs.walk_model.Entry.{Item}
-use Rattle.jwalk.specs.walk_model.FileType.{is_dir}
+use Rattle.jwalk.specs.jwalk_model.Entry.{Item}
+use Rattle.jwalk.specs.jwalk_model.FileType.{is_dir}
 use Rattle.jwalk_ignore.specs.Chain as value
 use Rattle.jwalk_ignore.specs.Chain.{has_any, has_rules, ignored, is_ignored, is_said, link_says, links_say}
 use Rattle.jwalk_ignore.specs.ChainViews.{link_value, links_value}

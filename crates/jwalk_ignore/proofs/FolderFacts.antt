@@ -3,7 +3,7 @@ use Prim.Native.Nat.{zero}
 use Rattle.std.proofs.Common.{◌≡◌, ◌∙◌, ◌<◌, ℕ, suc, Bool, true, false, List, [], ◌∷◌, ◌++◌, map, Option, Some, None, ap, refl, sym, append_assoc, append-nil, arith}
 use Rattle.std.specs.Prelude.{if◌then◌else◌}
 use Rattle.std.proofs.lemmas.List.{map-append}
-use Rattle.jwalk.specs.walk_model.Paths.{join, parent}
+use Rattle.jwalk.specs.jwalk_model.Paths.{join, parent}
 use Rattle.jwalk_ignore.specs.IgnoreFiles.{Folder, folder_at, folders_above, git}
 use Rattle.jwalk_ignore.specs.Texts.{Texts}
 

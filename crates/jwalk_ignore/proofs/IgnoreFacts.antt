@@ -1,9 +1,9 @@
 -- A list after the rules and then the other callback.
 use Rattle.std.proofs.Common.{◌≡◌, ◌∙◌, ℕ, List, map, Option, Result, Ok, Err, ap, sym}
 use Rattle.std.specs.Prelude.{OnOk}
-use Rattle.jwalk.specs.walk_model.Counted.{Worth, both}
-use Rattle.jwalk.specs.walk_model.Entry.{Item}
-use Rattle.jwalk.specs.walk_model.Job.{Processing}
+use Rattle.jwalk.specs.jwalk_model.Counted.{Worth, both}
+use Rattle.jwalk.specs.jwalk_model.Entry.{Item}
+use Rattle.jwalk.specs.jwalk_model.Job.{Processing}
 use Rattle.jwalk.specs.jwalk_core.Given.{Given, IsProcessed, counted_item}
 use Rattle.jwalk_ignore.specs.Chain as value
 use Rattle.jwalk_ignore.specs.ChainViews.{chain_value}

@@ -3,7 +3,7 @@ use Rattle.std.proofs.Common.{◌≡◌, ◌∙◌, ℕ, Bool, List, [], ◌∷�
 use Rattle.std.specs.Prelude.{fold}
 use Rattle.std.specs.List.{filter, list_any}
 use Rattle.std.proofs.lemmas.List.{map-append, reverse-append}
-use Rattle.jwalk.specs.walk_model.Entry.{AtDepth, Item}
+use Rattle.jwalk.specs.jwalk_model.Entry.{AtDepth, Item}
 use Rattle.jwalk_ignore.specs.Chain.{Chain, entered, place_in}
 use Rattle.jwalk_ignore.specs.IgnoreFiles.{Made, counts, in_directory, is_git, is_kept, is_shown, own_rules, with_listed}
 use Rattle.jwalk_ignore.specs.MadeDepths.{filter_at}

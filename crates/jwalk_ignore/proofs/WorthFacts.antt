@@ -1,6 +1,6 @@
 -- Rules in force are read from what they count as.
 use Rattle.std.proofs.Common.{◌≡◌, ◌∙◌, Bool, true, false, List, [], ◌∷◌, ap, refl}
-use Rattle.jwalk.specs.walk_model.Counted.{Worth}
+use Rattle.jwalk.specs.jwalk_model.Counted.{Worth}
 use Rattle.jwalk_ignore.specs.ByteTest.{ByteTest, Byte, Any, OneOf}
 use Rattle.jwalk_ignore.specs.Chain.{Chain, Link}
 use Rattle.jwalk_ignore.specs.ChainWorth.{bool_worth, bool_in, list_worth, list_in, class_number, class_at, item_worth, item_in, test_worth, test_in, part_worth, part_in, name_worth, name_in, pattern_worth, pattern_in_worth, link_worth, link_in, chain_worth, chain_in}

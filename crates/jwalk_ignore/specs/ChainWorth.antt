@@ -1,6 +1,6 @@
 -- What rules in force count as, and how they are read from that.
 use Rattle.std.specs.Prelude.{ℕ, Bool, true, false, List, [], ◌∷◌, ◌==◌, if◌then◌else◌}
-use Rattle.jwalk.specs.walk_model.Counted.{Worth, blank, number, bytes, both}
+use Rattle.jwalk.specs.jwalk_model.Counted.{Worth, blank, number, bytes, both}
 use Rattle.jwalk_ignore.specs.ByteTest.{ByteTest, Byte, Any, OneOf}
 use Rattle.jwalk_ignore.specs.Chain.{Chain, Link}
 use Rattle.jwalk_ignore.specs.Pattern.{Pattern}

@@ -1,10 +1,10 @@
 -- What is given of a walk that honours ignore files, and has no other callback.
 use Rattle.std.specs.Prelude.{false}
-use Rattle.jwalk.specs.walk_model.Counted.{Worth, blank, both}
-use Rattle.jwalk.specs.walk_model.FileSystem.{Functions}
-use Rattle.jwalk.specs.walk_model.Job.{Job, KeepsDepthsOf, Processing}
-use Rattle.jwalk.specs.walk_model.Options.{Options}
-use Rattle.jwalk.specs.walk_model.ReadDir.{list_depth}
+use Rattle.jwalk.specs.jwalk_model.Counted.{Worth, blank, both}
+use Rattle.jwalk.specs.jwalk_model.FileSystem.{Functions}
+use Rattle.jwalk.specs.jwalk_model.Job.{Job, KeepsDepthsOf, Processing}
+use Rattle.jwalk.specs.jwalk_model.Options.{Options}
+use Rattle.jwalk.specs.jwalk_model.ReadDir.{list_depth}
 use Rattle.jwalk.specs.jwalk_core.Given.{Given}
 use Rattle.jwalk_ignore.specs.Chain.{no_rules}
 use Rattle.jwalk_ignore.specs.ChainViews.{chain_value}

@@ -4,10 +4,10 @@ use Rattle.std.specs.Prelude.{ℕ, suc, Bool, true, false, ◌&&◌, ◌||◌, n
 use Rattle.std.specs.List.{list_any}
 use Rattle.std.specs.declared.io.ErrorKind.{ErrorKind}
 use Rattle.std.specs.declared.io.ErrorKind.TheVariants as kind
-use Rattle.jwalk.specs.walk_model.FileType.{is_dir, is_file}
-use Rattle.jwalk.specs.walk_model.Paths.{join, parent}
-use Rattle.jwalk.specs.walk_model.Error.{io}
-use Rattle.jwalk.specs.walk_model.Entry.{Item, is_hidden}
+use Rattle.jwalk.specs.jwalk_model.FileType.{is_dir, is_file}
+use Rattle.jwalk.specs.jwalk_model.Paths.{join, parent}
+use Rattle.jwalk.specs.jwalk_model.Error.{io}
+use Rattle.jwalk.specs.jwalk_model.Entry.{Item, is_hidden}
 use Rattle.jwalk_ignore.specs.Chain.{Chain, below_root, entered, ignored, place_in, with_link}
 use Rattle.jwalk_ignore.specs.Line.{patterns_of}
 use Rattle.jwalk_ignore.specs.Pattern.{Pattern}

@@ -1,8 +1,8 @@
 -- What the callback makes of walks, by value.
 use Rattle.std.specs.Prelude.{◌≡◌, ℕ, List, Option}
-use Rattle.jwalk.specs.walk_model.Counted.{Worth, both}
-use Rattle.jwalk.specs.walk_model.Entry.{Item}
-use Rattle.jwalk.specs.walk_model.Job.{Processing, KeepsDepthsOf}
+use Rattle.jwalk.specs.jwalk_model.Counted.{Worth, both}
+use Rattle.jwalk.specs.jwalk_model.Entry.{Item}
+use Rattle.jwalk.specs.jwalk_model.Job.{Processing, KeepsDepthsOf}
 use Rattle.jwalk.specs.jwalk_core.Given.{Given}
 use Rattle.jwalk_ignore.specs.ChainViews.{chain_value}
 use Rattle.jwalk_ignore.specs.ChainWorth.{chain_worth, rules_of, with_chain}

@@ -2,8 +2,8 @@
 use Rattle.std.specs.Prelude.{ℕ, Bool, true, false, cond, List, [], ◌∷◌, ◌++◌, map, filter, fold, length, reverse, Option, Some, None, Result, Ok, Err}
 use Rattle.std.specs.List.{list_any}
 use Rattle.std.specs.declared.io.ErrorKind.{ErrorKind}
-use Rattle.jwalk.specs.walk_model.Error.{io}
-use Rattle.jwalk.specs.walk_model.Entry.{Item, AtDepth}
+use Rattle.jwalk.specs.jwalk_model.Error.{io}
+use Rattle.jwalk.specs.jwalk_model.Entry.{Item, AtDepth}
 use Rattle.jwalk_ignore.specs.Chain.{Chain, below_root, entered, place_in}
 use Rattle.jwalk_ignore.specs.IgnoreFiles.{Folder, Made, Source, by_rules, counts, depth_of, entered_above, folders_above, is_git, is_kept, is_shown, kind_of, own_rules, path_of, root_of, rules_found, source_above, source_in, with_above, with_absolute, with_folder, with_found, with_item, with_listed, with_own, with_root, with_root_item, with_rules}
 use Rattle.jwalk_ignore.specs.Pattern.{Pattern}

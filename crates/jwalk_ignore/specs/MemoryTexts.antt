@@ -3,7 +3,7 @@ use Rattle.std.specs.Prelude.{◌≡◌, ℕ, List, Option, Some, None, Result, 
 use Rattle.std.specs.BTreeMap.{get_by_text}
 use Rattle.std.specs.declared.io.ErrorKind.{ErrorKind}
 use Rattle.std.specs.declared.io.ErrorKind.TheVariants as kind
-use Rattle.jwalk.specs.walk_model.Paths.{join}
+use Rattle.jwalk.specs.jwalk_model.Paths.{join}
 use Rattle.jwalk_ignore.specs.Texts.{Texts}
 use Rattle.jwalk_ignore.specs.declared.memory_texts.Content.{Content}
 use Rattle.jwalk_ignore.specs.declared.memory_texts.Content.TheVariants.{Bytes, Denied}

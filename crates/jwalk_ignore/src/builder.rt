@@ -1,6 +1,6 @@
 //! Walks that honour ignore files.
 ghost use Rattle.std.specs.Prelude.{false};
-ghost use Rattle.jwalk.specs.walk_model.Options.{with_skip_hidden};
+ghost use Rattle.jwalk.specs.jwalk_model.Options.{with_skip_hidden};
 ghost use Rattle.jwalk.specs.WalkDir.{options_of, described, with_callback, Sets};
 
 use crate::chain::Chain;

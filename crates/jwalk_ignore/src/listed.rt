@@ -2,7 +2,7 @@
 ghost use Rattle.std.specs.Prelude.{◌≡◌, IfOk, map, filter, option_map, string_bytes};
 ghost use Rattle.std.specs.List.{list_any};
 ghost use Rattle.jwalk.specs.jwalk_core.Entry.{item};
-ghost use Rattle.jwalk.specs.walk_model.Entry.{is_hidden};
+ghost use Rattle.jwalk.specs.jwalk_model.Entry.{is_hidden};
 ghost use Rattle.jwalk_ignore.specs.IgnoreFiles.{depth_of, is_git, is_shown, kind_of, kind_of_file, root_of};
 
 use crate::rules_kind::RulesKind;

@@ -1,6 +1,6 @@
 //! What rules make of lists.
 ghost use Rattle.std.specs.Prelude.{◌≡◌, ◌++◌, ◌∷◌, [], IfOk, OnOk, map, filter, fold};
-ghost use Rattle.jwalk.specs.walk_model.Entry.{AtDepth};
+ghost use Rattle.jwalk.specs.jwalk_model.Entry.{AtDepth};
 ghost use Rattle.jwalk.specs.jwalk_core.Entry.{item};
 ghost use Rattle.jwalk_ignore.specs.Chain.{place_in};
 ghost use Rattle.jwalk_ignore.specs.ChainViews.{chain_value};

@@ -1,9 +1,9 @@
 //! Files of rules that are read.
 ghost use Rattle.std.specs.Prelude.{◌≡◌, ◌++◌, ◌∷◌, [], Some, Err, OnOk, map, option_map, string_bytes};
 ghost use Rattle.std.specs.IoError.{error_kind};
-ghost use Rattle.jwalk.specs.walk_model.Error.{io};
-ghost use Rattle.jwalk.specs.walk_model.Entry.{AtDepth};
-ghost use Rattle.jwalk.specs.walk_fs.Views.{AnswersValue};
+ghost use Rattle.jwalk.specs.jwalk_model.Error.{io};
+ghost use Rattle.jwalk.specs.jwalk_model.Entry.{AtDepth};
+ghost use Rattle.jwalk.specs.jwalk_fs.Views.{AnswersValue};
 ghost use Rattle.jwalk.specs.jwalk_core.Entry.{item};
 ghost use Rattle.jwalk_ignore.specs.IgnoreFiles.{file_of, is_missing, path_of, rules_found, with_found, with_item, with_rules};
 ghost use Rattle.jwalk_ignore.specs.Chain.{entered, with_link};

@@ -1,7 +1,7 @@
 //! What rules are read from, as a trait.
 ghost use Rattle.std.specs.Prelude.{◌≡◌, IfOk, string_bytes};
 ghost use Rattle.std.specs.Arc.{arc_value};
-ghost use Rattle.jwalk.specs.walk_fs.Views.{AnswersValue};
+ghost use Rattle.jwalk.specs.jwalk_fs.Views.{AnswersValue};
 ghost use Rattle.jwalk_ignore.specs.Texts.{Texts as Functions};
 
 use jwalk::file_system::Fault;

@@ -2,7 +2,7 @@
 use Rattle.std.proofs.Common.{◌≡◌, List, [], ◌∷◌, ◌++◌, Option, Some, Result, map, refl, sym, ap, subst, ◌∙◌}
 use Rattle.std.specs.Iterator.{Yields}
 use Rattle.std.proofs.lemmas.List.{map-append}
-use Rattle.jwalk.specs.walk_model.Entry.{Item}
+use Rattle.jwalk.specs.jwalk_model.Entry.{Item}
 use Rattle.jwalk.specs.jwalk_core.declared.dir_entry.DirEntry.{DirEntry}
 use Rattle.jwalk.specs.jwalk_core.declared.error.Error.{Error}
 use Rattle.jwalk.specs.jwalk_core.Entry.{item}

@@ -3,10 +3,10 @@ use Rattle.std.proofs.Common.{◌≡◌, ◌+◌, ◌≤◌, ◌^◌, ℕ, Bool,
 use Rattle.std.specs.Prelude.{max, option_map, unwrap_or, is_err, not}
 use Rattle.std.specs.Option.{is_none}
 use Rattle.std.specs.declared.io.ErrorKind.{ErrorKind}
-use Rattle.jwalk.specs.walk_model.declared.metadata.Metadata.{Metadata}
-use Rattle.jwalk.specs.walk_model.FileType.{is_file}
-use Rattle.jwalk.specs.walk_model.FileSystem.{Functions}
-use Rattle.jwalk.specs.walk_model.Entry.{Entry, Item, metadata_of}
+use Rattle.jwalk.specs.jwalk_model.declared.metadata.Metadata.{Metadata}
+use Rattle.jwalk.specs.jwalk_model.FileType.{is_file}
+use Rattle.jwalk.specs.jwalk_model.FileSystem.{Functions}
+use Rattle.jwalk.specs.jwalk_model.Entry.{Entry, Item, metadata_of}
 use Rattle.jwalk_usage.specs.declared.report.Usage.{Usage}
 use Rattle.jwalk_usage.specs.Totals.{one_if, has_failed, length_in, is_asked, errors_of, bytes_of}
 use Rattle.jwalk_usage.specs.Kept.{length_kept, errors_kept, bytes_kept, with_kept}

@@ -4,7 +4,7 @@ use Rattle.std.specs.Prelude.{IsErrAnd}
 use Rattle.std.specs.List.{list_all}
 use Rattle.std.specs.Iterator.{Yields}
 use Rattle.std.proofs.lemmas.List.{map-append}
-use Rattle.jwalk.specs.walk_model.FileSystem.{Functions}
+use Rattle.jwalk.specs.jwalk_model.FileSystem.{Functions}
 use Rattle.jwalk.specs.jwalk_core.declared.dir_entry.DirEntry.{DirEntry}
 use Rattle.jwalk.specs.jwalk_core.declared.error.Error.{Error}
 use Rattle.jwalk.specs.jwalk_core.Entry.{item}

@@ -3,8 +3,8 @@ use Rattle.std.proofs.Common.{◌≡◌, ◌+◌, ◌≤◌, ◌^◌, ℕ, Bool,
 use Rattle.std.specs.List.{list_all}
 use Rattle.std.proofs.lemmas.List.Sums.{sum_by_push}
 use Rattle.std.proofs.lemmas.List.Folds.{list_all-append}
-use Rattle.jwalk.specs.walk_model.FileType.{is_dir, is_file, is_symlink}
-use Rattle.jwalk.specs.walk_model.Entry.{Item}
+use Rattle.jwalk.specs.jwalk_model.FileType.{is_dir, is_file, is_symlink}
+use Rattle.jwalk.specs.jwalk_model.Entry.{Item}
 use Rattle.jwalk_usage.specs.Totals.{is_other, entry_of}
 use Rattle.jwalk_usage.specs.Kept.{errors_kept, bytes_kept, kept_totals, with_kept}
 use Rattle.jwalk_usage.proofs.TotalFacts.{by_numbers}

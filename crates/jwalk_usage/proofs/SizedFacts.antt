@@ -4,16 +4,16 @@ use Rattle.std.specs.Prelude.{option_map, is_err}
 use Rattle.std.specs.List.{sum_by}
 use Rattle.std.specs.declared.io.ErrorKind.{ErrorKind}
 use Rattle.std.proofs.lemmas.List.Sums.{sum_by_push}
-use Rattle.jwalk.specs.walk_model.declared.metadata.Metadata.{Metadata}
-use Rattle.jwalk.specs.walk_model.declared.file_type.FileType.{FileType}
-use Rattle.jwalk.specs.walk_model.FileType.{is_dir, is_file, is_symlink}
-use Rattle.jwalk.specs.walk_model.FileSystem.{Functions}
-use Rattle.jwalk.specs.walk_model.Options.{Options, with_keep_metadata}
-use Rattle.jwalk.specs.walk_model.Entry.{Children, Entry, Item, metadata_of}
-use Rattle.jwalk.specs.walk_model.Counted.{Worth, blank, number, bytes, children_by}
-use Rattle.jwalk.specs.walk_model.Kept.{forgotten_entry, forgotten_item}
-use Rattle.jwalk.specs.walk_model.Walk.{whole_walk, stateless_job, stateless_walk}
-use Rattle.walk_model.proofs.KeptFacts.{metadata_changes_nothing_else}
+use Rattle.jwalk.specs.jwalk_model.declared.metadata.Metadata.{Metadata}
+use Rattle.jwalk.specs.jwalk_model.declared.file_type.FileType.{FileType}
+use Rattle.jwalk.specs.jwalk_model.FileType.{is_dir, is_file, is_symlink}
+use Rattle.jwalk.specs.jwalk_model.FileSystem.{Functions}
+use Rattle.jwalk.specs.jwalk_model.Options.{Options, with_keep_metadata}
+use Rattle.jwalk.specs.jwalk_model.Entry.{Children, Entry, Item, metadata_of}
+use Rattle.jwalk.specs.jwalk_model.Counted.{Worth, blank, number, bytes, children_by}
+use Rattle.jwalk.specs.jwalk_model.Kept.{forgotten_entry, forgotten_item}
+use Rattle.jwalk.specs.jwalk_model.Walk.{whole_walk, stateless_job, stateless_walk}
+use Rattle.jwalk_model.proofs.KeptFacts.{metadata_changes_nothing_else}
 use Rattle.jwalk.specs.jwalk_core.Given.{counted_item}
 use Rattle.jwalk.specs.jwalk_callbacks.declared.size.Size.{Size}
 use Rattle.jwalk.specs.jwalk_callbacks.declared.size.Size.TheVariants.{Unasked, Len, Failed}

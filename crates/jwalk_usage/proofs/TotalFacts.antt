@@ -1,9 +1,9 @@
 -- Totals with one more answer.
 use Rattle.std.proofs.Common.{◌≡◌, ◌+◌, ℕ, List, [], ◌∷◌, ◌++◌, sym, ap, ◌∙◌}
 use Rattle.std.proofs.lemmas.List.Sums.{sum_by_push}
-use Rattle.jwalk.specs.walk_model.FileType.{is_dir, is_file, is_symlink}
-use Rattle.jwalk.specs.walk_model.FileSystem.{Functions}
-use Rattle.jwalk.specs.walk_model.Entry.{Item}
+use Rattle.jwalk.specs.jwalk_model.FileType.{is_dir, is_file, is_symlink}
+use Rattle.jwalk.specs.jwalk_model.FileSystem.{Functions}
+use Rattle.jwalk.specs.jwalk_model.Entry.{Item}
 use Rattle.jwalk_usage.specs.declared.report.Usage.{Usage}
 use Rattle.jwalk_usage.specs.Totals.{is_other, entry_of, errors_of, bytes_of, totals}
 use Rattle.jwalk_usage.specs.Counts.{with_one, CountsType, CountsTypes}

@@ -2,17 +2,17 @@
 use Rattle.std.proofs.Common.{◌≡◌, ◌⊎◌, ◌∙◌, ℕ, List, Option, false, sym, ap, map}
 use Rattle.std.specs.declared.clone.Clone as Clone
 use Rattle.std.specs.declared.default.Default as Default
-use Rattle.jwalk.specs.walk_fs.declared.file_system.FileSystem as FileSystem
+use Rattle.jwalk.specs.jwalk_fs.declared.file_system.FileSystem as FileSystem
 use Rattle.jwalk.specs.jwalk_core.declared.process_read_dir.ProcessReadDir as ProcessReadDir
 use Rattle.jwalk.specs.jwalk_core.declared.readers.Readers as Readers
 use Rattle.jwalk.specs.jwalk_core.declared.dir_entry_iter.DirEntryIter.{DirEntryIter}
 use Rattle.jwalk.specs.declared.walk_dir.WalkDirGeneric.{WalkDirGeneric}
-use Rattle.jwalk.specs.walk_model.FileSystem.{Functions}
-use Rattle.jwalk.specs.walk_model.Options.{with_keep_metadata}
-use Rattle.jwalk.specs.walk_model.Entry.{Item}
-use Rattle.jwalk.specs.walk_model.ReadDir.{Reading}
-use Rattle.jwalk.specs.walk_model.Counted.{Worth, blank}
-use Rattle.jwalk.specs.walk_model.Walk.{whole_walk, stateless_walk}
+use Rattle.jwalk.specs.jwalk_model.FileSystem.{Functions}
+use Rattle.jwalk.specs.jwalk_model.Options.{with_keep_metadata}
+use Rattle.jwalk.specs.jwalk_model.Entry.{Item}
+use Rattle.jwalk.specs.jwalk_model.ReadDir.{Reading}
+use Rattle.jwalk.specs.jwalk_model.Counted.{Worth, blank}
+use Rattle.jwalk.specs.jwalk_model.Walk.{whole_walk, stateless_walk}
 use Rattle.jwalk.specs.jwalk_core.Entry.{item}
 use Rattle.jwalk.specs.jwalk_core.Given.{Given}
 use Rattle.jwalk.specs.jwalk_core.Job.{IsSteady}

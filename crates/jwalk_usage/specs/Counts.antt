@@ -2,11 +2,11 @@
 use Rattle.std.specs.Prelude.{◌≡◌, ◌≤◌, ◌+◌, ◌^◌, ℕ, max, true, List, [], ◌∷◌, ◌++◌, map, Option, Some, None, Result, Ok, Err, is_err}
 use Rattle.std.specs.List.{sum_by, list_all}
 use Rattle.std.specs.Iterator.{Drains, YieldsThen}
-use Rattle.jwalk.specs.walk_model.declared.file_type.FileType.{FileType}
-use Rattle.jwalk.specs.walk_model.declared.metadata.Metadata.{Metadata}
-use Rattle.jwalk.specs.walk_model.FileType.{is_dir, is_file, is_symlink}
-use Rattle.jwalk.specs.walk_model.FileSystem.{Functions}
-use Rattle.jwalk.specs.walk_model.Entry.{Item}
+use Rattle.jwalk.specs.jwalk_model.declared.file_type.FileType.{FileType}
+use Rattle.jwalk.specs.jwalk_model.declared.metadata.Metadata.{Metadata}
+use Rattle.jwalk.specs.jwalk_model.FileType.{is_dir, is_file, is_symlink}
+use Rattle.jwalk.specs.jwalk_model.FileSystem.{Functions}
+use Rattle.jwalk.specs.jwalk_model.Entry.{Item}
 use Rattle.jwalk.specs.jwalk_core.declared.dir_entry.DirEntry.{DirEntry}
 use Rattle.jwalk.specs.jwalk_core.declared.error.Error.{Error}
 use Rattle.jwalk.specs.jwalk_core.Entry.{item}

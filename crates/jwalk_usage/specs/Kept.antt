@@ -1,10 +1,10 @@
 -- What a list of answers comes to by the metadata that they keep.
 use Rattle.std.specs.Prelude.{◌≡◌, ℕ, ◌+◌, Bool, true, not, List, Option, None, Some, Ok, Err, if◌then◌else◌}
 use Rattle.std.specs.List.{sum_by}
-use Rattle.jwalk.specs.walk_model.declared.metadata.Metadata.{Metadata}
-use Rattle.jwalk.specs.walk_model.FileType.{is_dir, is_file, is_symlink}
-use Rattle.jwalk.specs.walk_model.Metadata.{len_of}
-use Rattle.jwalk.specs.walk_model.Entry.{Item}
+use Rattle.jwalk.specs.jwalk_model.declared.metadata.Metadata.{Metadata}
+use Rattle.jwalk.specs.jwalk_model.FileType.{is_dir, is_file, is_symlink}
+use Rattle.jwalk.specs.jwalk_model.Metadata.{len_of}
+use Rattle.jwalk.specs.jwalk_model.Entry.{Item}
 use Rattle.jwalk_usage.specs.declared.report.Usage.{Usage}
 use Rattle.jwalk_usage.specs.Totals.{one_if, is_other, has_failed, entry_of, is_asked}
 

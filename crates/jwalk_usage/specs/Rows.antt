@@ -1,10 +1,10 @@
 -- The totals of walks over small trees.
 use Rattle.std.specs.Prelude.{◌≡◌, ℕ, true, false, List, [], ◌∷◌, ◌++◌, codes, refl}
-use Rattle.jwalk.specs.walk_model.Options.{Options, defaults, with_skip_hidden, with_follow_links, with_min_depth}
-use Rattle.jwalk.specs.walk_model.Listing.{below}
-use Rattle.jwalk.specs.walk_model.TreeRows.{Step, d, f, l, x}
-use Rattle.jwalk.specs.walk_model.Walk.{whole_walk, stateless_walk}
-use Rattle.jwalk.specs.walk_model.WalkRows.{tree_a, tree_by}
+use Rattle.jwalk.specs.jwalk_model.Options.{Options, defaults, with_skip_hidden, with_follow_links, with_min_depth}
+use Rattle.jwalk.specs.jwalk_model.Listing.{below}
+use Rattle.jwalk.specs.jwalk_model.TreeRows.{Step, d, f, l, x}
+use Rattle.jwalk.specs.jwalk_model.Walk.{whole_walk, stateless_walk}
+use Rattle.jwalk.specs.jwalk_model.WalkRows.{tree_a, tree_by}
 use Rattle.jwalk_usage.specs.declared.report.Usage.{Usage}
 use Rattle.jwalk_usage.specs.Totals.{totals}
 

@@ -1,12 +1,12 @@
 -- How answers are counted that have the sizes of files in their states.
 use Rattle.std.specs.Prelude.{◌≡◌, ℕ, ◌+◌, Bool, true, false, ◌&&◌, List, map, Option, Result, Ok, Err, if◌then◌else◌}
 use Rattle.std.specs.List.{sum_by}
-use Rattle.jwalk.specs.walk_model.FileType.{is_dir, is_file, is_symlink}
-use Rattle.jwalk.specs.walk_model.FileSystem.{Functions}
-use Rattle.jwalk.specs.walk_model.Options.{Options, with_keep_metadata}
-use Rattle.jwalk.specs.walk_model.Entry.{Item}
-use Rattle.jwalk.specs.walk_model.Counted.{Worth}
-use Rattle.jwalk.specs.walk_model.Walk.{whole_walk, stateless_walk}
+use Rattle.jwalk.specs.jwalk_model.FileType.{is_dir, is_file, is_symlink}
+use Rattle.jwalk.specs.jwalk_model.FileSystem.{Functions}
+use Rattle.jwalk.specs.jwalk_model.Options.{Options, with_keep_metadata}
+use Rattle.jwalk.specs.jwalk_model.Entry.{Item}
+use Rattle.jwalk.specs.jwalk_model.Counted.{Worth}
+use Rattle.jwalk.specs.jwalk_model.Walk.{whole_walk, stateless_walk}
 use Rattle.jwalk.specs.jwalk_core.declared.dir_entry.DirEntry.{DirEntry}
 use Rattle.jwalk.specs.jwalk_core.declared.error.Error.{Error}
 use Rattle.jwalk.specs.jwalk_core.Given.{Given, counted_item}

@@ -43,7 +43,7 @@ fn length_kept<C: ClientState, A: Allocator + Copy>(found: &DirEntry<C, A>) -> u
 
 impl Usage {
     ghost use Rattle.std.specs.Prelude.{◌≡◌, ◌≤◌, ◌+◌, ◌^◌, ◌⊎◌, true, Ok, Err, IfErr, OnOk};
-    ghost use Rattle.jwalk.specs.walk_model.Error.{memory};
+    ghost use Rattle.jwalk.specs.jwalk_model.Error.{memory};
     ghost use Rattle.jwalk.specs.jwalk_core.Entry.{entry, item};
     ghost use Rattle.jwalk.specs.jwalk_core.Error.{failure};
     ghost use Rattle.jwalk.specs.DirEntryIter.{TellsMemory};

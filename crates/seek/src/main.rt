@@ -3,7 +3,7 @@
 
 use jwalk::file_system::{Patient, RealFs};
 use jwalk_ignore::real_texts::RealTexts;
-use seek_run::run::run;
+use seek_search::run::run;
 use std::io::{IsTerminal, Write};
 use std::process::ExitCode;
 use std::{env, io};

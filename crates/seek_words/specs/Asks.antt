@@ -4,10 +4,10 @@ use Rattle.std.specs.Borrow.{Bor}
 use Rattle.std.specs.List.{list_any}
 use Rattle.std.specs.Str.Parse.{IsNumeral, digits_value, without_leading_plus}
 use Rattle.clap.specs.Words.{Row, Text, all_of, count_of, first_of, one_of}
-use Rattle.seek_filter.specs.declared.case.Case.{Case}
-use Rattle.seek_filter.specs.declared.case.Case.TheVariants.{Smart, Ignored, Kept}
-use Rattle.seek_filter.specs.declared.depths.Depths.{Depths}
-use Rattle.seek_filter.specs.declared.kinds.Kinds.{Kinds}
+use Rattle.seek_words.specs.declared.case.Case.{Case}
+use Rattle.seek_words.specs.declared.case.Case.TheVariants.{Smart, Ignored, Kept}
+use Rattle.seek_words.specs.declared.depths.Depths.{Depths}
+use Rattle.seek_words.specs.declared.kinds.Kinds.{Kinds}
 use Rattle.seek_words.specs.declared.asked.Asked.{Asked}
 
 -- whether an option of one word was named

@@ -4,3 +4,16 @@ pub mod Asks
 pub mod Conflict
 pub mod Refusal
 pub mod AsksFor
+pub mod Case
+pub mod Depths
+pub mod Kinds
+pub mod Extension
+pub mod Expression
+pub mod Masked
+pub mod Paths
+pub mod Absolute
+pub mod Subject
+pub mod Lines
+pub mod Wanted
+pub mod Sought
+pub mod Filter

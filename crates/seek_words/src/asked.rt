@@ -1,7 +1,7 @@
 //! What a call asks for.
-use seek_filter::case::Case;
-use seek_filter::depths::Depths;
-use seek_filter::kinds::Kinds;
+use crate::case::Case;
+use crate::depths::Depths;
+use crate::kinds::Kinds;
 use std::alloc::Global;
 
 /// What a call asks for.

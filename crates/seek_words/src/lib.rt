@@ -1,7 +1,20 @@
-//! The words of a call of `seek`, and what they ask for.
+//! The words of a call of `seek`, what they ask for, and which entries of a walk are looked for, over plain values.
 #![tactic(auto)]
 
 pub mod asked;
+pub mod case;
 mod command;
+pub mod depths;
+pub mod expression;
+pub mod extension;
+pub mod filter;
+pub mod halt;
+pub mod kinds;
+pub mod lines;
+pub mod masked;
+pub mod name_test;
+pub mod paths;
 pub mod refusal;
+pub mod subject;
+pub mod wanted;
 pub mod words;

@@ -8,12 +8,12 @@ ghost use Rattle.seek_words.specs.Conflict.{has_conflict, has_value};
 ghost use Rattle.seek_words.specs.Refusal.{IsRefusedFor};
 
 use crate::asked::Asked;
+use crate::case::Case;
 use crate::command::command;
+use crate::depths::Depths;
+use crate::kinds::Kinds;
 use crate::refusal::Refusal;
 use clap::ArgMatches;
-use seek_filter::case::Case;
-use seek_filter::depths::Depths;
-use seek_filter::kinds::Kinds;
 use std::alloc::{AllocError, Global};
 use std::convert::AsStr;
 

@@ -2,8 +2,8 @@
 use Rattle.std.proofs.Common.{◌≡◌, ℕ, ◌++◌, ◌∙◌, List, [], ◌∷◌, map, Bool, true, false, Option, Some, None, Result, Ok, Err, is_ok, if◌then◌else◌, ap, ap₂, sym, subst, refl}
 use Rattle.std.specs.List.{list_all}
 use Rattle.std.specs.Io.KnownBytes.{Appends}
-use Rattle.walk_model.specs.Entry.{Item}
-use Rattle.walk_model.specs.Lines.{line_of, lines_of}
+use Rattle.jwalk_model.specs.Entry.{Item}
+use Rattle.jwalk_model.specs.Lines.{line_of, lines_of}
 use Rattle.walk_text.specs.declared.asked.Asked.{Asked}
 use Rattle.walk_run.specs.Answers.{PrintsAll}
 use Rattle.walk_run.specs.Totals.{usage_line, totals_line}

@@ -3,8 +3,8 @@ use Rattle.std.proofs.Common.{◌≡◌, ℕ, Bool, true, false, ◌&&◌, List,
 use Rattle.std.specs.Io.KnownBytes.{Appends, append_known}
 use Rattle.std.specs.List.{list_all}
 use Rattle.std.proofs.lemmas.List.Folds.{list_all-append}
-use Rattle.walk_model.specs.Entry.{Item}
-use Rattle.walk_model.specs.Lines.{line_of, lines_of}
+use Rattle.jwalk_model.specs.Entry.{Item}
+use Rattle.jwalk_model.specs.Lines.{line_of, lines_of}
 
 -- one text is written and then another
 appends_then : (a b c : Option (List ℕ)) (xs ys : List ℕ) → Appends a b xs → Appends b c ys → Appends a c (xs ++ ys)

@@ -6,7 +6,7 @@ use Rattle.std.specs.Io.KnownBytes.{Appends, append_known}
 use Rattle.jwalk_core.specs.declared.dir_entry.DirEntry.{DirEntry}
 use Rattle.jwalk_core.specs.declared.error.Error.{Error}
 use Rattle.jwalk_core.specs.Entry.{item}
-use Rattle.walk_model.specs.Lines.{line_of, lines_of}
+use Rattle.jwalk_model.specs.Lines.{line_of, lines_of}
 use Rattle.jwalk.proofs.FillFacts.{calls_on}
 use Rattle.walk_run.specs.Answers.{PrintsAll}
 use Rattle.walk_run.proofs.LineFacts.{nothing_gathered, rest_written, all_after, line_after}

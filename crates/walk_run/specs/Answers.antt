@@ -6,7 +6,7 @@ use Rattle.std.specs.Io.KnownBytes.{Appends}
 use Rattle.jwalk_core.specs.declared.dir_entry.DirEntry.{DirEntry}
 use Rattle.jwalk_core.specs.declared.error.Error.{Error}
 use Rattle.jwalk_core.specs.Entry.{item}
-use Rattle.walk_model.specs.Entry.{Item}
+use Rattle.jwalk_model.specs.Entry.{Item}
 
 module _ {S C A R E : Type 0} (text : List (Item R E) → List ℕ) (steps : S → Option (Result (DirEntry C A R E) (Error A)) → S → Type 0) (answers : S) where
   -- The iterator was called until it ended, the text of its answers was written, and the result says whether none was an error.

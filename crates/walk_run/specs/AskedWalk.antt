@@ -4,7 +4,7 @@ use Rattle.std.specs.List.{list_all}
 use Rattle.std.specs.Io.KnownBytes.{Appends}
 use Rattle.std.specs.declared.clone.Clone as Clone
 use Rattle.std.specs.declared.default.Default as Default
-use Rattle.walk_fs.specs.declared.file_system.FileSystem as FileSystem
+use Rattle.jwalk_fs.specs.declared.file_system.FileSystem as FileSystem
 use Rattle.jwalk_core.specs.declared.process_read_dir.ProcessReadDir as ProcessReadDir
 use Rattle.jwalk.specs.declared.crew.Readers as Readers
 use Rattle.jwalk.specs.declared.crew.Crew.{Crew}
@@ -12,11 +12,11 @@ use Rattle.jwalk.specs.declared.dir_entry_iter.DirEntryIter.{DirEntryIter}
 use Rattle.jwalk.specs.declared.walk_dir.WalkDirGeneric.{WalkDirGeneric}
 use Rattle.jwalk.specs.DirEntryIter.{Answers}
 use Rattle.jwalk.specs.WalkDir.{file_system_of, root_of, options_of, Starts}
-use Rattle.walk_model.specs.FileSystem.{Functions}
-use Rattle.walk_model.specs.Counted.{Worth}
-use Rattle.walk_model.specs.Entry.{Item}
-use Rattle.walk_model.specs.Walk.{stateless_walk}
-use Rattle.walk_model.specs.Lines.{lines_of}
+use Rattle.jwalk_model.specs.FileSystem.{Functions}
+use Rattle.jwalk_model.specs.Counted.{Worth}
+use Rattle.jwalk_model.specs.Entry.{Item}
+use Rattle.jwalk_model.specs.Walk.{stateless_walk}
+use Rattle.jwalk_model.specs.Lines.{lines_of}
 use Rattle.walk_text.specs.declared.asked.Asked.{Asked}
 use Rattle.walk_text.specs.Asked.{options_for}
 use Rattle.walk_run.specs.Answers.{PrintsAll}

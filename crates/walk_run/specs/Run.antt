@@ -1,12 +1,12 @@
 -- How a call of the program ends.
 use Rattle.std.specs.Prelude.{◌≡◌, ◌≤◌, ◌⊎◌, ℕ, List, Option, Some, None, is_some, IfSome, IfNone}
-use Rattle.walk_model.specs.Tree as tree
-use Rattle.walk_model.specs.Tree.{functions_of}
+use Rattle.jwalk_model.specs.Tree as tree
+use Rattle.jwalk_model.specs.Tree.{functions_of}
 use Rattle.std.specs.declared.clone.Clone as Clone
 use Rattle.std.specs.declared.default.Default as Default
-use Rattle.walk_fs.specs.declared.file_system.FileSystem as FileSystem
-use Rattle.memory_fs.specs.declared.memory_fs.MemoryFs.{MemoryFs}
-use Rattle.memory_fs.specs.MemoryFs.{tree_of}
+use Rattle.jwalk_fs.specs.declared.file_system.FileSystem as FileSystem
+use Rattle.jwalk_memory_fs.specs.declared.memory_fs.MemoryFs.{MemoryFs}
+use Rattle.jwalk_memory_fs.specs.MemoryFs.{tree_of}
 use Rattle.jwalk_core.specs.declared.process_read_dir.ProcessReadDir as ProcessReadDir
 use Rattle.jwalk.specs.declared.crew.Readers as Readers
 use Rattle.walk_text.specs.declared.asked.Asked.{Asked}

@@ -1,7 +1,7 @@
 -- What a walk goes over, as a file system.
-use Rattle.walk_model.specs.FileSystem.{Functions}
-use Rattle.walk_model.specs.Tree.{functions_of}
-use Rattle.memory_fs.specs.MemoryFs.{tree_of}
+use Rattle.jwalk_model.specs.FileSystem.{Functions}
+use Rattle.jwalk_model.specs.Tree.{functions_of}
+use Rattle.jwalk_memory_fs.specs.MemoryFs.{tree_of}
 use Rattle.walk_run.specs.declared.source.Source.{Source}
 use Rattle.walk_run.specs.declared.source.Source.TheVariants.{Disk, Tree}
 

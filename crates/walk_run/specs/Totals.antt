@@ -1,6 +1,6 @@
 -- What a walk's answers come to, as a line.
 use Rattle.std.specs.Prelude.{ℕ, List, ◌++◌, codes}
-use Rattle.walk_model.specs.Entry.{Item}
+use Rattle.jwalk_model.specs.Entry.{Item}
 use Rattle.jwalk_usage.specs.declared.report.Usage.{Usage}
 use Rattle.jwalk_usage.specs.Totals.{usage_text}
 use Rattle.jwalk_usage.specs.Kept.{kept_totals}

@@ -2,7 +2,7 @@
 ghost use Rattle.std.specs.Prelude.{◌≡◌, ◌≤◌, [], true, Ok, is_ok, IfOk, IfErr, OnOk};
 ghost use Rattle.std.specs.Io.KnownBytes.{Appends, append_known};
 ghost use Rattle.jwalk_core.specs.Entry.{item};
-ghost use Rattle.walk_model.specs.Lines.{line_of};
+ghost use Rattle.jwalk_model.specs.Lines.{line_of};
 ghost use Rattle.walk_text.specs.Failure.{status_of};
 
 use jwalk::error::Result as Answer;

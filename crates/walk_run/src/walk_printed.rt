@@ -3,7 +3,7 @@ ghost use Rattle.std.specs.Prelude.{◌≡◌, IfOk, IfErr};
 ghost use Rattle.jwalk_core.specs.Job.{callback};
 ghost use Rattle.jwalk.specs.DirEntryIter.{job_of, Answers};
 ghost use Rattle.walk_text.specs.Failure.{status_of};
-ghost use Rattle.walk_model.specs.Lines.{lines_of};
+ghost use Rattle.jwalk_model.specs.Lines.{lines_of};
 ghost use Rattle.walk_run.specs.Answers.{PrintsAll};
 
 use crate::answers::{print_one, room, write_rest};

@@ -4,8 +4,8 @@ use Rattle.std.specs.List.{enumerate_from}
 use Rattle.std.proofs.lemmas.List.{map-append, length-map, take-append-drop}
 use Rattle.std.proofs.lemmas.List.FromFn.{get_or-enumerate_from, length-enumerate_from}
 use Rattle.std.proofs.lemmas.Bool.{eqb-true}
-use Rattle.walk_model.specs.Tree.{Tree, only_root}
-use Rattle.memory_fs.specs.MemoryFs.{IsSameTree, IsBuilt}
+use Rattle.jwalk_model.specs.Tree.{Tree, only_root}
+use Rattle.jwalk_memory_fs.specs.MemoryFs.{IsSameTree, IsBuilt}
 use Rattle.walk_text.specs.TextLines.{text_lines, numbered_from}
 use Rattle.walk_text.specs.NumberedLines.{numbered}
 use Rattle.walk_text.specs.Built.{added, Adds, AddsAll, Builds, CannotAdd, IsFirstBad, TellsOf, TellsOfInput}

@@ -1,8 +1,8 @@
 -- Trees built from lines.
 use Rattle.std.specs.Prelude.{◌≡◌, ℕ, ◌+◌, List, [], ◌∷◌, ◌++◌, length, ◌⊎◌, Option, None, IfSome, Result, IsErr, IsUtf8}
 use Rattle.std.specs.declared.io.ErrorKind.TheVariants.{PermissionDenied}
-use Rattle.walk_model.specs.Tree.{Tree, Refusal, directory, file, link, add, deny, only_root}
-use Rattle.memory_fs.specs.MemoryFs.{IsSameTree, IsBuilt}
+use Rattle.jwalk_model.specs.Tree.{Tree, Refusal, directory, file, link, add, deny, only_root}
+use Rattle.jwalk_memory_fs.specs.MemoryFs.{IsSameTree, IsBuilt}
 use Rattle.walk_text.specs.declared.failure.Failure.{Failure}
 use Rattle.walk_text.specs.declared.failure.Failure.TheVariants.{BadWords, BadTree, TooMany, Memory, Output}
 use Rattle.walk_text.specs.declared.tree_line.TreeLine.{TreeLine}

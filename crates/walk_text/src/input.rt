@@ -1,12 +1,12 @@
 //! The tree that standard input describes.
 ghost use Rattle.std.specs.Prelude.{◌≡◌, ◌⊎◌, IfOk, IfErr, IfSome};
-ghost use Rattle.memory_fs.specs.MemoryFs.{tree_of};
+ghost use Rattle.jwalk_memory_fs.specs.MemoryFs.{tree_of};
 ghost use Rattle.walk_text.specs.TextLines.{text_lines};
 ghost use Rattle.walk_text.specs.Built.{Builds, TellsOfInput};
 
 use crate::failure::Failure;
 use crate::tree::build_tree;
-use memory_fs::memory_fs::MemoryFs;
+use jwalk_memory_fs::memory_fs::MemoryFs;
 use std::alloc::Allocator;
 use std::io::{ErrorKind, Read};
 

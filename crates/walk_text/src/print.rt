@@ -1,22 +1,22 @@
 //! Answers as lines.
 ghost use Rattle.std.specs.Prelude.{◌≡◌, None, decimal, OnOk, option_map};
 ghost use Rattle.std.specs.Io.KnownBytes.{Appends};
-ghost use Rattle.walk_model.specs.Error.{looped};
-ghost use Rattle.walk_model.specs.Paths.{join};
+ghost use Rattle.jwalk_model.specs.Error.{looped};
+ghost use Rattle.jwalk_model.specs.Paths.{join};
 ghost use Rattle.jwalk_core.specs.Entry.{children, entry, item};
 ghost use Rattle.jwalk_core.specs.Error.{failure, ancestor_of, kind_of};
-ghost use Rattle.walk_model.specs.Lines.{kind_name, letter_of, failure_name, reading_part, entry_line, failure_line, line_of};
+ghost use Rattle.jwalk_model.specs.Lines.{kind_name, letter_of, failure_name, reading_part, entry_line, failure_line, line_of};
 
 use itoa::Buffer;
 use jwalk_core::client_state::ClientState;
 use jwalk_core::dir_entry::DirEntry;
 use jwalk_core::error::{Error, Result};
 use jwalk_core::read_children::ReadChildren;
+use jwalk_fs::path_text::join_parts;
+use jwalk_model::file_type::FileType;
 use std::alloc::Allocator;
 use std::io;
 use std::io::{ErrorKind, Write};
-use walk_fs::path_text::join_parts;
-use walk_model::file_type::FileType;
 
 /// Returns the name that a kind is printed by.
 fn kind_name(kind: ErrorKind) -> &'static str

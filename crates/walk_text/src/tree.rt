@@ -1,14 +1,14 @@
 //! A tree from its lines.
 ghost use Rattle.std.specs.Prelude.{◌≡◌, ◌≢◌, OnOk, IfOk, IfErr, IsErr};
-ghost use Rattle.memory_fs.specs.MemoryFs.{tree_of, IsBuilt};
+ghost use Rattle.jwalk_memory_fs.specs.MemoryFs.{tree_of, IsBuilt};
 ghost use Rattle.walk_text.specs.TextLines.{text_lines};
 ghost use Rattle.walk_text.specs.Built.{added, Adds, Builds, CannotAdd, TellsOf};
 
 use crate::failure::Failure;
 use crate::lines::NumberedLines;
 use crate::tree_line::{TreeLine, parse_tree_line};
-use memory_fs::build_error::BuildError;
-use memory_fs::memory_fs::MemoryFs;
+use jwalk_memory_fs::build_error::BuildError;
+use jwalk_memory_fs::memory_fs::MemoryFs;
 use std::alloc::Allocator;
 use std::io::ErrorKind;
 use std::str;

@@ -1,9 +1,9 @@
 //! The start of a walk over a crew.
 ghost use Rattle.std.specs.Prelude.{◌≡◌, ◌≤◌, ◌⊎◌, ◌+◌, max, true, [], map, IfSome, OnErr, OnOk, Some, option_map};
 ghost use Rattle.std.specs.Arc.{arc_value};
-ghost use Rattle.walk_model.specs.Entry.{AtDepth};
-ghost use Rattle.walk_model.specs.Options as parallelism;
-ghost use Rattle.walk_model.specs.ReadDir.{children, AreClones};
+ghost use Rattle.jwalk_model.specs.Entry.{AtDepth};
+ghost use Rattle.jwalk_model.specs.Options as parallelism;
+ghost use Rattle.jwalk_model.specs.ReadDir.{children, AreClones};
 ghost use Rattle.jwalk_core.specs.Entry.{item};
 ghost use Rattle.jwalk_core.specs.ReadDir.{reading};
 ghost use Rattle.jwalk_core.specs.Job.{callback};
@@ -25,12 +25,12 @@ use jwalk_core::read_dir::ReadDir;
 use jwalk_core::read_dir_iter::ReadDirIter;
 use jwalk_core::readers::Readers;
 use jwalk_core::session::Session;
+use jwalk_fs::file_system::FileSystem;
 use std::alloc::Allocator;
 use std::sync::{Arc, Wait};
 use std::thread::Threads;
 use std::time::{Clock, Duration};
 use tree_crew::crew::{Crew, NotStarted};
-use walk_fs::file_system::FileSystem;
 
 /// A walk that a crew may read for.
 pub(super) type CrewWalk<R, C, S, P, A> = DirEntryIter<C, S, P, A, Session<R, C, S, P, A>>;

@@ -10,12 +10,12 @@ use jwalk_core::error::Error;
 use jwalk_core::process_read_dir::ProcessReadDir;
 use jwalk_core::readers::{NoCrew, Readers};
 use jwalk_core::session::Session;
+use jwalk_fs::file_system::FileSystem;
 use std::alloc::{AllocError, Global};
 use std::sync::Wait;
 use std::thread::Threads;
 use std::time::Clock;
 use tree_crew::crew::Crew;
-use walk_fs::file_system::FileSystem;
 
 impl<C: ClientState, S: FileSystem, P: ProcessReadDir<C, Global>> WalkDirGeneric<
     C,

@@ -1,8 +1,8 @@
 //! Walks over a crew.
 ghost use Rattle.std.specs.Prelude.{◌≡◌, ◌⊎◌, string_bytes, IfOk, IfErr, IfSome, IfNone, Some, None};
-ghost use Rattle.walk_model.specs.Options as parallelism;
+ghost use Rattle.jwalk_model.specs.Options as parallelism;
 ghost use Rattle.jwalk_core.specs.Options.{mode_value};
-ghost use Rattle.walk_model.specs.Error.{memory, busy};
+ghost use Rattle.jwalk_model.specs.Error.{memory, busy};
 ghost use Rattle.jwalk_core.specs.Error.{failure};
 
 use crate::walk_dir::WalkDirGeneric;
@@ -16,12 +16,12 @@ use jwalk_core::mode::Mode;
 use jwalk_core::process_read_dir::{NoProcess, ProcessReadDir};
 use jwalk_core::readers::Readers;
 use jwalk_core::session::Session;
+use jwalk_fs::file_system::FileSystem;
 use std::alloc::Allocator;
 use std::sync::Wait;
 use std::thread::Threads;
 use std::time::Clock;
 use tree_crew::crew::Crew;
-use walk_fs::file_system::FileSystem;
 
 impl<C: ClientState, S: FileSystem, A: Allocator + Copy, R: Wait + Clock + Drop> WalkDirGeneric<
     C,
@@ -30,7 +30,7 @@ impl<C: ClientState, S: FileSystem, A: Allocator + Copy, R: Wait + Clock + Drop>
     A,
     Crew<R>,
 > {
-    ghost use Rattle.walk_model.specs.Options.{defaults};
+    ghost use Rattle.jwalk_model.specs.Options.{defaults};
     ghost use Rattle.jwalk.specs.WalkDir.{file_system_of, root_of, state_of, options_of};
 
     /// Returns a walk that can be set to read by a crew, with `parallelism`. Until then it is serial, like one made by

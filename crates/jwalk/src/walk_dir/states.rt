@@ -3,9 +3,9 @@
 use crate::walk_dir::WalkDirGeneric;
 use jwalk_core::client_state::ClientState;
 use jwalk_core::process_read_dir::NoProcess;
+use jwalk_fs::file_system::FileSystem;
 use std::alloc::Allocator;
 use std::fmt::Debug;
-use walk_fs::file_system::FileSystem;
 
 impl<C: ClientState, S: FileSystem, A: Allocator + Copy, W: Drop> WalkDirGeneric<
     C,

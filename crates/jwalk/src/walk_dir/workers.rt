@@ -7,11 +7,11 @@ use jwalk_core::client_state::ClientState;
 use jwalk_core::parallelism::Parallelism;
 use jwalk_core::process_read_dir::ProcessReadDir;
 use jwalk_core::readers::NoCrew;
+use jwalk_fs::file_system::FileSystem;
 use std::alloc::{AllocError, Allocator};
 use std::sync::Arc;
 use std::thread::{Threads, available_parallelism};
 use tree_crew::crew::Crew;
-use walk_fs::file_system::FileSystem;
 
 /// Returns how many threads a count means: 0 means as many as can run side by side, or one where that isn't known.
 fn threads_for<R: Threads>(rt: &R, count: usize) -> usize
@@ -34,8 +34,8 @@ impl<C: ClientState, S: FileSystem, P: ProcessReadDir<C, A>, A: Allocator + Copy
     NoCrew,
 > {
     ghost use Rattle.std.specs.Arc.{arc_value};
-    ghost use Rattle.walk_model.specs.Options as parallelism;
-    ghost use Rattle.walk_model.specs.Options.{with_parallelism};
+    ghost use Rattle.jwalk_model.specs.Options as parallelism;
+    ghost use Rattle.jwalk_model.specs.Options.{with_parallelism};
     ghost use Rattle.tree_crew.specs.Crew.{workers_of, limit_of};
     ghost use Rattle.jwalk.specs.WalkDir.{options_of, described, with_crew, Sets};
 

@@ -18,13 +18,13 @@ use crate::process_read_dir::ProcessReadDir;
 use crate::read_dir_spec::ReadDirSpec;
 use crate::readers::Readers;
 use crate::session::Session;
+use jwalk_fs::file_system::FileSystem;
 use jwalk_order::ordered_queue::OrderedMatcher;
 use std::alloc::Allocator;
 use std::sync::{Arc, Wait};
 use std::thread::Threads;
 use std::time::{Clock, Duration};
 use tree_crew::crew::{Crew, NotStarted, Place};
-use walk_fs::file_system::FileSystem;
 
 /// Returns the error that reports why a crew's readings don't begin.
 pub fn start_error<A: Allocator + Copy>(why_not: NotStarted) -> Error<A>

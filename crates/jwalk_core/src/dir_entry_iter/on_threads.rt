@@ -8,9 +8,9 @@ use crate::dir_entry_iter::DirEntryIter;
 use crate::error::Error;
 use crate::process_read_dir::ProcessReadDir;
 use crate::readers::{Missed, Readers};
+use jwalk_fs::file_system::FileSystem;
 use std::alloc::{AllocError, Allocator};
 use std::thread::Threads;
-use walk_fs::file_system::FileSystem;
 
 impl<
     C: ClientState + Send,

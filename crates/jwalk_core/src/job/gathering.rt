@@ -9,12 +9,12 @@ use crate::dir_entry::DirEntry;
 use crate::error::Error;
 use crate::process_read_dir::ProcessReadDir;
 use crate::read_dir_spec::ReadDirSpec;
+use jwalk_fs::file_system::FileSystem;
+use jwalk_fs::sink::Sink;
+use jwalk_model::file_type::FileType;
+use jwalk_model::seen::Seen;
 use std::alloc::{AllocError, Allocator};
 use std::io;
-use walk_fs::file_system::FileSystem;
-use walk_fs::sink::Sink;
-use walk_model::file_type::FileType;
-use walk_model::seen::Seen;
 
 /// The entries and errors of a directory that is being listed, each made as soon as its name is known.
 #[derive(Drop)]

@@ -1,17 +1,17 @@
 //! What the entries of one directory share.
 ghost use Rattle.std.specs.Prelude.{◌≡◌, None, IfOk, map, option_map};
-ghost use Rattle.walk_model.specs.Job as value;
-ghost use Rattle.walk_model.specs.Metadata.{is_elsewhere};
+ghost use Rattle.jwalk_model.specs.Job as value;
+ghost use Rattle.jwalk_model.specs.Metadata.{is_elsewhere};
 ghost use Rattle.jwalk_core.specs.Text.{text};
 ghost use Rattle.jwalk_core.specs.Ancestors.{texts};
 ghost use Rattle.jwalk_core.specs.Inside.{known_of, IsAsked, AsksOn};
 
 use crate::ancestors::Ancestors;
+use jwalk_fs::file_system::FileSystem;
+use jwalk_model::file_type::FileType;
+use jwalk_model::metadata::Identity;
 use std::alloc::{AllocError, Allocator};
 use std::sync::Arc;
-use walk_fs::file_system::FileSystem;
-use walk_model::file_type::FileType;
-use walk_model::metadata::Identity;
 
 /// What the entries of one directory share: the directories above them, and what was asked of these.
 #[derive(Drop)]

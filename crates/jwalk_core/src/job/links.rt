@@ -1,10 +1,10 @@
 //! Entries made from paths, and what is found behind a link that is followed.
 ghost use Rattle.std.specs.Prelude.{◌≡◌, ◌&&◌, ◌++◌, ◌∷◌, [], true, Some, Ok, Err, option_map, IfOk, MatchResult, if◌then◌else◌};
-ghost use Rattle.walk_model.specs.Error.{io};
-ghost use Rattle.walk_model.specs.Entry.{AtDepth, path_of, children_at};
-ghost use Rattle.walk_model.specs.FileType.{is_symlink};
-ghost use Rattle.walk_model.specs.Job as value;
-ghost use Rattle.walk_model.specs.Paths.{join};
+ghost use Rattle.jwalk_model.specs.Error.{io};
+ghost use Rattle.jwalk_model.specs.Entry.{AtDepth, path_of, children_at};
+ghost use Rattle.jwalk_model.specs.FileType.{is_symlink};
+ghost use Rattle.jwalk_model.specs.Job as value;
+ghost use Rattle.jwalk_model.specs.Paths.{join};
 ghost use Rattle.jwalk_core.specs.Text.{text};
 ghost use Rattle.jwalk_core.specs.Ancestors.{texts};
 ghost use Rattle.jwalk_core.specs.Error.{failure};
@@ -22,13 +22,13 @@ use crate::error::Error;
 use crate::metadata::metadata_at;
 use crate::process_read_dir::ProcessReadDir;
 use crate::read_children::ReadChildren;
+use jwalk_fs::fault::Fault;
+use jwalk_fs::file_system::FileSystem;
+use jwalk_fs::path_text;
+use jwalk_model::file_type::FileType;
+use jwalk_model::metadata::{Identity, Metadata};
 use std::alloc::{AllocError, Allocator};
 use std::sync::Arc;
-use walk_fs::fault::Fault;
-use walk_fs::file_system::FileSystem;
-use walk_fs::path_text;
-use walk_model::file_type::FileType;
-use walk_model::metadata::{Identity, Metadata};
 
 /// Returns the name of an entry made from a path: its file name, or its whole path if it has none.
 fn own_name(path: &str) -> &str

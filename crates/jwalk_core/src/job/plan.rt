@@ -1,6 +1,6 @@
 //! A job as a plan.
-ghost use Rattle.walk_model.specs.ReadDir.{Spec, Outcome};
-ghost use Rattle.walk_model.specs.Counted.{Worth};
+ghost use Rattle.jwalk_model.specs.ReadDir.{Spec, Outcome};
+ghost use Rattle.jwalk_model.specs.Counted.{Worth};
 ghost use Rattle.jwalk_core.specs.ReadDirSpec.{spec};
 ghost use Rattle.jwalk_core.specs.ReadDir.{outcome};
 ghost use Rattle.jwalk_core.specs.Given.{Given as GivenStates, counted_spec, counted_outcome};
@@ -16,8 +16,8 @@ use crate::process_read_dir::ProcessReadDir;
 use crate::read_dir::{ReadDir, directories_of};
 use crate::read_dir_spec::ReadDirSpec;
 use jwalk_board::board::{Plan, Refused};
+use jwalk_fs::file_system::FileSystem;
 use std::alloc::Allocator;
-use walk_fs::file_system::FileSystem;
 
 /// A job reads directories by `read_one`, with its own allocator. A reading is its outcome, a list or an error, and its
 /// children are the directories of the list.

@@ -1,9 +1,9 @@
 //! The list that a walk begins with.
 ghost use Rattle.std.specs.Prelude.{◌≡◌, ◌∷◌, [], false, None, Some, Ok, Err, IfOk, MatchResult, if◌then◌else◌};
-ghost use Rattle.walk_model.specs.Error.{io};
-ghost use Rattle.walk_model.specs.Entry.{AtDepth};
-ghost use Rattle.walk_model.specs.Job as value;
-ghost use Rattle.walk_model.specs.Paths.{join};
+ghost use Rattle.jwalk_model.specs.Error.{io};
+ghost use Rattle.jwalk_model.specs.Entry.{AtDepth};
+ghost use Rattle.jwalk_model.specs.Job as value;
+ghost use Rattle.jwalk_model.specs.Paths.{join};
 ghost use Rattle.jwalk_core.specs.Text.{text};
 ghost use Rattle.jwalk_core.specs.Error.{failure};
 ghost use Rattle.jwalk_core.specs.Entry.{entry, item};
@@ -20,11 +20,11 @@ use crate::dir_entry::DirEntry;
 use crate::error::Error;
 use crate::process_read_dir::ProcessReadDir;
 use crate::read_dir::ReadDir;
+use jwalk_fs::fault::Fault;
+use jwalk_fs::file_system::FileSystem;
+use jwalk_model::metadata::Metadata;
 use std::alloc::{AllocError, Allocator};
 use std::sync::Arc;
-use walk_fs::fault::Fault;
-use walk_fs::file_system::FileSystem;
-use walk_model::metadata::Metadata;
 
 /// The item of a root before the callback, and the path that the callback is called with.
 #[derive(Drop)]

@@ -10,9 +10,9 @@ use crate::process_read_dir::ProcessReadDir;
 use crate::read_dir::Outcome;
 use crate::read_dir_iter::ReadDirIter;
 use crate::readers::Readers;
+use jwalk_fs::file_system::FileSystem;
 use std::alloc::{AllocError, Allocator};
 use std::thread::Threads;
-use walk_fs::file_system::FileSystem;
 
 impl<
     C: ClientState + Send,

@@ -1,8 +1,8 @@
 //! Readings in preorder, as a crew makes them.
 ghost use Rattle.std.specs.Prelude.{◌≡◌, ◌⊎◌, ◌+◌, false, map, IfOk, IfErr, IfSome};
 ghost use Rattle.std.specs.Arc.{arc_value};
-ghost use Rattle.walk_model.specs.Error.{memory, busy};
-ghost use Rattle.walk_model.specs.Options as value;
+ghost use Rattle.jwalk_model.specs.Error.{memory, busy};
+ghost use Rattle.jwalk_model.specs.Options as value;
 ghost use Rattle.jwalk_core.specs.Error.{failure};
 ghost use Rattle.jwalk_core.specs.Job.{callback};
 ghost use Rattle.jwalk_core.specs.ReadDirSpec.{spec};
@@ -18,12 +18,12 @@ use crate::read_dir_iter::ReadDirIter;
 use crate::read_dir_spec::ReadDirSpec;
 use crate::readers::Readers;
 use crate::session::Session;
+use jwalk_fs::file_system::FileSystem;
 use std::alloc::Allocator;
 use std::sync::Wait;
 use std::thread::Threads;
 use std::time::Clock;
 use tree_crew::crew::Crew;
-use walk_fs::file_system::FileSystem;
 
 impl<
     R: Wait + Threads + Clock + Drop + Send + Sync + 'static,

@@ -1,7 +1,7 @@
 //! Readings in preorder that a walk's own `Readers` give.
 ghost use Rattle.std.specs.Prelude.{◌≡◌, true, length, map, IfOk, IfErr};
 ghost use Rattle.std.specs.Arc.{arc_value};
-ghost use Rattle.walk_model.specs.Error.{memory};
+ghost use Rattle.jwalk_model.specs.Error.{memory};
 ghost use Rattle.jwalk_core.specs.Error.{failure};
 ghost use Rattle.jwalk_core.specs.ReadDirSpec.{spec};
 
@@ -13,9 +13,9 @@ use crate::process_read_dir::ProcessReadDir;
 use crate::read_dir_iter::ReadDirIter;
 use crate::read_dir_spec::ReadDirSpec;
 use crate::readers::Readers;
+use jwalk_fs::file_system::FileSystem;
 use std::alloc::Allocator;
 use std::sync::Arc;
-use walk_fs::file_system::FileSystem;
 
 impl<
     C: ClientState,

@@ -1,7 +1,7 @@
 use Rattle.std.proofs.Common.{◌≡◌, ◌++◌, ◌∷◌, [], ◌∙◌, ap, sym, map, subst}
 use Rattle.std.proofs.lemmas.List.{map-append}
 use Rattle.std.specs.Prelude.{option_to_list}
-use Rattle.walk_model.specs.ReadDir.{spec_of, AreClones}
+use Rattle.jwalk_model.specs.ReadDir.{spec_of, AreClones}
 use Rattle.jwalk_core.specs.Entry.{item}
 use Rattle.jwalk_core.specs.ReadDirSpec.{spec}
 use Rattle.jwalk_core.proofs.ListFacts.{AreClones-append}

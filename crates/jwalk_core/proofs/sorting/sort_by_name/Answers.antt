@@ -2,8 +2,8 @@ use Rattle.std.proofs.Common.{◌≡◌, ◌∙◌, rules}
 use Rattle.std.specs.Ordering.{is_lt}
 use Rattle.std.proofs.lemmas.List.Sorted.{answers_always}
 use Rattle.std.proofs.lemmas.Result.{on_ok_weaker}
-use Rattle.walk_model.specs.Sorting.{stands_before}
-use Rattle.walk_model.proofs.SortingFacts.{stands_before-through, arranged-map}
+use Rattle.jwalk_model.specs.Sorting.{stands_before}
+use Rattle.jwalk_model.proofs.SortingFacts.{stands_before-through, arranged-map}
 use Rattle.jwalk_core.specs.Entry.{item}
 use Rattle.jwalk_core.proofs.sorting.sort_by_name.Goals as goal
 

@@ -1,5 +1,5 @@
 use Rattle.std.proofs.Common.{◌≡◌, ◌∙◌, ◌++◌, ◌-◌, None, true, false, map, length, ap, sym, rules, arith}
-use Rattle.jwalk.specs.walk_model.Paths.{join, parent}
+use Rattle.jwalk.specs.jwalk_model.Paths.{join, parent}
 use Rattle.jwalk_ignore.specs.Folders.{folder_value}
 use Rattle.jwalk_ignore.specs.IgnoreFiles.{folders_above, git}
 use Rattle.jwalk_ignore.proofs.FolderFacts.{all_found, last_found, more_found}

@@ -1,7 +1,7 @@
 use Rattle.std.proofs.Common.{rules, tests, sym, ◌∙◌, ◌||◌, bytes_eq}
 use Rattle.std.proofs.lemmas.Iterator.{YieldsList-from_slice}
 use Rattle.std.proofs.lemmas.Iterator.Search.{any_from_yields_List}
-use Rattle.seek_filter.proofs.ExtensionFacts.{list_any-map}
+use Rattle.seek_words.proofs.ExtensionFacts.{list_any-map}
 use Rattle.seek_words.proofs.words.names_one.Goals as goal
 
 pub returns : goal.returns

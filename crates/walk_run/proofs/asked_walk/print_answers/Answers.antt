@@ -1,6 +1,6 @@
 use Rattle.std.proofs.lemmas.Result.{IfOk-weaker}
 use Rattle.jwalk.specs.DirEntryIter.{Answers}
-use Rattle.walk_model.specs.Lines.{lines_of}
+use Rattle.jwalk_model.specs.Lines.{lines_of}
 use Rattle.walk_run.specs.Totals.{totals_line}
 use Rattle.walk_run.proofs.AskedWalkFacts.{totals_written, lines_written, printed_as}
 use Rattle.walk_run.proofs.asked_walk.print_answers.Goals as goal

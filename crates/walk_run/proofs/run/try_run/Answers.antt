@@ -1,6 +1,6 @@
 use Rattle.std.proofs.Common.{◌≤◌, Some, None, refl, sym, map, string_bytes}
 use Rattle.std.proofs.lemmas.Result.{IfOk-weaker}
-use Rattle.memory_fs.specs.MemoryFs.{tree_of}
+use Rattle.jwalk_memory_fs.specs.MemoryFs.{tree_of}
 use Rattle.walk_run.specs.Run.{BeginsWalk}
 use Rattle.walk_run.specs.declared.source.Source.TheVariants.{Disk, Tree}
 use Rattle.walk_run.proofs.RunFacts.{ok_two}

@@ -1,6 +1,6 @@
 use Rattle.std.proofs.Common.{refl, inl, inr, sym, subst, ◌∙◌}
 use Rattle.walk_text.specs.TreeLine.{Says, IsTreeLine}
-use Rattle.memory_fs.specs.MemoryFs.{tree_of}
+use Rattle.jwalk_memory_fs.specs.MemoryFs.{tree_of}
 use Rattle.walk_text.proofs.BuiltFacts.{adds_nothing, adds_said}
 use Rattle.walk_text.proofs.tree.add_line.Goals as goal
 

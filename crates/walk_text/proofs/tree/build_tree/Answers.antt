@@ -1,7 +1,7 @@
 use Rattle.std.proofs.Common.{ap, ◌∙◌}
 use Rattle.std.proofs.lemmas.Iterator.Consumers.{YieldsList-from_first, YieldsList-so_far, YieldsList-turn, YieldsList-end}
 use Rattle.std.proofs.lemmas.Result.{err_from_is_err_and}
-use Rattle.memory_fs.specs.MemoryFs.{tree_of}
+use Rattle.jwalk_memory_fs.specs.MemoryFs.{tree_of}
 use Rattle.walk_text.specs.TextLines.{numbered_from}
 use Rattle.walk_text.specs.NumberedLines.{lines_left, numbered}
 use Rattle.walk_text.proofs.BuiltFacts.{adds_more, builds, names_first}

@@ -1,5 +1,5 @@
 use Rattle.std.proofs.Common.{map}
-use Rattle.memory_fs.specs.MemoryFs.{tree_of}
+use Rattle.jwalk_memory_fs.specs.MemoryFs.{tree_of}
 use Rattle.walk_text.specs.Built.{AddsAll}
 use Rattle.walk_text.proofs.BuiltFacts.{text_of}
 use Rattle.walk_text.proofs.tree.build_tree.Given as goal

@@ -1,8 +1,8 @@
 use Rattle.std.proofs.Common.{◌≡◌, ◌∙◌, ap}
-use Rattle.walk_model.specs.Options.{Options}
-use Rattle.walk_model.specs.Listing.{paired}
-use Rattle.walk_model.specs.Counted.{Worth}
-use Rattle.walk_model.specs.Job as value
+use Rattle.jwalk_model.specs.Options.{Options}
+use Rattle.jwalk_model.specs.Listing.{paired}
+use Rattle.jwalk_model.specs.Counted.{Worth}
+use Rattle.jwalk_model.specs.Job as value
 use Rattle.jwalk_core.specs.ReadDir.{reading}
 use Rattle.jwalk_core.specs.Options.{width_of}
 use Rattle.jwalk_core.specs.Given.{counted_reading}

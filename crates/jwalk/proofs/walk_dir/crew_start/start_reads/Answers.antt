@@ -1,5 +1,5 @@
 use Rattle.std.proofs.Common.{map, refl}
-use Rattle.walk_model.specs.ReadDir.{children, AreClones}
+use Rattle.jwalk_model.specs.ReadDir.{children, AreClones}
 use Rattle.jwalk_core.specs.ReadDirSpec.{spec}
 use Rattle.jwalk_core.specs.ReadDir.{reading}
 use Rattle.jwalk_core.specs.CrewReads.{to_read}

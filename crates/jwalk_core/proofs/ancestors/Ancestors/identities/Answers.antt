@@ -1,7 +1,7 @@
 use Rattle.std.proofs.Common.{◌≡◌, ◌∙◌, ◌∷◌, ◌++◌, ◌+◌, ◌<◌, [], ℕ, List, map, take, length, get_or, sym, ap, arith}
 use Rattle.std.specs.Prelude.{string_bytes}
 use Rattle.std.proofs.lemmas.List.{map-append, take_more, take_all}
-use Rattle.walk_model.specs.Job.{identity_at}
+use Rattle.jwalk_model.specs.Job.{identity_at}
 use Rattle.jwalk_core.specs.Text.{text}
 use Rattle.jwalk_core.proofs.ancestors.Ancestors.identities.Goals as goal
 

@@ -1,6 +1,6 @@
 use Rattle.std.proofs.Common.{◌≡◌, map, take}
 use Rattle.std.specs.Prelude.{IfSome}
-use Rattle.walk_model.specs.Job.{identity_at}
+use Rattle.jwalk_model.specs.Job.{identity_at}
 use Rattle.jwalk_core.specs.Text.{text}
 use Rattle.jwalk_core.proofs.ancestors.Ancestors.identities.Given as goal
 

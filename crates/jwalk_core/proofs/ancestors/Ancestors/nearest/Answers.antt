@@ -2,9 +2,9 @@ use Rattle.std.proofs.Common.{◌≡◌, ◌∙◌, ◌∷◌, ◌++◌, [], ℕ
 use Rattle.std.specs.Prelude.{string_bytes}
 use Rattle.std.specs.List.{find}
 use Rattle.std.proofs.lemmas.List.{map-append, reverse-append}
-use Rattle.walk_model.specs.declared.metadata.Identity.{Identity}
-use Rattle.walk_model.specs.FileSystem.{Functions}
-use Rattle.walk_model.specs.Job.{identity_at, is_target, looped_to}
+use Rattle.jwalk_model.specs.declared.metadata.Identity.{Identity}
+use Rattle.jwalk_model.specs.FileSystem.{Functions}
+use Rattle.jwalk_model.specs.Job.{identity_at, is_target, looped_to}
 use Rattle.jwalk_core.specs.Text.{text}
 use Rattle.jwalk_core.specs.Ancestors.{AreKnown}
 use Rattle.jwalk_core.proofs.ancestors.Ancestors.nearest.Goals as goal

@@ -1,6 +1,6 @@
 use Rattle.std.proofs.Common.{◌≡◌, map, length}
-use Rattle.walk_model.specs.FileSystem.{Functions}
-use Rattle.walk_model.specs.Job.{looped_to}
+use Rattle.jwalk_model.specs.FileSystem.{Functions}
+use Rattle.jwalk_model.specs.Job.{looped_to}
 use Rattle.jwalk_core.specs.Text.{text}
 use Rattle.jwalk_core.specs.Ancestors.{texts, AreKnown}
 use Rattle.jwalk_core.proofs.ancestors.Ancestors.nearest.Given as goal

@@ -1,5 +1,5 @@
 use Rattle.std.proofs.Common.{◌∙◌, List, ◌∷◌, Err, refl, sym, ap, subst}
-use Rattle.walk_model.specs.ReadDir.{Spec}
+use Rattle.jwalk_model.specs.ReadDir.{Spec}
 use Rattle.jwalk_order.specs.IndexPath.{address}
 use Rattle.jwalk_core.specs.ReadDirSpec.{spec}
 use Rattle.jwalk_core.specs.ReadDir.{outcome}

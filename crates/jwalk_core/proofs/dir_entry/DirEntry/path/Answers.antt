@@ -1,6 +1,6 @@
 use Rattle.std.proofs.Common.{◌≡◌, ◌∙◌, ap, subst}
 use Rattle.std.specs.Prelude.{IfOk, string_bytes}
-use Rattle.walk_model.specs.Paths.{join}
+use Rattle.jwalk_model.specs.Paths.{join}
 use Rattle.jwalk_core.proofs.dir_entry.DirEntry.path.Goals as goal
 
 pub returns : goal.returns

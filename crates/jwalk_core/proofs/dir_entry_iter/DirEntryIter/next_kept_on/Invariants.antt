@@ -1,4 +1,4 @@
-use Rattle.walk_model.specs.Held.{pair_up, weight}
+use Rattle.jwalk_model.specs.Held.{pair_up, weight}
 use Rattle.jwalk_core.specs.Job.{greatest_depth}
 use Rattle.jwalk_core.specs.DirEntryIter.{job_of, items_of, unread_of}
 use Rattle.jwalk_core.proofs.PassFacts.{PassedOver}

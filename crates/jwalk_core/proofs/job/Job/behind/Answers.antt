@@ -1,6 +1,6 @@
 use Rattle.std.proofs.Common.{◌≡◌, ◌∙◌, Ok, ap, sym}
 use Rattle.std.specs.Prelude.{string_bytes}
-use Rattle.walk_model.specs.Entry.{path_of}
+use Rattle.jwalk_model.specs.Entry.{path_of}
 use Rattle.jwalk_core.specs.Text.{text}
 use Rattle.jwalk_core.specs.Entry.{entry}
 use Rattle.jwalk_core.proofs.job.Job.behind.Goals as goal

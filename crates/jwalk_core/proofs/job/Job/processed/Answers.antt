@@ -1,9 +1,9 @@
 use Rattle.std.proofs.Common.{◌∙◌, ◌+◌, Some, map, ap, sym, arith}
 use Rattle.std.specs.Prelude.{string_bytes}
 use Rattle.std.proofs.lemmas.List.{length-map}
-use Rattle.walk_model.specs.ReadDir.{Reading}
-use Rattle.walk_model.proofs.DepthFacts.{AtDepth-in_order}
-use Rattle.walk_model.proofs.CountedFacts.{counted-in_order}
+use Rattle.jwalk_model.specs.ReadDir.{Reading}
+use Rattle.jwalk_model.proofs.DepthFacts.{AtDepth-in_order}
+use Rattle.jwalk_model.proofs.CountedFacts.{counted-in_order}
 use Rattle.jwalk_core.specs.Entry.{item}
 use Rattle.jwalk_core.specs.Given.{counted_item, counted_reading}
 use Rattle.jwalk_core.proofs.GivenFacts.{same_call}

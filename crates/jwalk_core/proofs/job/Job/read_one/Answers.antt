@@ -2,8 +2,8 @@ use Rattle.std.proofs.Common.{◌≡◌, ◌+◌, ◌^◌, ◌<◌, ◌∙◌, �
 use Rattle.std.proofs.lemmas.Bool.{lt-leb}
 use Rattle.std.proofs.lemmas.Bool.Decides.{nat_tests}
 use Rattle.std.specs.Prelude.{◌↔◌, IsTrue, nat_le}
-use Rattle.walk_model.specs.ReadDir.{Reading}
-use Rattle.walk_model.specs.Sorting.{arranged}
+use Rattle.jwalk_model.specs.ReadDir.{Reading}
+use Rattle.jwalk_model.specs.Sorting.{arranged}
 use Rattle.jwalk_core.specs.Entry.{item}
 use Rattle.jwalk_core.specs.ReadDirSpec.{spec}
 use Rattle.jwalk_core.specs.ReadDir.{reading}

@@ -1,8 +1,8 @@
 use Rattle.std.proofs.Common.{◌≡◌, ℕ, List, [], ◌∷◌, None, Ok, Err, false, cond, ap, sym}
 use Rattle.std.specs.Prelude.{string_bytes}
-use Rattle.walk_model.specs.Entry.{Entry, Item}
-use Rattle.walk_model.specs.Counted.{Worth}
-use Rattle.walk_model.specs.Job.{Job, either, made, followed, with_target, root_item}
+use Rattle.jwalk_model.specs.Entry.{Entry, Item}
+use Rattle.jwalk_model.specs.Counted.{Worth}
+use Rattle.jwalk_model.specs.Job.{Job, either, made, followed, with_target, root_item}
 use Rattle.jwalk_core.specs.Entry.{entry, item}
 use Rattle.jwalk_core.specs.Given.{counted_entry, counted_item}
 use Rattle.jwalk_core.specs.Job.{job_by}

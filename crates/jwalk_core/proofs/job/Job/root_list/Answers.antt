@@ -1,6 +1,6 @@
 use Rattle.std.proofs.Common.{◌≡◌, ◌∙◌, ◌∷◌, ◌++◌, [], List, None, refl, map, ap, sym}
 use Rattle.std.specs.Prelude.{string_bytes}
-use Rattle.walk_model.specs.ReadDir.{Reading}
+use Rattle.jwalk_model.specs.ReadDir.{Reading}
 use Rattle.jwalk_core.specs.Entry.{item}
 use Rattle.jwalk_core.specs.Given.{counted_item, counted_reading}
 use Rattle.jwalk_core.proofs.GivenFacts.{same_call}

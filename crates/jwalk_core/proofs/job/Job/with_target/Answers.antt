@@ -1,12 +1,12 @@
 use Rattle.std.proofs.Common.{◌≡◌, ◌∙◌, ℕ, List, true, cond, Result, Ok, Err, refl, sym}
-use Rattle.walk_model.specs.declared.metadata.Metadata.{Metadata}
-use Rattle.walk_model.specs.FileType.{is_dir, is_symlink}
-use Rattle.walk_model.specs.Metadata.{type_of}
-use Rattle.walk_model.specs.Entry.{Entry, path_of, children_at}
-use Rattle.walk_model.specs.Paths.{join}
-use Rattle.walk_model.specs.Counted.{Worth, entry_by}
-use Rattle.walk_model.specs.Job.{Job, either, with_target}
-use Rattle.walk_model.proofs.CountedFacts.{counted-with_directory}
+use Rattle.jwalk_model.specs.declared.metadata.Metadata.{Metadata}
+use Rattle.jwalk_model.specs.FileType.{is_dir, is_symlink}
+use Rattle.jwalk_model.specs.Metadata.{type_of}
+use Rattle.jwalk_model.specs.Entry.{Entry, path_of, children_at}
+use Rattle.jwalk_model.specs.Paths.{join}
+use Rattle.jwalk_model.specs.Counted.{Worth, entry_by}
+use Rattle.jwalk_model.specs.Job.{Job, either, with_target}
+use Rattle.jwalk_model.proofs.CountedFacts.{counted-with_directory}
 use Rattle.jwalk_core.specs.Text.{text}
 use Rattle.jwalk_core.specs.Entry.{entry}
 use Rattle.jwalk_core.specs.Job.{job_by}

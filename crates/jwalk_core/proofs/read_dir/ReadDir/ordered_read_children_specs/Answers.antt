@@ -1,7 +1,7 @@
 use Rattle.std.proofs.Common.{sym, ap, ◌∙◌, map, subst}
 use Rattle.std.proofs.lemmas.Result.{IfOk-weaker}
 use Rattle.std.proofs.lemmas.Simd.{map-map}
-use Rattle.walk_model.specs.ReadDir.{children, AreClones}
+use Rattle.jwalk_model.specs.ReadDir.{children, AreClones}
 use Rattle.jwalk_core.specs.ReadDirSpec.{spec}
 use Rattle.jwalk_core.specs.ReadDir.{reading}
 use Rattle.jwalk_core.proofs.read_dir.ReadDir.ordered_read_children_specs.Goals as goal

@@ -1,6 +1,6 @@
 use Rattle.std.proofs.Common.{◌≡◌, ◌+◌, ◌<◌, ◌++◌, ◌∷◌, [], ◌∙◌, ap, sym, map, take, length, get_or, arith, subst}
 use Rattle.std.proofs.lemmas.List.{map-append, take_more, take_all}
-use Rattle.walk_model.specs.ReadDir.{children, AreClones}
+use Rattle.jwalk_model.specs.ReadDir.{children, AreClones}
 use Rattle.jwalk_core.specs.Entry.{item}
 use Rattle.jwalk_core.specs.ReadDirSpec.{spec}
 use Rattle.jwalk_core.proofs.ListFacts.{children_more}

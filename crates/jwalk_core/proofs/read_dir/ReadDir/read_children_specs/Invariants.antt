@@ -1,5 +1,5 @@
 use Rattle.std.proofs.Common.{map, take}
-use Rattle.walk_model.specs.ReadDir.{children, AreClones}
+use Rattle.jwalk_model.specs.ReadDir.{children, AreClones}
 use Rattle.jwalk_core.specs.Entry.{item}
 use Rattle.jwalk_core.specs.ReadDirSpec.{spec}
 use Rattle.jwalk_core.proofs.read_dir.ReadDir.read_children_specs.Given as goal

@@ -1,5 +1,5 @@
 use Rattle.std.proofs.Common.{map}
-use Rattle.jwalk.specs.walk_model.ReadDir.{list_depth}
+use Rattle.jwalk.specs.jwalk_model.ReadDir.{list_depth}
 use Rattle.jwalk.specs.jwalk_core.Entry.{item}
 use Rattle.jwalk_ignore.specs.IgnoreViews.{next_of, settings_of, texts_of, with_processed}
 use Rattle.jwalk_ignore.proofs.IgnoreFacts.{then_next}

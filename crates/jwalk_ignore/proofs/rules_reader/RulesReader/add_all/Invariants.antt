@@ -1,6 +1,6 @@
 use Rattle.std.proofs.Common.{◌≡◌, map}
 use Rattle.std.specs.Prelude.{fold}
-use Rattle.jwalk.specs.walk_model.Entry.{AtDepth}
+use Rattle.jwalk.specs.jwalk_model.Entry.{AtDepth}
 use Rattle.jwalk.specs.jwalk_core.Entry.{item}
 use Rattle.jwalk_ignore.specs.IgnoreFiles.{with_listed}
 use Rattle.jwalk_ignore.specs.Sources.{made_value}

@@ -1,6 +1,6 @@
 use Rattle.std.proofs.Common.{◌≡◌, ◌∙◌, ap}
 use Rattle.std.proofs.lemmas.Result.{on_ok_weaker}
-use Rattle.jwalk.specs.walk_model.Paths.{join}
+use Rattle.jwalk.specs.jwalk_model.Paths.{join}
 use Rattle.jwalk_ignore.specs.IgnoreFiles.{path_of, rules_found, with_found}
 use Rattle.jwalk_ignore.specs.Sources.{made_value, source_value}
 use Rattle.jwalk_ignore.proofs.source.Made.add_rules.Goals as goal

@@ -1,5 +1,5 @@
 use Rattle.std.proofs.Common.{option_map, inl, inr, refl, ap, ◌∙◌, arith}
-use Rattle.walk_model.specs.Entry.{AtDepth}
+use Rattle.jwalk_model.specs.Entry.{AtDepth}
 use Rattle.jwalk_core.specs.Options as options
 use Rattle.jwalk_core.specs.ReadDir.{reading}
 use Rattle.jwalk_core.specs.Job.{options_of}

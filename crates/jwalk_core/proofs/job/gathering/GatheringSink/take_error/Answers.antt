@@ -1,7 +1,7 @@
 use Rattle.std.proofs.Common.{◌+◌, [], ◌∷◌, Err, refl, ap, ◌∙◌}
 use Rattle.std.specs.Prelude.{string_bytes}
 use Rattle.std.specs.IoError.{error_kind}
-use Rattle.walk_model.specs.Error.{unnamed}
+use Rattle.jwalk_model.specs.Error.{unnamed}
 use Rattle.jwalk_core.specs.Text.{text}
 use Rattle.jwalk_core.proofs.GatheredFacts.{asks_nothing, gathered_more}
 use Rattle.jwalk_core.proofs.job.gathering.GatheringSink.take_error.Goals as goal

@@ -1,5 +1,5 @@
 use Rattle.std.proofs.Common.{[], ◌∷◌, Ok, refl, sym, append-nil}
-use Rattle.walk_fs.specs.Views.{named_as}
+use Rattle.jwalk_fs.specs.Views.{named_as}
 use Rattle.jwalk_core.proofs.GatheredFacts.{gathered_more}
 use Rattle.jwalk_core.proofs.job.gathering.GatheringSink.take_seen.Goals as goal
 

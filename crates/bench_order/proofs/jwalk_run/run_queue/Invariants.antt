@@ -1,6 +1,0 @@
-use Rattle.std.proofs.Common.{◌≡◌}
-use Rattle.bench_order.proofs.jwalk_run.run_queue.Given as goal
-
--- Each item that was pushed is pending.
-abbrev pub invariant-loop-value : goal.invariant-loop-value
-invariant-loop-value l = l.queue.pending ≡ l.value

@@ -1,4 +1,0 @@
-use Rattle.bench_order.proofs.scrambled.address.Given as goal
-
-abbrev pub decreases-loop-node : goal.decreases-loop-node
-decreases-loop-node l = l.node

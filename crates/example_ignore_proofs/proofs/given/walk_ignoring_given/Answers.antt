@@ -1,0 +1,19 @@
+use Rattle.std.proofs.Common.{◌-◌, ◌^◌, arith}
+use Rattle.jwalk.proofs.WholeFacts.{whole_filled}
+use Rattle.example_ignore_proofs.proofs.given.walk_ignoring_given.Goals as goal
+
+-- a vector holds fewer than `usize::MAX`, so all that was to come is filled in
+pub returns : goal.returns
+returns g c = λ given steady none.
+    let set = c.with_ignore_files.ensures in
+    let begun = c.into_iter.ensures in
+    let found = c.fill.new.out in
+    let whole = whole_filled _ _ _ _ _ given c.with_ignore_files.result c.into_iter.result c.fill.new.self (2 ^ 64 - 1) c.in_ok-fill.field-0 c.new-found.result.items found.items begun.own begun.starts begun.holds
+    (record {
+      file_system = rw set.file_system steady.file_system;
+      callback = rw set.callback steady.callback;
+      clones = steady.clones;
+      default = steady.default;
+    })
+    c.in_ok-fill.ensures c.new-found.ensures.items (omega (arith, found.ok.0, found.ok.1, found.small)) none in
+    rw (set.file_system, set.options, set.root, set.state) at whole

@@ -1,0 +1,14 @@
+use Rattle.std.proofs.Common.{◌∙◌, arith}
+use Rattle.example_proofs.proofs.ahead.ahead_after.Goals as goal
+
+pub loop-init : goal.loop-init
+loop-init g c = record { lawful = c.requires.lawful; crew = c.requires.crew; most = omega arith }
+
+pub loop-preserved : goal.loop-preserved
+loop-preserved g c =
+    let before = c.loop.invariant in
+    let call = c.next.ensures.steps in
+    record { lawful = rw call.job before.lawful; crew = call.crew ∙ before.crew; most = omega (arith, call.most, before.most) }
+
+pub returns : goal.returns
+returns g c = omega (arith, c.ahead.ensures.crew c.loop.invariant.crew, c.loop.invariant.most)

@@ -1,0 +1,38 @@
+-- Readers that read a directory when they are asked for it.
+use Rattle.std.specs.Prelude.{◌≡◌, List, All, map, reverse}
+use Rattle.std.specs.declared.clone.Clone as Clone
+use Rattle.std.specs.declared.default.Default as Default
+use Rattle.jwalk.specs.jwalk_model.Counted.{Worth}
+use Rattle.jwalk.specs.jwalk_model.Job.{reading}
+use Rattle.jwalk.specs.jwalk_model.Preorder.{preorder}
+use Rattle.jwalk.specs.jwalk_model.ReadDir.{Spec, Outcome}
+use Rattle.jwalk.specs.jwalk_fs.declared.file_system.FileSystem as FileSystem
+use Rattle.jwalk.specs.jwalk_order.Addressed.{Addressed}
+use Rattle.jwalk.specs.jwalk_order.IndexPath.{address}
+use Rattle.jwalk.specs.jwalk_order.declared.index_path.IndexPath.{IndexPath}
+use Rattle.jwalk.specs.jwalk_core.declared.process_read_dir.ProcessReadDir as ProcessReadDir
+use Rattle.jwalk.specs.jwalk_core.declared.read_dir_spec.ReadDirSpec.{ReadDirSpec}
+use Rattle.jwalk.specs.jwalk_core.ReadDirSpec.{spec}
+use Rattle.jwalk.specs.jwalk_core.Given.{counted_spec}
+use Rattle.jwalk.specs.jwalk_core.declared.job.Job.{Job}
+use Rattle.jwalk.specs.jwalk_core.Job.{greatest_depth, job_by}
+use Rattle.jwalk.specs.jwalk_core.Origin.{Origin, IsAt}
+use Rattle.jwalk.specs.WalkDir.{stateless}
+
+module _ {C A R E : Type 0} where
+  -- a directory at its address
+  abbrev pub placed : IndexPath A × ReadDirSpec C A R E → Addressed (Spec R)
+  placed w = record { at = address w.0; value = spec w.1; child_count = 0 }
+
+  -- those of a stack, the one on top first
+  abbrev pub stacked : List (IndexPath A × ReadDirSpec C A R E) → List (Addressed (Spec R))
+  stacked waiting = map placed (reverse waiting)
+
+-- the readings of these directories and of all that is below them, each before those of its directories, by a job whose file system is fixed and whose states say nothing
+abbrev pub readings_below : {C S P A R E : Type 0} → FileSystem.Ghosts S → Job C S P A R E → List (Spec R) → List (Outcome Worth Worth)
+readings_below {R = R} {E} files job specs = preorder (reading (job_by files stateless job)) (greatest_depth job) (map (counted_spec {R = R} {E = E} stateless) specs)
+
+-- It reads for the walk that begins there: by the walk's own job, and each directory on its stack is at its address of the walk.
+pub record ReadsFor {C S P A R E : Type 0} (files : FileSystem.Ghosts S) (process : ProcessReadDir.Ghosts P C A R E) (clone : Clone.Ghosts R) (defaults : Default.Ghosts E) (job : Job C S P A R E) (waiting : List (IndexPath A × ReadDirSpec C A R E)) (origin : Origin C S P A R E) : Type 0 where
+  pub own : job ≡ origin.job
+  pub at : All (λ w. IsAt files process clone defaults origin w.at w.value) (stacked waiting)

@@ -1,0 +1,30 @@
+-- Walks whose callback empties every list but the root's.
+use Rattle.std.specs.Prelude.{ℕ, List, [], Option, Some, None}
+use Rattle.jwalk.specs.jwalk_model.Entry.{Item}
+use Rattle.jwalk.specs.jwalk_model.Counted.{blank}
+use Rattle.jwalk.specs.jwalk_model.Job.{Processing, KeepsDepthsOf}
+use Rattle.jwalk.specs.jwalk_core.Given.{Given}
+
+module _ {R E : Type 0} where
+  -- the root's list stays, and nothing of every other list
+  abbrev pub emptied : Option ℕ → List (Item R E) → List (Item R E)
+  emptied None list = list
+  emptied (Some depth) list = []
+
+  -- what the callback makes of a list
+  abbrev pub empties : Processing R E
+  empties depth path state list = record { state = state; list = emptied depth list }
+
+  pub keeps_depths_of_emptied : KeepsDepthsOf empties
+  keeps_depths_of_emptied None path state list h = h
+  keeps_depths_of_emptied (Some depth) path state list h = tt
+
+-- what is given of a walk with it, where states count as nothing
+abbrev pub root_alone : {R E : Type 0} → Given R E
+root_alone = record {
+  read_dir_state = λ _. blank;
+  dir_entry_state = λ _. blank;
+  processed = empties;
+  keeps_depths = keeps_depths_of_emptied;
+  new_entry = blank;
+}

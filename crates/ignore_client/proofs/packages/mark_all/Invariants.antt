@@ -1,8 +1,0 @@
-use Rattle.jwalk.specs.jwalk_core.Entry.{item}
-use Rattle.ignore_client.specs.Packages.{with_mark}
-use Rattle.ignore_client.proofs.PackageFacts.{IsChangedTo}
-use Rattle.ignore_client.proofs.packages.mark_all.Given as goal
-
--- those so far are marked
-abbrev pub invariant-loop-found : goal.invariant-loop-found
-invariant-loop-found g l = IsChangedTo item (with_mark l.inside) l.fn.list.items l.found-index l.found-items

@@ -1,6 +1,0 @@
--- The file system that a runtime reaches.
-use Rattle.real_fs.specs.declared.real_fs.RealFs.{RealFs}
-
--- the runtime that it was made with
-abbrev pub runtime_of : {R F D : Type 0} → RealFs R F D → R
-runtime_of fs = fs.rt

@@ -1,7 +1,0 @@
-use Rattle.std.proofs.Common.{◌≡◌}
-use Rattle.jwalk.specs.DirEntryIter.{job_of}
-use Rattle.refused_walks.proofs.on_threads.goes.Given as goal
-
--- the walk keeps its callback
-abbrev pub invariant-lines : goal.invariant-lines
-invariant-lines g l = job_of l.walk ≡ job_of l.fn.walk

@@ -1,9 +1,0 @@
-//! How walks come out whose memory may be refused.
-#![tactic(auto)]
-
-pub mod callbacks;
-pub mod came;
-pub mod counting;
-pub mod lines;
-pub mod on_threads;
-pub mod turns;

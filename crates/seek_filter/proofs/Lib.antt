@@ -1,4 +1,0 @@
-pub mod CaseFacts
-pub mod ExtensionFacts
-pub mod PathFacts
-pub mod MaskedFacts

@@ -1,5 +1,0 @@
-pub mod GlobFacts
-pub mod ExcludingFacts
-pub mod SearchFacts
-pub mod RunFacts
-pub mod EndFacts

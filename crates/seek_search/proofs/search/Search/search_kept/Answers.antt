@@ -1,0 +1,45 @@
+use Rattle.std.proofs.Common.{◌≡◌, ◌∙◌, ap, subst, sym}
+use Rattle.std.specs.Prelude.{is_some}
+use Rattle.std.specs.Arc.{arc_value}
+use Rattle.std.proofs.lemmas.Result.{IfOk-weaker}
+use Rattle.jwalk.specs.jwalk_model.Counted.{blank, both}
+use Rattle.jwalk.specs.WalkDir.{file_system_of, options_of, state_of}
+use Rattle.jwalk_ignore.specs.ChainWorth.{chain_worth}
+use Rattle.jwalk_ignore.specs.Given.{no_rules_yet, rules_alone}
+use Rattle.jwalk_ignore.specs.IgnoreViews.{ignoring, next_of, settings_of, texts_of as texts_in}
+use Rattle.jwalk_ignore.specs.declared.settings.Settings.{Settings}
+use Rattle.seek_search.specs.Options.{options_for, with_crew}
+use Rattle.seek_search.specs.declared.options.WalkOptions.{WalkOptions}
+use Rattle.seek_search.proofs.CleanFacts.{printed_as}
+use Rattle.seek_words.specs.Asks.{texts_of}
+use Rattle.seek_search.specs.Excluding.{excluded_by, excluded_of, excluding}
+use Rattle.seek_search.specs.Search.{excluded_asked, options_asked, settings_asked}
+use Rattle.seek_search.proofs.SearchFacts.{hidden_by_crew, ignoring_same}
+use Rattle.seek_search.proofs.search.Search.search_kept.Goals as goal
+
+pub returns-clause-whole : goal.returns-clause-whole
+returns-clause-whole g c =
+    let self = c.args.self.now in
+    let asked = self.asked.now in
+    let built = c.in_ok-walk.ensures in
+    let walk = c.in_ok-walk.walk in
+    let rules = c.then-rules.result in
+    let excluded = excluded_asked asked c.args.root.now in
+    let texts = g.X.Texts.functions (arc_value self.texts) in
+    let over : arc_value (file_system_of walk) ≡ arc_value self.disk = ap arc_value built.file_system ∙ c.in_ok-disk.ensures.cases in
+    let from : arc_value (texts_in rules) ≡ arc_value self.texts
+    = ap arc_value (c.then-rules.ensures.texts ∙ c.keep_hidden.ensures.texts ∙ c.new-2.ensures.texts) ∙ c.in_ok-clone.ensures.cases in
+    let settings : settings_of rules ≡ settings_asked asked
+    = c.then-rules.ensures.settings ∙ c.keep_hidden.ensures.settings ∙ ap (λ (s : Settings). record s { keeps_hidden = asked.hidden }) c.new-2.ensures.settings in
+    let lines : excluded_of (next_of rules) ≡ excluded
+    = ap excluded_of c.then-rules.ensures.next ∙ c.in_ok-excluding.ensures ∙ ap (λ l. excluded_by (texts_of l) c.args.root.now) c.as_slice.ensures.value in
+    let options : options_of walk ≡ with_crew (is_some self.crew) (options_asked asked)
+    = built.options ∙ ap (λ (o : WalkOptions). options_for o (is_some self.crew)) c.options.ensures in
+    let state : rules_alone (state_of walk) ≡ no_rules_yet = ap (λ chain. both (chain_worth chain) blank) built.state.0 in
+    IfOk-weaker c.search_walk.result _ _
+    (λ clean whole. λ is fixed told.
+    printed_as
+    (ignoring_same (ap g.S.FileSystem.functions over) (ap g.X.Texts.functions from) settings lines options (built.root ∙ c.in_ok-root.ensures.ok)
+    ∙ hidden_by_crew (ignoring (settings_asked asked) texts (excluding excluded)) (is_some self.crew) (g.S.FileSystem.functions (arc_value self.disk)) (options_asked asked) c.args.root.now no_rules_yet)
+    (whole is (subst g.S.FileSystem.IsFixed (sym over) fixed) (subst g.X.Texts.IsFixed (sym from) told) state))
+    c.search_walk.ensures.whole

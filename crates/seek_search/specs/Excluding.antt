@@ -1,0 +1,67 @@
+-- What lines of an ignore file leave out of lists.
+use Rattle.std.specs.Prelude.{◌≡◌, ℕ, Bool, true, not, List, [], ◌∷◌, ◌++◌, drop, flat_map, length, Option, None, Some, Ok, Err, if◌then◌else◌, ◌==◌}
+use Rattle.std.specs.List.{filter}
+use Rattle.jwalk.specs.jwalk_model.Entry.{Item}
+use Rattle.jwalk.specs.jwalk_model.FileType.{is_dir}
+use Rattle.jwalk.specs.jwalk_model.Job.{KeepsDepthsOf, Processing}
+use Rattle.jwalk.specs.jwalk_model.Counted.{Worth}
+use Rattle.jwalk.specs.jwalk_core.Given.{Given}
+use Rattle.jwalk_ignore.specs.Chain.{is_ignored}
+use Rattle.jwalk_ignore.specs.Line.{patterns_of}
+use Rattle.jwalk_ignore.specs.MadeDepths.{filter_at}
+use Rattle.jwalk_ignore.specs.Matching.{patterns_say}
+use Rattle.jwalk_ignore.specs.Pattern.{Pattern}
+use Rattle.jwalk_ignore.specs.PatternText.{without_first_slash}
+use Rattle.jwalk_ignore.specs.Rules.{rules_value}
+use Rattle.jwalk_ignore.specs.declared.rules.Rules.{Rules}
+use Rattle.seek_search.specs.declared.excluding.Excluding.{Excluding}
+
+-- the patterns, and how long the root's path is
+pub record Excluded : Type 0 where
+  pub patterns : List Pattern
+  pub root_len : ℕ
+
+-- lines, as the text of a file
+abbrev pub lines_text : List (List ℕ) → List ℕ
+lines_text = flat_map (λ line. line ++ 10 ∷ [])
+
+-- what is left out by lines, below a root with this path
+abbrev pub excluded_by : List (List ℕ) → List ℕ → Excluded
+excluded_by lines root = record { patterns = patterns_of (lines_text lines); root_len = length root }
+
+abbrev pub patterns_in : {A : Type 0} → Option (Rules A) → List Pattern
+patterns_in None = []
+patterns_in (Some rules) = rules_value rules
+
+-- what a callback leaves out
+abbrev pub excluded_of : Excluding → Excluded
+excluded_of it = record { patterns = patterns_in it.rules; root_len = it.root_len }
+
+-- what is behind this many bytes of a path, without a slash in front
+abbrev pub behind : ℕ → List ℕ → List ℕ
+behind len path = without_first_slash (drop len path)
+
+-- where the names of a folder begin: its path behind the root, ended by a slash
+abbrev pub place_of : ℕ → List ℕ → List ℕ
+place_of root_len folder = if length (behind root_len folder) == 0 then [] else behind root_len folder ++ 47 ∷ []
+
+-- whether an item stays that is in a folder with this place
+abbrev pub is_included : {R E : Type 0} → List Pattern → List ℕ → Item R E → Bool
+is_included patterns place (Ok e) = not (is_ignored (patterns_say patterns (place ++ e.file_name) (is_dir e.file_type)))
+is_included patterns place (Err f) = true
+
+-- what is made of lists: what is left out is dropped from the list of a directory, and the root's stays
+abbrev pub excluding : {R E : Type 0} → Excluded → Processing R E
+excluding excluded None path state list = record { state = state; list = list }
+excluding excluded (Some depth) path state list =
+    record { state = state; list = filter (is_included excluded.patterns (place_of excluded.root_len path)) list }
+
+-- The callback makes of lists what is given: what is given leaves out what it does.
+abbrev pub Excludes : {R E : Type 0} → Excluded → Given R E → Type 0
+Excludes excluded given =
+    (depth : Option ℕ) (path : List ℕ) (state : Worth) (list : List (Item Worth Worth)) → given.processed depth path state list ≡ excluding excluded depth path state list
+
+-- Depths stay.
+pub excluding-KeepsDepthsOf : {R E : Type 0} (excluded : Excluded) → KeepsDepthsOf {R = R} {E = E} (excluding excluded)
+excluding-KeepsDepthsOf excluded None path state list h = h
+excluding-KeepsDepthsOf excluded (Some depth) path state list h = filter_at _ (is_included excluded.patterns (place_of excluded.root_len path)) list h

@@ -1,0 +1,51 @@
+-- What is printed of a walk's answers.
+use Rattle.std.specs.Prelude.{◌≡◌, ℕ, Bool, true, false, not, List, [], Option, Result, Ok, Err, map, flat_map, is_ok, is_some, option_and_then, if◌then◌else◌}
+use Rattle.std.specs.List.{list_all}
+use Rattle.std.specs.Iterator.{Drains}
+use Rattle.std.specs.Io.KnownBytes.{Appends}
+use Rattle.jwalk_core.specs.declared.dir_entry.DirEntry.{DirEntry}
+use Rattle.jwalk_core.specs.declared.error.Error.{Error}
+use Rattle.jwalk_core.specs.Entry.{item}
+use Rattle.jwalk_core.specs.Given.{Given, counted_list}
+use Rattle.jwalk_model.specs.Counted.{Worth}
+use Rattle.jwalk_model.specs.Entry.{Entry, Item}
+use Rattle.seek_words.specs.Paths.{line_of}
+use Rattle.seek_words.specs.Sought.{Sought, is_found}
+use Rattle.seek_words.specs.declared.paths.Style.{Style}
+
+module _ {R E : Type 0} where
+  -- the line of an entry, if it is looked for
+  abbrev pub entry_line : Sought → Style → Entry R E → List ℕ
+  entry_line sought style e =
+      if is_found sought e.depth e.file_type e.parent_path e.file_name then line_of style e.parent_path e.file_name else []
+
+  -- what is printed of an answer
+  abbrev pub found_line : Sought → Style → Item R E → List ℕ
+  found_line sought style (Ok e) = entry_line sought style e
+  found_line sought style (Err f) = []
+
+  -- what is printed of answers, one after another
+  abbrev pub found_lines : Sought → Style → List (Item R E) → List ℕ
+  found_lines sought style = flat_map (found_line sought style)
+
+  -- whether an answer is an entry, and its directory was read if it was to be
+  abbrev pub is_clean : Item R E → Bool
+  is_clean (Ok e) = not (is_some (option_and_then (λ children. children.error) e.read_children))
+  is_clean (Err f) = false
+
+-- The line of each of these answers that is looked for is printed, and all of them are clean.
+pub record PrintsClean {R E : Type 0} (answers : List (Item R E)) (sought : Sought) (style : Style) (old new : Option (List ℕ)) : Type 0 where
+  pub lines : Appends old new (found_lines sought style answers)
+  pub clean : list_all is_clean answers ≡ true
+
+module _ {S C A R E : Type 0} (steps : S → Option (Result (DirEntry C A R E) (Error A)) → S → Type 0) (answers : S) where
+  -- Calls of the iterator until it ends, where they yield entries alone, yield this, as it counts.
+  abbrev pub YieldsWhole : Given R E → List (Item Worth Worth) → Type 0
+  YieldsWhole given whole =
+      (answered : List (Result (DirEntry C A R E) (Error A))) → Drains steps answers answered → list_all is_ok answered ≡ true → counted_list given answered ≡ whole
+
+  -- The iterator was called until it ended, the line of each answer that is looked for was printed, and the result says whether all answers are clean.
+  abbrev pub PrintsFound : Sought → Style → Option (List ℕ) → Option (List ℕ) → Bool → Type 0
+  PrintsFound sought style old new clean =
+      (answered : List (Result (DirEntry C A R E) (Error A))) × Drains steps answers answered
+      × (clean ≡ list_all is_clean (map item answered)) × Appends old new (found_lines sought style (map item answered))

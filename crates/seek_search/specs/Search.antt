@@ -1,0 +1,110 @@
+-- What a search goes over, and what it finds.
+use Rattle.std.specs.Prelude.{ℕ, ◌==◌, Bool, false, List, [], ◌∷◌, flat_map, length, Option, None, Some, Result, Ok, Err, if◌then◌else◌}
+use Rattle.std.specs.declared.io.ErrorKind.{ErrorKind}
+use Rattle.jwalk.specs.jwalk_model.Counted.{Worth, blank}
+use Rattle.jwalk.specs.jwalk_model.Entry.{Item}
+use Rattle.jwalk.specs.jwalk_model.FileSystem.{Functions}
+use Rattle.jwalk.specs.jwalk_model.Job.{Job, Processing}
+use Rattle.jwalk.specs.jwalk_model.Options.{Options, with_skip_hidden}
+use Rattle.jwalk.specs.jwalk_model.Paths.{join, dot}
+use Rattle.jwalk.specs.jwalk_model.Walk.{whole_walk}
+use Rattle.jwalk.specs.jwalk_core.Given.{Given}
+use Rattle.jwalk_ignore.specs.Given.{ignoring-KeepsDepthsOf, no_rules_yet, rules_alone}
+use Rattle.jwalk_ignore.specs.IgnoreViews.{ignoring}
+use Rattle.jwalk_ignore.specs.Texts.{Texts}
+use Rattle.jwalk_ignore.specs.declared.chain.Chain.{Chain}
+use Rattle.jwalk_ignore.specs.declared.settings.Settings.{Settings}
+use Rattle.seek_words.specs.Sought.{Sought}
+use Rattle.seek_words.specs.declared.paths.Style.{Style}
+use Rattle.seek_search.specs.Options.{options_for}
+use Rattle.seek_search.specs.declared.options.WalkOptions.{WalkOptions}
+use Rattle.seek_words.specs.Asks.{texts_of}
+use Rattle.seek_words.specs.declared.asked.Asked.{Asked}
+use Rattle.seek_search.specs.Excluding.{Excluded, excluded_by, excluding, excluding-KeepsDepthsOf}
+
+-- what is asked of walks
+abbrev pub walk_options : Asked → WalkOptions
+walk_options asked = record { sort = asked.sort; hidden = asked.hidden; follow = asked.follow; greatest = asked.depths.greatest }
+
+-- the options of walks. Whether a crew reads makes no difference to what they yield.
+abbrev pub options_asked : Asked → Options
+options_asked asked = options_for (walk_options asked) false
+
+-- how ignore files are used
+abbrev pub settings_asked : Asked → Settings
+settings_asked asked = record { keeps_hidden = asked.hidden; anywhere = false }
+
+-- readings that make this of lists
+abbrev pub job_with : Functions → Options → Processing Worth Worth → Job Worth Worth
+job_with fs options processed = record { fs = fs; options = options; processed = processed; default = blank }
+
+-- what is given of walks without ignore files: states count as nothing
+abbrev pub given_all : {R E : Type 0} → Excluded → Given R E
+given_all excluded = record {
+  read_dir_state = λ _. blank;
+  dir_entry_state = λ _. blank;
+  processed = excluding excluded;
+  keeps_depths = excluding-KeepsDepthsOf excluded;
+  new_entry = blank;
+}
+
+-- and of walks that honour them: states of directories count as the rules in force
+abbrev pub given_kept : {A B E : Type 0} → Settings → Texts → Excluded → Given (Chain A × B) E
+given_kept settings texts excluded = record {
+  read_dir_state = rules_alone;
+  dir_entry_state = λ _. blank;
+  processed = ignoring settings texts (excluding excluded);
+  keeps_depths = ignoring-KeepsDepthsOf settings texts (excluding excluded) (excluding-KeepsDepthsOf excluded);
+  new_entry = blank;
+}
+
+-- all that a walk yields without ignore files, below a root
+abbrev pub all_below : Functions → Asked → Excluded → List ℕ → List (Item Worth Worth)
+all_below fs asked excluded root = whole_walk (job_with fs (options_asked asked) (excluding excluded)) root blank
+
+-- all that a walk yields that honours ignore files. It is shown hidden names, and drops them itself unless they are asked for.
+abbrev pub ignoring_walk : Functions → Texts → Settings → Excluded → Options → List ℕ → List (Item Worth Worth)
+ignoring_walk fs texts settings excluded options root =
+    whole_walk (job_with fs (with_skip_hidden false options) (ignoring settings texts (excluding excluded))) root no_rules_yet
+
+-- the same below a root
+abbrev pub kept_below : Functions → Texts → Asked → Excluded → List ℕ → List (Item Worth Worth)
+kept_below fs texts asked excluded root = ignoring_walk fs texts (settings_asked asked) excluded (options_asked asked) root
+
+-- what is left out below a root
+abbrev pub excluded_asked : Asked → List ℕ → Excluded
+excluded_asked asked root = excluded_by (texts_of asked.excludes.items) root
+
+-- all that is gone over below a root
+abbrev pub yielded_below : Functions → Texts → Asked → List ℕ → List (Item Worth Worth)
+yielded_below fs texts asked root =
+    if asked.no_ignore then all_below fs asked (excluded_asked asked root) root else kept_below fs texts asked (excluded_asked asked root) root
+
+-- the roots: the folder that the program runs in, if none is named
+abbrev pub roots_asked : Asked → List (List ℕ)
+roots_asked asked = if length asked.roots.items == 0 then dot ∷ [] else texts_of asked.roots.items
+
+-- all that is gone over, one root after another
+abbrev pub yielded_by : Functions → Texts → Asked → List (Item Worth Worth)
+yielded_by fs texts asked = flat_map (yielded_below fs texts asked) (roots_asked asked)
+
+-- how paths are written, to a terminal or not
+abbrev pub style_asked : Bool → Asked → Style
+style_asked on_terminal asked = record { here = length asked.roots.items == 0; masked = on_terminal; separator = if asked.print0 then 0 else 10 }
+
+-- the folder that relative paths are below, ended by a slash; nothing if its absolute path isn't found
+abbrev pub front_at : Result (List ℕ) ErrorKind → List ℕ
+front_at (Ok here) = join here []
+front_at (Err kind) = join [] []
+
+-- what is in front of a relative path, if absolute paths are tested
+abbrev pub front_asked : Texts → Asked → Option (List ℕ)
+front_asked texts asked = if asked.full_path then Some (front_at (texts.absolute_of [])) else None
+
+-- what is looked for, where these texts pass
+abbrev pub sought_asked : Texts → Asked → (List ℕ → Bool → Bool) → Sought
+sought_asked texts asked takes = record {
+  wanted = record { depths = asked.depths; kinds = asked.kinds; extensions = texts_of asked.extensions.items };
+  takes = takes;
+  front = front_asked texts asked;
+}

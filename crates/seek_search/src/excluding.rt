@@ -1,0 +1,171 @@
+//! A callback that leaves out what lines of an ignore file name.
+ghost use Rattle.std.specs.Prelude.{◌≡◌, ◌++◌, ◌∷◌, [], map, IfOk, OnOk};
+ghost use Rattle.std.specs.List.{filter};
+ghost use Rattle.jwalk.specs.jwalk_core.Entry.{item};
+ghost use Rattle.jwalk_ignore.specs.Chain.{is_ignored};
+ghost use Rattle.jwalk_ignore.specs.Matching.{patterns_say};
+ghost use Rattle.jwalk_ignore.specs.Rules.{rules_value};
+ghost use Rattle.seek_search.specs.Excluding.{lines_text, place_of, is_included};
+
+use crate::below::behind;
+use jwalk::read_dir::ProcessReadDir;
+use jwalk::{ClientState, DirEntry, Error};
+use jwalk_ignore::rules::Rules;
+use std::alloc::{AllocError, Allocator, Global};
+use std::mem;
+
+/// A callback that drops what rules ignore, so that nothing below it is read. They match what is behind the root in a
+/// path, and the root stays.
+#[derive(Drop)]
+pub(crate) struct Excluding {
+    /// None if there are no lines.
+    rules: Option<Rules>,
+    /// How long the root's path is.
+    root_len: usize,
+}
+
+/// Returns lines as the text of a file.
+fn text_of(alloc: Global, lines: &[&str]) -> Result<Vec<u8>, AllocError>
+    ensures { IfOk result (λ text. text.items ≡ lines_text (map (λ it. it.now) lines.now)) }
+{
+    let mut text = Vec::new(alloc);
+    for line in lines {
+        text.extend_from_slice(line.as_bytes())?;
+        text.push(b'\n')?;
+    }
+    Ok(text)
+}
+
+/// Returns where the names of a folder begin: its path behind the root, ended by a slash.
+fn place_of<A: Allocator + Copy>(
+    alloc: A,
+    root_len: usize,
+    folder: &str,
+) -> Result<Vec<u8, A>, AllocError>
+    ensures { IfOk result (λ place. place.items ≡ place_of root_len folder.now) }
+{
+    let below = behind(folder.as_bytes(), root_len);
+    let mut place = Vec::new(alloc);
+    if below.is_empty() {
+        return Ok(place);
+    }
+    place.extend_from_slice(below)?;
+    place.push(b'/')?;
+    Ok(place)
+}
+
+/// Returns whether rules ignore a name in a folder. The place of the folder is left as it was.
+#[tactic(auto, using(jwalk_ignore::proofs::MatchingFacts::says_computed))]
+fn ignores<A: Allocator + Copy>(
+    rules: &Rules,
+    place: &mut Vec<u8, A>,
+    name: &str,
+    is_dir: bool,
+) -> Result<bool, AllocError>
+    ensures answer { IfOk result (λ yes. yes ≡ is_ignored (patterns_say (rules_value rules.now) (place.old.items ++ name.now) is_dir)) }
+    ensures place { OnOk result (place.new.items ≡ place.old.items) }
+{
+    let len = place.len();
+    place.extend_from_slice(name.as_bytes())?;
+    let decision = rules.decision(place.as_slice(), is_dir);
+    place.truncate(len);
+    Ok(decision.is_ignored())
+}
+
+/// Returns whether an item stays that is in a folder with this place.
+fn is_included<C: ClientState, A: Allocator + Copy>(
+    rules: &Rules,
+    place: &mut Vec<u8, A>,
+    found: &Result<DirEntry<C, A>, Error<A>>,
+) -> Result<bool, AllocError>
+    ensures answer { IfOk result (λ yes. yes ≡ is_included (rules_value rules.now) place.old.items (item found.now)) }
+    ensures place { OnOk result (place.new.items ≡ place.old.items) }
+{
+    match found {
+        Ok(entry) => Ok(!ignores(rules, place, entry.file_name(), entry.file_type().is_dir())?),
+        Err(_) => Ok(true),
+    }
+}
+
+/// Adds an item that stays.
+fn push_included<C: ClientState, A: Allocator + Copy>(
+    rules: &Rules,
+    place: &mut Vec<u8, A>,
+    found: Result<DirEntry<C, A>, Error<A>>,
+    kept: &mut Vec<Result<DirEntry<C, A>, Error<A>>, A>,
+) -> Result<(), AllocError>
+    ensures kept { OnOk result (map item kept.new.items
+        ≡ map item kept.old.items ++ filter (is_included (rules_value rules.now) place.old.items) (item found ∷ [])) }
+    ensures place { OnOk result (place.new.items ≡ place.old.items) }
+{
+    if is_included(rules, place, &found)? {
+        kept.push(found)?;
+    }
+    Ok(())
+}
+
+/// Returns what stays of a list of a folder with this place.
+fn included<C: ClientState, A: Allocator + Copy>(
+    rules: &Rules,
+    mut place: Vec<u8, A>,
+    list: Vec<Result<DirEntry<C, A>, Error<A>>, A>,
+) -> Result<Vec<Result<DirEntry<C, A>, Error<A>>, A>, AllocError>
+    ensures { IfOk result (λ kept. map item kept.items
+        ≡ filter (is_included (rules_value rules.now) place.items) (map item list.items)) }
+{
+    let mut kept = Vec::with_capacity(*list.allocator(), list.len())?;
+    for found in list {
+        push_included(rules, &mut place, found, &mut kept)?;
+    }
+    Ok(kept)
+}
+
+impl Excluding {
+    ghost use Rattle.seek_search.specs.Excluding.{excluded_by, excluded_of};
+
+    /// Returns the callback of these lines, below a root with this path.
+    pub(crate) fn new(alloc: Global, lines: &[&str], root: &str) -> Result<Self, AllocError>
+        ensures { IfOk result (λ it. excluded_of it ≡ excluded_by (map (λ it. it.now) lines.now) root.now) }
+    {
+        let root_len = root.len();
+        if lines.is_empty() {
+            return Ok(Excluding {
+                rules: None,
+                root_len,
+            });
+        }
+        let text = text_of(alloc, lines)?;
+        Ok(Excluding {
+            rules: Some(Rules::parse(alloc, text.as_slice())?),
+            root_len,
+        })
+    }
+}
+
+impl<C: ClientState, A: Allocator + Copy> ProcessReadDir<C, A> for Excluding {
+    ghost use Rattle.seek_search.specs.Excluding.{excluded_of, Excludes};
+
+    ghost IsLawful = { λ _. Unit {0} };
+
+    ghost Makes = { λ s g. Excludes (excluded_of s) g };
+
+    fn process(
+        &self,
+        depth: Option<usize>,
+        path: &str,
+        _state: &mut C::ReadDirState,
+        list: &mut Vec<Result<DirEntry<C, A>, Error<A>>, A>,
+    ) -> Result<(), AllocError> {
+        let Some(rules) = &self.rules else {
+            return Ok(());
+        };
+        if depth.is_none() {
+            return Ok(());
+        }
+        let alloc = *list.allocator();
+        let place = place_of(alloc, self.root_len, path)?;
+        let items = mem::replace(list, Vec::new(alloc));
+        *list = included(rules, place, items)?;
+        Ok(())
+    }
+}

@@ -1,3 +1,0 @@
-pub mod FoundFacts
-pub mod WholeFacts
-pub mod CleanFacts

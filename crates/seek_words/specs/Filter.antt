@@ -1,0 +1,10 @@
+-- A filter, as what it looks for.
+use Rattle.std.specs.Prelude.{ℕ, Bool, List, option_map}
+use Rattle.seek_words.specs.Sought.{Sought}
+use Rattle.seek_words.specs.Subject.{front_of}
+use Rattle.seek_words.specs.Wanted.{wants_of}
+use Rattle.seek_words.specs.declared.filter.Filter.{Filter}
+
+-- what a filter looks for
+abbrev pub sought_of : {T : Type 0} → (T → List ℕ → Bool → Bool) → Filter T → Sought
+sought_of takes filter = record { wanted = wants_of filter.wanted; takes = takes filter.test; front = option_map front_of filter.path }

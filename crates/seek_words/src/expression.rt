@@ -1,0 +1,24 @@
+//! The regular expression that a name is looked for by.
+ghost use Rattle.std.specs.Prelude.{◌≡◌, IfOk};
+ghost use Rattle.regex.specs.Strings.{regex_source, regex_config, IsReadFromSource};
+ghost use Rattle.seek_words.specs.Expression.{config_for};
+
+use crate::case::Case;
+use regex::{Error, Regex, RegexBuilder};
+use std::alloc::Global;
+
+/// Returns the regular expression of a pattern. Its dot takes a line feed too.
+///
+/// # Errors
+///
+/// If the pattern is none, or is too large, or if memory runs out.
+pub fn read_expression(alloc: Global, pattern: &str, case: Case) -> Result<Regex, Error>
+    ensures source { IfOk result (λ it. regex_source it ≡ pattern.now) }
+    ensures options { IfOk result (λ it. regex_config it ≡ config_for case pattern.now) }
+    ensures read { IfOk result IsReadFromSource }
+{
+    RegexBuilder::new(pattern)
+        .case_insensitive(case.is_ignored(pattern))
+        .dot_matches_new_line(true)
+        .build(alloc)
+}

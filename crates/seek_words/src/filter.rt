@@ -1,0 +1,74 @@
+//! Which entries are looked for.
+ghost use Rattle.std.specs.Prelude.{◌≡◌, IfOk, option_map};
+ghost use Rattle.jwalk_model.specs.FileType.{is_dir};
+ghost use Rattle.seek_words.specs.Subject.{front_of};
+ghost use Rattle.seek_words.specs.Sought.{is_found, subject};
+
+use crate::name_test::NameTest;
+use crate::subject::AbsolutePath;
+use crate::wanted::Wanted;
+use jwalk_model::file_type::FileType;
+use std::alloc::AllocError;
+
+/// Which entries are looked for.
+#[derive(Drop)]
+pub struct Filter<'w, T: NameTest> {
+    /// What is looked for, but for the pattern.
+    pub wanted: Wanted<'w>,
+    /// The test of a name.
+    pub test: T,
+    /// The absolute path of an entry, if it is what is tested in place of its name.
+    pub path: Option<AbsolutePath>,
+}
+
+/// Returns whether the name of an entry passes a test, or its path does.
+fn passes_test<T: NameTest>(
+    test: &mut T,
+    path: &mut Option<AbsolutePath>,
+    folder: &str,
+    name: &str,
+    is_dir: bool,
+) -> Result<bool, AllocError>
+    ensures answer { IfOk result (λ yes. yes ≡ T.takes test.old (subject (option_map front_of path.old) folder.now name.now) is_dir) }
+    ensures test { T.takes test.new ≡ T.takes test.old }
+    ensures path { option_map front_of path.new ≡ option_map front_of path.old }
+{
+    match path {
+        Some(path) => {
+            path.set(folder, name)?;
+            test.passes(path.as_str(), is_dir)
+        }
+        None => test.passes(name, is_dir),
+    }
+}
+
+impl<'w, T: NameTest> Filter<'w, T> {
+    ghost use Rattle.seek_words.specs.Filter.{sought_of};
+
+    /// Returns whether an entry is looked for, which has this depth, type and name, and is in this folder.
+    ///
+    /// # Errors
+    ///
+    /// If memory runs out.
+    pub fn passes(
+        &mut self,
+        depth: usize,
+        file_type: FileType,
+        folder: &str,
+        name: &str,
+    ) -> Result<bool, AllocError>
+        ensures answer { IfOk result (λ yes. yes ≡ is_found (sought_of T.takes self.old) depth file_type folder.now name.now) }
+        ensures same { sought_of T.takes self.new ≡ sought_of T.takes self.old }
+    {
+        if !self.wanted.has(depth, file_type, name) {
+            return Ok(false);
+        }
+        passes_test(
+            &mut self.test,
+            &mut self.path,
+            folder,
+            name,
+            file_type.is_dir(),
+        )
+    }
+}

@@ -1,0 +1,33 @@
+//! What ends a search.
+ghost use Rattle.std.specs.Prelude.{◌≡◌};
+
+use std::alloc::AllocError;
+use std::io::Write;
+
+/// What ends a search before its end.
+#[derive(Clone, Copy, Debug, PartialEq, Eq)]
+pub enum Halt {
+    /// Memory ran out.
+    Memory,
+    /// Standard output can't be written.
+    Output,
+}
+
+impl Halt {
+    /// Reports it on standard error, unless it is that the output can't be written.
+    pub fn report<E: Write>(self, err: &mut E) {
+        if self == Halt::Memory {
+            let _ = writeln!(err, "seek: memory refused");
+        }
+    }
+}
+
+impl From<AllocError> for Halt {
+    ghost use Rattle.seek_words.specs.declared.halt.Halt.TheVariants.{Memory};
+
+    ghost from_gives = { λ _ halt. halt ≡ Memory };
+
+    fn from(_refused: AllocError) -> Halt {
+        Halt::Memory
+    }
+}

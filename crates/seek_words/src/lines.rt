@@ -1,0 +1,84 @@
+//! The lines that are printed.
+ghost use Rattle.std.specs.Prelude.{◌≡◌, [], IfOk, OnOk};
+ghost use Rattle.std.specs.Io.KnownBytes.{Appends, append_known};
+ghost use Rattle.seek_words.specs.Paths.{line_of};
+
+use crate::halt::Halt;
+use crate::paths::Style;
+use std::alloc::{AllocError, Global};
+use std::io::Write;
+
+/// How many bytes of lines are gathered before they are written. A buffer of twice the length takes the last line too.
+/// It stays below 64 KiB, at which a free makes the C library's allocator put all its small pieces together.
+const GATHERED: usize = 16384;
+
+/// Lines that are gathered, and written once there are enough.
+#[derive(Drop)]
+pub struct Lines {
+    style: Style,
+    gathered: Vec<u8>,
+}
+
+impl Lines {
+    ghost use Rattle.seek_words.specs.Lines.{style_of, gathered_of};
+
+    /// Returns no lines yet, for paths that are written so.
+    ///
+    /// # Errors
+    ///
+    /// If memory runs out.
+    pub fn new(alloc: Global, style: Style) -> Result<Self, AllocError>
+        ensures style { IfOk result (λ lines. style_of lines ≡ style) }
+        ensures empty { IfOk result (λ lines. gathered_of lines ≡ []) }
+    {
+        Ok(Lines {
+            style,
+            gathered: Vec::with_capacity(alloc, 2 * GATHERED)?,
+        })
+    }
+
+    /// Writes the lines that were gathered.
+    fn write_gathered<W: Write>(&mut self, out: &mut W) -> Result<(), Halt>
+        ensures written { OnOk result (Appends (W.contents out.old) (W.contents out.new) (gathered_of self.old)) }
+        ensures empty { OnOk result (gathered_of self.new ≡ []) }
+        ensures style { style_of self.new ≡ style_of self.old }
+    {
+        if out.write_all(self.gathered.as_slice()).is_err() {
+            return Err(Halt::Output);
+        }
+        self.gathered.clear();
+        Ok(())
+    }
+
+    /// Prints the line of a name in a folder: it is gathered, and written once there are enough.
+    ///
+    /// # Errors
+    ///
+    /// If memory runs out, or if the output can't be written.
+    pub fn print<W: Write>(&mut self, folder: &str, name: &str, out: &mut W) -> Result<(), Halt>
+        ensures printed { OnOk result (Appends (append_known (W.contents out.old) (gathered_of self.old))
+            (append_known (W.contents out.new) (gathered_of self.new)) (line_of (style_of self.old) folder.now name.now)) }
+        ensures style { style_of self.new ≡ style_of self.old }
+    {
+        self.style.write(folder, name, &mut self.gathered)?;
+        if self.gathered.len() < GATHERED {
+            return Ok(());
+        }
+        self.write_gathered(out)
+    }
+
+    /// Writes the lines that are left, and flushes the output.
+    ///
+    /// # Errors
+    ///
+    /// If the output can't be written.
+    pub fn finish<W: Write>(&mut self, out: &mut W) -> Result<(), Halt>
+        ensures written { OnOk result (Appends (W.contents out.old) (W.contents out.new) (gathered_of self.old)) }
+    {
+        self.write_gathered(out)?;
+        if out.flush().is_err() {
+            return Err(Halt::Output);
+        }
+        Ok(())
+    }
+}

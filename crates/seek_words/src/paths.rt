@@ -1,0 +1,84 @@
+//! How a path is written.
+ghost use Rattle.std.specs.Prelude.{◌≡◌, ◌++◌, ◌∷◌, [], OnOk};
+ghost use Rattle.std.specs.Io.KnownBytes.{Appends};
+ghost use Rattle.jwalk_model.specs.Paths.{join};
+ghost use Rattle.seek_words.specs.Paths.{without_here, line_of};
+
+use crate::masked::masked;
+use jwalk_fs::path_text::join_parts;
+use std::alloc::{AllocError, Allocator};
+
+/// How the path of an entry is written.
+#[derive(Clone, Copy, Debug, PartialEq, Eq)]
+pub struct Style {
+    /// The walk's root is the folder that the program runs in, and wasn't named: a `./` in front isn't written.
+    pub here: bool,
+    /// A question mark is written for each control character in a path, as is due to a terminal.
+    pub masked: bool,
+    /// The byte behind a path.
+    pub separator: u8,
+}
+
+/// Returns the path of a folder without the `.` or the `./` that it begins with.
+pub fn without_here(folder: &str) -> &str
+    ensures { result.now ≡ without_here folder.now }
+{
+    if folder == "." {
+        return "";
+    }
+    match folder.strip_prefix("./") {
+        Some(rest) => rest,
+        None => folder,
+    }
+}
+
+/// Puts the path of a name in a folder behind these bytes.
+fn push_path<A: Allocator>(folder: &str, name: &str, out: &mut Vec<u8, A>) -> Result<(), AllocError>
+    ensures { OnOk result (out.new.items ≡ out.old.items ++ join folder.now name.now) }
+{
+    let (front, slash, name) = join_parts(folder, name);
+    out.extend_from_slice(front.as_bytes())?;
+    out.extend_from_slice(slash.as_bytes())?;
+    out.extend_from_slice(name.as_bytes())?;
+    Ok(())
+}
+
+impl Style {
+    ghost use Rattle.seek_words.specs.Paths.{shown_folder};
+
+    /// Returns the path of a folder as it is written.
+    fn folder(self, folder: &str) -> &str
+        ensures { result.now ≡ shown_folder self folder.now }
+    {
+        if self.here {
+            without_here(folder)
+        } else {
+            folder
+        }
+    }
+
+    /// Writes the path of a name in a folder behind these bytes, and the separator.
+    ///
+    /// # Errors
+    ///
+    /// If memory runs out.
+    pub fn write<A: Allocator + Copy>(
+        self,
+        folder: &str,
+        name: &str,
+        out: &mut Vec<u8, A>,
+    ) -> Result<(), AllocError>
+        ensures { OnOk result (out.new.items ≡ out.old.items ++ line_of self folder.now name.now) }
+    {
+        let folder = self.folder(folder);
+        if self.masked {
+            let alloc = *out.allocator();
+            let (folder, name) = (masked(alloc, folder)?, masked(alloc, name)?);
+            push_path(folder.as_str(), name.as_str(), out)?;
+        } else {
+            push_path(folder, name, out)?;
+        }
+        out.push(self.separator)?;
+        Ok(())
+    }
+}

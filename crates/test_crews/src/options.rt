@@ -1,0 +1,134 @@
+//! Options of walks that may be over a crew.
+use crate::acts::{Act, Going, Scene, all_go};
+use crate::crewed::{Asked, Reader, Taken};
+use test_fixtures::trees::FORKED;
+use test_fixtures::watched::Failing;
+use test_fixtures::ways::Setting;
+use test_fixtures::width::Width;
+
+/// A crew of two workers, with one place, over the forked directories.
+const TWO_WORKERS: Scene = Scene {
+    steps: FORKED,
+    failing: Failing::Never,
+    places: 1,
+    workers: 2,
+};
+
+/// What walks over the forked directories yield.
+const ALL: &str = "0 d /r; 1 d /r/a; 2 d /r/a/x; 1 d /r/b; 2 d /r/b/x; 1 d /r/c; 2 d /r/c/x";
+
+/// A walk that is set to read by the crew.
+const BY_CREW: Asked<'static> = Asked {
+    root: "/r",
+    settings: &[],
+    reader: Reader::Crew,
+    then: &[],
+};
+
+/// A walk that is set to read by no crew.
+const UNTOLD: Asked<'static> = Asked {
+    reader: Reader::Untold,
+    ..BY_CREW
+};
+
+/// A walk that is set to read in batches of two.
+const IN_BATCHES: Asked<'static> = Asked {
+    settings: &[Setting::By(Width::Batches(2))],
+    ..UNTOLD
+};
+
+#[test]
+fn a_walk_takes_a_place_where_the_crew_is_to_read(rt: HostRuntime) {
+    const SERIAL: Asked<'static> = Asked {
+        then: &[Setting::By(Width::Serial)],
+        ..BY_CREW
+    };
+    const ACTS: &[Act<'static>] = &[
+        Act::Begins(UNTOLD),
+        Act::InUse(0),
+        Act::Last(Going::Ends(ALL)),
+        Act::Begins(BY_CREW),
+        Act::InUse(1),
+        Act::Last(Going::Ends(ALL)),
+        Act::Begins(IN_BATCHES),
+        Act::InUse(0),
+        Act::Last(Going::Ends(ALL)),
+        Act::Begins(SERIAL),
+        Act::InUse(0),
+        Act::Last(Going::Ends(ALL)),
+        Act::InUse(0),
+    ];
+    all_go(&rt, &TWO_WORKERS, ACTS);
+}
+
+#[test]
+fn a_small_depth_makes_a_walk_serial_until_it_is_told_again(rt: HostRuntime) {
+    const SHALLOW: &str = "0 d /r; 1 d /r/a; 1 d /r/b; 1 d /r/c";
+    const SERIAL: Asked<'static> = Asked {
+        then: &[Setting::Max(1)],
+        ..BY_CREW
+    };
+    const TOLD_AGAIN: Asked<'static> = Asked {
+        settings: &[Setting::Max(1)],
+        ..BY_CREW
+    };
+    const ACTS: &[Act<'static>] = &[
+        Act::Begins(SERIAL),
+        Act::InUse(0),
+        Act::Last(Going::Ends(SHALLOW)),
+        Act::Begins(TOLD_AGAIN),
+        Act::InUse(1),
+        Act::Last(Going::Ends(SHALLOW)),
+    ];
+    all_go(&rt, &TWO_WORKERS, ACTS);
+}
+
+#[test]
+fn a_walk_without_the_crew_is_not_busy(rt: HostRuntime) {
+    const ACTS: &[Act<'static>] = &[
+        Act::Begins(BY_CREW),
+        Act::Begins(UNTOLD),
+        Act::InUse(1),
+        Act::Last(Going::Ends(ALL)),
+        Act::Begins(IN_BATCHES),
+        Act::InUse(1),
+        Act::Last(Going::Ends(ALL)),
+    ];
+    all_go(&rt, &TWO_WORKERS, ACTS);
+}
+
+#[test]
+fn all_directories_are_read_ahead(rt: HostRuntime) {
+    const ACTS: &[Act<'static>] = &[
+        Act::Begins(BY_CREW),
+        Act::Last(Going::Ahead(7)),
+        Act::Last(Going::Comes(1)),
+        Act::Last(Going::Ahead(6)),
+        Act::Last(Going::Comes(1)),
+        Act::Last(Going::Ahead(5)),
+        Act::Last(Going::Comes(1)),
+        Act::Last(Going::Ahead(4)),
+        Act::Last(Going::Comes(1)),
+        Act::Last(Going::Ahead(3)),
+        Act::Last(Going::Comes(1)),
+        Act::Last(Going::Ahead(2)),
+        Act::Last(Going::Comes(1)),
+        Act::Last(Going::Ahead(1)),
+        Act::Last(Going::Comes(1)),
+        Act::Last(Going::Ahead(0)),
+        Act::Last(Going::Ends("")),
+    ];
+    all_go(&rt, &TWO_WORKERS, ACTS);
+}
+
+#[test]
+fn a_for_loop_over_a_walk(rt: HostRuntime) {
+    const ACTS: &[Act<'static>] = &[Act::Answers(Taken::Looped, BY_CREW, ALL), Act::InUse(0)];
+    all_go(&rt, &TWO_WORKERS, ACTS);
+}
+
+#[test]
+fn a_walk_whose_calls_may_use_threads_too(rt: HostRuntime) {
+    const ACTS: &[Act<'static>] = &[Act::Answers(Taken::OnThreads, BY_CREW, ALL)];
+    all_go(&rt, &TWO_WORKERS, ACTS);
+}

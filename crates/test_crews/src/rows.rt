@@ -1,0 +1,193 @@
+//! Walks over a crew and their answers, which are those of walks without one.
+use crate::acts::{Act, Scene, first_wrong, shows_by};
+use crate::crewed::{Asked, Reader, Taken};
+use crate::serial::are_serial;
+use jwalk::file_system::{BuildError, MemoryFs};
+use jwalk::read_dir::ByFn;
+use std::alloc::{AllocError, Global};
+use test_fixtures::answers::Answer;
+use test_fixtures::host::Host;
+use test_fixtures::moving::move_directory;
+use test_fixtures::trees::{
+    DENIED, ELSEWHERE, FORKED, GROUPED, LOOPED, LOOPED_BACK, Step, TO_EACH_OTHER, WITHIN, tree,
+};
+use test_fixtures::watched::Failing;
+use test_fixtures::ways::Setting;
+
+/// A tree, the root and the options of a walk over it, and its answers.
+type Row = (
+    &'static [Step],
+    &'static str,
+    &'static [Setting],
+    &'static str,
+);
+
+/// Whether these are the walk's answers, over a crew with that many workers for a walk and without one.
+fn holds<R: Host>(rt: &R, (steps, root, settings, answers): &Row, workers: usize) -> bool {
+    let scene = Scene {
+        steps: *steps,
+        failing: Failing::Never,
+        places: 1,
+        workers,
+    };
+    let walk = Asked {
+        root: *root,
+        settings: *settings,
+        reader: Reader::Crew,
+        then: &[],
+    };
+    let act = Act::Answers(Taken::AtOnce, walk, *answers);
+    first_wrong(rt, &scene, &[act]).is_none()
+        && are_serial(rt, tree(rt.alloc(), *steps), &walk, workers)
+}
+
+#[test]
+fn names_in_order_with_three_workers(rt: HostRuntime) {
+    const ROW: Row = (
+        GROUPED,
+        "/t",
+        &[Setting::Sort],
+        "0 d /t; 1 f /t/a.txt; 1 f /t/b.txt; 1 f /t/c.txt; 1 d /t/group 1; \
+         2 f /t/group 1/d.txt; 1 d /t/group 2; 2 f /t/group 2/e.txt",
+    );
+    assert!(rt; holds(&rt, &ROW, 3));
+}
+
+/// Directories beside one another and in one another, one that can't be read, loops, and links to each other.
+const ROWS: &[Row] = &[
+    (
+        FORKED,
+        "/r",
+        &[],
+        "0 d /r; 1 d /r/a; 2 d /r/a/x; 1 d /r/b; 2 d /r/b/x; 1 d /r/c; 2 d /r/c/x",
+    ),
+    (
+        DENIED,
+        "/t",
+        &[Setting::Sort],
+        "0 d /t; 1 f /t/a.txt; 1 f /t/b.txt; 1 f /t/c.txt; 1 d /t/group 1; \
+         2 f /t/group 1/d.txt; 1 d /t/group 2 ! 1 /t/group 2 PermissionDenied",
+    ),
+    (
+        DENIED,
+        "/t",
+        &[Setting::Sort, Setting::Max(1)],
+        "0 d /t; 1 f /t/a.txt; 1 f /t/b.txt; 1 f /t/c.txt; 1 d /t/group 1; 1 d /t/group 2",
+    ),
+    (
+        DENIED,
+        "/t",
+        &[Setting::Sort, Setting::Min(2)],
+        "2 f /t/group 1/d.txt",
+    ),
+    (
+        LOOPED,
+        "/r",
+        &[],
+        "0 d /r; 1 d /r/a; 2 d /r/a/b; 3 d /r/a/b/c; 4 L /r/a/b/c/a-link",
+    ),
+    (
+        LOOPED,
+        "/r",
+        &[Setting::Follow],
+        "0 d /r; 1 d /r/a; 2 d /r/a/b; 3 d /r/a/b/c; ! 4 /r/a/b/c/a-link loop /r/a",
+    ),
+    (
+        LOOPED_BACK,
+        "/r",
+        &[Setting::Follow],
+        "0 d /r; 1 d /r/a; 2 d /r/a/b; 3 d /r/a/b/c; ! 4 /r/a/b/c/a-link loop /r/a",
+    ),
+    (WITHIN, "/r", &[Setting::Follow], "0 d /r; ! 1 /r/l loop /r"),
+    (
+        ELSEWHERE,
+        "/r",
+        &[Setting::Follow],
+        "0 d /r; 1 D /r/k; ! 2 /r/k/l loop /r",
+    ),
+    (
+        TO_EACH_OTHER,
+        "/r",
+        &[Setting::Follow, Setting::Max(4)],
+        "0 d /r; 1 d /r/a; 2 D /r/a/l; 3 D /r/a/l/m; 4 D /r/a/l/m/l; \
+         1 d /r/b; 2 D /r/b/m; 3 D /r/b/m/l; 4 D /r/b/m/l/m",
+    ),
+];
+
+#[test]
+fn the_answers_of_serial_walks_with_two_workers(rt: HostRuntime) {
+    for row in ROWS {
+        assert!(rt; holds(&rt, row, 2), "{}", row.3);
+    }
+}
+
+/// Adds a directory with a file to `/r`, and to every seventh a directory.
+fn add_sibling(alloc: Global, fs: &mut MemoryFs, number: usize) -> Result<(), BuildError> {
+    let mut path = format!(in alloc; "/r/{number}")?;
+    fs.add_dir(path.as_str())?;
+    path.push_str("/a")?;
+    fs.add_file(path.as_str(), 1)?;
+    if number % 7 == 0 {
+        path.push_str("-dir")?;
+        fs.add_dir(path.as_str())?;
+    }
+    Ok(())
+}
+
+/// Two hundred directories beside one another, and forty in one another.
+fn wide_and_deep(alloc: Global) -> Result<MemoryFs, BuildError> {
+    let mut fs = tree(alloc, &[Step::Dir("/r")])?;
+    for number in 0..200 {
+        add_sibling(alloc, &mut fs, number)?;
+    }
+    let mut path = String::from_str(alloc, "/r")?;
+    for _ in 0..40 {
+        path.push_str("/d")?;
+        fs.add_dir(path.as_str())?;
+    }
+    Ok(fs)
+}
+
+#[test]
+fn many_directories_and_a_long_chain_with_one_to_four_workers(rt: HostRuntime) {
+    const WALK: Asked<'static> = Asked {
+        root: "/r",
+        settings: &[],
+        reader: Reader::Crew,
+        then: &[],
+    };
+    for workers in [1, 2, 4] {
+        assert!(rt;
+            are_serial(&rt, wide_and_deep(rt.alloc()), &WALK, workers),
+            "{}",
+            workers
+        );
+    }
+}
+
+/// A callback that moves what a directory holds to a file.
+fn move_group(
+    _depth: Option<usize>,
+    path: &str,
+    _state: &mut (),
+    list: &mut Vec<Answer>,
+) -> Result<(), AllocError> {
+    if path == "/t" {
+        move_directory(list, "group 1", "c.txt");
+    }
+    Ok(())
+}
+
+#[test]
+fn a_directory_that_was_moved_to_a_file(rt: HostRuntime) {
+    const WALK: Asked<'static> = Asked {
+        root: "/t",
+        settings: &[Setting::Sort],
+        reader: Reader::Crew,
+        then: &[],
+    };
+    const LINES: &str =
+        "0 d /t; 1 f /t/a.txt; 1 f /t/b.txt; 1 f /t/c.txt; 2 f /t/group 1/d.txt; 1 d /t/group 1; \
+         1 d /t/group 2; 2 f /t/group 2/e.txt";
+    assert!(rt; shows_by(&rt, GROUPED, &WALK, ByFn::of(move_group), LINES));
+}

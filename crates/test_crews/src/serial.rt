@@ -1,0 +1,99 @@
+//! Whether walks over a crew yield what serial walks do, item by item.
+use crate::crewed::{Asked, Stand};
+use jwalk::DirEntry;
+use jwalk::file_system::{BuildError, FileSystem, MemoryFs};
+use jwalk::read_dir::{ByFn, NoProcess, ProcessReadDir};
+use std::alloc::{AllocError, Global};
+use test_fixtures::answers::Answer;
+use test_fixtures::host::Host;
+use test_fixtures::ways::{self, Way};
+use test_fixtures::width::Width;
+
+/// States that count: one beside each directory's reading, and one beside each entry.
+type Counts = (usize, usize);
+
+/// All that answers show, as a text: of an entry all but the directories above it.
+fn text_of(alloc: Global, found: Result<Vec<Answer<Counts>>, AllocError>) -> Option<String> {
+    let found = found.ok()?;
+    format!(in alloc; "{:?}", found.as_slice()).ok()
+}
+
+/// Whether a walk over the crew with a callback yields what the serial walk does with the same one.
+fn is_serial<
+    R: Host,
+    S: FileSystem + Send + Sync + 'static,
+    P: ProcessReadDir<Counts, Global> + Send + Sync + 'static,
+>(rt: &R, stand: &Stand<R, S>, asked: &Asked<'_>, process: P, same: P) -> bool
+    requires lawful { P.IsLawful process }
+    requires same { P.IsLawful same }
+{
+    let alone = ways::Asked {
+        fs: &*stand.fs,
+        root: asked.root,
+        settings: asked.settings,
+    };
+    let crewed = text_of(stand.alloc, stand.found(asked, process));
+    let serial = alone.found(rt, same, Way::InTurn(Width::Serial));
+    match (crewed, text_of(stand.alloc, serial)) {
+        (Some(crewed), Some(serial)) => crewed.as_str() == serial.as_str(),
+        _ => false,
+    }
+}
+
+/// Takes some directories away, and sets for some the state in which to begin.
+fn mark(entry: &mut DirEntry<Counts>, place: usize, state: usize) {
+    entry.client_state = state.wrapping_add(place);
+    if entry.depth > 0 && state.wrapping_add(place) % 6 == 0 {
+        entry.read_children = None;
+    }
+    if let Some(directory) = &mut entry.read_children
+        && place % 2 == 0
+    {
+        directory.client_read_state = Some(state.wrapping_mul(3));
+    }
+}
+
+/// A callback that counts, reorders a list and takes directories away from some of its entries.
+fn reorder(
+    _depth: Option<usize>,
+    _path: &str,
+    state: &mut usize,
+    list: &mut Vec<Answer<Counts>>,
+) -> Result<(), AllocError> {
+    *state = state.wrapping_add(list.len());
+    for (place, found) in list.iter_mut().enumerate() {
+        if let Ok(entry) = found {
+            mark(entry, place, *state);
+        }
+    }
+    if *state % 3 != 0 {
+        list.reverse();
+    }
+    Ok(())
+}
+
+/// Whether both walks over the crew, without a callback and with one that reorders lists, yield what serial ones do.
+fn are_both_serial<R: Host, S: FileSystem + Send + Sync + 'static>(
+    rt: &R,
+    stand: &Stand<R, S>,
+    asked: &Asked<'_>,
+) -> bool {
+    is_serial(rt, stand, asked, NoProcess, NoProcess)
+        && is_serial(rt, stand, asked, ByFn::of(reorder), ByFn::of(reorder))
+}
+
+/// Whether walks over a tree do so, over a crew with that many workers for a walk.
+pub fn are_serial<R: Host>(
+    rt: &R,
+    tree: Result<MemoryFs, BuildError>,
+    asked: &Asked<'_>,
+    workers: usize,
+) -> bool {
+    let Ok(tree) = tree else {
+        return false;
+    };
+    match Stand::new(rt, tree, 1, workers) {
+        Ok(stand) => are_both_serial(rt, &stand, asked),
+        Err(_) => false,
+    }
+}

@@ -1,0 +1,2 @@
+mod Depths
+pub mod Asked

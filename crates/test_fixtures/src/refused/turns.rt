@@ -1,0 +1,71 @@
+//! Walks that are made again and again, each time with other requests for memory refused.
+use crate::refused::came::Came;
+use crate::refusing_alloc::Refusing;
+use std::alloc::Global;
+
+/// More requests than any walk makes.
+pub const MOST: usize = 10_000;
+
+/// Fewer requests than any walk makes.
+const FEW: usize = 20;
+
+/// How a run of a walk ended.
+#[derive(Clone, Copy, PartialEq, Eq)]
+pub enum Run {
+    /// Rightly, with a refusal.
+    Refused,
+    /// Rightly, without one.
+    Quiet,
+    /// Wrongly.
+    Wrong,
+}
+
+/// Whether a walk may come out so, of which that many requests were refused.
+fn may_come(came: Came, refused: usize, may_be_whole: bool) -> bool {
+    match came {
+        Came::Whole => refused == 0 || may_be_whole,
+        Came::Refused(_) => refused > 0,
+        Came::Wrong => false,
+    }
+}
+
+/// Returns how a run ended in which the requests of this memory were refused from that number on, and whose walk came
+/// out so. All pieces must be back, and a walk that met a refusal may come whole if `may_be_whole`. No run is quiet in
+/// which one of the first requests was to be refused.
+pub fn run_of(memory: &Refusing<Global>, number: usize, came: Came, may_be_whole: bool) -> Run {
+    let refused = memory.refused();
+    if memory.pieces() != 0 || !may_come(came, refused, may_be_whole) {
+        Run::Wrong
+    } else if refused > 0 {
+        Run::Refused
+    } else if number > FEW {
+        Run::Quiet
+    } else {
+        Run::Wrong
+    }
+}
+
+/// A walk that can be made again and again.
+pub trait Repeated {
+    /// Returns how it comes out with this memory.
+    fn comes(&self, alloc: Global, memory: &Refusing<Global>) -> Came;
+
+    /// Returns whether it may come whole after a refusal.
+    fn may_be_whole(&self) -> bool;
+}
+
+/// Returns the number from which on a walk comes out wrong where that many requests are refused: first from the first
+/// request on, then from the second on, and so on, up to a run that meets no refusal. None if no number is wrong.
+pub fn first_wrong<W: Repeated>(alloc: Global, many: usize, walk: &W) -> Option<usize> {
+    let memory = Refusing::new(alloc);
+    for number in 1..MOST {
+        memory.refuse(number, many);
+        let came = walk.comes(alloc, &memory);
+        match run_of(&memory, number, came, walk.may_be_whole()) {
+            Run::Refused => {}
+            Run::Quiet => return None,
+            Run::Wrong => return Some(number),
+        }
+    }
+    Some(MOST)
+}

@@ -1,0 +1,244 @@
+//! The ways in which one and the same walk can be read.
+ghost use Rattle.jwalk.specs.DirEntryIter.{job_of};
+ghost use Rattle.jwalk.specs.jwalk_core.Job.{callback};
+
+use crate::answers::{Answer, are_lines};
+use crate::plain_walk::plain_answers;
+use crate::width::Width;
+use jwalk::file_system::FileSystem;
+use jwalk::read_dir::{Job, NoProcess, ProcessReadDir};
+use jwalk::{ClientState, DirEntryIter, Readers, WalkDirGeneric};
+use jwalk_core::options::Options;
+use std::alloc::{AllocError, Global};
+use std::thread::Threads;
+
+/// An option that isn't left as it is.
+#[derive(Clone, Copy)]
+pub enum Setting {
+    /// Entries sorted by their names.
+    Sort,
+    /// Hidden names too.
+    Hidden,
+    /// Links are followed.
+    Follow,
+    /// The walk stays on one file system.
+    SameFileSystem,
+    /// The least depth.
+    Min(usize),
+    /// The greatest depth.
+    Max(usize),
+    /// How directories are read. The plain walk ignores it.
+    By(Width),
+}
+
+/// How the directories of a walk are read.
+#[derive(Clone, Copy)]
+pub enum Way {
+    /// By two stacks, without a board.
+    Plain,
+    /// As a walk reads them one after another.
+    InTurn(Width),
+    /// As a walk reads them by threads.
+    OnThreads(Width),
+    /// As a `for` loop has them read.
+    Looped(Width),
+}
+
+impl Way {
+    /// Returns how many directories are read together.
+    fn width(self) -> Width {
+        match self {
+            Way::Plain => Width::Serial,
+            Way::InTurn(width) | Way::OnThreads(width) | Way::Looped(width) => width,
+        }
+    }
+}
+
+/// Each way, and each of several widths.
+pub const WAYS: &[Way] = &[
+    Way::Plain,
+    Way::InTurn(Width::Serial),
+    Way::InTurn(Width::Batches(1)),
+    Way::InTurn(Width::Batches(2)),
+    Way::InTurn(Width::Batches(8)),
+    Way::InTurn(Width::Batches(32)),
+    Way::OnThreads(Width::Serial),
+    Way::OnThreads(Width::Batches(1)),
+    Way::OnThreads(Width::Batches(2)),
+    Way::OnThreads(Width::Batches(8)),
+    Way::OnThreads(Width::Batches(32)),
+    Way::Looped(Width::Batches(2)),
+];
+
+/// Returns the options that these settings make.
+fn options_by(settings: &[Setting]) -> Options {
+    let mut options = Options::new();
+    for setting in settings {
+        options = match *setting {
+            Setting::Sort => options.with_sort(true),
+            Setting::Hidden => options.with_skip_hidden(false),
+            Setting::Follow => options.with_follow_links(true),
+            Setting::SameFileSystem => options.with_same_file_system(true),
+            Setting::Min(depth) => options.with_min_depth(depth),
+            Setting::Max(depth) => options.with_max_depth(depth),
+            Setting::By(_) => options,
+        };
+    }
+    options
+}
+
+/// A walk yet to begin, without a callback.
+type Builder<C, S, W> = WalkDirGeneric<C, S, NoProcess, Global, W>;
+
+/// Returns the walk with one option set.
+fn with<C: ClientState, S: FileSystem, W: Drop>(
+    walk: Builder<C, S, W>,
+    setting: Setting,
+) -> Builder<C, S, W> {
+    match setting {
+        Setting::Sort => walk.sort(true),
+        Setting::Hidden => walk.skip_hidden(false),
+        Setting::Follow => walk.follow_links(true),
+        Setting::SameFileSystem => walk.same_file_system(true),
+        Setting::Min(depth) => walk.min_depth(depth),
+        Setting::Max(depth) => walk.max_depth(depth),
+        Setting::By(width) => walk.parallelism(width.parallelism()),
+    }
+}
+
+/// Returns the walk with these settings.
+pub fn with_all<C: ClientState, S: FileSystem, W: Drop>(
+    walk: Builder<C, S, W>,
+    settings: &[Setting],
+) -> Builder<C, S, W> {
+    let mut walk = walk;
+    for setting in settings {
+        walk = with(walk, *setting);
+    }
+    walk
+}
+
+/// A walk that is asked for: its root in a file system, and its options.
+#[derive(Drop)]
+pub struct Asked<'a, S: FileSystem> {
+    /// What it reads from.
+    pub fs: &'a S,
+    /// Where it begins.
+    pub root: &'a str,
+    /// Which options are set, one after another.
+    pub settings: &'a [Setting],
+}
+
+impl<'a, S: FileSystem> Asked<'a, S> {
+    /// Returns the walk, without a callback.
+    pub fn builder<C: ClientState>(
+        &self,
+        alloc: Global,
+    ) -> Result<WalkDirGeneric<C, &'a S, NoProcess>, AllocError> {
+        let walk = WalkDirGeneric::new(self.fs, String::from_str(alloc, self.root)?);
+        Ok(with_all(walk, self.settings))
+    }
+}
+
+/// The answers of the walk, read in some way.
+impl<'a, S: FileSystem + Send + Sync> Asked<'a, S> {
+    /// Returns all that the walk yields.
+    pub fn found<
+        R: Threads + AllocGlobal + Sync,
+        C: ClientState + Send,
+        P: ProcessReadDir<C, Global> + Send + Sync,
+    >(&self, rt: &R, process: P, way: Way) -> Result<Vec<Answer<C>>, AllocError>
+    where
+        C::ReadDirState: Send,
+        C::DirEntryState: Send,
+        requires { P.IsLawful process }
+    {
+        let alloc = rt.alloc();
+        if let Way::Plain = way {
+            let job = Job::new(alloc, self.fs, process, options_by(self.settings));
+            return plain_answers(alloc, &job, self.root);
+        }
+        let walk = self.builder(alloc)?.parallelism(way.width().parallelism());
+        let walk = walk.process_read_dir(process);
+        match way {
+            Way::OnThreads(_) => all_on_threads(rt, alloc, walk.into_iter()),
+            Way::Looped(_) => all_looped(alloc, walk.into_iter()),
+            Way::Plain | Way::InTurn(_) => all_of(alloc, walk.into_iter()),
+        }
+    }
+
+    /// Returns whether this is what the walk yields.
+    pub fn shows<
+        R: Threads + AllocGlobal + Sync,
+        P: ProcessReadDir<((), ()), Global> + Send + Sync,
+    >(&self, rt: &R, process: P, way: Way, wanted: &str) -> bool
+        requires { P.IsLawful process }
+    {
+        match self.found(rt, process, way) {
+            Ok(found) => are_lines(rt.alloc(), found.as_slice(), wanted),
+            Err(_) => false,
+        }
+    }
+}
+
+/// Returns all answers of a walk under way, by calls for which no thread reads.
+pub fn all_of<
+    C: ClientState,
+    S: FileSystem,
+    P: ProcessReadDir<C, Global>,
+    L: Readers<C, S, P, Global>,
+>(alloc: Global, mut walk: DirEntryIter<C, S, P, Global, L>) -> Result<Vec<Answer<C>>, AllocError>
+    requires { P.IsLawful (callback (job_of walk)) }
+{
+    let mut found = Vec::new(alloc);
+    let is_filled = walk.fill(usize::MAX, &mut found).is_ok();
+    // Nothing comes after the end.
+    if is_filled && walk.fill(1, &mut found).is_ok() {
+        Ok(found)
+    } else {
+        Err(AllocError)
+    }
+}
+
+/// Returns all answers of a walk under way, by calls for which threads read.
+pub fn all_on_threads<
+    R: Threads + Sync,
+    C: ClientState + Send,
+    S: FileSystem + Send + Sync,
+    P: ProcessReadDir<C, Global> + Send + Sync,
+    L: Readers<C, S, P, Global>,
+>(
+    rt: &R,
+    alloc: Global,
+    mut walk: DirEntryIter<C, S, P, Global, L>,
+) -> Result<Vec<Answer<C>>, AllocError>
+where
+    C::ReadDirState: Send,
+    C::DirEntryState: Send,
+    requires { P.IsLawful (callback (job_of walk)) }
+{
+    let mut found = Vec::new(alloc);
+    let is_filled = walk.fill_on(rt, usize::MAX, &mut found).is_ok();
+    // Nothing comes after the end.
+    if is_filled && walk.fill_on(rt, 1, &mut found).is_ok() {
+        Ok(found)
+    } else {
+        Err(AllocError)
+    }
+}
+
+/// Returns all answers of a walk under way that a `for` loop goes over.
+pub fn all_looped<
+    C: ClientState,
+    S: FileSystem,
+    P: ProcessReadDir<C, Global>,
+    L: Readers<C, S, P, Global>,
+>(alloc: Global, walk: DirEntryIter<C, S, P, Global, L>) -> Result<Vec<Answer<C>>, AllocError>
+    requires { P.IsLawful (callback (job_of walk)) }
+{
+    let mut found = Vec::new(alloc);
+    for answer in walk {
+        found.push(answer)?;
+    }
+    Ok(found)
+}

@@ -1,0 +1,153 @@
+//! The steps of a board.
+use crate::refused::memory::{Memory, Play, Player, all_are_right};
+use jwalk_board::board::{Board, FinishFault, FinishRefusal, HandOutRefusal, TakeRefusal};
+use jwalk_order::index_path::IndexPath;
+use jwalk_order::ordered::Ordered;
+
+type Names<'m> = Board<&'static str, &'static str, Memory<'m>>;
+
+type Item<'m> = Ordered<&'static str, Memory<'m>>;
+
+fn counts(board: &Names<'_>) -> [usize; 4] {
+    [
+        board.queued(),
+        board.in_hand(),
+        board.ready(),
+        board.pending(),
+    ]
+}
+
+/// Takes an item: at first where a request is refused, which must change nothing, and then again.
+fn take<'m>(player: &Player<'m>, board: &mut Names<'m>) -> Result<Item<'m>, TakeRefusal> {
+    let before = counts(board);
+    player.refuse();
+    let first = board.take();
+    player.grant();
+    match first {
+        Err(TakeRefusal::Memory) if counts(board) == before => board.take(),
+        other => other,
+    }
+}
+
+/// Hands an item out in the same way.
+fn hand_out<'m>(player: &Player<'m>, board: &mut Names<'m>) -> Result<Item<'m>, HandOutRefusal> {
+    let before = counts(board);
+    player.refuse();
+    let first = board.hand_out();
+    player.grant();
+    match first {
+        Err(HandOutRefusal::Memory) if counts(board) == before => board.hand_out(),
+        other => other,
+    }
+}
+
+/// Finishes what is in hand in the same way, with what was handed back.
+fn finish<'m>(
+    player: &Player<'m>,
+    board: &mut Names<'m>,
+    address: IndexPath<Memory<'m>>,
+    children: Vec<&'static str, Memory<'m>>,
+) -> bool {
+    let before = counts(board);
+    player.refuse();
+    let first = board.finish(address, "read", children);
+    player.grant();
+    let Err(fault) = first else {
+        return true;
+    };
+    let FinishFault {
+        cause,
+        address,
+        reading,
+        children,
+    } = fault;
+    cause == FinishRefusal::Memory
+        && counts(board) == before
+        && board.finish(address, reading, children).is_ok()
+}
+
+/// One step, with its outcome.
+enum Step {
+    /// The item at this address is taken, or none.
+    Takes(Result<&'static [usize], TakeRefusal>),
+    /// What is at this address is finished, with these children.
+    Finishes(&'static [usize], &'static [&'static str]),
+    /// The item at this address is handed out, or none.
+    HandsOut(Result<&'static [usize], HandOutRefusal>),
+}
+
+fn is_at(item: &Item<'_>, indices: &[usize]) -> bool {
+    item.index_path.indices.as_slice() == indices
+}
+
+fn finishes<'m>(
+    player: &Player<'m>,
+    board: &mut Names<'m>,
+    indices: &[usize],
+    children: &[&'static str],
+) -> bool {
+    match (
+        player.address(indices),
+        Vec::from_slice(player.memory, children),
+    ) {
+        (Some(address), Ok(children)) => finish(player, board, address, children),
+        _ => false,
+    }
+}
+
+/// Whether a step goes as is said.
+fn goes<'m>(player: &Player<'m>, board: &mut Names<'m>, step: &Step) -> bool {
+    match step {
+        Step::Takes(wanted) => match take(player, board) {
+            Ok(item) => matches!(wanted, Ok(indices) if is_at(&item, *indices)),
+            Err(refusal) => wanted.err() == Some(refusal),
+        },
+        Step::HandsOut(wanted) => match hand_out(player, board) {
+            Ok(item) => matches!(wanted, Ok(indices) if is_at(&item, *indices)),
+            Err(refusal) => wanted.err() == Some(refusal),
+        },
+        Step::Finishes(indices, children) => finishes(player, board, *indices, *children),
+    }
+}
+
+/// A root with two leaves, the second of which is finished first.
+const STEPS: &[Step] = &[
+    Step::Takes(Ok(&[0])),
+    Step::Finishes(&[0], &["a", "b"]),
+    Step::Takes(Ok(&[0, 0])),
+    Step::Takes(Ok(&[0, 1])),
+    Step::Finishes(&[0, 1], &[]),
+    Step::HandsOut(Ok(&[0])),
+    Step::HandsOut(Err(HandOutRefusal::NotReady)),
+    Step::Finishes(&[0, 0], &[]),
+    Step::HandsOut(Ok(&[0, 0])),
+    Step::HandsOut(Ok(&[0, 1])),
+    Step::HandsOut(Err(HandOutRefusal::Done)),
+    Step::Takes(Err(TakeRefusal::Done)),
+];
+
+/// The board of one root.
+fn board<'m>(player: &Player<'m>) -> Option<Names<'m>> {
+    Board::new(Vec::from_slice(player.memory, &["r"]).ok()?).ok()
+}
+
+struct OfBoard;
+
+impl Play for OfBoard {
+    fn is_right(&self, player: &Player<'_>) -> bool {
+        let Some(mut board) = board(player) else {
+            return false;
+        };
+        for step in STEPS {
+            if !goes(player, &mut board, step) {
+                return false;
+            }
+        }
+        true
+    }
+}
+
+#[test]
+fn each_step_of_a_board_is_refused_and_made_again(rt: HostRuntime) {
+    assert!(rt; all_are_right(rt.alloc(), &OfBoard));
+}

@@ -1,0 +1,81 @@
+//! Walks of rows that are made again and again.
+ghost use Rattle.std.specs.Prelude.{◌≡◌, IfSome};
+ghost use Rattle.jwalk.specs.WalkDir.{callback_of};
+
+use crate::refused::rows::Row;
+use jwalk::file_system::MemoryFs;
+use jwalk::read_dir::{NoProcess, ProcessReadDir};
+use jwalk::{ClientState, WalkDirGeneric};
+use std::alloc::{Allocator, Global};
+use test_fixtures::refused::callbacks::Texts;
+use test_fixtures::refused::came::{Came, Taken, comes};
+use test_fixtures::refused::lines::Shown;
+use test_fixtures::refused::turns::Repeated;
+use test_fixtures::refusing_alloc::Refusing;
+use test_fixtures::width::Width;
+
+/// A walk yet to begin.
+pub type Builder<'f, C, P, A> = WalkDirGeneric<C, &'f MemoryFs, P, A>;
+
+/// A walk of a row over its tree: how many directories are read together, and how its answers are taken.
+#[derive(Clone, Copy)]
+pub struct Play<'f> {
+    pub fs: &'f MemoryFs,
+    pub row: &'f Row,
+    pub width: Width,
+    pub taken: Taken,
+}
+
+impl<'f> Play<'f> {
+    /// The walk with a callback, if there is memory for its root.
+    pub fn builder<C: ClientState, P: ProcessReadDir<C, A>, A: Allocator + Copy>(
+        &self,
+        memory: A,
+        process: P,
+    ) -> Option<Builder<'f, C, P, A>>
+        ensures { IfSome result (λ walk. callback_of walk ≡ process) }
+    {
+        let root = String::from_str(memory, self.row.root).ok()?;
+        let walk = WalkDirGeneric::new(self.fs, root)
+            .sort(true)
+            .follow_links(self.row.follow)
+            .parallelism(self.width.parallelism());
+        Some(walk.process_read_dir(process))
+    }
+
+    /// How the walk comes out with this memory and this callback.
+    pub fn comes_with<C: ClientState, P: ProcessReadDir<C, A>, A: Allocator + Copy>(
+        &self,
+        alloc: Global,
+        memory: A,
+        process: P,
+    ) -> Came
+    where
+        C::DirEntryState: Shown,
+        requires { P.IsLawful process }
+    {
+        match self.builder::<C, P, A>(memory, process) {
+            Some(walk) => comes(alloc, memory, walk, self.taken, self.row.lines),
+            None => Came::Refused(0),
+        }
+    }
+
+    /// How the walk comes out with this memory and the row's callback.
+    pub fn comes_over<A: Allocator + Copy>(&self, alloc: Global, memory: A) -> Came {
+        match self.row.callback {
+            Some(callback) => self.comes_with::<Texts<A>, _, _>(alloc, memory, callback),
+            None => self.comes_with::<((), ()), _, _>(alloc, memory, NoProcess),
+        }
+    }
+}
+
+/// What is asked for all at once may come whole after a refusal, as more is asked for then.
+impl Repeated for Play<'_> {
+    fn comes(&self, alloc: Global, memory: &Refusing<Global>) -> Came {
+        self.comes_over(alloc, memory)
+    }
+
+    fn may_be_whole(&self) -> bool {
+        self.taken == Taken::Filled
+    }
+}

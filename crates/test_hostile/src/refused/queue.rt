@@ -1,0 +1,157 @@
+//! The steps of a queue by address and of its matcher.
+use crate::refused::memory::{Memory, Play, Player, all_are_right};
+use jwalk_order::ordered::Ordered;
+use jwalk_order::ordered_queue::{OrderedMatcher, OrderedQueue, Ordering, Step};
+
+type Queue<'m> = OrderedQueue<(), Memory<'m>>;
+
+type Item<'m> = Ordered<(), Memory<'m>>;
+
+/// Lets an item in: at first where a request is refused, which must hand it back and change nothing, and then again.
+fn lets_in<'m>(player: &Player<'m>, queue: &mut Queue<'m>, item: Item<'m>) -> bool {
+    let before = queue.pending();
+    if before > 1_000 {
+        return false;
+    }
+    player.refuse();
+    let first = queue.push(item);
+    player.grant();
+    match first {
+        Ok(()) => true,
+        Err(item) => queue.pending() == before && before < 1_001 && queue.push(item).is_ok(),
+    }
+}
+
+/// Whether the next step gives the item at this address, or none yet.
+fn gives(player: &Player<'_>, queue: &mut Queue<'_>, wanted: Option<&[usize]>) -> bool {
+    player.refuse();
+    let first = queue.iter().step();
+    player.grant();
+    let step = match first {
+        Ok(step) => step,
+        Err(_) => match queue.iter().step() {
+            Ok(step) => step,
+            Err(_) => return false,
+        },
+    };
+    match step {
+        Step::Item(item) => wanted == Some(item.index_path.indices.as_slice()),
+        Step::Empty => wanted.is_none(),
+        Step::Done => false,
+    }
+}
+
+/// A push of an item at an address with that many children, or a step.
+enum Turn {
+    LetsIn(&'static [usize], usize),
+    Gives(Option<&'static [usize]>),
+}
+
+/// Whether a turn goes as is said.
+fn goes<'m>(player: &Player<'m>, queue: &mut Queue<'m>, turn: &Turn) -> bool {
+    match turn {
+        Turn::LetsIn(indices, children) => match player.address(*indices) {
+            Some(address) => lets_in(player, queue, Ordered::new((), address, *children)),
+            None => false,
+        },
+        Turn::Gives(wanted) => gives(player, queue, *wanted),
+    }
+}
+
+const RELAXED: &[Turn] = &[
+    Turn::LetsIn(&[0, 1], 0),
+    Turn::LetsIn(&[0], 0),
+    Turn::LetsIn(&[0, 0], 0),
+    Turn::Gives(Some(&[0])),
+    Turn::Gives(Some(&[0, 0])),
+    Turn::Gives(Some(&[0, 1])),
+    Turn::Gives(None),
+];
+
+const STRICT: &[Turn] = &[
+    Turn::LetsIn(&[0, 0], 0),
+    Turn::Gives(None),
+    Turn::LetsIn(&[0], 1),
+    Turn::Gives(Some(&[0])),
+    Turn::Gives(Some(&[0, 0])),
+];
+
+/// The turns of a queue.
+struct OfQueue(Ordering, &'static [Turn]);
+
+impl Play for OfQueue {
+    fn is_right(&self, player: &Player<'_>) -> bool {
+        let Ok(mut queue) = OrderedQueue::new(player.memory, self.0) else {
+            return false;
+        };
+        for turn in self.1 {
+            if !goes(player, &mut queue, turn) {
+                return false;
+            }
+        }
+        true
+    }
+}
+
+#[test]
+fn each_push_and_step_of_a_queue_is_refused_and_made_again(rt: HostRuntime) {
+    assert!(rt; all_are_right(rt.alloc(), &OfQueue(Ordering::Relaxed, RELAXED)));
+    assert!(rt; all_are_right(rt.alloc(), &OfQueue(Ordering::Strict, STRICT)));
+}
+
+/// Passes the address that is looked for, in the same way.
+fn passes<'m>(
+    player: &Player<'m>,
+    matcher: &mut OrderedMatcher<Memory<'m>>,
+    indices: &[usize],
+    children: usize,
+) -> bool {
+    let Some(address) = player.address(indices) else {
+        return false;
+    };
+    if matcher.is_none() || address != *matcher.looking_for() {
+        return false;
+    }
+    let item = Ordered::new((), address, children);
+    player.refuse();
+    let first = matcher.advance_past(&item);
+    player.grant();
+    first.is_ok()
+        || (item.index_path == *matcher.looking_for() && matcher.advance_past(&item).is_ok())
+}
+
+/// So deep that the matcher's memory doesn't last.
+const PASSED: &[(&[usize], usize)] = &[
+    (&[0], 2),
+    (&[0, 0], 1),
+    (&[0, 0, 0], 1),
+    (&[0, 0, 0, 0], 1),
+    (&[0, 0, 0, 0, 0], 1),
+    (&[0, 0, 0, 0, 0, 0], 1),
+    (&[0, 0, 0, 0, 0, 0, 0], 1),
+    (&[0, 0, 0, 0, 0, 0, 0, 0], 1),
+    (&[0, 0, 0, 0, 0, 0, 0, 0, 0], 0),
+    (&[0, 1], 0),
+];
+
+/// The passes of a matcher.
+struct OfMatcher;
+
+impl Play for OfMatcher {
+    fn is_right(&self, player: &Player<'_>) -> bool {
+        let Ok(mut matcher) = OrderedMatcher::new(player.memory) else {
+            return false;
+        };
+        for (indices, children) in PASSED {
+            if !passes(player, &mut matcher, *indices, *children) {
+                return false;
+            }
+        }
+        matcher.is_none()
+    }
+}
+
+#[test]
+fn each_pass_of_a_matcher_is_refused_and_made_again(rt: HostRuntime) {
+    assert!(rt; all_are_right(rt.alloc(), &OfMatcher));
+}

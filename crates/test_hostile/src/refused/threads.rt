@@ -1,0 +1,197 @@
+//! Walks whose batches threads read, where each request for memory is refused, or all from each on.
+use crate::refused::goes::Play;
+use crate::refused::rows::{GROUPS, HANDED_ON, MOVED, Row};
+use jwalk::file_system::{BuildError, MemoryFs};
+use jwalk::read_dir::NoProcess;
+use std::alloc::Global;
+use std::thread::Threads;
+use test_fixtures::refused::callbacks::{Callback, Texts};
+use test_fixtures::refused::came::{Came, TAKEN, WAYS};
+use test_fixtures::refused::on_threads::comes;
+use test_fixtures::refused::turns::{MOST, Repeated, Run, run_of};
+use test_fixtures::refusing_alloc::Refusing;
+use test_fixtures::trees::tree;
+use test_fixtures::width::Width;
+
+/// How many directories are read together: enough for two threads.
+const WIDE: Width = Width::Batches(64);
+
+/// From how many directories on threads share a batch.
+const SHARED: usize = 32;
+
+/// A directory with 40 directories.
+fn wide(alloc: Global) -> Result<MemoryFs, BuildError> {
+    let mut fs = MemoryFs::new(alloc);
+    fs.add_dir("/w")?;
+    for number in 10..50usize {
+        fs.add_dir(format!(in alloc; "/w/{number}")?.as_str())?;
+    }
+    Ok(fs)
+}
+
+/// How a walk without a callback comes out with this memory.
+fn plain_comes<R: Threads + Sync>(
+    rt: &R,
+    alloc: Global,
+    memory: &Refusing<Global>,
+    play: Play<'_>,
+) -> Came {
+    match play.builder::<((), ()), _, _>(memory, NoProcess) {
+        Some(walk) => comes(rt, alloc, memory, walk, play.taken, play.row.lines),
+        None => Came::Refused(0),
+    }
+}
+
+/// How a walk with this callback comes out with this memory.
+fn called_comes<R: Threads + Sync>(
+    rt: &R,
+    alloc: Global,
+    memory: &Refusing<Global>,
+    play: Play<'_>,
+    callback: Callback,
+) -> Came {
+    match play.builder::<Texts<&Refusing<Global>>, _, _>(memory, callback) {
+        Some(walk) => comes(rt, alloc, memory, walk, play.taken, play.row.lines),
+        None => Came::Refused(0),
+    }
+}
+
+/// Whether a walk may come whole after a refusal: what is asked for all at once, and what threads share.
+fn may_be_whole(play: Play<'_>) -> bool {
+    play.may_be_whole() || play.row.lines.len() > SHARED
+}
+
+/// The number from which on a walk comes out wrong where that many requests are refused. A trait's method can't start
+/// threads, so the runs are here.
+fn first_wrong<R: Threads + AllocGlobal + Sync>(
+    rt: &R,
+    play: Play<'_>,
+    many: usize,
+) -> Option<usize> {
+    let memory = Refusing::new(rt.alloc());
+    for number in 1..MOST {
+        memory.refuse(number, many);
+        let came = match play.row.callback {
+            Some(callback) => called_comes(rt, rt.alloc(), &memory, play, callback),
+            None => plain_comes(rt, rt.alloc(), &memory, play),
+        };
+        match run_of(&memory, number, came, may_be_whole(play)) {
+            Run::Refused => {}
+            Run::Quiet => return None,
+            Run::Wrong => return Some(number),
+        }
+    }
+    Some(MOST)
+}
+
+/// Whether a walk comes out right where each request is refused, and where all are from each on.
+fn is_right<R: Threads + AllocGlobal + Sync>(rt: &R, play: Play<'_>) -> bool {
+    first_wrong(rt, play, 1).is_none() && first_wrong(rt, play, usize::MAX).is_none()
+}
+
+/// Whether the walk of a row comes out right over a tree, if many directories are read together.
+fn is_right_widely<R: Threads + AllocGlobal + Sync>(rt: &R, fs: &MemoryFs, row: &Row) -> bool {
+    for taken in TAKEN {
+        let play = Play {
+            fs,
+            row,
+            width: WIDE,
+            taken: *taken,
+        };
+        if !is_right(rt, play) {
+            return false;
+        }
+    }
+    true
+}
+
+/// Whether the walk of a row comes out right, however many directories are read together.
+fn is_right_always<R: Threads + AllocGlobal + Sync>(rt: &R, row: &Row) -> bool {
+    let Ok(fs) = tree(rt.alloc(), row.steps) else {
+        return false;
+    };
+    for (width, taken) in WAYS {
+        let play = Play {
+            fs: &fs,
+            row,
+            width: *width,
+            taken: *taken,
+        };
+        if !is_right(rt, play) {
+            return false;
+        }
+    }
+    is_right_widely(rt, &fs, row)
+}
+
+/// The walk over the wide directory.
+const WIDE_ROW: Row = Row {
+    steps: &[],
+    root: "/w",
+    follow: false,
+    callback: None,
+    lines: &[
+        "0 d /w",
+        "1 d /w/10",
+        "1 d /w/11",
+        "1 d /w/12",
+        "1 d /w/13",
+        "1 d /w/14",
+        "1 d /w/15",
+        "1 d /w/16",
+        "1 d /w/17",
+        "1 d /w/18",
+        "1 d /w/19",
+        "1 d /w/20",
+        "1 d /w/21",
+        "1 d /w/22",
+        "1 d /w/23",
+        "1 d /w/24",
+        "1 d /w/25",
+        "1 d /w/26",
+        "1 d /w/27",
+        "1 d /w/28",
+        "1 d /w/29",
+        "1 d /w/30",
+        "1 d /w/31",
+        "1 d /w/32",
+        "1 d /w/33",
+        "1 d /w/34",
+        "1 d /w/35",
+        "1 d /w/36",
+        "1 d /w/37",
+        "1 d /w/38",
+        "1 d /w/39",
+        "1 d /w/40",
+        "1 d /w/41",
+        "1 d /w/42",
+        "1 d /w/43",
+        "1 d /w/44",
+        "1 d /w/45",
+        "1 d /w/46",
+        "1 d /w/47",
+        "1 d /w/48",
+        "1 d /w/49",
+    ],
+};
+
+#[test]
+fn requests_refused_on_threads(rt: HostRuntime) {
+    assert!(rt; is_right_always(&rt, &GROUPS));
+}
+
+#[test]
+fn requests_refused_on_threads_that_share_a_batch(rt: HostRuntime) {
+    let wide = wide(rt.alloc());
+    assert!(rt; matches!(&wide, Ok(fs) if is_right_widely(&rt, fs, &WIDE_ROW)));
+}
+
+#[test]
+fn requests_refused_on_threads_where_a_directory_is_moved(rt: HostRuntime) {
+    assert!(rt; is_right_always(&rt, &MOVED));
+}
+
+#[test]
+fn requests_refused_on_threads_where_names_are_handed_on(rt: HostRuntime) {
+    assert!(rt; is_right_always(&rt, &HANDED_ON));
+}

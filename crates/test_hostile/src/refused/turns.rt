@@ -1,0 +1,62 @@
+//! Walks that read in turn, where each request for memory is refused, or all from each on.
+use crate::refused::goes::Play;
+use crate::refused::rows::{HANDED_ON, MOVED, ROWS, Row};
+use std::alloc::Global;
+use test_fixtures::refused::came::WAYS;
+use test_fixtures::refused::turns::first_wrong;
+use test_fixtures::trees::tree;
+
+/// Whether the walk of a row comes out right in each way where that many requests are refused. Else the number of the
+/// first where it doesn't.
+fn wrong_of(alloc: Global, row: &Row, many: usize) -> Option<usize> {
+    let Ok(fs) = tree(alloc, row.steps) else {
+        return Some(0);
+    };
+    for (width, taken) in WAYS {
+        let play = Play {
+            fs: &fs,
+            row,
+            width: *width,
+            taken: *taken,
+        };
+        let wrong = first_wrong(alloc, many, &play);
+        if wrong.is_some() {
+            return wrong;
+        }
+    }
+    None
+}
+
+#[test]
+fn each_request_in_turn(rt: HostRuntime) {
+    for row in ROWS {
+        assert_eq!(rt; wrong_of(rt.alloc(), row, 1), None);
+    }
+}
+
+#[test]
+fn all_requests_from_each_on(rt: HostRuntime) {
+    for row in ROWS {
+        assert_eq!(rt; wrong_of(rt.alloc(), row, usize::MAX), None);
+    }
+}
+
+#[test]
+fn each_request_in_turn_where_a_directory_is_moved(rt: HostRuntime) {
+    assert_eq!(rt; wrong_of(rt.alloc(), &MOVED, 1), None);
+}
+
+#[test]
+fn all_requests_from_each_on_where_a_directory_is_moved(rt: HostRuntime) {
+    assert_eq!(rt; wrong_of(rt.alloc(), &MOVED, usize::MAX), None);
+}
+
+#[test]
+fn each_request_in_turn_where_names_are_handed_on(rt: HostRuntime) {
+    assert_eq!(rt; wrong_of(rt.alloc(), &HANDED_ON, 1), None);
+}
+
+#[test]
+fn all_requests_from_each_on_where_names_are_handed_on(rt: HostRuntime) {
+    assert_eq!(rt; wrong_of(rt.alloc(), &HANDED_ON, usize::MAX), None);
+}

@@ -1,0 +1,67 @@
+//! Requests for memory that are refused within a callback.
+use crate::refused::goes::Play;
+use crate::refused::rows::HANDED_ON;
+use std::alloc::Global;
+use std::sync::atomic::{AtomicUsize, Ordering};
+use test_fixtures::refused::callbacks::{Callback, Texts};
+use test_fixtures::refused::came::{Came, WAYS};
+use test_fixtures::refused::counting::Counting;
+use test_fixtures::refused::turns::MOST;
+use test_fixtures::refusing_alloc::Refusing;
+use test_fixtures::trees::tree;
+
+/// How the walk that hands names on comes out with this memory, and how often its callback ran out of it.
+fn comes(alloc: Global, memory: &Refusing<Global>, play: Play<'_>) -> (Came, usize) {
+    let within = AtomicUsize::new(0);
+    let counting = Counting::new(Callback::HandsOnNames, &within);
+    let came = play.comes_with::<Texts<&Refusing<Global>>, _, _>(alloc, memory, counting);
+    (came, within.load(Ordering::SeqCst))
+}
+
+/// How many requests, refused one at a time, are of the callback. None, if one of them isn't reported by the first
+/// `next`, which reads the list that the callback works on, or by the walk that doesn't begin, or a piece isn't back.
+fn refused_within(alloc: Global, play: Play<'_>) -> Option<usize> {
+    let memory = Refusing::new(alloc);
+    let mut refusals: usize = 0;
+    for number in 1..MOST {
+        memory.refuse(number, 1);
+        match comes(alloc, &memory, play) {
+            _ if memory.pieces() != 0 => return None,
+            (_, 0) => {}
+            (Came::Refused(0), 1) => refusals = refusals.saturating_add(1),
+            _ => return None,
+        }
+        if memory.refused() == 0 {
+            return Some(refusals);
+        }
+    }
+    None
+}
+
+/// The requests of the callback: for the root the name alone, since it has no state to copy, and for each of the groups
+/// a copy of the state and the name.
+const REQUESTS: usize = 5;
+
+/// Whether that many are refused, in each way to read the directories and to take the answers.
+fn all_are_refused(alloc: Global) -> bool {
+    let Ok(fs) = tree(alloc, HANDED_ON.steps) else {
+        return false;
+    };
+    for (width, taken) in WAYS {
+        let play = Play {
+            fs: &fs,
+            row: &HANDED_ON,
+            width: *width,
+            taken: *taken,
+        };
+        if refused_within(alloc, play) != Some(REQUESTS) {
+            return false;
+        }
+    }
+    true
+}
+
+#[test]
+fn each_request_of_a_callback_is_refused_and_reported_by_that_next(rt: HostRuntime) {
+    assert!(rt; all_are_refused(rt.alloc()));
+}

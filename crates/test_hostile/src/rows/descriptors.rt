@@ -1,0 +1,174 @@
+//! A tree for whose listings no descriptor is left for a while, or for good.
+ghost use Rattle.jwalk.specs.jwalk_model.Tree.{functions_of, only_root};
+
+use jwalk::file_system::{Fault, FileSystem, Listed, MemoryFs, Metadata, Patient};
+use std::alloc::{Allocator, Global};
+use std::io;
+use std::io::ErrorKind;
+use std::sync::atomic::{AtomicU64, AtomicUsize, Ordering};
+use std::time::{Clock, Duration};
+use test_fixtures::answers::are_lines;
+use test_fixtures::builders::builder;
+use test_fixtures::trees::{SMALL, tree};
+
+/// A clock that adds up how many microseconds it was to sleep.
+#[derive(Drop)]
+struct Slept(AtomicU64);
+
+impl Slept {
+    fn not_yet() -> Self {
+        Slept(AtomicU64::new(0))
+    }
+
+    fn micros(&self) -> u64 {
+        self.0.load(Ordering::SeqCst)
+    }
+}
+
+impl Clock for Slept {
+    fn monotonic(&self) -> io::Result<Duration> {
+        Err(io::Error::from(ErrorKind::Unsupported))
+    }
+
+    fn since_1970(&self) -> io::Result<Duration> {
+        Err(io::Error::from(ErrorKind::Unsupported))
+    }
+
+    fn sleep(&self, duration: Duration) {
+        let micros = u64::try_from(duration.as_micros()).unwrap_or(u64::MAX);
+        self.0.fetch_add(micros, Ordering::SeqCst);
+    }
+}
+
+/// The tree, where listings fail with an error of the system's number until that many were asked for.
+#[derive(Drop)]
+struct Failing {
+    fs: MemoryFs,
+    number: i32,
+    until: AtomicUsize,
+    lists: AtomicUsize,
+}
+
+impl Failing {
+    fn new(alloc: Global, number: i32) -> Option<Self> {
+        Some(Failing {
+            fs: tree(alloc, SMALL).ok()?,
+            number,
+            until: AtomicUsize::new(0),
+            lists: AtomicUsize::new(0),
+        })
+    }
+
+    fn lists(&self) -> usize {
+        self.lists.load(Ordering::SeqCst)
+    }
+
+    /// From now on that many listings fail.
+    fn fail(&self, count: usize) {
+        let until = self.lists().saturating_add(count);
+        self.until.store(until, Ordering::SeqCst);
+    }
+}
+
+impl FileSystem for Failing {
+    ghost IsFixed = { λ _. ⊥ };
+
+    ghost functions = { λ _. functions_of only_root };
+
+    fn read_dir<A: Allocator + Copy>(
+        &self,
+        alloc: A,
+        path: &str,
+    ) -> Result<Vec<io::Result<Listed<A>>, A>, Fault> {
+        let before = self.lists.fetch_add(1, Ordering::SeqCst);
+        if before < self.until.load(Ordering::SeqCst) {
+            return Err(Fault::Io(io::Error::from_raw_os_error(self.number)));
+        }
+        self.fs.read_dir(alloc, path)
+    }
+
+    fn metadata(&self, path: &str) -> Result<Metadata, Fault> {
+        self.fs.metadata(path)
+    }
+
+    fn symlink_metadata(&self, path: &str) -> Result<Metadata, Fault> {
+        self.fs.symlink_metadata(path)
+    }
+
+    fn read_link<A: Allocator + Copy>(&self, alloc: A, path: &str) -> Result<String<A>, Fault> {
+        self.fs.read_link(alloc, path)
+    }
+}
+
+/// The system's number that a process has as many descriptors as it may have.
+const EMFILE: i32 = 24;
+
+/// The system's number that all processes together have as many as they may have.
+const ENFILE: i32 = 23;
+
+/// The system's number that a directory may not be read.
+const EACCES: i32 = 13;
+
+/// Whether a walk yields the whole tree where the first listings fail with this number, and sleeps meanwhile.
+fn is_whole(alloc: Global, number: i32) -> Option<bool> {
+    let slept = Slept::not_yet();
+    let failing = Failing::new(alloc, number)?;
+    failing.fail(5);
+    let fs = Patient::new(&failing, &slept);
+    let mut found = Vec::new(alloc);
+    let mut walk = builder(alloc, &fs, "/r").ok()?.into_iter();
+    walk.fill(usize::MAX, &mut found).ok()?;
+    let wanted = "0 d /r; 1 f /r/b; 1 d /r/s; 2 f /r/s/x; 1 f /r/a";
+    Some(are_lines(alloc, found.as_slice(), wanted) && slept.micros() > 0)
+}
+
+#[test]
+fn no_descriptor_for_a_while(rt: HostRuntime) {
+    assert!(rt; is_whole(rt.alloc(), EMFILE) == Some(true));
+    assert!(rt; is_whole(rt.alloc(), ENFILE) == Some(true));
+}
+
+/// Whether a directory is listed at last, and how often that was tried.
+fn tries(alloc: Global, fs: &impl FileSystem, failing: &Failing) -> (bool, usize) {
+    let before = failing.lists();
+    let is_listed = fs.read_dir(alloc, "/r").is_ok();
+    (is_listed, failing.lists().wrapping_sub(before))
+}
+
+/// Whether a directory is tried for at most 100 milliseconds, the next ones once, and more often again after one was
+/// listed.
+fn is_tried_once(alloc: Global, number: i32) -> Option<bool> {
+    let slept = Slept::not_yet();
+    let failing = Failing::new(alloc, number)?;
+    let fs = Patient::new(&failing, &slept);
+    failing.fail(1_000_000);
+    let (is_listed, often) = tries(alloc, &fs, &failing);
+    let micros = slept.micros();
+    let is_over_soon = !is_listed && often > 1 && micros <= 100_000;
+    let is_once = tries(alloc, &fs, &failing) == (false, 1) && slept.micros() == micros;
+    failing.fail(0);
+    let is_listed_again = tries(alloc, &fs, &failing) == (true, 1);
+    failing.fail(2);
+    let is_tried_again = tries(alloc, &fs, &failing) == (true, 3);
+    Some(is_over_soon && is_once && is_listed_again && is_tried_again)
+}
+
+#[test]
+fn no_descriptor_for_good(rt: HostRuntime) {
+    assert!(rt; is_tried_once(rt.alloc(), EMFILE) == Some(true));
+    assert!(rt; is_tried_once(rt.alloc(), ENFILE) == Some(true));
+}
+
+/// Whether a directory that can't be listed for another reason is tried once.
+fn is_not_tried_again(alloc: Global, number: i32) -> Option<bool> {
+    let slept = Slept::not_yet();
+    let failing = Failing::new(alloc, number)?;
+    failing.fail(1);
+    let fs = Patient::new(&failing, &slept);
+    Some(tries(alloc, &fs, &failing) == (false, 1) && slept.micros() == 0)
+}
+
+#[test]
+fn no_other_error_is_tried_again(rt: HostRuntime) {
+    assert!(rt; is_not_tried_again(rt.alloc(), EACCES) == Some(true));
+}

@@ -1,0 +1,168 @@
+//! Links that are followed on disks that tell by numbers which directory is which, or that don't.
+use crate::rows::numbered::Told::{Gone, Nothing, Numbers};
+use crate::rows::numbered::{At, Row, holds};
+use test_fixtures::ways::Setting;
+
+/// Links are followed. A loop that isn't told ends at the greatest depth.
+const FOLLOW: &[Setting] = &[Setting::Follow, Setting::Max(6)];
+
+#[test]
+fn links_in_two_directories_to_one_another_are_loops(rt: HostRuntime) {
+    const ROW: Row = Row {
+        places: &[
+            At::Dir("/r", Numbers(1, 1)),
+            At::Dir("/r/a", Numbers(1, 2)),
+            At::Link("/r/a/l", "../b", Numbers(1, 3)),
+            At::Link("/r/a/l/m", "../a", Numbers(1, 2)),
+            At::Dir("/r/b", Numbers(1, 3)),
+            At::Link("/r/b/m", "../a", Numbers(1, 2)),
+            At::Link("/r/b/m/l", "../b", Numbers(1, 3)),
+        ],
+        root: "/r",
+        settings: FOLLOW,
+        answers: "0 d /r; 1 d /r/a; 2 D /r/a/l; ! 3 /r/a/l/m loop /r/a; \
+                  1 d /r/b; 2 D /r/b/m; ! 3 /r/b/m/l loop /r/b",
+        // Four links, two with two directories above them and two with three.
+        asked: 14,
+    };
+    assert!(rt; holds(&rt, &ROW));
+}
+
+#[test]
+fn a_directory_above_that_is_gone_is_told_by_text(rt: HostRuntime) {
+    const ROW: Row = Row {
+        places: &[
+            At::Dir("/r", Numbers(1, 1)),
+            At::Dir("/r/a", Gone),
+            At::Link("/r/a/k", ".", Numbers(1, 2)),
+            At::Link("/r/a/l", "/s", Numbers(1, 2)),
+            At::Link("/r/a/m", "/s", Numbers(1, 1)),
+            At::Link("/r/a/n", "..", Numbers(1, 9)),
+        ],
+        root: "/r",
+        settings: FOLLOW,
+        answers: "0 d /r; 1 d /r/a; ! 2 /r/a/k loop /r/a; 2 D /r/a/l; ! 2 /r/a/m loop /r; 2 D /r/a/n",
+        asked: 6,
+    };
+    assert!(rt; holds(&rt, &ROW));
+}
+
+#[test]
+fn two_numbers_of_zero_say_nothing(rt: HostRuntime) {
+    const ROW: Row = Row {
+        places: &[
+            At::Dir("/r", Numbers(0, 0)),
+            At::Link("/r/l", "/s", Numbers(0, 0)),
+            At::Link("/r/m", ".", Numbers(0, 1)),
+        ],
+        root: "/r",
+        settings: FOLLOW,
+        answers: "0 d /r; 1 D /r/l; ! 1 /r/m loop /r",
+        // Each link, and the directory above for the one whose numbers say something.
+        asked: 3,
+    };
+    assert!(rt; holds(&rt, &ROW));
+}
+
+#[test]
+fn an_inode_of_zero_tells_a_loop_on_its_device_alone(rt: HostRuntime) {
+    const ROW: Row = Row {
+        places: &[
+            At::Dir("/r", Numbers(5, 0)),
+            At::Link("/r/l", "/s", Numbers(5, 0)),
+            At::Link("/r/m", ".", Numbers(6, 0)),
+        ],
+        root: "/r",
+        settings: FOLLOW,
+        answers: "0 d /r; ! 1 /r/l loop /r; 1 D /r/m",
+        asked: 3,
+    };
+    assert!(rt; holds(&rt, &ROW));
+}
+
+#[test]
+fn a_root_without_numbers_is_told_by_text(rt: HostRuntime) {
+    const ROW: Row = Row {
+        places: &[
+            At::Dir("/r", Nothing),
+            At::Link("/r/l", "/s", Numbers(1, 2)),
+            At::Link("/r/m", ".", Numbers(1, 3)),
+        ],
+        root: "/r",
+        settings: FOLLOW,
+        answers: "0 d /r; 1 D /r/l; ! 1 /r/m loop /r",
+        asked: 3,
+    };
+    assert!(rt; holds(&rt, &ROW));
+}
+
+#[test]
+fn links_to_directories_without_numbers_ask_for_none_above(rt: HostRuntime) {
+    const ROW: Row = Row {
+        places: &[
+            At::Dir("/r", Numbers(1, 1)),
+            At::Dir("/r/a", Numbers(1, 2)),
+            At::Link("/r/a/k", "/s", Nothing),
+            At::Link("/r/a/l", "..", Nothing),
+            At::Link("/r/a/m", ".", Nothing),
+        ],
+        root: "/r",
+        settings: FOLLOW,
+        answers: "0 d /r; 1 d /r/a; 2 D /r/a/k; ! 2 /r/a/l loop /r; ! 2 /r/a/m loop /r/a",
+        asked: 3,
+    };
+    assert!(rt; holds(&rt, &ROW));
+}
+
+#[test]
+fn a_link_to_a_file_asks_for_none_above(rt: HostRuntime) {
+    const ROW: Row = Row {
+        places: &[
+            At::Dir("/r", Numbers(1, 1)),
+            At::FileLink("/r/l", "/f", Numbers(1, 1)),
+        ],
+        root: "/r",
+        settings: FOLLOW,
+        answers: "0 d /r; 1 F /r/l",
+        asked: 1,
+    };
+    assert!(rt; holds(&rt, &ROW));
+}
+
+#[test]
+fn directories_above_are_asked_for_once_for_four_links(rt: HostRuntime) {
+    const ROW: Row = Row {
+        places: &[
+            At::Dir("/r", Numbers(1, 1)),
+            At::Dir("/r/a", Numbers(1, 2)),
+            At::Link("/r/a/k", "/s", Numbers(1, 7)),
+            At::Link("/r/a/l", "/t", Numbers(1, 8)),
+            At::Link("/r/a/m", "/u", Numbers(1, 9)),
+            At::Link("/r/a/n", "/v", Numbers(1, 1)),
+        ],
+        root: "/r",
+        settings: FOLLOW,
+        answers: "0 d /r; 1 d /r/a; 2 D /r/a/k; 2 D /r/a/l; 2 D /r/a/m; ! 2 /r/a/n loop /r",
+        asked: 6,
+    };
+    assert!(rt; holds(&rt, &ROW));
+}
+
+#[test]
+fn a_link_whose_text_alone_leads_above_is_followed(rt: HostRuntime) {
+    const ROW: Row = Row {
+        places: &[
+            At::Dir("/r", Numbers(1, 1)),
+            At::Link("/r/k", "/s/t", Numbers(1, 3)),
+            At::Link("/r/k/l", "..", Numbers(1, 2)),
+            At::Dir("/r/k/l/t", Numbers(1, 3)),
+            At::Link("/r/k/l/t/l", "..", Numbers(1, 2)),
+        ],
+        root: "/r",
+        settings: FOLLOW,
+        answers: "0 d /r; 1 D /r/k; 2 D /r/k/l; 3 d /r/k/l/t; ! 4 /r/k/l/t/l loop /r/k/l",
+        // Three links, with one, two and four directories above them.
+        asked: 10,
+    };
+    assert!(rt; holds(&rt, &ROW));
+}

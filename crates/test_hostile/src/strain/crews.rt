@@ -1,0 +1,105 @@
+//! A thousand walks on one crew, and two crews at once.
+use crate::by_crew::{ByCrew, CrewWalk};
+use jwalk::Crew;
+use jwalk::file_system::{FileSystem, MemoryFs, RealFs};
+use std::alloc::Global;
+use std::fs::Files;
+use std::sync::Arc;
+use std::thread;
+use std::time::Duration;
+use test_fixtures::answers::{Answer, are_lines};
+use test_fixtures::host::Host;
+use test_fixtures::trees::{FORKED, tree};
+
+/// The lines of the tree.
+const LINES: &str = "0 d /r; 1 d /r/a; 2 d /r/a/x; 1 d /r/b; 2 d /r/b/x; 1 d /r/c; 2 d /r/c/x";
+
+/// The tree, as what walks are asked for.
+fn forked(alloc: Global) -> Option<ByCrew<'static, MemoryFs>> {
+    Some(ByCrew {
+        fs: Arc::new(alloc, tree(alloc, FORKED).ok()?).ok()?,
+        root: "/r",
+        settings: &[],
+    })
+}
+
+/// How many threads the process has.
+fn threads<R: Files + Drop>(alloc: Global, disk: &RealFs<R>) -> Option<usize> {
+    Some(disk.read_dir(alloc, "/proc/self/task").ok()?.len())
+}
+
+/// Begins a walk and drops it after that many answers.
+fn begins_and_drops<R: Host>(walk: CrewWalk<R, MemoryFs>, count: usize) -> bool {
+    let mut walk = walk.into_iter();
+    for _ in 0..count {
+        if !matches!(walk.next(), Some(Ok(_))) {
+            return false;
+        }
+    }
+    true
+}
+
+/// Whether that many walks on one crew, one after another, are begun and dropped.
+fn begin_and_drop<R: Host>(rt: &R, walks: usize) -> Option<bool> {
+    let asked = forked(rt.alloc())?;
+    let pool = Arc::new(rt.alloc(), Crew::new(rt.clone().ok()?, 1, 2)).ok()?;
+    for number in 0..walks {
+        let walk = asked.builder(rt.alloc(), pool.clone().ok()?).ok()?;
+        if !begins_and_drops(walk, number % 8) {
+            return Some(false);
+        }
+    }
+    Some(pool.in_use() == 0)
+}
+
+/// Whether within some seconds there are as many threads as at first.
+fn are_as_at_first<R: Host + Files>(rt: &R, disk: &RealFs<R>, first: usize) -> bool {
+    for _ in 0..5_000 {
+        if threads(rt.alloc(), disk) == Some(first) {
+            return true;
+        }
+        thread::sleep(rt, Duration::from_millis(1));
+    }
+    false
+}
+
+/// Whether a thousand walks leave no thread.
+fn leave_no_thread<R: Host + Files>(rt: &R) -> Option<bool> {
+    let disk = RealFs::new(rt.clone().ok()?);
+    let first = threads(rt.alloc(), &disk)?;
+    let are_dropped = begin_and_drop(rt, 1_000)?;
+    Some(are_dropped && are_as_at_first(rt, &disk, first))
+}
+
+#[test]
+fn a_thousand_walks_on_one_crew_leave_no_thread(rt: HostRuntime) {
+    assert!(rt; leave_no_thread(&rt) == Some(true));
+}
+
+/// The answers of two walks in turn, each on a crew of its own.
+fn of_two<R: Host>(rt: &R) -> Option<(Vec<Answer>, Vec<Answer>)> {
+    let alloc = rt.alloc();
+    let asked = forked(alloc)?;
+    let one = Arc::new(alloc, Crew::new(rt.clone().ok()?, 1, 2)).ok()?;
+    let other = Arc::new(alloc, Crew::new(rt.clone().ok()?, 1, 3)).ok()?;
+    let mut first = asked.builder(alloc, one).ok()?.into_iter();
+    let mut second = asked.builder(alloc, other).ok()?.into_iter();
+    let mut found = (Vec::new(alloc), Vec::new(alloc));
+    for _ in 0..8 {
+        first.fill(1, &mut found.0).ok()?;
+        second.fill(1, &mut found.1).ok()?;
+    }
+    Some(found)
+}
+
+/// Whether both yield the lines of the tree.
+fn both_show<R: Host>(rt: &R) -> Option<bool> {
+    let (first, second) = of_two(rt)?;
+    let alloc = rt.alloc();
+    Some(are_lines(alloc, first.as_slice(), LINES) && are_lines(alloc, second.as_slice(), LINES))
+}
+
+#[test]
+fn two_crews_at_once(rt: HostRuntime) {
+    assert!(rt; both_show(&rt) == Some(true));
+}

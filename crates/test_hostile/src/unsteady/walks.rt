@@ -1,0 +1,195 @@
+//! Walks over file systems of many seeds.
+use crate::by_crew::ByCrew;
+use crate::unsteady::counts::Counts;
+use crate::unsteady::disk::Unsteady;
+use crate::unsteady::seen::{End, end_of};
+use std::alloc::{AllocError, Global};
+use std::env;
+use std::sync::Arc;
+use std::sync::atomic::{AtomicUsize, Ordering};
+use test_fixtures::answers::Answer;
+use test_fixtures::dice::Dice;
+use test_fixtures::host::Host;
+use test_fixtures::ways::{Asked, Setting, WAYS, Way};
+
+/// How many seeds are played.
+const SEEDS: usize = 2_000;
+
+/// The greatest of all greatest depths, which ends the walks.
+const DEEPEST: usize = 5;
+
+/// A walk that is drawn: its file system, its root, its options, and who reads.
+#[derive(Clone, Copy)]
+struct Drawn {
+    seed: usize,
+    runs_out: bool,
+    root: &'static str,
+    min_depth: usize,
+    max_depth: usize,
+    settings: [Setting; 5],
+    way: Way,
+    workers: usize,
+}
+
+fn root(dice: &mut Dice) -> &'static str {
+    match dice.below(12) {
+        0 => "/",
+        1 => "",
+        2 => ".",
+        3 => "..",
+        4 => "r//s/",
+        5 => "/r/../s",
+        _ => "/r",
+    }
+}
+
+/// This option, or none, as often as not.
+fn maybe(dice: &mut Dice, setting: Setting) -> Setting {
+    if dice.below(2) == 0 {
+        setting
+    } else {
+        Setting::Min(0)
+    }
+}
+
+impl Drawn {
+    /// The walk of a seed.
+    fn new(seed: usize) -> Self {
+        let mut dice = Dice::new(seed);
+        let max_depth = dice.below(DEEPEST + 1);
+        let min_depth = dice.below(max_depth.saturating_add(1));
+        let settings = [
+            maybe(&mut dice, Setting::Sort),
+            maybe(&mut dice, Setting::Hidden),
+            maybe(&mut dice, Setting::Follow),
+            Setting::Max(max_depth),
+            Setting::Min(min_depth),
+        ];
+        Drawn {
+            seed,
+            runs_out: dice.below(3) == 0,
+            root: root(&mut dice),
+            min_depth,
+            max_depth,
+            settings,
+            way: match WAYS.get(dice.below(WAYS.len())) {
+                Some(way) => *way,
+                None => Way::Plain,
+            },
+            workers: dice.below(4).saturating_add(1),
+        }
+    }
+
+    /// Whether a walk may have gone so: each directory that was given was read once, or some not where memory ran out.
+    fn lets(&self, course: &Course) -> bool {
+        match course.end {
+            End::Whole => course.lists == course.given,
+            End::Memory => self.runs_out && course.lists <= course.given,
+            End::Wrong => false,
+        }
+    }
+
+    /// How a walk with these answers went.
+    fn course(
+        &self,
+        alloc: Global,
+        found: &[Answer],
+        lists: usize,
+        given: &AtomicUsize,
+    ) -> Result<Course, AllocError> {
+        Ok(Course {
+            end: end_of(alloc, found, self.min_depth, self.max_depth)?,
+            lists,
+            given: given.load(Ordering::SeqCst),
+        })
+    }
+
+    /// How the walk goes in its way.
+    fn in_way<R: Host>(&self, rt: &R) -> Result<Course, AllocError> {
+        let alloc = rt.alloc();
+        let fs = Unsteady::new(self.seed, self.runs_out);
+        let given = Arc::new(alloc, AtomicUsize::new(0))?;
+        let counts = Counts {
+            given: given.clone()?,
+            max_depth: self.max_depth,
+        };
+        let asked = Asked {
+            fs: &fs,
+            root: self.root,
+            settings: self.settings.as_slice(),
+        };
+        let found = asked.found(rt, counts, self.way)?;
+        self.course(alloc, found.as_slice(), fs.lists(), &given)
+    }
+
+    /// How the walk goes that a crew reads for.
+    fn by_crew<R: Host>(&self, rt: &R) -> Result<Course, AllocError> {
+        let alloc = rt.alloc();
+        let given = Arc::new(alloc, AtomicUsize::new(0))?;
+        let counts = Counts {
+            given: given.clone()?,
+            max_depth: self.max_depth,
+        };
+        let asked = ByCrew {
+            fs: Arc::new(alloc, Unsteady::new(self.seed, self.runs_out))?,
+            root: self.root,
+            settings: self.settings.as_slice(),
+        };
+        let found = asked.found(rt, counts, self.workers)?;
+        let lists = asked.fs.lists();
+        self.course(alloc, found.as_slice(), lists, &given)
+    }
+}
+
+/// How a walk went.
+#[derive(Clone, Copy, Debug, PartialEq, Eq)]
+struct Course {
+    end: End,
+    /// How often a listing was asked for.
+    lists: usize,
+    /// How many directories above the greatest depth readings gave.
+    given: usize,
+}
+
+/// A seed, and how its walks go, in the drawn way and by a crew.
+type Played = (
+    usize,
+    Result<Course, AllocError>,
+    Result<Course, AllocError>,
+);
+
+/// Whether both walks of a seed may go so.
+fn may_go(drawn: &Drawn, (_, in_way, by_crew): &Played) -> bool {
+    match (in_way, by_crew) {
+        (Ok(in_way), Ok(by_crew)) => drawn.lets(in_way) && drawn.lets(by_crew),
+        _ => false,
+    }
+}
+
+/// The first of these seeds where a walk breaks a rule.
+fn first_wrong<R: Host>(rt: &R, from: usize, count: usize) -> Option<Played> {
+    for seed in from..from.saturating_add(count) {
+        let drawn = Drawn::new(seed);
+        let played = (seed, drawn.in_way(rt), drawn.by_crew(rt));
+        if !may_go(&drawn, &played) {
+            return Some(played);
+        }
+    }
+    None
+}
+
+/// The number that a word of the environment is, if it is one.
+fn number(word: Result<String, env::VarError>, default: usize) -> usize {
+    match word {
+        Ok(word) => word.as_str().parse::<usize>().unwrap_or(default),
+        Err(_) => default,
+    }
+}
+
+// A script plays more seeds, by the two words of the environment.
+#[test]
+fn random_unsteady_file_systems(rt: HostRuntime) {
+    let from = number(env::var(&rt, "JWALK_FIRST_SEED"), 0);
+    let count = number(env::var(&rt, "JWALK_SEEDS"), SEEDS);
+    assert_eq!(rt; first_wrong(&rt, from, count), None);
+}

@@ -1,0 +1,85 @@
+//! Walks over a plan that reads no directories.
+use std::alloc::{AllocError, Global};
+use std::thread::Threads;
+use test_fixtures::family::Family;
+use tree_walk::board_walk::BoardWalk;
+use tree_walk::whole::read_all;
+
+// What a family gives in preorder.
+const PREORDER: [u8; 4] = [0, 1, 3, 2];
+
+fn whole_family(alloc: Global, width: usize) -> Option<Vec<u8>> {
+    if width == 0 {
+        return None;
+    }
+    read_all(alloc, Family, vec![in alloc; 0_u8].ok()?, width).ok()
+}
+
+#[test]
+fn all_readings_of_a_family_however_many_together(rt: HostRuntime) {
+    for width in 1..5 {
+        let found = whole_family(rt.alloc(), width);
+        assert_eq!(rt; found.as_deref(), Some(PREORDER.as_slice()));
+    }
+}
+
+/// Adds a reading, or that memory ran out, and how many others are ahead. None at the end.
+fn push_next(text: &mut String, next: Result<Option<u8>, AllocError>, ahead: usize) -> Option<()> {
+    match next {
+        Ok(read) => write!(text, "{}:{ahead} ", read?).ok(),
+        Err(_refused) => text.push_str("refused ").ok(),
+    }
+}
+
+/// A walk over a family that reads two together.
+fn begun(alloc: Global) -> Option<BoardWalk<u8, u8, Family>> {
+    let mut walk = BoardWalk::new(alloc, Family, 2);
+    walk.begin(vec![in alloc; 0_u8].ok()?).ok()?;
+    Some(walk)
+}
+
+/// The readings of a family, two together on threads. In front of each is how many are ahead once it is prepared, and
+/// behind it how many after it was given.
+fn prepared(rt: &(impl Threads + Sync), alloc: Global) -> Option<String> {
+    let mut walk = begun(alloc)?;
+    let mut text = String::new(alloc);
+    for _ in 0..10 {
+        walk.prepare_on(rt).ok()?;
+        write!(text, "{}>", walk.ahead()).ok()?;
+        let next = walk.read_next();
+        if push_next(&mut text, next, walk.ahead()).is_none() {
+            break;
+        }
+    }
+    Some(text)
+}
+
+#[test]
+fn the_next_is_ready_once_it_is_prepared(rt: HostRuntime) {
+    let text = prepared(&rt, rt.alloc());
+    assert_eq!(rt; text.as_deref(), Some("1>0:0 2>1:1 2>3:1 1>2:0 0>"));
+}
+
+/// The readings of a family, two together on threads, until the walk is stopped after some of them.
+fn stopped_after(rt: &(impl Threads + Sync), alloc: Global, count: usize) -> Option<String> {
+    let mut walk = begun(alloc)?;
+    let mut text = String::new(alloc);
+    for step in 0..10 {
+        if step == count {
+            walk.stop();
+        }
+        let next = walk.read_next_on(rt);
+        if push_next(&mut text, next, walk.ahead()).is_none() {
+            break;
+        }
+    }
+    Some(text)
+}
+
+#[test]
+fn a_walk_that_is_stopped_gives_nothing_more(rt: HostRuntime) {
+    let text = stopped_after(&rt, rt.alloc(), 2);
+    assert_eq!(rt; text.as_deref(), Some("0:0 1:1 "));
+    let text = stopped_after(&rt, rt.alloc(), 10);
+    assert_eq!(rt; text.as_deref(), Some("0:0 1:1 3:1 2:0 "));
+}

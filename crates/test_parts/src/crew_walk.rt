@@ -1,0 +1,113 @@
+//! A plan that reads no directories, by a crew; and a crew's places.
+use std::alloc::Global;
+use std::sync::{Arc, Wait};
+use std::thread::Threads;
+use std::time::{Clock, Duration};
+use test_fixtures::family::Family;
+use tree_crew::crew::{Crew, NotStarted, Place};
+use tree_crew::origin::Origin;
+use tree_crew::session::Session;
+use tree_crew::whole::read_all;
+
+// What a family gives in preorder.
+const PREORDER: [u8; 4] = [0, 1, 3, 2];
+
+// What it gives from two roots, the second of which has no children.
+const OF_TWO_ROOTS: [u8; 5] = [0, 1, 3, 2, 3];
+
+/// All readings of a family.
+fn whole_family<R: Wait + Threads + Clock + Drop + Send + Sync + 'static>(
+    alloc: Global,
+    place: Place<R>,
+) -> Option<Vec<u8>> {
+    let plan = Arc::new(alloc, Family).ok()?;
+    read_all(place, plan, vec![in alloc; 0_u8].ok()?).ok()
+}
+
+/// The readings of a session one at a time, if no more than this many are ahead at any time.
+fn each<R: Wait + Threads + Clock + Drop + Send + Sync + 'static>(
+    alloc: Global,
+    place: Place<R>,
+    most: usize,
+) -> Option<Vec<u8>> {
+    let plan = Arc::new(alloc, Family).ok()?;
+    let origin = Origin::new(plan, vec![in alloc; 0_u8, 3].ok()?);
+    let mut session = Session::start(place, &origin, vec![in alloc; 0_u8, 3].ok()?).ok()?;
+    let mut found = Vec::new(alloc);
+    for _ in 0..OF_TWO_ROOTS.len() {
+        let item = session.next().ok()??;
+        found.push(item.value.into_outcome().ok()?).ok()?;
+        if session.ahead() > most {
+            return None;
+        }
+    }
+    match session.next() {
+        Ok(None) => Some(found),
+        Ok(Some(_)) | Err(_) => None,
+    }
+}
+
+/// A crew for one walk, with that many workers, which reads one ahead, or as many as there are workers.
+fn crew<R: Wait + Clock + Drop>(alloc: Global, rt: R, workers: usize) -> Option<Arc<Crew<R>>> {
+    Arc::new(alloc, Crew::new(rt, 1, workers).with_read_ahead(1)).ok()
+}
+
+#[test]
+fn all_readings_of_a_family_by_a_crew(rt: HostRuntime) {
+    let alloc = rt.alloc();
+    for workers in [1, 2, 4] {
+        let crew = crew(alloc, rt.clone().expect(&rt, "runtime"), workers).expect(&rt, "crew");
+        for _ in 0..20 {
+            let place = Place::take(&crew, None).expect(&rt, "place");
+            let found = whole_family(alloc, place);
+            assert_eq!(rt; found.as_deref(), Some(PREORDER.as_slice()));
+            assert_eq!(rt; crew.in_use(), 0);
+        }
+        assert_eq!(rt; crew.late_wakes(), 0);
+    }
+}
+
+#[test]
+fn readings_of_two_families_by_a_crew_one_at_a_time(rt: HostRuntime) {
+    let alloc = rt.alloc();
+    for workers in [1, 2, 4] {
+        let crew = crew(alloc, rt.clone().expect(&rt, "runtime"), workers).expect(&rt, "crew");
+        for _ in 0..20 {
+            let place = Place::take(&crew, None).expect(&rt, "place");
+            let found = each(alloc, place, workers + 1);
+            assert_eq!(rt; found.as_deref(), Some(OF_TWO_ROOTS.as_slice()));
+        }
+        assert_eq!(rt; crew.late_wakes(), 0);
+    }
+}
+
+// Places.
+
+/// Whether a crew has one place, which is taken once until it is given back.
+fn is_taken_once<R: Wait + Clock + Drop>(crew: &Arc<Crew<R>>) -> bool {
+    for _ in 0..2 {
+        let Ok(place) = Place::take(crew, None) else {
+            return false;
+        };
+        let other = Place::take(crew, Some(Duration::ZERO));
+        if !matches!(other, Err(NotStarted::Busy)) || crew.in_use() != 1 {
+            return false;
+        }
+        drop(place);
+    }
+    crew.in_use() == 0
+}
+
+#[test]
+fn a_place_is_taken_once_until_it_is_given_back(rt: HostRuntime) {
+    let crew = Crew::new(rt.clone().expect(&rt, "runtime"), 1, 1);
+    let crew = Arc::new(rt.alloc(), crew).expect(&rt, "crew");
+    assert!(rt; is_taken_once(&crew));
+}
+
+#[test]
+fn no_places_count_as_one(rt: HostRuntime) {
+    let crew = Crew::new(rt.clone().expect(&rt, "runtime"), 0, 1);
+    let crew = Arc::new(rt.alloc(), crew).expect(&rt, "crew");
+    assert!(rt; is_taken_once(&crew));
+}

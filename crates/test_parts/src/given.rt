@@ -1,0 +1,129 @@
+//! What the tests work on: addresses, items at them, rehearsals, trees in memory and readings. None of it promises
+//! anything.
+ghost use Rattle.jwalk_model.specs.Tree.{functions_of, only_root};
+
+use jwalk_board::board::{Board, Move, Plan, Refused, Rehearsal, rehearse};
+use jwalk_core::job::Job;
+use jwalk_core::process_read_dir::NoProcess;
+use jwalk_core::read_dir::ReadDir;
+use jwalk_core::read_dir_spec::ReadDirSpec;
+use jwalk_fs::fault::Fault;
+use jwalk_fs::file_system::FileSystem;
+use jwalk_fs::listed::Listed;
+use jwalk_memory_fs::memory_fs::MemoryFs;
+use jwalk_model::metadata::Metadata;
+use jwalk_order::index_path::IndexPath;
+use jwalk_order::ordered::Ordered;
+use std::alloc::{Allocator, Global};
+use std::io;
+
+/// The address of these indices.
+pub(crate) fn address(alloc: Global, indices: &[usize]) -> Option<IndexPath> {
+    Some(IndexPath::new(Vec::from_slice(alloc, indices).ok()?))
+}
+
+/// Whether an item is at this address, with that many children.
+pub(crate) fn is_at<T>(item: &Ordered<T>, indices: &[usize], child_count: usize) -> bool {
+    item.index_path.indices.as_slice() == indices && item.child_count() == child_count
+}
+
+/// Whether items are at these addresses, each with that many children.
+pub(crate) fn are_at<T>(items: &[Ordered<T>], wanted: &[(&[usize], usize)]) -> bool {
+    for (item, (indices, child_count)) in items.iter().zip(wanted) {
+        if !is_at(item, indices, *child_count) {
+            return false;
+        }
+    }
+    items.len() == wanted.len()
+}
+
+/// How many are queued, in hand, ready and pending.
+pub(crate) fn counts<T: Drop, R: Drop>(board: &Board<T, R>) -> [usize; 4] {
+    [
+        board.queued(),
+        board.in_hand(),
+        board.ready(),
+        board.pending(),
+    ]
+}
+
+/// A rehearsal over a plan of numbers, from these roots.
+pub(crate) fn played<P: Plan<Global, Spec = u8, Reading = u8>>(
+    alloc: Global,
+    plan: &P,
+    roots: &[u8],
+    workers: usize,
+    moves: &[Move],
+) -> Result<Rehearsal<u8, u8>, Refused>
+    requires { P.IsLawful plan.now }
+{
+    let roots = Vec::from_slice(alloc, roots)?;
+    rehearse(alloc, plan, roots, workers, moves)
+}
+
+/// A tree in memory with these directories.
+pub(crate) fn tree(alloc: Global, dirs: &[&str]) -> Option<MemoryFs> {
+    let mut fs = MemoryFs::new(alloc);
+    for dir in dirs {
+        fs.add_dir(dir).ok()?;
+    }
+    Some(fs)
+}
+
+/// A tree in memory for which memory runs out when one of its directories is listed.
+#[derive(Drop)]
+pub(crate) struct Refusing {
+    pub(crate) fs: MemoryFs,
+    pub(crate) at: &'static str,
+}
+
+impl FileSystem for Refusing {
+    ghost IsFixed = { λ _. ⊥ };
+
+    ghost functions = { λ _. functions_of only_root };
+
+    fn read_dir<A: Allocator + Copy>(
+        &self,
+        alloc: A,
+        path: &str,
+    ) -> Result<Vec<io::Result<Listed<A>>, A>, Fault> {
+        if path == self.at {
+            Err(Fault::Memory)
+        } else {
+            self.fs.read_dir(alloc, path)
+        }
+    }
+
+    fn metadata(&self, path: &str) -> Result<Metadata, Fault> {
+        self.fs.metadata(path)
+    }
+
+    fn symlink_metadata(&self, path: &str) -> Result<Metadata, Fault> {
+        self.fs.symlink_metadata(path)
+    }
+
+    fn read_link<A: Allocator + Copy>(&self, alloc: A, path: &str) -> Result<String<A>, Fault> {
+        self.fs.read_link(alloc, path)
+    }
+}
+
+pub(crate) type States = ((), ());
+
+/// The directory at a root.
+pub(crate) fn roots_of<S: FileSystem>(
+    job: &Job<States, S, NoProcess>,
+    root: &str,
+) -> Option<Vec<ReadDirSpec<States>>> {
+    let list = job.root_list(root, ()).ok()?;
+    list.read_children_specs().ok()
+}
+
+/// Adds the names in a reading.
+pub(crate) fn push_names(text: &mut String, read: &ReadDir<States>) -> Option<()> {
+    for found in read.results_list() {
+        if let Ok(entry) = found {
+            text.push_str(entry.file_name()).ok()?;
+        }
+    }
+    Some(())
+}

@@ -1,0 +1,126 @@
+//! Rehearsals of a small family.
+use crate::given::{counts, is_at, played};
+use crate::levels::Levels;
+use jwalk_board::board::{Move, Plan};
+use jwalk_order::index_path::IndexPath;
+use jwalk_order::ordered::Ordered;
+use std::alloc::Global;
+use test_fixtures::family::{Family, MOVES};
+
+// The outcome of a rehearsal.
+struct Outcome {
+    taken: &'static [&'static [usize]],
+    // What is handed out: its address, its value and the number of its children.
+    handed_out: &'static [(&'static [usize], u8, usize)],
+    // How many are left queued, in hand, ready and pending.
+    left: [usize; 4],
+}
+
+// None of these promises anything: what comes back is compared, and no test carries the contract of a rehearsal to its
+// end.
+
+fn are_taken(taken: &[IndexPath], wanted: &[&[usize]]) -> bool {
+    for (path, indices) in taken.iter().zip(wanted) {
+        if path.indices.as_slice() != *indices {
+            return false;
+        }
+    }
+    taken.len() == wanted.len()
+}
+
+fn are_handed_out(items: &[Ordered<u8>], wanted: &[(&[usize], u8, usize)]) -> bool {
+    for (item, (indices, value, child_count)) in items.iter().zip(wanted) {
+        if item.value != *value || !is_at(item, indices, *child_count) {
+            return false;
+        }
+    }
+    items.len() == wanted.len()
+}
+
+// Whether this many workers reach this outcome by these moves.
+fn comes_to<P: Plan<Global, Spec = u8, Reading = u8>>(
+    alloc: Global,
+    plan: &P,
+    roots: &[u8],
+    workers: usize,
+    moves: &[Move],
+    wanted: &Outcome,
+) -> bool
+    requires { P.IsLawful plan.now }
+{
+    match &played(alloc, plan, roots, workers, moves) {
+        Ok(made) => {
+            are_taken(made.taken.as_slice(), wanted.taken)
+                && are_handed_out(made.handed_out.as_slice(), wanted.handed_out)
+                && counts(&made.board) == wanted.left
+        }
+        Err(_) => false,
+    }
+}
+
+static WHOLE: Outcome = Outcome {
+    taken: &[&[0], &[0, 0], &[0, 1], &[0, 0, 0]],
+    handed_out: &[
+        (&[0], 0, 2),
+        (&[0, 0], 1, 1),
+        (&[0, 0, 0], 3, 0),
+        (&[0, 1], 2, 0),
+    ],
+    left: [0, 0, 0, 0],
+};
+
+#[test]
+fn a_rehearsal_plays_every_move(rt: HostRuntime) {
+    assert!(rt; comes_to(rt.alloc(), &Family, &[0], 2, MOVES, &WHOLE));
+}
+
+static PART: Outcome = Outcome {
+    taken: &[&[0], &[0, 0], &[0, 1]],
+    handed_out: &[(&[0], 0, 2)],
+    left: [0, 1, 1, 1],
+};
+
+#[test]
+fn a_rehearsal_leaves_the_board_as_the_moves_did(rt: HostRuntime) {
+    assert!(rt; comes_to(rt.alloc(), &Family, &[0], 2, &MOVES[..9], &PART));
+}
+
+static WITHOUT_WORKERS: Outcome = Outcome {
+    taken: &[],
+    handed_out: &[],
+    left: [1, 0, 0, 1],
+};
+
+static WITHOUT_ROOTS: Outcome = Outcome {
+    taken: &[],
+    handed_out: &[],
+    left: [0, 0, 0, 0],
+};
+
+#[test]
+fn without_workers_or_roots_nothing_moves(rt: HostRuntime) {
+    const BOTH: &[Move] = &[Move::Take(0), Move::HandOut];
+    assert!(rt; comes_to(rt.alloc(), &Family, &[0], 0, BOTH, &WITHOUT_WORKERS));
+    assert!(rt; comes_to(rt.alloc(), &Family, &[], 2, BOTH, &WITHOUT_ROOTS));
+}
+
+// Worker 1 takes and finishes the second child, while worker 0 holds the first.
+const TURNED: &[Move] = &[
+    Move::Take(0),
+    Move::Finish(0),
+    Move::Take(0),
+    Move::Take(1),
+    Move::Finish(1),
+    Move::HandOut,
+    Move::HandOut,
+];
+
+#[test]
+fn a_worker_may_finish_out_of_turn(rt: HostRuntime) {
+    assert!(rt; comes_to(rt.alloc(), &Family, &[0], 2, TURNED, &PART));
+}
+
+#[test]
+fn the_second_of_two_leaves_waits_for_the_first(rt: HostRuntime) {
+    assert!(rt; comes_to(rt.alloc(), &Levels::new(1, 2), &[0], 2, TURNED, &PART));
+}

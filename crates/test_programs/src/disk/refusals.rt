@@ -1,0 +1,78 @@
+//! Walks over directories on the disk that can't be read.
+use crate::disk::folder::{Step, make, path_in, remove};
+use crate::disk::lines::Answer;
+use crate::disk::real::{by_name, shows_from};
+use std::os::unix::fs::PermissionsExt;
+use std::rt::Files;
+use std::test::Fail;
+use std::{fs, io};
+use test_fixtures::answers::are_lines;
+
+/// The answers of a walk from a folder, one directory of which is removed once the folder is yielded.
+fn answers_around_removal(
+    rt: &HostRuntime,
+    folder: &str,
+    removed: &str,
+) -> io::Result<Vec<Answer>> {
+    let mut walk = by_name(rt, folder, false)?;
+    let mut found = Vec::new(rt.alloc());
+    walk.fill(1, &mut found)?;
+    remove(rt, removed)?;
+    walk.fill(usize::MAX, &mut found)?;
+    Ok(found)
+}
+
+/// Whether the error of the removed directory comes where it would have been read.
+fn shows_removal(rt: &HostRuntime, folder: &str) -> io::Result<bool> {
+    let removed = path_in(rt, folder, "/b")?;
+    let found = answers_around_removal(rt, folder, removed.as_str())?;
+    let wanted = format!(in rt.alloc();
+        "0 d {folder}; 1 d {folder}/a; 2 f {folder}/a/x; 1 d {folder}/b ! 1 {folder}/b NotFound; \
+         1 d {folder}/c; 2 f {folder}/c/x"
+    )?;
+    Ok(are_lines(rt.alloc(), found.as_slice(), wanted.as_str()))
+}
+
+#[test]
+fn a_directory_that_is_removed_under_way(rt: HostRuntime) -> Result<(), Fail> {
+    const STEPS: &[Step] = &[
+        Step::Dir("/a"),
+        Step::File(1, "/a/x"),
+        Step::Dir("/b"),
+        Step::File(1, "/b/x"),
+        Step::Dir("/c"),
+        Step::File(1, "/c/x"),
+    ];
+    let folder = make(&rt, "removed", STEPS)?;
+    let is_shown = shows_removal(&rt, folder.as_str());
+    remove(&rt, folder.as_str())?;
+    assert!(rt; is_shown?);
+    Ok(())
+}
+
+/// Whether the error of a directory without permissions comes where it would be read, if that is denied to this
+/// process: nothing is, to the superuser.
+fn shows_closed(rt: &HostRuntime, folder: &str) -> io::Result<bool> {
+    let closed = path_in(rt, folder, "/a")?;
+    fs::set_permissions(rt, closed.as_str(), fs::Permissions::from_mode(0))?;
+    let wanted = if rt.open_dir(closed.as_str()).is_err() {
+        "0 d /t\n1 d /t/a ! PermissionDenied\n1 f /t/b\n"
+    } else {
+        "0 d /t\n1 d /t/a\n2 f /t/a/x\n1 f /t/b\n"
+    };
+    let is_shown = shows_from(rt, folder, "", false, wanted);
+    fs::set_permissions(rt, closed.as_str(), fs::Permissions::from_mode(0o700))?;
+    Ok(is_shown)
+}
+
+/// A directory of one file, and a file beside it.
+const CLOSED: &[Step] = &[Step::Dir("/a"), Step::File(1, "/a/x"), Step::File(1, "/b")];
+
+#[test]
+fn a_directory_without_permissions(rt: HostRuntime) -> Result<(), Fail> {
+    let folder = make(&rt, "closed", CLOSED)?;
+    let is_shown = shows_closed(&rt, folder.as_str());
+    remove(&rt, folder.as_str())?;
+    assert!(rt; is_shown?);
+    Ok(())
+}

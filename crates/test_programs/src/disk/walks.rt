@@ -1,0 +1,157 @@
+//! Walks from folders, files and other things on the disk.
+use crate::disk::folder::{Step, make, path_in, remove};
+use crate::disk::lines::{builder, lines, rest};
+use crate::disk::real::{shows, shows_from};
+use crate::program::runs::comes_unread;
+use jwalk::file_system::{Fault, FileSystem, RealFs};
+use jwalk::read_dir::NoProcess;
+use jwalk::{Parallelism, WalkDir, WalkDirGeneric};
+use std::alloc::{AllocError, Global};
+use std::test::Fail;
+use std::thread::Threads;
+use std::{env, io};
+use test_fixtures::host::Host;
+
+/// Files and two groups of files, one of which has a hidden name.
+const GROUPED: &[Step] = &[
+    Step::File(1, "/c.txt"),
+    Step::File(2, "/a.txt"),
+    Step::Dir("/group 2"),
+    Step::File(3, "/group 2/.hidden_file.txt"),
+    Step::File(4, "/group 2/e.txt"),
+    Step::Dir("/group 1"),
+    Step::File(5, "/group 1/d.txt"),
+    Step::File(6, "/b.txt"),
+];
+
+/// What walks by name yield over them.
+const BY_NAME: &str = "0 d /t\n1 f /t/a.txt\n1 f /t/b.txt\n1 f /t/c.txt\n\
+                       1 d /t/group 1\n2 f /t/group 1/d.txt\n1 d /t/group 2\n2 f /t/group 2/e.txt\n";
+
+#[test]
+fn a_folder_of_groups_by_name(rt: HostRuntime) {
+    assert!(rt; shows(&rt, "groups", GROUPED, false, BY_NAME));
+}
+
+/// The words for reading one directory at a time, one or eight together, and by a crew.
+const READ_BY: &[&[&str]] = &[&[], &["--batch", "1"], &["--batch", "8"], &["--crew", "2"]];
+
+/// Whether a run by name over a folder of this disk prints these lines, with some words in front.
+fn prints<S: FileSystem + Send + Sync + 'static>(
+    rt: &impl Host,
+    disk: S,
+    front: &[&str],
+    folder: &str,
+    printed: &str,
+) -> bool {
+    comes_unread(rt, disk, front, &["--sort", folder], &(printed, "", 0))
+}
+
+#[test]
+fn the_same_lines_of_a_folder_one_at_a_time_in_batches_and_by_a_crew(
+    rt: HostRuntime,
+) -> Result<(), Fail> {
+    let folder = make(&rt, "run", GROUPED)?;
+    let printed = BY_NAME.replace(rt.alloc(), "/t", folder.as_str())?;
+    let mut are_printed = true;
+    for front in READ_BY {
+        let disk = RealFs::new(rt);
+        are_printed &= prints(&rt, disk, *front, folder.as_str(), printed.as_str());
+    }
+    remove(&rt, folder.as_str())?;
+    assert!(rt; are_printed);
+    Ok(())
+}
+
+/// What a walk yields by name whose directories are read several at a time, with `/t` for the folder.
+fn found_in_batches<R: Threads + AllocGlobal + Sync, S: FileSystem + Send + Sync>(
+    rt: &R,
+    walk: WalkDirGeneric<((), ()), S, NoProcess>,
+    folder: &str,
+) -> Result<String, AllocError> {
+    let mut walk = walk
+        .sort(true)
+        .parallelism(Parallelism::RayonNewPool(2))
+        .into_iter();
+    let mut found = Vec::new(rt.alloc());
+    walk.fill_on(rt, usize::MAX, &mut found)?;
+    lines(rt.alloc(), found.as_slice(), folder)
+}
+
+#[test]
+fn a_folder_of_groups_in_batches(rt: HostRuntime) -> Result<(), Fail> {
+    let folder = make(&rt, "batches", GROUPED)?;
+    let walk = WalkDir::at(&rt, folder.as_str())?;
+    let found = found_in_batches(&rt, walk, folder.as_str());
+    remove(&rt, folder.as_str())?;
+    assert_eq!(rt; found?.as_str(), BY_NAME);
+    Ok(())
+}
+
+/// Whether a file in a folder has this length, as what the path leads to and as what is there.
+fn has_length(rt: &HostRuntime, folder: &str, below: &str, len: u64) -> Result<bool, Fault> {
+    let fs = RealFs::new(*rt);
+    let path = path_in(rt, folder, below)?;
+    let found = fs.metadata(path.as_str())?;
+    let itself = fs.symlink_metadata(path.as_str())?;
+    Ok(found.is_file() && found.len() == len && itself.is_file() && itself.len() == len)
+}
+
+fn has_lengths(rt: &HostRuntime, folder: &str) -> bool {
+    const LENGTHS: &[(&str, u64)] = &[
+        ("/a.txt", 2),
+        ("/b.txt", 6),
+        ("/group 1/d.txt", 5),
+        ("/group 2/.hidden_file.txt", 3),
+    ];
+    for (below, len) in LENGTHS {
+        if !matches!(has_length(rt, folder, *below, *len), Ok(true)) {
+            return false;
+        }
+    }
+    true
+}
+
+#[test]
+fn lengths_of_files(rt: HostRuntime) -> Result<(), Fail> {
+    let folder = make(&rt, "lengths", GROUPED)?;
+    let are_so = has_lengths(&rt, folder.as_str());
+    remove(&rt, folder.as_str())?;
+    assert!(rt; are_so);
+    Ok(())
+}
+
+/// Directories in one another, where the process begins in the one around them.
+const NESTED: &[Step] = &[Step::Dir("/r"), Step::Dir("/r/s")];
+
+/// What a walk to the depth 1 yields from a path that begins at the current directory of the process.
+fn found_here(rt: &HostRuntime, root: &str) -> io::Result<String> {
+    let walk = builder(rt.alloc(), RealFs::new(*rt), root)?;
+    let found = rest(rt.alloc(), &mut walk.max_depth(1).into_iter())?;
+    Ok(lines(rt.alloc(), found.as_slice(), "/t")?)
+}
+
+/// What walks yield from the folder around, each from one directory further down.
+fn found_further_down(rt: &HostRuntime, folder: &str) -> io::Result<String> {
+    let mut all = String::new(rt.alloc());
+    for (below, root) in [("", "."), ("/r", ".."), ("/r/s", "../..")] {
+        env::set_current_dir(rt, path_in(rt, folder, below)?.as_str())?;
+        all.push_str(found_here(rt, root)?.as_str())?;
+    }
+    Ok(all)
+}
+
+#[test]
+fn roots_from_where_the_process_stands(rt: HostRuntime) -> Result<(), Fail> {
+    let folder = make(&rt, "relative", NESTED)?;
+    let found = found_further_down(&rt, folder.as_str());
+    remove(&rt, folder.as_str())?;
+    let wanted = "0 d .\n1 d ./r\n0 d ..\n1 d ../r\n0 d ../..\n1 d ../../r\n";
+    assert_eq!(rt; found?.as_str(), wanted);
+    Ok(())
+}
+
+#[test]
+fn a_device_is_something_else(rt: HostRuntime) {
+    assert!(rt; shows_from(&rt, "/dev", "/null", false, "0 o /t/null\n"));
+}

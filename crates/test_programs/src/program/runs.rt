@@ -1,0 +1,182 @@
+//! The outcome of a run.
+use jwalk::file_system::{FileSystem, MemoryFs};
+use std::alloc::{AllocError, Global};
+use std::io;
+use std::io::{Read, Write};
+use std::process::Abort;
+use std::sync::Arc;
+use test_fixtures::host::Host;
+use test_fixtures::texts::texts;
+use test_fixtures::watched::{Failing, Watched};
+use walk_run::run::run;
+use walk_text::failure::Failure;
+use walk_text::tree::build_tree;
+
+/// A tree of three directories, one file hidden.
+pub const TREE_A: &str =
+    "d /t\nf 1 /t/c.txt\nf 2 /t/a.txt\nd /t/group 2\nf 3 /t/group 2/.hidden_file.txt\nf 4 /t/group 2/e.txt\nd /t/group 1\nf 5 /t/group 1/d.txt\nf 6 /t/b.txt\n";
+
+/// What is written on standard output and on standard error, and the status.
+pub type Want<'a> = (&'a str, &'a str, u8);
+
+pub const BAD_WORDS: Want<'static> = ("", "walk: bad words\n", 2);
+
+/// The words of a call, the lines of a tree, and the outcome.
+pub type Row<'a> = (&'a [&'a str], &'a str, Want<'a>);
+
+/// Whether this is the outcome over this disk of some words and then others.
+pub fn comes<S: FileSystem + Send + Sync + 'static, R: Read>(
+    rt: &impl Host,
+    disk: S,
+    front: &[&str],
+    words: &[&str],
+    input: &mut R,
+    want: &Want<'_>,
+) -> bool {
+    let Ok(words) = texts(rt.alloc(), front, words) else {
+        return false;
+    };
+    let mut out = Vec::new(rt.alloc());
+    let mut err = Vec::new(rt.alloc());
+    let status = run(
+        rt,
+        rt.alloc(),
+        disk,
+        words.as_slice(),
+        input,
+        &mut out,
+        &mut err,
+    );
+    out.as_slice() == want.0.as_bytes() && err.as_slice() == want.1.as_bytes() && status == want.2
+}
+
+/// Whether a call over this disk that writes there ends with this status and reports nothing.
+pub fn ends<S: FileSystem + Send + Sync + 'static, W: Write>(
+    rt: &impl Host,
+    disk: S,
+    words: &[&str],
+    input: &str,
+    out: &mut W,
+    status: u8,
+) -> bool {
+    let Ok(words) = texts(rt.alloc(), &[], words) else {
+        return false;
+    };
+    let mut err = Vec::new(rt.alloc());
+    let found = run(
+        rt,
+        rt.alloc(),
+        disk,
+        words.as_slice(),
+        &mut input.as_bytes(),
+        out,
+        &mut err,
+    );
+    found == status && err.is_empty()
+}
+
+/// Counts how often it is read, and gives nothing.
+#[derive(Drop)]
+struct Unread {
+    reads: usize,
+}
+
+impl Read for Unread {
+    fn read(&mut self, _buf: &mut [u8]) -> io::Result<usize> {
+        self.reads = self.reads.wrapping_add(1);
+        Ok(0)
+    }
+}
+
+/// Whether this is the outcome over this disk of some words and then others, and the input isn't read.
+pub fn comes_unread<S: FileSystem + Send + Sync + 'static>(
+    rt: &impl Host,
+    disk: S,
+    front: &[&str],
+    words: &[&str],
+    want: &Want<'_>,
+) -> bool {
+    let mut input = Unread { reads: 0 };
+    comes(rt, disk, front, words, &mut input, want) && input.reads == 0
+}
+
+fn shared(alloc: Global, disk: Watched) -> Result<Arc<Watched>, AllocError> {
+    Ok(Arc::new(alloc, disk)?)
+}
+
+/// The tree of these lines, as a disk that counts its calls and fails so.
+pub fn watched_over(alloc: Global, lines: &str, failing: Failing) -> Result<Arc<Watched>, Failure> {
+    let tree = build_tree(alloc, lines.as_bytes())?;
+    Ok(shared(alloc, Watched::new(tree, failing))?)
+}
+
+/// The words in front of a call's own, and whether the tree of a row's lines is the disk. Else the lines are the input,
+/// and the disk is empty.
+type Way = (&'static [&'static str], bool);
+
+/// Nothing in front, and the lines on the input.
+const INPUT: &[Way] = &[(&[], false)];
+
+/// One directory at a time, batches of several widths, and crews: on the disk, and on the input's tree.
+const WAYS: &[Way] = &[
+    (&[], true),
+    (&["--tree"], false),
+    (&["--batch", "1"], true),
+    (&["--tree", "--batch", "1"], false),
+    (&["--batch", "2"], true),
+    (&["--tree", "--batch", "2"], false),
+    (&["--batch", "8"], true),
+    (&["--tree", "--batch", "8"], false),
+    (&["--batch", "0"], true),
+    (&["--tree", "--batch", "0"], false),
+    (&["--crew", "1"], true),
+    (&["--tree", "--crew", "1"], false),
+    (&["--crew", "2"], true),
+    (&["--tree", "--crew", "2"], false),
+    (&["--crew", "3"], true),
+    (&["--tree", "--crew", "3"], false),
+    (&["--crew", "0"], true),
+    (&["--tree", "--crew", "0"], false),
+];
+
+/// Whether a row has its outcome in one of the ways. If its tree is the disk, the input isn't read.
+fn comes_by(rt: &impl Host, (front, is_on_disk): &Way, (words, lines, want): &Row<'_>) -> bool {
+    let alloc = rt.alloc();
+    if !*is_on_disk {
+        return comes(
+            rt,
+            MemoryFs::new(alloc),
+            front,
+            words,
+            &mut lines.as_bytes(),
+            want,
+        );
+    }
+    match build_tree(alloc, lines.as_bytes()) {
+        Ok(disk) => comes_unread(rt, disk, front, words, want),
+        Err(_) => false,
+    }
+}
+
+/// The number of the first row whose outcome is another in one of these ways.
+fn first_wrong(rt: &impl Host, ways: &[Way], rows: &[Row<'_>]) -> Option<usize> {
+    for (number, row) in rows.iter().enumerate() {
+        for way in ways {
+            if !comes_by(rt, way, row) {
+                return Some(number);
+            }
+        }
+    }
+    None
+}
+
+/// Each row has the outcome of its words, where the lines are the input and the disk is empty.
+pub fn all_come(rt: &(impl Abort + Host), rows: &[Row<'_>]) {
+    assert_eq!(rt; first_wrong(rt, INPUT, rows), None);
+}
+
+/// Each row has its outcome over the tree of its lines, whatever its directories are read by. It is called with
+/// `--tree` in front of its words and the lines on the input, and without it over a disk that is the same tree.
+pub fn all_come_over_tree(rt: &(impl Abort + Host), rows: &[Row<'_>]) {
+    assert_eq!(rt; first_wrong(rt, WAYS, rows), None);
+}

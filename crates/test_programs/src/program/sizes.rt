@@ -1,0 +1,46 @@
+//! Sizes of files, known from the listings of their directories.
+use crate::program::runs::{TREE_A, Want, comes_unread, watched_over};
+use test_fixtures::host::Host;
+use test_fixtures::watched::{Calls, Failing};
+use walk_text::failure::Failure;
+
+/// One directory at a time, a batch, and a crew, in front of a call's own words.
+const FRONTS: &[&[&str]] = &[&[], &["--batch", "2"], &["--crew", "2"]];
+
+/// The line of the totals of tree A.
+const TOTALS: Want<'static> = ("files 5 dirs 3 links 0 others 0 errors 0 bytes 18\n", "", 0);
+
+/// How often a disk that is tree A is called for its totals, if these are right.
+fn calls_for_totals(rt: &impl Host, front: &[&str]) -> Result<Option<Calls>, Failure> {
+    let disk = watched_over(rt.alloc(), TREE_A, Failing::Never)?;
+    let is_right = comes_unread(rt, disk.clone()?, front, &["--usage", "/t"], &TOTALS);
+    Ok(is_right.then_some(disk.calls()))
+}
+
+// The root is looked at, and each of the three directories is listed.
+#[test]
+fn no_file_is_asked_for_its_length(rt: HostRuntime) {
+    let listed = Calls {
+        lists: 3,
+        looks: 1,
+        follows: 0,
+    };
+    for front in FRONTS {
+        assert!(rt; matches!(calls_for_totals(&rt, front), Ok(Some(calls)) if calls == listed));
+    }
+}
+
+/// Whether the totals of tree A are right, where the disk has no memory to be asked for that path.
+fn counts_unasked(rt: &impl Host, front: &[&str], path: &'static str) -> Result<bool, Failure> {
+    let disk = watched_over(rt.alloc(), TREE_A, Failing::MetadataForMemory(path))?;
+    Ok(comes_unread(rt, disk, front, &["--usage", "/t"], &TOTALS))
+}
+
+#[test]
+fn a_file_counts_by_what_its_listing_said(rt: HostRuntime) {
+    for front in FRONTS {
+        for path in ["/t/b.txt", "/t/group 1/d.txt"] {
+            assert!(rt; matches!(counts_unasked(&rt, front, path), Ok(true)));
+        }
+    }
+}

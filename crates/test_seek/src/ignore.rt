@@ -1,0 +1,14 @@
+//! What ignore files say of paths and leave of trees, beside git's answers.
+mod always;
+mod beside;
+mod by_crew;
+mod callback;
+mod left;
+mod links;
+mod planted;
+mod refused;
+mod rows;
+mod rules;
+mod tree_rows;
+mod trees;
+mod unread;

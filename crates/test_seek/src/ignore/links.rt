@@ -1,0 +1,87 @@
+//! Many links to the directory that they are in, with rules in force.
+use crate::ignore::always::{Shared, crew_of_two};
+use crate::ignore::planted::{Planted, Rules, repository};
+use jwalk::file_system::BuildError;
+use std::alloc::Global;
+use test_fixtures::answers::Answer;
+use test_fixtures::host::Host;
+use test_fixtures::ways::WAYS;
+
+/// How many links there are.
+const LINKS: usize = 300;
+
+/// A repository with links, of whose rules the one is for names that begin with `l1`, and the other for directories.
+fn linked(alloc: Global) -> Result<Planted, BuildError> {
+    let mut planted = repository(alloc, ".gitignore=l1*|l2*/|\nl2d/\nl2d/a\ns/\ns/l1\ns/a")?;
+    for number in 0..LINKS {
+        let path = format!(in alloc; "/r/l{number}")?;
+        planted.fs.add_link(path.as_str(), ".")?;
+    }
+    Ok(planted)
+}
+
+/// How many answers are what.
+#[derive(Clone, Copy, PartialEq, Eq)]
+struct Numbers {
+    /// All of them.
+    all: usize,
+    /// Links that are yielded as links.
+    links: usize,
+    /// Errors for a link that leads back to the root.
+    loops: usize,
+}
+
+/// Returns whether an answer is an error for a link that leads back to the root.
+fn is_loop(answer: &Answer<Rules>) -> bool {
+    matches!(answer, Err(error) if error.loop_ancestor() == Some("/r"))
+}
+
+/// Returns whether an answer is a link.
+fn is_link(answer: &Answer<Rules>) -> bool {
+    matches!(answer, Ok(entry) if entry.file_type.is_symlink())
+}
+
+/// Returns how many answers are what.
+fn numbers_of(found: &[Answer<Rules>]) -> Numbers {
+    Numbers {
+        all: found.len(),
+        links: found.iter().filter(|answer| is_link(*answer)).count(),
+        loops: found.iter().filter(|answer| is_loop(*answer)).count(),
+    }
+}
+
+/// Returns whether these are the numbers of a walk that follows links or not, in each way and over a crew of two.
+fn has<R: Host>(rt: &R, follows: bool, wanted: Numbers) -> Result<bool, BuildError> {
+    let alloc = rt.alloc();
+    let mut shared = Shared::new(alloc, linked(alloc)?)?;
+    shared.follows = follows;
+    let by_crew = shared.found_by_crew(alloc, crew_of_two(rt)?)?;
+    let mut is_so = numbers_of(&by_crew) == wanted;
+    for way in WAYS {
+        is_so &= numbers_of(&shared.found(rt, *way)?) == wanted;
+    }
+    Ok(is_so)
+}
+
+// Of the names `l0` to `l299`, 111 begin with `l1`. A link is no directory, so the other rule leaves it. Beside the links
+// there are the root, its `.gitignore`, `s` and `s/a`.
+#[test]
+fn links_to_their_directory_are_dropped_by_name(rt: HostRuntime) {
+    let wanted = Numbers {
+        all: 193,
+        links: 189,
+        loops: 0,
+    };
+    assert!(rt; matches!(has(&rt, false, wanted), Ok(true)));
+}
+
+// A loop is an error, which no rule drops.
+#[test]
+fn loops_are_yielded_whatever_the_rules(rt: HostRuntime) {
+    let wanted = Numbers {
+        all: 304,
+        links: 0,
+        loops: 300,
+    };
+    assert!(rt; matches!(has(&rt, true, wanted), Ok(true)));
+}

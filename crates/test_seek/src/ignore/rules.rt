@@ -1,0 +1,47 @@
+//! The rules of files, and the pattern of a line.
+use crate::ignore::rows::{ROWS, Row};
+use jwalk_ignore::decision::Decision;
+use jwalk_ignore::pattern::Pattern;
+use jwalk_ignore::rules::Rules;
+use std::alloc::Global;
+
+/// Returns what the rules of a file say of a path.
+fn decided(alloc: Global, file: &[u8], path: &[u8], is_dir: bool) -> Option<Decision> {
+    match Rules::parse(alloc, file) {
+        Ok(rules) => Some(rules.decision(path, is_dir)),
+        Err(_) => None,
+    }
+}
+
+/// Returns the place of the first row of which the rules say something else.
+fn first_wrong(alloc: Global, rows: &[Row]) -> Option<usize> {
+    for (place, (file, path, is_dir, wanted)) in rows.iter().enumerate() {
+        if decided(alloc, file, path, *is_dir) != Some(*wanted) {
+            return Some(place);
+        }
+    }
+    None
+}
+
+#[test]
+fn files_say_what_git_says(rt: HostRuntime) {
+    assert_eq!(rt; first_wrong(rt.alloc(), ROWS), None);
+}
+
+/// Returns what the pattern of a line says of a directory, if it has one that matches.
+fn said(alloc: Global, text: &[u8], path: &[u8]) -> Option<Decision> {
+    match Pattern::read(alloc, text) {
+        Ok(Some(pattern)) if pattern.matches(path, true) => Some(pattern.decision()),
+        _ => None,
+    }
+}
+
+#[test]
+fn one_line_has_a_pattern(rt: HostRuntime) {
+    let alloc = rt.alloc();
+    assert!(rt; said(alloc, b"doc/*/", b"doc/a") == Some(Decision::Ignored));
+    assert!(rt; said(alloc, b"!*.o", b"a/b.o") == Some(Decision::Kept));
+    assert!(rt; said(alloc, b"/a", b"b/a").is_none());
+    assert!(rt; matches!(Pattern::read(alloc, b"#a"), Ok(None)));
+    assert!(rt; matches!(Pattern::read(alloc, b"[a"), Ok(None)));
+}

@@ -1,0 +1,184 @@
+//! Rows of trees.
+use crate::ignore::tree_rows::TreeRow;
+
+/// Trees, with what is kept of each.
+const ROWS: &[TreeRow] = &[
+    (
+        ".gitignore=/.hk.o/|!.h[ab]|!/**|\nab/\nab/.gitignore=\\ak.o?|!/|k.o\\a|\nab/.h\nab/ab/\nab/ab/ab/\nab/ab/ab/.gitignore=k.o//|/**|\nab/ab/ab/a\nab/ab/ab/c.o\nab/ab/ab/k.o\nab/ab/sub",
+        ".gitignore\nab\nab/.gitignore\nab/.h\nab/ab\nab/ab/ab\nab/ab/sub",
+    ),
+    (".gitignore=ab|\nab/\nab/a\nsub", ".gitignore\nsub"),
+    (
+        ".git/info/exclude=**ab|\n.gitignore=c.?.h**/|\nk.o/\nk.o/.gitignore=*sub/|*.o//|\\a[ab]|\nk.o/ab",
+        ".gitignore\nk.o\nk.o/.gitignore",
+    ),
+    (
+        ".gitignore=**/\\ac.?/|\na/\na/.gitignore=/**|**//***.o|/c.?//|\na/c.o\na/k.o\nsub/\nsub/.h\nsub/b",
+        ".gitignore\na\nsub\nsub/.h\nsub/b",
+    ),
+    (
+        ".gitignore=/sub|*/|[!a]|\na/\na/.gitignore=\\a|b??|?|\na/b\na/sub\nab/\nab/.gitignore=b*.ob|/b|\nab/.h\nab/b\nab/c.o\nc.o",
+        ".gitignore\nc.o",
+    ),
+    (
+        ".git/info/exclude=sub|!/?|\n.gitignore=*/|!.h|\nk.o/\nk.o/.h\nk.o/a\nk.o/k.o/\nk.o/k.o/c.o\nk.o/k.o/k.o/\nk.o/k.o/k.o/.h\nsub",
+        ".gitignore",
+    ),
+    (
+        ".gitignore=.h|!c.?ab/|\nab/\nab/b\nab/k.o/\nab/k.o/k.o/\nab/k.o/k.o/a\nab/k.o/sub\nab/sub\nb/\nb/.gitignore=!a\\a[ab]/|ab|ab|\nb/.h",
+        ".gitignore\nab\nab/b\nab/k.o\nab/k.o/k.o\nab/k.o/k.o/a\nab/k.o/sub\nab/sub\nb\nb/.gitignore",
+    ),
+    (
+        ".git/info/exclude=*.osub|\n.gitignore=bk.o?/|/**c.?/|\nc.o/\nc.o/.gitignore=ab?[ab]|\nc.o/a/\nc.o/a/.gitignore=ab|bk.o|\nc.o/a/sub\nc.o/c.o\nk.o",
+        ".gitignore\nk.o",
+    ),
+    (
+        ".git/info/exclude=**/|*.osub|\n.gitignore=sub|c.?a|!ak.o[ab]/|\nab/\nab/.h\nab/b\nb\nk.o",
+        ".gitignore\nb\nk.o",
+    ),
+    (
+        ".gitignore=[ab]|b\\a|\nb/\nb/c.o/\nb/c.o/ab\nb/c.o/b/\nb/c.o/b/ab\nb/c.o/c.o/\nb/c.o/c.o/b\nb/c.o/c.o/c.o\nb/c.o/c.o/k.o\nb/k.o/\nb/k.o/k.o",
+        ".gitignore",
+    ),
+    (
+        ".gitignore=!aa|*|*k.o|\nab/\nab/.gitignore=!b*.o\\a|\nab/c.o\nab/sub\nc.o/\nc.o/.gitignore=[!a]?|\nc.o/a\nsub",
+        "",
+    ),
+    (
+        ".git/info/exclude=k.oa|ab|a.h|\n.gitignore=**/|\\a|\nab/\nab/ab\nab/c.o\nab/sub",
+        ".gitignore",
+    ),
+    (
+        ".gitignore=\\a|/|k.o/|\nb/\nb/ab\nb/c.o/\nb/c.o/c.o\nb/c.o/k.o/\nb/c.o/k.o/ab\nb/c.o/k.o/c.o\nb/c.o/k.o/k.o\nb/c.o/sub\nk.o",
+        ".gitignore\nb\nb/ab\nb/c.o\nb/c.o/c.o\nb/c.o/sub\nk.o",
+    ),
+    (
+        ".gitignore=!.h|a/|\nab\nsub/\nsub/a/\nsub/a/ab/\nsub/a/ab/.gitignore=a[!a]|!**//|[!a]|\nsub/a/ab/a\nsub/a/ab/b\nsub/a/ab/k.o\nsub/a/k.o",
+        ".gitignore\nab\nsub",
+    ),
+    (
+        ".git/info/exclude=*.o|\n.gitignore=b.h|*|bc.?k.o|\nb/\nb/.h\nk.o",
+        "",
+    ),
+    (".gitignore=/**/\\a|sub|\na", ".gitignore"),
+    (
+        ".git/info/exclude=subsubb|!?k.o/|ab|\n.gitignore=b/a|\n.h\nb/\nb/ab\nb/sub/\nb/sub/.h\nb/sub/c.o/\nb/sub/c.o/.gitignore=!k.o**/|/**b|ab*.oa|\nb/sub/c.o/k.o\nb/sub/c.o/sub",
+        ".gitignore\n.h\nb\nb/sub\nb/sub/.h\nb/sub/c.o\nb/sub/c.o/.gitignore\nb/sub/c.o/k.o",
+    ),
+    (
+        ".gitignore=\\a|!aa[ab]|\na\nc.o/\nc.o/.h\nc.o/ab/\nc.o/ab/.gitignore=!b//|\nc.o/ab/.h\nk.o",
+        ".gitignore\nc.o\nc.o/.h\nc.o/ab\nc.o/ab/.gitignore\nc.o/ab/.h\nk.o",
+    ),
+    (
+        ".git/info/exclude=ab|?/|*[!a]|\n.gitignore=[!a]*/|*.o|\nb/\nb/a/\nb/a/a\nb/ab",
+        "",
+    ),
+    (
+        ".gitignore=*.oaa|[!a]|\nab/\nab/.h\nab/a/\nab/a/.gitignore=!*.hsub/|[ab]b|\nab/a/b\nab/a/c.o\nab/a/k.o\nb/\nb/.gitignore=b.hsub|\nb/c.o\nk.o",
+        ".gitignore\nab\nab/.h\nab/a\nab/a/.gitignore\nab/a/c.o\nab/a/k.o\nk.o",
+    ),
+    (
+        ".gitignore=[!a]|*.o/|*\\a|\nsub/\nsub/c.o/\nsub/c.o/k.o/\nsub/c.o/k.o/.gitignore=\\a|[!a]|!\\a*|\nsub/c.o/k.o/.h",
+        ".gitignore\nsub",
+    ),
+    (
+        ".gitignore=/|\n.h\nsub/\nsub/.h\nsub/b\nsub/k.o/\nsub/k.o/.gitignore=*|\nsub/k.o/k.o",
+        ".gitignore\n.h\nsub\nsub/.h\nsub/b\nsub/k.o",
+    ),
+    (
+        ".git/info/exclude=subb[!a]|\n.gitignore=/[!a]*|b**/|[!a]|\na\nab\nb/\nb/.h\nb/ab\nb/c.o",
+        "a\nab",
+    ),
+    (
+        ".gitignore=/***.o?|\nk.o/\nk.o/.gitignore=[!a]|*/|*.o|\nk.o/k.o\nsub",
+        ".gitignore\nk.o\nk.o/.gitignore\nsub",
+    ),
+    (
+        ".gitignore=/**/|!.h|/c.?/|\na/\na/.h\na/c.o/\na/c.o/.h\na/c.o/a\na/sub\nab/\nab/.h",
+        ".gitignore",
+    ),
+    (
+        ".git/info/exclude=ac.?|k.oc.?a|?|\n.gitignore=*[ab]c.?|sub[ab]ab/|!c.?*|\nb",
+        ".gitignore",
+    ),
+    (
+        ".gitignore=b[!a]|\n.h\nc.o/\nc.o/.h\nc.o/ab\nsub/\nsub/.gitignore=?[!a]|**/a|?|\nsub/.h\nsub/ab\nsub/b",
+        ".gitignore\n.h\nc.o\nc.o/.h\nc.o/ab\nsub\nsub/.gitignore",
+    ),
+    (".gitignore=*|k.o\\a/|!?.h|\nab", ""),
+    (
+        ".gitignore=/|*.o|\na/\na/.h\na/c.o/\na/c.o/.gitignore=b|\na/c.o/k.o\na/c.o/sub/\na/c.o/sub/.gitignore=![ab]|***//|?[ab]//|\na/c.o/sub/b\na/c.o/sub/c.o\na/k.o\nb",
+        ".gitignore\na\na/.h\nb",
+    ),
+    (
+        ".git/info/exclude=ababb|/****/|\n.gitignore=[ab]\\a|\nsub/\nsub/.gitignore=!.hk.o|!a/|\nsub/sub",
+        ".gitignore",
+    ),
+    (
+        ".gitignore=!k.o|\na\nk.o/\nk.o/.gitignore=[ab]*|*.o|*|\nk.o/ab",
+        ".gitignore\na\nk.o",
+    ),
+    (".gitignore=/|!/k.o*|/**|\n.h\nab\nsub", ""),
+    (
+        ".git/info/exclude=!k.ob?/|ab/sub|a|\n.gitignore=!b.h/|[ab]?a|\nb\nsub/\nsub/.gitignore=a/**|[ab]/**//|[!a]*?|\nsub/ab/\nsub/ab/.h\nsub/ab/ab/\nsub/ab/ab/.gitignore=**//|*/|**/k.o|\nsub/ab/ab/c.o",
+        ".gitignore\nb\nsub\nsub/ab\nsub/ab/ab",
+    ),
+    (
+        ".gitignore=*.o[!a].h|\na/\na/.h\na/a/\na/a/.gitignore=/**?[!a]|?.h\\a|k.o|\na/a/ab/\na/a/ab/b\na/a/ab/sub\nc.o/\nc.o/.gitignore=.hb|ab[!a]/**|\nc.o/.h\nk.o",
+        ".gitignore\na\na/.h\na/a\nc.o\nc.o/.gitignore\nc.o/.h\nk.o",
+    ),
+    (
+        ".git/info/exclude=!ab|\\a|!*.o|\n.gitignore=**/c.?|/**/|a.h\\a/|\nb/\nb/.gitignore=**/*a|\\a[ab]?|[ab]?[!a]|\nb/b",
+        ".gitignore",
+    ),
+    (
+        ".git/info/exclude=*.oab//|[!a][!a]|/**[!a]|\n.gitignore=*|![!a]/|\n.h\nb",
+        "",
+    ),
+    (".gitignore=*.o|*.o/|\n.h\nc.o/\nc.o/sub", ".gitignore\n.h"),
+    (
+        ".gitignore=[ab]*|**/|\na/\na/a\na/ab\na/b\nsub",
+        ".gitignore\nsub",
+    ),
+    (".gitignore=*|ab*|\nab\nk.o/\nk.o/.h\nk.o/k.o\nk.o/sub", ""),
+    (".gitignore=**/k.o|\nc.o\nk.o\nsub", ".gitignore\nc.o\nsub"),
+    (
+        ".git/info/exclude=//|!b|/**sub|\n.gitignore=/**a*|!**/|\na\nc.o\nk.o",
+        ".gitignore\nc.o\nk.o",
+    ),
+    (
+        ".git/info/exclude=*.o\\a**/|k.o/sub|\n.gitignore=*|c.?k.o[!a]|ab\\a?|\na/\na/k.o/\na/k.o/.gitignore=!ab[ab]|\na/k.o/b\na/k.o/sub\nc.o",
+        "",
+    ),
+    (".gitignore=**/|\nab/\nab/c.o\nab/sub", ".gitignore"),
+    (
+        ".gitignore=suba/|a[ab]b/|\nc.o/\nc.o/a/\nc.o/a/.gitignore=sub|!bc.?*.o/|\nc.o/a/.h\nc.o/a/k.o/\nc.o/a/k.o/.h\nc.o/a/k.o/ab\nc.o/a/k.o/sub\nc.o/sub\nk.o",
+        ".gitignore\nc.o\nc.o/a\nc.o/a/.gitignore\nc.o/a/.h\nc.o/a/k.o\nc.o/a/k.o/.h\nc.o/a/k.o/ab\nc.o/sub\nk.o",
+    ),
+    (
+        ".h\nc.o/\nc.o/.gitignore=\\a[!a]|**/*.o/|!/**.h**/|\nc.o/.h\nc.o/c.o/\nc.o/c.o/.h\nc.o/c.o/c.o\nc.o/sub",
+        ".h\nc.o\nc.o/.gitignore\nc.o/.h\nc.o/sub",
+    ),
+    (
+        ".gitignore=[ab][!a]|?abk.o/|\nab\nb/\nb/ab\nb/b/\nb/b/.h",
+        ".gitignore\nb\nb/b\nb/b/.h",
+    ),
+    (
+        ".gitignore=?\\a[ab]|!\\a\\a|\\a*|\nb/\nb/.gitignore=*.o*//|!**//|/**[!a]|\nb/c.o",
+        ".gitignore\nb",
+    ),
+    (".h\nb/\nb/.gitignore=**/|*|\nb/sub", ".h\nb"),
+    (
+        ".gitignore=/|[ab]|\nc.o\nk.o/\nk.o/.h\nk.o/c.o/\nk.o/c.o/.gitignore=!c.?|\nk.o/c.o/b/\nk.o/c.o/b/sub\nk.o/c.o/sub",
+        ".gitignore\nc.o\nk.o\nk.o/.h\nk.o/c.o\nk.o/c.o/.gitignore\nk.o/c.o/sub",
+    ),
+    (
+        ".git/info/exclude=!?[!a]|!*?/|!.hb|\n.gitignore=/**|sub|\na/\na/k.o/\na/k.o/b\na/sub\nc.o",
+        "",
+    ),
+];
+
+/// Returns them. What calls this has none of the table in its own proof.
+pub(crate) fn rows() -> &'static [TreeRow] {
+    ROWS
+}

@@ -1,0 +1,30 @@
+//! Trees of one repository, beside what git keeps of them.
+use crate::ignore::left::left;
+use crate::ignore::planted::repository;
+use crate::ignore::tree_rows::{TreeRow, first, fourth, second, third};
+use std::alloc::Global;
+
+/// Returns whether a walk leaves what git keeps of a tree.
+fn is_as_git(alloc: Global, row: &TreeRow) -> bool {
+    let (tree, kept) = row;
+    let Ok(planted) = repository(alloc, tree) else {
+        return false;
+    };
+    match left(alloc, &planted) {
+        Ok(left) => left.as_str().trim_end_matches('\n') == *kept,
+        Err(_) => false,
+    }
+}
+
+/// Returns the place of the first tree of which a walk leaves something else.
+fn first_wrong(alloc: Global, rows: &[TreeRow]) -> Option<usize> {
+    rows.iter().position(|row| !is_as_git(alloc, row))
+}
+
+#[test]
+fn walks_leave_what_git_keeps(rt: HostRuntime) {
+    assert_eq!(rt; first_wrong(rt.alloc(), first::rows()), None);
+    assert_eq!(rt; first_wrong(rt.alloc(), second::rows()), None);
+    assert_eq!(rt; first_wrong(rt.alloc(), third::rows()), None);
+    assert_eq!(rt; first_wrong(rt.alloc(), fourth::rows()), None);
+}

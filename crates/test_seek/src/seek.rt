@@ -1,0 +1,10 @@
+//! Runs of the program `seek`.
+mod disk;
+mod errors;
+mod folder;
+mod names;
+mod options;
+mod outputs;
+mod rules;
+mod runs;
+mod words;

@@ -1,0 +1,100 @@
+//! Errors on the way.
+use crate::seek::runs::{Row, all_come, called, tree_of};
+use jwalk_ignore::memory_texts::MemoryTexts;
+use std::alloc::{AllocError, Global};
+
+#[test]
+fn a_root_that_is_missing(rt: HostRuntime) {
+    const ROWS: &[Row] = &[
+        (
+            &[".", "/no"],
+            "d /r\n",
+            &[],
+            ("", "seek: /no: entity not found\n", 1),
+        ),
+        (
+            &[".", "/no", "/r"],
+            "d /r\nf 1 /r/a\n",
+            &[],
+            ("/r/a\n", "seek: /no: entity not found\n", 1),
+        ),
+    ];
+    all_come(&rt, ROWS);
+}
+
+#[test]
+fn a_directory_that_may_not_be_read(rt: HostRuntime) {
+    const DENIED: &str = "d /r\nd /r/x\nf 1 /r/x/a\nf 1 /r/y\nx /r/x\n";
+    const TOLD: &str = "seek: /r/x: permission denied\n";
+    const ROWS: &[Row] = &[
+        (&[".", "/r"], DENIED, &[], ("/r/x\n/r/y\n", TOLD, 1)),
+        (&["y", "/r"], DENIED, &[], ("/r/y\n", TOLD, 1)),
+        (
+            &["-t", "f", "--min-depth", "2", ".", "/r"],
+            DENIED,
+            &[],
+            ("", TOLD, 1),
+        ),
+        (&["-d1", ".", "/r"], DENIED, &[], ("/r/x\n/r/y\n", "", 0)),
+        (&["-E", "x", ".", "/r"], DENIED, &[], ("/r/y\n", "", 0)),
+        (&[".", "/r/x"], DENIED, &[], ("", TOLD, 1)),
+    ];
+    all_come(&rt, ROWS);
+}
+
+#[test]
+fn a_link_that_leads_back(rt: HostRuntime) {
+    const BACK: &str = "d /r\nf 1 /r/a\nl ..\t/r/up\nl .\t/r/here\n";
+    const ROWS: &[Row] = &[
+        (&[".", "/r"], BACK, &[], ("/r/a\n/r/up\n/r/here\n", "", 0)),
+        (
+            &["-L", "a", "/r", "-d1"],
+            BACK,
+            &[],
+            ("/r/a\n", "seek: /r/here: a link that leads back to /r\n", 1),
+        ),
+    ];
+    all_come(&rt, ROWS);
+}
+
+/// The lines of a directory with that many links, each of which leads to the next, and the last to the first.
+fn ring(alloc: Global, count: u64) -> Result<String, AllocError> {
+    let mut lines = String::from_str(alloc, "d /r\n")?;
+    for number in 0..count {
+        let next = if number < count - 1 { number + 1 } else { 0 };
+        lines.push_str(format!(in alloc; "l {next}\t/r/{number}\n")?.as_str())?;
+    }
+    Ok(lines)
+}
+
+/// How many lines a text has.
+fn line_count(text: &[u8]) -> usize {
+    text.iter().filter(|byte| **byte == b'\n').count()
+}
+
+#[test]
+fn three_hundred_links_in_a_ring(rt: HostRuntime) -> Result<(), AllocError> {
+    let lines = ring(rt.alloc(), 300)?;
+    for (words, printed, told) in [(["-tl", ".", "/r"], 300, 0), (["-L", ".", "/r"], 0, 300)] {
+        let mut out = Vec::new(rt.alloc());
+        let mut err = Vec::new(rt.alloc());
+        if let Some(disk) = tree_of(rt.alloc(), lines.as_str()) {
+            let texts = MemoryTexts::new(rt.alloc());
+            let status = called(
+                &rt,
+                disk,
+                texts,
+                "-j2",
+                words.as_slice(),
+                &mut out,
+                &mut err,
+            );
+            assert_eq!(rt; status, u8::from(told > 0));
+        }
+        assert_eq!(rt;
+            (line_count(out.as_slice()), line_count(err.as_slice())),
+            (printed, told)
+        );
+    }
+    Ok(())
+}

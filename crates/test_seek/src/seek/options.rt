@@ -1,0 +1,230 @@
+//! Each option.
+use crate::seek::runs::{prints, prints_by};
+
+/// All that is below `/t` and isn't hidden.
+const SHOWN: &str =
+    "/t/a.txt\n/t/B.TXT\n/t/sub\n/t/sub/c.rs\n/t/sub/notes.tar.gz\n/t/sub/deep\n/t/sub/deep/a.rs\n/t/link\n/t/down\n";
+
+#[test]
+fn a_dot_and_an_empty_pattern_list_all(rt: HostRuntime) {
+    prints(&rt, &[".", "/t"], SHOWN);
+    prints(&rt, &["", "/t"], SHOWN);
+}
+
+#[test]
+fn a_pattern_is_found_anywhere_in_a_name(rt: HostRuntime) {
+    prints(&rt, &["ee", "/t"], "/t/sub/deep\n");
+    prints(&rt, &["^a", "/t"], "/t/a.txt\n/t/sub/deep/a.rs\n");
+    prints(&rt, &["rs$", "/t"], "/t/sub/c.rs\n/t/sub/deep/a.rs\n");
+    prints(&rt, &["t/a", "-p", "/t"], "/t/a.txt\n");
+}
+
+#[test]
+fn case_counts_if_the_pattern_has_an_upper_case_letter(rt: HostRuntime) {
+    prints(&rt, &["txt", "/t"], "/t/a.txt\n/t/B.TXT\n");
+    prints(&rt, &["TXT", "/t"], "/t/B.TXT\n");
+    prints(&rt, &[r"^\w\.\W*t\Sx", "/t"], "");
+    prints(
+        &rt,
+        &[r"^\Sb*.t", "/t"],
+        "/t/a.txt\n/t/B.TXT\n/t/sub/notes.tar.gz\n",
+    );
+}
+
+#[test]
+fn ignore_case(rt: HostRuntime) {
+    prints(&rt, &["-i", "TXT", "/t"], "/t/a.txt\n/t/B.TXT\n");
+    prints(&rt, &["--ignore-case", "TXT", "/t"], "/t/a.txt\n/t/B.TXT\n");
+}
+
+#[test]
+fn case_sensitive(rt: HostRuntime) {
+    prints(&rt, &["-s", "txt", "/t"], "/t/a.txt\n");
+    prints(&rt, &["--case-sensitive", "txt", "/t"], "/t/a.txt\n");
+}
+
+#[test]
+fn hidden(rt: HostRuntime) {
+    prints(&rt, &["hid", "/t"], "");
+    prints(&rt, &["-H", "hid", "/t"], "/t/.hidden\n");
+    prints(&rt, &["--hidden", "hid", "/t"], "/t/.hidden\n");
+}
+
+#[test]
+fn follow(rt: HostRuntime) {
+    const FOLLOWED: &str = "/t/sub/c.rs\n/t/down/c.rs\n";
+    prints(&rt, &["-L", "^c", "/t"], FOLLOWED);
+    prints(&rt, &["--follow", "^c", "/t"], FOLLOWED);
+}
+
+#[test]
+fn max_depth(rt: HostRuntime) {
+    const TOP: &str = "/t/a.txt\n/t/B.TXT\n/t/sub\n/t/link\n/t/down\n";
+    prints(&rt, &["-d", "1", ".", "/t"], TOP);
+    prints(&rt, &["-d1", ".", "/t"], TOP);
+    prints(&rt, &["--max-depth=1", ".", "/t"], TOP);
+    prints(&rt, &["--max-depth", "0", ".", "/t"], "");
+}
+
+#[test]
+fn min_depth(rt: HostRuntime) {
+    prints(&rt, &["--min-depth", "3", ".", "/t"], "/t/sub/deep/a.rs\n");
+    prints(&rt, &["--min-depth", "0", ".", "/t"], SHOWN);
+}
+
+#[test]
+fn exact_depth(rt: HostRuntime) {
+    const SECOND: &str = "/t/sub/c.rs\n/t/sub/notes.tar.gz\n/t/sub/deep\n";
+    prints(&rt, &["--exact-depth", "2", ".", "/t"], SECOND);
+    prints(&rt, &["--exact-depth", "0", ".", "/t"], "");
+}
+
+#[test]
+fn types(rt: HostRuntime) {
+    prints(&rt, &["-t", "d", ".", "/t"], "/t/sub\n/t/sub/deep\n");
+    prints(&rt, &["-tl", ".", "/t"], "/t/link\n/t/down\n");
+    prints(
+        &rt,
+        &["--type=f", "^a", "/t"],
+        "/t/a.txt\n/t/sub/deep/a.rs\n",
+    );
+    prints(&rt, &["-t", "o", ".", "/t"], "");
+    prints(
+        &rt,
+        &["-t", "l", "-t", "d", "-d1", ".", "/t"],
+        "/t/sub\n/t/link\n/t/down\n",
+    );
+    prints(&rt, &["-L", "-tl", ".", "/t"], "");
+}
+
+#[test]
+fn extensions(rt: HostRuntime) {
+    prints(&rt, &["-e", "txt", ".", "/t"], "/t/a.txt\n/t/B.TXT\n");
+    prints(
+        &rt,
+        &["-e", "rs", "-e", "gz", ".", "/t"],
+        "/t/sub/c.rs\n/t/sub/notes.tar.gz\n/t/sub/deep/a.rs\n",
+    );
+    prints(
+        &rt,
+        &["--extension=tar.gz", ".", "/t"],
+        "/t/sub/notes.tar.gz\n",
+    );
+    prints(&rt, &["-e", "hidden", "-H", ".", "/t"], "");
+}
+
+#[test]
+fn glob(rt: HostRuntime) {
+    prints(&rt, &["-g", "*.txt", "/t"], "/t/a.txt\n/t/B.TXT\n");
+    prints(&rt, &["-g", "*.TXT", "/t"], "/t/B.TXT\n");
+    prints(
+        &rt,
+        &["--glob", "?.rs", "/t"],
+        "/t/sub/c.rs\n/t/sub/deep/a.rs\n",
+    );
+    prints(
+        &rt,
+        &["-g", "[ac].rs", "/t"],
+        "/t/sub/c.rs\n/t/sub/deep/a.rs\n",
+    );
+    prints(&rt, &["-g", "sub", "/t"], "/t/sub\n");
+    prints(&rt, &["-g", ".", "/t"], "");
+}
+
+#[test]
+fn full_path(rt: HostRuntime) {
+    prints(
+        &rt,
+        &["-p", "sub/.*rs$", "/t"],
+        "/t/sub/c.rs\n/t/sub/deep/a.rs\n",
+    );
+    prints(&rt, &["--full-path", "^/t/a", "/t"], "/t/a.txt\n");
+    prints(&rt, &["--full-path", "^/t/a", "t"], "t/a.txt\n");
+    prints(
+        &rt,
+        &["-p", "-g", "/t/**/*.rs", "/t"],
+        "/t/sub/c.rs\n/t/sub/deep/a.rs\n",
+    );
+}
+
+#[test]
+fn exclude(rt: HostRuntime) {
+    prints(
+        &rt,
+        &["-E", "sub", ".", "/t"],
+        "/t/a.txt\n/t/B.TXT\n/t/link\n/t/down\n",
+    );
+    prints(
+        &rt,
+        &["-E", "*.rs", "-E", "!a.rs", "rs$", "/t"],
+        "/t/sub/deep/a.rs\n",
+    );
+    prints(&rt, &["--exclude=/deep", "deep", "/t"], "/t/sub/deep\n");
+    prints(&rt, &["--exclude=/sub/deep", "deep", "/t"], "");
+    prints(&rt, &["-I", "-E", "link/", "link", "/t"], "/t/link\n");
+}
+
+#[test]
+fn print0(rt: HostRuntime) {
+    prints(&rt, &["-0", "^a", "/t"], "/t/a.txt\0/t/sub/deep/a.rs\0");
+    prints(
+        &rt,
+        &["--print0", "^a", "/t"],
+        "/t/a.txt\0/t/sub/deep/a.rs\0",
+    );
+}
+
+#[test]
+fn sort(rt: HostRuntime) {
+    const SORTED: &str = "/t/B.TXT\n/t/a.txt\n/t/down\n/t/link\n/t/sub\n";
+    prints(&rt, &["--sort", "-d1", ".", "/t"], SORTED);
+}
+
+#[test]
+fn short_options_in_one_word(rt: HostRuntime) {
+    prints(&rt, &["-HIsd1", "hid", "/t"], "/t/.hidden\n");
+}
+
+#[test]
+fn the_same_option_twice(rt: HostRuntime) {
+    prints(&rt, &["-HH", "--hidden", "hid", "/t"], "/t/.hidden\n");
+}
+
+#[test]
+fn options_behind_the_roots(rt: HostRuntime) {
+    prints(&rt, &["hid", "/t", "-H"], "/t/.hidden\n");
+    prints(&rt, &["-H", "--", "hid", "/t"], "/t/.hidden\n");
+}
+
+#[test]
+fn several_roots_in_their_order(rt: HostRuntime) {
+    const EACH: &str = "/t/sub/deep/a.rs\n/t/a.txt\n/t/sub/deep/a.rs\n";
+    prints(&rt, &["^a", "/t/sub", "/t"], EACH);
+}
+
+#[test]
+fn no_root_is_the_folder_without_a_dot_in_front(rt: HostRuntime) {
+    prints(&rt, &["^a"], "t/a.txt\nt/sub/deep/a.rs\n");
+    prints(&rt, &["-d1"], "t\n");
+    prints(&rt, &["^a", "."], "./t/a.txt\n./t/sub/deep/a.rs\n");
+    prints(&rt, &["-p", "^/t/a"], "t/a.txt\n");
+}
+
+#[test]
+fn a_root_is_not_printed(rt: HostRuntime) {
+    prints(&rt, &["sub", "/t/sub"], "");
+    prints(&rt, &["txt", "/t/a.txt"], "");
+}
+
+#[test]
+fn threads(rt: HostRuntime) {
+    prints_by(&rt, "-j1", &["txt", "/t"], "/t/a.txt\n/t/B.TXT\n", 0);
+    prints_by(
+        &rt,
+        "--threads=9",
+        &["txt", "/t"],
+        "/t/a.txt\n/t/B.TXT\n",
+        0,
+    );
+    prints_by(&rt, "-j0", &["txt", "/t"], "", 2);
+}

@@ -1,0 +1,97 @@
+//! Words that ask for no search.
+use crate::seek::runs::{TREE, called, tree_of};
+use jwalk_ignore::memory_texts::MemoryTexts;
+use std::sync::Wait;
+use std::thread::Threads;
+use std::time::Clock;
+
+/// Whether bytes have a text in them.
+fn contains(bytes: &[u8], text: &str) -> bool {
+    bytes
+        .windows(text.len().max(1))
+        .any(|part| part == text.as_bytes())
+}
+
+/// Returns whether a call prints nothing, ends with this status, and has a word in its text on standard error.
+fn tells(
+    rt: &(impl Wait + Threads + Clock + Clone + Drop + Send + Sync + AllocGlobal + 'static),
+    words: &[&str],
+    told: &str,
+    status: u8,
+) -> bool {
+    let mut out = Vec::new(rt.alloc());
+    let mut err = Vec::new(rt.alloc());
+    let Some(disk) = tree_of(rt.alloc(), TREE) else {
+        return false;
+    };
+    let texts = MemoryTexts::new(rt.alloc());
+    let found = called(rt, disk, texts, "-j1", words, &mut out, &mut err);
+    out.is_empty() && found == status && contains(err.as_slice(), told)
+}
+
+#[test]
+fn bad_words_are_named(rt: HostRuntime) {
+    const ROWS: &[(&[&str], &str)] = &[
+        (&["--hiden"], "'--hiden'"),
+        (&["-x"], "'-x'"),
+        (&["-t", "q", ".", "/t"], "'q'"),
+        (&["-d", "one", ".", "/t"], "'one'"),
+        (&["-d", "-1", ".", "/t"], "-1"),
+        (&["--max-depth"], "--max-depth"),
+        (
+            &["--min-depth", "18446744073709551616", "."],
+            "18446744073709551616",
+        ),
+        (&["--threads=4"], "--threads"),
+        (&["-d1", "-d2"], "--max-depth"),
+        (&["-i", "-s"], "--case-sensitive"),
+        (&["--exact-depth=1", "--max-depth=2"], "--max-depth"),
+        (&["--sort=name"], "name"),
+        (&["a(", "/t"], "'a('"),
+        (&["-g", "[a", "/t"], "'[a'"),
+        (&["-g", "a\\", "/t"], "'a\\'"),
+    ];
+    for (words, told) in ROWS {
+        assert!(rt; tells(&rt, words, told, 2), "{told}");
+    }
+}
+
+#[test]
+fn a_pattern_with_a_slash(rt: HostRuntime) {
+    assert!(rt; tells(&rt, &["/usr"], "`seek . /usr`", 2));
+    assert!(rt; tells(&rt, &["-g", "a/*", "/t"], "'a/*'", 2));
+}
+
+/// Returns whether a call ends with status 0, prints a text with this in it, and nothing on standard error.
+fn shows(
+    rt: &(impl Wait + Threads + Clock + Clone + Drop + Send + Sync + AllocGlobal + 'static),
+    words: &[&str],
+    shown: &str,
+) -> bool {
+    let mut out = Vec::new(rt.alloc());
+    let mut err = Vec::new(rt.alloc());
+    let Some(disk) = tree_of(rt.alloc(), TREE) else {
+        return false;
+    };
+    let texts = MemoryTexts::new(rt.alloc());
+    let status = called(rt, disk, texts, "-j1", words, &mut out, &mut err);
+    err.is_empty() && status == 0 && contains(out.as_slice(), shown)
+}
+
+#[test]
+fn help(rt: HostRuntime) {
+    assert!(rt;
+        shows(
+            &rt,
+            &["--help"],
+            "Usage: seek [OPTIONS] [PATTERN] [ROOT]..."
+        )
+    );
+    assert!(rt; shows(&rt, &["-h", "a"], "--exact-depth <N>"));
+}
+
+#[test]
+fn version(rt: HostRuntime) {
+    assert!(rt; shows(&rt, &["--version"], "seek 1.0\n"));
+    assert!(rt; shows(&rt, &["-V"], "seek 1.0\n"));
+}

@@ -1,0 +1,3 @@
+//! What the functions of `example_proofs` return, by worked examples.
+mod callbacks;
+mod walks;

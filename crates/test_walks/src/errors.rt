@@ -1,0 +1,226 @@
+//! What errors report, and the metadata of entries.
+use jwalk::Error;
+use jwalk::file_system::{FileSystem, FileType, MemoryFs, Metadata};
+use std::alloc::Global;
+use std::io::ErrorKind;
+use test_fixtures::answers::Answer;
+use test_fixtures::builders::{Builder, builder, over_tree};
+use test_fixtures::listed_directory::{Item, ListedDirectory};
+use test_fixtures::trees::{DENIED, LOOPED, Step, tree};
+use test_fixtures::watched::{Failing, Watched};
+
+/// The last answer of a walk, if there is one.
+fn last<S: FileSystem>(walk: Builder<S>) -> Option<Answer> {
+    walk.into_iter().last()
+}
+
+/// Whether an error has this kind and this text, and is printed as the text.
+fn tells(alloc: Global, error: &Error, kind: ErrorKind, text: &str) -> bool {
+    match (error.kind_and_text(alloc), error.to_string(alloc)) {
+        (Ok((found, told)), Ok(printed)) => {
+            found == kind && told.as_str() == text && printed.as_str() == text
+        }
+        _ => false,
+    }
+}
+
+/// Whether an error of this kind, which a file system returned, has this text and then its own.
+fn tells_own(alloc: Global, error: &Error, kind: ErrorKind, lead: &str) -> Option<bool> {
+    let err = error.io_error()?;
+    let text = format!(in alloc; "{lead}{err}").ok()?;
+    Some(err.kind() == kind && text.len() > lead.len() && tells(alloc, error, kind, text.as_str()))
+}
+
+fn is_at(error: &Error, depth: usize, path: Option<&str>) -> bool {
+    error.depth() == depth && error.path() == path
+}
+
+/// The kind of the error that a file system returned.
+fn kind_of(error: Error) -> Option<ErrorKind> {
+    Some(error.into_io_error()?.kind())
+}
+
+/// What is said of the loop in the looped tree.
+const LOOP_TEXT: &str = "File system loop found: /r/a/b/c/a-link points to an ancestor /r/a";
+
+/// Whether a walk that follows the link reports the loop.
+fn tells_of_the_loop(alloc: Global) -> Option<bool> {
+    let error = last(over_tree(alloc, LOOPED, "/r").ok()?.follow_links(true))?.err()?;
+    Some(tells(alloc, &error, ErrorKind::Other, LOOP_TEXT) && kind_of(error).is_none())
+}
+
+#[test]
+fn a_loop_tells_of_the_link_and_of_the_ancestor(rt: HostRuntime) {
+    assert!(rt; tells_of_the_loop(rt.alloc()) == Some(true));
+}
+
+/// Whether the entry of the directory that may not be listed has the error of that.
+fn meets_denied(alloc: Global) -> Option<bool> {
+    let entry = last(over_tree(alloc, DENIED, "/t").ok()?.sort(true))?.ok()?;
+    let error = entry.read_children_error()?;
+    let lead = "IO error for operation on /t/group 2: ";
+    let is_told = tells_own(alloc, error, ErrorKind::PermissionDenied, lead)?;
+    Some(is_told && is_at(error, 1, Some("/t/group 2")))
+}
+
+#[test]
+fn a_failed_reading_has_its_directorys_depth_and_path(rt: HostRuntime) {
+    assert!(rt; meets_denied(rt.alloc()) == Some(true));
+}
+
+/// The error of an item that could not be read.
+fn unread(alloc: Global, kind: ErrorKind) -> Option<Error> {
+    let fs = ListedDirectory {
+        path: "/d",
+        file_type: FileType::Dir,
+        target: Some(FileType::Dir),
+        items: &[Item::Unread(kind)],
+    };
+    last(builder(alloc, fs, "/d").ok()?)?.err()
+}
+
+/// Whether an item that could not be read has its own text, and no path.
+fn tells_of_the_unread(alloc: Global, kind: ErrorKind) -> Option<bool> {
+    let error = unread(alloc, kind)?;
+    let is_told = is_at(&error, 1, None) && tells_own(alloc, &error, kind, "")?;
+    Some(is_told && kind_of(error) == Some(kind))
+}
+
+#[test]
+fn an_error_without_a_path_tells_its_own_text(rt: HostRuntime) {
+    assert!(rt; tells_of_the_unread(rt.alloc(), ErrorKind::InvalidData) == Some(true));
+}
+
+/// Whether an error has nothing but its text.
+fn is_bare(alloc: Global, error: &Error, text: &str) -> bool {
+    is_at(error, 0, None)
+        && error.loop_ancestor().is_none()
+        && error.io_error().is_none()
+        && tells(alloc, error, ErrorKind::Other, text)
+}
+
+/// Whether an error has nothing but its text and its cause: a busy crew, memory that ran out, or a lost reading.
+fn has_cause(alloc: Global, error: Error, text: &str, wanted: (bool, bool, bool)) -> bool {
+    is_bare(alloc, &error, text) && (error.is_busy(), error.is_memory(), error.is_lost()) == wanted
+}
+
+#[test]
+fn errors_of_a_crew_and_of_memory(rt: HostRuntime) {
+    let busy = "rayon thread-pool too busy or dependency loop detected - \
+                aborting before possibility of deadlock";
+    let memory = "memory refused for the walk";
+    let lost = "a reading of the crew is lost";
+    let is_busy = has_cause(rt.alloc(), Error::busy(), busy, (true, false, false));
+    let is_memory = has_cause(rt.alloc(), Error::memory(), memory, (false, true, false));
+    let is_lost = has_cause(rt.alloc(), Error::lost(), lost, (false, false, true));
+    assert!(rt; is_busy && is_memory && is_lost);
+}
+
+/// How many bytes the paths of a walk have; the first error ends it.
+fn bytes_of<S: FileSystem>(walk: Builder<S>) -> anyhow::Result<usize> {
+    let mut bytes: usize = 0;
+    for answer in walk {
+        bytes = bytes.saturating_add(answer?.path()?.len());
+    }
+    Ok(bytes)
+}
+
+/// How many bytes the paths of the looped tree have.
+fn looped_bytes(alloc: Global, follow: bool) -> anyhow::Result<usize> {
+    bytes_of(over_tree(alloc, LOOPED, "/r")?.follow_links(follow))
+}
+
+/// The text of the error that ends a walk through the loop.
+fn loop_text(alloc: Global) -> Option<String> {
+    looped_bytes(alloc, true).err()?.to_string(alloc).ok()
+}
+
+#[test]
+fn a_question_mark_keeps_the_text_of_an_error(rt: HostRuntime) {
+    let bytes = looped_bytes(rt.alloc(), false).ok();
+    let text = loop_text(rt.alloc());
+    assert!(rt; bytes == Some(2 + 4 + 6 + 8 + 15) && text.as_deref() == Some(LOOP_TEXT));
+}
+
+/// A directory of a file and a link to it.
+const LINKED_FILE: &[Step] = &[
+    Step::Dir("/r"),
+    Step::File(7, "/r/f"),
+    Step::Link("f", "/r/l"),
+];
+
+/// What the entry of the link says of its metadata over another file system; or the entry of the file, if a walk
+/// follows the link.
+fn link_metadata(
+    alloc: Global,
+    follow: bool,
+    fs: MemoryFs,
+    failing: Failing,
+) -> Option<Result<Metadata, Error>> {
+    let walk = over_tree(alloc, LINKED_FILE, "/r").ok()?;
+    let entry = last(walk.follow_links(follow))?.ok()?;
+    Some(entry.metadata(&Watched::new(fs, failing)))
+}
+
+/// The metadata of the link, or of the file if a walk follows it.
+fn metadata(alloc: Global, follow: bool) -> Option<Metadata> {
+    link_metadata(
+        alloc,
+        follow,
+        tree(alloc, LINKED_FILE).ok()?,
+        Failing::Never,
+    )?
+    .ok()
+}
+
+// An unfollowed link has its own metadata, a followed one those of the file that it leads to.
+#[test]
+fn metadata_through_the_wrong_call(rt: HostRuntime) {
+    let link = metadata(rt.alloc(), false);
+    let file = metadata(rt.alloc(), true);
+    let is_link = link == Some(Metadata::new(FileType::Symlink, 1));
+    let is_file = file == Some(Metadata::new(FileType::File, 7));
+    assert!(rt; is_link && is_file);
+}
+
+/// Whether the link's metadata is not found once the link is removed.
+fn is_gone(alloc: Global) -> Option<bool> {
+    let mut fs = tree(alloc, LINKED_FILE).ok()?;
+    fs.remove("/r/l").ok()?;
+    let error = link_metadata(alloc, false, fs, Failing::Never)?.err()?;
+    Some(is_at(&error, 1, Some("/r/l")) && kind_of(error) == Some(ErrorKind::NotFound))
+}
+
+#[test]
+fn the_metadata_of_what_is_gone(rt: HostRuntime) {
+    assert!(rt; is_gone(rt.alloc()) == Some(true));
+}
+
+/// The error of the link's metadata if memory runs out for it.
+fn refused_metadata(alloc: Global) -> Option<Error> {
+    let fs = tree(alloc, LINKED_FILE).ok()?;
+    link_metadata(alloc, false, fs, Failing::MetadataForMemory("/r/l"))?.err()
+}
+
+#[test]
+fn the_metadata_where_memory_is_refused(rt: HostRuntime) {
+    let error = refused_metadata(rt.alloc());
+    let text = "memory refused for the walk";
+    assert!(rt; matches!(&error, Some(error) if is_bare(rt.alloc(), error, text)));
+}
+
+/// The entry of an empty root and an error, as `Debug` shows them.
+fn shown(alloc: Global) -> Option<String> {
+    let entry = last(over_tree(alloc, &[Step::Dir("/r")], "/r").ok()?)?.ok();
+    let answers = (entry, Error::<Global>::lost());
+    format!(in alloc; "{answers:?}").ok()
+}
+
+#[test]
+fn entries_and_errors_are_shown(rt: HostRuntime) {
+    let wanted = "(Some(DirEntry { depth: 0, file_name: \"r\", file_type: Dir, client_state: (), \
+                  parent_path: \"/\", read_children: Some(ReadChildren { path: \"/r\", error: None, \
+                  client_read_state: None }), through_link: false, seen: None, .. }), \
+                  Error { depth: 0, inner: Lost })";
+    assert!(rt; shown(rt.alloc()).as_deref() == Some(wanted));
+}

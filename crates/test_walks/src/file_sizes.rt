@@ -1,0 +1,232 @@
+//! Walks whose callback asks for the sizes of files.
+use example_proofs::by_crew::walk_by_crew;
+use jwalk::file_system::{BuildError, FileSystem, MemoryFs};
+use jwalk::read_dir::{Size, WithSizes};
+use jwalk::{Crew, DirEntry, Parallelism, WalkDirGeneric};
+use std::alloc::{AllocError, Global};
+use std::sync::Arc;
+use std::thread::Threads;
+use test_fixtures::answers::Answer;
+use test_fixtures::host::Host;
+use test_fixtures::meeting::{Meeting, Place};
+use test_fixtures::trees::{GROUPED, Step, tree};
+use test_fixtures::watched::{Failing, Watched};
+use test_fixtures::ways::{Asked, Setting, WAYS, Way};
+
+/// States of which an entry's is its size.
+type States = ((), Size);
+
+/// Adds the path of an entry and its size to a text.
+fn push_size(text: &mut String, entry: &DirEntry<States>) -> Result<(), AllocError> {
+    let path = entry.path()?;
+    match entry.client_state {
+        Size::Unasked => write!(text, "{path} -; "),
+        Size::Len(len) => write!(text, "{path} {len}; "),
+        Size::Failed(kind) => write!(text, "{path} {kind:?}; "),
+    }
+}
+
+/// The paths of entries, each with its size, and a mark for each error.
+fn sizes_of(alloc: Global, found: &[Answer<States>]) -> Result<String, AllocError> {
+    let mut text = String::new(alloc);
+    for answer in found {
+        match answer {
+            Ok(entry) => push_size(&mut text, entry)?,
+            Err(error) if error.is_memory() => text.push_str("memory; ")?,
+            Err(_) => text.push_str("error; ")?,
+        }
+    }
+    Ok(text)
+}
+
+/// What a `for` loop yields over a walk by name that asks another file system for sizes.
+fn walked<S: FileSystem, T: FileSystem>(
+    alloc: Global,
+    fs: S,
+    asked: T,
+    root: &str,
+) -> Result<String, AllocError> {
+    let root = String::from_str(alloc, root)?;
+    let mut found = Vec::new(alloc);
+    let walk = WalkDirGeneric::<((), Size), _, _, _>::new(fs, root)
+        .sort(true)
+        .process_read_dir(WithSizes::new(asked));
+    for answer in walk.into_iter() {
+        found.push(answer)?;
+    }
+    sizes_of(alloc, found.as_slice())
+}
+
+/// The sizes in the grouped tree.
+const GROUPED_SIZES: &str = "/t -; /t/a.txt 2; /t/b.txt 6; /t/c.txt 1; /t/group 1 -; \
+                             /t/group 1/d.txt 5; /t/group 2 -; /t/group 2/e.txt 4; ";
+
+/// Whether these are the sizes of a walk by name over the grouped tree, read in this way.
+fn is_sized<R: Threads + AllocGlobal + Sync>(
+    rt: &R,
+    fs: &MemoryFs,
+    way: Way,
+) -> Result<bool, AllocError> {
+    let asked = Asked {
+        fs,
+        root: "/t",
+        settings: &[Setting::Sort],
+    };
+    let found = asked.found(rt, WithSizes::new(fs), way)?;
+    Ok(sizes_of(rt.alloc(), found.as_slice())?.as_str() == GROUPED_SIZES)
+}
+
+#[test]
+fn files_with_their_sizes(rt: HostRuntime) {
+    let fs = tree(rt.alloc(), GROUPED);
+    for way in WAYS {
+        assert!(rt; matches!(&fs, Ok(fs) if is_sized(&rt, fs, *way) == Ok(true)));
+    }
+}
+
+/// The sizes that a crew of that many workers finds.
+fn sized_by_crew<R: Host, S: FileSystem + Send + Sync + 'static>(
+    rt: &R,
+    fs: S,
+    root: &str,
+    workers: usize,
+) -> Result<String, AllocError> {
+    let alloc = rt.alloc();
+    let root = String::from_str(alloc, root)?;
+    let fs = Arc::new(alloc, fs)?;
+    let by_crew = Parallelism::RayonExistingPool {
+        pool: Arc::new(alloc, Crew::new(rt.clone()?, 1, workers))?,
+        busy_timeout: None,
+    };
+    // begin with-sizes
+    let sizes = WithSizes::new(fs.clone()?);
+    let walk = WalkDirGeneric::<((), Size), _, _, _, _>::with_crew(fs, root)
+        .sort(true)
+        .parallelism(by_crew)
+        .process_read_dir(sizes);
+    // end with-sizes
+    match walk_by_crew(alloc, walk) {
+        Ok(found) => sizes_of(alloc, found.as_slice()),
+        Err(_) => Err(AllocError),
+    }
+}
+
+/// Whether they are those of the grouped tree.
+fn is_sized_by_crew<R: Host>(rt: &R) -> Result<bool, BuildError> {
+    let fs = tree(rt.alloc(), GROUPED)?;
+    Ok(sized_by_crew(rt, fs, "/t", 2)?.as_str() == GROUPED_SIZES)
+}
+
+#[test]
+fn files_that_a_crew_asks_for_their_sizes(rt: HostRuntime) {
+    assert!(rt; matches!(is_sized_by_crew(&rt), Ok(true)));
+}
+
+// Where the thread that takes the answers asks for sizes, the first of the two files is an error.
+#[test]
+fn two_workers_ask_for_sizes_at_the_same_time(rt: HostRuntime) -> Result<(), AllocError> {
+    let disk = Meeting::new(rt.clone()?, Place::Looks, 5_000);
+    let sizes = sized_by_crew(&rt, disk, "/r", 2)?;
+    assert_eq!(rt;
+        sizes.as_str(),
+        "/r -; /r/a -; /r/a/f 3; /r/b -; /r/b/f 4; "
+    );
+    Ok(())
+}
+
+#[test]
+fn one_worker_asks_for_one_size_at_a_time(rt: HostRuntime) -> Result<(), AllocError> {
+    let disk = Meeting::new(rt.clone()?, Place::Looks, 20);
+    let sizes = sized_by_crew(&rt, disk, "/r", 1)?;
+    assert_eq!(rt;
+        sizes.as_str(),
+        "/r -; /r/a -; /r/a/f Other; /r/b -; /r/b/f 4; "
+    );
+    Ok(())
+}
+
+/// Whether these are the sizes if the walk of a root asks its own tree.
+fn shows(alloc: Global, steps: &[Step], root: &str, wanted: &str) -> Result<bool, BuildError> {
+    let fs = tree(alloc, steps)?;
+    Ok(walked(alloc, &fs, &fs, root)?.as_str() == wanted)
+}
+
+#[test]
+fn a_root_that_is_a_file(rt: HostRuntime) {
+    assert!(rt;
+        matches!(
+            shows(rt.alloc(), GROUPED, "/t/a.txt", "/t/a.txt 2; "),
+            Ok(true)
+        )
+    );
+}
+
+/// A file, and a link to it whose text is shorter.
+const LINKED: &[Step] = &[
+    Step::Dir("/r"),
+    Step::File(7, "/r/f"),
+    Step::Link("f", "/r/l"),
+];
+
+/// The sizes that a walk by name finds whose links are followed or not.
+fn linked(alloc: Global, fs: &MemoryFs, follow: bool) -> Result<String, AllocError> {
+    let root = String::from_str(alloc, "/r")?;
+    let mut found = Vec::new(alloc);
+    let walk = WalkDirGeneric::<((), Size), _, _, _>::new(fs, root)
+        .sort(true)
+        .follow_links(follow)
+        .process_read_dir(WithSizes::new(fs));
+    for answer in walk.into_iter() {
+        found.push(answer)?;
+    }
+    sizes_of(alloc, found.as_slice())
+}
+
+/// Whether these are the sizes if links are followed or not.
+fn shows_links(alloc: Global, follow: bool, wanted: &str) -> Result<bool, BuildError> {
+    let fs = tree(alloc, LINKED)?;
+    Ok(linked(alloc, &fs, follow)?.as_str() == wanted)
+}
+
+#[test]
+fn links_that_lead_to_a_file(rt: HostRuntime) {
+    let alloc = rt.alloc();
+    assert!(rt; matches!(shows_links(alloc, true, "/r -; /r/f 7; /r/l 7; "), Ok(true)));
+    assert!(rt;
+        matches!(
+            shows_links(alloc, false, "/r -; /r/f 7; /r/l -; "),
+            Ok(true)
+        )
+    );
+}
+
+/// Whether these are the sizes if the file system that is asked has no files.
+fn shows_missing(alloc: Global, wanted: &str) -> Result<bool, BuildError> {
+    let fs = tree(alloc, LINKED)?;
+    Ok(walked(alloc, &fs, MemoryFs::new(alloc), "/r")?.as_str() == wanted)
+}
+
+#[test]
+fn files_whose_metadata_cannot_be_read(rt: HostRuntime) {
+    assert!(rt;
+        matches!(
+            shows_missing(rt.alloc(), "/r -; /r/f NotFound; /r/l -; "),
+            Ok(true)
+        )
+    );
+}
+
+/// Whether these are the sizes if memory runs out for a file of the grouped tree.
+fn shows_refused(alloc: Global, at: &'static str, wanted: &str) -> Result<bool, BuildError> {
+    let fs = tree(alloc, GROUPED)?;
+    let asked = Watched::new(tree(alloc, GROUPED)?, Failing::MetadataForMemory(at));
+    Ok(walked(alloc, &fs, asked, "/t")?.as_str() == wanted)
+}
+
+#[test]
+fn files_for_whose_metadata_memory_runs_out(rt: HostRuntime) {
+    let alloc = rt.alloc();
+    assert!(rt; matches!(shows_refused(alloc, "/t/b.txt", "memory; "), Ok(true)));
+    let wanted = "/t -; /t/a.txt 2; /t/b.txt 6; /t/c.txt 1; memory; ";
+    assert!(rt; matches!(shows_refused(alloc, "/t/group 1/d.txt", wanted), Ok(true)));
+}

@@ -1,0 +1,93 @@
+//! What each getter of each entry returns.
+use jwalk::file_system::BuildError;
+use std::alloc::{AllocError, Global};
+use test_fixtures::answers::{Answer, letter};
+use test_fixtures::builders::{Entry, in_a_for_loop, over_tree};
+use test_fixtures::trees::{SMALL, Step};
+
+/// Adds what the getters of an entry return to a text: depth, name, parent, the letter of its type, and `+` if it has a
+/// directory to be read.
+fn push_getters(text: &mut String, entry: &Entry) -> Result<(), AllocError> {
+    let depth = entry.depth();
+    let name = entry.file_name();
+    let parent = entry.parent_path();
+    let letter = letter(entry);
+    let mark = if entry.read_children.is_some() {
+        "+"
+    } else {
+        ""
+    };
+    write!(text, "{depth} {name} in {parent} {letter}{mark}")
+}
+
+/// Adds the getters of an answer to a text, in which answers are separated by `; `.
+fn push_answer(text: &mut String, answer: &Answer) -> Result<(), AllocError> {
+    if !text.is_empty() {
+        text.push_str("; ")?;
+    }
+    match answer {
+        Ok(entry) => push_getters(text, entry),
+        Err(_) => text.push_str("an error"),
+    }
+}
+
+/// A walk with the default options, and the getters of its entries.
+struct Row {
+    steps: &'static [Step],
+    root: &'static str,
+    getters: &'static str,
+}
+
+/// Whether these are the getters.
+fn holds(alloc: Global, row: &Row) -> Result<bool, BuildError> {
+    let found = in_a_for_loop(alloc, over_tree(alloc, row.steps, row.root)?)?;
+    let mut text = String::new(alloc);
+    for answer in &found {
+        push_answer(&mut text, answer)?;
+    }
+    Ok(text.as_str() == row.getters)
+}
+
+#[test]
+fn each_getter_of_each_entry(rt: HostRuntime) {
+    const ROWS: &[Row] = &[
+        Row {
+            steps: SMALL,
+            root: "/r",
+            getters: "0 r in / d+; 1 b in /r f; 1 s in /r d+; 2 x in /r/s f; 1 a in /r f",
+        },
+        // Roots without a file name: such a root is its own name, below an empty path.
+        Row {
+            steps: &[Step::Dir("/r")],
+            root: ".",
+            getters: "0 . in  d+; 1 r in . d+",
+        },
+        Row {
+            steps: &[Step::Dir("/r")],
+            root: "..",
+            getters: "0 .. in  d+; 1 r in .. d+",
+        },
+        Row {
+            steps: &[Step::Dir("/r")],
+            root: "../..",
+            getters: "0 ../.. in  d+; 1 r in ../.. d+",
+        },
+        Row {
+            steps: &[Step::Dir("/r")],
+            root: "/",
+            getters: "0 / in  d+; 1 r in / d+",
+        },
+        Row {
+            steps: &[Step::Dir("/a"), Step::File(1, "/a/x")],
+            root: "a/",
+            getters: "0 a in  d+; 1 x in a/ f",
+        },
+    ];
+    for row in ROWS {
+        assert!(rt;
+            matches!(holds(rt.alloc(), row), Ok(true)),
+            "from {}",
+            row.root
+        );
+    }
+}

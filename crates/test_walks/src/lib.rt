@@ -1,0 +1,32 @@
+//! What walks and their readings yield, by worked examples, and what their callers meet: the functions of `example_proofs`, `for`
+//! loops, getters, errors and their texts, walks of size, and totals.
+#![tactic(auto)]
+
+#[cfg(test)]
+mod callers;
+#[cfg(test)]
+mod error_texts;
+#[cfg(test)]
+mod errors;
+#[cfg(test)]
+mod file_sizes;
+#[cfg(test)]
+mod getters;
+#[cfg(test)]
+mod in_memory;
+#[cfg(test)]
+mod own_readers;
+#[cfg(test)]
+mod readings;
+#[cfg(test)]
+mod rows;
+#[cfg(test)]
+mod sizes;
+#[cfg(test)]
+mod totals;
+#[cfg(test)]
+mod walks;
+#[cfg(test)]
+mod whole;
+#[cfg(test)]
+mod wide;

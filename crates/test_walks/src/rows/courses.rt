@@ -1,0 +1,119 @@
+//! Walks under way, read one after another and by threads.
+use crate::rows::begun::{Begun, Coming};
+use jwalk::file_system::FileSystem;
+use std::alloc::Global;
+use std::process::Abort;
+use std::thread::Threads;
+use test_fixtures::answers::are_lines;
+use test_fixtures::trees::{Step, tree};
+use test_fixtures::watched::{Failing, Watched};
+use test_fixtures::ways::{Asked, Setting};
+
+/// What walks begin with: the steps that build their tree, where that fails, and their root.
+pub type Start = (&'static [Step], Failing, &'static str);
+
+/// What is seen of a walk.
+pub enum Seen {
+    /// After each entry, how many readings were made and not handed on, and how many listings were made. Then it is
+    /// over.
+    Counts(&'static [(usize, usize)]),
+    /// That many entries, and then memory runs out.
+    Refused(usize),
+    /// Of each call for answers: for how many, how many it appends, and all that are there then.
+    Parts(&'static [(usize, usize, &'static str)]),
+}
+
+/// How a walk goes on.
+pub struct Course {
+    pub settings: &'static [Setting],
+    pub seen: Seen,
+}
+
+/// Whether each answer is an entry, and that is how many readings are ahead then, and listings made. At the end no
+/// other listing was made.
+fn goes_on<S: FileSystem + Send + Sync, R: Threads + Sync>(
+    walk: &mut Begun<'_, S, R>,
+    fs: &Watched,
+    counts: &[(usize, usize)],
+) -> bool {
+    for count in counts {
+        let (coming, ahead) = walk.next();
+        if !matches!(coming, Coming::Entry) || (ahead, fs.lists()) != *count {
+            return false;
+        }
+    }
+    walk.is_over() && counts.last().map(|(_, lists)| *lists) == Some(fs.lists())
+}
+
+/// Whether memory runs out for a walk after that many entries, and nothing is left of it then.
+fn ends_with_memory<S: FileSystem + Send + Sync, R: Threads + Sync>(
+    walk: &mut Begun<'_, S, R>,
+    before: usize,
+) -> bool {
+    for _ in 0..before {
+        if !matches!(walk.next(), (Coming::Entry, _)) {
+            return false;
+        }
+    }
+    matches!(walk.next(), (Coming::Memory, 0)) && walk.is_over()
+}
+
+/// Whether each call for answers appends that many, and these are there then.
+fn comes_in_parts<S: FileSystem + Send + Sync, R: Threads + Sync>(
+    alloc: Global,
+    walk: &mut Begun<'_, S, R>,
+    parts: &[(usize, usize, &str)],
+) -> bool {
+    let mut found = Vec::new(alloc);
+    for (n, count, wanted) in parts {
+        let is_filled = walk.fill(*n, &mut found) == Ok(*count);
+        if !is_filled || !are_lines(alloc, found.as_slice(), wanted) {
+            return false;
+        }
+    }
+    true
+}
+
+/// Whether a walk takes this course, on threads or not.
+fn takes<R: Threads + AllocGlobal + Sync>(
+    rt: &R,
+    start: &Start,
+    course: &Course,
+    on_threads: bool,
+) -> bool {
+    let (steps, failing, root) = *start;
+    let Ok(tree) = tree(rt.alloc(), steps) else {
+        return false;
+    };
+    let fs = Watched::new(tree, failing);
+    let asked = Asked {
+        fs: &fs,
+        root,
+        settings: course.settings,
+    };
+    let Ok(mut walk) = Begun::new(rt, rt.alloc(), &asked, on_threads) else {
+        return false;
+    };
+    fs.lists() == 0
+        && match course.seen {
+            Seen::Counts(counts) => goes_on(&mut walk, &fs, counts),
+            Seen::Refused(before) => ends_with_memory(&mut walk, before),
+            Seen::Parts(parts) => comes_in_parts(rt.alloc(), &mut walk, parts),
+        }
+}
+
+/// Each walk takes its course, on threads or not.
+pub fn all_take<R: Abort + Threads + AllocGlobal + Sync>(
+    rt: &R,
+    start: &Start,
+    courses: &[Course],
+) {
+    for (number, course) in courses.iter().enumerate() {
+        assert!(rt; takes(rt, start, course, false), "course {}", number);
+        assert!(rt;
+            takes(rt, start, course, true),
+            "course {} on threads",
+            number
+        );
+    }
+}

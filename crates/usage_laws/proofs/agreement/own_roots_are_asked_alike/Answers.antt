@@ -1,5 +1,0 @@
-use Rattle.usage_laws.proofs.AgreementFacts.{own_roots_are_asked_alike}
-use Rattle.usage_laws.proofs.agreement.own_roots_are_asked_alike.Goals as goal
-
-pub returns : goal.returns
-returns c = own_roots_are_asked_alike

@@ -1,5 +1,0 @@
-use Rattle.usage_laws.proofs.TotalFacts.{files_keep_metadata}
-use Rattle.usage_laws.proofs.totals.files_keep_metadata.Goals as goal
-
-pub returns : goal.returns
-returns c = files_keep_metadata

@@ -1,5 +1,0 @@
-use Rattle.usage_laws.proofs.TotalFacts.{kept_totals_are_totals}
-use Rattle.usage_laws.proofs.totals.kept_totals_are_totals.Goals as goal
-
-pub returns : goal.returns
-returns c = kept_totals_are_totals

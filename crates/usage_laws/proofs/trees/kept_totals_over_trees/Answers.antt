@@ -1,5 +1,0 @@
-use Rattle.usage_laws.proofs.TreeFacts.{kept_totals_over_trees}
-use Rattle.usage_laws.proofs.trees.kept_totals_over_trees.Goals as goal
-
-pub returns : goal.returns
-returns c = kept_totals_over_trees

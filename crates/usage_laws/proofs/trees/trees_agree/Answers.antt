@@ -1,5 +1,0 @@
-use Rattle.usage_laws.proofs.TreeFacts.{trees_agree}
-use Rattle.usage_laws.proofs.trees.trees_agree.Goals as goal
-
-pub returns : goal.returns
-returns c = trees_agree

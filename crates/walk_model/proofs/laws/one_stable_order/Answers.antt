@@ -1,5 +1,0 @@
-use Rattle.walk_model.proofs.SortingFacts.{orders_are_arranged}
-use Rattle.walk_model.proofs.laws.one_stable_order.Goals as goal
-
-pub returns : goal.returns
-returns g c = orders_are_arranged
