@@ -11,6 +11,8 @@ pub use Rattle.jwalk_core.proofs.SameFacts as SameFacts
 pub use Rattle.jwalk_core.proofs.GivenFacts as GivenFacts
 -- what callers cite of callbacks that change states alone, and of sizes
 pub use Rattle.jwalk_model.proofs.StatesFacts as StatesFacts
+-- what callers cite of walks that keep metadata
+pub use Rattle.jwalk_model.proofs.KeptFacts as KeptFacts
 pub use Rattle.jwalk_callbacks.proofs.SizedWalks as SizedWalks
 -- what callers cite of readings by readers of their own
 pub use Rattle.jwalk_core.proofs.OriginFacts as OriginFacts
