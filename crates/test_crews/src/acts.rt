@@ -1,7 +1,7 @@
 //! What is done with walks over a crew, one act after another.
-use crate::crewed::{Asked, Stand, States, Taken, Walk, WalkBy};
+use crate::crewed::{Asked, Stand, States, Walk, WalkBy};
 use jwalk::file_system::FileSystem;
-use jwalk::read_dir::{NoProcess, ProcessReadDir};
+use jwalk::read_dir::NoProcess;
 use jwalk::{Crew, Readers};
 use std::alloc::{AllocError, Global};
 use std::process::Abort;
@@ -25,8 +25,8 @@ pub enum Act<'a> {
     IsRefused(Asked<'a>),
     /// All that a walk yields is that the crew is busy.
     IsBusy(Asked<'a>),
-    /// A walk whose answers are taken in this way yields this.
-    Answers(Taken, Asked<'a>, &'a str),
+    /// A walk yields this.
+    Answers(Asked<'a>, &'a str),
     /// The walk that began last goes on so.
     Last(Going<'a>),
     /// A place is taken, and given back a while later on another thread.
@@ -35,6 +35,10 @@ pub enum Act<'a> {
     InUse(usize),
     /// Within some seconds no directory is listed any more.
     Rests,
+    /// That many listings were asked for.
+    Lists(usize),
+    /// Nobody slept until a turn was over while there was something to do.
+    IsWoken,
 }
 
 /// How a walk under way goes on.
@@ -44,10 +48,23 @@ pub enum Going<'a> {
     Ahead(usize),
     /// That many entries come.
     Comes(usize),
+    /// It keeps this bound up to its end.
+    Keeps(Bound),
     /// This is all that still comes.
     Ends(&'a str),
     /// It is dropped.
     Drops,
+}
+
+/// A bound on how far a crew reads ahead of a walk.
+#[derive(Clone, Copy)]
+pub struct Bound {
+    /// At most that many readings are ahead, and one.
+    pub readings: usize,
+    /// How many answers come.
+    pub answers: usize,
+    /// For how many milliseconds nobody asks after each of them.
+    pub pause: u64,
 }
 
 /// A tree, where it fails, and how many places and workers for a walk its crew has.
@@ -57,29 +74,29 @@ pub struct Scene {
     pub failing: Failing,
     pub places: usize,
     pub workers: usize,
-}
-
-/// Whether this is what a walk yields.
-fn are(alloc: Global, found: Result<Vec<Answer>, AllocError>, wanted: &str) -> bool {
-    match found {
-        Ok(found) => are_lines(alloc, found.as_slice(), wanted),
-        Err(_) => false,
-    }
+    /// How far ahead the workers read, where that is said.
+    pub read_ahead: Option<usize>,
 }
 
 /// Whether the one answer is that the crew is busy.
-fn is_busy(found: Result<Vec<Answer>, AllocError>) -> bool {
-    let Ok(found) = found else {
-        return false;
-    };
-    match found.as_slice() {
+fn is_busy(found: &[Answer]) -> bool {
+    match found {
         [Err(error)] => error.is_busy() && error.path().is_none() && error.depth() == 0,
         _ => false,
     }
 }
 
+/// Whether this is what a walk yields; where nothing is said, whether it is that the crew is busy.
+fn are(alloc: Global, found: Result<Vec<Answer>, AllocError>, wanted: Option<&str>) -> bool {
+    match (found, wanted) {
+        (Ok(found), Some(wanted)) => are_lines(alloc, found.as_slice(), wanted),
+        (Ok(found), None) => is_busy(found.as_slice()),
+        (Err(_), _) => false,
+    }
+}
+
 /// Whether a walk yields that many entries.
-pub fn comes<S: FileSystem, L: Readers<States, S, NoProcess, Global>>(
+fn comes<S: FileSystem, L: Readers<States, S, NoProcess, Global>>(
     walk: &mut WalkBy<S, L>,
     count: usize,
 ) -> bool {
@@ -92,7 +109,7 @@ pub fn comes<S: FileSystem, L: Readers<States, S, NoProcess, Global>>(
 }
 
 /// Whether within some seconds that many readings are ahead for a walk.
-pub fn come_ahead<S: FileSystem, L: Readers<States, S, NoProcess, Global>>(
+fn come_ahead<S: FileSystem, L: Readers<States, S, NoProcess, Global>>(
     clock: &impl Clock,
     walk: &WalkBy<S, L>,
     count: usize,
@@ -106,26 +123,61 @@ pub fn come_ahead<S: FileSystem, L: Readers<States, S, NoProcess, Global>>(
     false
 }
 
-/// Whether the last of these walks goes on so.
+/// Whether after each answer no more readings are ahead of a walk than the bound and one, nor were more directories listed
+/// than these and those of the answers.
+fn keeps<S: FileSystem, L: Readers<States, S, NoProcess, Global>>(
+    clock: &impl Clock,
+    fs: &impl CountsLists,
+    walk: &mut WalkBy<S, L>,
+    bound: &Bound,
+) -> bool {
+    let most = bound.readings.saturating_add(1);
+    for answers in 0..bound.answers {
+        let is_there = comes(walk, 1);
+        let may_be_listed = answers.saturating_add(1).saturating_add(most);
+        if !is_there || walk.ahead() > most || fs.lists_so_far() > may_be_listed {
+            return false;
+        }
+        thread::sleep(clock, Duration::from_millis(bound.pause));
+    }
+    walk.next().is_none()
+}
+
+/// Whether a walk goes on so, and isn't to end.
 fn goes_on<S: FileSystem, L: Readers<States, S, NoProcess, Global>>(
     clock: &impl Clock,
+    fs: &impl CountsLists,
+    walk: &mut WalkBy<S, L>,
+    going: &Going<'_>,
+) -> bool {
+    match going {
+        Going::Ahead(count) => come_ahead(clock, walk, *count),
+        Going::Comes(count) => comes(walk, *count),
+        Going::Keeps(bound) => keeps(clock, fs, walk, bound),
+        Going::Ends(_) | Going::Drops => false,
+    }
+}
+
+/// Whether the last of these walks goes on so.
+fn last_goes_on<S: FileSystem, L: Readers<States, S, NoProcess, Global>>(
+    clock: &impl Clock,
+    fs: &impl CountsLists,
     walks: &mut Vec<WalkBy<S, L>>,
     going: &Going<'_>,
 ) -> bool {
     match going {
-        Going::Ahead(count) => match walks.last() {
-            Some(walk) => come_ahead(clock, walk, *count),
-            None => false,
-        },
-        Going::Comes(count) => match walks.last_mut() {
-            Some(walk) => comes(walk, *count),
-            None => false,
-        },
         Going::Ends(wanted) => match walks.pop() {
-            Some(walk) => are(*walks.allocator(), all_of(*walks.allocator(), walk), wanted),
+            Some(walk) => {
+                let alloc = *walks.allocator();
+                are(alloc, all_of(alloc, walk), Some(*wanted))
+            }
             None => false,
         },
         Going::Drops => walks.pop().is_some(),
+        _ => match walks.last_mut() {
+            Some(walk) => goes_on(clock, fs, walk, going),
+            None => false,
+        },
     }
 }
 
@@ -141,6 +193,18 @@ fn holds<R: Host>(rt: &R, crew: &Arc<Crew<R>>) -> Option<()> {
     Some(())
 }
 
+/// Whether an act succeeds that no walk is needed for.
+fn is_so<R: Host, S: CountsLists>(rt: &R, stand: &Stand<R, S>, act: &Act<'_>) -> bool {
+    match act {
+        Act::Holds => holds(rt, &stand.crew).is_some(),
+        Act::InUse(places) => stand.crew.in_use() == *places,
+        Act::Rests => rests(rt, &*stand.fs),
+        Act::Lists(count) => stand.fs.lists_so_far() == *count,
+        Act::IsWoken => stand.crew.late_wakes() == 0,
+        _ => false,
+    }
+}
+
 /// Whether an act succeeds beside these walks.
 fn comes_off<R: Host, S: CountsLists + Send + Sync + 'static>(
     rt: &R,
@@ -149,22 +213,16 @@ fn comes_off<R: Host, S: CountsLists + Send + Sync + 'static>(
     act: &Act<'_>,
 ) -> bool {
     match act {
-        Act::Begins(asked) => match stand.tried(asked) {
-            Ok(walk) => walks.push(walk).is_ok(),
-            Err(_) => false,
+        Act::Begins(asked) | Act::IsRefused(asked) => match stand.begin(asked, walks) {
+            Ok(()) => matches!(act, Act::Begins(_)),
+            Err(error) => matches!(act, Act::IsRefused(_)) && error.is_busy(),
         },
-        Act::IsRefused(asked) => match stand.tried(asked) {
-            Ok(_) => false,
-            Err(error) => error.is_busy(),
-        },
-        Act::IsBusy(asked) => is_busy(stand.taken(rt, asked, Taken::AtOnce)),
-        Act::Answers(way, asked, wanted) => {
-            are(stand.alloc, stand.taken(rt, asked, *way), wanted)
+        Act::Last(going) => last_goes_on(rt, &*stand.fs, walks, going),
+        Act::Answers(asked, wanted) => {
+            are(stand.alloc, stand.found(asked, NoProcess), Some(*wanted))
         }
-        Act::Last(going) => goes_on(rt, walks, going),
-        Act::Holds => holds(rt, &stand.crew).is_some(),
-        Act::InUse(places) => stand.crew.in_use() == *places,
-        Act::Rests => rests(rt, &*stand.fs),
+        Act::IsBusy(asked) => are(stand.alloc, stand.found(asked, NoProcess), None),
+        _ => is_so(rt, stand, act),
     }
 }
 
@@ -175,46 +233,35 @@ fn wrong<R: Host, S: CountsLists + Send + Sync + 'static>(
     acts: &[Act<'_>],
 ) -> Option<usize> {
     let mut walks = Vec::new(stand.alloc);
+    let mut wrong = None;
     for (number, act) in acts.iter().enumerate() {
-        if !comes_off(rt, stand, &mut walks, act) {
-            return Some(number);
+        if wrong.is_none() && !comes_off(rt, stand, &mut walks, act) {
+            wrong = Some(number);
         }
     }
-    None
+    wrong
+}
+
+/// The crew of a scene, over its tree.
+fn stand_of<R: Host>(rt: &R, scene: &Scene) -> Option<Stand<R, Watched>> {
+    let fs = Watched::new(tree(rt.alloc(), scene.steps).ok()?, scene.failing);
+    let crew = Crew::new(rt.clone().ok()?, scene.places, scene.workers);
+    let crew = match scene.read_ahead {
+        Some(readings) => crew.with_read_ahead(readings),
+        None => crew,
+    };
+    Stand::over(rt, fs, crew).ok()
 }
 
 /// The number of the first act that doesn't succeed over the crew and the tree of a scene; 0 if these can't be made.
 pub fn first_wrong<R: Host>(rt: &R, scene: &Scene, acts: &[Act<'_>]) -> Option<usize> {
-    let Ok(tree) = tree(rt.alloc(), scene.steps) else {
-        return Some(0);
-    };
-    let fs = Watched::new(tree, scene.failing);
-    match Stand::new(rt, fs, scene.places, scene.workers) {
-        Ok(stand) => wrong(rt, &stand, acts),
-        Err(_) => Some(0),
+    match stand_of(rt, scene) {
+        Some(stand) => wrong(rt, &stand, acts),
+        None => Some(0),
     }
 }
 
 /// Goes through these acts over the crew and the tree of a scene: each succeeds.
 pub fn all_go<R: Host + Abort>(rt: &R, scene: &Scene, acts: &[Act<'_>]) {
     assert_eq!(rt; first_wrong(rt, scene, acts), None);
-}
-
-/// Whether a walk with a callback yields this over a tree, if its crew has two workers.
-pub fn shows_by<R: Host, P: ProcessReadDir<States, Global> + Send + Sync + 'static>(
-    rt: &R,
-    steps: &[Step],
-    asked: &Asked<'_>,
-    process: P,
-    wanted: &str,
-) -> bool
-    requires { P.IsLawful process }
-{
-    let Ok(tree) = tree(rt.alloc(), steps) else {
-        return false;
-    };
-    match Stand::new(rt, tree, 1, 2) {
-        Ok(stand) => are(stand.alloc, stand.found(asked, process), wanted),
-        Err(_) => false,
-    }
 }

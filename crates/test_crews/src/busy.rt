@@ -1,6 +1,6 @@
 //! Walks whose crew is busy, and how many a crew serves.
 use crate::acts::{Act, Going, Scene, all_go};
-use crate::crewed::{Asked, Reader, Taken};
+use crate::crewed::{Asked, Reader};
 use test_fixtures::trees::{FORKED, GROUPED};
 use test_fixtures::watched::Failing;
 use test_fixtures::ways::Setting;
@@ -11,6 +11,7 @@ const ONE_PLACE: Scene = Scene {
     failing: Failing::Never,
     places: 1,
     workers: 1,
+    read_ahead: None,
 };
 
 /// A walk that waits for a place without limit.
@@ -72,9 +73,9 @@ fn a_root_without_a_directory_is_answered_by_a_busy_crew(rt: HostRuntime) {
     };
     const ACTS: &[Act<'static>] = &[
         Act::Begins(PATIENT),
-        Act::Answers(Taken::AtOnce, IMPATIENT_FROM_FILE, "0 f /t/a.txt"),
+        Act::Answers(IMPATIENT_FROM_FILE, "0 f /t/a.txt"),
         Act::IsRefused(IMPATIENT_FROM_FILE),
-        Act::Answers(Taken::AtOnce, FROM_NOTHING, "! 0 /none NotFound"),
+        Act::Answers(FROM_NOTHING, "! 0 /none NotFound"),
         Act::Last(Going::Drops),
         Act::InUse(0),
     ];
@@ -97,9 +98,8 @@ fn a_root_without_a_directory_takes_a_place(rt: HostRuntime) {
 fn as_many_walks_at_once_as_there_are_places(rt: HostRuntime) {
     const TWO_PLACES: Scene = Scene {
         steps: FORKED,
-        failing: Failing::Never,
         places: 2,
-        workers: 1,
+        ..ONE_PLACE
     };
     const WALK: Asked<'static> = Asked {
         root: "/r",
@@ -127,7 +127,7 @@ fn as_many_walks_at_once_as_there_are_places(rt: HostRuntime) {
 fn who_waits_gets_the_place_that_is_given_back(rt: HostRuntime) {
     const ACTS: &[Act<'static>] = &[
         Act::Holds,
-        Act::Answers(Taken::AtOnce, PATIENT_FROM_FILE, "0 f /t/a.txt"),
+        Act::Answers(PATIENT_FROM_FILE, "0 f /t/a.txt"),
         Act::InUse(0),
     ];
     all_go(&rt, &ONE_PLACE, ACTS);
@@ -148,11 +148,7 @@ fn no_places_and_no_workers_count_as_one(rt: HostRuntime) {
         Act::Begins(PATIENT),
         Act::IsRefused(IMPATIENT),
         Act::Last(Going::Drops),
-        Act::Answers(
-            Taken::AtOnce,
-            FROM_GROUP,
-            "0 d /t/group 1; 1 f /t/group 1/d.txt",
-        ),
+        Act::Answers(FROM_GROUP, "0 d /t/group 1; 1 f /t/group 1/d.txt"),
     ];
     all_go(&rt, &NO_PLACES, ACTS);
 }

@@ -1,4 +1,6 @@
 //! Walks that a crew reads for, over a tree.
+ghost use Rattle.jwalk.specs.WalkDir.{callback_of};
+
 use jwalk::crew::Session;
 use jwalk::file_system::FileSystem;
 use jwalk::read_dir::{NoProcess, ProcessReadDir};
@@ -8,7 +10,7 @@ use std::sync::{Arc, Wait};
 use std::time::{Clock, Duration};
 use test_fixtures::answers::Answer;
 use test_fixtures::host::Host;
-use test_fixtures::ways::{Setting, all_looped, all_of, all_on_threads, with_all};
+use test_fixtures::ways::{Setting, all_of, with_all};
 
 /// States that say nothing.
 pub type States = ((), ());
@@ -33,6 +35,17 @@ pub enum Reader {
     CrewWithin(u64),
 }
 
+impl Reader {
+    /// For how long a walk waits for a place, at most, if the crew is to read for it.
+    fn waits(self) -> Option<Option<Duration>> {
+        match self {
+            Reader::Untold => None,
+            Reader::Crew => Some(None),
+            Reader::CrewWithin(limit) => Some(Some(Duration::from_millis(limit))),
+        }
+    }
+}
+
 /// A walk that is asked for: its root in a tree, and its options.
 #[derive(Clone, Copy)]
 pub struct Asked<'a> {
@@ -44,17 +57,6 @@ pub struct Asked<'a> {
     pub reader: Reader,
     /// Which options are set after that.
     pub then: &'a [Setting],
-}
-
-/// How all answers of a walk are taken.
-#[derive(Clone, Copy)]
-pub enum Taken {
-    /// By calls that take many at once.
-    AtOnce,
-    /// By a `for` loop.
-    Looped,
-    /// By calls that may use threads beside the crew.
-    OnThreads,
 }
 
 /// A crew, and a file system for its walks.
@@ -75,8 +77,9 @@ impl<R: Drop, S: FileSystem> Drop for Stand<R, S> {
 }
 
 impl<R: Wait + Clock + AllocGlobal + Clone + Drop, S: FileSystem> Stand<R, S> {
-    /// A crew, over a file system.
-    fn over(alloc: Global, fs: S, crew: Crew<R>) -> Result<Self, AllocError> {
+    /// This crew, over a file system.
+    pub fn over(rt: &R, fs: S, crew: Crew<R>) -> Result<Self, AllocError> {
+        let alloc = rt.alloc();
         Ok(Stand {
             alloc,
             fs: Arc::new(alloc, fs)?,
@@ -84,21 +87,10 @@ impl<R: Wait + Clock + AllocGlobal + Clone + Drop, S: FileSystem> Stand<R, S> {
         })
     }
 
-    /// A crew that serves that many walks at once, each with that many workers, over a file system.
-    pub fn new(rt: &R, fs: S, places: usize, workers: usize) -> Result<Self, AllocError> {
-        let crew = Crew::new(rt.clone()?, places, workers);
-        Stand::over(rt.alloc(), fs, crew)
-    }
-
-    /// A crew that serves one walk, with that many workers, which read so far ahead, over a file system.
-    pub fn reading_ahead(
-        rt: &R,
-        fs: S,
-        workers: usize,
-        readings: usize,
-    ) -> Result<Self, AllocError> {
-        let crew = Crew::new(rt.clone()?, 1, workers).with_read_ahead(readings);
-        Stand::over(rt.alloc(), fs, crew)
+    /// A crew that serves one walk, with that many workers, over a file system.
+    pub fn new(rt: &R, fs: S, workers: usize) -> Result<Self, AllocError> {
+        let crew = Crew::new(rt.clone()?, 1, workers);
+        Stand::over(rt, fs, crew)
     }
 }
 
@@ -109,20 +101,23 @@ impl<R: Host, S: FileSystem + Send + Sync + 'static> Stand<R, S> {
         let fs = self.fs.clone()?;
         let pool = self.crew.clone()?;
         let walk = with_all(WalkDirGeneric::with_crew(fs, root), asked.settings);
-        let busy_timeout = match asked.reader {
-            Reader::Untold => return Ok(walk),
-            Reader::Crew => None,
-            Reader::CrewWithin(limit) => Some(Duration::from_millis(limit)),
+        let walk = match asked.reader.waits() {
+            Some(busy_timeout) => {
+                walk.parallelism(Parallelism::RayonExistingPool { pool, busy_timeout })
+            }
+            None => walk,
         };
-        let by_crew = Parallelism::RayonExistingPool { pool, busy_timeout };
-        Ok(with_all(walk.parallelism(by_crew), asked.then))
+        Ok(with_all(walk, asked.then))
     }
 
-    /// The walk begun, or why it doesn't begin.
-    pub fn tried(&self, asked: &Asked<'_>) -> Result<Walk<R, S>, Error> {
-        match self.builder(asked) {
-            Ok(walk) => walk.try_into_iter(),
-            Err(_) => Err(Error::memory()),
+    /// Begins the walk, as the last of these, or returns why it doesn't begin.
+    pub fn begin(&self, asked: &Asked<'_>, walks: &mut Vec<Walk<R, S>>) -> Result<(), Error> {
+        let Ok(walk) = self.builder(asked) else {
+            return Err(Error::memory());
+        };
+        match walk.try_into_iter() {
+            Ok(walk) => walks.push(walk).map_err(|_| Error::memory()),
+            Err(error) => Err(error),
         }
     }
 
@@ -137,18 +132,24 @@ impl<R: Host, S: FileSystem + Send + Sync + 'static> Stand<R, S> {
         requires { P.IsLawful process }
     {
         let walk = self.builder(asked)?.process_read_dir(process);
-        all_of(self.alloc, walk.into_iter())
+        all_by_crew(self.alloc, walk)
     }
+}
 
-    /// All that the walk yields, taken in this way.
-    pub fn taken(&self, rt: &R, asked: &Asked<'_>, way: Taken) -> Result<Vec<Answer>, AllocError> {
-        if let Taken::AtOnce = way {
-            return self.found(asked, NoProcess);
-        }
-        let walk = self.builder(asked)?;
-        match way {
-            Taken::AtOnce | Taken::Looped => all_looped(self.alloc, walk.into_iter()),
-            Taken::OnThreads => all_on_threads(rt, self.alloc, walk.into_iter()),
-        }
-    }
+/// All that a walk yields that a crew may read for.
+pub fn all_by_crew<
+    R: Host,
+    C: ClientState + Send + 'static,
+    S: FileSystem + Send + Sync + 'static,
+    P: ProcessReadDir<C, Global> + Send + Sync + 'static,
+>(
+    alloc: Global,
+    walk: WalkDirGeneric<C, S, P, Global, Crew<R>>,
+) -> Result<Vec<Answer<C>>, AllocError>
+where
+    C::ReadDirState: Send + 'static,
+    C::DirEntryState: Send + 'static,
+    requires { P.IsLawful (callback_of walk) }
+{
+    all_of(alloc, walk.into_iter())
 }

@@ -14,14 +14,17 @@ const WALK: Asked<'static> = Asked {
     then: &[],
 };
 
+/// A crew of two workers, with one place, over the forked directories.
+const TWO_WORKERS: Scene = Scene {
+    steps: FORKED,
+    failing: Failing::Never,
+    places: 1,
+    workers: 2,
+    read_ahead: None,
+};
+
 /// The number of the first act that doesn't succeed, where a walk is dropped after that many answers and another begins.
 fn wrong_after<R: Host>(rt: &R, count: usize) -> Option<usize> {
-    const SCENE: Scene = Scene {
-        steps: FORKED,
-        failing: Failing::Never,
-        places: 1,
-        workers: 2,
-    };
     const NEXT: Asked<'static> = Asked {
         reader: Reader::CrewWithin(10),
         ..WALK
@@ -34,7 +37,7 @@ fn wrong_after<R: Host>(rt: &R, count: usize) -> Option<usize> {
         Act::Begins(NEXT),
         Act::Last(Going::Comes(7)),
     ];
-    first_wrong(rt, &SCENE, &acts)
+    first_wrong(rt, &TWO_WORKERS, &acts)
 }
 
 #[test]
@@ -58,9 +61,7 @@ fn readers_outlive_the_walk(rt: HostRuntime) {
             Step::Link("../a", "/r/b/l"),
             Step::Link("../a", "/r/b/m"),
         ],
-        failing: Failing::Never,
-        places: 1,
-        workers: 2,
+        ..TWO_WORKERS
     };
     const FOLLOWED: Asked<'static> = Asked {
         settings: &[Setting::Follow],

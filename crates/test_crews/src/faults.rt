@@ -1,6 +1,6 @@
 //! Walks over a crew whose workers meet faults.
 use crate::acts::{Act, Scene, first_wrong};
-use crate::crewed::{Asked, Reader, Taken};
+use crate::crewed::{Asked, Reader};
 use std::io::ErrorKind;
 use test_fixtures::host::Host;
 use test_fixtures::trees::{GROUPED, SMALL, Step};
@@ -16,6 +16,7 @@ fn wrong_of<R: Host>(rt: &R, (steps, root, failing, answers): &Row) -> Option<us
         failing: *failing,
         places: 1,
         workers: 2,
+        read_ahead: None,
     };
     let walk = Asked {
         root: *root,
@@ -23,7 +24,7 @@ fn wrong_of<R: Host>(rt: &R, (steps, root, failing, answers): &Row) -> Option<us
         reader: Reader::Crew,
         then: &[],
     };
-    let acts = [Act::Answers(Taken::AtOnce, walk, *answers), Act::InUse(0)];
+    let acts = [Act::Answers(walk, *answers), Act::InUse(0)];
     first_wrong(rt, &scene, &acts)
 }
 

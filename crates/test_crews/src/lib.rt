@@ -14,15 +14,11 @@ mod early;
 #[cfg(test)]
 mod faults;
 #[cfg(test)]
-mod handed;
-#[cfg(test)]
 mod lost;
 #[cfg(test)]
 mod options;
 #[cfg(test)]
 mod own_crew;
-#[cfg(test)]
-mod random_links;
 #[cfg(test)]
 mod random_trees;
 #[cfg(test)]
@@ -35,5 +31,3 @@ mod rows;
 mod serial;
 #[cfg(test)]
 mod together;
-#[cfg(test)]
-mod told_loops;

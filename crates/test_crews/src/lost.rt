@@ -1,4 +1,4 @@
-//! Readings that are of another directory than the one that comes next.
+//! Walks whose readings are of another directory than the one that comes next.
 use jwalk::board::{Board, HandOutRefusal};
 use jwalk::file_system::FileSystem;
 use jwalk::ordered::Ordered;
@@ -15,6 +15,9 @@ use test_fixtures::trees::{Step, tree};
 type States = ((), ());
 
 type TreeJob<'f, S> = Job<States, &'f S, NoProcess>;
+
+/// A walk under way, for which some readers read.
+type Walk<'f, S, L> = DirEntryIter<States, &'f S, NoProcess, Global, L>;
 
 type Told<'f, S> = Message<States, &'f S, NoProcess>;
 
@@ -102,46 +105,46 @@ fn word_of<T: Drop>(coming: Option<Result<T, Error>>) -> &'static str {
     }
 }
 
-/// Whether this is the outcome of readings from `/r` on, of which these two are there.
-fn comes<S: FileSystem>(
+/// The walk from `/r`, for which these two readings are there.
+fn walk_of<'f, S: FileSystem>(
     alloc: Global,
-    fs: &S,
+    fs: &'f S,
     first: &str,
     second: &str,
-    words: &[&str],
-) -> Option<bool> {
-    let readers = readers_of(alloc, fs, first, second)?;
-    let own = Arc::new(alloc, job_over(alloc, fs)).ok()?;
-    let from = roots(&own, "/r")?;
-    let mut reads = ReadDirIter::over_readers(own, from, readers).ok()?;
-    for word in words {
-        if word_of(reads.next()) != *word {
-            return Some(false);
-        }
-    }
-    Some(true)
-}
-
-/// Whether a walk from `/r` yields this, for which these two readings are there.
-fn comes_of_walk<S: FileSystem>(
-    alloc: Global,
-    fs: &S,
-    first: &str,
-    second: &str,
-    words: &[&str],
-) -> Option<bool> {
-    let readers = readers_of(alloc, fs, first, second)?;
+) -> Option<Walk<'f, S, Prepared<'f, S>>> {
     let own = Arc::new(alloc, job_over(alloc, fs)).ok()?;
     let list = own.root_list("/r", ()).ok()?;
     let from = list.read_children_specs().ok()?;
+    let readers = readers_of(alloc, fs, first, second)?;
     let reads = ReadDirIter::over_readers(own, from, readers).ok()?;
-    let mut walk = DirEntryIter::with_list(reads, list.into_results_list(), false);
+    Some(DirEntryIter::with_list(reads, list.into_results_list(), false))
+}
+
+/// Whether a walk yields this.
+fn comes<S: FileSystem, L: Readers<States, S, NoProcess, Global>>(
+    walk: &mut DirEntryIter<States, S, NoProcess, Global, L>,
+    words: &[&str],
+) -> bool {
     for word in words {
         if word_of(walk.next()) != *word {
-            return Some(false);
+            return false;
         }
     }
-    Some(true)
+    true
+}
+
+/// Whether the walk from `/r` yields this, for which these two readings are there.
+fn yields<S: FileSystem>(
+    alloc: Global,
+    fs: &S,
+    first: &str,
+    second: &str,
+    words: &[&str],
+) -> bool {
+    match walk_of(alloc, fs, first, second) {
+        Some(mut walk) => comes(&mut walk, words),
+        None => false,
+    }
 }
 
 /// Which two readings are there, and what comes then.
@@ -151,21 +154,9 @@ const ROWS: &[(&str, &str, &[&str])] = &[
 ];
 
 #[test]
-fn a_reading_of_another_directory_is_lost_and_ends_the_readings(rt: HostRuntime) {
-    let fs = tree(rt.alloc(), TWO_ROOTS);
-    for (first, second, words) in ROWS {
-        assert!(rt;
-            matches!(&fs, Ok(fs) if comes(rt.alloc(), fs, first, second, words) == Some(true))
-        );
-    }
-}
-
-#[test]
 fn a_reading_of_another_directory_is_one_error_and_ends_the_walk(rt: HostRuntime) {
     let fs = tree(rt.alloc(), TWO_ROOTS);
     for (first, second, words) in ROWS {
-        assert!(rt;
-            matches!(&fs, Ok(fs) if comes_of_walk(rt.alloc(), fs, first, second, words) == Some(true))
-        );
+        assert!(rt; matches!(&fs, Ok(fs) if yields(rt.alloc(), fs, first, second, words)));
     }
 }

@@ -1,6 +1,6 @@
 //! Options of walks that may be over a crew.
 use crate::acts::{Act, Going, Scene, all_go};
-use crate::crewed::{Asked, Reader, Taken};
+use crate::crewed::{Asked, Reader};
 use test_fixtures::trees::FORKED;
 use test_fixtures::watched::Failing;
 use test_fixtures::ways::Setting;
@@ -12,6 +12,7 @@ const TWO_WORKERS: Scene = Scene {
     failing: Failing::Never,
     places: 1,
     workers: 2,
+    read_ahead: None,
 };
 
 /// What walks over the forked directories yield.
@@ -118,17 +119,5 @@ fn all_directories_are_read_ahead(rt: HostRuntime) {
         Act::Last(Going::Ahead(0)),
         Act::Last(Going::Ends("")),
     ];
-    all_go(&rt, &TWO_WORKERS, ACTS);
-}
-
-#[test]
-fn a_for_loop_over_a_walk(rt: HostRuntime) {
-    const ACTS: &[Act<'static>] = &[Act::Answers(Taken::Looped, BY_CREW, ALL), Act::InUse(0)];
-    all_go(&rt, &TWO_WORKERS, ACTS);
-}
-
-#[test]
-fn a_walk_whose_calls_may_use_threads_too(rt: HostRuntime) {
-    const ACTS: &[Act<'static>] = &[Act::Answers(Taken::OnThreads, BY_CREW, ALL)];
     all_go(&rt, &TWO_WORKERS, ACTS);
 }

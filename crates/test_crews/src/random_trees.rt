@@ -1,32 +1,19 @@
 //! Trees made at random.
 use jwalk::file_system::{BuildError, MemoryFs};
-use std::alloc::{AllocError, Global};
+use std::alloc::Global;
 use std::io::ErrorKind;
 use test_fixtures::dice::Dice;
 
 /// How many steps make a tree.
 const STEPS: usize = 60;
 
-/// How many links a tree has at most: where they are followed, each can multiply what is below it.
-const MOST_LINKS: usize = 3;
+/// One step in how many may add a link: where they are followed, each can multiply what is below it.
+const LINKS: usize = 20;
 
-/// A tree that grows by thrown steps, and its directories below the root.
-#[derive(Drop)]
-struct Growing {
-    alloc: Global,
-    dice: Dice,
-    fs: MemoryFs,
-    dirs: Vec<String>,
-    links: usize,
-}
-
-/// The path of the root or of one of these directories.
+/// The path of one of these directories.
 fn some_dir<'d>(dice: &mut Dice, dirs: &'d [String]) -> &'d str {
-    let place = dice.below(dirs.len().saturating_add(1));
-    match dirs.get(place) {
-        Some(path) => path.as_str(),
-        None => "/r",
-    }
+    let place = dice.below(dirs.len());
+    dirs.get(place).map_or("/r", |path| path.as_str())
 }
 
 /// What a link leads to: one of these directories, up, itself or nothing.
@@ -39,72 +26,42 @@ fn some_target<'d>(dice: &mut Dice, dirs: &'d [String]) -> &'d str {
     }
 }
 
-impl Growing {
-    /// A path in one of its directories, whose name is hidden now and then.
-    fn some_path(&mut self) -> Result<String, AllocError> {
-        let dot = if self.dice.below(5) == 0 { "." } else { "" };
-        let letter = match self.dice.below(4) {
-            0 => "a",
-            1 => "b",
-            2 => "Z",
-            _ => "_",
-        };
-        let number = self.dice.below(30);
-        let dir = some_dir(&mut self.dice, self.dirs.as_slice());
-        format!(in self.alloc; "{dir}/{dot}{letter}{number}")
-    }
-
-    /// Adds a directory.
-    fn add_dir(&mut self, path: String) -> Result<(), BuildError> {
-        self.fs.add_dir(path.as_str())?;
-        match self.dirs.push(path) {
-            Ok(()) => Ok(()),
-            Err(_) => Err(BuildError::Memory),
+/// Takes the step of a number: denies the directory that was made last, or adds a directory, a file or a link to one of
+/// these, whose name is hidden now and then.
+fn step(
+    alloc: Global,
+    dice: &mut Dice,
+    fs: &mut MemoryFs,
+    dirs: &mut Vec<String>,
+    number: usize,
+) -> Result<(), BuildError> {
+    let dir = some_dir(dice, dirs.as_slice());
+    let dot = if dice.below(5) == 0 { "." } else { "" };
+    let path = format!(in alloc; "{dir}/{dot}{number}")?;
+    match dice.below(12) {
+        _ if number % LINKS == LINKS - 1 => {
+            fs.add_link(path.as_str(), some_target(dice, dirs.as_slice()))
         }
-    }
-
-    /// Adds a link.
-    fn add_link(&mut self, path: &str) -> Result<(), BuildError> {
-        self.links = self.links.saturating_add(1);
-        let target = some_target(&mut self.dice, self.dirs.as_slice());
-        self.fs.add_link(path, target)
-    }
-
-    /// Denies the directory that was made last.
-    fn deny(&mut self) -> Result<(), BuildError> {
-        match self.dirs.last() {
-            Some(path) => self.fs.deny(path.as_str(), ErrorKind::PermissionDenied),
+        0 => match dirs.last() {
+            Some(path) => fs.deny(path.as_str(), ErrorKind::PermissionDenied),
             None => Ok(()),
+        },
+        1..=5 => {
+            fs.add_dir(path.as_str())?;
+            dirs.push(path).map_err(|_| BuildError::Memory)
         }
-    }
-
-    /// Takes one step.
-    fn step(&mut self) -> Result<(), BuildError> {
-        let path = self.some_path()?;
-        match self.dice.below(12) {
-            0 if self.links < MOST_LINKS => self.add_link(path.as_str()),
-            1 => self.deny(),
-            2..=6 => self.add_dir(path),
-            _ => self.fs.add_file(path.as_str(), 1),
-        }
+        _ => fs.add_file(path.as_str(), 1),
     }
 }
 
 /// The tree `/r` of a seed: directories, files, hidden names, links, and directories that may not be listed.
 pub fn random_tree(alloc: Global, seed: usize) -> Result<MemoryFs, BuildError> {
-    let mut growing = Growing {
-        alloc,
-        dice: Dice::new(seed),
-        fs: MemoryFs::new(alloc),
-        dirs: Vec::new(alloc),
-        links: 0,
-    };
-    growing.fs.add_dir("/r")?;
-    for _ in 0..STEPS {
-        // A name that is there already leaves the tree as it is.
-        if let Err(BuildError::Memory) = growing.step() {
-            return Err(BuildError::Memory);
-        }
+    let mut dice = Dice::new(seed);
+    let mut fs = MemoryFs::new(alloc);
+    let mut dirs = Vec::new(alloc);
+    fs.add_dir("/r")?;
+    for number in 0..STEPS {
+        step(alloc, &mut dice, &mut fs, &mut dirs, number)?;
     }
-    Ok(growing.fs)
+    Ok(fs)
 }

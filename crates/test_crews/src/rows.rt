@@ -1,13 +1,10 @@
-//! Walks over a crew and their answers, which are those of walks without one.
-use crate::acts::{Act, Scene, first_wrong, shows_by};
-use crate::crewed::{Asked, Reader, Taken};
+//! Walks over a crew and their answers.
+use crate::acts::{Act, Scene, first_wrong};
+use crate::crewed::{Asked, Reader};
 use crate::serial::are_serial;
 use jwalk::file_system::{BuildError, MemoryFs};
-use jwalk::read_dir::ByFn;
-use std::alloc::{AllocError, Global};
-use test_fixtures::answers::Answer;
+use std::alloc::Global;
 use test_fixtures::host::Host;
-use test_fixtures::moving::move_directory;
 use test_fixtures::trees::{
     DENIED, ELSEWHERE, FORKED, GROUPED, LOOPED, LOOPED_BACK, Step, TO_EACH_OTHER, WITHIN, tree,
 };
@@ -22,13 +19,14 @@ type Row = (
     &'static str,
 );
 
-/// Whether these are the walk's answers, over a crew with that many workers for a walk and without one.
+/// Whether these are the walk's answers, over a crew with that many workers for a walk.
 fn holds<R: Host>(rt: &R, (steps, root, settings, answers): &Row, workers: usize) -> bool {
     let scene = Scene {
         steps: *steps,
         failing: Failing::Never,
         places: 1,
         workers,
+        read_ahead: None,
     };
     let walk = Asked {
         root: *root,
@@ -36,9 +34,7 @@ fn holds<R: Host>(rt: &R, (steps, root, settings, answers): &Row, workers: usize
         reader: Reader::Crew,
         then: &[],
     };
-    let act = Act::Answers(Taken::AtOnce, walk, *answers);
-    first_wrong(rt, &scene, &[act]).is_none()
-        && are_serial(rt, tree(rt.alloc(), *steps), &walk, workers)
+    first_wrong(rt, &scene, &[Act::Answers(walk, *answers)]).is_none()
 }
 
 #[test]
@@ -163,31 +159,4 @@ fn many_directories_and_a_long_chain_with_one_to_four_workers(rt: HostRuntime) {
             workers
         );
     }
-}
-
-/// A callback that moves what a directory holds to a file.
-fn move_group(
-    _depth: Option<usize>,
-    path: &str,
-    _state: &mut (),
-    list: &mut Vec<Answer>,
-) -> Result<(), AllocError> {
-    if path == "/t" {
-        move_directory(list, "group 1", "c.txt");
-    }
-    Ok(())
-}
-
-#[test]
-fn a_directory_that_was_moved_to_a_file(rt: HostRuntime) {
-    const WALK: Asked<'static> = Asked {
-        root: "/t",
-        settings: &[Setting::Sort],
-        reader: Reader::Crew,
-        then: &[],
-    };
-    const LINES: &str =
-        "0 d /t; 1 f /t/a.txt; 1 f /t/b.txt; 1 f /t/c.txt; 2 f /t/group 1/d.txt; 1 d /t/group 1; \
-         1 d /t/group 2; 2 f /t/group 2/e.txt";
-    assert!(rt; shows_by(&rt, GROUPED, &WALK, ByFn::of(move_group), LINES));
 }

@@ -1,8 +1,8 @@
 //! Whether walks over a crew yield what serial walks do, item by item.
 use crate::crewed::{Asked, Stand};
 use jwalk::DirEntry;
-use jwalk::file_system::{BuildError, FileSystem, MemoryFs};
-use jwalk::read_dir::{ByFn, NoProcess, ProcessReadDir};
+use jwalk::file_system::{BuildError, MemoryFs};
+use jwalk::read_dir::{ByFn, ProcessReadDir};
 use std::alloc::{AllocError, Global};
 use test_fixtures::answers::Answer;
 use test_fixtures::host::Host;
@@ -19,11 +19,13 @@ fn text_of(alloc: Global, found: Result<Vec<Answer<Counts>>, AllocError>) -> Opt
 }
 
 /// Whether a walk over the crew with a callback yields what the serial walk does with the same one.
-fn is_serial<
-    R: Host,
-    S: FileSystem + Send + Sync + 'static,
-    P: ProcessReadDir<Counts, Global> + Send + Sync + 'static,
->(rt: &R, stand: &Stand<R, S>, asked: &Asked<'_>, process: P, same: P) -> bool
+fn is_serial<R: Host, P: ProcessReadDir<Counts, Global> + Send + Sync + 'static>(
+    rt: &R,
+    stand: &Stand<R, MemoryFs>,
+    asked: &Asked<'_>,
+    process: P,
+    same: P,
+) -> bool
     requires lawful { P.IsLawful process }
     requires same { P.IsLawful same }
 {
@@ -72,17 +74,7 @@ fn reorder(
     Ok(())
 }
 
-/// Whether both walks over the crew, without a callback and with one that reorders lists, yield what serial ones do.
-fn are_both_serial<R: Host, S: FileSystem + Send + Sync + 'static>(
-    rt: &R,
-    stand: &Stand<R, S>,
-    asked: &Asked<'_>,
-) -> bool {
-    is_serial(rt, stand, asked, NoProcess, NoProcess)
-        && is_serial(rt, stand, asked, ByFn::of(reorder), ByFn::of(reorder))
-}
-
-/// Whether walks over a tree do so, over a crew with that many workers for a walk.
+/// Whether walks over a tree with a callback that reorders lists do so, over a crew with that many workers for a walk.
 pub fn are_serial<R: Host>(
     rt: &R,
     tree: Result<MemoryFs, BuildError>,
@@ -92,8 +84,8 @@ pub fn are_serial<R: Host>(
     let Ok(tree) = tree else {
         return false;
     };
-    match Stand::new(rt, tree, 1, workers) {
-        Ok(stand) => are_both_serial(rt, &stand, asked),
+    match Stand::new(rt, tree, workers) {
+        Ok(stand) => is_serial(rt, &stand, asked, ByFn::of(reorder), ByFn::of(reorder)),
         Err(_) => false,
     }
 }

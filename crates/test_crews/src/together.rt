@@ -1,13 +1,12 @@
 //! Two directories that are read at the same time.
-use crate::crewed::{Asked, Reader, Stand};
-use jwalk::file_system::FileSystem;
+use crate::crewed::{Asked, Reader, Stand, all_by_crew};
 use jwalk::read_dir::NoProcess;
 use std::alloc::AllocError;
+use std::sync::Arc;
 use test_fixtures::answers::{Answer, are_lines};
 use test_fixtures::builders::builder;
 use test_fixtures::host::Host;
 use test_fixtures::meeting::{Meeting, Place};
-use test_fixtures::ways::all_of;
 
 /// The two directories, each of which blocks in its listing until the other's has begun too.
 fn both<R: Host>(rt: &R, patience: u64) -> Result<Meeting<R>, AllocError> {
@@ -15,28 +14,26 @@ fn both<R: Host>(rt: &R, patience: u64) -> Result<Meeting<R>, AllocError> {
 }
 
 /// All that a walk over the two yields, for which a crew of two workers reads.
-fn answers_by_two<R: Host, S: FileSystem + Send + Sync + 'static>(
-    rt: &R,
-    fs: S,
-) -> Result<Vec<Answer>, AllocError> {
+fn answers_by_two<R: Host>(rt: &R, patience: u64) -> Result<Vec<Answer>, AllocError> {
     const WALK: Asked<'static> = Asked {
         root: "/r",
         settings: &[],
         reader: Reader::Crew,
         then: &[],
     };
-    let stand = Stand::new(rt, fs, 1, 2)?;
+    let stand = Stand::new(rt, both(rt, patience)?, 2)?;
     stand.found(&WALK, NoProcess)
 }
 
 /// All that a walk over the two yields, which that many workers of its own read.
-fn answers_by_own<R: Host, S: FileSystem + Send + Sync + 'static>(
+fn answers_by_own<R: Host>(
     rt: &R,
-    fs: S,
+    patience: u64,
     workers: usize,
 ) -> Result<Vec<Answer>, AllocError> {
-    let walk = builder(rt.alloc(), fs, "/r")?;
-    all_of(rt.alloc(), walk.workers(rt, workers)?.into_iter())
+    let fs = Arc::new(rt.alloc(), both(rt, patience)?)?;
+    let walk = builder(rt.alloc(), fs, "/r")?.workers(rt, workers)?;
+    all_by_crew(rt.alloc(), walk)
 }
 
 /// What a walk yields if the two are read at the same time.
@@ -48,7 +45,7 @@ const MISSED: &str = "0 d /r; 1 d /r/a ! 1 /r/a Other; 1 d /r/b; 2 f /r/b/f";
 // Two workers read at the same time. A crew of one thread would yield an error inside the first of the two.
 #[test]
 fn crew_of_one_thread(rt: HostRuntime) -> Result<(), AllocError> {
-    let found = answers_by_two(&rt, both(&rt, 5_000)?)?;
+    let found = answers_by_two(&rt, 5_000)?;
     assert!(rt; are_lines(rt.alloc(), found.as_slice(), MET));
     Ok(())
 }
@@ -56,7 +53,7 @@ fn crew_of_one_thread(rt: HostRuntime) -> Result<(), AllocError> {
 // A walk with one worker (the wrong body `workers_of_one`) misses the second of the two.
 #[test]
 fn two_workers_of_a_walk_s_own_read_at_the_same_time(rt: HostRuntime) -> Result<(), AllocError> {
-    let found = answers_by_own(&rt, both(&rt, 5_000)?, 2)?;
+    let found = answers_by_own(&rt, 5_000, 2)?;
     assert!(rt; are_lines(rt.alloc(), found.as_slice(), MET));
     Ok(())
 }
@@ -65,7 +62,7 @@ fn two_workers_of_a_walk_s_own_read_at_the_same_time(rt: HostRuntime) -> Result<
 fn one_worker_of_a_walk_s_own_reads_one_directory_at_a_time(
     rt: HostRuntime,
 ) -> Result<(), AllocError> {
-    let found = answers_by_own(&rt, both(&rt, 20)?, 1)?;
+    let found = answers_by_own(&rt, 20, 1)?;
     assert!(rt; are_lines(rt.alloc(), found.as_slice(), MISSED));
     Ok(())
 }
