@@ -1,5 +1,6 @@
 #!/usr/bin/env python3
-"""Compares walks over a crew and walks in batches with the serial walk, line by line, over random trees in memory.
+"""Compares walks over a crew and walks in batches with the serial walk, line by line, over random trees in memory; and what
+the serial walk tells of links that it follows with what their texts say.
 
     python3 bench/alike.py [TREES [SEED [PROGRAM]]]
 
@@ -8,6 +9,10 @@ its own, the first of which is SEED (1 where none is given): directories, some o
 names among them, and options and a root at random. One tree in ten is large. Each way of reading must print the lines of the
 serial walk, in their order, and end with its status. Where one doesn't, its seed, its words and the first line that differs
 are printed, and the script ends with 1.
+
+Then as many random trees of directories and links, whose texts go up and down, are walked over with links followed. A link
+must be told as a loop on the directory above it to which its text leads by its parts alone, and be followed where that is
+none. What is told otherwise is printed, and the script ends with 1.
 """
 import os
 import random
@@ -17,6 +22,8 @@ import sys
 PROGRAM = os.path.join(os.path.dirname(os.path.abspath(__file__)), "..", "crates", "walk", "out", "walk")
 
 WAYS = [["--crew", "1"], ["--crew", "2"], ["--crew", "4"], ["--batch", "3"], ["--batch", "64"]]
+
+ROOTS = ["/r", "r/", "//r/.", "/../r", "/r/a/..", "../r/a"]
 
 NAMES = ["a", "b", "ab", "a b", "é", "Z", "0", "long name of an entry"]
 
@@ -104,6 +111,88 @@ def compare(program, seed):
     return len(serial[0]) - 1, alike
 
 
+class Links:
+    """A random tree `/r` of directories and links, with texts of all kinds."""
+
+    def __init__(self, rng):
+        self.folders, self.links = ["/r"], {}
+        for _ in range(24):
+            folder = rng.choice(self.folders)
+            if len(self.links) < 6 and rng.random() < 1 / 3:
+                parts = rng.choices(["", ".", "..", "a", "b", "r", "l0"], [1, 1, 5, 2, 1, 1, 1], k=rng.randrange(5))
+                self.links[f"{folder}/l{len(self.links)}"] = "/".join([rng.choice(["/r", ".", "."]), *parts])
+            else:
+                path = f"{folder}/{rng.choice('ab')}"
+                if path not in self.folders:
+                    self.folders.append(path)
+
+    def lines(self):
+        folders = [f"d {path}" for path in self.folders]
+        return "\n".join([*folders, *(f"l {text}\t{path}" for path, text in self.links.items())]).encode()
+
+    def text_at(self, path):
+        """The text of the link at this path, which may lead through other links."""
+        names, parts = [], path.split("/")[::-1]
+        while parts:
+            part = parts.pop()
+            if part == "..":
+                names = names[:-1]
+            elif part not in ("", "."):
+                names.append(part)
+            text = self.links.get("/" + "/".join(names))
+            if text is not None and parts:
+                names = [] if text.startswith("/") else names[:-1]
+                parts += text.split("/")[::-1]
+        return text
+
+
+def spot(*texts):
+    """Where texts lead one after another, by their parts alone: from the root or not, how far up, and down to which names."""
+    is_absolute, ups, names = False, 0, []
+    for text in texts:
+        if text.startswith("/"):
+            is_absolute, ups, names = True, 0, []
+        for part in text.split("/"):
+            if part == ".." and names:
+                names = names[:-1]
+            elif part == "..":
+                ups += not is_absolute
+            elif part not in ("", "."):
+                names = [*names, part]
+    return is_absolute, ups, names
+
+
+def judge(tree, root, lines):
+    """How many links these lines tell as loops and how many as directories, and the first that is told wrongly."""
+    above, loops, others = [root], 0, 0
+    for line in lines:
+        words = line.split(" ")
+        is_error = words[0] == "!"
+        depth, path = int(words[is_error]), words[2]
+        above = above[: depth + 1]
+        ancestor = words[4] if words[3:4] == ["loop"] else None
+        if ancestor or words[1] == "D":
+            leads_to = spot(path, "..", tree.text_at(path))
+            is_loop = leads_to in [spot(it) for it in above]
+            if is_loop != bool(ancestor) or (ancestor and spot(ancestor) != leads_to):
+                return loops, others, line
+            loops, others = loops + bool(ancestor), others + (not ancestor)
+        if not is_error:
+            above.append(path)
+    return loops, others, None
+
+
+def told(program, seed):
+    """How many loops and other links the walk of a seed tells, and whether it tells them rightly."""
+    rng = random.Random(seed)
+    tree, root = Links(rng), ROOTS[seed % len(ROOTS)]
+    lines, _ = walked(program, ["--follow", "--max", "6"], root, tree.lines())
+    loops, others, wrong = judge(tree, root, [line.decode() for line in lines if line])
+    if wrong:
+        print(f"seed {seed}: {root}: this link is told wrongly: {wrong}", flush=True)
+    return loops, others, not wrong
+
+
 def main():
     count = int(sys.argv[1]) if len(sys.argv) > 1 else 2_000
     first = int(sys.argv[2]) if len(sys.argv) > 2 else 1
@@ -117,7 +206,10 @@ def main():
         if (seed - first + 1) % 500 == 0:
             print(f"{seed - first + 1} trees, {lines} lines of serial walks, {apart} trees walked otherwise", flush=True)
     print(f"{count} trees, {lines} lines of serial walks, {apart} trees walked otherwise")
-    return 1 if apart else 0
+    found = [told(program, seed) for seed in range(first, first + count)]
+    loops, others, right = map(sum, zip(*found))
+    print(f"{count} trees of links, {loops} loops and {others} other links, {count - right} trees told wrongly")
+    return 1 if apart or right < count else 0
 
 
 if __name__ == "__main__":

@@ -1,15 +1,27 @@
 //! Walks that a crew reads for, over one file system that tests look at too.
 use jwalk::file_system::FileSystem;
 use jwalk::read_dir::{NoProcess, ProcessReadDir};
-use jwalk::{Crew, Parallelism, WalkDirGeneric};
+use jwalk::{Crew, DirEntryIter, Parallelism, Readers, WalkDirGeneric};
 use std::alloc::{AllocError, Global};
 use std::sync::Arc;
 use test_fixtures::answers::{Answer, are_lines};
 use test_fixtures::host::Host;
-use test_fixtures::ways::{Setting, all_of, with_all};
+use test_fixtures::ways::{Asked, Setting, WAYS, all_of, with_all};
 
 /// A walk yet to begin that a crew is to read for.
 pub type CrewWalk<R, S> = WalkDirGeneric<((), ()), Arc<S>, NoProcess, Global, Crew<R>>;
+
+/// A walk under way that some readers read for.
+pub type WalkBy<S, L> = DirEntryIter<((), ()), Arc<S>, NoProcess, Global, L>;
+
+/// What is done with a walk under way, whoever reads for it.
+pub trait Visit<S: FileSystem> {
+    /// Does it, and returns whether the walk went as it must.
+    fn visit<L: Readers<((), ()), Arc<S>, NoProcess, Global>>(
+        &self,
+        walk: &mut WalkBy<S, L>,
+    ) -> bool;
+}
 
 /// A walk that is asked for: its root in a file system, and its options.
 #[derive(Drop)]
@@ -23,7 +35,7 @@ pub struct ByCrew<'a, S: FileSystem> {
 }
 
 impl<'a, S: FileSystem + Send + Sync + 'static> ByCrew<'a, S> {
-    /// Returns the walk, for which that many workers of this crew read.
+    /// Returns the walk, for which workers of this crew read.
     pub fn builder<R: Host>(
         &self,
         alloc: Global,
@@ -36,6 +48,17 @@ impl<'a, S: FileSystem + Send + Sync + 'static> ByCrew<'a, S> {
         };
         let walk = WalkDirGeneric::with_crew(self.fs.clone()?, root);
         Ok(with_all(walk, self.settings).parallelism(by_crew))
+    }
+
+    /// Begins the walk, for which workers of this crew read, lends it, and drops it.
+    pub fn lend<R: Host>(
+        &self,
+        alloc: Global,
+        pool: Arc<Crew<R>>,
+        visit: &impl Visit<S>,
+    ) -> Result<bool, AllocError> {
+        let mut walk = self.builder(alloc, pool)?.into_iter();
+        Ok(visit.visit(&mut walk))
     }
 
     /// Returns all that the walk yields, for which that many workers of a crew of its own read.
@@ -53,11 +76,25 @@ impl<'a, S: FileSystem + Send + Sync + 'static> ByCrew<'a, S> {
         all_of(alloc, walk.into_iter())
     }
 
-    /// Returns whether this is what the walk yields, for which two workers read.
-    pub fn shows<R: Host>(&self, rt: &R, wanted: &str) -> bool {
-        match self.found(rt, NoProcess, 2) {
+    /// Returns whether this is what the walk yields, for which that many workers read.
+    pub fn shows<R: Host>(&self, rt: &R, workers: usize, wanted: &str) -> bool {
+        match self.found(rt, NoProcess, workers) {
             Ok(found) => are_lines(rt.alloc(), found.as_slice(), wanted),
             Err(_) => false,
         }
+    }
+
+    /// Returns whether this is what the walk yields, read in each way and by a crew of two.
+    pub fn shows_always<R: Host>(&self, rt: &R, wanted: &str) -> bool {
+        let asked = Asked {
+            fs: &*self.fs,
+            root: self.root,
+            settings: self.settings,
+        };
+        let mut are_shown = self.shows(rt, 2, wanted);
+        for way in WAYS {
+            are_shown &= asked.shows(rt, NoProcess, *way, wanted);
+        }
+        are_shown
     }
 }

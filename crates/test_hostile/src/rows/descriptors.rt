@@ -2,7 +2,7 @@
 ghost use Rattle.jwalk.specs.jwalk_model.Tree.{functions_of, only_root};
 
 use jwalk::file_system::{Fault, FileSystem, Listed, MemoryFs, Metadata, Patient};
-use std::alloc::{Allocator, Global};
+use std::alloc::{AllocError, Allocator, Global};
 use std::io;
 use std::io::ErrorKind;
 use std::sync::atomic::{AtomicU64, AtomicUsize, Ordering};
@@ -10,6 +10,7 @@ use std::time::{Clock, Duration};
 use test_fixtures::answers::are_lines;
 use test_fixtures::builders::builder;
 use test_fixtures::trees::{SMALL, tree};
+use test_fixtures::ways::all_of;
 
 /// A clock that adds up how many microseconds it was to sleep.
 #[derive(Drop)]
@@ -109,17 +110,20 @@ const ENFILE: i32 = 23;
 /// The system's number that a directory may not be read.
 const EACCES: i32 = 13;
 
+/// Whether a walk yields the whole tree.
+fn shows_all<S: FileSystem>(alloc: Global, fs: S) -> Result<bool, AllocError> {
+    let found = all_of(alloc, builder(alloc, fs, "/r")?.into_iter())?;
+    let wanted = "0 d /r; 1 f /r/b; 1 d /r/s; 2 f /r/s/x; 1 f /r/a";
+    Ok(are_lines(alloc, found.as_slice(), wanted))
+}
+
 /// Whether a walk yields the whole tree where the first listings fail with this number, and sleeps meanwhile.
 fn is_whole(alloc: Global, number: i32) -> Option<bool> {
     let slept = Slept::not_yet();
     let failing = Failing::new(alloc, number)?;
     failing.fail(5);
-    let fs = Patient::new(&failing, &slept);
-    let mut found = Vec::new(alloc);
-    let mut walk = builder(alloc, &fs, "/r").ok()?.into_iter();
-    walk.fill(usize::MAX, &mut found).ok()?;
-    let wanted = "0 d /r; 1 f /r/b; 1 d /r/s; 2 f /r/s/x; 1 f /r/a";
-    Some(are_lines(alloc, found.as_slice(), wanted) && slept.micros() > 0)
+    let is_shown = shows_all(alloc, Patient::new(&failing, &slept)) == Ok(true);
+    Some(is_shown && slept.micros() > 0)
 }
 
 #[test]

@@ -3,46 +3,35 @@ ghost use Rattle.jwalk.specs.jwalk_model.Tree.{functions_of, only_root};
 
 use crate::by_crew::ByCrew;
 use jwalk::file_system::{Fault, FileSystem, FileType, Listed, MemoryFs, Metadata, Seen};
-use jwalk::read_dir::NoProcess;
 use std::alloc::{AllocError, Allocator};
 use std::io;
 use std::sync::Arc;
 use test_fixtures::host::Host;
 use test_fixtures::listed_directory::MISNAMED;
 use test_fixtures::trees::{Step, tree};
-use test_fixtures::ways::{Asked, Setting, WAYS};
+use test_fixtures::ways::Setting;
 
 /// Whether a walk yields these lines, read in each way and by a crew of two.
 fn shows_always<R: Host, S: FileSystem + Send + Sync + 'static>(
     rt: &R,
     fs: S,
-    root: &str,
     settings: &[Setting],
     wanted: &str,
 ) -> Result<bool, AllocError> {
-    let by_crew = ByCrew {
+    let asked = ByCrew {
         fs: Arc::new(rt.alloc(), fs)?,
-        root,
+        root: "/d",
         settings,
     };
-    let asked = Asked {
-        fs: &*by_crew.fs,
-        root,
-        settings,
-    };
-    let mut are_shown = by_crew.shows(rt, wanted);
-    for way in WAYS {
-        are_shown &= asked.shows(rt, NoProcess, *way, wanted);
-    }
-    Ok(are_shown)
+    Ok(asked.shows_always(rt, wanted))
 }
 
 #[test]
 fn odd_names_hidden_or_not(rt: HostRuntime) {
     let hidden = "0 d /d; 1 f /x; 1 f /d/; 1 f /d/a/b";
     let all = "0 d /d; 1 f /x; 1 f /d/; 1 f /d/..; 1 f /d/a/b";
-    assert!(rt; shows_always(&rt, MISNAMED, "/d", &[], hidden) == Ok(true));
-    assert!(rt; shows_always(&rt, MISNAMED, "/d", &[Setting::Hidden], all) == Ok(true));
+    assert!(rt; shows_always(&rt, MISNAMED, &[], hidden) == Ok(true));
+    assert!(rt; shows_always(&rt, MISNAMED, &[Setting::Hidden], all) == Ok(true));
 }
 
 /// A tree whose listings say that all are directories.
@@ -86,7 +75,7 @@ impl FileSystem for AllDirectories {
 /// Whether a walk over a file that is said to be a directory yields these lines.
 fn shows_file_as_directory<R: Host>(rt: &R, wanted: &str) -> Option<bool> {
     let fs = tree(rt.alloc(), &[Step::Dir("/d"), Step::File(1, "/d/f")]).ok()?;
-    shows_always(rt, AllDirectories { fs }, "/d", &[], wanted).ok()
+    shows_always(rt, AllDirectories { fs }, &[], wanted).ok()
 }
 
 #[test]

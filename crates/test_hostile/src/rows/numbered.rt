@@ -221,7 +221,7 @@ fn holds_by_crew<R: Host>(rt: &R, row: &Row) -> Result<bool, AllocError> {
         root: row.root,
         settings: row.settings,
     };
-    Ok(walk.shows(rt, row.answers) && walk.fs.asked() == row.asked)
+    Ok(walk.shows(rt, 2, row.answers) && walk.fs.asked() == row.asked)
 }
 
 /// Whether this is so if the walk is read in this way.

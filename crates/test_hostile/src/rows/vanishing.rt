@@ -1,9 +1,10 @@
 //! A directory that is gone from some moment on.
 ghost use Rattle.jwalk.specs.jwalk_model.Tree.{functions_of, only_root};
 
-use crate::by_crew::ByCrew;
-use jwalk::Crew;
+use crate::by_crew::{ByCrew, Visit, WalkBy};
 use jwalk::file_system::{BuildError, Fault, FileSystem, Listed, MemoryFs, Metadata};
+use jwalk::read_dir::NoProcess;
+use jwalk::{Crew, Readers};
 use std::alloc::{AllocError, Allocator, Global};
 use std::io;
 use std::io::ErrorKind;
@@ -73,26 +74,57 @@ const WHOLE: &str = "0 d /t; 1 f /t/a.txt; 1 f /t/b.txt; 1 f /t/c.txt; 1 d /t/gr
 const GONE: &str = "0 d /t; 1 f /t/a.txt; 1 f /t/b.txt; 1 f /t/c.txt; 1 d /t/group 1; \
                     2 f /t/group 1/d.txt; 1 d /t/group 2 ! 1 /t/group 2 NotFound";
 
-/// All answers of a walk whose second group is gone after that many of them.
-fn found(alloc: Global, width: Width, count: usize) -> Result<Vec<Answer>, BuildError> {
-    let fs = Vanishing::new(alloc)?;
-    let walk = builder(alloc, &fs, "/t")?
-        .sort(true)
-        .parallelism(width.parallelism());
-    let mut walk = walk.into_iter();
-    let mut found = Vec::new(alloc);
-    walk.fill(count, &mut found)?;
-    fs.vanish();
-    walk.fill(usize::MAX, &mut found)?;
-    Ok(found)
+/// Whether a walk yields one of these texts, whose second group is gone after that many answers.
+#[derive(Clone, Copy)]
+struct Vanishes<'a> {
+    alloc: Global,
+    fs: &'a Vanishing,
+    count: usize,
+    wanted: &'a [&'a str],
 }
 
-/// Whether these are the answers.
-fn shows(alloc: Global, width: Width, count: usize, wanted: &str) -> bool {
-    match found(alloc, width, count) {
-        Ok(found) => are_lines(alloc, found.as_slice(), wanted),
-        Err(_) => false,
+impl Vanishes<'_> {
+    /// All answers of a walk.
+    fn found<S: FileSystem, L: Readers<((), ()), Arc<S>, NoProcess, Global>>(
+        &self,
+        walk: &mut WalkBy<S, L>,
+    ) -> Result<Vec<Answer>, AllocError> {
+        let mut found = Vec::new(self.alloc);
+        walk.fill(self.count, &mut found)?;
+        self.fs.vanish();
+        walk.fill(usize::MAX, &mut found)?;
+        Ok(found)
     }
+}
+
+impl<S: FileSystem> Visit<S> for Vanishes<'_> {
+    fn visit<L: Readers<((), ()), Arc<S>, NoProcess, Global>>(
+        &self,
+        walk: &mut WalkBy<S, L>,
+    ) -> bool {
+        let Ok(found) = self.found(walk) else {
+            return false;
+        };
+        let mut is_one = false;
+        for wanted in self.wanted {
+            is_one |= are_lines(self.alloc, found.as_slice(), wanted);
+        }
+        is_one
+    }
+}
+
+/// Whether a serial walk, or one in batches, yields this.
+fn shows(alloc: Global, width: Width, count: usize, wanted: &str) -> Result<bool, BuildError> {
+    let fs = Arc::new(alloc, Vanishing::new(alloc)?).map_err(AllocError::from)?;
+    let walk = builder(alloc, fs.clone()?, "/t")?.sort(true);
+    let vanishes = Vanishes {
+        alloc,
+        fs: &*fs,
+        count,
+        wanted: &[wanted],
+    };
+    let mut walk = walk.parallelism(width.parallelism()).into_iter();
+    Ok(vanishes.visit(&mut walk))
 }
 
 #[test]
@@ -105,43 +137,36 @@ fn a_group_that_is_gone_before_or_after_it_was_read(rt: HostRuntime) {
     ];
     for (width, count, wanted) in ROWS {
         assert!(rt;
-            shows(rt.alloc(), *width, *count, *wanted),
+            matches!(shows(rt.alloc(), *width, *count, *wanted), Ok(true)),
             "after {}",
             *count
         );
     }
 }
 
-/// All answers of such a walk that a crew of two reads for.
-fn found_by_crew<R: Host>(rt: &R, count: usize) -> Result<Vec<Answer>, AllocError> {
+/// Whether the group is gone or read ahead by a crew of two, and nothing else differs.
+fn is_gone_or_not<R: Host>(rt: &R, count: usize) -> Result<bool, BuildError> {
     let alloc = rt.alloc();
-    let Ok(fs) = Vanishing::new(alloc) else {
-        return Err(AllocError);
-    };
+    let fs = Arc::new(alloc, Vanishing::new(alloc)?).map_err(AllocError::from)?;
     let asked = ByCrew {
-        fs: Arc::new(alloc, fs)?,
+        fs,
         root: "/t",
         settings: &[Setting::Sort],
     };
-    let pool = Arc::new(alloc, Crew::new(rt.clone()?, 1, 2))?;
-    let mut walk = asked.builder(alloc, pool)?.into_iter();
-    let mut found = Vec::new(alloc);
-    walk.fill(count, &mut found)?;
-    asked.fs.vanish();
-    walk.fill(usize::MAX, &mut found)?;
-    Ok(found)
-}
-
-/// Whether the group is gone or read ahead, and nothing else differs.
-fn is_gone_or_not<R: Host>(rt: &R, count: usize) -> Result<bool, AllocError> {
-    let found = found_by_crew(rt, count)?;
-    let found = found.as_slice();
-    Ok(are_lines(rt.alloc(), found, GONE) || are_lines(rt.alloc(), found, WHOLE))
+    let vanishes = Vanishes {
+        alloc,
+        fs: &*asked.fs,
+        count,
+        wanted: &[GONE, WHOLE],
+    };
+    let crew = Crew::new(rt.clone()?, 1, 2);
+    let pool = Arc::new(alloc, crew).map_err(AllocError::from)?;
+    Ok(asked.lend(alloc, pool, &vanishes)?)
 }
 
 #[test]
 fn a_group_that_is_gone_while_a_crew_reads(rt: HostRuntime) {
     for count in [1, 5] {
-        assert!(rt; is_gone_or_not(&rt, count) == Ok(true), "after {}", count);
+        assert!(rt; matches!(is_gone_or_not(&rt, count), Ok(true)), "after {}", count);
     }
 }

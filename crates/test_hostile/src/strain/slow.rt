@@ -3,13 +3,11 @@ ghost use Rattle.jwalk.specs.jwalk_model.Tree.{functions_of, only_root};
 
 use crate::by_crew::ByCrew;
 use jwalk::file_system::{Fault, FileSystem, Listed, MemoryFs, Metadata};
-use jwalk::read_dir::NoProcess;
 use std::alloc::Allocator;
 use std::sync::Arc;
 use std::sync::atomic::{AtomicUsize, Ordering};
 use std::time::{Clock, Duration};
 use std::{io, thread};
-use test_fixtures::answers::are_lines;
 use test_fixtures::dice::Dice;
 use test_fixtures::host::Host;
 use test_fixtures::trees::{FORKED, tree};
@@ -80,8 +78,7 @@ fn shows<R: Host>(rt: &R, workers: usize, wanted: &str) -> Option<bool> {
         root: "/r",
         settings: &[],
     };
-    let found = asked.found(rt, NoProcess, workers).ok()?;
-    Some(are_lines(alloc, found.as_slice(), wanted))
+    Some(asked.shows(rt, workers, wanted))
 }
 
 #[test]

@@ -1,10 +1,11 @@
 //! A call of a worker that doesn't return while its walk is dropped.
 ghost use Rattle.jwalk.specs.jwalk_model.Tree.{functions_of, only_root};
 
-use crate::by_crew::ByCrew;
-use jwalk::Crew;
+use crate::by_crew::{ByCrew, Visit, WalkBy};
 use jwalk::file_system::{Fault, FileSystem, Listed, MemoryFs, Metadata};
-use std::alloc::Allocator;
+use jwalk::read_dir::NoProcess;
+use jwalk::{Crew, Readers};
+use std::alloc::{Allocator, Global};
 use std::sync::Arc;
 use std::sync::atomic::{AtomicBool, Ordering};
 use std::time::{Clock, Duration};
@@ -62,28 +63,46 @@ impl<R: Clock + Drop> FileSystem for Stuck<R> {
     }
 }
 
-/// Whether a walk is dropped while the call blocks that reads ahead for it, and its place is free then.
-fn is_dropped<R: Host>(rt: &R) -> Option<bool> {
-    let alloc = rt.alloc();
-    let fs = Stuck {
-        fs: tree(alloc, FORKED).ok()?,
+/// A walk that goes on until the call blocks that reads ahead for it.
+#[derive(Drop)]
+struct Sticks<'a, R: Drop> {
+    disk: &'a Stuck<R>,
+}
+
+impl<R: Clock + Drop, S: FileSystem> Visit<S> for Sticks<'_, R> {
+    fn visit<L: Readers<((), ()), Arc<S>, NoProcess, Global>>(
+        &self,
+        walk: &mut WalkBy<S, L>,
+    ) -> bool {
+        let is_begun = matches!(walk.next(), Some(Ok(_)));
+        is_begun && is_set(&self.disk.clock, &self.disk.is_stuck)
+    }
+}
+
+/// The tree, in which no call has blocked yet.
+fn stuck_tree<R: Host>(rt: &R) -> Option<Stuck<R>> {
+    Some(Stuck {
+        fs: tree(rt.alloc(), FORKED).ok()?,
         clock: rt.clone().ok()?,
         is_stuck: AtomicBool::new(false),
         is_let_go: AtomicBool::new(false),
-    };
+    })
+}
+
+/// Whether a walk is dropped while the call blocks that reads ahead for it, and its place is free then.
+fn is_dropped<R: Host>(rt: &R) -> Option<bool> {
+    let alloc = rt.alloc();
     let asked = ByCrew {
-        fs: Arc::new(alloc, fs).ok()?,
+        fs: Arc::new(alloc, stuck_tree(rt)?).ok()?,
         root: "/r",
         settings: &[],
     };
     let pool = Arc::new(alloc, Crew::new(rt.clone().ok()?, 1, 3)).ok()?;
-    let mut walk = asked.builder(alloc, pool.clone().ok()?).ok()?.into_iter();
-    let is_begun = matches!(walk.next(), Some(Ok(_)));
-    let was_stuck = is_set(rt, &asked.fs.is_stuck);
-    drop(walk);
+    let sticks = Sticks { disk: &*asked.fs };
+    let was_stuck = asked.lend(alloc, pool.clone().ok()?, &sticks).ok()?;
     let is_free = pool.in_use() == 0 && !asked.fs.is_let_go.load(Ordering::SeqCst);
     asked.fs.is_let_go.store(true, Ordering::SeqCst);
-    Some(is_begun && was_stuck && is_free)
+    Some(was_stuck && is_free)
 }
 
 #[test]

@@ -13,7 +13,7 @@ use test_fixtures::host::Host;
 use test_fixtures::ways::{Asked, Setting, WAYS, Way};
 
 /// How many seeds are played.
-const SEEDS: usize = 2_000;
+const SEEDS: usize = 200;
 
 /// The greatest of all greatest depths, which ends the walks.
 const DEEPEST: usize = 5;
