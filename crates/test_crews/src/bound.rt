@@ -85,7 +85,11 @@ fn a_bound_below_the_number_of_workers_counts_as_that(rt: HostRuntime) {
             read_ahead: Some(bound),
             ..BOUNDED
         };
-        let acts = [Act::Begins(WALK), Act::Rests, Act::Last(Going::Ahead(ahead))];
+        let acts = [
+            Act::Begins(WALK),
+            Act::Rests,
+            Act::Last(Going::Ahead(ahead)),
+        ];
         all_go(&rt, &scene, &acts);
     }
 }

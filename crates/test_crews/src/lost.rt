@@ -134,13 +134,7 @@ fn comes<S: FileSystem, L: Readers<States, S, NoProcess, Global>>(
 }
 
 /// Whether the walk from `/r` yields this, for which these two readings are there.
-fn yields<S: FileSystem>(
-    alloc: Global,
-    fs: &S,
-    first: &str,
-    second: &str,
-    words: &[&str],
-) -> bool {
+fn yields<S: FileSystem>(alloc: Global, fs: &S, first: &str, second: &str, words: &[&str]) -> bool {
     match walk_of(alloc, fs, first, second) {
         Some(mut walk) => comes(&mut walk, words),
         None => false,

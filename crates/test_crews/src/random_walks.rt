@@ -48,6 +48,11 @@ fn random_trees_with_one_two_and_four_workers(rt: HostRuntime) {
             1 => 2,
             _ => 4,
         };
-        assert!(rt; are_alike(&rt, seed, workers), "seed {}, {} workers", seed, workers);
+        assert!(rt;
+            are_alike(&rt, seed, workers),
+            "seed {}, {} workers",
+            seed,
+            workers
+        );
     }
 }

@@ -1,9 +1,9 @@
 //! Walks whose batches threads read, where each request for memory is refused, or all from each on.
 use crate::refused::goes::Play;
 use crate::refused::rows::{GROUPS, HANDED_ON, MOVED, Row};
+use jwalk::ClientState;
 use jwalk::file_system::{BuildError, MemoryFs};
 use jwalk::read_dir::{NoProcess, ProcessReadDir};
-use jwalk::ClientState;
 use std::alloc::Global;
 use std::thread::Threads;
 use test_fixtures::refused::callbacks::Texts;

@@ -167,6 +167,10 @@ fn is_gone_or_not<R: Host>(rt: &R, count: usize) -> Result<bool, BuildError> {
 #[test]
 fn a_group_that_is_gone_while_a_crew_reads(rt: HostRuntime) {
     for count in [1, 5] {
-        assert!(rt; matches!(is_gone_or_not(&rt, count), Ok(true)), "after {}", count);
+        assert!(rt;
+            matches!(is_gone_or_not(&rt, count), Ok(true)),
+            "after {}",
+            count
+        );
     }
 }
