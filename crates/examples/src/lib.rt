@@ -10,8 +10,6 @@ pub mod finder;
 pub mod ignore_walk;
 pub mod newest;
 pub mod one_disk;
-#[cfg(test)]
-mod tests;
 pub mod to_csv;
 pub mod totals;
 pub mod unmarked;

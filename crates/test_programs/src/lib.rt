@@ -1,7 +1,9 @@
-//! What the program writes, and what walks over a disk answer.
+//! What the program `walk` and the small programs of `examples` print, and what walks over a disk answer.
 #![tactic(auto)]
 
 #[cfg(test)]
 mod disk;
+#[cfg(test)]
+mod examples;
 #[cfg(test)]
 mod program;

@@ -1,5 +1,5 @@
-//! What each example prints.
-use crate::{
+//! What each small program of `examples` prints.
+use examples::{
     all_errors, archive, batch_walk, crew_walk, finder, ignore_walk, newest, one_disk, to_csv,
     totals, unmarked, usage_walk,
 };
