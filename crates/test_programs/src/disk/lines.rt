@@ -1,22 +1,11 @@
 //! The answers of a walk as the lines that the program prints.
 use jwalk::file_system::FileSystem;
-use jwalk::read_dir::NoProcess;
-use jwalk::{DirEntry, DirEntryIter, Error, WalkDirGeneric};
 use std::alloc::{AllocError, Global};
 use std::str::from_utf8;
+use test_fixtures::answers::Answer;
+use test_fixtures::builders::{Builder, builder};
+use test_fixtures::ways::{Setting, all_of, with_all};
 use walk_text::print::print_answer;
-
-pub type Answer = Result<DirEntry<((), ())>, Error>;
-
-/// A walk that has not begun.
-pub type Builder<S> = WalkDirGeneric<((), ()), S, NoProcess>;
-
-pub type Walk<S> = DirEntryIter<((), ()), S, NoProcess>;
-
-/// A walk that has not begun, with the default options.
-pub fn builder<S: FileSystem>(alloc: Global, fs: S, root: &str) -> Result<Builder<S>, AllocError> {
-    Ok(WalkDirGeneric::new(fs, String::from_str(alloc, root)?))
-}
 
 /// Whether the lines of all answers could be written.
 fn writes(answers: &[Answer], lines: &mut Vec<u8>) -> bool {
@@ -38,9 +27,25 @@ pub fn lines(alloc: Global, answers: &[Answer], folder: &str) -> Result<String, 
         .replace(alloc, folder, "/t")
 }
 
-/// All answers that are still to come.
-pub fn rest<S: FileSystem>(alloc: Global, walk: &mut Walk<S>) -> Result<Vec<Answer>, AllocError> {
-    let mut found = Vec::new(alloc);
-    walk.fill(usize::MAX, &mut found)?;
-    Ok(found)
+/// All answers of a walk with these settings. A test names a file system alone, since walks over the disk have long types.
+pub fn answers<S: FileSystem>(
+    alloc: Global,
+    fs: S,
+    root: &str,
+    settings: &[Setting],
+) -> Result<Vec<Answer>, AllocError> {
+    let walk: Builder<S> = with_all(builder(alloc, fs, root)?, settings);
+    all_of(alloc, walk.into_iter())
+}
+
+/// The lines of such a walk, with `/t` for a folder.
+pub fn found<S: FileSystem>(
+    alloc: Global,
+    fs: S,
+    root: &str,
+    settings: &[Setting],
+    folder: &str,
+) -> Result<String, AllocError> {
+    let found = answers(alloc, fs, root, settings)?;
+    lines(alloc, found.as_slice(), folder)
 }

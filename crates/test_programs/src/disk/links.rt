@@ -1,11 +1,12 @@
 //! Walks over links on the disk.
 use crate::disk::folder::{Step, make, remove};
-use crate::disk::lines::{builder, lines, rest};
+use crate::disk::lines::found;
 use crate::disk::real::{shows, shows_from};
 use jwalk::file_system::RealFs;
 use std::alloc::{AllocError, Global};
 use std::test::Fail;
 use std::{env, io};
+use test_fixtures::ways::Setting;
 
 /// A directory of one file, and links to both and to nothing.
 const LINKED: &[Step] = &[
@@ -78,10 +79,8 @@ fn a_root_that_is_a_followed_link_to_a_directory(rt: HostRuntime) -> Result<(), 
 
 /// What a walk by name yields that follows links to the depth of 6, with `/t` for the folder.
 fn followed(rt: &HostRuntime, root: &str, folder: &str) -> io::Result<String> {
-    let walk = builder(rt.alloc(), RealFs::new(*rt), root)?;
-    let walk = walk.sort(true).follow_links(true).max_depth(6);
-    let found = rest(rt.alloc(), &mut walk.into_iter())?;
-    Ok(lines(rt.alloc(), found.as_slice(), folder)?)
+    const SETTINGS: &[Setting] = &[Setting::Sort, Setting::Follow, Setting::Max(6)];
+    Ok(found(rt.alloc(), RealFs::new(*rt), root, SETTINGS, folder)?)
 }
 
 /// A directory, in which a link leads to the folder by its whole path.

@@ -1,25 +1,29 @@
 //! Walks over a disk whose answers are written down.
-use crate::disk::lines::{Answer, Walk, builder, lines, rest};
+use crate::disk::lines::{answers as answers_of, lines};
 use crate::disk::told::{Call, Calls, Readings, Told, ToldDisk};
 use jwalk::file_system::RealFs;
 use std::alloc::{AllocError, Global};
 use std::io::ErrorKind;
 use std::rc::Rc;
-use test_fixtures::answers::are_lines;
+use test_fixtures::answers::{Answer, are_lines};
+use test_fixtures::ways::Setting;
 
 /// A call that fails, at a path.
 type Failing = (Call, &'static str);
 
-/// A walk over a disk, from its directory.
-fn walk(alloc: Global, disk: ToldDisk, follow: bool) -> Result<Walk<RealFs<ToldDisk>>, AllocError> {
-    let walk = builder(alloc, RealFs::new(disk), "/t")?;
-    Ok(walk.follow_links(follow).into_iter())
+/// All answers of a walk over a disk from its directory, in the order of the listing.
+fn found(alloc: Global, disk: ToldDisk, follow: bool) -> Result<Vec<Answer>, AllocError> {
+    let settings: &[Setting] = if follow { &[Setting::Follow] } else { &[] };
+    answers_of(alloc, RealFs::new(disk), "/t", settings)
 }
 
-/// All answers of a walk in the order of the listing.
+/// The same over the disk of these answers.
 fn answers(alloc: Global, told: Told, follow: bool) -> Result<Vec<Answer>, AllocError> {
-    let disk = ToldDisk::new(told, Rc::new(alloc, Calls::none())?);
-    rest(alloc, &mut walk(alloc, disk, follow)?)
+    found(
+        alloc,
+        ToldDisk::new(told, Rc::new(alloc, Calls::none())?),
+        follow,
+    )
 }
 
 /// Whether this is what a walk yields.
@@ -170,7 +174,7 @@ fn makes_calls(
 ) -> Result<bool, AllocError> {
     let calls = Rc::new(alloc, Calls::none())?;
     let disk = ToldDisk::new(failing(&[], ErrorKind::Other), calls.clone()?);
-    let count = walk(alloc, disk, follow)?.count();
+    let count = found(alloc, disk, follow)?.len();
     Ok(count == 4 && calls.counts() == wanted)
 }
 

@@ -1,13 +1,16 @@
 //! The metadata that entries of the disk keep.
 use crate::disk::folder::{Step, make, path_in, remove};
-use crate::disk::lines::{Answer, builder, rest};
-use jwalk::file_system::{Details, FileType, Metadata, Moment, RealFs};
+use jwalk::file_system::{Details, FileSystem, FileType, Metadata, Moment, RealFs};
+use std::alloc::{AllocError, Global};
 use std::fs::{File, FileTimes, Permissions};
 use std::io::ErrorKind;
 use std::os::unix::fs::{MetadataExt, PermissionsExt};
 use std::test::Fail;
 use std::time::{Duration, SystemTime, UNIX_EPOCH};
 use std::{fs, io};
+use test_fixtures::answers::Answer;
+use test_fixtures::builders::builder;
+use test_fixtures::ways::all_of;
 
 /// A directory, a file, a link to it, and a file that is to have two names.
 const KINDS: &[Step] = &[
@@ -60,11 +63,20 @@ fn make_kinds(rt: &HostRuntime, name: &str) -> io::Result<String> {
     Ok(folder)
 }
 
-/// All that a walk by name yields from a folder.
+/// All that a walk by name yields that keeps metadata or not.
+fn answers<S: FileSystem>(
+    alloc: Global,
+    fs: S,
+    root: &str,
+    keep: bool,
+) -> Result<Vec<Answer>, AllocError> {
+    let walk = builder(alloc, fs, root)?.sort(true).keep_metadata(keep);
+    all_of(alloc, walk.into_iter())
+}
+
+/// The same from a folder on the disk.
 fn found(rt: &HostRuntime, folder: &str, keep: bool) -> io::Result<Vec<Answer>> {
-    let walk = builder(rt.alloc(), RealFs::new(*rt), folder)?;
-    let walk = walk.sort(true).keep_metadata(keep);
-    Ok(rest(rt.alloc(), &mut walk.into_iter())?)
+    Ok(answers(rt.alloc(), RealFs::new(*rt), folder, keep)?)
 }
 
 /// The metadata of an answer, if it keeps any.

@@ -1,20 +1,27 @@
 //! Walks over folders on the disk.
 use crate::disk::folder::{Step, make, path_in, remove};
-use crate::disk::lines::{Walk, builder, lines, rest};
+use crate::disk::lines::found;
 use jwalk::file_system::RealFs;
 use std::io;
+use test_fixtures::ways::Setting;
 
-/// A walk by name.
-pub fn by_name(rt: &HostRuntime, root: &str, follow: bool) -> io::Result<Walk<RealFs>> {
-    let walk = builder(rt.alloc(), RealFs::new(*rt), root)?;
-    Ok(walk.sort(true).follow_links(follow).into_iter())
-}
+/// The settings of a walk by name.
+pub const BY_NAME: &[Setting] = &[Setting::Sort];
+
+/// The same, where links are followed.
+const FOLLOWED: &[Setting] = &[Setting::Sort, Setting::Follow];
 
 /// What a walk by name from something in a folder yields.
 pub fn found_from(rt: &HostRuntime, folder: &str, below: &str, follow: bool) -> io::Result<String> {
     let root = path_in(rt, folder, below)?;
-    let found = rest(rt.alloc(), &mut by_name(rt, root.as_str(), follow)?)?;
-    Ok(lines(rt.alloc(), found.as_slice(), folder)?)
+    let settings = if follow { FOLLOWED } else { BY_NAME };
+    Ok(found(
+        rt.alloc(),
+        RealFs::new(*rt),
+        root.as_str(),
+        settings,
+        folder,
+    )?)
 }
 
 /// Whether this is what a walk by name from something in a folder yields.

@@ -1,20 +1,23 @@
 //! Walks over directories on the disk that can't be read.
 use crate::disk::folder::{Step, make, path_in, remove};
-use crate::disk::lines::Answer;
-use crate::disk::real::{by_name, shows_from};
+use crate::disk::real::{BY_NAME, shows_from};
+use jwalk::DirEntryIter;
+use jwalk::file_system::{FileSystem, RealFs};
+use jwalk::read_dir::NoProcess;
 use std::os::unix::fs::PermissionsExt;
 use std::rt::Files;
 use std::test::Fail;
 use std::{fs, io};
-use test_fixtures::answers::are_lines;
+use test_fixtures::answers::{Answer, are_lines};
+use test_fixtures::builders::builder;
+use test_fixtures::ways::with_all;
 
-/// The answers of a walk from a folder, one directory of which is removed once the folder is yielded.
-fn answers_around_removal(
+/// All answers of a walk, where a directory is removed once the first is there.
+fn around_removal<S: FileSystem>(
     rt: &HostRuntime,
-    folder: &str,
+    walk: &mut DirEntryIter<((), ()), S, NoProcess>,
     removed: &str,
 ) -> io::Result<Vec<Answer>> {
-    let mut walk = by_name(rt, folder, false)?;
     let mut found = Vec::new(rt.alloc());
     walk.fill(1, &mut found)?;
     remove(rt, removed)?;
@@ -22,10 +25,21 @@ fn answers_around_removal(
     Ok(found)
 }
 
+/// The answers of a walk by name over this disk, where a directory is removed once the root is yielded.
+fn answers_around_removal<S: FileSystem>(
+    rt: &HostRuntime,
+    disk: S,
+    root: &str,
+    removed: &str,
+) -> io::Result<Vec<Answer>> {
+    let walk = with_all(builder(rt.alloc(), disk, root)?, BY_NAME);
+    around_removal(rt, &mut walk.into_iter(), removed)
+}
+
 /// Whether the error of the removed directory comes where it would have been read.
 fn shows_removal(rt: &HostRuntime, folder: &str) -> io::Result<bool> {
     let removed = path_in(rt, folder, "/b")?;
-    let found = answers_around_removal(rt, folder, removed.as_str())?;
+    let found = answers_around_removal(rt, RealFs::new(*rt), folder, removed.as_str())?;
     let wanted = format!(in rt.alloc();
         "0 d {folder}; 1 d {folder}/a; 2 f {folder}/a/x; 1 d {folder}/b ! 1 {folder}/b NotFound; \
          1 d {folder}/c; 2 f {folder}/c/x"

@@ -1,9 +1,11 @@
 //! Walks over folders of size on the disk.
 use crate::disk::folder::{make, path_in, remove};
-use crate::disk::lines::{Answer, rest};
-use crate::disk::real::{by_name, shows_from};
+use crate::disk::lines::answers;
+use crate::disk::real::{BY_NAME, shows_from};
+use jwalk::file_system::RealFs;
 use std::test::Fail;
 use std::{fs, io};
+use test_fixtures::answers::Answer;
 
 /// Makes a file of the wide directory, and adds the line of its entry. Names are in the order of their numbers.
 fn make_file(rt: &HostRuntime, folder: &str, number: usize, lines: &mut String) -> io::Result<()> {
@@ -63,7 +65,7 @@ fn is_at(answer: &Answer, depth: usize) -> bool {
 /// Whether a walk from the folder yields it and all directories in one another, each one deeper than the one before.
 fn goes_down(rt: &HostRuntime, folder: &str) -> io::Result<bool> {
     make_directories(rt, folder)?;
-    let found = rest(rt.alloc(), &mut by_name(rt, folder, false)?)?;
+    let found = answers(rt.alloc(), RealFs::new(*rt), folder, BY_NAME)?;
     for (depth, answer) in found.iter().enumerate() {
         if !is_at(answer, depth) {
             return Ok(false);

@@ -1,16 +1,17 @@
 //! Walks from folders, files and other things on the disk.
 use crate::disk::folder::{Step, make, path_in, remove};
-use crate::disk::lines::{builder, lines, rest};
+use crate::disk::lines::{found, lines};
 use crate::disk::real::{shows, shows_from};
 use crate::program::runs::comes_unread;
 use jwalk::file_system::{Fault, FileSystem, RealFs};
 use jwalk::read_dir::NoProcess;
 use jwalk::{Parallelism, WalkDir, WalkDirGeneric};
-use std::alloc::{AllocError, Global};
+use std::alloc::AllocError;
 use std::test::Fail;
 use std::thread::Threads;
 use std::{env, io};
 use test_fixtures::host::Host;
+use test_fixtures::ways::{Setting, all_on_threads};
 
 /// Files and two groups of files, one of which has a hidden name.
 const GROUPED: &[Step] = &[
@@ -69,12 +70,8 @@ fn found_in_batches<R: Threads + AllocGlobal + Sync, S: FileSystem + Send + Sync
     walk: WalkDirGeneric<((), ()), S, NoProcess>,
     folder: &str,
 ) -> Result<String, AllocError> {
-    let mut walk = walk
-        .sort(true)
-        .parallelism(Parallelism::RayonNewPool(2))
-        .into_iter();
-    let mut found = Vec::new(rt.alloc());
-    walk.fill_on(rt, usize::MAX, &mut found)?;
+    let walk = walk.sort(true).parallelism(Parallelism::RayonNewPool(2));
+    let found = all_on_threads(rt, rt.alloc(), walk.into_iter())?;
     lines(rt.alloc(), found.as_slice(), folder)
 }
 
@@ -126,9 +123,7 @@ const NESTED: &[Step] = &[Step::Dir("/r"), Step::Dir("/r/s")];
 
 /// What a walk to the depth 1 yields from a path that begins at the current directory of the process.
 fn found_here(rt: &HostRuntime, root: &str) -> io::Result<String> {
-    let walk = builder(rt.alloc(), RealFs::new(*rt), root)?;
-    let found = rest(rt.alloc(), &mut walk.max_depth(1).into_iter())?;
-    Ok(lines(rt.alloc(), found.as_slice(), "/t")?)
+    Ok(found(rt.alloc(), RealFs::new(*rt), root, &[Setting::Max(1)], "/t")?)
 }
 
 /// What walks yield from the folder around, each from one directory further down.

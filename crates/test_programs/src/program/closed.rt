@@ -1,47 +1,11 @@
 //! An output that is closed while a walk is under way.
+use crate::program::output::{Output, asked};
 use crate::program::runs::{ends, watched_over};
 use std::alloc::{AllocError, Global};
-use std::io;
-use std::io::{ErrorKind, Write};
 use std::sync::Arc;
 use test_fixtures::host::Host;
 use test_fixtures::watched::{Failing, Watched};
 use walk_text::failure::Failure;
-
-/// How often a disk was called, by whatever call.
-fn asked(disk: &Watched) -> usize {
-    let calls = disk.calls();
-    calls
-        .lists
-        .wrapping_add(calls.looks)
-        .wrapping_add(calls.follows)
-}
-
-/// Takes some writes, and fails from then on. It notes how often a disk had been called by then, and counts its
-/// failures.
-#[derive(Drop)]
-struct Closed<'d> {
-    takes: usize,
-    disk: &'d Watched,
-    calls: usize,
-    failures: usize,
-}
-
-impl<'d> Write for Closed<'d> {
-    fn write(&mut self, buf: &[u8]) -> io::Result<usize> {
-        if self.takes > 0 {
-            self.takes -= 1;
-            return Ok(buf.len());
-        }
-        self.calls = asked(self.disk);
-        self.failures = self.failures.wrapping_add(1);
-        Err(io::Error::from(ErrorKind::BrokenPipe))
-    }
-
-    fn flush(&mut self) -> io::Result<()> {
-        Ok(())
-    }
-}
 
 /// Lines of that many directories beside one another.
 fn dir_lines(alloc: Global, count: u64) -> Result<String, AllocError> {
@@ -53,26 +17,21 @@ fn dir_lines(alloc: Global, count: u64) -> Result<String, AllocError> {
 }
 
 /// Whether the disk was not called since a write failed, long before it was walked to its end.
-fn is_left(out: &Closed<'_>, before: usize) -> bool {
-    out.calls == asked(out.disk) && out.calls.wrapping_sub(before) < 3000
+fn is_left(out: &Output<'_>, disk: &Watched, before: usize) -> bool {
+    out.calls() == asked(disk) && out.calls().wrapping_sub(before) < 3000
 }
 
 /// Whether nothing is written once a write has failed; and the disk isn't called then, and isn't walked to its end,
 /// unless workers read ahead.
 fn stops(rt: &impl Host, words: &[&str], disk: &Arc<Watched>, ahead: bool) -> bool {
     let before = asked(disk);
-    let mut out = Closed {
-        takes: 2,
-        disk: &**disk,
-        calls: 0,
-        failures: 0,
-    };
+    let mut out = Output::taking(rt.alloc(), 2, Some(&**disk));
     let Ok(shared) = disk.clone() else {
         return false;
     };
     ends(rt, shared, words, "", &mut out, 1)
-        && (out.takes, out.failures) == (0, 1)
-        && (ahead || is_left(&out, before))
+        && out.failures() == 1
+        && (ahead || is_left(&out, disk, before))
 }
 
 #[test]

@@ -1,8 +1,8 @@
 //! The outcome of a run.
-use jwalk::file_system::{FileSystem, MemoryFs};
+use crate::program::input::Input;
+use crate::program::output::Output;
+use jwalk::file_system::FileSystem;
 use std::alloc::{AllocError, Global};
-use std::io;
-use std::io::{Read, Write};
 use std::process::Abort;
 use std::sync::Arc;
 use test_fixtures::host::Host;
@@ -24,68 +24,51 @@ pub const BAD_WORDS: Want<'static> = ("", "walk: bad words\n", 2);
 /// The words of a call, the lines of a tree, and the outcome.
 pub type Row<'a> = (&'a [&'a str], &'a str, Want<'a>);
 
-/// Whether this is the outcome over this disk of some words and then others.
-pub fn comes<S: FileSystem + Send + Sync + 'static, R: Read>(
+/// Runs the words in front and then the others over this disk. Returns the status, and what is written on standard error;
+/// none if memory runs out before.
+fn ran<S: FileSystem + Send + Sync + 'static>(
     rt: &impl Host,
     disk: S,
     front: &[&str],
     words: &[&str],
-    input: &mut R,
+    input: &mut Input<'_>,
+    out: &mut Output<'_>,
+) -> Option<(u8, Vec<u8>)> {
+    let words = texts(rt.alloc(), front, words).ok()?;
+    let mut err = Vec::new(rt.alloc());
+    let status = run(rt, rt.alloc(), disk, words.as_slice(), input, out, &mut err);
+    Some((status, err))
+}
+
+/// Whether this is the outcome over this disk of some words and then others.
+pub fn comes<S: FileSystem + Send + Sync + 'static>(
+    rt: &impl Host,
+    disk: S,
+    front: &[&str],
+    words: &[&str],
+    input: &mut Input<'_>,
     want: &Want<'_>,
 ) -> bool {
-    let Ok(words) = texts(rt.alloc(), front, words) else {
-        return false;
-    };
-    let mut out = Vec::new(rt.alloc());
-    let mut err = Vec::new(rt.alloc());
-    let status = run(
-        rt,
-        rt.alloc(),
-        disk,
-        words.as_slice(),
-        input,
-        &mut out,
-        &mut err,
-    );
-    out.as_slice() == want.0.as_bytes() && err.as_slice() == want.1.as_bytes() && status == want.2
+    let mut out = Output::new(rt.alloc());
+    match ran(rt, disk, front, words, input, &mut out) {
+        Some((status, err)) => {
+            out.is(want.0) && err.as_slice() == want.1.as_bytes() && status == want.2
+        }
+        None => false,
+    }
 }
 
 /// Whether a call over this disk that writes there ends with this status and reports nothing.
-pub fn ends<S: FileSystem + Send + Sync + 'static, W: Write>(
+pub fn ends(
     rt: &impl Host,
-    disk: S,
+    disk: Arc<Watched>,
     words: &[&str],
     input: &str,
-    out: &mut W,
+    out: &mut Output<'_>,
     status: u8,
 ) -> bool {
-    let Ok(words) = texts(rt.alloc(), &[], words) else {
-        return false;
-    };
-    let mut err = Vec::new(rt.alloc());
-    let found = run(
-        rt,
-        rt.alloc(),
-        disk,
-        words.as_slice(),
-        &mut input.as_bytes(),
-        out,
-        &mut err,
-    );
-    found == status && err.is_empty()
-}
-
-/// Counts how often it is read, and gives nothing.
-#[derive(Drop)]
-struct Unread {
-    reads: usize,
-}
-
-impl Read for Unread {
-    fn read(&mut self, _buf: &mut [u8]) -> io::Result<usize> {
-        self.reads = self.reads.wrapping_add(1);
-        Ok(0)
-    }
+    let ran = ran(rt, disk, &[], words, &mut Input::of(input), out);
+    matches!(ran, Some((found, err)) if found == status && err.is_empty())
 }
 
 /// Whether this is the outcome over this disk of some words and then others, and the input isn't read.
@@ -96,8 +79,8 @@ pub fn comes_unread<S: FileSystem + Send + Sync + 'static>(
     words: &[&str],
     want: &Want<'_>,
 ) -> bool {
-    let mut input = Unread { reads: 0 };
-    comes(rt, disk, front, words, &mut input, want) && input.reads == 0
+    let mut input = Input::of("");
+    comes(rt, disk, front, words, &mut input, want) && !input.is_read()
 }
 
 fn shared(alloc: Global, disk: Watched) -> Result<Arc<Watched>, AllocError> {
@@ -141,19 +124,16 @@ const WAYS: &[Way] = &[
 
 /// Whether a row has its outcome in one of the ways. If its tree is the disk, the input isn't read.
 fn comes_by(rt: &impl Host, (front, is_on_disk): &Way, (words, lines, want): &Row<'_>) -> bool {
-    let alloc = rt.alloc();
-    if !*is_on_disk {
-        return comes(
-            rt,
-            MemoryFs::new(alloc),
-            front,
-            words,
-            &mut lines.as_bytes(),
-            want,
-        );
-    }
-    match build_tree(alloc, lines.as_bytes()) {
-        Ok(disk) => comes_unread(rt, disk, front, words, want),
+    let (on_disk, on_input) = if *is_on_disk {
+        (*lines, "")
+    } else {
+        ("", *lines)
+    };
+    let mut input = Input::of(on_input);
+    match watched_over(rt.alloc(), on_disk, Failing::Never) {
+        Ok(disk) => {
+            comes(rt, disk, front, words, &mut input, want) && !(*is_on_disk && input.is_read())
+        }
         Err(_) => false,
     }
 }

@@ -1,35 +1,17 @@
 //! Inputs and outputs that fail, and long ones.
-use crate::program::runs::{BAD_WORDS, TREE_A, Want, comes, ends};
-use jwalk::file_system::MemoryFs;
+use crate::program::input::Input;
+use crate::program::output::Output;
+use crate::program::runs::{BAD_WORDS, TREE_A, Want, comes, ends, watched_over};
 use std::alloc::AllocError;
-use std::io;
-use std::io::{ErrorKind, Read, Write};
-
-/// Neither reads nor writes: each call fails with an error of this kind.
-#[derive(Drop)]
-struct Broken(ErrorKind);
-
-impl Read for Broken {
-    fn read(&mut self, _buf: &mut [u8]) -> io::Result<usize> {
-        Err(io::Error::from(self.0))
-    }
-}
-
-impl Write for Broken {
-    fn write(&mut self, _buf: &[u8]) -> io::Result<usize> {
-        Err(io::Error::from(self.0))
-    }
-
-    fn flush(&mut self) -> io::Result<()> {
-        Err(io::Error::from(self.0))
-    }
-}
+use std::io::ErrorKind;
+use test_fixtures::watched::Failing;
+use walk_text::failure::Failure;
 
 /// The words of a call, the error of its input, and the outcome.
 type Row = (&'static [&'static str], ErrorKind, Want<'static>);
 
 #[test]
-fn an_input_that_cannot_be_read_is_told(rt: HostRuntime) {
+fn an_input_that_cannot_be_read_is_told(rt: HostRuntime) -> Result<(), Failure> {
     const ROWS: &[Row] = &[
         (
             &["--tree", "/r"],
@@ -45,56 +27,32 @@ fn an_input_that_cannot_be_read_is_told(rt: HostRuntime) {
         (&["/"], ErrorKind::Other, ("0 d /\n", "", 0)),
     ];
     for (words, kind, want) in ROWS {
-        let disk = MemoryFs::new(rt.alloc());
-        assert!(rt; comes(&rt, disk, &[], words, &mut Broken(*kind), want));
+        let disk = watched_over(rt.alloc(), "", Failing::Never)?;
+        let mut input = Input::broken(*kind);
+        assert!(rt; comes(&rt, disk, &[], words, &mut input, want));
     }
+    Ok(())
 }
 
 #[test]
-fn an_output_that_cannot_be_written_ends_the_walk(rt: HostRuntime) {
+fn an_output_that_cannot_be_written_ends_the_walk(rt: HostRuntime) -> Result<(), Failure> {
     const CALLS: &[&[&str]] = &[
         &["--tree", "/t"],
         &["--tree", "--crew", "3", "/t"],
         &["--tree", "--usage", "/t"],
     ];
     for words in CALLS {
-        let disk = MemoryFs::new(rt.alloc());
-        let mut out = Broken(ErrorKind::BrokenPipe);
+        let disk = watched_over(rt.alloc(), "", Failing::Never)?;
+        let mut out = Output::taking(rt.alloc(), 0, None);
         assert!(rt; ends(&rt, disk, words, TREE_A, &mut out, 1));
     }
-}
-
-/// Keeps what is written until it is flushed.
-#[derive(Drop)]
-struct Kept {
-    written: Vec<u8>,
-    flushed: Vec<u8>,
-}
-
-impl Write for Kept {
-    fn write(&mut self, buf: &[u8]) -> io::Result<usize> {
-        self.written.extend_from_slice(buf)?;
-        Ok(buf.len())
-    }
-
-    fn flush(&mut self) -> io::Result<()> {
-        self.flushed.append(&mut self.written)?;
-        Ok(())
-    }
-}
-
-/// Whether this was flushed, and no more was written.
-fn is_kept(kept: &Kept, flushed: &str) -> bool {
-    kept.written.is_empty() && kept.flushed.as_slice() == flushed.as_bytes()
+    Ok(())
 }
 
 #[test]
-fn the_output_is_flushed_at_the_end(rt: HostRuntime) {
-    let mut out = Kept {
-        written: Vec::new(rt.alloc()),
-        flushed: Vec::new(rt.alloc()),
-    };
-    let disk = MemoryFs::new(rt.alloc());
+fn the_output_is_flushed_at_the_end(rt: HostRuntime) -> Result<(), Failure> {
+    let mut out = Output::new(rt.alloc());
+    let disk = watched_over(rt.alloc(), "", Failing::Never)?;
     let ended = ends(
         &rt,
         disk,
@@ -103,21 +61,8 @@ fn the_output_is_flushed_at_the_end(rt: HostRuntime) {
         &mut out,
         0,
     );
-    assert!(rt; ended && is_kept(&out, "0 d /r\n1 f /r/a\n"));
-}
-
-/// Gives a text in pieces, which end anywhere in a line.
-#[derive(Drop)]
-struct Pieces<'t>(&'t [u8]);
-
-impl<'t> Read for Pieces<'t> {
-    fn read(&mut self, buf: &mut [u8]) -> io::Result<usize> {
-        let len = buf.len().min(1000).min(self.0.len());
-        let (piece, left) = self.0.split_at(len);
-        buf[..len].copy_from_slice(piece);
-        self.0 = left;
-        Ok(len)
-    }
+    assert!(rt; ended && out.is("0 d /r\n1 f /r/a\n"));
+    Ok(())
 }
 
 /// Adds the line of a directory to an input, and that of its entry to an output, and those of that many files in it.
@@ -133,14 +78,14 @@ fn push_files(input: &mut String, out: &mut String, count: u64) -> Result<(), Al
 }
 
 #[test]
-fn a_long_input_is_read_whole(rt: HostRuntime) -> Result<(), AllocError> {
-    let mut input = String::new(rt.alloc());
+fn a_long_input_is_read_whole(rt: HostRuntime) -> Result<(), Failure> {
+    let mut text = String::new(rt.alloc());
     let mut out = String::new(rt.alloc());
-    push_files(&mut input, &mut out, 6000)?;
-    let mut pieces = Pieces(input.as_str().as_bytes());
-    let disk = MemoryFs::new(rt.alloc());
+    push_files(&mut text, &mut out, 6000)?;
+    let disk = watched_over(rt.alloc(), "", Failing::Never)?;
+    let mut input = Input::in_pieces(text.as_str(), 1000);
     let want = (out.as_str(), "", 0);
-    let is_whole = comes(&rt, disk, &[], &["--tree", "/r"], &mut pieces, &want);
-    assert!(rt; input.len() > 100000 && is_whole);
+    let is_whole = comes(&rt, disk, &[], &["--tree", "/r"], &mut input, &want);
+    assert!(rt; text.len() > 100000 && is_whole);
     Ok(())
 }
