@@ -1,7 +1,7 @@
 #!/usr/bin/env python3
 """Small trees with ignore files, and what git keeps of them, as in crates/test_seek/src/ignore/tree_rows.
 
-    python3 bench/ignore_trees.py write SEED           writes the 200 trees of the tests, 50 a file; theirs is seed 1
+    python3 bench/ignore_trees.py write SEED           writes the 100 trees of the tests, 50 a file; theirs is seed 1
     python3 bench/ignore_trees.py against PROGRAM COUNT SEED
                                                        random trees on disk: git beside what PROGRAM PATH prints
 
@@ -10,7 +10,8 @@ slash is a directory, one with `=` is a file with rules, whose lines end with `|
 is kept is each path that `git check-ignore --no-index` doesn't print, in the order of a sorted walk. PROGRAM is run with
 the tree's path, and prints the paths that it keeps below it, each ended by a zero byte; `{}` in PROGRAM stands for the
 path. A pattern with a literal text that `**` is directly behind is left out, since git 2.39 matches more there than it
-documents, and so is `**\\/`.
+documents, and so is `**\\/`. The 100 are chosen of 200, one after another: each time the tree that shows most that none
+of those chosen before shows.
 """
 import os
 import random
@@ -107,19 +108,65 @@ def written(text):
     return '"' + text.replace("\\", "\\\\").replace('"', '\\"').replace("\n", "\\n") + '"'
 
 
-FILES = ["first", "second", "third", "fourth"]
+FILES = ["first", "second"]
+PER_FILE = 50
+
+
+def pieces_of(text):
+    """The pieces that a pattern is made of, between its two ends."""
+    longest_first = sorted(PIECES, key=len, reverse=True)
+    return ["^"] + re.findall("|".join(re.escape(piece) for piece in longest_first), text) + ["$"]
+
+
+def shown_by_file(path, text):
+    """What a file of rules shows: which pieces stand side by side, and which forms of lines."""
+    kind = "exclude" if path.startswith(".git/") else min(path.count("/"), 2)
+    for line in text.strip("|").split("|"):
+        negated, pattern = line.startswith("!"), line.removeprefix("!")
+        yield kind, negated, pattern.endswith("/"), "/" in pattern.rstrip("/")
+        pieces = pieces_of(pattern)
+        for pair in zip(pieces, pieces[1:]):
+            yield pair
+            yield kind, negated, pair[0]
+
+
+def shown(lines, left):
+    """What a tree shows: of each file of rules, where there are some, and which of its paths are kept."""
+    found = set()
+    kinds = []
+    for line in lines:
+        path, mark, text = line.partition("=")
+        if mark:
+            found.update(shown_by_file(path, text))
+            kinds.append(path.count("/") if not path.startswith(".git/") else "exclude")
+        name = path.rstrip("/").split("/")[-1]
+        found.add((name, path.count("/"), line.endswith("/"), path.rstrip("/") in left))
+    found.add(tuple(kinds))
+    return found
+
+
+def chosen(rows, count):
+    """That many of these rows, in their order: each time the one that shows most that is new."""
+    all_shown = [shown(lines, left) for lines, left in rows]
+    seen, places = set(), []
+    while len(places) < count:
+        place = max((at for at in range(len(rows)) if at not in places), key=lambda at: (len(all_shown[at] - seen), -at))
+        places.append(place)
+        seen |= all_shown[place]
+    return [rows[place] for place in sorted(places)]
 
 
 def write(seed):
     """Writes the tables of the tests, of trees of at most 12 lines."""
-    top = os.path.join(os.path.dirname(os.path.abspath(__file__)), "..", "crates", "test_seek", "src", "tree_rows")
+    top = os.path.join(os.path.dirname(os.path.abspath(__file__)), "..", "crates", "test_seek", "src", "ignore", "tree_rows")
     os.makedirs(top, exist_ok=True)
     rows = [(lines, left) for _, _, lines, left in trees(900, seed) if len(lines) <= 12 and len(left) < len(paths_of(lines))]
+    rows = chosen(rows[:200], PER_FILE * len(FILES))
     for index, name in enumerate(FILES):
         with open(os.path.join(top, name + ".rt"), "w") as file:
-            file.write("//! Rows of trees.\nuse crate::tree_rows::TreeRow;\n\n/// Trees, with what is kept of each.\n")
+            file.write("//! Rows of trees.\nuse crate::ignore::tree_rows::TreeRow;\n\n/// Trees, with what is kept of each.\n")
             file.write("const ROWS: &[TreeRow] = &[\n")
-            for lines, left in rows[50 * index:50 * index + 50]:
+            for lines, left in rows[PER_FILE * index:PER_FILE * (index + 1)]:
                 file.write(f"    (\n        {written(chr(10).join(lines))},\n        {written(chr(10).join(left))},\n    ),\n")
             file.write("];\n\n/// Returns them. What calls this has none of the table in its own proof.\npub(crate) fn rows() -> &'static [TreeRow] {\n    ROWS\n}\n")
 

@@ -4,6 +4,7 @@ mod errors;
 mod folder;
 mod names;
 mod options;
+mod output;
 mod outputs;
 mod rules;
 mod runs;

@@ -1,5 +1,5 @@
 //! Walks over a disk whose answers are written down.
-use crate::disk::lines::{answers as answers_of, lines};
+use crate::disk::lines::{answers, lines};
 use crate::disk::told::{Call, Calls, Readings, Told, ToldDisk};
 use jwalk::file_system::RealFs;
 use std::alloc::{AllocError, Global};
@@ -12,14 +12,14 @@ use test_fixtures::ways::Setting;
 type Failing = (Call, &'static str);
 
 /// All answers of a walk over a disk from its directory, in the order of the listing.
-fn found(alloc: Global, disk: ToldDisk, follow: bool) -> Result<Vec<Answer>, AllocError> {
+fn found_on(alloc: Global, disk: ToldDisk, follow: bool) -> Result<Vec<Answer>, AllocError> {
     let settings: &[Setting] = if follow { &[Setting::Follow] } else { &[] };
-    answers_of(alloc, RealFs::new(disk), "/t", settings)
+    answers(alloc, RealFs::new(disk), "/t", settings)
 }
 
 /// The same over the disk of these answers.
-fn answers(alloc: Global, told: Told, follow: bool) -> Result<Vec<Answer>, AllocError> {
-    found(
+fn found_of(alloc: Global, told: Told, follow: bool) -> Result<Vec<Answer>, AllocError> {
+    found_on(
         alloc,
         ToldDisk::new(told, Rc::new(alloc, Calls::none())?),
         follow,
@@ -28,7 +28,7 @@ fn answers(alloc: Global, told: Told, follow: bool) -> Result<Vec<Answer>, Alloc
 
 /// Whether this is what a walk yields.
 fn shows(alloc: Global, told: Told, follow: bool, wanted: &str) -> bool {
-    let Ok(found) = answers(alloc, told, follow) else {
+    let Ok(found) = found_of(alloc, told, follow) else {
         return false;
     };
     match lines(alloc, found.as_slice(), "/t") {
@@ -159,7 +159,7 @@ fn memory_runs_out_in_each_call(rt: HostRuntime) {
 fn a_directory_that_may_not_be_read_is_answered(rt: HostRuntime) -> Result<(), AllocError> {
     const FAILING: &[Failing] = &[(Call::Open, "/t/s/")];
     let told = failing(FAILING, ErrorKind::PermissionDenied);
-    let found = answers(rt.alloc(), told, false)?;
+    let found = found_of(rt.alloc(), told, false)?;
     let wanted = "0 d /t; 1 f /t/a; 1 L /t/l; 1 d /t/s ! 1 /t/s PermissionDenied";
     assert!(rt; are_lines(rt.alloc(), found.as_slice(), wanted));
     Ok(())
@@ -174,7 +174,7 @@ fn makes_calls(
 ) -> Result<bool, AllocError> {
     let calls = Rc::new(alloc, Calls::none())?;
     let disk = ToldDisk::new(failing(&[], ErrorKind::Other), calls.clone()?);
-    let count = found(alloc, disk, follow)?.len();
+    let count = found_on(alloc, disk, follow)?.len();
     Ok(count == 4 && calls.counts() == wanted)
 }
 

@@ -1,18 +1,15 @@
 //! What walks leave that honour ignore files, in each way and over a crew.
-ghost use Rattle.jwalk.specs.WalkDir.{callback_of};
-
 use crate::ignore::left::text_of;
 use crate::ignore::planted::{Planted, Rules};
 use jwalk::file_system::{FileSystem, MemoryFs};
-use jwalk::read_dir::{NoProcess, ProcessReadDir};
+use jwalk::read_dir::ProcessReadDir;
 use jwalk::{ClientState, Crew, Parallelism, WalkDirGeneric};
 use jwalk_ignore::chain::Chain;
 use jwalk_ignore::ignore_files::IgnoreFiles;
 use jwalk_ignore::memory_texts::MemoryTexts;
 use std::alloc::{AllocError, Global};
-use std::sync::{Arc, Wait};
+use std::sync::Arc;
 use std::thread::Threads;
-use std::time::Clock;
 use test_fixtures::answers::Answer;
 use test_fixtures::host::Host;
 use test_fixtures::ways::{Asked, Setting, WAYS, Way, all_of};
@@ -46,25 +43,34 @@ impl ProcessReadDir<Rules, Global> for SharedRules {
     }
 }
 
-/// A walk yet to begin that a crew is to read for.
-type CrewWalk<R> = WalkDirGeneric<Rules, Arc<MemoryFs>, NoProcess, Global, Crew<R>>;
-
-/// Returns all that a walk yields that a crew may read for.
+/// Returns all that a walk by name from `/r` yields, for which a crew reads.
 fn all_by_crew<
-    R: Wait + Threads + Clock + Drop + Send + Sync + 'static,
+    R: Host,
     C: ClientState + Send + 'static,
     S: FileSystem + Send + Sync + 'static,
     P: ProcessReadDir<C, Global> + Send + Sync + 'static,
 >(
     alloc: Global,
-    walk: WalkDirGeneric<C, S, P, Global, Crew<R>>,
+    fs: S,
+    follows: bool,
+    process: P,
+    pool: Arc<Crew<R>>,
 ) -> Result<Vec<Answer<C>>, AllocError>
 where
     C::ReadDirState: Send + 'static,
     C::DirEntryState: Send + 'static,
-    requires { P.IsLawful (callback_of walk) }
+    requires { P.IsLawful process }
 {
-    all_of(alloc, walk.into_iter())
+    let root = String::from_str(alloc, "/r")?;
+    let walk = WalkDirGeneric::<C, S, _, _, _>::with_crew(fs, root)
+        .sort(true)
+        .skip_hidden(false)
+        .follow_links(follows)
+        .parallelism(Parallelism::RayonExistingPool {
+            pool,
+            busy_timeout: None,
+        });
+    all_of(alloc, walk.process_read_dir(process).into_iter())
 }
 
 /// A tree with files of rules, which a crew's workers share.
@@ -116,17 +122,7 @@ impl Shared {
         alloc: Global,
         pool: Arc<Crew<R>>,
     ) -> Result<Vec<Answer<Rules>>, AllocError> {
-        let by_crew = Parallelism::RayonExistingPool {
-            pool,
-            busy_timeout: None,
-        };
-        let root = String::from_str(alloc, "/r")?;
-        let walk: CrewWalk<R> = WalkDirGeneric::with_crew(self.fs.clone()?, root)
-            .sort(true)
-            .skip_hidden(false)
-            .follow_links(self.follows)
-            .parallelism(by_crew);
-        all_by_crew(alloc, walk.process_read_dir(self.rules()?))
+        all_by_crew(alloc, self.fs.clone()?, self.follows, self.rules()?, pool)
     }
 
     /// Returns whether walks from `/r` leave this, in each way and over a crew of two.

@@ -2,7 +2,7 @@
 use crate::ignore::always::{Shared, crew_of_two};
 use crate::ignore::left::text_of;
 use crate::ignore::planted::repository;
-use crate::ignore::tree_rows::{TreeRow, first, fourth, second, third};
+use crate::ignore::tree_rows::{TreeRow, first, second};
 use jwalk::Crew;
 use jwalk::file_system::BuildError;
 use std::sync::Arc;
@@ -29,7 +29,7 @@ fn first_wrong<R: Host>(rt: &R, pool: &Arc<Crew<R>>, rows: &[TreeRow]) -> Option
 #[test]
 fn walks_over_a_crew_leave_what_git_keeps(rt: HostRuntime) {
     let crew = crew_of_two(&rt);
-    for rows in [first::rows(), second::rows(), third::rows(), fourth::rows()] {
+    for rows in [first::rows(), second::rows()] {
         assert!(rt; matches!(&crew, Ok(crew) if first_wrong(&rt, crew, rows).is_none()));
     }
 }

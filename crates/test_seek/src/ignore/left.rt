@@ -1,11 +1,15 @@
 //! What walks leave that honour ignore files, as texts.
 use crate::ignore::planted::{Planted, Rules};
-use jwalk::file_system::BuildError;
-use jwalk::{DirEntry, Error, WalkDirGeneric};
+use jwalk::WalkDirGeneric;
+use jwalk::file_system::{BuildError, FileSystem};
 use jwalk_ignore::builder::with_ignore_files;
+use jwalk_ignore::chain::Chain;
 use jwalk_ignore::ignore_files::IgnoreFiles;
 use jwalk_ignore::memory_texts::MemoryTexts;
+use jwalk_ignore::texts::Texts;
 use std::alloc::{AllocError, Global};
+use std::fmt::Debug;
+use test_fixtures::answers::Answer;
 use test_fixtures::ways::all_of;
 
 /// Adds a path below `/r` to a text.
@@ -14,7 +18,7 @@ fn push_path(text: &mut String, path: &str) -> Result<(), AllocError> {
 }
 
 /// Adds an item of a walk to a text: the path of an entry, or an error's with its depth behind a mark.
-fn push_item(text: &mut String, answer: &Result<DirEntry<Rules>, Error>) -> Result<(), AllocError> {
+fn push_item(text: &mut String, answer: &Answer<Rules>) -> Result<(), AllocError> {
     match answer {
         Ok(entry) => push_path(text, entry.path()?.as_str())?,
         Err(error) => {
@@ -27,10 +31,7 @@ fn push_item(text: &mut String, answer: &Result<DirEntry<Rules>, Error>) -> Resu
 }
 
 /// Returns what answers are behind the root, each on a line.
-pub(crate) fn text_of(
-    alloc: Global,
-    answers: &[Result<DirEntry<Rules>, Error>],
-) -> Result<String, AllocError> {
+pub(crate) fn text_of(alloc: Global, answers: &[Answer<Rules>]) -> Result<String, AllocError> {
     let mut text = String::new(alloc);
     for answer in answers {
         match answer {
@@ -41,6 +42,18 @@ pub(crate) fn text_of(
     Ok(text)
 }
 
+/// Returns all that a walk by name yields that has these rules, whatever states it has besides.
+fn found_by_name<
+    B: Clone + Default + Debug + Drop,
+    E: Default + Debug + Drop,
+    S: FileSystem,
+    X: Texts,
+>(fs: S, root: String, rules: IgnoreFiles<X>) -> Result<Vec<Answer<((Chain, B), E)>>, AllocError> {
+    let alloc = *root.allocator();
+    let walk = WalkDirGeneric::<((Chain, B), E), _, _, _>::new(fs, root).sort(true);
+    all_of(alloc, with_ignore_files(walk, rules).into_iter())
+}
+
 /// Returns what a walk by name from a root yields behind the root, each item on a line.
 pub(crate) fn left_from(
     alloc: Global,
@@ -48,9 +61,11 @@ pub(crate) fn left_from(
     rules: IgnoreFiles<&MemoryTexts>,
     root: &str,
 ) -> Result<String, BuildError> {
-    let root = String::from_str(alloc, root)?;
-    let walk = WalkDirGeneric::<Rules, _, _, _>::new(&planted.fs, root).sort(true);
-    let found = all_of(alloc, with_ignore_files(walk, rules).into_iter())?;
+    let found: Vec<Answer<Rules>> = found_by_name(
+        &planted.fs,
+        String::from_str(alloc, root)?,
+        rules,
+    )?;
     Ok(text_of(alloc, &found)?)
 }
 

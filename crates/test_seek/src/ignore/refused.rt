@@ -1,7 +1,8 @@
 //! Walks with rules, where each request for memory is refused, or all from each on.
 use crate::ignore::planted::{Planted, tree_of};
-use jwalk::WalkDirGeneric;
-use jwalk::file_system::{BuildError, MemoryFs};
+use jwalk::file_system::{BuildError, FileSystem, MemoryFs};
+use jwalk::read_dir::ProcessReadDir;
+use jwalk::{ClientState, WalkDirGeneric};
 use jwalk_ignore::chain::Chain;
 use jwalk_ignore::ignore_files::IgnoreFiles;
 use jwalk_ignore::memory_texts::MemoryTexts;
@@ -91,16 +92,26 @@ struct Play<'f> {
     within: &'f AtomicUsize,
 }
 
+/// Returns a walk by name that is shown hidden names, whatever its callback.
+fn by_name<C: ClientState, S: FileSystem, P: ProcessReadDir<C, A>, A: Allocator + Copy>(
+    fs: S,
+    root: String<A>,
+    width: Width,
+    process: P,
+) -> WalkDirGeneric<C, S, P, A> {
+    WalkDirGeneric::new(fs, root)
+        .sort(true)
+        .skip_hidden(false)
+        .parallelism(width.parallelism())
+        .process_read_dir(process)
+}
+
 impl<'f> Play<'f> {
     /// The walk, if there is memory for its root.
     fn builder<A: Allocator + Copy>(&self, memory: A) -> Option<Walk<'f, A>> {
         let root = String::from_str(memory, self.row.root).ok()?;
-        let walk = WalkDirGeneric::new(&self.planted.fs, root)
-            .sort(true)
-            .skip_hidden(false)
-            .parallelism(self.width.parallelism());
-        let rules = IgnoreFiles::new(&self.planted.texts);
-        Some(walk.process_read_dir(Counting::new(rules, self.within)))
+        let rules = Counting::new(IgnoreFiles::new(&self.planted.texts), self.within);
+        Some(by_name(&self.planted.fs, root, self.width, rules))
     }
 }
 

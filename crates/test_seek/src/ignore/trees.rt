@@ -1,7 +1,7 @@
 //! Trees of one repository, beside what git keeps of them.
 use crate::ignore::left::left;
 use crate::ignore::planted::repository;
-use crate::ignore::tree_rows::{TreeRow, first, fourth, second, third};
+use crate::ignore::tree_rows::{TreeRow, first, second};
 use std::alloc::Global;
 
 /// Returns whether a walk leaves what git keeps of a tree.
@@ -25,6 +25,4 @@ fn first_wrong(alloc: Global, rows: &[TreeRow]) -> Option<usize> {
 fn walks_leave_what_git_keeps(rt: HostRuntime) {
     assert_eq!(rt; first_wrong(rt.alloc(), first::rows()), None);
     assert_eq!(rt; first_wrong(rt.alloc(), second::rows()), None);
-    assert_eq!(rt; first_wrong(rt.alloc(), third::rows()), None);
-    assert_eq!(rt; first_wrong(rt.alloc(), fourth::rows()), None);
 }

@@ -1,6 +1,7 @@
 //! Runs over the disk. Only a test itself names a runtime whose threads may reach the disk.
 use crate::seek::folder::{Step, make, remove};
-use crate::seek::runs::called;
+use crate::seek::output::Output;
+use crate::seek::runs::{called_on, comes};
 use jwalk::file_system::RealFs;
 use jwalk_ignore::real_texts::RealTexts;
 use std::alloc::{AllocError, Global};
@@ -69,23 +70,15 @@ fn rules_on_the_disk(rt: HostRuntime) -> io::Result<()> {
     let folder = make(&rt, "rules", STEPS)?;
     for (words, names) in RULES {
         let all = with_root(rt.alloc(), words, folder.as_str())?;
-        let want = lines_of(rt.alloc(), folder.as_str(), names)?;
+        let lines = lines_of(rt.alloc(), folder.as_str(), names)?;
+        let want = (lines.as_str(), "", 0);
         for threads in THREADS {
-            let mut out = Vec::new(rt.alloc());
-            let mut err = Vec::new(rt.alloc());
             let disk = RealFs::new(rt.clone()?);
             let texts = RealTexts::new(rt.clone()?);
-            let status = called(
-                &rt,
-                disk,
-                texts,
-                threads,
-                all.as_slice(),
-                &mut out,
-                &mut err,
+            assert!(rt;
+                comes(&rt, disk, texts, threads, all.as_slice(), &want),
+                "{lines}"
             );
-            assert_eq!(rt; out.as_slice(), want.as_bytes());
-            assert_eq!(rt; (status, err.len()), (0, 0));
         }
     }
     remove(&rt, folder.as_str())
@@ -95,26 +88,23 @@ fn rules_on_the_disk(rt: HostRuntime) -> io::Result<()> {
 fn a_name_with_a_line_feed(rt: HostRuntime) -> io::Result<()> {
     let folder = make(&rt, "feed", &[Step::File("", "a\nb"), Step::File("", "\n")])?;
     let all = with_root(rt.alloc(), &["--sort", "."], folder.as_str())?;
-    let want = lines_of(rt.alloc(), folder.as_str(), &["\n", "a\nb"])?;
-    let mut out = Vec::new(rt.alloc());
-    let mut err = Vec::new(rt.alloc());
+    let lines = lines_of(rt.alloc(), folder.as_str(), &["\n", "a\nb"])?;
     let disk = RealFs::new(rt.clone()?);
     let texts = RealTexts::new(rt.clone()?);
-    let status = called(&rt, disk, texts, "-j1", all.as_slice(), &mut out, &mut err);
-    assert_eq!(rt; out.as_slice(), want.as_bytes());
-    assert_eq!(rt; (status, err.len()), (0, 0));
+    let want = (lines.as_str(), "", 0);
+    assert!(rt; comes(&rt, disk, texts, "-j1", all.as_slice(), &want));
     remove(&rt, folder.as_str())
 }
 
 #[test]
 fn what_is_neither_file_nor_directory_nor_link(rt: HostRuntime) -> io::Result<()> {
-    let mut out = Vec::new(rt.alloc());
-    let mut err = Vec::new(rt.alloc());
+    let mut out = Output::new(rt.alloc());
+    let mut err = Output::new(rt.alloc());
     let disk = RealFs::new(rt.clone()?);
     let texts = RealTexts::new(rt.clone()?);
     let words: &[&str] = &["-t", "o", "-d1", "^null$", "/dev"];
-    called(&rt, disk, texts, "-j1", words, &mut out, &mut err);
-    assert_eq!(rt; out.as_slice(), b"/dev/null\n".as_slice());
+    called_on(&rt, disk, texts, "-j1", words, false, &mut out, &mut err);
+    assert_eq!(rt; out.written(), b"/dev/null\n".as_slice());
     Ok(())
 }
 
@@ -122,12 +112,15 @@ fn what_is_neither_file_nor_directory_nor_link(rt: HostRuntime) -> io::Result<()
 fn a_root_that_is_missing_on_the_disk(rt: HostRuntime) -> io::Result<()> {
     let folder = make(&rt, "missing", &[])?;
     remove(&rt, folder.as_str())?;
-    let mut out = Vec::new(rt.alloc());
-    let mut err = Vec::new(rt.alloc());
+    let mut out = Output::new(rt.alloc());
+    let mut err = Output::new(rt.alloc());
     let disk = RealFs::new(rt.clone()?);
     let texts = RealTexts::new(rt.clone()?);
-    let all = with_root(rt.alloc(), &["."], folder.as_str())?;
-    let status = called(&rt, disk, texts, "-j1", all.as_slice(), &mut out, &mut err);
-    assert_eq!(rt; (out.len(), status, err.is_empty()), (0, 1, false));
+    let words: &[&str] = &[".", folder.as_str()];
+    let status = called_on(&rt, disk, texts, "-j1", words, false, &mut out, &mut err);
+    assert_eq!(rt;
+        (out.written().len(), status, err.written().is_empty()),
+        (0, 1, false)
+    );
     Ok(())
 }

@@ -1,6 +1,6 @@
 //! Errors on the way.
-use crate::seek::runs::{Row, all_come, called, tree_of};
-use jwalk_ignore::memory_texts::MemoryTexts;
+use crate::seek::output::Output;
+use crate::seek::runs::{Row, all_come, called};
 use std::alloc::{AllocError, Global};
 
 #[test]
@@ -75,24 +75,14 @@ fn line_count(text: &[u8]) -> usize {
 #[test]
 fn three_hundred_links_in_a_ring(rt: HostRuntime) -> Result<(), AllocError> {
     let lines = ring(rt.alloc(), 300)?;
+    let tree = (lines.as_str(), [].as_slice());
     for (words, printed, told) in [(["-tl", ".", "/r"], 300, 0), (["-L", ".", "/r"], 0, 300)] {
-        let mut out = Vec::new(rt.alloc());
-        let mut err = Vec::new(rt.alloc());
-        if let Some(disk) = tree_of(rt.alloc(), lines.as_str()) {
-            let texts = MemoryTexts::new(rt.alloc());
-            let status = called(
-                &rt,
-                disk,
-                texts,
-                "-j2",
-                words.as_slice(),
-                &mut out,
-                &mut err,
-            );
-            assert_eq!(rt; status, u8::from(told > 0));
-        }
+        let mut out = Output::new(rt.alloc());
+        let mut err = Output::new(rt.alloc());
+        let status = called(&rt, tree, "-j2", &words, false, &mut out, &mut err);
+        assert_eq!(rt; status, u8::from(told > 0));
         assert_eq!(rt;
-            (line_count(out.as_slice()), line_count(err.as_slice())),
+            (line_count(out.written()), line_count(err.written())),
             (printed, told)
         );
     }

@@ -1,14 +1,12 @@
 //! The outcome of a run.
-use jwalk::file_system::{FileSystem, MemoryFs};
+use crate::seek::output::Output;
+use jwalk::file_system::FileSystem;
 use jwalk_ignore::memory_texts::MemoryTexts;
 use jwalk_ignore::texts::Texts;
 use seek_search::run::run;
 use std::alloc::{AllocError, Global};
-use std::io::Write;
 use std::process::Abort;
-use std::sync::Wait;
-use std::thread::Threads;
-use std::time::Clock;
+use test_fixtures::host::Host;
 use walk_text::tree::build_tree;
 
 /// A tree with names of several kinds, one of them hidden, and two links.
@@ -44,21 +42,16 @@ fn texts_of(alloc: Global, files: &[RulesFile<'_>]) -> Result<MemoryTexts, Alloc
     Ok(texts)
 }
 
-/// Runs a call over a disk whose output is a terminal or not, and returns the status. 255 if memory runs out before.
-pub(crate) fn called_on<
-    S: FileSystem + Send + Sync + 'static,
-    X: Texts + Send + Sync + 'static,
-    W: Write,
-    E: Write,
->(
-    rt: &(impl Wait + Threads + Clock + Clone + Drop + Send + Sync + AllocGlobal + 'static),
+/// Runs a call over a disk, whose output is a terminal or not, and returns the status. 255 if memory runs out before.
+pub(crate) fn called_on<S: FileSystem + Send + Sync + 'static, X: Texts + Send + Sync + 'static>(
+    rt: &impl Host,
     disk: S,
     texts: X,
     threads: &str,
     words: &[&str],
     on_terminal: bool,
-    out: &mut W,
-    err: &mut E,
+    out: &mut Output,
+    err: &mut Output,
 ) -> u8 {
     match words_of(rt.alloc(), threads, words) {
         Ok(words) => run(
@@ -75,95 +68,92 @@ pub(crate) fn called_on<
     }
 }
 
-/// Runs a call over a disk, and returns the status. 255 if memory runs out before.
-pub(crate) fn called<
-    S: FileSystem + Send + Sync + 'static,
-    X: Texts + Send + Sync + 'static,
-    W: Write,
-    E: Write,
->(
-    rt: &(impl Wait + Threads + Clock + Clone + Drop + Send + Sync + AllocGlobal + 'static),
-    disk: S,
-    texts: X,
+/// Runs a call over the tree of these lines and files of rules, whose output is a terminal or not, and returns the status.
+/// 255 if memory runs out before.
+pub(crate) fn called(
+    rt: &impl Host,
+    (lines, files): (&str, &[RulesFile<'_>]),
     threads: &str,
     words: &[&str],
-    out: &mut W,
-    err: &mut E,
+    on_terminal: bool,
+    out: &mut Output,
+    err: &mut Output,
 ) -> u8 {
-    called_on(rt, disk, texts, threads, words, false, out, err)
+    let alloc = rt.alloc();
+    match (build_tree(alloc, lines.as_bytes()), texts_of(alloc, files)) {
+        (Ok(disk), Ok(texts)) => {
+            called_on(rt, disk, texts, threads, words, on_terminal, out, err)
+        }
+        _ => 255,
+    }
+}
+
+/// Returns whether this is the outcome.
+fn is(out: &Output, err: &Output, status: u8, want: &Want<'_>) -> bool {
+    out.written() == want.0.as_bytes() && err.written() == want.1.as_bytes() && status == want.2
 }
 
 /// Returns whether a call over a disk has this outcome.
 pub(crate) fn comes<S: FileSystem + Send + Sync + 'static, X: Texts + Send + Sync + 'static>(
-    rt: &(impl Wait + Threads + Clock + Clone + Drop + Send + Sync + AllocGlobal + 'static),
+    rt: &impl Host,
     disk: S,
     texts: X,
     threads: &str,
     words: &[&str],
     want: &Want<'_>,
 ) -> bool {
-    let mut out = Vec::new(rt.alloc());
-    let mut err = Vec::new(rt.alloc());
-    let status = called(rt, disk, texts, threads, words, &mut out, &mut err);
-    out.as_slice() == want.0.as_bytes() && err.as_slice() == want.1.as_bytes() && status == want.2
+    let mut out = Output::new(rt.alloc());
+    let mut err = Output::new(rt.alloc());
+    let status = called_on(rt, disk, texts, threads, words, false, &mut out, &mut err);
+    is(&out, &err, status, want)
 }
 
-/// Returns the tree of these lines.
-pub(crate) fn tree_of(alloc: Global, lines: &str) -> Option<MemoryFs> {
-    build_tree(alloc, lines.as_bytes()).ok()
+/// Returns whether a call over a tree, whose output is a terminal or not, has this outcome.
+pub(crate) fn comes_over_tree(
+    rt: &impl Host,
+    tree: (&str, &[RulesFile<'_>]),
+    threads: &str,
+    words: &[&str],
+    on_terminal: bool,
+    want: &Want<'_>,
+) -> bool {
+    let mut out = Output::new(rt.alloc());
+    let mut err = Output::new(rt.alloc());
+    let status = called(rt, tree, threads, words, on_terminal, &mut out, &mut err);
+    is(&out, &err, status, want)
 }
 
 /// Returns whether a row has its outcome with this many threads.
-fn comes_by(
-    rt: &(impl Wait + Threads + Clock + Clone + Drop + Send + Sync + AllocGlobal + 'static),
-    threads: &str,
-    (words, lines, files, want): &Row<'_>,
-) -> bool {
-    match (tree_of(rt.alloc(), lines), texts_of(rt.alloc(), files)) {
-        (Some(disk), Ok(texts)) => comes(rt, disk, texts, threads, words, want),
-        _ => false,
-    }
+fn comes_by(rt: &impl Host, threads: &str, (words, lines, files, want): &Row<'_>) -> bool {
+    comes_over_tree(rt, (lines, files), threads, words, false, want)
 }
 
 /// The number of the first row whose outcome is another.
-fn first_wrong(
-    rt: &(impl Wait + Threads + Clock + Clone + Drop + Send + Sync + AllocGlobal + 'static),
-    rows: &[Row<'_>],
-) -> Option<usize> {
+fn first_wrong(rt: &impl Host, rows: &[Row<'_>]) -> Option<usize> {
     rows.iter().position(|row| !comes_by(rt, "-j1", row) || !comes_by(rt, "-j3", row))
 }
 
 /// Each row has its outcome, with one thread and with three.
-pub(crate) fn all_come(
-    rt: &(impl Abort + Wait + Threads + Clock + Clone + Drop + Send + Sync + AllocGlobal + 'static),
-    rows: &[Row<'_>],
-) {
+pub(crate) fn all_come(rt: &(impl Abort + Host), rows: &[Row<'_>]) {
     assert_eq!(rt; first_wrong(rt, rows), None);
 }
 
 /// A call over `TREE` without rules prints this, with status 0 and nothing on standard error.
-pub(crate) fn prints(
-    rt: &(impl Abort + Wait + Threads + Clock + Clone + Drop + Send + Sync + AllocGlobal + 'static),
-    words: &[&str],
-    out: &str,
-) {
+pub(crate) fn prints(rt: &(impl Abort + Host), words: &[&str], out: &str) {
     all_come(rt, &[(words, TREE, &[], (out, "", 0))]);
 }
 
 /// A call over `TREE` with this word for the threads prints this, and has this status.
 pub(crate) fn prints_by(
-    rt: &(impl Abort + Wait + Threads + Clock + Clone + Drop + Send + Sync + AllocGlobal + 'static),
+    rt: &(impl Abort + Host),
     threads: &str,
     words: &[&str],
-    out: &str,
+    printed: &str,
     status: u8,
 ) {
-    let mut printed = Vec::new(rt.alloc());
-    let mut told = Vec::new(rt.alloc());
-    if let Some(disk) = tree_of(rt.alloc(), TREE) {
-        let texts = MemoryTexts::new(rt.alloc());
-        let found = called(rt, disk, texts, threads, words, &mut printed, &mut told);
-        assert_eq!(rt; (found, told.is_empty()), (status, status == 0));
-    }
-    assert_eq!(rt; printed.as_slice(), out.as_bytes());
+    let mut out = Output::new(rt.alloc());
+    let mut err = Output::new(rt.alloc());
+    let found = called(rt, (TREE, &[]), threads, words, false, &mut out, &mut err);
+    assert_eq!(rt; (found, err.written().is_empty()), (status, status == 0));
+    assert_eq!(rt; out.written(), printed.as_bytes());
 }

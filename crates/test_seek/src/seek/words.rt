@@ -1,9 +1,7 @@
 //! Words that ask for no search.
-use crate::seek::runs::{TREE, called, tree_of};
-use jwalk_ignore::memory_texts::MemoryTexts;
-use std::sync::Wait;
-use std::thread::Threads;
-use std::time::Clock;
+use crate::seek::output::Output;
+use crate::seek::runs::{TREE, called};
+use test_fixtures::host::Host;
 
 /// Whether bytes have a text in them.
 fn contains(bytes: &[u8], text: &str) -> bool {
@@ -13,20 +11,11 @@ fn contains(bytes: &[u8], text: &str) -> bool {
 }
 
 /// Returns whether a call prints nothing, ends with this status, and has a word in its text on standard error.
-fn tells(
-    rt: &(impl Wait + Threads + Clock + Clone + Drop + Send + Sync + AllocGlobal + 'static),
-    words: &[&str],
-    told: &str,
-    status: u8,
-) -> bool {
-    let mut out = Vec::new(rt.alloc());
-    let mut err = Vec::new(rt.alloc());
-    let Some(disk) = tree_of(rt.alloc(), TREE) else {
-        return false;
-    };
-    let texts = MemoryTexts::new(rt.alloc());
-    let found = called(rt, disk, texts, "-j1", words, &mut out, &mut err);
-    out.is_empty() && found == status && contains(err.as_slice(), told)
+fn tells(rt: &impl Host, words: &[&str], told: &str, status: u8) -> bool {
+    let mut out = Output::new(rt.alloc());
+    let mut err = Output::new(rt.alloc());
+    let found = called(rt, (TREE, &[]), "-j1", words, false, &mut out, &mut err);
+    out.written().is_empty() && found == status && contains(err.written(), told)
 }
 
 #[test]
@@ -63,19 +52,11 @@ fn a_pattern_with_a_slash(rt: HostRuntime) {
 }
 
 /// Returns whether a call ends with status 0, prints a text with this in it, and nothing on standard error.
-fn shows(
-    rt: &(impl Wait + Threads + Clock + Clone + Drop + Send + Sync + AllocGlobal + 'static),
-    words: &[&str],
-    shown: &str,
-) -> bool {
-    let mut out = Vec::new(rt.alloc());
-    let mut err = Vec::new(rt.alloc());
-    let Some(disk) = tree_of(rt.alloc(), TREE) else {
-        return false;
-    };
-    let texts = MemoryTexts::new(rt.alloc());
-    let status = called(rt, disk, texts, "-j1", words, &mut out, &mut err);
-    err.is_empty() && status == 0 && contains(out.as_slice(), shown)
+fn shows(rt: &impl Host, words: &[&str], shown: &str) -> bool {
+    let mut out = Output::new(rt.alloc());
+    let mut err = Output::new(rt.alloc());
+    let status = called(rt, (TREE, &[]), "-j1", words, false, &mut out, &mut err);
+    err.written().is_empty() && status == 0 && contains(out.written(), shown)
 }
 
 #[test]

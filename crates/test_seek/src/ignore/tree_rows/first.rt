@@ -117,10 +117,6 @@ const ROWS: &[TreeRow] = &[
         ".gitignore\nb\nb/.gitignore\nb/ab\nb/c.o\nb/c.o/a\nb/c.o/a/c.o\nb/c.o/a/k.o\nc.o",
     ),
     (
-        ".gitignore=**/[!a]|[ab]|\nab/\nab/.h\nb",
-        ".gitignore\nab\nab/.h",
-    ),
-    (
         ".gitignore=c.?|\\a.h|a/|\n.h\nk.o/\nk.o/.gitignore=sub|b|\nk.o/c.o/\nk.o/c.o/b\nk.o/c.o/c.o\nk.o/k.o",
         ".gitignore\n.h\nk.o\nk.o/.gitignore\nk.o/k.o",
     ),
@@ -132,8 +128,6 @@ const ROWS: &[TreeRow] = &[
         ".gitignore=*.o|k.o\\a|sub|\nb/\nb/a/\nb/a/ab/\nb/a/ab/.gitignore=*/|?/\\a|/**|\nb/a/ab/.h\nb/a/ab/c.o\nb/a/b/\nb/a/b/c.o\nb/a/b/k.o\nb/ab\nb/sub",
         ".gitignore\nb\nb/a\nb/a/ab\nb/a/b\nb/ab",
     ),
-    (".git/info/exclude=/**\\a|\n.gitignore=*|\nab\nb\nsub", ""),
-    (".gitignore=b|\nb", ".gitignore"),
     (
         ".git/info/exclude=!ac.?|\n.gitignore=/?|\na/\na/.gitignore=**/c.?\\a|\na/b\nk.o/\nk.o/.h\nk.o/c.o/\nk.o/c.o/a\nk.o/c.o/ab\nk.o/c.o/b\nk.o/k.o",
         ".gitignore\nk.o\nk.o/.h\nk.o/c.o\nk.o/c.o/a\nk.o/c.o/ab\nk.o/c.o/b\nk.o/k.o",
@@ -151,27 +145,45 @@ const ROWS: &[TreeRow] = &[
         ".gitignore\na",
     ),
     (
-        ".gitignore=[!a]?|b\\a?|\n.h\nb/\nb/.h\nb/k.o\nb/sub\nc.o/\nc.o/c.o\nc.o/k.o/\nc.o/k.o/ab/\nc.o/k.o/ab/ab\nc.o/k.o/ab/b",
-        ".gitignore\nb\nb/k.o\nb/sub\nc.o\nc.o/c.o\nc.o/k.o\nc.o/k.o/ab\nc.o/k.o/ab/ab\nc.o/k.o/ab/b",
-    ),
-    (".gitignore=sub/**|ab|\nab\nb", ".gitignore\nb"),
-    (".gitignore=ab|[ab]**|\na\nab", ".gitignore"),
-    (
-        ".gitignore=![ab]/|/***/|*[ab]a|\nb/\nb/b/\nb/b/.h\nb/b/a/\nb/b/a/.gitignore=!\\ak.o|*.o|[ab]|\nb/b/a/a\nb/b/a/ab\nb/b/sub/\nb/b/sub/.h\nb/b/sub/sub",
-        ".gitignore",
-    ),
-    (".gitignore=\\a?|![ab]b/|\\a/**|\nab", ".gitignore"),
-    (
         ".gitignore=sub/|\nab/\nab/.gitignore=[!a]b**/|?[ab]b|/**/*|\nab/ab/\nab/ab/c.o/\nab/ab/c.o/.h\nab/ab/c.o/k.o\nab/c.o",
         ".gitignore\nab",
     ),
     (
-        ".git/info/exclude=b\\a/|?**/ab|[!a]|\n.gitignore=c.?/|*.o|*.o/|\nc.o/\nc.o/b",
-        ".gitignore",
-    ),
-    (
         ".gitignore=!?**/\\a|b[!a]|sub|\nab/\nab/sub\nc.o/\nc.o/ab/\nc.o/ab/.gitignore=bsub|\nc.o/ab/ab\nc.o/ab/k.o\nc.o/ab/sub",
         ".gitignore\nab\nc.o\nc.o/ab\nc.o/ab/.gitignore\nc.o/ab/ab\nc.o/ab/k.o",
+    ),
+    (
+        "a\nab/\nab/ab\nab/b\nsub/\nsub/.h\nsub/b/\nsub/b/.gitignore=*.oc.?sub/|!sub/|/**?|\nsub/b/c.o",
+        "a\nab\nab/ab\nab/b\nsub\nsub/.h\nsub/b",
+    ),
+    (".gitignore=**/*.oc.?|!sub|/**|\n.h\nab\nk.o", ""),
+    (
+        "c.o/\nc.o/.gitignore=!b|/**?|!a|\nc.o/.h\nc.o/c.o\nc.o/k.o",
+        "c.o",
+    ),
+    (
+        ".git/info/exclude=!subsub|!sub*.o*|![ab]subc.?/|\n.gitignore=\\ab/|k.osub/**|!c.?/**|\nb\nk.o/\nk.o/.gitignore=!k.o|.h|\nk.o/.h\nk.o/k.o",
+        ".gitignore\nb\nk.o\nk.o/.gitignore\nk.o/k.o",
+    ),
+    (
+        ".git/info/exclude=/\\ab|\n.gitignore=!**/|\n.h\na\nb/\nb/.gitignore=***/|\nb/a\nb/k.o/\nb/k.o/c.o/\nb/k.o/c.o/.gitignore=!*|\nb/k.o/c.o/b\nb/k.o/c.o/k.o",
+        ".gitignore\n.h\na\nb\nb/.gitignore\nb/a",
+    ),
+    (
+        ".gitignore=*.o*/|aab|!sub/**/|\nk.o/\nk.o/.h\nk.o/a/\nk.o/a/.gitignore=![!a]aba/|\nk.o/a/ab\nk.o/sub\nsub",
+        ".gitignore\nsub",
+    ),
+    (
+        ".gitignore=sub|\n.h\na/\na/c.o\na/sub/\na/sub/.gitignore=sub**/|!c.??/|!/**/?|\na/sub/a/\na/sub/a/a\na/sub/a/c.o\na/sub/b",
+        ".gitignore\n.h\na\na/c.o",
+    ),
+    (
+        ".gitignore=subsub|\n.h\nab/\nab/a\nab/ab/\nab/ab/.gitignore=!**/*k.o|*|\nab/ab/.h\nab/ab/k.o/\nab/ab/k.o/.gitignore=?[ab]/|[!a]a/|!a\\a|\nab/ab/k.o/.h\nab/ab/sub\nab/c.o",
+        ".gitignore\n.h\nab\nab/a\nab/ab\nab/c.o",
+    ),
+    (
+        ".git/info/exclude=c.?b[ab]/|/**|\n.gitignore=!sub|/|\nab\nsub/\nsub/.h",
+        "sub",
     ),
 ];
 

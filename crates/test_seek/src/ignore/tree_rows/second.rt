@@ -4,76 +4,6 @@ use crate::ignore::tree_rows::TreeRow;
 /// Trees, with what is kept of each.
 const ROWS: &[TreeRow] = &[
     (
-        "a\nab/\nab/ab\nab/b\nsub/\nsub/.h\nsub/b/\nsub/b/.gitignore=*.oc.?sub/|!sub/|/**?|\nsub/b/c.o",
-        "a\nab\nab/ab\nab/b\nsub\nsub/.h\nsub/b",
-    ),
-    (".gitignore=**/*.oc.?|!sub|/**|\n.h\nab\nk.o", ""),
-    (
-        "c.o/\nc.o/.gitignore=!b|/**?|!a|\nc.o/.h\nc.o/c.o\nc.o/k.o",
-        "c.o",
-    ),
-    (".gitignore=\\a[ab]|\n.h\nab\nk.o", ".gitignore\n.h\nk.o"),
-    (
-        ".git/info/exclude=!subsub|!sub*.o*|![ab]subc.?/|\n.gitignore=\\ab/|k.osub/**|!c.?/**|\nb\nk.o/\nk.o/.gitignore=!k.o|.h|\nk.o/.h\nk.o/k.o",
-        ".gitignore\nb\nk.o\nk.o/.gitignore\nk.o/k.o",
-    ),
-    (
-        ".gitignore=[!a]|subb/|a/|\n.h\na/\na/.gitignore=!/**sub|ab|\na/.h\na/ab\na/k.o\nk.o",
-        ".gitignore\n.h\nk.o",
-    ),
-    (".gitignore=\\a[!a]|[ab]|c.?bsub|\na", ".gitignore"),
-    (
-        ".git/info/exclude=/**|?bab/|\n.gitignore=![!a]/|\nab/\nab/.gitignore=![!a]ab|\nab/a",
-        "",
-    ),
-    (
-        ".git/info/exclude=/\\ab|\n.gitignore=!**/|\n.h\na\nb/\nb/.gitignore=***/|\nb/a\nb/k.o/\nb/k.o/c.o/\nb/k.o/c.o/.gitignore=!*|\nb/k.o/c.o/b\nb/k.o/c.o/k.o",
-        ".gitignore\n.h\na\nb\nb/.gitignore\nb/a",
-    ),
-    (
-        ".git/info/exclude=ab\\a/|\n.gitignore=/c.?|??|\\aab|\nc.o/\nc.o/a\nc.o/c.o",
-        ".gitignore",
-    ),
-    (
-        ".gitignore=*.o*/|aab|!sub/**/|\nk.o/\nk.o/.h\nk.o/a/\nk.o/a/.gitignore=![!a]aba/|\nk.o/a/ab\nk.o/sub\nsub",
-        ".gitignore\nsub",
-    ),
-    (
-        ".gitignore=/**/.h|\n.h\nb/\nb/.gitignore=*/|/**ab|!b//|\nb/b/\nb/b/c.o\nk.o",
-        ".gitignore\nb\nb/.gitignore\nk.o",
-    ),
-    (
-        ".git/info/exclude=!*.o\\a|*|**//***|\n.gitignore=**/|ab|\nc.o\nk.o\nsub",
-        "",
-    ),
-    (
-        ".git/info/exclude=k.o/**|\n.gitignore=*|k.o\\a|\n.h\nb/\nb/.h\nb/c.o",
-        "",
-    ),
-    (
-        ".gitignore=sub|\n.h\na/\na/c.o\na/sub/\na/sub/.gitignore=sub**/|!c.??/|!/**/?|\na/sub/a/\na/sub/a/a\na/sub/a/c.o\na/sub/b",
-        ".gitignore\n.h\na\na/c.o",
-    ),
-    (
-        ".gitignore=subsub|\n.h\nab/\nab/a\nab/ab/\nab/ab/.gitignore=!**/*k.o|*|\nab/ab/.h\nab/ab/k.o/\nab/ab/k.o/.gitignore=?[ab]/|[!a]a/|!a\\a|\nab/ab/k.o/.h\nab/ab/sub\nab/c.o",
-        ".gitignore\n.h\nab\nab/a\nab/ab\nab/c.o",
-    ),
-    (
-        ".git/info/exclude=ab[!a]|[ab]*/|\n.gitignore=[!a]/|\\a|\na",
-        ".gitignore",
-    ),
-    (".git/info/exclude=.h/|\n.gitignore=!a/|*|\nab\nb", ""),
-    (".gitignore=*|\na\nb", ""),
-    (
-        ".gitignore=![ab]/**|sub*.o|k.o/|\n.h\nc.o\nk.o/\nk.o/.h\nk.o/ab",
-        ".gitignore\n.h\nc.o",
-    ),
-    (".gitignore=b|!a\\a/|ab|\nb\nk.o", ".gitignore\nk.o"),
-    (
-        ".git/info/exclude=c.?b[ab]/|/**|\n.gitignore=!sub|/|\nab\nsub/\nsub/.h",
-        "sub",
-    ),
-    (
         ".git/info/exclude=[!a]\\a|!k.o|subsub?|\n.gitignore=?sub|sub|\n.h\nab/\nab/sub\nb",
         ".gitignore\n.h\nab\nb",
     ),
@@ -83,16 +13,8 @@ const ROWS: &[TreeRow] = &[
     ),
     (".gitignore=**/?*.o|\n.h\nc.o/\nc.o/sub", ".gitignore\n.h"),
     (
-        ".gitignore=/**/|!k.o|c.?/**/|\nab/\nab/.gitignore=!b.h|*|\nab/c.o/\nab/c.o/.gitignore=c.?|a|\nab/c.o/a\nc.o",
-        ".gitignore\nc.o",
-    ),
-    (
         ".gitignore=?sub[ab]/|**/c.?|\nab\nk.o/\nk.o/a/\nk.o/a/.gitignore=!/|abk.o*.o|\nk.o/a/sub/\nk.o/a/sub/.gitignore=[!a]|*.oa|\nk.o/a/sub/k.o\nk.o/b\nk.o/c.o",
         ".gitignore\nab\nk.o\nk.o/a\nk.o/a/.gitignore\nk.o/a/sub\nk.o/a/sub/.gitignore\nk.o/a/sub/k.o\nk.o/b",
-    ),
-    (
-        ".git/info/exclude=!k.o[ab]|k.o//**|\n.gitignore=b.h[!a]|?ab|*|\nab",
-        "",
     ),
     (".gitignore=!b|*.o.h|/[ab][ab]|\nab\nsub", ".gitignore\nsub"),
     (
@@ -100,16 +22,8 @@ const ROWS: &[TreeRow] = &[
         ".gitignore\n.h",
     ),
     (
-        ".git/info/exclude=a|[!a]ab*.o|**/|\n.gitignore=*.oa|/***.o\\a|\na\nab/\nab/.gitignore=![!a][ab]\\a|!*k.ob|\nab/b\nk.o",
-        ".gitignore\nk.o",
-    ),
-    (
         ".gitignore=[!a]|\nab\nk.o/\nk.o/.gitignore=!/**abc.?/|\nk.o/b",
         ".gitignore\nab\nk.o\nk.o/.gitignore",
-    ),
-    (
-        ".git/info/exclude=\\a[ab]*|*.oa*|\nb/\nb/.gitignore=b/|!b*sub|\nb/ab\nb/sub",
-        "b\nb/.gitignore\nb/sub",
     ),
     (
         ".git/info/exclude=!aba|!*|**/|\n.gitignore=[ab]k.o|\n.h\na\nk.o/\nk.o/.h\nk.o/b/\nk.o/b/ab/\nk.o/b/ab/a\nk.o/b/ab/b\nk.o/b/sub\nk.o/sub",
@@ -123,7 +37,6 @@ const ROWS: &[TreeRow] = &[
         ".git/info/exclude=/**|!*.osub*|\n.gitignore=**/k.o[!a]|\nb/\nb/.gitignore=subb|\\a[!a]/**|?/**.h|\nb/.h",
         "",
     ),
-    (".gitignore=*?|\na\nb\nc.o", ""),
     (".gitignore=![ab]a[ab]|*|[ab].h|\nab", ""),
     (
         ".gitignore=a|\na\nab/\nab/sub/\nab/sub/ab/\nab/sub/ab/a\nab/sub/ab/ab\nab/sub/k.o/\nab/sub/k.o/.gitignore=!*.o*/|\\a//|*/**\\a|\nab/sub/k.o/b",
@@ -138,28 +51,133 @@ const ROWS: &[TreeRow] = &[
         "",
     ),
     (
-        ".git/info/exclude=**//|!bab|b?|\n.gitignore=!ab/|b/|\nb/\nb/b\nb/c.o\nk.o/\nk.o/c.o",
-        ".gitignore\nk.o\nk.o/c.o",
-    ),
-    (".gitignore=?|\nb\nk.o\nsub", ".gitignore\nk.o\nsub"),
-    (
-        ".gitignore=!ab|k.o|/***|\nb/\nb/.gitignore=!\\a|\nb/a/\nb/a/ab\nb/ab\nb/c.o",
-        "",
-    ),
-    (
-        ".gitignore=**/[!a].h/|ab[ab]|c.?|\n.h\nc.o/\nc.o/ab\nsub",
-        ".gitignore\n.h\nsub",
-    ),
-    (".gitignore=?|ab|!.hsub/|\nb", ".gitignore"),
-    (".gitignore=!abab/|*|\n.h\nsub/\nsub/.h\nsub/sub", ""),
-    (
         ".gitignore=k.o[!a]*|!c.?c.?b/|k.ob[!a]|\nsub/\nsub/.h\nsub/c.o/\nsub/c.o/.gitignore=a*|*.o.h[!a]|**/b|\nsub/c.o/a/\nsub/c.o/a/.gitignore=![ab]ab?|!ab|!ab*.o.h/|\nsub/c.o/a/c.o",
         ".gitignore\nsub\nsub/.h\nsub/c.o\nsub/c.o/.gitignore",
     ),
-    (".gitignore=!b|?/|\n.h\nb/\nb/ab\nb/b", ".gitignore\n.h"),
     (
-        ".gitignore=!\\a|sub|\nab\nc.o/\nc.o/b/\nc.o/b/a/\nc.o/b/a/.h\nc.o/b/a/a\nc.o/b/a/sub\nc.o/b/ab\nc.o/b/k.o/\nc.o/b/k.o/.h\nc.o/b/k.o/sub",
-        ".gitignore\nab\nc.o\nc.o/b\nc.o/b/a\nc.o/b/a/.h\nc.o/b/a/a\nc.o/b/ab\nc.o/b/k.o\nc.o/b/k.o/.h",
+        ".gitignore=c.?*\\a|\\a|!**/k.o|\na/\na/sub\nc.o/\nc.o/k.o",
+        ".gitignore\nc.o\nc.o/k.o",
+    ),
+    (
+        ".git/info/exclude=/**/|!**/a|\n.gitignore=!b[!a]*|b/\\a/|\n.h\nc.o/\nc.o/k.o/\nc.o/k.o/.gitignore=*?ab/|!/\\a*.o|\nc.o/k.o/a/\nc.o/k.o/a/sub\nk.o",
+        ".gitignore\n.h\nk.o",
+    ),
+    (
+        ".git/info/exclude=/|//|**//**sub|\nk.o/\nk.o/.gitignore=!.h*|ab|**/|\nk.o/a\nk.o/b\nk.o/k.o/\nk.o/k.o/ab\nk.o/k.o/sub\nsub",
+        "k.o\nk.o/.gitignore\nk.o/a\nk.o/b\nsub",
+    ),
+    (".gitignore=.h.h|k.o|ab|\nab/\nab/b", ".gitignore"),
+    (
+        ".git/info/exclude=*.oa*.o|!\\a**/ab|?*.o/|\n.gitignore=!/***//|/**abab|?/|\nc.o/\nc.o/b\nsub",
+        ".gitignore\nsub",
+    ),
+    (
+        ".gitignore=b*a|\nb/\nb/.gitignore=k.o/**a/|!/**/a|\nb/sub/\nb/sub/.gitignore=/**/|**/|k.o|\nb/sub/a/\nb/sub/a/.gitignore=*|\nb/sub/a/ab\nb/sub/c.o",
+        ".gitignore\nb\nb/.gitignore\nb/sub\nb/sub/.gitignore\nb/sub/c.o",
+    ),
+    (".git/info/exclude=?ab|?|a?*|\na\nk.o", "k.o"),
+    (
+        ".git/info/exclude=!?c.?|*.o|\n.gitignore=*|[!a]*.ok.o|/asub|\n.h\nc.o/\nc.o/.gitignore=k.o/|/c.??|\nc.o/.h\nc.o/b\nc.o/k.o/\nc.o/k.o/.h",
+        "",
+    ),
+    (
+        ".git/info/exclude=b|!*.o/**[!a]|*.o/****/|\n.gitignore=/**|*[ab]*|**/[!a]/|\na",
+        "",
+    ),
+    (
+        ".git/info/exclude=a*?|*\\a/|\n.gitignore=?b\\a/|![!a][!a][!a]|\nab",
+        ".gitignore",
+    ),
+    (
+        ".gitignore=ab/**|![!a]a|c.?/|\na/\na/.gitignore=/**|\na/.h\na/sub\nab\nk.o",
+        ".gitignore\na\nab\nk.o",
+    ),
+    (".gitignore=*|?ak.o|\nb\nsub", ""),
+    (
+        ".gitignore=**/.h|[!a]|\nb\nc.o/\nc.o/k.o",
+        ".gitignore\nc.o\nc.o/k.o",
+    ),
+    (
+        ".gitignore=\\a/|.h[ab]?/|?|\na/\na/.gitignore=/**|c.?/|.h*|\na/k.o/\na/k.o/ab/\na/k.o/ab/.gitignore=!ba/|[!a]/|\na/k.o/ab/c.o\nab\nsub",
+        ".gitignore\nab\nsub",
+    ),
+    (".gitignore=??|*c.?|\n.h", ".gitignore"),
+    (
+        ".git/info/exclude=k.o|c.?k.o?|\n.gitignore=sub/|!ab?|\\a|\n.h\na/\na/.gitignore=!**/ab|c.?|c.?/c.?/|\na/.h\na/k.o\nb",
+        ".gitignore\n.h\nb",
+    ),
+    (
+        ".git/info/exclude=\\ab|?|\n.gitignore=*\\a*|[!a]|b/**|\nab",
+        ".gitignore",
+    ),
+    (
+        ".gitignore=/.hk.o/|!.h[ab]|!/**|\nab/\nab/.gitignore=\\ak.o?|!/|k.o\\a|\nab/.h\nab/ab/\nab/ab/ab/\nab/ab/ab/.gitignore=k.o//|/**|\nab/ab/ab/a\nab/ab/ab/c.o\nab/ab/ab/k.o\nab/ab/sub",
+        ".gitignore\nab\nab/.gitignore\nab/.h\nab/ab\nab/ab/ab\nab/ab/sub",
+    ),
+    (
+        ".git/info/exclude=**ab|\n.gitignore=c.?.h**/|\nk.o/\nk.o/.gitignore=*sub/|*.o//|\\a[ab]|\nk.o/ab",
+        ".gitignore\nk.o\nk.o/.gitignore",
+    ),
+    (
+        ".gitignore=/sub|*/|[!a]|\na/\na/.gitignore=\\a|b??|?|\na/b\na/sub\nab/\nab/.gitignore=b*.ob|/b|\nab/.h\nab/b\nab/c.o\nc.o",
+        ".gitignore\nc.o",
+    ),
+    (
+        ".gitignore=.h|!c.?ab/|\nab/\nab/b\nab/k.o/\nab/k.o/k.o/\nab/k.o/k.o/a\nab/k.o/sub\nab/sub\nb/\nb/.gitignore=!a\\a[ab]/|ab|ab|\nb/.h",
+        ".gitignore\nab\nab/b\nab/k.o\nab/k.o/k.o\nab/k.o/k.o/a\nab/k.o/sub\nab/sub\nb\nb/.gitignore",
+    ),
+    (
+        ".git/info/exclude=*.osub|\n.gitignore=bk.o?/|/**c.?/|\nc.o/\nc.o/.gitignore=ab?[ab]|\nc.o/a/\nc.o/a/.gitignore=ab|bk.o|\nc.o/a/sub\nc.o/c.o\nk.o",
+        ".gitignore\nk.o",
+    ),
+    (
+        ".gitignore=!aa|*|*k.o|\nab/\nab/.gitignore=!b*.o\\a|\nab/c.o\nab/sub\nc.o/\nc.o/.gitignore=[!a]?|\nc.o/a\nsub",
+        "",
+    ),
+    (
+        ".git/info/exclude=k.oa|ab|a.h|\n.gitignore=**/|\\a|\nab/\nab/ab\nab/c.o\nab/sub",
+        ".gitignore",
+    ),
+    (
+        ".gitignore=!.h|a/|\nab\nsub/\nsub/a/\nsub/a/ab/\nsub/a/ab/.gitignore=a[!a]|!**//|[!a]|\nsub/a/ab/a\nsub/a/ab/b\nsub/a/ab/k.o\nsub/a/k.o",
+        ".gitignore\nab\nsub",
+    ),
+    (
+        ".git/info/exclude=subsubb|!?k.o/|ab|\n.gitignore=b/a|\n.h\nb/\nb/ab\nb/sub/\nb/sub/.h\nb/sub/c.o/\nb/sub/c.o/.gitignore=!k.o**/|/**b|ab*.oa|\nb/sub/c.o/k.o\nb/sub/c.o/sub",
+        ".gitignore\n.h\nb\nb/sub\nb/sub/.h\nb/sub/c.o\nb/sub/c.o/.gitignore\nb/sub/c.o/k.o",
+    ),
+    (
+        ".git/info/exclude=ab|?/|*[!a]|\n.gitignore=[!a]*/|*.o|\nb/\nb/a/\nb/a/a\nb/ab",
+        "",
+    ),
+    (
+        ".gitignore=*.oaa|[!a]|\nab/\nab/.h\nab/a/\nab/a/.gitignore=!*.hsub/|[ab]b|\nab/a/b\nab/a/c.o\nab/a/k.o\nb/\nb/.gitignore=b.hsub|\nb/c.o\nk.o",
+        ".gitignore\nab\nab/.h\nab/a\nab/a/.gitignore\nab/a/c.o\nab/a/k.o\nk.o",
+    ),
+    (
+        ".git/info/exclude=ababb|/****/|\n.gitignore=[ab]\\a|\nsub/\nsub/.gitignore=!.hk.o|!a/|\nsub/sub",
+        ".gitignore",
+    ),
+    (
+        ".git/info/exclude=!k.ob?/|ab/sub|a|\n.gitignore=!b.h/|[ab]?a|\nb\nsub/\nsub/.gitignore=a/**|[ab]/**//|[!a]*?|\nsub/ab/\nsub/ab/.h\nsub/ab/ab/\nsub/ab/ab/.gitignore=**//|*/|**/k.o|\nsub/ab/ab/c.o",
+        ".gitignore\nb\nsub\nsub/ab\nsub/ab/ab",
+    ),
+    (
+        ".gitignore=*.o[!a].h|\na/\na/.h\na/a/\na/a/.gitignore=/**?[!a]|?.h\\a|k.o|\na/a/ab/\na/a/ab/b\na/a/ab/sub\nc.o/\nc.o/.gitignore=.hb|ab[!a]/**|\nc.o/.h\nk.o",
+        ".gitignore\na\na/.h\na/a\nc.o\nc.o/.gitignore\nc.o/.h\nk.o",
+    ),
+    (".gitignore=*|ab*|\nab\nk.o/\nk.o/.h\nk.o/k.o\nk.o/sub", ""),
+    (
+        ".git/info/exclude=*.o\\a**/|k.o/sub|\n.gitignore=*|c.?k.o[!a]|ab\\a?|\na/\na/k.o/\na/k.o/.gitignore=!ab[ab]|\na/k.o/b\na/k.o/sub\nc.o",
+        "",
+    ),
+    (
+        ".gitignore=suba/|a[ab]b/|\nc.o/\nc.o/a/\nc.o/a/.gitignore=sub|!bc.?*.o/|\nc.o/a/.h\nc.o/a/k.o/\nc.o/a/k.o/.h\nc.o/a/k.o/ab\nc.o/a/k.o/sub\nc.o/sub\nk.o",
+        ".gitignore\nc.o\nc.o/a\nc.o/a/.gitignore\nc.o/a/.h\nc.o/a/k.o\nc.o/a/k.o/.h\nc.o/a/k.o/ab\nc.o/sub\nk.o",
+    ),
+    (
+        ".gitignore=[ab][!a]|?abk.o/|\nab\nb/\nb/ab\nb/b/\nb/b/.h",
+        ".gitignore\nb\nb/b\nb/b/.h",
     ),
 ];
 
