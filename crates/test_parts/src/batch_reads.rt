@@ -1,14 +1,14 @@
 //! Readings over a board, in turn and on threads.
 use crate::given::{self, Refusing, States, push_names, roots_of};
 use jwalk_core::batch_reads::BatchReads;
+use jwalk_core::client_state::ClientState;
 use jwalk_core::job::Job;
 use jwalk_core::options::Options;
 use jwalk_core::process_read_dir::NoProcess;
 use jwalk_core::read_dir::Outcome;
+use jwalk_fs::file_system::FileSystem;
 use std::alloc::{AllocError, Global};
 use std::thread::Threads;
-
-type Walk<'f> = BatchReads<States, &'f Refusing, NoProcess>;
 
 /// Three directories with one in each.
 const TWINS: [&str; 7] = ["/r", "/r/a", "/r/a/x", "/r/b", "/r/b/x", "/r/c", "/r/c/x"];
@@ -31,12 +31,17 @@ fn tree(alloc: Global, dirs: &[&str], at: &'static str) -> Option<Refusing> {
 }
 
 /// A walk over all that is below the root, with that many directories read together; none without a width.
-fn walk(alloc: Global, fs: &Refusing, width: usize) -> Option<Walk<'_>> {
+fn walk<C: ClientState, S: FileSystem>(
+    alloc: Global,
+    fs: S,
+    state: C::ReadDirState,
+    width: usize,
+) -> Option<BatchReads<C, S, NoProcess>> {
     if width == 0 {
         return None;
     }
     let job = Job::new(alloc, fs, NoProcess, Options::new().with_sort(true));
-    let roots = roots_of(&job, "/r")?;
+    let roots = roots_of(&job, "/r", state)?;
     BatchReads::try_new(alloc, job, roots, width).ok()
 }
 
@@ -47,26 +52,11 @@ enum By {
     Threads,
 }
 
-/// The next reading.
-fn next(
-    rt: &(impl Threads + Sync),
-    walk: &mut Walk<'_>,
-    by: By,
-) -> Result<Option<Outcome<States, Global>>, AllocError> {
-    match by {
-        By::Turn => walk.read_next(),
-        By::Threads => {
-            walk.prepare_on(rt)?;
-            walk.read_next()
-        }
-    }
-}
-
-/// Adds what comes next: the names in a reading, or that there is an error or that memory ran out, and after a colon
-/// how many others are ahead. None at the end.
-fn push_next(
+/// Adds what came: the names in a reading, or that there is an error or that memory ran out, and after a colon how many
+/// others are ahead. None at the end.
+fn push_next<C: ClientState>(
     text: &mut String,
-    next: Result<Option<Outcome<States, Global>>, AllocError>,
+    next: Result<Option<Outcome<C, Global>>, AllocError>,
     ahead: usize,
 ) -> Option<()> {
     match next {
@@ -78,6 +68,46 @@ fn push_next(
     write!(text, ":{ahead} ").ok()
 }
 
+/// Adds the next reading, as `push_next` does.
+fn read_next<C: ClientState + Send, S: FileSystem + Send + Sync>(
+    rt: &(impl Threads + Sync),
+    walk: &mut BatchReads<C, S, NoProcess>,
+    by: By,
+    text: &mut String,
+) -> Option<()>
+where
+    C::ReadDirState: Send,
+    C::DirEntryState: Send,
+{
+    let prepared = match by {
+        By::Turn => Ok(()),
+        By::Threads => walk.prepare_on(rt),
+    };
+    let next = match prepared {
+        Ok(()) => walk.read_next(),
+        Err(refused) => Err(refused),
+    };
+    push_next(text, next, walk.ahead())
+}
+
+/// Adds all readings of a walk, and after each how many others are ahead.
+fn push_all<C: ClientState + Send, S: FileSystem + Send + Sync>(
+    rt: &(impl Threads + Sync),
+    walk: &mut BatchReads<C, S, NoProcess>,
+    by: By,
+    text: &mut String,
+)
+where
+    C::ReadDirState: Send,
+    C::DirEntryState: Send,
+{
+    for _ in 0..100 {
+        if read_next(rt, walk, by, text).is_none() {
+            break;
+        }
+    }
+}
+
 /// Whether a walk gives this: each reading, and after each how many others are ahead.
 fn gives(
     rt: &(impl Threads + Sync),
@@ -87,15 +117,9 @@ fn gives(
     by: By,
     wanted: &str,
 ) -> bool {
-    let Some(mut walk) = walk(alloc, fs, width) else {
-        return false;
-    };
     let mut text = String::new(alloc);
-    for _ in 0..100 {
-        let next = next(rt, &mut walk, by);
-        if push_next(&mut text, next, walk.ahead()).is_none() {
-            break;
-        }
+    if let Some(mut walk) = walk::<States, _>(alloc, fs, (), width) {
+        push_all(rt, &mut walk, by, &mut text);
     }
     text.as_str() == wanted
 }

@@ -1,4 +1,5 @@
 //! Walks over a plan that reads no directories.
+use jwalk_board::board::Plan;
 use std::alloc::{AllocError, Global};
 use std::thread::Threads;
 use test_fixtures::family::Family;
@@ -31,23 +32,43 @@ fn push_next(text: &mut String, next: Result<Option<u8>, AllocError>, ahead: usi
     }
 }
 
-/// A walk over a family that reads two together.
-fn begun(alloc: Global) -> Option<BoardWalk<u8, u8, Family>> {
-    let mut walk = BoardWalk::new(alloc, Family, 2);
+/// A walk over all that is below a root that reads two together.
+fn begun<J: Plan<Global, Spec = u8, Reading = u8> + Drop>(
+    alloc: Global,
+    plan: J,
+) -> Option<BoardWalk<u8, u8, J>> {
+    let mut walk = BoardWalk::new(alloc, plan, 2);
     walk.begin(vec![in alloc; 0_u8].ok()?).ok()?;
     Some(walk)
 }
 
-/// The readings of a family, two together on threads. In front of each is how many are ahead once it is prepared, and
+/// Prepares the next reading on threads and adds it. In front of it is how many are ahead once it is prepared, and
 /// behind it how many after it was given.
-fn prepared(rt: &(impl Threads + Sync), alloc: Global) -> Option<String> {
-    let mut walk = begun(alloc)?;
+fn push_prepared<J: Plan<Global, Spec = u8, Reading = u8> + Drop + Sync>(
+    rt: &(impl Threads + Sync),
+    walk: &mut BoardWalk<u8, u8, J>,
+    text: &mut String,
+) -> Option<()>
+    requires { (plan : _) → J.IsLawful plan }
+{
+    walk.prepare_on(rt).ok()?;
+    write!(text, "{}>", walk.ahead()).ok()?;
+    let next = walk.read_next();
+    push_next(text, next, walk.ahead())
+}
+
+/// The readings of a plan, two together on threads, each as `push_prepared` adds it.
+fn prepared<J: Plan<Global, Spec = u8, Reading = u8> + Drop + Sync>(
+    rt: &(impl Threads + Sync),
+    alloc: Global,
+    plan: J,
+) -> Option<String>
+    requires { (plan : _) → J.IsLawful plan }
+{
+    let mut walk = begun(alloc, plan)?;
     let mut text = String::new(alloc);
     for _ in 0..10 {
-        walk.prepare_on(rt).ok()?;
-        write!(text, "{}>", walk.ahead()).ok()?;
-        let next = walk.read_next();
-        if push_next(&mut text, next, walk.ahead()).is_none() {
+        if push_prepared(rt, &mut walk, &mut text).is_none() {
             break;
         }
     }
@@ -56,13 +77,20 @@ fn prepared(rt: &(impl Threads + Sync), alloc: Global) -> Option<String> {
 
 #[test]
 fn the_next_is_ready_once_it_is_prepared(rt: HostRuntime) {
-    let text = prepared(&rt, rt.alloc());
+    let text = prepared(&rt, rt.alloc(), Family);
     assert_eq!(rt; text.as_deref(), Some("1>0:0 2>1:1 2>3:1 1>2:0 0>"));
 }
 
-/// The readings of a family, two together on threads, until the walk is stopped after some of them.
-fn stopped_after(rt: &(impl Threads + Sync), alloc: Global, count: usize) -> Option<String> {
-    let mut walk = begun(alloc)?;
+/// The readings of a plan, two together on threads, until the walk is stopped after some of them.
+fn stopped_after<J: Plan<Global, Spec = u8, Reading = u8> + Drop + Sync>(
+    rt: &(impl Threads + Sync),
+    alloc: Global,
+    plan: J,
+    count: usize,
+) -> Option<String>
+    requires { (plan : _) → J.IsLawful plan }
+{
+    let mut walk = begun(alloc, plan)?;
     let mut text = String::new(alloc);
     for step in 0..10 {
         if step == count {
@@ -78,8 +106,8 @@ fn stopped_after(rt: &(impl Threads + Sync), alloc: Global, count: usize) -> Opt
 
 #[test]
 fn a_walk_that_is_stopped_gives_nothing_more(rt: HostRuntime) {
-    let text = stopped_after(&rt, rt.alloc(), 2);
+    let text = stopped_after(&rt, rt.alloc(), Family, 2);
     assert_eq!(rt; text.as_deref(), Some("0:0 1:1 "));
-    let text = stopped_after(&rt, rt.alloc(), 10);
+    let text = stopped_after(&rt, rt.alloc(), Family, 10);
     assert_eq!(rt; text.as_deref(), Some("0:0 1:1 3:1 2:0 "));
 }

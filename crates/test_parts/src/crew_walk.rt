@@ -1,4 +1,5 @@
 //! A plan that reads no directories, by a crew; and a crew's places.
+use jwalk_board::board::Plan;
 use std::alloc::Global;
 use std::sync::{Arc, Wait};
 use std::thread::Threads;
@@ -24,17 +25,15 @@ fn whole_family<R: Wait + Threads + Clock + Drop + Send + Sync + 'static>(
     read_all(place, plan, vec![in alloc; 0_u8].ok()?).ok()
 }
 
-/// The readings of a session one at a time, if no more than this many are ahead at any time.
-fn each<R: Wait + Threads + Clock + Drop + Send + Sync + 'static>(
+/// The readings of a session one at a time, if they are that many, and no more than this many are ahead at any time.
+fn taken<R: Wait + Clock + Drop, T: Drop, U: Drop, J: Plan<Global, Spec = T, Reading = U> + Drop>(
     alloc: Global,
-    place: Place<R>,
+    session: &mut Session<R, T, U, J>,
+    count: usize,
     most: usize,
-) -> Option<Vec<u8>> {
-    let plan = Arc::new(alloc, Family).ok()?;
-    let origin = Origin::new(plan, vec![in alloc; 0_u8, 3].ok()?);
-    let mut session = Session::start(place, &origin, vec![in alloc; 0_u8, 3].ok()?).ok()?;
+) -> Option<Vec<U>> {
     let mut found = Vec::new(alloc);
-    for _ in 0..OF_TWO_ROOTS.len() {
+    for _ in 0..count {
         let item = session.next().ok()??;
         found.push(item.value.into_outcome().ok()?).ok()?;
         if session.ahead() > most {
@@ -45,6 +44,18 @@ fn each<R: Wait + Threads + Clock + Drop + Send + Sync + 'static>(
         Ok(None) => Some(found),
         Ok(Some(_)) | Err(_) => None,
     }
+}
+
+/// The same of a family from two roots.
+fn each<R: Wait + Threads + Clock + Drop + Send + Sync + 'static>(
+    alloc: Global,
+    place: Place<R>,
+    most: usize,
+) -> Option<Vec<u8>> {
+    let plan = Arc::new(alloc, Family).ok()?;
+    let origin = Origin::new(plan, vec![in alloc; 0_u8, 3].ok()?);
+    let mut session = Session::start(place, &origin, vec![in alloc; 0_u8, 3].ok()?).ok()?;
+    taken(alloc, &mut session, OF_TWO_ROOTS.len(), most)
 }
 
 /// A crew for one walk, with that many workers, which reads one ahead, or as many as there are workers.

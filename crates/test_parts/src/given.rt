@@ -1,10 +1,12 @@
 //! What the tests work on: addresses, items at them, rehearsals, trees in memory and readings. None of it promises
 //! anything.
 ghost use Rattle.jwalk_model.specs.Tree.{functions_of, only_root};
+ghost use Rattle.jwalk_core.specs.Job.{callback};
 
 use jwalk_board::board::{Board, Move, Plan, Refused, Rehearsal, rehearse};
+use jwalk_core::client_state::ClientState;
 use jwalk_core::job::Job;
-use jwalk_core::process_read_dir::NoProcess;
+use jwalk_core::process_read_dir::ProcessReadDir;
 use jwalk_core::read_dir::ReadDir;
 use jwalk_core::read_dir_spec::ReadDirSpec;
 use jwalk_fs::fault::Fault;
@@ -109,17 +111,20 @@ impl FileSystem for Refusing {
 
 pub(crate) type States = ((), ());
 
-/// The directory at a root.
-pub(crate) fn roots_of<S: FileSystem>(
-    job: &Job<States, S, NoProcess>,
+/// The directory at a root, for which a walk starts from this state.
+pub(crate) fn roots_of<C: ClientState, S: FileSystem, P: ProcessReadDir<C, Global>>(
+    job: &Job<C, S, P>,
     root: &str,
-) -> Option<Vec<ReadDirSpec<States>>> {
-    let list = job.root_list(root, ()).ok()?;
+    state: C::ReadDirState,
+) -> Option<Vec<ReadDirSpec<C>>>
+    requires { P.IsLawful (callback job.now) }
+{
+    let list = job.root_list(root, state).ok()?;
     list.read_children_specs().ok()
 }
 
 /// Adds the names in a reading.
-pub(crate) fn push_names(text: &mut String, read: &ReadDir<States>) -> Option<()> {
+pub(crate) fn push_names<C: ClientState>(text: &mut String, read: &ReadDir<C>) -> Option<()> {
     for found in read.results_list() {
         if let Ok(entry) = found {
             text.push_str(entry.file_name()).ok()?;

@@ -90,7 +90,7 @@ type Wanted = (&'static [(&'static [usize], usize)], &'static str);
 
 /// Whether the moves of workers over a job hand out what is wanted.
 fn gives(alloc: Global, job: &TreeJob<'_>, moves: &[Move], wanted: &Wanted) -> Option<bool> {
-    let made = played(alloc, job, roots_of(job, "/t")?, moves).ok()?;
+    let made = played(alloc, job, roots_of(job, "/t", ())?, moves).ok()?;
     let items = made.handed_out.as_slice();
     Some(are_at(items, wanted.0) && names(alloc, items).as_deref() == Some(wanted.1))
 }
@@ -127,7 +127,7 @@ fn stand_at(items: &[Ordered<ReadDirSpec<States>>], wanted: Places) -> bool {
 
 /// The reading of a root, which is the only directory of its list.
 fn root_reading(job: &TreeJob<'_>, root: &str) -> Option<ReadDir<States>> {
-    let roots = roots_of(job, root)?;
+    let roots = roots_of(job, root, ())?;
     match roots.as_slice() {
         [only] => job.read_one(only).ok()?.ok(),
         _ => None,
