@@ -1,4 +1,5 @@
 //! The ways in which one and the same walk can be read.
+ghost use Rattle.std.specs.Iterator.{IsFinite};
 ghost use Rattle.jwalk.specs.DirEntryIter.{job_of};
 ghost use Rattle.jwalk.specs.jwalk_core.Job.{callback};
 
@@ -153,17 +154,43 @@ impl<'a, S: FileSystem + Send + Sync> Asked<'a, S> {
         C::DirEntryState: Send,
         requires { P.IsLawful process }
     {
-        let alloc = rt.alloc();
-        if let Way::Plain = way {
-            let job = Job::new(alloc, self.fs, process, options_by(self.settings));
-            return plain_answers(alloc, &job, self.root);
-        }
-        let walk = self.builder(alloc)?.parallelism(way.width().parallelism());
-        let walk = walk.process_read_dir(process);
         match way {
-            Way::OnThreads(_) => all_on_threads(rt, alloc, walk.into_iter()),
-            Way::Looped(_) => all_looped(alloc, walk.into_iter()),
-            Way::Plain | Way::InTurn(_) => all_of(alloc, walk.into_iter()),
+            Way::Plain => self.found_plainly(rt.alloc(), process),
+            _ => self.found_by_a_walk(rt, process, way),
+        }
+    }
+
+    /// Returns all that the plain walk yields.
+    fn found_plainly<C: ClientState, P: ProcessReadDir<C, Global>>(
+        &self,
+        alloc: Global,
+        process: P,
+    ) -> Result<Vec<Answer<C>>, AllocError>
+        requires { P.IsLawful process }
+    {
+        let job = Job::new(alloc, self.fs, process, options_by(self.settings));
+        plain_answers(alloc, &job, self.root)
+    }
+
+    /// Returns all that a walk yields, read in a way that isn't the plain one.
+    fn found_by_a_walk<
+        R: Threads + AllocGlobal + Sync,
+        C: ClientState + Send,
+        P: ProcessReadDir<C, Global> + Send + Sync,
+    >(&self, rt: &R, process: P, way: Way) -> Result<Vec<Answer<C>>, AllocError>
+    where
+        C::ReadDirState: Send,
+        C::DirEntryState: Send,
+        requires { P.IsLawful process }
+    {
+        let alloc = rt.alloc();
+        let walk = self.builder(alloc)?.parallelism(way.width().parallelism());
+        let mut walk = walk.process_read_dir(process).into_iter();
+        let mut found = Vec::new(alloc);
+        if way.add_all(rt, &mut walk, &mut found) {
+            Ok(found)
+        } else {
+            Err(AllocError)
         }
     }
 
@@ -181,6 +208,76 @@ impl<'a, S: FileSystem + Send + Sync> Asked<'a, S> {
     }
 }
 
+impl Way {
+    /// Adds all answers of a walk under way, and returns whether there was memory for them.
+    fn add_all<
+        R: Threads + Sync,
+        C: ClientState + Send,
+        S: FileSystem + Send + Sync,
+        P: ProcessReadDir<C, Global> + Send + Sync,
+        L: Readers<C, S, P, Global>,
+    >(self, rt: &R, walk: &mut DirEntryIter<C, S, P, Global, L>, found: &mut Vec<Answer<C>>) -> bool
+    where
+        C::ReadDirState: Send,
+        C::DirEntryState: Send,
+        requires { P.IsLawful (callback (job_of walk.old)) }
+    {
+        match self {
+            Way::OnThreads(_) => add_on_threads(rt, walk, found),
+            Way::Looped(_) => add_rest(walk, found).is_ok(),
+            Way::Plain | Way::InTurn(_) => add_in_turn(walk, found),
+        }
+    }
+}
+
+/// Adds all answers of a walk under way, by calls for which no thread reads, and returns whether there was memory for
+/// them.
+pub fn add_in_turn<
+    C: ClientState,
+    S: FileSystem,
+    P: ProcessReadDir<C, Global>,
+    L: Readers<C, S, P, Global>,
+>(walk: &mut DirEntryIter<C, S, P, Global, L>, found: &mut Vec<Answer<C>>) -> bool
+    requires { P.IsLawful (callback (job_of walk.old)) }
+{
+    let is_filled = walk.fill(usize::MAX, found).is_ok();
+    // Nothing comes after the end.
+    is_filled && walk.fill(1, found).is_ok()
+}
+
+/// Adds all answers of a walk under way, by calls for which threads read, and returns whether there was memory for
+/// them.
+pub fn add_on_threads<
+    R: Threads + Sync,
+    C: ClientState + Send,
+    S: FileSystem + Send + Sync,
+    P: ProcessReadDir<C, Global> + Send + Sync,
+    L: Readers<C, S, P, Global>,
+>(rt: &R, walk: &mut DirEntryIter<C, S, P, Global, L>, found: &mut Vec<Answer<C>>) -> bool
+where
+    C::ReadDirState: Send,
+    C::DirEntryState: Send,
+    requires { P.IsLawful (callback (job_of walk.old)) }
+{
+    let is_filled = walk.fill_on(rt, usize::MAX, found).is_ok();
+    // Nothing comes after the end.
+    is_filled && walk.fill_on(rt, 1, found).is_ok()
+}
+
+/// Adds all that an iterator still yields, as a `for` loop over it does.
+pub fn add_rest<C: ClientState, I: Iterator<Item = Answer<C>>>(
+    answers: &mut I,
+    found: &mut Vec<Answer<C>>,
+) -> Result<(), AllocError>
+    requires can { I.can_next answers.old }
+    requires ends { IsFinite (I.remaining answers.old) }
+{
+    while let Some(answer) = answers.next() {
+        found.push(answer)?;
+    }
+    Ok(())
+}
+
 /// Returns all answers of a walk under way, by calls for which no thread reads.
 pub fn all_of<
     C: ClientState,
@@ -191,9 +288,7 @@ pub fn all_of<
     requires { P.IsLawful (callback (job_of walk)) }
 {
     let mut found = Vec::new(alloc);
-    let is_filled = walk.fill(usize::MAX, &mut found).is_ok();
-    // Nothing comes after the end.
-    if is_filled && walk.fill(1, &mut found).is_ok() {
+    if add_in_turn(&mut walk, &mut found) {
         Ok(found)
     } else {
         Err(AllocError)
@@ -218,9 +313,7 @@ where
     requires { P.IsLawful (callback (job_of walk)) }
 {
     let mut found = Vec::new(alloc);
-    let is_filled = walk.fill_on(rt, usize::MAX, &mut found).is_ok();
-    // Nothing comes after the end.
-    if is_filled && walk.fill_on(rt, 1, &mut found).is_ok() {
+    if add_on_threads(rt, &mut walk, &mut found) {
         Ok(found)
     } else {
         Err(AllocError)

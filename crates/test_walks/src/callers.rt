@@ -1,3 +1,3 @@
-//! What the functions of `example_proofs` return, by worked examples.
+//! Walks with states, and over a file system of one's own, by worked examples.
 mod callbacks;
 mod walks;

@@ -39,17 +39,20 @@ fn sizes_of(alloc: Global, found: &[Answer<States>]) -> Result<String, AllocErro
     Ok(text)
 }
 
-/// What a `for` loop yields over a walk by name that asks another file system for sizes.
+/// What a `for` loop yields over a walk by name that asks another file system for sizes, whose links are followed or
+/// not.
 fn walked<S: FileSystem, T: FileSystem>(
     alloc: Global,
     fs: S,
     asked: T,
     root: &str,
+    follow: bool,
 ) -> Result<String, AllocError> {
     let root = String::from_str(alloc, root)?;
     let mut found = Vec::new(alloc);
     let walk = WalkDirGeneric::<((), Size), _, _, _>::new(fs, root)
         .sort(true)
+        .follow_links(follow)
         .process_read_dir(WithSizes::new(asked));
     for answer in walk.into_iter() {
         found.push(answer)?;
@@ -111,17 +114,6 @@ fn sized_by_crew<R: Host, S: FileSystem + Send + Sync + 'static>(
     }
 }
 
-/// Whether they are those of the grouped tree.
-fn is_sized_by_crew<R: Host>(rt: &R) -> Result<bool, BuildError> {
-    let fs = tree(rt.alloc(), GROUPED)?;
-    Ok(sized_by_crew(rt, fs, "/t", 2)?.as_str() == GROUPED_SIZES)
-}
-
-#[test]
-fn files_that_a_crew_asks_for_their_sizes(rt: HostRuntime) {
-    assert!(rt; matches!(is_sized_by_crew(&rt), Ok(true)));
-}
-
 // Where the thread that takes the answers asks for sizes, the first of the two files is an error.
 #[test]
 fn two_workers_ask_for_sizes_at_the_same_time(rt: HostRuntime) -> Result<(), AllocError> {
@@ -145,20 +137,26 @@ fn one_worker_asks_for_one_size_at_a_time(rt: HostRuntime) -> Result<(), AllocEr
     Ok(())
 }
 
-/// Whether these are the sizes if the walk of a root asks its own tree.
-fn shows(alloc: Global, steps: &[Step], root: &str, wanted: &str) -> Result<bool, BuildError> {
+/// Whether these are the sizes of a walk over a tree, where links are followed or not, and another tree is asked for
+/// sizes, which may fail.
+fn shows(
+    alloc: Global,
+    walk: (&[Step], &str, bool),
+    asked: (&[Step], Failing),
+    wanted: &str,
+) -> Result<bool, BuildError> {
+    let (steps, root, follow) = walk;
     let fs = tree(alloc, steps)?;
-    Ok(walked(alloc, &fs, &fs, root)?.as_str() == wanted)
+    let (steps, failing) = asked;
+    let asked = Watched::new(tree(alloc, steps)?, failing);
+    Ok(walked(alloc, &fs, asked, root, follow)?.as_str() == wanted)
 }
 
 #[test]
 fn a_root_that_is_a_file(rt: HostRuntime) {
-    assert!(rt;
-        matches!(
-            shows(rt.alloc(), GROUPED, "/t/a.txt", "/t/a.txt 2; "),
-            Ok(true)
-        )
-    );
+    let walk = (GROUPED, "/t/a.txt", false);
+    let asked = (GROUPED, Failing::Never);
+    assert!(rt; matches!(shows(rt.alloc(), walk, asked, "/t/a.txt 2; "), Ok(true)));
 }
 
 /// A file, and a link to it whose text is shorter.
@@ -168,65 +166,39 @@ const LINKED: &[Step] = &[
     Step::Link("f", "/r/l"),
 ];
 
-/// The sizes that a walk by name finds whose links are followed or not.
-fn linked(alloc: Global, fs: &MemoryFs, follow: bool) -> Result<String, AllocError> {
-    let root = String::from_str(alloc, "/r")?;
-    let mut found = Vec::new(alloc);
-    let walk = WalkDirGeneric::<((), Size), _, _, _>::new(fs, root)
-        .sort(true)
-        .follow_links(follow)
-        .process_read_dir(WithSizes::new(fs));
-    for answer in walk.into_iter() {
-        found.push(answer)?;
-    }
-    sizes_of(alloc, found.as_slice())
-}
-
-/// Whether these are the sizes if links are followed or not.
-fn shows_links(alloc: Global, follow: bool, wanted: &str) -> Result<bool, BuildError> {
-    let fs = tree(alloc, LINKED)?;
-    Ok(linked(alloc, &fs, follow)?.as_str() == wanted)
-}
-
 #[test]
 fn links_that_lead_to_a_file(rt: HostRuntime) {
-    let alloc = rt.alloc();
-    assert!(rt; matches!(shows_links(alloc, true, "/r -; /r/f 7; /r/l 7; "), Ok(true)));
-    assert!(rt;
-        matches!(
-            shows_links(alloc, false, "/r -; /r/f 7; /r/l -; "),
-            Ok(true)
-        )
-    );
-}
-
-/// Whether these are the sizes if the file system that is asked has no files.
-fn shows_missing(alloc: Global, wanted: &str) -> Result<bool, BuildError> {
-    let fs = tree(alloc, LINKED)?;
-    Ok(walked(alloc, &fs, MemoryFs::new(alloc), "/r")?.as_str() == wanted)
+    let rows = [
+        (true, "/r -; /r/f 7; /r/l 7; "),
+        (false, "/r -; /r/f 7; /r/l -; "),
+    ];
+    for (follow, wanted) in rows {
+        let walk = (LINKED, "/r", follow);
+        let asked = (LINKED, Failing::Never);
+        assert!(rt; matches!(shows(rt.alloc(), walk, asked, wanted), Ok(true)));
+    }
 }
 
 #[test]
 fn files_whose_metadata_cannot_be_read(rt: HostRuntime) {
-    assert!(rt;
-        matches!(
-            shows_missing(rt.alloc(), "/r -; /r/f NotFound; /r/l -; "),
-            Ok(true)
-        )
-    );
-}
-
-/// Whether these are the sizes if memory runs out for a file of the grouped tree.
-fn shows_refused(alloc: Global, at: &'static str, wanted: &str) -> Result<bool, BuildError> {
-    let fs = tree(alloc, GROUPED)?;
-    let asked = Watched::new(tree(alloc, GROUPED)?, Failing::MetadataForMemory(at));
-    Ok(walked(alloc, &fs, asked, "/t")?.as_str() == wanted)
+    let walk = (LINKED, "/r", false);
+    let asked = (&[], Failing::Never);
+    let wanted = "/r -; /r/f NotFound; /r/l -; ";
+    assert!(rt; matches!(shows(rt.alloc(), walk, asked, wanted), Ok(true)));
 }
 
 #[test]
 fn files_for_whose_metadata_memory_runs_out(rt: HostRuntime) {
-    let alloc = rt.alloc();
-    assert!(rt; matches!(shows_refused(alloc, "/t/b.txt", "memory; "), Ok(true)));
-    let wanted = "/t -; /t/a.txt 2; /t/b.txt 6; /t/c.txt 1; memory; ";
-    assert!(rt; matches!(shows_refused(alloc, "/t/group 1/d.txt", wanted), Ok(true)));
+    let rows = [
+        ("/t/b.txt", "memory; "),
+        (
+            "/t/group 1/d.txt",
+            "/t -; /t/a.txt 2; /t/b.txt 6; /t/c.txt 1; memory; ",
+        ),
+    ];
+    for (at, wanted) in rows {
+        let walk = (GROUPED, "/t", false);
+        let asked = (GROUPED, Failing::MetadataForMemory(at));
+        assert!(rt; matches!(shows(rt.alloc(), walk, asked, wanted), Ok(true)));
+    }
 }

@@ -1,5 +1,5 @@
-//! What walks and their readings yield, by worked examples, and what their callers meet: the functions of `example_proofs`, `for`
-//! loops, getters, errors and their texts, walks of size, and totals.
+//! What walks and their readings yield, by worked examples, and what their callers meet: states, `for` loops, getters, errors
+//! and their texts, sizes of files, walks of size, and totals.
 #![tactic(auto)]
 
 #[cfg(test)]
@@ -13,10 +13,6 @@ mod file_sizes;
 #[cfg(test)]
 mod getters;
 #[cfg(test)]
-mod in_memory;
-#[cfg(test)]
-mod own_readers;
-#[cfg(test)]
 mod readings;
 #[cfg(test)]
 mod rows;
@@ -26,7 +22,5 @@ mod sizes;
 mod totals;
 #[cfg(test)]
 mod walks;
-#[cfg(test)]
-mod whole;
 #[cfg(test)]
 mod wide;

@@ -1,12 +1,10 @@
 //! Totals over walks and over other iterators.
-use example_proofs::totals::{totals_of_both, totals_of_walk};
-use jwalk::WalkDirGeneric;
 use jwalk::file_system::{BuildError, FileSystem, MemoryFs};
-use jwalk::read_dir::{Size, WithSizes};
+use jwalk::read_dir::{NoProcess, Size, WithSizes};
+use jwalk::{ClientState, WalkDirGeneric};
 use jwalk_usage::sums::plus;
 use jwalk_usage::{Usage, UsageFault, usage, usage_kept, usage_of_rest, usage_sized};
-use linked_list_allocator::LocalHeap;
-use std::alloc::{AllocError, Allocator, Global};
+use std::alloc::{AllocError, Global};
 use test_fixtures::answers::Answer;
 use test_fixtures::trees::{GROUPED, tree};
 use test_fixtures::watched::{Failing, Watched};
@@ -41,33 +39,79 @@ enum Asking {
     KeptAndCounted,
 }
 
-/// The totals of a walk over a file system from `/t`, where another is asked for sizes.
-fn totals_by<S: FileSystem, F: FileSystem, A: Allocator + Copy>(
-    alloc: A,
-    fs: S,
-    asked: &F,
-    asking: Asking,
-) -> Result<Result<Usage, UsageFault>, AllocError> {
-    let root = String::from_str(alloc, "/t")?;
-    match asking {
-        Asking::Counted => {
-            let walk = WalkDirGeneric::<((), ()), _, _, _>::new(fs, root);
-            Ok(usage(asked, walk.into_iter()))
-        }
-        Asking::Read => {
-            let walk = WalkDirGeneric::<((), Size), _, _, _>::new(fs, root);
-            let walk = walk.process_read_dir(WithSizes::new(asked));
-            Ok(usage_sized(walk.into_iter()))
-        }
-        Asking::Kept => {
-            let walk = WalkDirGeneric::<((), ()), _, _, _>::new(fs, root);
-            Ok(usage_kept(walk.keep_metadata(true).into_iter()))
-        }
-        Asking::KeptAndCounted => {
-            let walk = WalkDirGeneric::<((), ()), _, _, _>::new(fs, root);
-            Ok(usage(asked, walk.keep_metadata(true).into_iter()))
+/// A walk that isn't begun, and what is asked for the sizes of its files.
+struct Asked<'a, S: FileSystem> {
+    root: &'a str,
+    min_depth: usize,
+    fs: &'a S,
+    sizes: &'a S,
+}
+
+impl<'a, S: FileSystem> Asked<'a, S> {
+    /// The walk with these states.
+    fn builder<C: ClientState>(
+        &self,
+        alloc: Global,
+    ) -> Result<WalkDirGeneric<C, &'a S, NoProcess>, AllocError> {
+        let root = String::from_str(alloc, self.root)?;
+        Ok(WalkDirGeneric::new(self.fs, root).min_depth(self.min_depth))
+    }
+
+    /// Its totals, where each file is asked for its size when it is read.
+    fn read(&self, alloc: Global) -> Result<Result<Usage, UsageFault>, AllocError> {
+        let walk = self.builder::<((), Size)>(alloc)?;
+        let walk = walk.process_read_dir(WithSizes::new(self.sizes));
+        Ok(usage_sized(walk.into_iter()))
+    }
+
+    /// Its totals, where no file is asked when it is read.
+    fn counted(
+        &self,
+        alloc: Global,
+        keep: bool,
+        ask: bool,
+    ) -> Result<Result<Usage, UsageFault>, AllocError> {
+        let walk = self
+            .builder::<((), ())>(alloc)?
+            .keep_metadata(keep)
+            .into_iter();
+        Ok(if ask {
+            usage(self.sizes, walk)
+        } else {
+            usage_kept(walk)
+        })
+    }
+
+    /// Its totals.
+    fn totals(
+        &self,
+        alloc: Global,
+        asking: Asking,
+    ) -> Result<Result<Usage, UsageFault>, AllocError> {
+        match asking {
+            Asking::Counted => self.counted(alloc, false, true),
+            Asking::Read => self.read(alloc),
+            Asking::Kept => self.counted(alloc, true, false),
+            Asking::KeptAndCounted => self.counted(alloc, true, true),
         }
     }
+}
+
+/// The totals of a walk from a root and a least depth, whose file system is asked for sizes.
+fn totals_from(
+    alloc: Global,
+    fs: &Watched,
+    root: &str,
+    min_depth: usize,
+    asking: Asking,
+) -> Result<Result<Usage, UsageFault>, AllocError> {
+    let asked = Asked {
+        root,
+        min_depth,
+        fs,
+        sizes: fs,
+    };
+    asked.totals(alloc, asking)
 }
 
 /// Whether these are the totals of a walk over the grouped tree that fails so, whenever files are asked.
@@ -77,8 +121,8 @@ fn has_totals(
     wanted: Result<Usage, UsageFault>,
 ) -> Result<bool, BuildError> {
     let fs = Watched::new(tree(alloc, GROUPED)?, failing);
-    let one = totals_by(alloc, &fs, &fs, Asking::Counted)?;
-    let other = totals_by(alloc, &fs, &fs, Asking::Read)?;
+    let one = totals_from(alloc, &fs, "/t", 0, Asking::Counted)?;
+    let other = totals_from(alloc, &fs, "/t", 0, Asking::Read)?;
     Ok(one == wanted && other == wanted)
 }
 
@@ -96,31 +140,17 @@ fn totals_of_a_walk_or_that_memory_ran_out(rt: HostRuntime) {
     }
 }
 
-/// Whether the function with a contract of its own returns these totals.
-fn returns_totals(alloc: Global, wanted: Usage) -> Result<bool, BuildError> {
-    let fs = tree(alloc, GROUPED)?;
-    let root = String::from_str(alloc, "/t")?;
-    Ok(totals_of_walk(&fs, root) == Ok(wanted))
-}
-
-#[test]
-fn totals_of_a_whole_walk(rt: HostRuntime) {
-    assert!(rt; matches!(returns_totals(rt.alloc(), WHOLE), Ok(true)));
-}
-
 /// The totals of a walk over the grouped tree from a root and a least depth, counted in both ways.
 fn counted_twice(
     alloc: Global,
     root: &str,
     least: usize,
-) -> Result<Result<(Usage, Usage), UsageFault>, BuildError> {
-    let fs = tree(alloc, GROUPED)?;
-    let plain = WalkDirGeneric::<((), ()), _, _, _>::new(&fs, String::from_str(alloc, root)?);
-    let sized = WalkDirGeneric::<((), Size), _, _, _>::new(
-        &fs,
-        String::from_str(alloc, root)?,
-    ).process_read_dir(WithSizes::new(&fs));
-    Ok(totals_of_both(&fs, plain.min_depth(least), sized.min_depth(least)))
+) -> Result<(Result<Usage, UsageFault>, Result<Usage, UsageFault>), BuildError> {
+    let fs = Watched::new(tree(alloc, GROUPED)?, Failing::Never);
+    Ok((
+        totals_from(alloc, &fs, root, least, Asking::Counted)?,
+        totals_from(alloc, &fs, root, least, Asking::Read)?,
+    ))
 }
 
 #[test]
@@ -140,39 +170,46 @@ fn one_walk_counted_in_both_ways(rt: HostRuntime) {
     let rows = [("/t", 0, WHOLE), ("/t", 2, below), ("/t/a.txt", 0, file)];
     for (root, least, wanted) in rows {
         let counted = counted_twice(rt.alloc(), root, least);
-        assert!(rt; matches!(counted, Ok(Ok(both)) if both == (wanted, wanted)));
+        assert!(rt; matches!(counted, Ok(both) if both == (Ok(wanted), Ok(wanted))));
     }
 }
 
-/// Whether the error of each file is counted where no file is found any more, whenever files are asked.
-fn counts_missing_files(alloc: Global) -> Result<bool, BuildError> {
-    let fs = tree(alloc, GROUPED)?;
+/// Whether these are the totals of a walk over the grouped tree where no file is found any more, in two ways of asking.
+fn has_totals_of_missing(
+    alloc: Global,
+    ways: [Asking; 2],
+    wanted: Usage,
+) -> Result<bool, BuildError> {
+    let fs = Watched::new(tree(alloc, GROUPED)?, Failing::Never);
+    let sizes = Watched::new(MemoryFs::new(alloc), Failing::Never);
+    let asked = Asked {
+        root: "/t",
+        min_depth: 0,
+        fs: &fs,
+        sizes: &sizes,
+    };
+    let mut are_so = true;
+    for asking in ways {
+        are_so &= asked.totals(alloc, asking)? == Ok(wanted);
+    }
+    Ok(are_so)
+}
+
+#[test]
+fn files_without_metadata_are_errors(rt: HostRuntime) {
     let missing = Usage {
         errors: 5,
         bytes: 0,
         ..WHOLE
     };
-    let one = totals_by(alloc, &fs, &MemoryFs::new(alloc), Asking::Counted)?;
-    let other = totals_by(alloc, &fs, &MemoryFs::new(alloc), Asking::Read)?;
-    Ok(one == Ok(missing) && other == Ok(missing))
-}
-
-#[test]
-fn files_without_metadata_are_errors(rt: HostRuntime) {
-    assert!(rt; matches!(counts_missing_files(rt.alloc()), Ok(true)));
-}
-
-/// Whether the totals are those of the grouped tree where its entries keep metadata, though no file is found any more.
-fn counts_kept_files(alloc: Global) -> Result<bool, BuildError> {
-    let fs = tree(alloc, GROUPED)?;
-    let one = totals_by(alloc, &fs, &MemoryFs::new(alloc), Asking::Kept)?;
-    let other = totals_by(alloc, &fs, &MemoryFs::new(alloc), Asking::KeptAndCounted)?;
-    Ok(one == Ok(WHOLE) && other == Ok(WHOLE))
+    let ways = [Asking::Counted, Asking::Read];
+    assert!(rt; matches!(has_totals_of_missing(rt.alloc(), ways, missing), Ok(true)));
 }
 
 #[test]
 fn files_that_keep_metadata_are_not_asked(rt: HostRuntime) {
-    assert!(rt; matches!(counts_kept_files(rt.alloc()), Ok(true)));
+    let ways = [Asking::Kept, Asking::KeptAndCounted];
+    assert!(rt; matches!(has_totals_of_missing(rt.alloc(), ways, WHOLE), Ok(true)));
 }
 
 /// Whether an iterator that is lent is left where the counting ended: behind the error that says that memory ran out.
@@ -198,46 +235,4 @@ fn leaves_the_rest(alloc: Global) -> Result<bool, AllocError> {
 #[test]
 fn an_iterator_that_is_lent_is_left_where_the_counting_ended(rt: HostRuntime) {
     assert!(rt; matches!(leaves_the_rest(rt.alloc()), Ok(true)));
-}
-
-/// What a walk in a heap of this size comes to: its totals, or that memory ran out.
-fn in_heap<S: FileSystem>(
-    alloc: Global,
-    fs: &S,
-    size: usize,
-    asking: Asking,
-) -> Option<Result<Usage, UsageFault>> {
-    let heap = LocalHeap::new(alloc, size).ok()?;
-    match totals_by(&heap, fs, fs, asking) {
-        Ok(totals) => Some(totals),
-        Err(AllocError) => Some(Err(UsageFault::Memory)),
-    }
-}
-
-/// How many heaps up to this size are too small, if all others have room for the whole walk.
-fn too_small<S: FileSystem>(
-    alloc: Global,
-    fs: &S,
-    greatest: usize,
-    asking: Asking,
-) -> Option<usize> {
-    let mut small: usize = 0;
-    for step in 16..greatest / 16 {
-        match in_heap(alloc, fs, step.wrapping_mul(16), asking)? {
-            Ok(totals) if totals == WHOLE => {}
-            Err(UsageFault::Memory) => small = small.wrapping_add(1),
-            _ => return None,
-        }
-    }
-    Some(small)
-}
-
-#[test]
-fn each_request_for_memory_that_is_refused_is_reported(rt: HostRuntime) -> Result<(), BuildError> {
-    let fs = tree(rt.alloc(), GROUPED)?;
-    for asking in [Asking::Counted, Asking::Read] {
-        let small = too_small(rt.alloc(), &fs, 8192, asking);
-        assert!(rt; matches!(small, Some(1..400)), "{:?}", small);
-    }
-    Ok(())
 }

@@ -1,9 +1,10 @@
 //! How walks come out.
+ghost use Rattle.std.specs.Prelude.{IfOk};
 ghost use Rattle.jwalk.specs.DirEntryIter.{job_of};
 ghost use Rattle.jwalk.specs.WalkDir.{callback_of};
 ghost use Rattle.jwalk.specs.jwalk_core.Job.{callback};
 
-use crate::refused::lines::{Given, Shown, are_first, is_line, is_refusal};
+use crate::refused::lines::{Given, Met, Shown, are_first, is_refusal, what_came};
 use crate::width::Width;
 use jwalk::file_system::FileSystem;
 use jwalk::read_dir::ProcessReadDir;
@@ -58,8 +59,8 @@ pub(crate) fn if_over<
     P: ProcessReadDir<C, A>,
     A: Allocator + Copy,
     L: Readers<C, S, P, A>,
->(mut walk: DirEntryIter<C, S, P, A, L>, came: Came) -> Came
-    requires { P.IsLawful (callback (job_of walk)) }
+>(walk: &mut DirEntryIter<C, S, P, A, L>, came: Came) -> Came
+    requires { P.IsLawful (callback (job_of walk.old)) }
 {
     let is_over = walk.next().is_none();
     if is_over && walk.next().is_none() {
@@ -70,29 +71,24 @@ pub(crate) fn if_over<
 }
 
 /// How a walk goes on that is to yield these lines, after that many that came before.
-fn goes_on<
+pub(crate) fn goes_on<
     C: ClientState,
     S: FileSystem,
     P: ProcessReadDir<C, A>,
     A: Allocator + Copy,
     L: Readers<C, S, P, A>,
->(alloc: Global, mut walk: DirEntryIter<C, S, P, A, L>, lines: &[&str], before: usize) -> Came
+>(alloc: Global, walk: &mut DirEntryIter<C, S, P, A, L>, lines: &[&str], before: usize) -> Came
 where
     C::DirEntryState: Shown,
-    requires { P.IsLawful (callback (job_of walk)) }
+    requires { P.IsLawful (callback (job_of walk.old)) }
 {
     let mut came = before;
     'lines: for line in lines {
-        let Some(answer) = walk.next() else {
-            return Came::Wrong;
-        };
-        if is_refusal(Some(&answer)) {
-            return if_over(walk, Came::Refused(came));
+        match what_came(alloc, &walk.next(), line) {
+            Met::Line => came = came.saturating_add(1),
+            Met::Refusal => return if_over(walk, Came::Refused(came)),
+            Met::Other => return Came::Wrong,
         }
-        if !is_line(alloc, &answer, line) {
-            return Came::Wrong;
-        }
-        came = came.saturating_add(1);
     }
     if_over(walk, Came::Whole)
 }
@@ -104,12 +100,21 @@ pub fn goes<
     P: ProcessReadDir<C, A>,
     A: Allocator + Copy,
     L: Readers<C, S, P, A>,
->(alloc: Global, walk: DirEntryIter<C, S, P, A, L>, lines: &[&str]) -> Came
+>(alloc: Global, mut walk: DirEntryIter<C, S, P, A, L>, lines: &[&str]) -> Came
 where
     C::DirEntryState: Shown,
     requires { P.IsLawful (callback (job_of walk)) }
 {
-    goes_on(alloc, walk, lines, 0)
+    goes_on(alloc, &mut walk, lines, 0)
+}
+
+/// Takes away the last of these answers if it reports that memory ran out, and returns whether it does.
+fn take_refusal<C: ClientState, A: Allocator + Copy>(found: &mut Vec<Given<C, A>, A>) -> bool {
+    let is_refused = is_refusal(found.last());
+    if is_refused {
+        found.pop();
+    }
+    is_refused
 }
 
 /// How a walk goes on that is to yield these lines, of which these answers came at once.
@@ -118,51 +123,61 @@ pub(crate) fn goes_after<
     S: FileSystem,
     P: ProcessReadDir<C, A>,
     A: Allocator + Copy,
+    L: Readers<C, S, P, A>,
 >(
     alloc: Global,
-    walk: DirEntryIter<C, S, P, A>,
-    mut found: Vec<Given<C, A>, A>,
+    walk: &mut DirEntryIter<C, S, P, A, L>,
+    found: &mut Vec<Given<C, A>, A>,
     lines: &[&str],
 ) -> Came
 where
     C::DirEntryState: Shown,
-    requires { P.IsLawful (callback (job_of walk)) }
+    requires { P.IsLawful (callback (job_of walk.old)) }
 {
-    let is_refused = is_refusal(found.last());
-    if is_refused {
-        found.pop();
-    }
-    if !are_first(alloc, found.as_slice(), lines) {
-        return Came::Wrong;
-    }
-    if is_refused {
-        return if_over(walk, Came::Refused(found.len()));
-    }
-    match lines.get(found.len()..) {
-        Some(rest) => goes_on(alloc, walk, rest, found.len()),
+    let is_refused = take_refusal(found);
+    let came = found.len();
+    match lines.get(came..) {
+        Some(_) if !are_first(alloc, found.as_slice(), lines) => Came::Wrong,
+        Some(_) if is_refused => if_over(walk, Came::Refused(came)),
+        Some(rest) => goes_on(alloc, walk, rest, came),
         None => Came::Wrong,
     }
 }
 
 /// How answers come that are asked for all at once, and the others after them.
-fn is_filled<C: ClientState, S: FileSystem, P: ProcessReadDir<C, A>, A: Allocator + Copy>(
-    alloc: Global,
-    memory: A,
-    mut walk: DirEntryIter<C, S, P, A>,
-    lines: &[&str],
-) -> Came
+fn is_filled<
+    C: ClientState,
+    S: FileSystem,
+    P: ProcessReadDir<C, A>,
+    A: Allocator + Copy,
+    L: Readers<C, S, P, A>,
+>(alloc: Global, memory: A, walk: &mut DirEntryIter<C, S, P, A, L>, lines: &[&str]) -> Came
 where
     C::DirEntryState: Shown,
-    requires { P.IsLawful (callback (job_of walk)) }
+    requires { P.IsLawful (callback (job_of walk.old)) }
 {
     let mut found: Vec<Given<C, A>, A> = Vec::new(memory);
     // Where memory runs out for the vector, not all are in it.
     let _ = walk.fill(100, &mut found);
-    goes_after(alloc, walk, found, lines)
+    goes_after(alloc, walk, &mut found, lines)
+}
+
+/// Begins a walk as its answers are taken.
+pub(crate) fn begin<C: ClientState, S: FileSystem, P: ProcessReadDir<C, A>, A: Allocator + Copy>(
+    walk: WalkDirGeneric<C, S, P, A>,
+    taken: Taken,
+) -> Result<DirEntryIter<C, S, P, A>, Error<A>>
+    requires { P.IsLawful (callback_of walk) }
+    ensures { IfOk result (λ begun. P.IsLawful (callback (job_of begun))) }
+{
+    match taken {
+        Taken::Tried => walk.try_into_iter(),
+        Taken::Begun | Taken::Filled => Ok(walk.into_iter()),
+    }
 }
 
 /// How a walk comes out that didn't begin.
-pub(crate) fn not_begun<A: Allocator + Copy>(error: Error<A>) -> Came {
+pub(crate) fn not_begun<A: Allocator + Copy>(error: &Error<A>) -> Came {
     if error.is_memory() {
         Came::Refused(0)
     } else {
@@ -182,12 +197,11 @@ where
     C::DirEntryState: Shown,
     requires { P.IsLawful (callback_of walk) }
 {
-    match taken {
-        Taken::Tried => match walk.try_into_iter() {
-            Ok(walk) => goes(alloc, walk, lines),
-            Err(error) => not_begun(error),
+    match begin(walk, taken) {
+        Ok(mut walk) => match taken {
+            Taken::Filled => is_filled(alloc, memory, &mut walk, lines),
+            Taken::Tried | Taken::Begun => goes_on(alloc, &mut walk, lines, 0),
         },
-        Taken::Begun => goes(alloc, walk.into_iter(), lines),
-        Taken::Filled => is_filled(alloc, memory, walk.into_iter(), lines),
+        Err(error) => not_begun(&error),
     }
 }

@@ -108,3 +108,30 @@ where
 pub fn is_refusal<C: ClientState, A: Allocator + Copy>(answer: Option<&Given<C, A>>) -> bool {
     matches!(answer, Some(Err(error)) if error.is_memory())
 }
+
+/// What an answer is of a walk that is to yield a line.
+#[derive(Clone, Copy)]
+pub(crate) enum Met {
+    /// That line.
+    Line,
+    /// The error that reports that memory ran out.
+    Refusal,
+    /// Nothing, or anything else.
+    Other,
+}
+
+/// What an answer is of a walk that is to yield this line.
+pub(crate) fn what_came<C: ClientState, A: Allocator + Copy>(
+    alloc: Global,
+    answer: &Option<Given<C, A>>,
+    line: &str,
+) -> Met
+where
+    C::DirEntryState: Shown,
+{
+    match answer {
+        Some(answer) if is_refusal(Some(answer)) => Met::Refusal,
+        Some(answer) if is_line(alloc, answer, line) => Met::Line,
+        _ => Met::Other,
+    }
+}

@@ -3,8 +3,8 @@ ghost use Rattle.jwalk.specs.DirEntryIter.{job_of};
 ghost use Rattle.jwalk.specs.WalkDir.{callback_of};
 ghost use Rattle.jwalk.specs.jwalk_core.Job.{callback};
 
-use crate::refused::came::{Came, Taken, goes_after, if_over, not_begun};
-use crate::refused::lines::{Given, Shown, is_line, is_refusal};
+use crate::refused::came::{Came, Taken, begin, goes_after, if_over, not_begun};
+use crate::refused::lines::{Given, Met, Shown, what_came};
 use jwalk::file_system::FileSystem;
 use jwalk::read_dir::ProcessReadDir;
 use jwalk::{ClientState, DirEntryIter, WalkDirGeneric};
@@ -18,24 +18,19 @@ fn goes<
     S: FileSystem + Send + Sync,
     P: ProcessReadDir<C, A> + Send + Sync,
     A: Allocator + Copy + Send + Sync,
->(rt: &R, alloc: Global, mut walk: DirEntryIter<C, S, P, A>, lines: &[&str]) -> Came
+>(rt: &R, alloc: Global, walk: &mut DirEntryIter<C, S, P, A>, lines: &[&str]) -> Came
 where
     C::ReadDirState: Send,
     C::DirEntryState: Shown + Send,
-    requires { P.IsLawful (callback (job_of walk)) }
+    requires { P.IsLawful (callback (job_of walk.old)) }
 {
     let mut came: usize = 0;
     'lines: for line in lines {
-        let Some(answer) = walk.next_on(rt) else {
-            return Came::Wrong;
-        };
-        if is_refusal(Some(&answer)) {
-            return if_over(walk, Came::Refused(came));
+        match what_came(alloc, &walk.next_on(rt), line) {
+            Met::Line => came = came.saturating_add(1),
+            Met::Refusal => return if_over(walk, Came::Refused(came)),
+            Met::Other => return Came::Wrong,
         }
-        if !is_line(alloc, &answer, line) {
-            return Came::Wrong;
-        }
-        came = came.saturating_add(1);
     }
     if_over(walk, Came::Whole)
 }
@@ -47,16 +42,16 @@ fn is_filled<
     S: FileSystem + Send + Sync,
     P: ProcessReadDir<C, A> + Send + Sync,
     A: Allocator + Copy + Send + Sync,
->(rt: &R, alloc: Global, memory: A, mut walk: DirEntryIter<C, S, P, A>, lines: &[&str]) -> Came
+>(rt: &R, alloc: Global, memory: A, walk: &mut DirEntryIter<C, S, P, A>, lines: &[&str]) -> Came
 where
     C::ReadDirState: Send,
     C::DirEntryState: Shown + Send,
-    requires { P.IsLawful (callback (job_of walk)) }
+    requires { P.IsLawful (callback (job_of walk.old)) }
 {
     let mut found: Vec<Given<C, A>, A> = Vec::new(memory);
     // Where memory runs out for the vector, not all are in it.
     let _ = walk.fill_on(rt, 100, &mut found);
-    goes_after(alloc, walk, found, lines)
+    goes_after(alloc, walk, &mut found, lines)
 }
 
 /// Returns how a walk yet to begin comes out that is to yield these lines, with this memory.
@@ -79,12 +74,11 @@ where
     C::DirEntryState: Shown + Send,
     requires { P.IsLawful (callback_of walk) }
 {
-    match taken {
-        Taken::Tried => match walk.try_into_iter() {
-            Ok(walk) => goes(rt, alloc, walk, lines),
-            Err(error) => not_begun(error),
+    match begin(walk, taken) {
+        Ok(mut walk) => match taken {
+            Taken::Filled => is_filled(rt, alloc, memory, &mut walk, lines),
+            Taken::Tried | Taken::Begun => goes(rt, alloc, &mut walk, lines),
         },
-        Taken::Begun => goes(rt, alloc, walk.into_iter(), lines),
-        Taken::Filled => is_filled(rt, alloc, memory, walk.into_iter(), lines),
+        Err(error) => not_begun(&error),
     }
 }

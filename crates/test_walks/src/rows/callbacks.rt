@@ -3,5 +3,4 @@ mod both;
 mod closures;
 mod ready;
 mod refusals;
-mod root_links;
 mod rows;

@@ -4,6 +4,7 @@ use jwalk::read_dir::NoProcess;
 use std::thread::Threads;
 use test_fixtures::answers::Answer;
 use test_fixtures::trees::{ELSEWHERE, LOOPED, LOOPED_BACK, Step, TO_EACH_OTHER, WITHIN, tree};
+use test_fixtures::watched::{Failing, Watched};
 use test_fixtures::ways::{Asked, Setting, WAYS, Way};
 
 #[test]
@@ -171,9 +172,10 @@ fn ends(found: &[Answer], count: usize, depth: usize, length: usize) -> bool {
 
 /// Whether the walk that follows links in two directories to each other ends so, read in this way.
 fn is_ended<R: Threads + AllocGlobal + Sync>(rt: &R, way: Way) -> bool {
-    let Ok(fs) = tree(rt.alloc(), TO_EACH_OTHER) else {
+    let Ok(tree) = tree(rt.alloc(), TO_EACH_OTHER) else {
         return false;
     };
+    let fs = Watched::new(tree, Failing::Never);
     let asked = Asked {
         fs: &fs,
         root: "/r",

@@ -4,7 +4,7 @@ use jwalk::Parallelism;
 use jwalk::file_system::{BuildError, FileSystem};
 use std::alloc::{AllocError, Global};
 use test_fixtures::builders::{Builder, over_tree};
-use test_fixtures::trees::{FORKED, GROUPED};
+use test_fixtures::trees::{FORKED, GROUPED, Step};
 use test_fixtures::watched::Failing;
 use test_fixtures::ways::Setting;
 use test_fixtures::width::Width;
@@ -42,6 +42,91 @@ fn directories_of_directories(rt: HostRuntime) {
         },
     ];
     all_take(&rt, &(FORKED, Failing::Never, "/r"), COURSES);
+}
+
+/// A directory with twenty empty directories.
+const TWENTY: &[Step] = &[
+    Step::Dir("/d"),
+    Step::Dir("/d/10"),
+    Step::Dir("/d/11"),
+    Step::Dir("/d/12"),
+    Step::Dir("/d/13"),
+    Step::Dir("/d/14"),
+    Step::Dir("/d/15"),
+    Step::Dir("/d/16"),
+    Step::Dir("/d/17"),
+    Step::Dir("/d/18"),
+    Step::Dir("/d/19"),
+    Step::Dir("/d/20"),
+    Step::Dir("/d/21"),
+    Step::Dir("/d/22"),
+    Step::Dir("/d/23"),
+    Step::Dir("/d/24"),
+    Step::Dir("/d/25"),
+    Step::Dir("/d/26"),
+    Step::Dir("/d/27"),
+    Step::Dir("/d/28"),
+    Step::Dir("/d/29"),
+];
+
+// The root alone is read for its own answer, and eight of the directories in it for the next one. Below a least depth
+// one call enters the root and the first directory in it.
+#[test]
+fn what_one_answer_reads_ahead(rt: HostRuntime) {
+    const COURSES: &[Course] = &[
+        Course {
+            settings: &[Setting::By(Width::Batches(8))],
+            seen: Seen::Counts(&[
+                (0, 1),
+                (7, 9),
+                (6, 9),
+                (5, 9),
+                (4, 9),
+                (3, 9),
+                (2, 9),
+                (1, 9),
+                (0, 9),
+                (7, 17),
+                (6, 17),
+                (5, 17),
+                (4, 17),
+                (3, 17),
+                (2, 17),
+                (1, 17),
+                (0, 17),
+                (3, 21),
+                (2, 21),
+                (1, 21),
+                (0, 21),
+            ]),
+        },
+        Course {
+            settings: &[Setting::By(Width::Batches(8)), Setting::Min(1)],
+            seen: Seen::Counts(&[
+                (7, 9),
+                (6, 9),
+                (5, 9),
+                (4, 9),
+                (3, 9),
+                (2, 9),
+                (1, 9),
+                (0, 9),
+                (7, 17),
+                (6, 17),
+                (5, 17),
+                (4, 17),
+                (3, 17),
+                (2, 17),
+                (1, 17),
+                (0, 17),
+                (3, 21),
+                (2, 21),
+                (1, 21),
+                (0, 21),
+            ]),
+        },
+    ];
+    all_take(&rt, &(TWENTY, Failing::Never, "/d"), COURSES);
 }
 
 const THREE: Width = Width::Batches(3);

@@ -1,21 +1,29 @@
 //! Walks with two callbacks, one after the other.
+ghost use Rattle.std.specs.Prelude.{◌<◌, ◌^◌, OnOk, map};
+ghost use Rattle.jwalk.specs.jwalk_model.Entry.{AtDepth};
+ghost use Rattle.jwalk.specs.jwalk_model.ReadDir.{list_depth};
+ghost use Rattle.jwalk.specs.jwalk_core.Entry.{item};
+
 use crate::rows::callbacks::rows::{Callback, Row, all_hold};
-use jwalk::file_system::FileSystem;
-use jwalk::read_dir::{Both, ByFn, FilterEntry};
-use std::thread::Threads;
+use jwalk::read_dir::{Both, ByFn, FilterEntry, ProcessReadDir};
+use std::alloc::AllocError;
 use test_fixtures::answers::Answer;
-use test_fixtures::ways::{Asked, Way};
+use test_fixtures::trees::GROUPED;
 
 /// A list that a callback is given.
 type Items = Vec<Answer>;
 
-/// Whether these are the answers if a name is dropped from each list, and then each is cut after two items.
-pub fn drops_then_cuts<R: Threads + AllocGlobal + Sync, S: FileSystem + Send + Sync>(
-    rt: &R,
-    asked: &Asked<'_, S>,
-    way: Way,
-    wanted: &str,
-) -> bool {
+/// Drops a name from a list, and then cuts the list after two items.
+pub fn drops_then_cuts(
+    depth: Option<usize>,
+    path: &str,
+    state: &mut (),
+    list: &mut Vec<Answer>,
+) -> Result<(), AllocError>
+    requires fits { list_depth depth < 2 ^ 64 }
+    requires depths { AtDepth (list_depth depth) (map item list.old.items) }
+    ensures { OnOk result (AtDepth (list_depth depth) (map item list.new.items)) }
+{
     // begin both
     let drops = FilterEntry::new(|_depth, name, _file_type| name != "a.txt");
     let cuts = ByFn::new(|_depth: Option<usize>, _path: &str, _state: &mut (), list: &mut Items| {
@@ -24,22 +32,26 @@ pub fn drops_then_cuts<R: Threads + AllocGlobal + Sync, S: FileSystem + Send + S
     });
     let both = Both::new(drops, cuts);
     // end both
-    asked.shows(rt, both, way, wanted)
+    both.process(depth, path, state, list)
 }
 
-/// Whether these are the answers if each list is cut first.
-pub fn cuts_then_drops<R: Threads + AllocGlobal + Sync, S: FileSystem + Send + Sync>(
-    rt: &R,
-    asked: &Asked<'_, S>,
-    way: Way,
-    wanted: &str,
-) -> bool {
+/// Cuts a list first.
+pub fn cuts_then_drops(
+    depth: Option<usize>,
+    path: &str,
+    state: &mut (),
+    list: &mut Vec<Answer>,
+) -> Result<(), AllocError>
+    requires fits { list_depth depth < 2 ^ 64 }
+    requires depths { AtDepth (list_depth depth) (map item list.old.items) }
+    ensures { OnOk result (AtDepth (list_depth depth) (map item list.new.items)) }
+{
     let cuts = ByFn::new(|_depth: Option<usize>, _path: &str, _state: &mut (), list: &mut Items| {
         list.truncate(2);
         Ok(())
     });
     let drops = FilterEntry::new(|_depth, name, _file_type| name != "a.txt");
-    asked.shows(rt, Both::new(cuts, drops), way, wanted)
+    Both::new(cuts, drops).process(depth, path, state, list)
 }
 
 #[test]
@@ -47,11 +59,13 @@ fn the_second_callback_is_given_what_the_first_left(rt: HostRuntime) {
     const ROWS: &[Row] = &[
         Row {
             callback: Callback::DropsThenCuts,
+            steps: GROUPED,
             root: "/t",
             answers: "0 d /t; 1 f /t/b.txt; 1 f /t/c.txt",
         },
         Row {
             callback: Callback::CutsThenDrops,
+            steps: GROUPED,
             root: "/t",
             answers: "0 d /t; 1 f /t/b.txt",
         },

@@ -1,15 +1,19 @@
 //! Walks whose callbacks are closures.
+ghost use Rattle.std.specs.Prelude.{◌<◌, ◌^◌, OnOk, map};
+ghost use Rattle.jwalk.specs.jwalk_model.Entry.{AtDepth};
+ghost use Rattle.jwalk.specs.jwalk_model.ReadDir.{list_depth};
+ghost use Rattle.jwalk.specs.jwalk_core.Entry.{item};
+
 use crate::rows::callbacks::rows::{Callback, Row, all_hold};
-use jwalk::DirEntry;
-use jwalk::file_system::{BuildError, FileSystem};
-use std::alloc::{AllocError, Global};
-use test_fixtures::answers::{Answer, are_lines};
-use test_fixtures::builders::{Builder, over_tree};
+use jwalk::read_dir::{ByFn, ProcessReadDir};
+use jwalk::{DirEntry, Error};
+use std::alloc::AllocError;
+use test_fixtures::answers::Answer;
 use test_fixtures::moving::move_directory;
-use test_fixtures::trees::GROUPED;
-use test_fixtures::ways::all_looped;
+use test_fixtures::trees::{GROUPED, Step};
 
 /// What a closure does with each list.
+#[derive(Clone, Copy)]
 pub enum Change {
     /// It takes the directories away from the groups.
     ClearGroups,
@@ -19,29 +23,57 @@ pub enum Change {
     MoveGroup,
     /// It keeps the root alone.
     KeepRoot,
+    /// It turns the list round.
+    Turn,
+    /// It adds an error to the list of a root in `/`. Memory runs out for any other list.
+    NoteRoot,
+    /// Memory runs out for the list of the root, or for those of directories at a depth.
+    RefuseAt(Option<usize>),
 }
 
 impl Change {
     /// Changes the list of the root, or of the directory of this depth and path.
-    pub fn make(&self, depth: Option<usize>, path: &str, list: &mut Vec<Answer>) {
+    fn make(
+        self,
+        depth: Option<usize>,
+        path: &str,
+        list: &mut Vec<Answer>,
+    ) -> Result<(), AllocError> {
         match self {
             Change::ClearGroups => clear_groups(list),
             Change::DropGroups => list.retain(|found| match found {
                 Ok(entry) => !is_group(entry),
                 Err(_) => true,
             }),
-            Change::MoveGroup => {
-                if path == "/t" {
-                    move_directory(list, "group 1", "c.txt");
-                }
-            }
-            Change::KeepRoot => {
-                if depth.is_some() {
-                    list.clear();
-                }
-            }
+            Change::MoveGroup if path == "/t" => move_directory(list, "group 1", "c.txt"),
+            Change::KeepRoot if depth.is_some() => list.clear(),
+            Change::Turn => list.reverse(),
+            Change::NoteRoot if depth.is_none() && path == "/" => list.push(Err(Error::busy()))?,
+            Change::NoteRoot => return Err(AllocError),
+            Change::RefuseAt(at) if depth == at => return Err(AllocError),
+            Change::MoveGroup | Change::KeepRoot | Change::RefuseAt(_) => {}
         }
+        Ok(())
     }
+}
+
+/// Changes a list by a closure.
+pub fn by_closure(
+    change: Change,
+    depth: Option<usize>,
+    path: &str,
+    state: &mut (),
+    list: &mut Vec<Answer>,
+) -> Result<(), AllocError>
+    requires fits { list_depth depth < 2 ^ 64 }
+    requires depths { AtDepth (list_depth depth) (map item list.old.items) }
+    ensures { OnOk result (AtDepth (list_depth depth) (map item list.new.items)) }
+{
+    // The types of the closure's arguments are written.
+    let changes = ByFn::new(|depth: Option<usize>, path: &str, _state: &mut (), list: &mut Vec<
+        Answer,
+    >| change.make(depth, path, list));
+    changes.process(depth, path, state, list)
 }
 
 fn is_group(entry: &DirEntry<((), ())>) -> bool {
@@ -63,6 +95,7 @@ fn clear_groups(list: &mut Vec<Answer>) {
 fn directories_that_are_not_entered(rt: HostRuntime) {
     const ROWS: &[Row] = &[Row {
         callback: Callback::Changes(Change::ClearGroups),
+        steps: GROUPED,
         root: "/t",
         answers: "0 d /t; 1 f /t/a.txt; 1 f /t/b.txt; 1 f /t/c.txt; 1 d /t/group 1; 1 d /t/group 2",
     }];
@@ -73,6 +106,7 @@ fn directories_that_are_not_entered(rt: HostRuntime) {
 fn entries_that_are_dropped(rt: HostRuntime) {
     const ROWS: &[Row] = &[Row {
         callback: Callback::Changes(Change::DropGroups),
+        steps: GROUPED,
         root: "/t",
         answers: "0 d /t; 1 f /t/a.txt; 1 f /t/b.txt; 1 f /t/c.txt",
     }];
@@ -83,6 +117,7 @@ fn entries_that_are_dropped(rt: HostRuntime) {
 fn a_directory_that_was_moved_to_a_file(rt: HostRuntime) {
     const ROWS: &[Row] = &[Row {
         callback: Callback::Changes(Change::MoveGroup),
+        steps: GROUPED,
         root: "/t",
         answers: "0 d /t; 1 f /t/a.txt; 1 f /t/b.txt; 1 f /t/c.txt; 2 f /t/group 1/d.txt; 1 d /t/group 1; \
                   1 d /t/group 2; 2 f /t/group 2/e.txt",
@@ -90,24 +125,26 @@ fn a_directory_that_was_moved_to_a_file(rt: HostRuntime) {
     all_hold(&rt, ROWS);
 }
 
-/// Whether a `for` loop over a walk yields these answers if each list is cut after two items.
-fn cuts<S: FileSystem>(alloc: Global, walk: Builder<S>, wanted: &str) -> Result<bool, AllocError> {
-    let walk = walk.process_read_dir_by(|_depth, _path, _state, list| {
-        list.truncate(2);
-        Ok(())
-    });
-    let found = all_looped(alloc, walk.into_iter())?;
-    Ok(are_lines(alloc, found.as_slice(), wanted))
-}
-
-/// Whether that is so for the groups by name.
-fn cuts_groups(alloc: Global, wanted: &str) -> Result<bool, BuildError> {
-    let walk = over_tree(alloc, GROUPED, "/t")?.sort(true);
-    Ok(cuts(alloc, walk, wanted)?)
-}
-
 #[test]
-fn a_walk_with_a_callback_in_a_for_loop(rt: HostRuntime) {
-    let wanted = "0 d /t; 1 f /t/a.txt; 1 f /t/b.txt";
-    assert!(rt; matches!(cuts_groups(rt.alloc(), wanted), Ok(true)));
+fn lists_that_are_turned_round(rt: HostRuntime) {
+    const ROWS: &[Row] = &[Row {
+        callback: Callback::Changes(Change::Turn),
+        steps: GROUPED,
+        root: "/t",
+        answers: "0 d /t; 1 d /t/group 2; 2 f /t/group 2/e.txt; 1 d /t/group 1; 2 f /t/group 1/d.txt; \
+                  1 f /t/c.txt; 1 f /t/b.txt; 1 f /t/a.txt",
+    }];
+    all_hold(&rt, ROWS);
+}
+
+// The callback is called once, with the path of the link's parent.
+#[test]
+fn a_broken_root_link_is_given_with_its_parent(rt: HostRuntime) {
+    const ROWS: &[Row] = &[Row {
+        callback: Callback::Changes(Change::NoteRoot),
+        steps: &[Step::Link("/nowhere", "/x")],
+        root: "/x",
+        answers: "! 0 /x NotFound; ! 0 - none",
+    }];
+    all_hold(&rt, ROWS);
 }

@@ -1,53 +1,29 @@
 //! Walks whose callback runs out of memory.
+use crate::rows::callbacks::closures::Change;
 use crate::rows::callbacks::rows::{Callback, Row, all_hold};
 use jwalk::file_system::BuildError;
-use jwalk::read_dir::ProcessReadDir;
-use std::alloc::{AllocError, Global};
-use test_fixtures::answers::Answer;
+use std::alloc::Global;
 use test_fixtures::builders::over_tree;
 use test_fixtures::trees::GROUPED;
-
-/// A callback that runs out of memory for the list of the root, or for those of directories at a depth.
-#[derive(Drop)]
-pub struct RefusedAt {
-    pub at: Option<usize>,
-}
-
-impl ProcessReadDir<((), ()), Global> for RefusedAt {
-    ghost IsLawful = { λ _. Unit {0} };
-
-    ghost Makes = { λ _ _. ⊥ };
-
-    fn process(
-        &self,
-        depth: Option<usize>,
-        _path: &str,
-        _state: &mut (),
-        _list: &mut Vec<Answer>,
-    ) -> Result<(), AllocError> {
-        if depth == self.at {
-            Err(AllocError)
-        } else {
-            Ok(())
-        }
-    }
-}
 
 #[test]
 fn a_callback_that_is_refused_memory(rt: HostRuntime) {
     const ROWS: &[Row] = &[
         Row {
-            callback: Callback::RefusedAt(None),
+            callback: Callback::Changes(Change::RefuseAt(None)),
+            steps: GROUPED,
             root: "/t",
             answers: "! 0 - memory",
         },
         Row {
-            callback: Callback::RefusedAt(Some(0)),
+            callback: Callback::Changes(Change::RefuseAt(Some(0))),
+            steps: GROUPED,
             root: "/t",
             answers: "! 0 - memory",
         },
         Row {
-            callback: Callback::RefusedAt(Some(1)),
+            callback: Callback::Changes(Change::RefuseAt(Some(1))),
+            steps: GROUPED,
             root: "/t",
             answers: "0 d /t; 1 f /t/a.txt; 1 f /t/b.txt; 1 f /t/c.txt; ! 0 - memory",
         },
@@ -57,7 +33,8 @@ fn a_callback_that_is_refused_memory(rt: HostRuntime) {
 
 /// Whether a walk whose callback runs out of memory for the root's list is not begun.
 fn is_not_begun(alloc: Global) -> Result<bool, BuildError> {
-    let walk = over_tree(alloc, GROUPED, "/t")?.process_read_dir(RefusedAt { at: None });
+    let refused = Callback::Changes(Change::RefuseAt(None));
+    let walk = over_tree(alloc, GROUPED, "/t")?.process_read_dir(refused);
     Ok(match walk.try_into_iter() {
         Ok(_) => false,
         Err(error) => error.is_memory(),

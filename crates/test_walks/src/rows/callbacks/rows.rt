@@ -1,17 +1,17 @@
-//! Walks by name over the groups of files, each with a callback.
+//! Walks by name, each with a callback.
 use crate::rows::callbacks::both::{cuts_then_drops, drops_then_cuts};
-use crate::rows::callbacks::closures::Change;
-use crate::rows::callbacks::ready::skip_three;
-use crate::rows::callbacks::refusals::RefusedAt;
-use jwalk::file_system::FileSystem;
-use jwalk::read_dir::{ByFn, FilterEntry};
+use crate::rows::callbacks::closures::{Change, by_closure};
+use crate::rows::callbacks::ready::{keep_files, leave_out_target, skip_three};
+use jwalk::read_dir::ProcessReadDir;
+use std::alloc::{AllocError, Global};
 use std::process::Abort;
 use std::thread::Threads;
 use test_fixtures::answers::Answer;
-use test_fixtures::trees::{GROUPED, tree};
+use test_fixtures::trees::{Step, tree};
 use test_fixtures::ways::{Asked, Setting, WAYS, Way};
 
 /// What a callback does with each list.
+#[derive(Clone, Copy)]
 pub enum Callback {
     /// A closure changes it.
     Changes(Change),
@@ -19,59 +19,50 @@ pub enum Callback {
     SkipThree,
     /// The files at depth 1 but for one are kept.
     KeepFiles,
+    /// Directories of the name `target` are left out.
+    LeaveOutTarget,
     /// A name is dropped from each list, and then each is cut after two items.
     DropsThenCuts,
     /// Each list is cut first.
     CutsThenDrops,
-    /// Memory runs out for the list of the root, or for those of directories at a depth.
-    RefusedAt(Option<usize>),
+}
+
+// One type for all of them, since each type of a walk costs time.
+impl ProcessReadDir<((), ()), Global> for Callback {
+    ghost IsLawful = { λ _. Unit {0} };
+
+    ghost Makes = { λ _ _. ⊥ };
+
+    fn process(
+        &self,
+        depth: Option<usize>,
+        path: &str,
+        state: &mut (),
+        list: &mut Vec<Answer>,
+    ) -> Result<(), AllocError> {
+        match self {
+            Callback::Changes(change) => by_closure(*change, depth, path, state, list),
+            Callback::SkipThree => skip_three(depth, path, state, list),
+            Callback::KeepFiles => keep_files(depth, path, state, list),
+            Callback::LeaveOutTarget => leave_out_target(depth, path, state, list),
+            Callback::DropsThenCuts => drops_then_cuts(depth, path, state, list),
+            Callback::CutsThenDrops => cuts_then_drops(depth, path, state, list),
+        }
+    }
 }
 
 /// A walk by name with a callback, and its answers.
 pub struct Row {
     pub callback: Callback,
+    pub steps: &'static [Step],
     pub root: &'static str,
     pub answers: &'static str,
 }
 
 impl Row {
-    /// Whether these are the answers of the walk that is asked for, read in this way.
-    fn shows<R: Threads + AllocGlobal + Sync, S: FileSystem + Send + Sync>(
-        &self,
-        rt: &R,
-        asked: &Asked<'_, S>,
-        way: Way,
-    ) -> bool {
-        match &self.callback {
-            Callback::Changes(change) => {
-                // The types of the closure's arguments are written.
-                let changes = ByFn::new(|depth: Option<
-                    usize,
-                >, path: &str, _state: &mut (), list: &mut Vec<Answer>| {
-                    change.make(depth, path, list);
-                    Ok(())
-                });
-                asked.shows(rt, changes, way, self.answers)
-            }
-            Callback::SkipThree => match skip_three(rt.alloc()) {
-                Ok(skip) => asked.shows(rt, skip, way, self.answers),
-                Err(_) => false,
-            },
-            Callback::KeepFiles => {
-                let filter = FilterEntry::new(|depth, name, file_type| {
-                    depth == 1 && name != "b.txt" && file_type.is_file()
-                });
-                asked.shows(rt, filter, way, self.answers)
-            }
-            Callback::DropsThenCuts => drops_then_cuts(rt, asked, way, self.answers),
-            Callback::CutsThenDrops => cuts_then_drops(rt, asked, way, self.answers),
-            Callback::RefusedAt(at) => asked.shows(rt, RefusedAt { at: *at }, way, self.answers),
-        }
-    }
-
     /// Whether these are the walk's answers, read in this way.
     fn holds<R: Threads + AllocGlobal + Sync>(&self, rt: &R, way: Way) -> bool {
-        let Ok(fs) = tree(rt.alloc(), GROUPED) else {
+        let Ok(fs) = tree(rt.alloc(), self.steps) else {
             return false;
         };
         let asked = Asked {
@@ -79,7 +70,7 @@ impl Row {
             root: self.root,
             settings: &[Setting::Sort],
         };
-        self.shows(rt, &asked, way)
+        asked.shows(rt, self.callback, way, self.answers)
     }
 }
 
