@@ -181,8 +181,9 @@ fn links_that_lead_to_a_file(rt: HostRuntime) {
 
 #[test]
 fn files_whose_metadata_cannot_be_read(rt: HostRuntime) {
+    const NO_FILES: &[Step] = &[];
     let walk = (LINKED, "/r", false);
-    let asked = (&[], Failing::Never);
+    let asked = (NO_FILES, Failing::Never);
     let wanted = "/r -; /r/f NotFound; /r/l -; ";
     assert!(rt; matches!(shows(rt.alloc(), walk, asked, wanted), Ok(true)));
 }

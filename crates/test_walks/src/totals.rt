@@ -40,6 +40,7 @@ enum Asking {
 }
 
 /// A walk that isn't begun, and what is asked for the sizes of its files.
+#[derive(Drop)]
 struct Asked<'a, S: FileSystem> {
     root: &'a str,
     min_depth: usize,

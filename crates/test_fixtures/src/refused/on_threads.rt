@@ -7,7 +7,7 @@ use crate::refused::came::{Came, Taken, begin, goes_after, if_over, not_begun};
 use crate::refused::lines::{Given, Met, Shown, what_came};
 use jwalk::file_system::FileSystem;
 use jwalk::read_dir::ProcessReadDir;
-use jwalk::{ClientState, DirEntryIter, WalkDirGeneric};
+use jwalk::{ClientState, DirEntryIter, Readers, WalkDirGeneric};
 use std::alloc::{Allocator, Global};
 use std::thread::Threads;
 
@@ -18,7 +18,8 @@ fn goes<
     S: FileSystem + Send + Sync,
     P: ProcessReadDir<C, A> + Send + Sync,
     A: Allocator + Copy + Send + Sync,
->(rt: &R, alloc: Global, walk: &mut DirEntryIter<C, S, P, A>, lines: &[&str]) -> Came
+    L: Readers<C, S, P, A>,
+>(rt: &R, alloc: Global, walk: &mut DirEntryIter<C, S, P, A, L>, lines: &[&str]) -> Came
 where
     C::ReadDirState: Send,
     C::DirEntryState: Shown + Send,
@@ -42,7 +43,8 @@ fn is_filled<
     S: FileSystem + Send + Sync,
     P: ProcessReadDir<C, A> + Send + Sync,
     A: Allocator + Copy + Send + Sync,
->(rt: &R, alloc: Global, memory: A, walk: &mut DirEntryIter<C, S, P, A>, lines: &[&str]) -> Came
+    L: Readers<C, S, P, A>,
+>(rt: &R, alloc: Global, memory: A, walk: &mut DirEntryIter<C, S, P, A, L>, lines: &[&str]) -> Came
 where
     C::ReadDirState: Send,
     C::DirEntryState: Shown + Send,
