@@ -8,9 +8,9 @@ use Rattle.jwalk.specs.jwalk_core.Given.{Given, counted_item, counted_entry, IsP
 use Rattle.jwalk.specs.jwalk_model.Counted.{Worth, both}
 use Rattle.jwalk.specs.jwalk_model.Entry.{Item}
 use Rattle.jwalk.specs.jwalk_model.ReadDir.{Reading}
-use Rattle.jwalk_ignore.specs.ChainViews.{chain_value}
-use Rattle.jwalk_ignore.specs.ChainWorth.{bool_in, bool_worth, chain_worth}
-use Rattle.jwalk_ignore.specs.declared.chain.Chain.{Chain}
+use Rattle.jwalk_ignore.specs.Rules.ChainViews.{chain_value}
+use Rattle.jwalk_ignore.specs.Rules.ChainWorth.{bool_in, bool_worth, chain_worth}
+use Rattle.jwalk_ignore.specs.declared.rules.chain.Chain.{Chain}
 use Rattle.example_ignore_proofs.specs.Packages.{CountsPackages, is_manifest, packages, with_mark}
 
 -- a truth value is read as it was counted

@@ -7,13 +7,13 @@ use Rattle.jwalk.specs.jwalk_model.Entry.{Item, AtDepth}
 use Rattle.jwalk.specs.jwalk_model.FileType.{is_file}
 use Rattle.jwalk.specs.jwalk_model.Job.{Processing, KeepsDepthsOf}
 use Rattle.jwalk.specs.jwalk_model.ReadDir.{list_depth}
-use Rattle.jwalk_ignore.specs.ChainViews.{chain_value}
-use Rattle.jwalk_ignore.specs.ChainWorth.{bool_in, bool_worth, chain_worth, first_in, second_in}
-use Rattle.jwalk_ignore.specs.Given.{ignoring-KeepsDepthsOf}
-use Rattle.jwalk_ignore.specs.IgnoreViews.{ignoring}
-use Rattle.jwalk_ignore.specs.Texts.{Texts}
-use Rattle.jwalk_ignore.specs.declared.chain.Chain.{Chain}
-use Rattle.jwalk_ignore.specs.declared.settings.Settings.{Settings}
+use Rattle.jwalk_ignore.specs.Rules.ChainViews.{chain_value}
+use Rattle.jwalk_ignore.specs.Rules.ChainWorth.{bool_in, bool_worth, chain_worth, first_in, second_in}
+use Rattle.jwalk_ignore.specs.Callback.Given.{ignoring-KeepsDepthsOf}
+use Rattle.jwalk_ignore.specs.Callback.IgnoreViews.{ignoring}
+use Rattle.jwalk_ignore.specs.Rules.Texts.{Texts}
+use Rattle.jwalk_ignore.specs.declared.rules.chain.Chain.{Chain}
+use Rattle.jwalk_ignore.specs.declared.callback.settings.Settings.{Settings}
 
 -- an item is the manifest of a package: a file of this name
 abbrev pub is_manifest : {R E : Type 0} → Item R E → Bool

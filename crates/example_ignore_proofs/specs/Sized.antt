@@ -5,11 +5,11 @@ use Rattle.jwalk.specs.jwalk_callbacks.declared.size.Size.{Size}
 use Rattle.jwalk.specs.jwalk_core.Given.{Given}
 use Rattle.jwalk.specs.jwalk_model.Counted.{blank}
 use Rattle.jwalk.specs.jwalk_model.FileSystem.{Functions}
-use Rattle.jwalk_ignore.specs.Given.{ignoring-KeepsDepthsOf, rules_alone}
-use Rattle.jwalk_ignore.specs.IgnoreViews.{ignoring}
-use Rattle.jwalk_ignore.specs.Texts.{Texts}
-use Rattle.jwalk_ignore.specs.declared.chain.Chain.{Chain}
-use Rattle.jwalk_ignore.specs.declared.settings.Settings.{Settings}
+use Rattle.jwalk_ignore.specs.Callback.Given.{ignoring-KeepsDepthsOf, rules_alone}
+use Rattle.jwalk_ignore.specs.Callback.IgnoreViews.{ignoring}
+use Rattle.jwalk_ignore.specs.Rules.Texts.{Texts}
+use Rattle.jwalk_ignore.specs.declared.rules.chain.Chain.{Chain}
+use Rattle.jwalk_ignore.specs.declared.callback.settings.Settings.{Settings}
 
 -- what is given: states of directories count as the rules in force alone, states of entries as sizes, and of what the rules leave each file gets its size
 abbrev pub ignoring_sized : {A B : Type 0} → Settings → Texts → Functions → Given (Chain A × B) Size

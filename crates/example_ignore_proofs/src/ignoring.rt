@@ -7,9 +7,9 @@ ghost use Rattle.jwalk.specs.jwalk_memory_fs.MemoryFs.{tree_of};
 ghost use Rattle.jwalk.specs.jwalk_core.Given.{counted_list};
 ghost use Rattle.jwalk.specs.WalkDir.{file_system_of, options_of, root_of, state_of};
 ghost use Rattle.jwalk.specs.DirEntryIter.{NoneRefused};
-ghost use Rattle.jwalk_ignore.specs.Given.{first_settings, ignoring_alone, job_ignoring, no_rules_yet, rules_alone};
-ghost use Rattle.jwalk_ignore.specs.IgnoreViews.{settings_of, texts_of};
-ghost use Rattle.jwalk_ignore.specs.MemoryTexts.{texts_of as texts_in};
+ghost use Rattle.jwalk_ignore.specs.Callback.Given.{first_settings, ignoring_alone, job_ignoring, no_rules_yet, rules_alone};
+ghost use Rattle.jwalk_ignore.specs.Callback.IgnoreViews.{settings_of, texts_of};
+ghost use Rattle.jwalk_ignore.specs.Rules.MemoryTexts.{texts_of as texts_in};
 
 use crate::given::walk_ignoring_given;
 use jwalk::error::Result as Answer;

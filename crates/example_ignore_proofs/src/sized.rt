@@ -3,7 +3,7 @@ ghost use Rattle.std.specs.Prelude.{IfOk};
 ghost use Rattle.jwalk.specs.DirEntryIter.{NoneRefused};
 ghost use Rattle.jwalk.specs.WalkDir.{file_system_of};
 ghost use Rattle.jwalk.specs.jwalk_callbacks.WithSizes.{asks};
-ghost use Rattle.jwalk_ignore.specs.IgnoreViews.{next_of, settings_of, texts_of};
+ghost use Rattle.jwalk_ignore.specs.Callback.IgnoreViews.{next_of, settings_of, texts_of};
 ghost use Rattle.example_ignore_proofs.specs.Given.{IsWholeWalk};
 ghost use Rattle.example_ignore_proofs.specs.Sized.{ignoring_sized};
 

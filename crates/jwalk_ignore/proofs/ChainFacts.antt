@@ -7,14 +7,14 @@ use Rattle.std.specs.declared.sync.Arc.{Arc}
 use Rattle.std.proofs.lemmas.List.{map-append}
 use Rattle.jwalk.specs.jwalk_model.Entry.{Item}
 use Rattle.jwalk.specs.jwalk_model.FileType.{is_dir}
-use Rattle.jwalk_ignore.specs.Chain as value
-use Rattle.jwalk_ignore.specs.Chain.{has_any, has_rules, ignored, is_ignored, is_said, link_says, links_say}
-use Rattle.jwalk_ignore.specs.ChainViews.{link_value, links_value}
-use Rattle.jwalk_ignore.specs.IgnoreFiles.{is_kept}
-use Rattle.jwalk_ignore.specs.Matching.{or_else}
-use Rattle.jwalk_ignore.specs.declared.decision.Decision.{Decision}
-use Rattle.jwalk_ignore.specs.declared.decision.Decision.TheVariants.{Ignored, Kept, Unsaid}
-use Rattle.jwalk_ignore.specs.declared.link.Link.{Link}
+use Rattle.jwalk_ignore.specs.Rules.Chain as value
+use Rattle.jwalk_ignore.specs.Rules.Chain.{has_any, has_rules, ignored, is_ignored, is_said, link_says, links_say}
+use Rattle.jwalk_ignore.specs.Rules.ChainViews.{link_value, links_value}
+use Rattle.jwalk_ignore.specs.Callback.IgnoreFiles.{is_kept}
+use Rattle.jwalk_ignore.specs.Rules.Matching.{or_else}
+use Rattle.jwalk_ignore.specs.declared.rules.decision.Decision.{Decision}
+use Rattle.jwalk_ignore.specs.declared.rules.decision.Decision.TheVariants.{Ignored, Kept, Unsaid}
+use Rattle.jwalk_ignore.specs.declared.rules.link.Link.{Link}
 use Rattle.jwalk_ignore.proofs.ListFacts.{filter_none}
 
 -- what is said decides

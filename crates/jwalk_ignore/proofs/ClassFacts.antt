@@ -2,10 +2,10 @@
 use Prim.Native.Nat.{zero}
 use Rattle.std.proofs.Common.{◌≡◌, ℕ, suc, ◌<◌, ◌-◌, List, [], ◌∷◌, ◌++◌, Option, Some, false, length, drop, ap, subst, refl, sym, ◌∙◌, arith}
 use Rattle.std.proofs.Math.Seq.{drop-nil}
-use Rattle.jwalk_ignore.specs.Class.{closes, items_in}
-use Rattle.jwalk_ignore.specs.ItemRead.{item_in}
-use Rattle.jwalk_ignore.specs.declared.class_item.ClassItem.{ClassItem}
-use Rattle.jwalk_ignore.specs.declared.item_read.ItemRead.{ItemRead}
+use Rattle.jwalk_ignore.specs.Pattern.Class.{closes, items_in}
+use Rattle.jwalk_ignore.specs.Pattern.ItemRead.{item_in}
+use Rattle.jwalk_ignore.specs.declared.pattern.class_item.ClassItem.{ClassItem}
+use Rattle.jwalk_ignore.specs.declared.pattern.item_read.ItemRead.{ItemRead}
 
 -- bytes that an item in front takes are left out
 skipped : (items : List ClassItem) (last : Option ℕ) (skip : ℕ) (text : List ℕ) → items_in items last skip text ≡ items_in items last 0 (drop skip text)

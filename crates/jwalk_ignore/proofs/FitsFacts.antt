@@ -3,12 +3,12 @@ use Rattle.std.proofs.Common.{◌∙◌, add-one, ◌≡◌, ℕ, suc, ◌+◌, 
 use Prim.Native.Nat.{zero}
 use Rattle.std.proofs.lemmas.List.{drop-drop}
 use Rattle.std.proofs.Math.Seq.{drop-nil}
-use Rattle.jwalk_ignore.specs.Taken.{Decides, LeavesLater}
-use Rattle.jwalk_ignore.specs.declared.part.Part.{Part}
-use Rattle.jwalk_ignore.specs.declared.part.Part.TheVariants.{Many, One}
-use Rattle.jwalk_ignore.specs.declared.taken.Taken.{Taken}
-use Rattle.jwalk_ignore.specs.declared.taken.Taken.TheVariants.{Misfit, Whole, ToStar}
-use Rattle.jwalk_ignore.specs.Fits.{Fits, part_map}
+use Rattle.jwalk_ignore.specs.Pattern.Taken.{Decides, LeavesLater}
+use Rattle.jwalk_ignore.specs.declared.pattern.part.Part.{Part}
+use Rattle.jwalk_ignore.specs.declared.pattern.part.Part.TheVariants.{Many, One}
+use Rattle.jwalk_ignore.specs.declared.pattern.taken.Taken.{Taken}
+use Rattle.jwalk_ignore.specs.declared.pattern.taken.Taken.TheVariants.{Misfit, Whole, ToStar}
+use Rattle.jwalk_ignore.specs.Pattern.Fits.{Fits, part_map}
 
 module _ {T X : Type 0} (takes : T → X → Type 0) where
   -- what fits behind a star later on fits behind it earlier

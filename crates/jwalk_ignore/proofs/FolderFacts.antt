@@ -4,8 +4,8 @@ use Rattle.std.proofs.Common.{◌≡◌, ◌∙◌, ◌<◌, ℕ, suc, Bool, tru
 use Rattle.std.specs.Prelude.{if◌then◌else◌}
 use Rattle.std.proofs.lemmas.List.{map-append}
 use Rattle.jwalk.specs.jwalk_model.Paths.{join, parent}
-use Rattle.jwalk_ignore.specs.IgnoreFiles.{Folder, folder_at, folders_above, git}
-use Rattle.jwalk_ignore.specs.Texts.{Texts}
+use Rattle.jwalk_ignore.specs.Callback.IgnoreFiles.{Folder, folder_at, folders_above, git}
+use Rattle.jwalk_ignore.specs.Rules.Texts.{Texts}
 
 module _ (texts : Texts) where
   -- what is above a parent

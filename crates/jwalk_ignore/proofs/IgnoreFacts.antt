@@ -5,14 +5,14 @@ use Rattle.jwalk.specs.jwalk_model.Counted.{Worth, both}
 use Rattle.jwalk.specs.jwalk_model.Entry.{Item}
 use Rattle.jwalk.specs.jwalk_model.Job.{Processing}
 use Rattle.jwalk.specs.jwalk_core.Given.{Given, IsProcessed, counted_item}
-use Rattle.jwalk_ignore.specs.Chain as value
-use Rattle.jwalk_ignore.specs.ChainViews.{chain_value}
-use Rattle.jwalk_ignore.specs.ChainWorth.{chain_worth, rules_of, second_in, with_chain}
-use Rattle.jwalk_ignore.specs.IgnoreFiles.{Made, by_rules}
-use Rattle.jwalk_ignore.specs.IgnoreViews.{CountsRules, Ignores, ignoring, with_processed}
-use Rattle.jwalk_ignore.specs.Texts.{Texts}
-use Rattle.jwalk_ignore.specs.declared.chain.Chain.{Chain}
-use Rattle.jwalk_ignore.specs.declared.settings.Settings.{Settings}
+use Rattle.jwalk_ignore.specs.Rules.Chain as value
+use Rattle.jwalk_ignore.specs.Rules.ChainViews.{chain_value}
+use Rattle.jwalk_ignore.specs.Rules.ChainWorth.{chain_worth, rules_of, second_in, with_chain}
+use Rattle.jwalk_ignore.specs.Callback.IgnoreFiles.{Made, by_rules}
+use Rattle.jwalk_ignore.specs.Callback.IgnoreViews.{CountsRules, Ignores, ignoring, with_processed}
+use Rattle.jwalk_ignore.specs.Rules.Texts.{Texts}
+use Rattle.jwalk_ignore.specs.declared.rules.chain.Chain.{Chain}
+use Rattle.jwalk_ignore.specs.declared.callback.settings.Settings.{Settings}
 use Rattle.jwalk_ignore.proofs.MadeFacts.{rules_by}
 use Rattle.jwalk_ignore.proofs.WorthFacts.{chain_back}
 

@@ -5,7 +5,7 @@ use Rattle.std.specs.Bool.{◌==◌}
 use Rattle.std.specs.Prelude.{◌&&◌, ◌||◌, not, if◌then◌else◌}
 use Rattle.std.specs.List.{list_all}
 use Rattle.std.proofs.lemmas.List.{drop_all, at_drop_more}
-use Rattle.jwalk_ignore.specs.Line.{is_space, trimmed}
+use Rattle.jwalk_ignore.specs.Rules.Line.{is_space, trimmed}
 
 -- one byte in front of a beginning
 in_front : (blank : Bool) (c : ℕ) (cs short : List ℕ) → short ≡ take (length short) cs

@@ -7,13 +7,13 @@ use Rattle.std.proofs.lemmas.List.{map-append}
 use Rattle.jwalk.specs.jwalk_model.Error.{io}
 use Rattle.jwalk.specs.jwalk_model.Entry.{Children, Item}
 use Rattle.jwalk.specs.jwalk_model.Counted.{children_by, item_by}
-use Rattle.jwalk_ignore.specs.Chain.{Chain, below_root, entered, place_in}
-use Rattle.jwalk_ignore.specs.IgnoreFiles.{Folder, Made, Source, by_rules, counts, depth_of, entered_above, folders_above, in_directory, is_git, is_kept, is_shown, kind_of, own_rules, path_of, root_of, rules_found, source_above, source_in, with_above, with_absolute, with_folder, with_found, with_item, with_listed, with_own, with_root, with_root_item, with_rules}
+use Rattle.jwalk_ignore.specs.Rules.Chain.{Chain, below_root, entered, place_in}
+use Rattle.jwalk_ignore.specs.Callback.IgnoreFiles.{Folder, Made, Source, by_rules, counts, depth_of, entered_above, folders_above, in_directory, is_git, is_kept, is_shown, kind_of, own_rules, path_of, root_of, rules_found, source_above, source_in, with_above, with_absolute, with_folder, with_found, with_item, with_listed, with_own, with_root, with_root_item, with_rules}
 use Rattle.jwalk_ignore.specs.Pattern.{Pattern}
-use Rattle.jwalk_ignore.specs.Texts.{Texts}
-use Rattle.jwalk_ignore.specs.declared.rules_kind.RulesKind.{RulesKind}
-use Rattle.jwalk_ignore.specs.declared.rules_kind.RulesKind.TheVariants as rules
-use Rattle.jwalk_ignore.specs.declared.settings.Settings.{Settings}
+use Rattle.jwalk_ignore.specs.Rules.Texts.{Texts}
+use Rattle.jwalk_ignore.specs.declared.rules.rules_kind.RulesKind.{RulesKind}
+use Rattle.jwalk_ignore.specs.declared.rules.rules_kind.RulesKind.TheVariants as rules
+use Rattle.jwalk_ignore.specs.declared.callback.settings.Settings.{Settings}
 use Rattle.jwalk_ignore.proofs.ListFacts.{filter_by, fold_by}
 
 module _ {R E V W : Type 0} (view : R → V) (mark : E → W) where

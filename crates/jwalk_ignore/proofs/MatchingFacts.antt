@@ -1,17 +1,17 @@
 -- What is computed of patterns is what the relations say.
 use Rattle.std.proofs.Common.{◌≡◌, ◌∙◌, ℕ, zero, suc, Bool, true, false, List, [], ◌∷◌, ◌++◌, drop, ap, sym, refl}
 use Rattle.std.specs.Prelude.{IsTrue, ◌&&◌, ◌||◌, not, if◌then◌else◌}
-use Rattle.jwalk_ignore.specs.ByteTest.{fits}
-use Rattle.jwalk_ignore.specs.Fits.{Fits}
-use Rattle.jwalk_ignore.specs.Glob.{TakesByte, IsNamed}
-use Rattle.jwalk_ignore.specs.Matching.{some_rest, takes_first, is_nil, fit, is_named, matches, or_else, pattern_says, patterns_say}
-use Rattle.jwalk_ignore.specs.Names.{names_of}
+use Rattle.jwalk_ignore.specs.Pattern.ByteTest.{fits}
+use Rattle.jwalk_ignore.specs.Pattern.Fits.{Fits}
+use Rattle.jwalk_ignore.specs.Pattern.Glob.{TakesByte, IsNamed}
+use Rattle.jwalk_ignore.specs.Rules.Matching.{some_rest, takes_first, is_nil, fit, is_named, matches, or_else, pattern_says, patterns_say}
+use Rattle.jwalk_ignore.specs.Pattern.Names.{names_of}
 use Rattle.jwalk_ignore.specs.Pattern.{Pattern, Matches, decision_of}
 use Rattle.jwalk_ignore.specs.Rules.{NoneMatches, LastMatch, Says}
-use Rattle.jwalk_ignore.specs.declared.decision.Decision.{Decision}
-use Rattle.jwalk_ignore.specs.declared.decision.Decision.TheVariants.{Ignored, Kept, Unsaid}
-use Rattle.jwalk_ignore.specs.declared.part.Part.{Part}
-use Rattle.jwalk_ignore.specs.declared.part.Part.TheVariants.{Many, One}
+use Rattle.jwalk_ignore.specs.declared.rules.decision.Decision.{Decision}
+use Rattle.jwalk_ignore.specs.declared.rules.decision.Decision.TheVariants.{Ignored, Kept, Unsaid}
+use Rattle.jwalk_ignore.specs.declared.pattern.part.Part.{Part}
+use Rattle.jwalk_ignore.specs.declared.pattern.part.Part.TheVariants.{Many, One}
 
 -- one of two tests is true
 first_true : (a b : Bool) → a ≡ true → (a || b) ≡ true

@@ -4,10 +4,10 @@ use Rattle.std.proofs.Common.{◌≡◌, ◌≤◌, ◌<◌, ℕ, suc, List, [],
 use Rattle.std.specs.Bool.{◌==◌}
 use Rattle.std.specs.Prelude.{◌&&◌}
 use Rattle.std.specs.List.{list_all}
-use Rattle.jwalk_ignore.specs.ByteTest.{ByteTest}
-use Rattle.jwalk_ignore.specs.declared.part.Part.{Part}
-use Rattle.jwalk_ignore.specs.NamesRead.{NamesRead, added, finished, parts_in}
-use Rattle.jwalk_ignore.specs.Token.{Token, token_in}
+use Rattle.jwalk_ignore.specs.Pattern.ByteTest.{ByteTest}
+use Rattle.jwalk_ignore.specs.declared.pattern.part.Part.{Part}
+use Rattle.jwalk_ignore.specs.Pattern.NamesRead.{NamesRead, added, finished, parts_in}
+use Rattle.jwalk_ignore.specs.Pattern.Token.{Token, token_in}
 
 -- what is read behind a token
 abbrev going_on : ℕ → NamesRead → Option (Token × List ℕ) → Option (List (Part (List (Part ByteTest))))

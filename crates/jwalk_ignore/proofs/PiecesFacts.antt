@@ -2,8 +2,8 @@
 use Rattle.std.proofs.Common.{◌≡◌, ◌≢◌, ◌+◌, ℕ, suc, Bool, true, false, List, [], ◌∷◌, ◌++◌, Option, None, Some, ap, refl, sym, ◌∙◌, arith}
 use Rattle.std.specs.Prelude.{option_to_list}
 use Rattle.std.specs.List.{before_first, after_first, position_or_len, filter, filter_map, cons_option}
-use Rattle.jwalk_ignore.specs.Names.{is_name, names_of}
-use Rattle.jwalk_ignore.specs.Pieces.{is_byte, onto_first, pieces}
+use Rattle.jwalk_ignore.specs.Pattern.Names.{is_name, names_of}
+use Rattle.jwalk_ignore.specs.Pattern.Pieces.{is_byte, onto_first, pieces}
 
 module _ {Y : Type 0} (own : ℕ) (read : List (List ℕ) → Y) (none : read [] ≡ read ([] ∷ [])) where
   -- a text is a first piece, and others that read as what is behind the first byte that parts them

@@ -4,11 +4,11 @@ use Rattle.std.specs.Prelude.{fold}
 use Rattle.std.specs.List.{filter, list_any}
 use Rattle.std.proofs.lemmas.List.{map-append, reverse-append}
 use Rattle.jwalk.specs.jwalk_model.Entry.{AtDepth, Item}
-use Rattle.jwalk_ignore.specs.Chain.{Chain, entered, place_in}
-use Rattle.jwalk_ignore.specs.IgnoreFiles.{Made, counts, in_directory, is_git, is_kept, is_shown, own_rules, with_listed}
-use Rattle.jwalk_ignore.specs.MadeDepths.{filter_at}
-use Rattle.jwalk_ignore.specs.Texts.{Texts}
-use Rattle.jwalk_ignore.specs.declared.settings.Settings.{Settings}
+use Rattle.jwalk_ignore.specs.Rules.Chain.{Chain, entered, place_in}
+use Rattle.jwalk_ignore.specs.Callback.IgnoreFiles.{Made, counts, in_directory, is_git, is_kept, is_shown, own_rules, with_listed}
+use Rattle.jwalk_ignore.specs.Callback.MadeDepths.{filter_at}
+use Rattle.jwalk_ignore.specs.Rules.Texts.{Texts}
+use Rattle.jwalk_ignore.specs.declared.callback.settings.Settings.{Settings}
 
 -- what is shown of a list, the last first
 pub map_reverse : {X Y : Type 0} (view : X → Y) (xs : List X) → map view (reverse xs) ≡ reverse (map view xs)

@@ -1,17 +1,17 @@
 -- Rules in force are read from what they count as.
 use Rattle.std.proofs.Common.{◌≡◌, ◌∙◌, Bool, true, false, List, [], ◌∷◌, ap, refl}
 use Rattle.jwalk.specs.jwalk_model.Counted.{Worth}
-use Rattle.jwalk_ignore.specs.ByteTest.{ByteTest, Byte, Any, OneOf}
-use Rattle.jwalk_ignore.specs.Chain.{Chain, Link}
-use Rattle.jwalk_ignore.specs.ChainWorth.{bool_worth, bool_in, list_worth, list_in, class_number, class_at, item_worth, item_in, test_worth, test_in, part_worth, part_in, name_worth, name_in, pattern_worth, pattern_in_worth, link_worth, link_in, chain_worth, chain_in}
-use Rattle.jwalk_ignore.specs.Class.{ClassValue}
+use Rattle.jwalk_ignore.specs.Pattern.ByteTest.{ByteTest, Byte, Any, OneOf}
+use Rattle.jwalk_ignore.specs.Rules.Chain.{Chain, Link}
+use Rattle.jwalk_ignore.specs.Rules.ChainWorth.{bool_worth, bool_in, list_worth, list_in, class_number, class_at, item_worth, item_in, test_worth, test_in, part_worth, part_in, name_worth, name_in, pattern_worth, pattern_in_worth, link_worth, link_in, chain_worth, chain_in}
+use Rattle.jwalk_ignore.specs.Pattern.Class.{ClassValue}
 use Rattle.jwalk_ignore.specs.Pattern.{Pattern}
-use Rattle.jwalk_ignore.specs.declared.byte_class.ByteClass.{ByteClass}
-use Rattle.jwalk_ignore.specs.declared.byte_class.ByteClass.TheVariants.{Alnum, Alpha, Blank, Cntrl, Digit, Graph, Lower, Print, Punct, Space, Upper, Xdigit}
-use Rattle.jwalk_ignore.specs.declared.class_item.ClassItem.{ClassItem}
-use Rattle.jwalk_ignore.specs.declared.class_item.ClassItem.TheVariants.{Range, Named}
-use Rattle.jwalk_ignore.specs.declared.part.Part.{Part}
-use Rattle.jwalk_ignore.specs.declared.part.Part.TheVariants.{Many, One}
+use Rattle.jwalk_ignore.specs.declared.pattern.byte_class.ByteClass.{ByteClass}
+use Rattle.jwalk_ignore.specs.declared.pattern.byte_class.ByteClass.TheVariants.{Alnum, Alpha, Blank, Cntrl, Digit, Graph, Lower, Print, Punct, Space, Upper, Xdigit}
+use Rattle.jwalk_ignore.specs.declared.pattern.class_item.ClassItem.{ClassItem}
+use Rattle.jwalk_ignore.specs.declared.pattern.class_item.ClassItem.TheVariants.{Range, Named}
+use Rattle.jwalk_ignore.specs.declared.pattern.part.Part.{Part}
+use Rattle.jwalk_ignore.specs.declared.pattern.part.Part.TheVariants.{Many, One}
 
 bool_back : (b : Bool) → bool_in (bool_worth b) ≡ b
 bool_back true = refl

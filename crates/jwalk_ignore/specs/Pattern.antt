@@ -1,14 +1,30 @@
 -- The pattern of one line.
+pub mod ByteClass
+pub mod ByteTest
+pub mod Class
+pub mod ClassItem
+pub mod Fits
+pub mod Glob
+pub mod ItemRead
+pub mod NamePattern
+pub mod Names
+pub mod NamesRead
+mod NamesRows
+mod PatternRows
+pub mod PatternText
+pub mod Pieces
+pub mod Taken
+pub mod Token
 use Rattle.std.specs.Prelude.{ℕ, ◌==◌, Bool, true, false, IsTrue, List, [], ◌∷◌, length, Option, None, if◌then◌else◌}
 use Rattle.std.specs.Option.{option_map}
-use Rattle.jwalk_ignore.specs.ByteTest.{ByteTest}
-use Rattle.jwalk_ignore.specs.NamePattern.{globs_value, IsReached}
-use Rattle.jwalk_ignore.specs.Names.{names_of}
-use Rattle.jwalk_ignore.specs.NamesRead.{parts_in}
-use Rattle.jwalk_ignore.specs.PatternText.{without_first_slash, without_last_slash, ends_with_slash, first_parts}
-use Rattle.jwalk_ignore.specs.declared.decision.Decision.{Decision}
-use Rattle.jwalk_ignore.specs.declared.decision.Decision.TheVariants.{Ignored, Kept}
-use Rattle.jwalk_ignore.specs.declared.part.Part.{Part}
+use Rattle.jwalk_ignore.specs.Pattern.ByteTest.{ByteTest}
+use Rattle.jwalk_ignore.specs.Pattern.NamePattern.{globs_value, IsReached}
+use Rattle.jwalk_ignore.specs.Pattern.Names.{names_of}
+use Rattle.jwalk_ignore.specs.Pattern.NamesRead.{parts_in}
+use Rattle.jwalk_ignore.specs.Pattern.PatternText.{without_first_slash, without_last_slash, ends_with_slash, first_parts}
+use Rattle.jwalk_ignore.specs.declared.rules.decision.Decision.{Decision}
+use Rattle.jwalk_ignore.specs.declared.rules.decision.Decision.TheVariants.{Ignored, Kept}
+use Rattle.jwalk_ignore.specs.declared.pattern.part.Part.{Part}
 use Rattle.jwalk_ignore.specs.declared.pattern.Pattern.{Pattern as CodePattern}
 
 -- a pattern by value: whether it begins with `!`, whether it ends with a slash, and the parts for the names of a path

@@ -1,8 +1,17 @@
 -- The rules of one ignore file.
+pub mod Chain
+pub mod ChainViews
+pub mod ChainWorth
+pub mod Line
+pub mod Matching
+mod MatchingRows
+pub mod MemoryTexts
+pub mod RealTexts
+pub mod Texts
 use Rattle.std.specs.Prelude.{◌≡◌, ℕ, Bool, true, false, List, [], ◌∷◌, ◌++◌, map}
 use Rattle.jwalk_ignore.specs.Pattern.{Pattern, pattern_value, Matches}
-use Rattle.jwalk_ignore.specs.declared.decision.Decision.{Decision}
-use Rattle.jwalk_ignore.specs.declared.decision.Decision.TheVariants.{Ignored, Kept, Unsaid}
+use Rattle.jwalk_ignore.specs.declared.rules.decision.Decision.{Decision}
+use Rattle.jwalk_ignore.specs.declared.rules.decision.Decision.TheVariants.{Ignored, Kept, Unsaid}
 use Rattle.jwalk_ignore.specs.declared.rules.Rules.{Rules}
 
 -- rules by value: the patterns, in the order of their lines

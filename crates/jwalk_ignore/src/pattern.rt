@@ -2,15 +2,29 @@
 ghost use Rattle.std.specs.Prelude.{◌≡◌, ◌↔◌, [], IfOk, IsTrue};
 ghost use Rattle.std.specs.List.{list_any};
 ghost use Rattle.std.specs.Option.{option_map};
-ghost use Rattle.jwalk_ignore.specs.NamePattern.{globs_value};
-ghost use Rattle.jwalk_ignore.specs.Names.{is_slash};
-ghost use Rattle.jwalk_ignore.specs.PatternText.{without_first_slash, without_last_slash, ends_with_slash, first_parts};
+ghost use Rattle.jwalk_ignore.specs.Pattern.NamePattern.{globs_value};
+ghost use Rattle.jwalk_ignore.specs.Pattern.Names.{is_slash};
+ghost use Rattle.jwalk_ignore.specs.Pattern.PatternText.{without_first_slash, without_last_slash, ends_with_slash, first_parts};
 
-use crate::decision::Decision;
-use crate::glob::Glob;
-use crate::name_search;
-use crate::names_read::NamesRead;
-use crate::part::Part;
+mod byte_class;
+mod byte_test;
+mod class;
+mod class_item;
+mod glob;
+mod glob_search;
+mod item_read;
+mod name_search;
+mod names;
+mod names_read;
+mod part;
+pub(crate) mod pieces;
+mod taken;
+mod token;
+
+use crate::pattern::glob::Glob;
+use crate::pattern::names_read::NamesRead;
+use crate::pattern::part::Part;
+use crate::rules::decision::Decision;
 use std::alloc::{AllocError, Allocator, Global};
 
 /// The pattern of one line of an ignore file.

@@ -3,10 +3,19 @@ ghost use Rattle.std.specs.Prelude.{◌≡◌, ◌++◌, IfOk, OnOk, map, option
 ghost use Rattle.std.specs.Option.{option_map};
 ghost use Rattle.jwalk_ignore.specs.Pattern.{pattern_value};
 
-use crate::decision::Decision;
-use crate::line::{text_of, without_mark};
+pub mod chain;
+pub mod decision;
+mod line;
+pub(crate) mod link;
+pub mod memory_texts;
+pub mod real_texts;
+pub(crate) mod rules_kind;
+pub mod texts;
+
 use crate::pattern::Pattern;
-use crate::pieces::split_piece;
+use crate::pattern::pieces::split_piece;
+use crate::rules::decision::Decision;
+use crate::rules::line::{text_of, without_mark};
 use std::alloc::{AllocError, Allocator, Global};
 
 /// The rules of one ignore file in git's format.
@@ -32,7 +41,7 @@ fn push_some<A: Allocator + Copy>(
 }
 
 impl<A: Allocator + Copy> Rules<A> {
-    ghost use Rattle.jwalk_ignore.specs.Line.{patterns_of};
+    ghost use Rattle.jwalk_ignore.specs.Rules.Line.{patterns_of};
     ghost use Rattle.jwalk_ignore.specs.Rules.{Says, rules_value};
 
     /// Reads the bytes of an ignore file.

@@ -1,10 +1,10 @@
 -- Whether one pattern matches, computed.
 use Rattle.std.proofs.Common.{◌≡◌, ℕ, Bool, true, false, List, [], ◌∷◌, sym, refl}
 use Rattle.std.specs.Prelude.{IsTrue, ◌↔◌, if◌then◌else◌}
-use Rattle.jwalk_ignore.specs.Matching.{matches}
+use Rattle.jwalk_ignore.specs.Rules.Matching.{matches}
 use Rattle.jwalk_ignore.specs.Pattern.{Pattern, Matches, decision_of}
 use Rattle.jwalk_ignore.specs.Rules.{LastMatch, Says}
-use Rattle.jwalk_ignore.specs.declared.decision.Decision.TheVariants.{Unsaid}
+use Rattle.jwalk_ignore.specs.declared.rules.decision.Decision.TheVariants.{Unsaid}
 use Rattle.jwalk_ignore.proofs.MatchingFacts.{says_computed}
 
 -- what is said tells whether it matches

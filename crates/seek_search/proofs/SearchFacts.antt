@@ -6,9 +6,9 @@ use Rattle.jwalk.specs.jwalk_model.FileSystem.{Functions}
 use Rattle.jwalk.specs.jwalk_model.Job.{Processing}
 use Rattle.jwalk.specs.jwalk_model.Options.{Options, with_skip_hidden}
 use Rattle.jwalk.specs.jwalk_model.Walk.{whole_walk}
-use Rattle.jwalk_ignore.specs.IgnoreViews.{ignoring, Ignores}
-use Rattle.jwalk_ignore.specs.Texts.{Texts}
-use Rattle.jwalk_ignore.specs.declared.settings.Settings.{Settings}
+use Rattle.jwalk_ignore.specs.Callback.IgnoreViews.{ignoring, Ignores}
+use Rattle.jwalk_ignore.specs.Rules.Texts.{Texts}
+use Rattle.jwalk_ignore.specs.declared.callback.settings.Settings.{Settings}
 use Rattle.seek_search.specs.Options.{with_crew}
 use Rattle.seek_search.specs.Excluding.{Excluded, Excludes, excluding, excluding-KeepsDepthsOf}
 use Rattle.seek_search.specs.Search.{given_kept, ignoring_walk, job_with}

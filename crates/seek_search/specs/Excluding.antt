@@ -6,12 +6,12 @@ use Rattle.jwalk.specs.jwalk_model.FileType.{is_dir}
 use Rattle.jwalk.specs.jwalk_model.Job.{KeepsDepthsOf, Processing}
 use Rattle.jwalk.specs.jwalk_model.Counted.{Worth}
 use Rattle.jwalk.specs.jwalk_core.Given.{Given}
-use Rattle.jwalk_ignore.specs.Chain.{is_ignored}
-use Rattle.jwalk_ignore.specs.Line.{patterns_of}
-use Rattle.jwalk_ignore.specs.MadeDepths.{filter_at}
-use Rattle.jwalk_ignore.specs.Matching.{patterns_say}
+use Rattle.jwalk_ignore.specs.Rules.Chain.{is_ignored}
+use Rattle.jwalk_ignore.specs.Rules.Line.{patterns_of}
+use Rattle.jwalk_ignore.specs.Callback.MadeDepths.{filter_at}
+use Rattle.jwalk_ignore.specs.Rules.Matching.{patterns_say}
 use Rattle.jwalk_ignore.specs.Pattern.{Pattern}
-use Rattle.jwalk_ignore.specs.PatternText.{without_first_slash}
+use Rattle.jwalk_ignore.specs.Pattern.PatternText.{without_first_slash}
 use Rattle.jwalk_ignore.specs.Rules.{rules_value}
 use Rattle.jwalk_ignore.specs.declared.rules.Rules.{Rules}
 use Rattle.seek_search.specs.declared.excluding.Excluding.{Excluding}

@@ -1,9 +1,9 @@
 -- Globs.
 use Rattle.std.specs.Prelude.{ℕ, ◌==◌, Bool, false, ◌||◌, List, [], ◌∷◌, ◌++◌, map, Option, option_map, if◌then◌else◌}
 use Rattle.std.specs.Char.{to_ascii_lowercase}
-use Rattle.jwalk_ignore.specs.Matching.{matches}
+use Rattle.jwalk_ignore.specs.Rules.Matching.{matches}
 use Rattle.jwalk_ignore.specs.Pattern.{Pattern, pattern_in, pattern_value}
-use Rattle.jwalk_ignore.specs.PatternText.{without_first_slash}
+use Rattle.jwalk_ignore.specs.Pattern.PatternText.{without_first_slash}
 use Rattle.seek_search.specs.declared.glob.Glob.{Glob as CodeGlob}
 
 -- a glob by value: its pattern, and whether the case of ASCII's letters doesn't count

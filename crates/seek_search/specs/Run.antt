@@ -1,7 +1,7 @@
 -- How a call of the program ends.
 use Rattle.std.specs.Prelude.{ℕ, Bool, List, Option}
 use Rattle.jwalk.specs.jwalk_model.FileSystem.{Functions}
-use Rattle.jwalk_ignore.specs.Texts.{Texts}
+use Rattle.jwalk_ignore.specs.Rules.Texts.{Texts}
 use Rattle.seek_search.specs.Found.{PrintsClean}
 use Rattle.seek_words.specs.AsksFor.{AskFor}
 use Rattle.seek_words.specs.declared.asked.Asked.{Asked}

@@ -9,11 +9,11 @@ use Rattle.jwalk.specs.jwalk_model.Options.{Options, with_skip_hidden}
 use Rattle.jwalk.specs.jwalk_model.Paths.{join, dot}
 use Rattle.jwalk.specs.jwalk_model.Walk.{whole_walk}
 use Rattle.jwalk.specs.jwalk_core.Given.{Given}
-use Rattle.jwalk_ignore.specs.Given.{ignoring-KeepsDepthsOf, no_rules_yet, rules_alone}
-use Rattle.jwalk_ignore.specs.IgnoreViews.{ignoring}
-use Rattle.jwalk_ignore.specs.Texts.{Texts}
-use Rattle.jwalk_ignore.specs.declared.chain.Chain.{Chain}
-use Rattle.jwalk_ignore.specs.declared.settings.Settings.{Settings}
+use Rattle.jwalk_ignore.specs.Callback.Given.{ignoring-KeepsDepthsOf, no_rules_yet, rules_alone}
+use Rattle.jwalk_ignore.specs.Callback.IgnoreViews.{ignoring}
+use Rattle.jwalk_ignore.specs.Rules.Texts.{Texts}
+use Rattle.jwalk_ignore.specs.declared.rules.chain.Chain.{Chain}
+use Rattle.jwalk_ignore.specs.declared.callback.settings.Settings.{Settings}
 use Rattle.seek_words.specs.Sought.{Sought}
 use Rattle.seek_words.specs.declared.paths.Style.{Style}
 use Rattle.seek_search.specs.Options.{options_for}

@@ -1,6 +1,6 @@
 //! Parts of paths.
 ghost use Rattle.std.specs.Prelude.{◌≡◌, drop};
-ghost use Rattle.jwalk_ignore.specs.PatternText.{without_first_slash};
+ghost use Rattle.jwalk_ignore.specs.Pattern.PatternText.{without_first_slash};
 ghost use Rattle.seek_search.specs.Excluding.{behind};
 
 /// Returns a path without the slash that it begins with.

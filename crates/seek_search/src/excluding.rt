@@ -2,8 +2,8 @@
 ghost use Rattle.std.specs.Prelude.{◌≡◌, ◌++◌, ◌∷◌, [], map, IfOk, OnOk};
 ghost use Rattle.std.specs.List.{filter};
 ghost use Rattle.jwalk.specs.jwalk_core.Entry.{item};
-ghost use Rattle.jwalk_ignore.specs.Chain.{is_ignored};
-ghost use Rattle.jwalk_ignore.specs.Matching.{patterns_say};
+ghost use Rattle.jwalk_ignore.specs.Rules.Chain.{is_ignored};
+ghost use Rattle.jwalk_ignore.specs.Rules.Matching.{patterns_say};
 ghost use Rattle.jwalk_ignore.specs.Rules.{rules_value};
 ghost use Rattle.seek_search.specs.Excluding.{lines_text, place_of, is_included};
 

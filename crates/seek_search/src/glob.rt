@@ -2,7 +2,7 @@
 ghost use Rattle.std.specs.Prelude.{◌≡◌, ◌++◌, map, IfOk, OnOk};
 ghost use Rattle.std.specs.Char.{to_ascii_lowercase};
 ghost use Rattle.std.specs.Option.{option_map};
-ghost use Rattle.jwalk_ignore.specs.Matching.{matches};
+ghost use Rattle.jwalk_ignore.specs.Rules.Matching.{matches};
 ghost use Rattle.jwalk_ignore.specs.Pattern.{pattern_value};
 ghost use Rattle.seek_search.specs.Glob.{folded, has_mark};
 

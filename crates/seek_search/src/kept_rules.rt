@@ -1,6 +1,6 @@
 //! The callback of a search that honours ignore files.
 ghost use Rattle.std.specs.Arc.{arc_value};
-ghost use Rattle.jwalk_ignore.specs.IgnoreViews.{next_of, settings_of, texts_of, Ignores};
+ghost use Rattle.jwalk_ignore.specs.Callback.IgnoreViews.{next_of, settings_of, texts_of, Ignores};
 ghost use Rattle.seek_search.specs.Excluding.{excluded_of, Excludes};
 
 use crate::excluding::Excluding;

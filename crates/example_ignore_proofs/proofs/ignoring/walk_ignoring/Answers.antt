@@ -1,9 +1,9 @@
 use Rattle.std.proofs.Common.{ap, refl}
 use Rattle.std.proofs.lemmas.Result.{IfOk-weaker}
 use Rattle.jwalk.specs.jwalk_model.Counted.{blank, both}
-use Rattle.jwalk_ignore.specs.ChainWorth.{chain_worth}
-use Rattle.jwalk_ignore.specs.Given.{ignoring_alone, lists_kept}
-use Rattle.jwalk_ignore.specs.IgnoreViews.{settings_of, texts_of}
+use Rattle.jwalk_ignore.specs.Rules.ChainWorth.{chain_worth}
+use Rattle.jwalk_ignore.specs.Callback.Given.{ignoring_alone, lists_kept}
+use Rattle.jwalk_ignore.specs.Callback.IgnoreViews.{settings_of, texts_of}
 use Rattle.example_ignore_proofs.proofs.ignoring.walk_ignoring.Goals as goal
 
 pub returns : goal.returns

@@ -7,9 +7,9 @@ use Rattle.jwalk.specs.jwalk_model.Tree.{functions_of}
 use Rattle.jwalk.specs.jwalk_memory_fs.MemoryFs.{tree_of}
 use Rattle.jwalk.specs.jwalk_core.Given.{counted_list}
 use Rattle.jwalk.specs.WalkDir.{state_of}
-use Rattle.jwalk_ignore.specs.ChainWorth.{chain_worth}
-use Rattle.jwalk_ignore.specs.Given.{ignoring_alone, no_rules_yet, rules_alone}
-use Rattle.jwalk_ignore.specs.MemoryTexts.{texts_of}
+use Rattle.jwalk_ignore.specs.Rules.ChainWorth.{chain_worth}
+use Rattle.jwalk_ignore.specs.Callback.Given.{ignoring_alone, no_rules_yet, rules_alone}
+use Rattle.jwalk_ignore.specs.Rules.MemoryTexts.{texts_of}
 use Rattle.example_ignore_proofs.proofs.YieldedFacts.{yielded_by}
 use Rattle.example_ignore_proofs.proofs.ignoring.walk_tree_ignoring.Goals as goal
 

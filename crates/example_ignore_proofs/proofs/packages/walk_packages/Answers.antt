@@ -1,9 +1,9 @@
 use Rattle.std.proofs.Common.{◌∙◌, Bool, ap, refl}
 use Rattle.std.proofs.lemmas.Result.{IfOk-weaker}
 use Rattle.jwalk.specs.jwalk_model.Counted.{both}
-use Rattle.jwalk_ignore.specs.ChainViews.{chain_value}
-use Rattle.jwalk_ignore.specs.ChainWorth.{bool_worth, chain_worth}
-use Rattle.jwalk_ignore.specs.IgnoreViews.{settings_of, texts_of}
+use Rattle.jwalk_ignore.specs.Rules.ChainViews.{chain_value}
+use Rattle.jwalk_ignore.specs.Rules.ChainWorth.{bool_worth, chain_worth}
+use Rattle.jwalk_ignore.specs.Callback.IgnoreViews.{settings_of, texts_of}
 use Rattle.example_ignore_proofs.specs.Packages.{ignoring_packages, packages, packages-KeepsDepthsOf}
 use Rattle.example_ignore_proofs.proofs.packages.walk_packages.Goals as goal
 

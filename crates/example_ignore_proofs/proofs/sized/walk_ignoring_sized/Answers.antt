@@ -2,8 +2,8 @@ use Rattle.std.proofs.Common.{ap, refl}
 use Rattle.std.proofs.lemmas.Result.{IfOk-weaker}
 use Rattle.jwalk.specs.jwalk_callbacks.WithSizes.{asking-KeepsDepthsOf, asks, counted_size, size_worth, sizes}
 use Rattle.jwalk.specs.jwalk_model.Counted.{blank, both}
-use Rattle.jwalk_ignore.specs.ChainWorth.{chain_worth}
-use Rattle.jwalk_ignore.specs.IgnoreViews.{next_of, settings_of, texts_of}
+use Rattle.jwalk_ignore.specs.Rules.ChainWorth.{chain_worth}
+use Rattle.jwalk_ignore.specs.Callback.IgnoreViews.{next_of, settings_of, texts_of}
 use Rattle.example_ignore_proofs.specs.Sized.{ignoring_sized}
 use Rattle.example_ignore_proofs.proofs.sized.walk_ignoring_sized.Goals as goal
 

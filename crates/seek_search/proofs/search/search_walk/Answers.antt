@@ -7,9 +7,9 @@ use Rattle.jwalk.specs.jwalk_core.Job.{IsSteady}
 use Rattle.jwalk.specs.WalkDir.{file_system_of, callback_of}
 use Rattle.jwalk.proofs.CleanFacts.{clean_whole}
 use Rattle.jwalk.proofs.WholeFacts.{steady_begun}
-use Rattle.jwalk_ignore.specs.ChainWorth.{chain_worth}
-use Rattle.jwalk_ignore.specs.Given.{rules_alone}
-use Rattle.jwalk_ignore.specs.IgnoreViews.{ignoring, next_of, settings_of, texts_of}
+use Rattle.jwalk_ignore.specs.Rules.ChainWorth.{chain_worth}
+use Rattle.jwalk_ignore.specs.Callback.Given.{rules_alone}
+use Rattle.jwalk_ignore.specs.Callback.IgnoreViews.{ignoring, next_of, settings_of, texts_of}
 use Rattle.seek_search.proofs.WholeFacts.{clean_entries, printed_whole}
 use Rattle.seek_search.specs.Excluding.{excluded_of, excluding}
 use Rattle.seek_search.specs.Search.{given_kept}

@@ -1,7 +1,7 @@
 use Rattle.std.proofs.Common.{◌≡◌, ◌++◌, map, List, ap, sym, refl, ◌∙◌, append_assoc, option_to_list}
 use Rattle.std.specs.List.{filter_map}
 use Rattle.jwalk_ignore.specs.Pattern.{Pattern, pattern_in, pattern_value}
-use Rattle.jwalk_ignore.specs.Line.{lines_of, pattern_of_line}
+use Rattle.jwalk_ignore.specs.Rules.Line.{lines_of, pattern_of_line}
 use Rattle.jwalk_ignore.proofs.PiecesFacts.{first_line}
 use Rattle.jwalk_ignore.proofs.rules.Rules.parse.Goals as goal
 

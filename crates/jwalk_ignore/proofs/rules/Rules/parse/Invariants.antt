@@ -1,7 +1,7 @@
 use Rattle.std.proofs.Common.{◌≡◌, ◌++◌, map, length}
 use Rattle.std.specs.List.{filter_map}
 use Rattle.jwalk_ignore.specs.Pattern.{pattern_value}
-use Rattle.jwalk_ignore.specs.Line.{lines_of, pattern_of_line, patterns_of}
+use Rattle.jwalk_ignore.specs.Rules.Line.{lines_of, pattern_of_line, patterns_of}
 use Rattle.jwalk_ignore.proofs.rules.Rules.parse.Given as goal
 
 -- the patterns that were read, and those of the lines that are left, are all

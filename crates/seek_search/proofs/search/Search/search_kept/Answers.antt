@@ -4,10 +4,10 @@ use Rattle.std.specs.Arc.{arc_value}
 use Rattle.std.proofs.lemmas.Result.{IfOk-weaker}
 use Rattle.jwalk.specs.jwalk_model.Counted.{blank, both}
 use Rattle.jwalk.specs.WalkDir.{file_system_of, options_of, state_of}
-use Rattle.jwalk_ignore.specs.ChainWorth.{chain_worth}
-use Rattle.jwalk_ignore.specs.Given.{no_rules_yet, rules_alone}
-use Rattle.jwalk_ignore.specs.IgnoreViews.{ignoring, next_of, settings_of, texts_of as texts_in}
-use Rattle.jwalk_ignore.specs.declared.settings.Settings.{Settings}
+use Rattle.jwalk_ignore.specs.Rules.ChainWorth.{chain_worth}
+use Rattle.jwalk_ignore.specs.Callback.Given.{no_rules_yet, rules_alone}
+use Rattle.jwalk_ignore.specs.Callback.IgnoreViews.{ignoring, next_of, settings_of, texts_of as texts_in}
+use Rattle.jwalk_ignore.specs.declared.callback.settings.Settings.{Settings}
 use Rattle.seek_search.specs.Options.{options_for, with_crew}
 use Rattle.seek_search.specs.declared.options.WalkOptions.{WalkOptions}
 use Rattle.seek_search.proofs.CleanFacts.{printed_as}

@@ -1,0 +1,13 @@
+use Rattle.std.proofs.Common.{rules, tests, sym, ◌∙◌}
+use Rattle.std.proofs.lemmas.Iterator.{YieldsList-from_slice}
+use Rattle.std.proofs.lemmas.Iterator.Search.{any_from_yields_List}
+use Rattle.jwalk.specs.jwalk_core.Entry.{item}
+use Rattle.jwalk_ignore.specs.Callback.IgnoreFiles.{is_git}
+use Rattle.jwalk_ignore.proofs.ListFacts.{list_any-map}
+use Rattle.jwalk_ignore.proofs.callback.listed.holds_git.Goals as goal
+
+pub returns : goal.returns
+returns g c =
+    any_from_yields_List (λ found. is_git (item found)) _ _ _ c.any.ensures.ran
+    (YieldsList-from_slice c.args.list.now c.iter.ensures.rest) (λ x b q k. search (rules, tests))
+    ∙ sym (list_any-map item is_git c.args.list.now)

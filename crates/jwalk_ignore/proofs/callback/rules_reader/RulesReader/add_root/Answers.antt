@@ -1,0 +1,11 @@
+use Rattle.std.proofs.Common.{◌∷◌, [], Err, map}
+use Rattle.std.proofs.lemmas.List.{map-append}
+use Rattle.jwalk.specs.jwalk_core.Entry.{item}
+use Rattle.jwalk.specs.jwalk_core.Error.{failure}
+use Rattle.jwalk_ignore.specs.Callback.MadeDepths.{append_at}
+use Rattle.jwalk_ignore.proofs.callback.rules_reader.RulesReader.add_root.Goals as goal
+
+pub returns-in_ok-push-in-Err-Io-clause-depth : goal.returns-in_ok-push-in-Err-Io-clause-depth
+returns-in_ok-push-in-Err-Io-clause-depth g c = λ depth before.
+    let old = c.args.made.now.list.items in
+    rw (c.in_ok-push-in-Err-Io.ensures.items, map-append item old (Err c.from_path.result ∷ [])) (append_at depth (map item old) (Err (failure c.from_path.result) ∷ []) before tt)

@@ -1,0 +1,8 @@
+-- The callback that honours ignore files, as values.
+pub mod Folders
+pub mod Given
+pub mod IgnoreFiles
+pub mod IgnoreViews
+pub mod MadeDepths
+pub mod Places
+pub mod Sources

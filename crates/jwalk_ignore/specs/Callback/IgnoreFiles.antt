@@ -1,0 +1,216 @@
+-- What the callback makes of lists: which rules are read, and what they leave.
+use Prim.Native.Nat.{zero}
+use Rattle.std.specs.Prelude.{ℕ, suc, Bool, true, false, ◌&&◌, ◌||◌, not, List, [], ◌∷◌, ◌++◌, filter, fold, reverse, length, bytes_eq, codes, Option, Some, None, option_map, Result, Ok, Err, if◌then◌else◌}
+use Rattle.std.specs.List.{list_any}
+use Rattle.std.specs.declared.io.ErrorKind.{ErrorKind}
+use Rattle.std.specs.declared.io.ErrorKind.TheVariants as kind
+use Rattle.jwalk.specs.jwalk_model.FileType.{is_dir, is_file}
+use Rattle.jwalk.specs.jwalk_model.Paths.{join, parent}
+use Rattle.jwalk.specs.jwalk_model.Error.{io}
+use Rattle.jwalk.specs.jwalk_model.Entry.{Item, is_hidden}
+use Rattle.jwalk_ignore.specs.Rules.Chain.{Chain, below_root, entered, ignored, place_in, with_link}
+use Rattle.jwalk_ignore.specs.Rules.Line.{patterns_of}
+use Rattle.jwalk_ignore.specs.Pattern.{Pattern}
+use Rattle.jwalk_ignore.specs.Rules.Texts.{Texts}
+use Rattle.jwalk_ignore.specs.declared.rules.rules_kind.RulesKind.{RulesKind}
+use Rattle.jwalk_ignore.specs.declared.rules.rules_kind.RulesKind.TheVariants as rules
+use Rattle.jwalk_ignore.specs.declared.callback.settings.Settings.{Settings}
+
+-- the directory or file that makes a directory a repository
+abbrev pub git : List ℕ
+git = codes ".git"
+
+-- the file that has rules of a kind, below their directory
+abbrev pub file_of : RulesKind → List ℕ
+file_of rules.Ignore = codes ".ignore"
+file_of rules.Gitignore = codes ".gitignore"
+file_of rules.Exclude = codes ".git/info/exclude"
+
+-- whether `.gitignore` counts where these rules are in force
+abbrev pub counts : Settings → Chain → Bool
+counts settings chain = settings.anywhere || chain.in_repository
+
+-- the kind of rules that a regular file of this name has
+abbrev pub kind_of_file : Bool → List ℕ → Option RulesKind
+kind_of_file counted name =
+    if bytes_eq name (codes ".ignore") then Some rules.Ignore
+    else if counted && bytes_eq name (codes ".gitignore") then Some rules.Gitignore
+    else None
+
+-- the kind of rules that are read for an entry, where `.gitignore` counts or not
+abbrev pub kind_of : {R E : Type 0} → Bool → Item R E → Option RulesKind
+kind_of counted (Ok e) =
+    if is_file e.file_type then kind_of_file counted e.file_name
+    else if bytes_eq e.file_name git then Some rules.Exclude
+    else None
+kind_of counted (Err f) = None
+
+-- whether an item is an entry of the name `.git`
+abbrev pub is_git : {R E : Type 0} → Item R E → Bool
+is_git (Ok e) = bytes_eq e.file_name git
+is_git (Err f) = false
+
+-- the depth of an entry
+abbrev pub depth_of : {R E : Type 0} → Item R E → ℕ
+depth_of (Ok e) = e.depth
+depth_of (Err f) = 0
+
+-- whether nothing is at a path
+abbrev pub is_missing : ErrorKind → Bool
+is_missing kind.NotFound = true
+is_missing kind.NotADirectory = true
+is_missing _ = false
+
+-- rules by their file's bytes; none where the file may be missing and is
+abbrev pub rules_found : Bool → Result (List ℕ) ErrorKind → Result (Option (List Pattern)) ErrorKind
+rules_found may_miss (Ok bytes) = Ok (Some (patterns_of bytes))
+rules_found may_miss (Err k) = if may_miss && is_missing k then Ok None else Err k
+
+-- the rules of one file that are to be read: their kind, the folder that they are in, how much of a path is before what they match, the depth of the entry that they are read for, and whether the file may be missing
+pub record Source : Type 0 where
+  pub kind : RulesKind
+  pub folder : List ℕ
+  pub before : ℕ
+  pub depth : ℕ
+  pub may_miss : Bool
+
+-- where they are
+abbrev pub path_of : Source → List ℕ
+path_of source = join source.folder (file_of source.kind)
+
+-- rules in force and a list, as far as they are made
+pub record Made (R E : Type 0) : Type 0 where
+  pub chain : Chain
+  pub list : List (Item R E)
+
+module _ {R E : Type 0} where
+  -- with rules that were read, or the error behind what the list has
+  abbrev pub with_found : Source → Result (Option (List Pattern)) ErrorKind → Made R E → Made R E
+  with_found source (Ok (Some patterns)) made =
+      record { chain = with_link source.kind (record { before = source.before; patterns = patterns }) made.chain; list = made.list }
+  with_found source (Ok None) made = made
+  with_found source (Err k) made =
+      record { chain = made.chain; list = made.list ++ Err (io source.depth (Some (path_of source)) k) ∷ [] }
+
+  -- with the rules of a file
+  abbrev pub with_rules : Texts → Source → Made R E → Made R E
+  with_rules texts source made = with_found source (rules_found source.may_miss (texts.bytes_of (path_of source))) made
+
+  -- with one item more
+  abbrev pub with_item : Item R E → Made R E → Made R E
+  with_item x made = record { chain = made.chain; list = made.list ++ x ∷ [] }
+
+-- whether the file of rules of a kind may be missing that a directory's own list leads to: only `info/exclude` isn't listed
+abbrev pub may_miss : RulesKind → Bool
+may_miss rules.Ignore = false
+may_miss rules.Gitignore = false
+may_miss rules.Exclude = true
+
+-- the rules of a kind that a directory's own list leads to, for an entry at this depth
+abbrev pub source_in : List ℕ → ℕ → RulesKind → ℕ → Source
+source_in directory before kind depth = record { kind = kind; folder = directory; before = before; depth = depth; may_miss = may_miss kind }
+
+-- A directory's own list: each file of rules in it is read, and an error comes behind its entry.
+module _ {R E : Type 0} (texts : Texts) (counted : Bool) (directory : List ℕ) (before : ℕ) where
+  -- with the rules of a kind, if there is one
+  abbrev pub with_own : Option RulesKind → ℕ → Made R E → Made R E
+  with_own None depth made = made
+  with_own (Some kind) depth made = with_rules texts (source_in directory before kind depth) made
+
+  -- with an item more, and the rules that are read for it
+  abbrev pub with_listed : Made R E → Item R E → Made R E
+  with_listed made x = with_own (kind_of counted x) (depth_of x) (with_item x made)
+
+-- the rules in force in a directory whose list this is, with those that it has itself, and the list with their errors
+abbrev pub own_rules : {R E : Type 0} → Settings → Texts → List ℕ → Chain → List (Item R E) → Made R E
+own_rules settings texts directory chain list =
+    let inside = entered (list_any is_git list) chain in
+    fold (with_listed texts (counts settings inside) directory (length (place_in inside directory))) (record { chain = inside; list = [] }) list
+
+-- whether an item is an error, or an entry that is neither `.git` nor hidden
+abbrev pub is_shown : {R E : Type 0} → Settings → Item R E → Bool
+is_shown settings (Ok e) = not (bytes_eq e.file_name git) && (settings.keeps_hidden || not (is_hidden e.file_name))
+is_shown settings (Err f) = true
+
+-- whether rules that are in force in the directory at a place don't ignore an item
+abbrev pub is_kept : {R E : Type 0} → Chain → List ℕ → Item R E → Bool
+is_kept chain place (Ok e) = not (ignored chain (place ++ 47 ∷ e.file_name) (is_dir e.file_type))
+is_kept chain place (Err f) = true
+
+-- a directory's list: its rules are read, and then what is hidden or ignored is dropped
+abbrev pub in_directory : {R E : Type 0} → Settings → Texts → List ℕ → Chain → List (Item R E) → Made R E
+in_directory settings texts directory chain list =
+    let own = own_rules settings texts directory chain list in
+    record { chain = own.chain; list = filter (is_kept own.chain (place_in own.chain directory)) (filter (is_shown settings) own.list) }
+
+-- the path of an item's directory
+abbrev pub root_of : {R E : Type 0} → Item R E → Option (List ℕ)
+root_of (Ok e) = option_map (λ c. c.path) e.read_children
+root_of (Err f) = None
+
+-- a folder above the root, and whether it holds `.git`
+pub record Folder : Type 0 where
+  pub path : List ℕ
+  pub is_repository : Bool
+
+module _ (texts : Texts) where
+  -- the folder at a path
+  abbrev pub folder_at : List ℕ → Folder
+  folder_at path = record { path = path; is_repository = texts.exists (join path git) }
+
+  -- the folders above a path, the nearest first, up to the first that holds `.git`; at most this many
+  abbrev pub folders_above : ℕ → List ℕ → List Folder
+  folders_above zero path = []
+  folders_above (suc n) path =
+      elim (parent path) [
+        | None ↦ []
+        | Some above ↦ if texts.exists (join above git) then folder_at above ∷ [] else folder_at above ∷ folders_above n above
+      ]
+
+-- the rules of a kind in a folder above the root
+abbrev pub source_above : Folder → RulesKind → Source
+source_above folder kind = record { kind = kind; folder = folder.path; before = length folder.path; depth = 0; may_miss = true }
+
+module _ {R E : Type 0} (settings : Settings) (texts : Texts) where
+  -- the same chain, in a folder
+  abbrev pub entered_above : Folder → Made R E → Made R E
+  entered_above folder made = record { chain = entered folder.is_repository made.chain; list = made.list }
+
+  -- with what is read of one kind in a folder
+  abbrev pub with_above : Folder → Bool → RulesKind → Made R E → Made R E
+  with_above folder read kind made = if read then with_rules texts (source_above folder kind) made else made
+
+  -- with the rules of a folder above the root
+  abbrev pub with_folder : Made R E → Folder → Made R E
+  with_folder made folder =
+      let inside = entered_above folder made in
+      with_above folder true rules.Ignore
+      (with_above folder (counts settings inside.chain) rules.Gitignore
+      (with_above folder folder.is_repository rules.Exclude inside))
+
+  -- with the rules of the folders above an absolute path, the farthest first
+  abbrev pub with_folders : List ℕ → Made R E → Made R E
+  with_folders absolute made = fold with_folder made (reverse (folders_above texts (length absolute) absolute))
+
+  -- with the rules above a root, if its absolute path is found
+  abbrev pub with_absolute : List ℕ → Made R E → Result (List ℕ) ErrorKind → Made R E
+  with_absolute root made (Ok absolute) = with_folders absolute (record { chain = below_root root absolute; list = made.list })
+  with_absolute root made (Err k) = record { chain = below_root root root; list = made.list ++ Err (io 0 (Some root) k) ∷ [] }
+
+  -- with the rules above the root, if it is a directory with this path
+  abbrev pub with_root : Option (List ℕ) → Made R E → Made R E
+  with_root None made = made
+  with_root (Some root) made = with_absolute root made (texts.absolute_of root)
+
+  -- with an item more, and the rules above it
+  abbrev pub with_root_item : Made R E → Item R E → Made R E
+  with_root_item made x = with_root (root_of x) (with_item x made)
+
+  -- the rules above the root, and the list that a walk begins with, of which nothing is dropped
+  abbrev pub at_root : Chain → List (Item R E) → Made R E
+  at_root chain list = fold with_root_item (record { chain = chain; list = [] }) list
+
+  -- what is made of a list before another callback is given it
+  abbrev pub by_rules : Option ℕ → List ℕ → Chain → List (Item R E) → Made R E
+  by_rules None path chain list = at_root chain list
+  by_rules (Some depth) path chain list = in_directory settings texts path chain list

@@ -1,0 +1,36 @@
+//! Walks that honour ignore files.
+ghost use Rattle.std.specs.Prelude.{false};
+ghost use Rattle.jwalk.specs.jwalk_model.Options.{with_skip_hidden};
+ghost use Rattle.jwalk.specs.WalkDir.{options_of, described, with_callback, Sets};
+
+use crate::callback::ignore_files::IgnoreFiles;
+use crate::rules::chain::Chain;
+use crate::rules::texts::Texts;
+use jwalk::WalkDirGeneric;
+use jwalk::file_system::FileSystem;
+use jwalk::read_dir::ProcessReadDir;
+use std::alloc::Allocator;
+use std::fmt::Debug;
+
+/// Returns the same walk with these rules as its callback, which are also shown hidden names: those that the callback
+/// isn't told to keep it drops itself. `WalkDir::at(&rt, root)?.states::<(Chain, ()), ()>()` is a walk with states that
+/// fit.
+pub fn with_ignore_files<
+    B: Clone + Default + Debug + Drop,
+    E: Default + Debug + Drop,
+    S: FileSystem,
+    O: ProcessReadDir<((Chain<A>, B), E), A>,
+    A: Allocator + Copy,
+    W: Drop,
+    X: Texts,
+    P: ProcessReadDir<((Chain<A>, B), E), A>,
+>(
+    walk: WalkDirGeneric<((Chain<A>, B), E), S, O, A, W>,
+    rules: IgnoreFiles<X, P>,
+) -> WalkDirGeneric<((Chain<A>, B), E), S, IgnoreFiles<X, P>, A, W>
+    ensures { Sets (record (with_callback rules (described walk)) {
+      options = with_skip_hidden false (options_of walk);
+    }) result }
+{
+    walk.skip_hidden(false).process_read_dir(rules)
+}

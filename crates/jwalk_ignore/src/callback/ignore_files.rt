@@ -1,0 +1,131 @@
+//! A callback that honours ignore files.
+ghost use Rattle.std.specs.Prelude.{◌≡◌, false};
+
+use crate::callback::rules_reader::RulesReader;
+use crate::callback::settings::Settings;
+use crate::callback::source::Made;
+use crate::rules::chain::Chain;
+use crate::rules::texts::Texts;
+use jwalk::read_dir::{NoProcess, ProcessReadDir};
+use jwalk::{DirEntry, Error};
+use std::alloc::{AllocError, Allocator};
+use std::fmt::Debug;
+use std::mem;
+
+/// A callback that drops what ignore files say, so that nothing below an ignored directory is read, and hands the rest of
+/// each list to another callback.
+///
+/// ```text
+/// let rules = IgnoreFiles::new(RealTexts::new(&rt)).then(WithSizes::new(fs_again));
+/// let walk = WalkDirGeneric::<((Chain, ()), Size), _, _, _>::new(fs, root);
+/// for answer in with_ignore_files(walk, rules).into_iter() { .. }
+/// ```
+///
+/// The states of the walk are `((Chain, B), E)`: the rules in force beside the other callback's own state of a
+/// directory, and its state of an entry. The walk has to show hidden names, as
+/// [`with_ignore_files`](crate::builder::with_ignore_files) sets it, since files of rules are hidden. The callback drops
+/// hidden names itself, once the rules are read.
+///
+/// - All `.ignore` files decide before all `.gitignore` files, and these before `.git/info/exclude`. Of one kind the
+///   nearer decides first, and in one file the last pattern that matches.
+/// - `.gitignore` counts in a directory that holds `.git`, and below it. Below another `.git` the rules of the outer
+///   repository end; those of `.ignore` go on.
+/// - `.git` is dropped, as directory and as file. Where it is a file, no `info/exclude` is read.
+/// - A file of rules is read where the list has a regular file of its name. If it can't be read, an error with its path
+///   comes right behind its entry, and it has no rules.
+/// - The rules of folders above the root, up to the first that holds `.git`, are read once, for the root's list. The
+///   root itself is never dropped.
+///
+/// If memory runs out, the callback fails with that.
+#[derive(Drop)]
+pub struct IgnoreFiles<T: Texts, P: Drop = NoProcess> {
+    reader: RulesReader<T>,
+    next: P,
+}
+
+impl<T: Texts> IgnoreFiles<T, NoProcess> {
+    ghost use Rattle.jwalk_ignore.specs.Callback.IgnoreViews.{settings_of, texts_of};
+
+    /// Returns the callback that reads rules from these texts. It drops hidden names, and `.gitignore` counts in
+    /// repositories alone.
+    pub fn new(texts: T) -> Self
+        ensures texts { texts_of result ≡ texts }
+        ensures settings { settings_of result ≡ record { keeps_hidden = false; anywhere = false } }
+    {
+        IgnoreFiles {
+            reader: RulesReader {
+                texts,
+                settings: Settings {
+                    keeps_hidden: false,
+                    anywhere: false,
+                },
+            },
+            next: NoProcess,
+        }
+    }
+}
+
+impl<T: Texts, P: Drop> IgnoreFiles<T, P> {
+    ghost use Rattle.jwalk_ignore.specs.Callback.IgnoreViews.{next_of, settings_of, texts_of};
+
+    /// Sets whether hidden names stay. Off by default.
+    pub fn keep_hidden(mut self, keep: bool) -> Self
+        ensures settings { settings_of result ≡ record (settings_of self) { keeps_hidden = keep } }
+        ensures texts { texts_of result ≡ texts_of self }
+        ensures next { next_of result ≡ next_of self }
+    {
+        self.reader.settings.keeps_hidden = keep;
+        self
+    }
+
+    /// Sets whether `.gitignore` counts outside repositories too. Off by default.
+    pub fn outside_repositories(mut self, anywhere: bool) -> Self
+        ensures settings { settings_of result ≡ record (settings_of self) { anywhere = anywhere } }
+        ensures texts { texts_of result ≡ texts_of self }
+        ensures next { next_of result ≡ next_of self }
+    {
+        self.reader.settings.anywhere = anywhere;
+        self
+    }
+
+    /// Returns the same callback, which hands what is left of each list to this one.
+    pub fn then<Q: Drop>(self, next: Q) -> IgnoreFiles<T, Q>
+        ensures settings { settings_of result ≡ settings_of self }
+        ensures texts { texts_of result ≡ texts_of self }
+        ensures next { next_of result ≡ next }
+    {
+        let IgnoreFiles { reader, next: _ } = self;
+        IgnoreFiles { reader, next }
+    }
+}
+
+impl<
+    B: Clone + Default + Debug + Drop,
+    E: Default + Debug + Drop,
+    A: Allocator + Copy,
+    T: Texts,
+    P: ProcessReadDir<((Chain<A>, B), E), A>,
+> ProcessReadDir<((Chain<A>, B), E), A> for IgnoreFiles<T, P> {
+    ghost use Rattle.jwalk_ignore.specs.Callback.IgnoreViews.{next_of, settings_of, texts_of, Ignores};
+
+    ghost IsLawful = { λ s. P.IsLawful (next_of s) };
+
+    ghost Makes = { λ s g. Ignores (T.IsFixed (texts_of s)) (T.functions (texts_of s)) (settings_of s)
+        (P.Makes (next_of s)) g };
+
+    fn process(
+        &self,
+        depth: Option<usize>,
+        path: &str,
+        state: &mut (Chain<A>, B),
+        list: &mut Vec<Result<DirEntry<((Chain<A>, B), E), A>, Error<A>>, A>,
+    ) -> Result<(), AllocError> {
+        let alloc = *list.allocator();
+        let chain = mem::take(&mut state.0);
+        let items = mem::replace(list, Vec::new(alloc));
+        let Made { chain, list: left } = self.reader.by_rules(depth, path, chain, items)?;
+        state.0 = chain;
+        *list = left;
+        self.next.process(depth, path, state, list)
+    }
+}

@@ -1,0 +1,365 @@
+//! What rules make of lists.
+ghost use Rattle.std.specs.Prelude.{◌≡◌, ◌++◌, ◌∷◌, [], IfOk, OnOk, map, filter, fold};
+ghost use Rattle.jwalk.specs.jwalk_model.Entry.{AtDepth};
+ghost use Rattle.jwalk.specs.jwalk_core.Entry.{item};
+ghost use Rattle.jwalk_ignore.specs.Rules.Chain.{place_in};
+ghost use Rattle.jwalk_ignore.specs.Rules.ChainViews.{chain_value};
+ghost use Rattle.jwalk_ignore.specs.Callback.Folders.{folder_value};
+ghost use Rattle.jwalk_ignore.specs.Callback.IgnoreFiles.{at_root, by_rules, in_directory, is_kept, own_rules, with_above, with_absolute, with_folder, with_folders, with_listed, with_root_item};
+ghost use Rattle.jwalk_ignore.specs.Callback.Places.{IsPlaced};
+ghost use Rattle.jwalk_ignore.specs.Callback.Sources.{made_value};
+
+use crate::callback::folder::{Folder, folders_above};
+use crate::callback::listed::{depth_of, drop_hidden, holds_git, kind_of, root_of};
+use crate::callback::places::Places;
+use crate::callback::settings::Settings;
+use crate::callback::source::{Made, Source};
+use crate::rules::chain::Chain;
+use crate::rules::rules_kind::RulesKind;
+use crate::rules::texts::Texts;
+use jwalk::file_system::Fault;
+use jwalk::{ClientState, DirEntry, Error};
+use std::alloc::{AllocError, Allocator};
+use std::sync::Arc;
+
+/// Texts, and how the rules in them are used.
+#[derive(Drop)]
+pub(crate) struct RulesReader<T: Texts> {
+    pub(crate) texts: T,
+    pub(crate) settings: Settings,
+}
+
+/// A directory whose list is made.
+#[derive(Clone, Copy)]
+struct Directory<'p> {
+    path: &'p str,
+    /// How much of a path is before the part that its rules match.
+    before: usize,
+    /// Whether `.gitignore` counts in it.
+    counted: bool,
+}
+
+/// Returns whether rules don't ignore an item.
+fn is_kept<C: ClientState, A: Allocator + Copy>(
+    chain: &Chain<A>,
+    places: &mut Places<A>,
+    found: &Result<DirEntry<C, A>, Error<A>>,
+) -> Result<bool, AllocError>
+    ensures kept { (place : _) → IsPlaced place places.old
+        → IfOk result (λ kept. kept ≡ is_kept (chain_value chain.now) place (item found.now)) }
+    ensures places { (place : _) → IsPlaced place places.old → IsPlaced place places.new }
+{
+    match found {
+        Ok(entry) => {
+            places.set_name(entry.file_name.as_str())?;
+            Ok(!chain.ignores(places.bytes(), entry.file_type.is_dir()))
+        }
+        Err(_) => Ok(true),
+    }
+}
+
+/// Adds an item that rules don't ignore.
+fn push_kept<C: ClientState, A: Allocator + Copy>(
+    chain: &Chain<A>,
+    places: &mut Places<A>,
+    found: Result<DirEntry<C, A>, Error<A>>,
+    kept: &mut Vec<Result<DirEntry<C, A>, Error<A>>, A>,
+) -> Result<(), AllocError>
+    ensures kept { (place : _) → IsPlaced place places.old → OnOk result (map item kept.new.items
+        ≡ map item kept.old.items ++ filter (is_kept (chain_value chain.now) place) (item found ∷ [])) }
+    ensures places { (place : _) → IsPlaced place places.old → IsPlaced place places.new }
+{
+    if is_kept(chain, places, &found)? {
+        kept.push(found)?;
+    }
+    Ok(())
+}
+
+/// Returns a list of a directory without what rules ignore.
+fn kept<C: ClientState, A: Allocator + Copy>(
+    chain: &Chain<A>,
+    directory: &str,
+    list: Vec<Result<DirEntry<C, A>, Error<A>>, A>,
+) -> Result<Vec<Result<DirEntry<C, A>, Error<A>>, A>, AllocError>
+    ensures { IfOk result (λ kept. map item kept.items
+        ≡ filter (is_kept (chain_value chain.now) (place_in (chain_value chain.now) directory.now)) (map item list.items)) }
+{
+    if !chain.has_rules() {
+        return Ok(list);
+    }
+    let alloc = *list.allocator();
+    let mut places = Places::new(chain.place(alloc, directory)?)?;
+    let mut kept = Vec::with_capacity(alloc, list.len())?;
+    for found in list {
+        push_kept(chain, &mut places, found, &mut kept)?;
+    }
+    Ok(kept)
+}
+
+impl<T: Texts> RulesReader<T> {
+    /// Adds an item of a directory's list, and the rules that are read for it.
+    fn add_listed<C: ClientState, A: Allocator + Copy>(
+        &self,
+        of: Directory<'_>,
+        found: Result<DirEntry<C, A>, Error<A>>,
+        made: &mut Made<C, A>,
+    ) -> Result<(), AllocError>
+        ensures value { T.IsFixed self.now.texts → OnOk result (made_value made.new
+            ≡ with_listed (T.functions self.now.texts) of.entry.counted of.entry.path.now of.entry.before (made_value made.old) (item found)) }
+        ensures depth { (depth : _) → AtDepth depth (item found ∷ []) → AtDepth depth (map item made.old.list.items)
+            → OnOk result (AtDepth depth (map item made.new.list.items)) }
+    {
+        let depth = depth_of(&found);
+        let kind = kind_of(of.counted, &found);
+        made.add_item(found)?;
+        let Some(kind) = kind else {
+            return Ok(());
+        };
+        let source = Source {
+            kind,
+            folder: of.path,
+            before: of.before,
+            depth,
+            may_miss: kind.may_miss(),
+        };
+        made.add_rules(&self.texts, source)
+    }
+
+    /// Adds all items of a directory's list, and the rules that are read for each.
+    fn add_all<C: ClientState, A: Allocator + Copy>(
+        &self,
+        of: Directory<'_>,
+        list: Vec<Result<DirEntry<C, A>, Error<A>>, A>,
+        made: &mut Made<C, A>,
+    ) -> Result<(), AllocError>
+        ensures value { T.IsFixed self.now.texts → OnOk result (made_value made.new
+            ≡ fold (with_listed (T.functions self.now.texts) of.entry.counted of.entry.path.now of.entry.before)
+            (made_value made.old) (map item list.items)) }
+        ensures depth { (depth : _) → AtDepth depth (map item list.items) → AtDepth depth (map item made.old.list.items)
+            → OnOk result (AtDepth depth (map item made.new.list.items)) }
+    {
+        for found in list {
+            self.add_listed(of, found, made)?;
+        }
+        Ok(())
+    }
+
+    /// Reads the rules that a directory's list leads to.
+    fn own_rules<C: ClientState, A: Allocator + Copy>(
+        &self,
+        directory: &str,
+        chain: Chain<A>,
+        list: Vec<Result<DirEntry<C, A>, Error<A>>, A>,
+    ) -> Result<Made<C, A>, AllocError>
+        ensures value { T.IsFixed self.now.texts → IfOk result (λ made. made_value made
+            ≡ own_rules self.now.settings (T.functions self.now.texts) directory.now (chain_value chain) (map item list.items)) }
+        ensures depth { (depth : _) → AtDepth depth (map item list.items)
+            → IfOk result (λ made. AtDepth depth (map item made.list.items)) }
+    {
+        let alloc = *list.allocator();
+        let chain = chain.entered(alloc, holds_git(&list))?;
+        let of = Directory {
+            path: directory,
+            before: chain.place_len(directory),
+            counted: self.settings.counts(&chain),
+        };
+        let mut made = Made {
+            chain,
+            list: Vec::with_capacity(alloc, list.len())?,
+        };
+        self.add_all(of, list, &mut made)?;
+        Ok(made)
+    }
+
+    /// Reads the rules of a directory's list, and drops what is hidden or ignored.
+    fn in_directory<C: ClientState, A: Allocator + Copy>(
+        &self,
+        directory: &str,
+        chain: Chain<A>,
+        list: Vec<Result<DirEntry<C, A>, Error<A>>, A>,
+    ) -> Result<Made<C, A>, AllocError>
+        ensures value { T.IsFixed self.now.texts → IfOk result (λ made. made_value made
+            ≡ in_directory self.now.settings (T.functions self.now.texts) directory.now (chain_value chain) (map item list.items)) }
+        ensures depth { (depth : _) → AtDepth depth (map item list.items)
+            → IfOk result (λ made. AtDepth depth (map item made.list.items)) }
+    {
+        let Made { chain, mut list } = self.own_rules(directory, chain, list)?;
+        drop_hidden(self.settings, &mut list);
+        let list = kept(&chain, directory, list)?;
+        Ok(Made { chain, list })
+    }
+
+    /// Adds the rules of a kind in a folder above the root, if they are to be read.
+    fn add_above<C: ClientState, A: Allocator + Copy>(
+        &self,
+        folder: Folder<'_>,
+        read: bool,
+        kind: RulesKind,
+        made: &mut Made<C, A>,
+    ) -> Result<(), AllocError>
+        ensures value { T.IsFixed self.now.texts → OnOk result (made_value made.new
+            ≡ with_above self.now.settings (T.functions self.now.texts) (folder_value folder.entry) read kind (made_value made.old)) }
+        ensures depth { (depth : _) → AtDepth depth (map item made.old.list.items)
+            → OnOk result (AtDepth depth (map item made.new.list.items)) }
+    {
+        if !read {
+            return Ok(());
+        }
+        made.add_rules(&self.texts, folder.source(kind))
+    }
+
+    /// Adds the rules of a folder above the root.
+    fn add_folder<C: ClientState, A: Allocator + Copy>(
+        &self,
+        folder: Folder<'_>,
+        made: &mut Made<C, A>,
+    ) -> Result<(), AllocError>
+        ensures value { T.IsFixed self.now.texts → OnOk result (made_value made.new
+            ≡ with_folder self.now.settings (T.functions self.now.texts) (made_value made.old) (folder_value folder.entry)) }
+        ensures depth { (depth : _) → AtDepth depth (map item made.old.list.items)
+            → OnOk result (AtDepth depth (map item made.new.list.items)) }
+    {
+        made.enter(folder.is_repository)?;
+        let counted = self.settings.counts(&made.chain);
+        self.add_above(folder, folder.is_repository, RulesKind::Exclude, made)?;
+        self.add_above(folder, counted, RulesKind::Gitignore, made)?;
+        self.add_above(folder, true, RulesKind::Ignore, made)
+    }
+
+    /// Adds the rules of folders above the root, one after another.
+    fn add_each<C: ClientState, A: Allocator + Copy>(
+        &self,
+        folders: Vec<Folder<'_>, A>,
+        made: &mut Made<C, A>,
+    ) -> Result<(), AllocError>
+        ensures value { T.IsFixed self.now.texts → OnOk result (made_value made.new
+            ≡ fold (with_folder self.now.settings (T.functions self.now.texts)) (made_value made.old)
+            (map folder_value folders.entry.items)) }
+        ensures depth { (depth : _) → AtDepth depth (map item made.old.list.items)
+            → OnOk result (AtDepth depth (map item made.new.list.items)) }
+    {
+        for folder in folders {
+            self.add_folder(folder, made)?;
+        }
+        Ok(())
+    }
+
+    /// Adds the rules of the folders above a root with this absolute path, the farthest first.
+    fn add_folders<C: ClientState, A: Allocator + Copy>(
+        &self,
+        absolute: &str,
+        made: &mut Made<C, A>,
+    ) -> Result<(), AllocError>
+        ensures value { T.IsFixed self.now.texts → OnOk result (made_value made.new
+            ≡ with_folders self.now.settings (T.functions self.now.texts) absolute.now (made_value made.old)) }
+        ensures depth { (depth : _) → AtDepth depth (map item made.old.list.items)
+            → OnOk result (AtDepth depth (map item made.new.list.items)) }
+    {
+        let alloc = *made.list.allocator();
+        let mut folders = folders_above(&self.texts, alloc, absolute)?;
+        folders.reverse();
+        self.add_each(folders, made)
+    }
+
+    /// Adds the rules above a root.
+    fn add_root<C: ClientState, A: Allocator + Copy>(
+        &self,
+        root: &str,
+        made: &mut Made<C, A>,
+    ) -> Result<(), AllocError>
+        ensures value { T.IsFixed self.now.texts → OnOk result (made_value made.new
+            ≡ with_absolute self.now.settings (T.functions self.now.texts) root.now (made_value made.old)
+            ((T.functions self.now.texts).absolute_of root.now)) }
+        ensures depth { (depth : _) → AtDepth depth (map item made.old.list.items)
+            → OnOk result (AtDepth depth (map item made.new.list.items)) }
+    {
+        let alloc = *made.list.allocator();
+        match self.texts.absolute(alloc, root) {
+            Ok(absolute) => {
+                made.chain = Chain::below(alloc, root, absolute.as_str())?;
+                self.add_folders(absolute.as_str(), made)
+            }
+            Err(Fault::Io(error)) => {
+                made.chain = Chain::below(alloc, root, root)?;
+                let path = Arc::new(alloc, String::from_str(alloc, root)?)?;
+                made.list.push(Err(Error::from_path(0, path, error)))?;
+                Ok(())
+            }
+            Err(Fault::Memory) => Err(AllocError),
+        }
+    }
+
+    /// Adds an item of the root's list, and the rules above it.
+    fn add_root_item<C: ClientState, A: Allocator + Copy>(
+        &self,
+        found: Result<DirEntry<C, A>, Error<A>>,
+        made: &mut Made<C, A>,
+    ) -> Result<(), AllocError>
+        ensures value { T.IsFixed self.now.texts → OnOk result (made_value made.new
+            ≡ with_root_item self.now.settings (T.functions self.now.texts) (made_value made.old) (item found)) }
+        ensures depth { (depth : _) → AtDepth depth (item found ∷ []) → AtDepth depth (map item made.old.list.items)
+            → OnOk result (AtDepth depth (map item made.new.list.items)) }
+    {
+        let root = root_of(*made.list.allocator(), &found)?;
+        made.add_item(found)?;
+        match root {
+            Some(root) => self.add_root(root.as_str(), made),
+            None => Ok(()),
+        }
+    }
+
+    /// Adds all items of the root's list, and the rules above each.
+    fn add_roots<C: ClientState, A: Allocator + Copy>(
+        &self,
+        list: Vec<Result<DirEntry<C, A>, Error<A>>, A>,
+        made: &mut Made<C, A>,
+    ) -> Result<(), AllocError>
+        ensures value { T.IsFixed self.now.texts → OnOk result (made_value made.new
+            ≡ fold (with_root_item self.now.settings (T.functions self.now.texts)) (made_value made.old) (map item list.items)) }
+        ensures depth { (depth : _) → AtDepth depth (map item list.items) → AtDepth depth (map item made.old.list.items)
+            → OnOk result (AtDepth depth (map item made.new.list.items)) }
+    {
+        for found in list {
+            self.add_root_item(found, made)?;
+        }
+        Ok(())
+    }
+
+    /// Reads the rules above the root, of whose list nothing is dropped.
+    fn at_root<C: ClientState, A: Allocator + Copy>(
+        &self,
+        chain: Chain<A>,
+        list: Vec<Result<DirEntry<C, A>, Error<A>>, A>,
+    ) -> Result<Made<C, A>, AllocError>
+        ensures value { T.IsFixed self.now.texts → IfOk result (λ made. made_value made
+            ≡ at_root self.now.settings (T.functions self.now.texts) (chain_value chain) (map item list.items)) }
+        ensures depth { (depth : _) → AtDepth depth (map item list.items)
+            → IfOk result (λ made. AtDepth depth (map item made.list.items)) }
+    {
+        let mut made = Made {
+            chain,
+            list: Vec::new(*list.allocator()),
+        };
+        self.add_roots(list, &mut made)?;
+        Ok(made)
+    }
+
+    /// Reads the rules that a list leads to, and drops what is hidden or ignored.
+    pub(crate) fn by_rules<C: ClientState, A: Allocator + Copy>(
+        &self,
+        depth: Option<usize>,
+        path: &str,
+        chain: Chain<A>,
+        list: Vec<Result<DirEntry<C, A>, Error<A>>, A>,
+    ) -> Result<Made<C, A>, AllocError>
+        ensures value { T.IsFixed self.now.texts → IfOk result (λ made. made_value made
+            ≡ by_rules self.now.settings (T.functions self.now.texts) depth path.now (chain_value chain) (map item list.items)) }
+        ensures depth { (depth : _) → AtDepth depth (map item list.items)
+            → IfOk result (λ made. AtDepth depth (map item made.list.items)) }
+    {
+        match depth {
+            None => self.at_root(chain, list),
+            Some(_) => self.in_directory(path, chain, list),
+        }
+    }
+}

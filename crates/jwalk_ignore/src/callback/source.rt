@@ -1,0 +1,175 @@
+//! Files of rules that are read.
+ghost use Rattle.std.specs.Prelude.{◌≡◌, ◌++◌, ◌∷◌, [], Some, Err, OnOk, map, option_map, string_bytes};
+ghost use Rattle.std.specs.IoError.{error_kind};
+ghost use Rattle.jwalk.specs.jwalk_model.Error.{io};
+ghost use Rattle.jwalk.specs.jwalk_model.Entry.{AtDepth};
+ghost use Rattle.jwalk.specs.jwalk_fs.Views.{AnswersValue};
+ghost use Rattle.jwalk.specs.jwalk_core.Entry.{item};
+ghost use Rattle.jwalk_ignore.specs.Callback.IgnoreFiles.{file_of, is_missing, path_of, rules_found, with_found, with_item, with_rules};
+ghost use Rattle.jwalk_ignore.specs.Rules.Chain.{entered, with_link};
+ghost use Rattle.jwalk_ignore.specs.Rules.ChainViews.{chain_value};
+ghost use Rattle.jwalk_ignore.specs.Callback.Sources.{made_value, source_value};
+ghost use Rattle.jwalk_ignore.specs.Rules.{rules_value};
+
+use crate::rules::Rules;
+use crate::rules::chain::Chain;
+use crate::rules::link::Link;
+use crate::rules::rules_kind::RulesKind;
+use crate::rules::texts::Texts;
+use jwalk::file_system::Fault;
+use jwalk::{ClientState, DirEntry, Error, path_text};
+use std::alloc::{AllocError, Allocator};
+use std::io::ErrorKind;
+use std::sync::Arc;
+use std::{io, mem};
+
+/// A file of rules that is to be read.
+#[derive(Clone, Copy)]
+pub(crate) struct Source<'p> {
+    /// The kind of its rules.
+    pub(crate) kind: RulesKind,
+    /// The folder whose rules they are.
+    pub(crate) folder: &'p str,
+    /// How much of a path is before the part that they match.
+    pub(crate) before: usize,
+    /// The depth of the entry that they are read for.
+    pub(crate) depth: usize,
+    /// Whether the file may be missing.
+    pub(crate) may_miss: bool,
+}
+
+/// Returns the name of the file that has rules of a kind, below their folder.
+fn file_of(kind: RulesKind) -> &'static str
+    ensures { result.now ≡ file_of kind }
+{
+    match kind {
+        RulesKind::Ignore => ".ignore",
+        RulesKind::Gitignore => ".gitignore",
+        RulesKind::Exclude => ".git/info/exclude",
+    }
+}
+
+/// Returns whether an error says that nothing is at a path.
+fn is_missing(kind: ErrorKind) -> bool
+    ensures { result ≡ is_missing kind }
+{
+    matches!(kind, ErrorKind::NotFound | ErrorKind::NotADirectory)
+}
+
+/// Returns the rules of the file at a path. None if it may be missing and is.
+fn rules_at<T: Texts, A: Allocator + Copy>(
+    texts: &T,
+    alloc: A,
+    path: &str,
+    may_miss: bool,
+) -> Result<Option<Rules<A>>, Fault>
+    ensures { T.IsFixed texts.now → AnswersValue (option_map rules_value) result
+        (rules_found may_miss ((T.functions texts.now).bytes_of path.now)) }
+{
+    match texts.read(alloc, path) {
+        Ok(bytes) => Ok(Some(Rules::parse(alloc, &bytes)?)),
+        Err(Fault::Io(error)) if may_miss && is_missing(error.kind()) => Ok(None),
+        Err(fault) => Err(fault),
+    }
+}
+
+/// The rules in force and a list, as far as they are made.
+#[derive(Drop)]
+pub(crate) struct Made<C: ClientState, A: Allocator + Copy> {
+    pub(crate) chain: Chain<A>,
+    pub(crate) list: Vec<Result<DirEntry<C, A>, Error<A>>, A>,
+}
+
+impl<C: ClientState, A: Allocator + Copy> Made<C, A> {
+    /// Adds rules that were read.
+    fn add_read(&mut self, source: Source<'_>, rules: Rules<A>) -> Result<(), AllocError>
+        ensures chain { OnOk result (chain_value self.new.chain
+            ≡ with_link source.entry.kind (record { before = source.entry.before; patterns = rules_value rules })
+            (chain_value self.old.chain)) }
+        ensures list { OnOk result (self.new.list ≡ self.old.list) }
+    {
+        let alloc = *self.list.allocator();
+        let link = Link::new(source.before, rules);
+        self.chain = self.chain.with_link(alloc, source.kind, link)?;
+        Ok(())
+    }
+
+    /// Adds the error that reading a file at a path ended in.
+    fn add_error(
+        &mut self,
+        depth: usize,
+        path: String<A>,
+        error: io::Error,
+    ) -> Result<(), AllocError>
+        ensures list { OnOk result (map item self.new.list.items
+            ≡ map item self.old.list.items ++ Err (io depth (Some (string_bytes path)) (error_kind error)) ∷ []) }
+        ensures chain { OnOk result (self.new.chain ≡ self.old.chain) }
+    {
+        let alloc = *self.list.allocator();
+        let path = Arc::new(alloc, path)?;
+        self.list.push(Err(Error::from_path(depth, path, error)))?;
+        Ok(())
+    }
+
+    /// Adds what reading a file of rules at a path ended in.
+    fn add_found(
+        &mut self,
+        source: Source<'_>,
+        path: String<A>,
+        found: Result<Option<Rules<A>>, Fault>,
+    ) -> Result<(), AllocError>
+        requires { string_bytes path ≡ path_of (source_value source) }
+        ensures value { (by : _) → AnswersValue (option_map rules_value) found by
+            → OnOk result (made_value self.new ≡ with_found (source_value source.entry) by (made_value self.old)) }
+        ensures depth { (depth : _) → AtDepth depth (map item self.old.list.items)
+            → OnOk result (AtDepth depth (map item self.new.list.items)) }
+    {
+        match found {
+            Ok(Some(rules)) => self.add_read(source, rules),
+            Ok(None) => Ok(()),
+            Err(Fault::Io(error)) => self.add_error(source.depth, path, error),
+            Err(Fault::Memory) => Err(AllocError),
+        }
+    }
+
+    /// Adds the rules of a file, or the error that reading it ended in.
+    pub(crate) fn add_rules<T: Texts>(
+        &mut self,
+        texts: &T,
+        source: Source<'_>,
+    ) -> Result<(), AllocError>
+        ensures value { T.IsFixed texts.now
+            → OnOk result (made_value self.new ≡ with_rules (T.functions texts.now) (source_value source.entry) (made_value self.old)) }
+        ensures depth { (depth : _) → AtDepth depth (map item self.old.list.items)
+            → OnOk result (AtDepth depth (map item self.new.list.items)) }
+    {
+        let alloc = *self.list.allocator();
+        let path = path_text::join(alloc, source.folder, file_of(source.kind))?;
+        let found = rules_at(texts, alloc, path.as_str(), source.may_miss);
+        self.add_found(source, path, found)
+    }
+
+    /// Goes into a directory that holds `.git`, if it does.
+    pub(crate) fn enter(&mut self, holds_git: bool) -> Result<(), AllocError>
+        ensures chain { OnOk result (chain_value self.new.chain ≡ entered holds_git (chain_value self.old.chain)) }
+        ensures list { self.new.list ≡ self.old.list }
+    {
+        let alloc = *self.list.allocator();
+        let chain = mem::take(&mut self.chain);
+        self.chain = chain.entered(alloc, holds_git)?;
+        Ok(())
+    }
+
+    /// Adds an item.
+    pub(crate) fn add_item(
+        &mut self,
+        found: Result<DirEntry<C, A>, Error<A>>,
+    ) -> Result<(), AllocError>
+        ensures value { OnOk result (made_value self.new ≡ with_item (item found) (made_value self.old)) }
+        ensures depth { (depth : _) → AtDepth depth (item found ∷ []) → AtDepth depth (map item self.old.list.items)
+            → OnOk result (AtDepth depth (map item self.new.list.items)) }
+    {
+        self.list.push(found)?;
+        Ok(())
+    }
+}
