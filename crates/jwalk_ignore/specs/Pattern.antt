@@ -17,7 +17,7 @@ pub mod Taken
 pub mod Token
 use Rattle.std.specs.Prelude.{ℕ, ◌==◌, Bool, true, false, IsTrue, List, [], ◌∷◌, length, Option, None, if◌then◌else◌}
 use Rattle.std.specs.Option.{option_map}
-use Rattle.jwalk_ignore.specs.Pattern.ByteTest.{ByteTest}
+use Rattle.jwalk_ignore.specs.Pattern.ByteTest.{ByteTest as Test}
 use Rattle.jwalk_ignore.specs.Pattern.NamePattern.{globs_value, IsReached}
 use Rattle.jwalk_ignore.specs.Pattern.Names.{names_of}
 use Rattle.jwalk_ignore.specs.Pattern.NamesRead.{parts_in}
@@ -31,7 +31,7 @@ use Rattle.jwalk_ignore.specs.declared.pattern.Pattern.{Pattern as CodePattern}
 pub record Pattern : Type 0 where
   pub keeps : Bool
   pub only_dirs : Bool
-  pub parts : List (Part (List (Part ByteTest)))
+  pub parts : List (Part (List (Part Test)))
 
 -- a pattern by value
 abbrev pub pattern_value : {A : Type 0} → CodePattern A → Pattern

@@ -36,7 +36,7 @@ pub struct Pattern<A: Allocator + Copy = Global> {
 }
 
 /// Returns a text without the slash that it begins with.
-fn without_first_slash(text: &[u8]) -> &[u8]
+pub fn without_first_slash(text: &[u8]) -> &[u8]
     ensures { result.now ≡ without_first_slash text.now }
 {
     match text {

@@ -1,13 +1,11 @@
 -- What is printed of a walk's answers.
-use Rattle.std.specs.Prelude.{◌≡◌, ℕ, Bool, true, false, not, List, [], Option, Result, Ok, Err, map, flat_map, is_ok, is_some, option_and_then, if◌then◌else◌}
+use Rattle.std.specs.Prelude.{◌≡◌, ℕ, Bool, true, false, not, List, [], Option, Result, Ok, Err, map, flat_map, is_some, option_and_then, if◌then◌else◌}
 use Rattle.std.specs.List.{list_all}
 use Rattle.std.specs.Iterator.{Drains}
 use Rattle.std.specs.Io.KnownBytes.{Appends}
 use Rattle.jwalk_core.specs.declared.dir_entry.DirEntry.{DirEntry}
 use Rattle.jwalk_core.specs.declared.error.Error.{Error}
 use Rattle.jwalk_core.specs.Entry.{item}
-use Rattle.jwalk_core.specs.Given.{Given, counted_list}
-use Rattle.jwalk_model.specs.Counted.{Worth}
 use Rattle.jwalk_model.specs.Entry.{Entry, Item}
 use Rattle.seek_words.specs.Paths.{line_of}
 use Rattle.seek_words.specs.Sought.{Sought, is_found}
@@ -39,11 +37,6 @@ pub record PrintsClean {R E : Type 0} (answers : List (Item R E)) (sought : Soug
   pub clean : list_all is_clean answers ≡ true
 
 module _ {S C A R E : Type 0} (steps : S → Option (Result (DirEntry C A R E) (Error A)) → S → Type 0) (answers : S) where
-  -- Calls of the iterator until it ends, where they yield entries alone, yield this, as it counts.
-  abbrev pub YieldsWhole : Given R E → List (Item Worth Worth) → Type 0
-  YieldsWhole given whole =
-      (answered : List (Result (DirEntry C A R E) (Error A))) → Drains steps answers answered → list_all is_ok answered ≡ true → counted_list given answered ≡ whole
-
   -- The iterator was called until it ended, the line of each answer that is looked for was printed, and the result says whether all answers are clean.
   abbrev pub PrintsFound : Sought → Style → Option (List ℕ) → Option (List ℕ) → Bool → Type 0
   PrintsFound sought style old new clean =

@@ -7,3 +7,4 @@ pub mod Search
 pub mod Run
 pub mod Found
 pub mod Options
+pub mod Printed

@@ -5,11 +5,11 @@ ghost use Rattle.jwalk.specs.jwalk_core.Entry.{item};
 ghost use Rattle.jwalk_ignore.specs.Rules.Chain.{is_ignored};
 ghost use Rattle.jwalk_ignore.specs.Rules.Matching.{patterns_say};
 ghost use Rattle.jwalk_ignore.specs.Rules.{rules_value};
-ghost use Rattle.seek_search.specs.Excluding.{lines_text, place_of, is_included};
+ghost use Rattle.seek_search.specs.Excluding.{behind, lines_text, place_of, is_included};
 
-use crate::below::behind;
 use jwalk::read_dir::ProcessReadDir;
 use jwalk::{ClientState, DirEntry, Error};
+use jwalk_ignore::pattern::without_first_slash;
 use jwalk_ignore::rules::Rules;
 use std::alloc::{AllocError, Allocator, Global};
 use std::mem;
@@ -34,6 +34,17 @@ fn text_of(alloc: Global, lines: &[&str]) -> Result<Vec<u8>, AllocError>
         text.push(b'\n')?;
     }
     Ok(text)
+}
+
+/// Returns what is behind this many bytes of a path, without a slash in front.
+fn behind(path: &[u8], len: usize) -> &[u8]
+    ensures { result.now ≡ behind len path.now }
+{
+    if len <= path.len() {
+        without_first_slash(&path[len..])
+    } else {
+        &[]
+    }
 }
 
 /// Returns where the names of a folder begin: its path behind the root, ended by a slash.

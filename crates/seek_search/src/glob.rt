@@ -6,8 +6,7 @@ ghost use Rattle.jwalk_ignore.specs.Rules.Matching.{matches};
 ghost use Rattle.jwalk_ignore.specs.Pattern.{pattern_value};
 ghost use Rattle.seek_search.specs.Glob.{folded, has_mark};
 
-use crate::below::without_first_slash;
-use jwalk_ignore::pattern::Pattern;
+use jwalk_ignore::pattern::{Pattern, without_first_slash};
 use std::alloc::{AllocError, Global};
 
 /// A glob that takes a whole name, or a whole path.

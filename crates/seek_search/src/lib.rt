@@ -2,7 +2,6 @@
 #![tactic(auto)]
 
 mod bad_pattern;
-mod below;
 mod excluding;
 pub mod found;
 mod glob;

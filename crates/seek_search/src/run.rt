@@ -1,19 +1,15 @@
 //! A call of the program.
 ghost use Rattle.std.specs.Prelude.{◌≡◌, ◌≤◌, ◌⊎◌, ℕ, Some, true, flat_map, map, string_bytes, Ok, IfOk};
 ghost use Rattle.std.specs.Arc.{arc_value};
-ghost use Rattle.std.specs.Io.KnownBytes.{append_known};
 ghost use Rattle.std.specs.Option.{option_map};
-ghost use Rattle.seek_words.specs.Filter.{sought_of};
-ghost use Rattle.seek_words.specs.Lines.{style_of as style_in, gathered_of};
 ghost use Rattle.seek_words.specs.Subject.{front_of};
-ghost use Rattle.seek_search.specs.Found.{PrintsClean};
+ghost use Rattle.seek_search.specs.Printed.{PrintsAll};
 ghost use Rattle.seek_words.specs.Asks.{texts_of};
 ghost use Rattle.seek_words.specs.AsksFor.{AskForText};
 ghost use Rattle.seek_words.specs.Refusal.{status_of as status_for};
 ghost use Rattle.seek_search.specs.Run.{PrintsAsked, Searches};
 ghost use Rattle.seek_search.specs.Search.{front_asked, sought_asked, style_asked, yielded_below, yielded_by};
 ghost use Rattle.seek_search.specs.Sought.{takes_by};
-ghost use Rattle.seek_search.specs.SoughtTest.{takes_of};
 
 use crate::printer::Printer;
 use crate::search::Search;
@@ -114,12 +110,10 @@ fn search_each<
     out: &mut W,
     err: &mut E,
 ) -> Result<bool, Halt>
-    ensures { IfOk result (λ clean. clean ≡ true → S.IsFixed (arc_value search.now.disk)
-        → X.IsFixed (arc_value search.now.texts) → PrintsClean
+    ensures { IfOk result (λ clean. S.IsFixed (arc_value search.now.disk) → X.IsFixed (arc_value search.now.texts)
+        → PrintsAll
         (flat_map (yielded_below (S.functions (arc_value search.now.disk)) (X.functions (arc_value search.now.texts)) search.now.asked.now)
-        (texts_of roots.now)) (sought_of takes_of printer.old.filter) (style_in printer.old.lines)
-        (append_known (W.contents out.old) (gathered_of printer.old.lines))
-        (append_known (W.contents out.new) (gathered_of printer.new.lines))) }
+        (texts_of roots.now)) printer.old printer.new (W.contents out.old) (W.contents out.new) clean) }
 {
     let mut clean = true;
     for root in roots {
@@ -142,12 +136,10 @@ fn search_roots<
     out: &mut W,
     err: &mut E,
 ) -> Result<bool, Halt>
-    ensures { IfOk result (λ clean. clean ≡ true → S.IsFixed (arc_value search.now.disk)
-        → X.IsFixed (arc_value search.now.texts) → PrintsClean
+    ensures { IfOk result (λ clean. S.IsFixed (arc_value search.now.disk) → X.IsFixed (arc_value search.now.texts)
+        → PrintsAll
         (yielded_by (S.functions (arc_value search.now.disk)) (X.functions (arc_value search.now.texts)) search.now.asked.now)
-        (sought_of takes_of printer.old.filter) (style_in printer.old.lines)
-        (append_known (W.contents out.old) (gathered_of printer.old.lines))
-        (append_known (W.contents out.new) (gathered_of printer.new.lines))) }
+        printer.old printer.new (W.contents out.old) (W.contents out.new) clean) }
 {
     let roots = search.asked.roots.as_slice();
     if roots.is_empty() {

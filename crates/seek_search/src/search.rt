@@ -1,17 +1,14 @@
 //! A search below roots.
-ghost use Rattle.std.specs.Prelude.{◌≡◌, true, is_some, IfOk};
+ghost use Rattle.std.specs.Prelude.{◌≡◌, IfOk};
 ghost use Rattle.std.specs.Arc.{arc_value};
-ghost use Rattle.std.specs.Io.KnownBytes.{append_known};
 ghost use Rattle.seek_words.specs.Filter.{sought_of};
-ghost use Rattle.seek_words.specs.Lines.{style_of, gathered_of};
-ghost use Rattle.jwalk.specs.DirEntryIter.{Answers};
-ghost use Rattle.jwalk.specs.Each.{BeginsOver};
+ghost use Rattle.seek_words.specs.Lines.{style_of};
 ghost use Rattle.jwalk.specs.WalkDir.{callback_of, file_system_of, options_of, root_of, state_of};
 ghost use Rattle.jwalk_ignore.specs.Callback.Given.{no_rules_yet, rules_alone};
 ghost use Rattle.jwalk_ignore.specs.Callback.IgnoreViews.{next_of, settings_of, texts_of};
-ghost use Rattle.seek_search.specs.Found.{PrintsClean, PrintsFound, YieldsWhole};
 ghost use Rattle.seek_search.specs.Excluding.{excluded_of};
-ghost use Rattle.seek_search.specs.Search.{all_below, excluded_asked, given_all, given_kept, ignoring_walk, kept_below, walk_options, yielded_below};
+ghost use Rattle.seek_search.specs.Printed.{PrintsAll, PrintsWalk};
+ghost use Rattle.seek_search.specs.Search.{all_below, excluded_asked, ignoring_walk, kept_below, walk_options, yielded_below};
 ghost use Rattle.seek_search.specs.SoughtTest.{takes_of};
 
 use crate::excluding::Excluding;
@@ -20,15 +17,15 @@ use crate::kept_rules::{KeptRules, KeptStates};
 use crate::options::WalkOptions;
 use crate::printer::Printer;
 use crate::sought_test::SoughtTest;
-use jwalk::crew::Session;
 use jwalk::file_system::FileSystem;
 use jwalk::read_dir::{NoProcess, ProcessReadDir};
-use jwalk::{ClientState, Crew, DirEntryIter, Readers, WalkDirGeneric};
+use jwalk::{ClientState, Crew, WalkDirGeneric};
+use jwalk_ignore::builder::with_hidden_shown;
 use jwalk_ignore::ignore_files::IgnoreFiles;
 use jwalk_ignore::texts::Texts;
 use seek_words::asked::Asked;
 use seek_words::halt::Halt;
-use std::alloc::{AllocError, Global};
+use std::alloc::Global;
 use std::io::Write;
 use std::sync::{Arc, Wait};
 use std::thread::Threads;
@@ -36,15 +33,6 @@ use std::time::Clock;
 
 /// A walk that isn't begun, with the states of ignore files.
 type Plain<T, S> = WalkDirGeneric<KeptStates, Arc<S>, NoProcess, Global, Crew<T>>;
-
-/// A walk under way without ignore files.
-type All<T, S> = DirEntryIter<
-    ((), ()),
-    Arc<S>,
-    Excluding,
-    Global,
-    Session<T, ((), ()), Arc<S>, Excluding, Global>,
->;
 
 /// Begins a walk that a crew may read for, and prints what is found by it.
 fn print_begun<
@@ -64,13 +52,8 @@ where
     C::ReadDirState: Send + 'static,
     C::DirEntryState: Send + 'static,
     requires { P.IsLawful (callback_of walk) }
-    ensures printed { (it : _) × BeginsOver S.FileSystem P.ProcessReadDir C.ReadDirState.Clone C.DirEntryState.Default
-        ⟦<Session<T, C, S, P, Global> as Readers<C, S, P, Global>>⟧ walk it
-        × IfOk result (PrintsFound (Answers S.FileSystem P.ProcessReadDir C.ReadDirState.Clone C.DirEntryState.Default
-        ⟦<Session<T, C, S, P, Global> as Readers<C, S, P, Global>>⟧) it
-        (sought_of takes_of printer.old.filter) (style_of printer.old.lines)
-        (append_known (W.contents out.old) (gathered_of printer.old.lines))
-        (append_known (W.contents out.new) (gathered_of printer.new.lines))) }
+    ensures whole { IfOk result (PrintsWalk S.FileSystem P.ProcessReadDir C.ReadDirState.Clone C.DirEntryState.Default walk
+        printer.old printer.new (W.contents out.old) (W.contents out.new)) }
     ensures sought { sought_of takes_of printer.new.filter ≡ sought_of takes_of printer.old.filter }
     ensures style { style_of printer.new.lines ≡ style_of printer.old.lines }
 {
@@ -92,19 +75,15 @@ fn search_walk<
     out: &mut W,
     err: &mut E,
 ) -> Result<bool, Halt>
-    ensures whole { IfOk result (λ clean. clean ≡ true → S.IsFixed (arc_value (file_system_of walk))
-        → X.IsFixed (arc_value (texts_of rules)) → rules_alone (state_of walk) ≡ no_rules_yet → PrintsClean
+    ensures whole { IfOk result (λ clean. S.IsFixed (arc_value (file_system_of walk)) → X.IsFixed (arc_value (texts_of rules))
+        → rules_alone (state_of walk) ≡ no_rules_yet → PrintsAll
         (ignoring_walk (S.functions (arc_value (file_system_of walk))) (X.functions (arc_value (texts_of rules)))
         (settings_of rules) (excluded_of (next_of rules)) (options_of walk) (root_of walk))
-        (sought_of takes_of printer.old.filter) (style_of printer.old.lines)
-        (append_known (W.contents out.old) (gathered_of printer.old.lines))
-        (append_known (W.contents out.new) (gathered_of printer.new.lines))) }
+        printer.old printer.new (W.contents out.old) (W.contents out.new) clean) }
     ensures sought { sought_of takes_of printer.new.filter ≡ sought_of takes_of printer.old.filter }
     ensures style { style_of printer.new.lines ≡ style_of printer.old.lines }
 {
-    let walk = walk
-        .skip_hidden(false)
-        .process_read_dir(KeptRules { rules });
+    let walk = with_hidden_shown(walk, KeptRules { rules });
     print_begun(walk, printer, out, err)
 }
 
@@ -136,25 +115,6 @@ impl<
         }
     }
 
-    /// Begins the walk below a root without ignore files.
-    fn begin_all(&self, alloc: Global, root: &str) -> Result<All<T, S>, AllocError>
-        ensures { IfOk result (λ it. S.IsFixed (arc_value self.now.disk) → YieldsWhole
-            (Answers ⟦<Arc<S> as FileSystem>⟧ ⟦<Excluding as ProcessReadDir<((), ()), Global>>⟧
-            ⟦<() as Clone>⟧ ⟦<() as Default>⟧
-            ⟦<Session<T, ((), ()), Arc<S>, Excluding, Global> as Readers<((), ()), Arc<S>, Excluding, Global>>⟧)
-            it (given_all (excluded_asked self.now.asked.now root.now))
-            (all_below (S.functions (arc_value self.now.disk)) self.now.asked.now
-            (excluded_asked self.now.asked.now root.now) root.now)) }
-    {
-        let excluding = Excluding::new(alloc, self.asked.excludes.as_slice(), root)?;
-        let root = String::from_str(alloc, root)?;
-        let disk = self.disk.clone()?;
-        let walk = self
-            .options()
-            .walk_of::<((), ()), _, _, _>(disk, root, &self.crew)?;
-        Ok(walk.process_read_dir(excluding).into_iter())
-    }
-
     /// Searches below a root without ignore files.
     fn search_all<W: Write, E: Write>(
         &self,
@@ -164,17 +124,20 @@ impl<
         out: &mut W,
         err: &mut E,
     ) -> Result<bool, Halt>
-        ensures whole { IfOk result (λ clean. clean ≡ true → S.IsFixed (arc_value self.now.disk) → PrintsClean
+        ensures whole { IfOk result (λ clean. S.IsFixed (arc_value self.now.disk) → PrintsAll
             (all_below (S.functions (arc_value self.now.disk)) self.now.asked.now
             (excluded_asked self.now.asked.now root.now) root.now)
-            (sought_of takes_of printer.old.filter) (style_of printer.old.lines)
-            (append_known (W.contents out.old) (gathered_of printer.old.lines))
-            (append_known (W.contents out.new) (gathered_of printer.new.lines))) }
+            printer.old printer.new (W.contents out.old) (W.contents out.new) clean) }
         ensures sought { sought_of takes_of printer.new.filter ≡ sought_of takes_of printer.old.filter }
         ensures style { style_of printer.new.lines ≡ style_of printer.old.lines }
     {
-        let mut answers = self.begin_all(alloc, root)?;
-        print_found(&mut answers, printer, out, err)
+        let excluding = Excluding::new(alloc, self.asked.excludes.as_slice(), root)?;
+        let root = String::from_str(alloc, root)?;
+        let disk = self.disk.clone()?;
+        let walk = self
+            .options()
+            .walk_of::<((), ()), _, _, _>(disk, root, &self.crew)?;
+        print_begun(walk.process_read_dir(excluding), printer, out, err)
     }
 
     /// Searches below a root, with its ignore files.
@@ -186,13 +149,11 @@ impl<
         out: &mut W,
         err: &mut E,
     ) -> Result<bool, Halt>
-        ensures whole { IfOk result (λ clean. clean ≡ true → S.IsFixed (arc_value self.now.disk)
-            → X.IsFixed (arc_value self.now.texts) → PrintsClean
+        ensures whole { IfOk result (λ clean. S.IsFixed (arc_value self.now.disk) → X.IsFixed (arc_value self.now.texts)
+            → PrintsAll
             (kept_below (S.functions (arc_value self.now.disk)) (X.functions (arc_value self.now.texts)) self.now.asked.now
             (excluded_asked self.now.asked.now root.now) root.now)
-            (sought_of takes_of printer.old.filter) (style_of printer.old.lines)
-            (append_known (W.contents out.old) (gathered_of printer.old.lines))
-            (append_known (W.contents out.new) (gathered_of printer.new.lines))) }
+            printer.old printer.new (W.contents out.old) (W.contents out.new) clean) }
         ensures sought { sought_of takes_of printer.new.filter ≡ sought_of takes_of printer.old.filter }
         ensures style { style_of printer.new.lines ≡ style_of printer.old.lines }
     {
@@ -217,12 +178,10 @@ impl<
         out: &mut W,
         err: &mut E,
     ) -> Result<bool, Halt>
-        ensures whole { IfOk result (λ clean. clean ≡ true → S.IsFixed (arc_value self.now.disk)
-            → X.IsFixed (arc_value self.now.texts) → PrintsClean
+        ensures whole { IfOk result (λ clean. S.IsFixed (arc_value self.now.disk) → X.IsFixed (arc_value self.now.texts)
+            → PrintsAll
             (yielded_below (S.functions (arc_value self.now.disk)) (X.functions (arc_value self.now.texts)) self.now.asked.now root.now)
-            (sought_of takes_of printer.old.filter) (style_of printer.old.lines)
-            (append_known (W.contents out.old) (gathered_of printer.old.lines))
-            (append_known (W.contents out.new) (gathered_of printer.new.lines))) }
+            printer.old printer.new (W.contents out.old) (W.contents out.new) clean) }
         ensures sought { sought_of takes_of printer.new.filter ≡ sought_of takes_of printer.old.filter }
         ensures style { style_of printer.new.lines ≡ style_of printer.old.lines }
     {

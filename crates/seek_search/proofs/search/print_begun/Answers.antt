@@ -1,10 +1,22 @@
-use Rattle.std.proofs.Common.{subst, sym}
+use Rattle.std.proofs.Common.{◌∙◌, map, subst, sym}
+use Rattle.std.proofs.lemmas.Result.{IfOk-weaker}
+use Rattle.jwalk.specs.jwalk_core.Entry.{item}
+use Rattle.jwalk.proofs.CleanFacts.{clean_whole}
+use Rattle.jwalk.proofs.WholeFacts.{steady_begun}
+use Rattle.seek_search.proofs.WholeFacts.{clean_entries, printed_whole}
 use Rattle.seek_search.proofs.search.print_begun.Goals as goal
 
 pub print_found-requires : goal.print_found-requires
 print_found-requires g c = subst g.P.ProcessReadDir.IsLawful (sym c.into_iter-answers.ensures.starts.callback) c.requires
 
-pub returns-clause-printed : goal.returns-clause-printed
-returns-clause-printed g c =
+pub returns-clause-whole : goal.returns-clause-whole
+returns-clause-whole g c =
+    let walk = c.args.walk in
+    let it = c.into_iter-answers.result in
     let begun = c.into_iter-answers.ensures in
-    (c.into_iter-answers.result, record { starts = begun.starts; begins = begun.begins; steady = begun.steady }, c.print_found.ensures.printed)
+    IfOk-weaker c.print_found.result _ _
+    (λ clean prints. λ given steady is.
+    let steadily = steady_begun _ _ _ _ _ given walk it begun.steady begun.starts steady in
+    printed_whole given _ _ _ _ clean (map item prints.0) _ is prints.2 prints.3
+    (clean_whole _ _ _ _ _ given walk it prints.0 begun.begins.0 begun.begins.1.holds steadily begun.starts steady prints.1 (clean_entries prints.0 (sym prints.2 ∙ is))))
+    c.print_found.ensures.printed

@@ -1,14 +1,45 @@
-use Rattle.std.proofs.Common.{◌∙◌, map, sym}
+use Rattle.std.proofs.Common.{◌≡◌, ◌∙◌, ap, refl, subst, sym}
+use Rattle.std.specs.Prelude.{is_some}
+use Rattle.std.specs.Arc.{arc_value}
 use Rattle.std.proofs.lemmas.Result.{IfOk-weaker}
-use Rattle.jwalk.specs.jwalk_core.Entry.{item}
-use Rattle.seek_search.proofs.WholeFacts.{clean_entries, printed_whole}
-use Rattle.seek_search.specs.Search.{excluded_asked, given_all}
+use Rattle.jwalk.specs.jwalk_model.Counted.{blank}
+use Rattle.jwalk.specs.jwalk_core.Job.{IsSteady}
+use Rattle.jwalk.specs.WalkDir.{file_system_of, callback_of, options_of, root_of}
+use Rattle.seek_search.specs.Options.{options_for, with_crew}
+use Rattle.seek_search.specs.declared.options.WalkOptions.{WalkOptions}
+use Rattle.seek_words.specs.Asks.{texts_of}
+use Rattle.seek_search.specs.Excluding.{Excluded, excluded_by, excluded_of, excluding}
+use Rattle.seek_search.specs.Search.{excluded_asked, given_all, options_asked}
+use Rattle.seek_search.proofs.CleanFacts.{printed_as}
+use Rattle.seek_search.proofs.SearchFacts.{whole_of, same_by_crew}
 use Rattle.seek_search.proofs.search.Search.search_all.Goals as goal
 
 pub returns-clause-whole : goal.returns-clause-whole
 returns-clause-whole g c =
-    IfOk-weaker c.print_found.result _ _
-    (λ clean prints. λ is fixed.
-    printed_whole (given_all (excluded_asked c.args.self.now.asked.now c.args.root.now)) _ _ _ _ clean (map item prints.0) _ is prints.2 prints.3
-    (c.in_ok-answers.ensures fixed prints.0 prints.1 (clean_entries prints.0 (sym prints.2 ∙ is))))
-    c.print_found.ensures.printed
+    let self = c.args.self.now in
+    let asked = self.asked.now in
+    let built = c.in_ok-walk.ensures in
+    let set = c.process_read_dir.ensures in
+    let walk = c.process_read_dir.result in
+    let excluded = excluded_asked asked c.args.root.now in
+    let given = given_all excluded in
+    let over : arc_value (file_system_of walk) ≡ arc_value self.disk = ap arc_value (set.file_system ∙ built.file_system) ∙ c.in_ok-disk.ensures.cases in
+    let lines : excluded_of (callback_of walk) ≡ excluded
+    = ap excluded_of set.callback ∙ c.in_ok-excluding.ensures ∙ ap (λ l. excluded_by (texts_of l) c.args.root.now) c.as_slice.ensures.value in
+    let options : options_of walk ≡ with_crew (is_some self.crew) (options_asked asked)
+    = set.options ∙ built.options ∙ ap (λ (o : WalkOptions). options_for o (is_some self.crew)) c.options.ensures in
+    let root : root_of walk ≡ c.args.root.now = set.root ∙ built.root ∙ c.in_ok-root.ensures.ok in
+    IfOk-weaker c.print_begun.result _ _
+    (λ clean whole. λ fixed is.
+    let steady : IsSteady _ _ _ _ (file_system_of walk) (callback_of walk) given
+    = record {
+      file_system = subst g.S.FileSystem.IsFixed (sym over) fixed;
+      callback = λ depth path state list. ap (λ (x : Excluded). excluding x depth path state list) (sym lines);
+      clones = λ x y h. refl;
+      default = λ x h. refl;
+    } in
+    printed_as
+    (whole_of (excluding excluded) (ap g.S.FileSystem.functions over) options root refl
+    ∙ same_by_crew (excluding excluded) (is_some self.crew) (g.S.FileSystem.functions (arc_value self.disk)) (options_asked asked) c.args.root.now blank)
+    (whole given steady is))
+    c.print_begun.ensures.whole

@@ -1,0 +1,32 @@
+-- What a search prints, if there is no error.
+use Rattle.std.specs.Prelude.{◌≡◌, ℕ, Bool, true, List, Option}
+use Rattle.std.specs.Io.KnownBytes.{append_known}
+use Rattle.std.specs.declared.clone.Clone as Clone
+use Rattle.std.specs.declared.default.Default as Default
+use Rattle.jwalk.specs.jwalk_model.Entry.{Item}
+use Rattle.jwalk.specs.jwalk_model.Walk.{whole_walk}
+use Rattle.jwalk_fs.specs.declared.file_system.FileSystem as FileSystem
+use Rattle.jwalk_core.specs.declared.process_read_dir.ProcessReadDir as ProcessReadDir
+use Rattle.jwalk.specs.jwalk_core.Given.{Given}
+use Rattle.jwalk.specs.jwalk_core.Job.{IsSteady}
+use Rattle.jwalk.specs.WalkDir.{callback_of, file_system_of, job_for, root_of, state_of}
+use Rattle.jwalk.specs.declared.walk_dir.WalkDirGeneric.{WalkDirGeneric}
+use Rattle.seek_words.specs.Filter.{sought_of}
+use Rattle.seek_words.specs.Lines.{gathered_of, style_of}
+use Rattle.seek_search.specs.Found.{PrintsClean}
+use Rattle.seek_search.specs.SoughtTest.{takes_of}
+use Rattle.seek_search.specs.declared.printer.Printer.{Printer}
+use Rattle.seek_search.specs.declared.sought_test.SoughtTest.{SoughtTest}
+
+-- If there was no error, the line of each of these answers that a printer looks for is written, or gathered by it.
+abbrev pub PrintsAll : {R E : Type 0} → List (Item R E) → Printer SoughtTest → Printer SoughtTest → Option (List ℕ) → Option (List ℕ) → Bool → Type 0
+PrintsAll answers old new before after clean =
+    clean ≡ true → PrintsClean answers (sought_of takes_of old.filter) (style_of old.lines)
+    (append_known before (gathered_of old.lines)) (append_known after (gathered_of new.lines))
+
+-- So it is of all that a walk yields, whatever is given of it.
+abbrev pub PrintsWalk : {C S P A W R E : Type 0} → FileSystem.Ghosts S → ProcessReadDir.Ghosts P C A R E → Clone.Ghosts R → Default.Ghosts E → WalkDirGeneric C S P A W R E
+    → Printer SoughtTest → Printer SoughtTest → Option (List ℕ) → Option (List ℕ) → Bool → Type 0
+PrintsWalk {R = R} {E = E} files process clone defaults walk old new before after clean =
+    (given : Given R E) → IsSteady files process clone defaults (file_system_of walk) (callback_of walk) given
+    → PrintsAll (whole_walk (job_for files given walk) (root_of walk) (given.read_dir_state (state_of walk))) old new before after clean
