@@ -1,15 +1,15 @@
 -- One entry counted by what it keeps, and then by what the file system returns of it.
-use Rattle.std.proofs.Common.{◌≡◌, ◌+◌, ◌≤◌, ◌^◌, ℕ, Bool, true, false, cond, ◌&&◌, Option, Some, None, Result, Ok, Err, refl, arith}
-use Rattle.std.specs.Prelude.{max, option_map, unwrap_or, is_err, not}
+use Rattle.std.proofs.Common.{◌≡◌, ◌+◌, ◌≤◌, ◌^◌, ℕ, Bool, true, false, cond, ◌&&◌, Option, Some, None, Result, Ok, refl, arith}
+use Rattle.std.specs.Prelude.{option_map, unwrap_or, is_err}
 use Rattle.std.specs.Option.{is_none}
 use Rattle.std.specs.declared.io.ErrorKind.{ErrorKind}
 use Rattle.jwalk.specs.jwalk_model.declared.metadata.Metadata.{Metadata}
 use Rattle.jwalk.specs.jwalk_model.FileType.{is_file}
 use Rattle.jwalk.specs.jwalk_model.FileSystem.{Functions}
-use Rattle.jwalk.specs.jwalk_model.Entry.{Entry, Item, metadata_of}
+use Rattle.jwalk.specs.jwalk_model.Entry.{Entry, metadata_of}
 use Rattle.jwalk_usage.specs.declared.report.Usage.{Usage}
-use Rattle.jwalk_usage.specs.Totals.{one_if, has_failed, length_in, is_asked, errors_of, bytes_of}
-use Rattle.jwalk_usage.specs.Kept.{length_kept, errors_kept, bytes_kept, with_kept}
+use Rattle.jwalk_usage.specs.Totals.{one_if, has_failed, length_in, is_asked}
+use Rattle.jwalk_usage.specs.Kept.{length_kept, with_kept}
 use Rattle.jwalk_usage.specs.Counts.{with_length, with_one, IsTooGreat}
 use Rattle.jwalk_usage.proofs.TotalFacts.{by_numbers}
 use Rattle.jwalk_usage.proofs.GrowFacts.{either}

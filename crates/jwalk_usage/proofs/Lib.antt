@@ -1,5 +1,4 @@
 pub mod TotalFacts
-pub mod KeptFacts
 pub mod CountFacts
 pub mod StateFacts
 pub mod AddFacts

@@ -1,12 +1,10 @@
--- Totals by sizes, with one more answer, and what walks with sizes come to.
-use Rattle.std.proofs.Common.{◌≡◌, ◌+◌, ℕ, Bool, true, false, cond, ◌&&◌, List, [], ◌∷◌, ◌++◌, Option, Some, None, Result, Ok, Err, map, refl, sym, ap, subst, ◌∙◌}
+-- What walks with sizes come to.
+use Rattle.std.proofs.Common.{◌≡◌, ◌+◌, ℕ, Bool, true, false, cond, ◌&&◌, List, Option, Some, None, Result, Ok, Err, map, refl, sym, ap, ◌∙◌}
 use Rattle.std.specs.Prelude.{option_map, is_err}
-use Rattle.std.specs.List.{sum_by}
 use Rattle.std.specs.declared.io.ErrorKind.{ErrorKind}
-use Rattle.std.proofs.lemmas.List.Sums.{sum_by_push}
 use Rattle.jwalk.specs.jwalk_model.declared.metadata.Metadata.{Metadata}
 use Rattle.jwalk.specs.jwalk_model.declared.file_type.FileType.{FileType}
-use Rattle.jwalk.specs.jwalk_model.FileType.{is_dir, is_file, is_symlink}
+use Rattle.jwalk.specs.jwalk_model.FileType.{is_file}
 use Rattle.jwalk.specs.jwalk_model.FileSystem.{Functions}
 use Rattle.jwalk.specs.jwalk_model.Options.{Options, with_keep_metadata}
 use Rattle.jwalk.specs.jwalk_model.Entry.{Children, Entry, Item, metadata_of}
@@ -20,16 +18,10 @@ use Rattle.jwalk.specs.jwalk_callbacks.declared.size.Size.TheVariants.{Unasked, 
 use Rattle.jwalk.specs.jwalk_callbacks.WithSizes.{with_asked, counted_size, size_worth, sizing, job_sizing}
 use Rattle.jwalk.proofs.SizedWalks.{walks_are_sized}
 use Rattle.jwalk_usage.specs.declared.report.Usage.{Usage}
-use Rattle.jwalk_usage.specs.Totals.{one_if, is_other, has_failed, length_in, entry_of, errors_of, bytes_of, totals}
-use Rattle.jwalk_usage.specs.Sized.{is_failure, length_of, errors_in, bytes_in, sized_totals, with_sized, SizesAddUp}
-use Rattle.jwalk_usage.proofs.TotalFacts.{by_numbers}
-use Rattle.jwalk_usage.proofs.StateFacts.{sum_same, same_type, same_totals}
-
-module _ {R : Type 0} (l : List (Item R Size)) (x : Item R Size) where
-  -- the totals with one more answer
-  pub sized_push : sized_totals (l ++ x ∷ []) ≡ with_sized x (sized_totals l)
-  sized_push = by_numbers _ _ _ _ _ _ _ _ _ _ _ _
-      (sum_by_push (entry_of is_file) l x) (sum_by_push (entry_of is_dir) l x) (sum_by_push (entry_of is_symlink) l x) (sum_by_push (entry_of is_other) l x) (sum_by_push errors_in l x) (sum_by_push bytes_in l x)
+use Rattle.jwalk_usage.specs.Totals.{one_if, has_failed, length_in, entry_of, totals_by, errors_of, bytes_of, totals}
+use Rattle.jwalk_usage.specs.Sized.{is_failure, length_of, errors_in, bytes_in, sized_totals, SizesAddUp}
+use Rattle.jwalk_usage.proofs.TotalFacts.{totals_same}
+use Rattle.jwalk_usage.proofs.StateFacts.{same_type, same_totals}
 
 -- what a state that counts as a size says
 abbrev counts_failed : Worth → Bool
@@ -50,14 +42,7 @@ module _ {R : Type 0} where
   counted_bytes (Err f) = 0
 
   abbrev counted_totals : List (Item R Worth) → Usage
-  counted_totals l = record {
-    files = sum_by (entry_of is_file) l;
-    dirs = sum_by (entry_of is_dir) l;
-    links = sum_by (entry_of is_symlink) l;
-    others = sum_by (entry_of is_other) l;
-    errors = sum_by counted_errors l;
-    bytes = sum_by counted_bytes l;
-  }
+  counted_totals l = totals_by counted_errors counted_bytes l
 
 failed_counts : (s : Size) → counts_failed (size_worth s) ≡ is_failure s
 failed_counts Unasked = refl
@@ -87,11 +72,7 @@ module _ {B : Type 0} (fs : Functions) where
 
   -- totals by sizes, as these count
   sized_counted : (l : List (Item B Size)) → counted_totals (map counted l) ≡ sized_totals l
-  sized_counted l =
-      let type = same_type (sizing {R = B} fs) in
-      by_numbers _ _ _ _ _ _ _ _ _ _ _ _
-      (sum_same counted _ _ (type is_file) l) (sum_same counted _ _ (type is_dir) l) (sum_same counted _ _ (type is_symlink) l) (sum_same counted _ _ (type is_other) l)
-      (sum_same counted _ _ errors_counted l) (sum_same counted _ _ bytes_counted l)
+  sized_counted l = totals_same counted counted_errors counted_bytes errors_in bytes_in (same_type (sizing {R = B} fs)) errors_counted bytes_counted l
 
 module _ (fs : Functions) where
   abbrev with_asked_size : Item Worth Worth → Item Worth Worth
@@ -125,18 +106,17 @@ module _ (fs : Functions) where
   bytes_asked (Ok e) = bytes_if e (is_file e.file_type) refl
   bytes_asked (Err f) = refl
 
-  type_forgotten : (is : FileType → Bool) (x : Item Worth Worth) → entry_of is (with_asked_size x) ≡ entry_of is (forgotten_item x)
-  type_forgotten is (Ok e) = type_asked is (Ok e)
+  type_forgotten : (is : FileType → Bool) (x : Item Worth Worth) → entry_of is (forgotten_item x) ≡ entry_of is x
+  type_forgotten is (Ok e) = refl
   type_forgotten is (Err f) = refl
-
-  both_views : (f g : Item Worth Worth → ℕ) → ((x : Item Worth Worth) → f (with_asked_size x) ≡ g (forgotten_item x)) → (l : List (Item Worth Worth)) → sum_by f (map with_asked_size l) ≡ sum_by g (map forgotten_item l)
-  both_views f g each l = sum_same with_asked_size f (λ x. g (forgotten_item x)) each l ∙ sym (sum_same forgotten_item g (λ x. g (forgotten_item x)) (λ x. refl) l)
 
   -- what is asked counts as the file system returns it
   totals_asked : (l : List (Item Worth Worth)) → counted_totals (map with_asked_size l) ≡ totals fs (map forgotten_item l)
-  totals_asked l = by_numbers _ _ _ _ _ _ _ _ _ _ _ _
-      (both_views _ _ (type_forgotten is_file) l) (both_views _ _ (type_forgotten is_dir) l) (both_views _ _ (type_forgotten is_symlink) l) (both_views _ _ (type_forgotten is_other) l)
-      (both_views _ _ errors_asked l) (both_views _ _ bytes_asked l)
+  totals_asked l =
+      let found_errors : Item Worth Worth → ℕ = λ x. errors_of fs (forgotten_item x) in
+      let found_bytes : Item Worth Worth → ℕ = λ x. bytes_of fs (forgotten_item x) in
+      totals_same with_asked_size counted_errors counted_bytes found_errors found_bytes type_asked errors_asked bytes_asked l
+      ∙ sym (totals_same forgotten_item (errors_of fs) (bytes_of fs) found_errors found_bytes type_forgotten (λ x. refl) (λ x. refl) l)
 
 -- a walk with no callback that keeps no metadata is the one that keeps some, once they are forgotten
 pub forgotten_walk : (fs : Functions) (options : Options) (root : List ℕ) → map forgotten_item (stateless_walk fs options root) ≡ stateless_walk fs (with_keep_metadata false options) root

@@ -1,19 +1,12 @@
 -- Totals don't depend on states.
-use Rattle.std.proofs.Common.{◌≡◌, ◌+◌, ℕ, List, [], ◌∷◌, map, Some, None, Ok, Err, refl, sym, ap₂, ◌∙◌}
-use Rattle.std.specs.List.{sum_by}
-use Rattle.std.proofs.lemmas.List.Sums.{sum_by-cons}
-use Rattle.jwalk.specs.jwalk_model.FileType.{is_dir, is_file, is_symlink}
+use Rattle.std.proofs.Common.{◌≡◌, Bool, List, map, Some, None, Ok, Err, refl}
+use Rattle.jwalk.specs.jwalk_model.declared.file_type.FileType.{FileType}
 use Rattle.jwalk.specs.jwalk_model.FileSystem.{Functions}
 use Rattle.jwalk.specs.jwalk_model.Entry.{Item}
 use Rattle.jwalk.specs.jwalk_core.Given.{Given, counted_item}
-use Rattle.jwalk_usage.specs.Totals.{is_other, entry_of, errors_of, bytes_of, totals}
+use Rattle.jwalk_usage.specs.Totals.{entry_of, errors_of, bytes_of, totals}
 use Rattle.jwalk_usage.specs.Kept.{errors_kept, bytes_kept, kept_totals}
-use Rattle.jwalk_usage.proofs.TotalFacts.{by_numbers}
-
--- a sum over other items that count the same
-pub sum_same : {X Y : Type 0} (view : X → Y) (f : Y → ℕ) (g : X → ℕ) → ((x : X) → f (view x) ≡ g x) → (l : List X) → sum_by f (map view l) ≡ sum_by g l
-sum_same view f g each [] = refl
-sum_same view f g each (x ∷ l) = sum_by-cons f (view x) (map view l) ∙ ap₂ (λ a b. a + b) (each x) (sum_same view f g each l) ∙ sym (sum_by-cons g x l)
+use Rattle.jwalk_usage.proofs.TotalFacts.{totals_same}
 
 module _ {R E : Type 0} (given : Given R E) where
   same_errors : (fs : Functions) (x : Item R E) → errors_of fs (counted_item given x) ≡ errors_of fs x
@@ -24,17 +17,13 @@ module _ {R E : Type 0} (given : Given R E) where
   same_bytes fs (Err f) = refl
   same_bytes fs (Ok e) = refl
 
-  pub same_type : (is : _) (x : Item R E) → entry_of is (counted_item given x) ≡ entry_of is x
+  pub same_type : (is : FileType → Bool) (x : Item R E) → entry_of is (counted_item given x) ≡ entry_of is x
   same_type is (Err f) = refl
   same_type is (Ok e) = refl
 
   -- the totals of items as their states count
   pub same_totals : (fs : Functions) (l : List (Item R E)) → totals fs (map (counted_item given) l) ≡ totals fs l
-  same_totals fs l =
-      let view = counted_item given in
-      by_numbers _ _ _ _ _ _ _ _ _ _ _ _
-      (sum_same view _ _ (same_type is_file) l) (sum_same view _ _ (same_type is_dir) l) (sum_same view _ _ (same_type is_symlink) l) (sum_same view _ _ (same_type is_other) l)
-      (sum_same view _ _ (same_errors fs) l) (sum_same view _ _ (same_bytes fs) l)
+  same_totals fs l = totals_same (counted_item given) (errors_of fs) (bytes_of fs) (errors_of fs) (bytes_of fs) same_type (same_errors fs) (same_bytes fs) l
 
   same_kept_errors : (x : Item R E) → errors_kept (counted_item given x) ≡ errors_kept x
   same_kept_errors (Err f) = refl
@@ -46,8 +35,4 @@ module _ {R E : Type 0} (given : Given R E) where
 
   -- and so are those by the metadata that items keep
   pub same_kept : (l : List (Item R E)) → kept_totals (map (counted_item given) l) ≡ kept_totals l
-  same_kept l =
-      let view = counted_item given in
-      by_numbers _ _ _ _ _ _ _ _ _ _ _ _
-      (sum_same view _ _ (same_type is_file) l) (sum_same view _ _ (same_type is_dir) l) (sum_same view _ _ (same_type is_symlink) l) (sum_same view _ _ (same_type is_other) l)
-      (sum_same view _ _ same_kept_errors l) (sum_same view _ _ same_kept_bytes l)
+  same_kept l = totals_same (counted_item given) errors_kept bytes_kept errors_kept bytes_kept same_type same_kept_errors same_kept_bytes l

@@ -14,7 +14,7 @@ use Rattle.jwalk.specs.DirEntryIter.{TellsMemory, NoneRefused}
 use Rattle.jwalk_usage.specs.declared.report.Usage.{Usage}
 use Rattle.jwalk_usage.specs.declared.report.UsageFault.{UsageFault}
 use Rattle.jwalk_usage.specs.declared.report.UsageFault.TheVariants.{TooMany, Memory}
-use Rattle.jwalk_usage.specs.Totals.{one_if, is_other, length_in, entry_of, is_asked, errors_of, bytes_of, totals}
+use Rattle.jwalk_usage.specs.Totals.{one_if, is_other, length_in, entry_of, with_answer, is_asked, errors_of, bytes_of, totals}
 use Rattle.jwalk_usage.specs.Kept.{is_known, kept_totals, with_kept}
 
 -- the usage of no answers
@@ -45,14 +45,7 @@ with_length metadata u = record u { errors = u.errors + one_if (is_err metadata)
 module _ {R E : Type 0} where
   -- the usage with one more answer
   abbrev pub with_one : Functions → Item R E → Usage → Usage
-  with_one fs x u = record {
-    files = u.files + entry_of is_file x;
-    dirs = u.dirs + entry_of is_dir x;
-    links = u.links + entry_of is_symlink x;
-    others = u.others + entry_of is_other x;
-    errors = u.errors + errors_of fs x;
-    bytes = u.bytes + bytes_of fs x;
-  }
+  with_one fs x u = with_answer (errors_of fs) (bytes_of fs) x u
 
   -- One more answer is counted by its type, whatever the file system returns.
   pub record CountsType (x : Item R E) (old new : Usage) : Type 0 where

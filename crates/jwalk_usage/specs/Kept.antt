@@ -1,12 +1,11 @@
 -- What a list of answers comes to by the metadata that they keep.
-use Rattle.std.specs.Prelude.{◌≡◌, ℕ, ◌+◌, Bool, true, not, List, Option, None, Some, Ok, Err, if◌then◌else◌}
-use Rattle.std.specs.List.{sum_by}
+use Rattle.std.specs.Prelude.{ℕ, Bool, true, not, List, Option, None, Some, Ok, Err, if◌then◌else◌}
 use Rattle.jwalk.specs.jwalk_model.declared.metadata.Metadata.{Metadata}
-use Rattle.jwalk.specs.jwalk_model.FileType.{is_dir, is_file, is_symlink}
+use Rattle.jwalk.specs.jwalk_model.FileType.{is_file}
 use Rattle.jwalk.specs.jwalk_model.Metadata.{len_of}
 use Rattle.jwalk.specs.jwalk_model.Entry.{Item}
 use Rattle.jwalk_usage.specs.declared.report.Usage.{Usage}
-use Rattle.jwalk_usage.specs.Totals.{one_if, is_other, has_failed, entry_of, is_asked}
+use Rattle.jwalk_usage.specs.Totals.{one_if, has_failed, totals_by, with_answer, is_asked}
 
 -- the length in metadata that are kept, and 0 if none are
 abbrev pub length_kept : Option Metadata → ℕ
@@ -31,22 +30,8 @@ module _ {R E : Type 0} where
 
   -- the totals of a list of answers by the metadata that they keep, whatever any file system returns
   abbrev pub kept_totals : List (Item R E) → Usage
-  kept_totals l = record {
-    files = sum_by (entry_of is_file) l;
-    dirs = sum_by (entry_of is_dir) l;
-    links = sum_by (entry_of is_symlink) l;
-    others = sum_by (entry_of is_other) l;
-    errors = sum_by errors_kept l;
-    bytes = sum_by bytes_kept l;
-  }
+  kept_totals l = totals_by errors_kept bytes_kept l
 
   -- the usage with one more answer
   abbrev pub with_kept : Item R E → Usage → Usage
-  with_kept x u = record {
-    files = u.files + entry_of is_file x;
-    dirs = u.dirs + entry_of is_dir x;
-    links = u.links + entry_of is_symlink x;
-    others = u.others + entry_of is_other x;
-    errors = u.errors + errors_kept x;
-    bytes = u.bytes + bytes_kept x;
-  }
+  with_kept x u = with_answer errors_kept bytes_kept x u

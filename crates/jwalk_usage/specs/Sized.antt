@@ -1,7 +1,6 @@
 -- How answers are counted that have the sizes of files in their states.
 use Rattle.std.specs.Prelude.{◌≡◌, ℕ, ◌+◌, Bool, true, false, ◌&&◌, List, map, Option, Result, Ok, Err, if◌then◌else◌}
-use Rattle.std.specs.List.{sum_by}
-use Rattle.jwalk.specs.jwalk_model.FileType.{is_dir, is_file, is_symlink}
+use Rattle.jwalk.specs.jwalk_model.FileType.{is_file}
 use Rattle.jwalk.specs.jwalk_model.FileSystem.{Functions}
 use Rattle.jwalk.specs.jwalk_model.Options.{Options, with_keep_metadata}
 use Rattle.jwalk.specs.jwalk_model.Entry.{Item}
@@ -15,7 +14,7 @@ use Rattle.jwalk.specs.jwalk_callbacks.declared.size.Size.TheVariants.{Unasked, 
 use Rattle.jwalk.specs.jwalk_callbacks.WithSizes.{sizing, job_sizing}
 use Rattle.jwalk_usage.specs.declared.report.Usage.{Usage}
 use Rattle.jwalk_usage.specs.declared.report.UsageFault.{UsageFault}
-use Rattle.jwalk_usage.specs.Totals.{one_if, is_other, has_failed, entry_of, totals}
+use Rattle.jwalk_usage.specs.Totals.{one_if, has_failed, totals_by, with_answer, totals}
 use Rattle.jwalk_usage.specs.ByAnswers.{AddsRest, AddsAll, StopsAdding}
 
 -- whether a size is the error of asking for it
@@ -47,25 +46,11 @@ module _ {R : Type 0} where
 
   -- the totals of a list of answers by their sizes
   abbrev pub sized_totals : List (Item R Size) → Usage
-  sized_totals l = record {
-    files = sum_by (entry_of is_file) l;
-    dirs = sum_by (entry_of is_dir) l;
-    links = sum_by (entry_of is_symlink) l;
-    others = sum_by (entry_of is_other) l;
-    errors = sum_by errors_in l;
-    bytes = sum_by bytes_in l;
-  }
+  sized_totals l = totals_by errors_in bytes_in l
 
   -- the usage with one more answer
   abbrev pub with_sized : Item R Size → Usage → Usage
-  with_sized x u = record {
-    files = u.files + entry_of is_file x;
-    dirs = u.dirs + entry_of is_dir x;
-    links = u.links + entry_of is_symlink x;
-    others = u.others + entry_of is_other x;
-    errors = u.errors + errors_in x;
-    bytes = u.bytes + bytes_in x;
-  }
+  with_sized x u = with_answer errors_in bytes_in x u
 
 module _ {I C A R : Type 0} (next : I → Option (Result (DirEntry C A R Size) (Error A)) → I → Type 0) where
   -- Calls from the start yielded answers and then `None`, which left the iterator so, and the usage is what the answers come to by their sizes.

@@ -45,6 +45,28 @@ module _ {R E : Type 0} where
   abbrev pub is_asked : Entry R E → Bool
   is_asked e = is_file e.file_type && is_none e.seen
 
+  -- six sums over a list of answers: by type, and by what is counted as the errors of one, and as its bytes
+  abbrev pub totals_by : (Item R E → ℕ) → (Item R E → ℕ) → List (Item R E) → Usage
+  totals_by errors bytes l = record {
+    files = sum_by (entry_of is_file) l;
+    dirs = sum_by (entry_of is_dir) l;
+    links = sum_by (entry_of is_symlink) l;
+    others = sum_by (entry_of is_other) l;
+    errors = sum_by errors l;
+    bytes = sum_by bytes l;
+  }
+
+  -- the usage with one more answer, counted so
+  abbrev pub with_answer : (Item R E → ℕ) → (Item R E → ℕ) → Item R E → Usage → Usage
+  with_answer errors bytes x u = record {
+    files = u.files + entry_of is_file x;
+    dirs = u.dirs + entry_of is_dir x;
+    links = u.links + entry_of is_symlink x;
+    others = u.others + entry_of is_other x;
+    errors = u.errors + errors x;
+    bytes = u.bytes + bytes x;
+  }
+
   -- the errors of an answer: itself, or that of the directory below an entry, or that of a file's metadata
   abbrev pub errors_of : Functions → Item R E → ℕ
   errors_of fs (Ok e) = one_if (has_failed e.read_children) + one_if (is_file e.file_type && is_err (known_metadata fs e))
@@ -57,14 +79,7 @@ module _ {R E : Type 0} where
 
   -- the totals of a list of answers over a fixed file system
   abbrev pub totals : Functions → List (Item R E) → Usage
-  totals fs l = record {
-    files = sum_by (entry_of is_file) l;
-    dirs = sum_by (entry_of is_dir) l;
-    links = sum_by (entry_of is_symlink) l;
-    others = sum_by (entry_of is_other) l;
-    errors = sum_by (errors_of fs) l;
-    bytes = sum_by (bytes_of fs) l;
-  }
+  totals fs l = totals_by (errors_of fs) (bytes_of fs) l
 
 -- the text of its entries: four numbers, each behind its name
 abbrev pub entries_text : Usage → List ℕ

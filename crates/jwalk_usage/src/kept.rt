@@ -1,33 +1,34 @@
 //! Totals of walks that keep metadata.
-ghost use Rattle.std.specs.Prelude.{IfOk, IfErr};
+ghost use Rattle.std.specs.Prelude.{◌≡◌, IfOk, IfErr, OnOk};
 ghost use Rattle.std.specs.Iterator.{IsFinite};
-ghost use Rattle.jwalk_usage.specs.ByAnswers.{AddsAll, AddsRest, StopsAdding};
-ghost use Rattle.jwalk_usage.specs.Kept.{kept_totals};
+ghost use Rattle.jwalk.specs.jwalk_core.Entry.{item};
+ghost use Rattle.jwalk.specs.DirEntryIter.{TellsMemory};
+ghost use Rattle.jwalk_usage.specs.ByAnswers.{AddsAll, AddsRest, CannotAdd, StopsAdding};
+ghost use Rattle.jwalk_usage.specs.Kept.{bytes_kept, errors_kept, kept_totals, with_kept};
 
+use crate::by_answers::{Counted, usage_by};
 use crate::report::{Usage, UsageFault};
 use jwalk::error::Result as Answer;
 use jwalk::{ClientState, DirEntry};
 use std::alloc::Allocator;
 
-impl Usage {
-    ghost use Rattle.std.specs.Prelude.{◌≡◌, IfErr, OnOk};
-    ghost use Rattle.jwalk.specs.jwalk_core.Entry.{item};
-    ghost use Rattle.jwalk.specs.DirEntryIter.{TellsMemory};
-    ghost use Rattle.jwalk_usage.specs.ByAnswers.{CannotAdd};
-    ghost use Rattle.jwalk_usage.specs.Kept.{with_kept};
+/// Answers are counted by the metadata that their entries keep.
+#[derive(Drop)]
+struct ByMetadata;
 
-    /// Counts one answer by what it keeps.
-    fn add_kept<C: ClientState, A: Allocator + Copy>(
-        &mut self,
-        answer: Answer<DirEntry<C, A>, A>,
-    ) -> Result<(), UsageFault>
-        ensures counted { OnOk result (self.new ≡ with_kept (item answer) self.old) }
-        ensures told { OnOk result (¬ TellsMemory (item answer)) }
-        ensures faults { IfErr result (CannotAdd (with_kept (item answer) self.old) (item answer)) }
+impl<C: ClientState, A: Allocator + Copy> Counted<C, A> for ByMetadata {
+    ghost errors = { errors_kept };
+
+    ghost bytes = { bytes_kept };
+
+    fn add(&self, usage: &mut Usage, answer: &Answer<DirEntry<C, A>, A>) -> Result<(), UsageFault>
+        ensures counted { OnOk result (usage.new ≡ with_kept (item answer.now) usage.old) }
+        ensures told { OnOk result (¬ TellsMemory (item answer.now)) }
+        ensures faults { IfErr result (CannotAdd (with_kept (item answer.now) usage.old) (item answer.now)) }
     {
         match answer {
-            Ok(found) => self.add_kept_entry(&found),
-            Err(error) => self.add_error(&error),
+            Ok(found) => usage.add_kept_entry(found),
+            Err(error) => usage.add_error(error),
         }
     }
 }
@@ -71,9 +72,5 @@ pub fn usage_kept_of_rest<
     ensures totals { IfOk result (AddsRest kept_totals I.next_gives answers.old answers.new) }
     ensures faults { IfErr result (StopsAdding kept_totals I.next_gives answers.old) }
 {
-    let mut usage = Usage::nothing();
-    while let Some(answer) = answers.next() {
-        usage.add_kept(answer)?;
-    }
-    Ok(usage)
+    usage_by(&ByMetadata, answers)
 }

@@ -11,6 +11,7 @@ ghost use Rattle.std.specs.Prelude.{IfOk, IfErr};
 ghost use Rattle.std.specs.Iterator.{IsFinite};
 ghost use Rattle.jwalk_usage.specs.Counts.{CountsAll, CountsRest, StopsCounting};
 
+mod by_answers;
 mod counting;
 pub mod kept;
 pub mod report;

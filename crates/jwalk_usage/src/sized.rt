@@ -1,8 +1,12 @@
 //! Totals of walks that have the sizes of files in their entries.
-ghost use Rattle.std.specs.Prelude.{IfOk, IfErr};
+ghost use Rattle.std.specs.Prelude.{◌≡◌, IfOk, IfErr, OnOk};
 ghost use Rattle.std.specs.Iterator.{IsFinite};
-ghost use Rattle.jwalk_usage.specs.Sized.{CountsSizes, CountsSizesRest, StopsAtSize, SizesAddUp};
+ghost use Rattle.jwalk.specs.jwalk_core.Entry.{item};
+ghost use Rattle.jwalk.specs.DirEntryIter.{TellsMemory};
+ghost use Rattle.jwalk_usage.specs.ByAnswers.{CannotAdd};
+ghost use Rattle.jwalk_usage.specs.Sized.{bytes_in, errors_in, with_sized, CountsSizes, CountsSizesRest, StopsAtSize, SizesAddUp};
 
+use crate::by_answers::{Counted, usage_by};
 use crate::counting::has_failed;
 use crate::report::{Usage, UsageFault};
 use crate::sums::plus;
@@ -14,10 +18,8 @@ use std::fmt::Debug;
 
 impl Usage {
     ghost use Rattle.std.specs.Prelude.{◌≡◌, Ok, IfErr, OnOk};
-    ghost use Rattle.jwalk.specs.jwalk_core.Entry.{entry, item};
-    ghost use Rattle.jwalk.specs.DirEntryIter.{TellsMemory};
+    ghost use Rattle.jwalk.specs.jwalk_core.Entry.{entry};
     ghost use Rattle.jwalk_usage.specs.Counts.{IsTooGreat};
-    ghost use Rattle.jwalk_usage.specs.ByAnswers.{CannotAdd};
     ghost use Rattle.jwalk_usage.specs.Sized.{with_size, with_sized};
 
     /// Counts the size of a file, or the error in its place.
@@ -52,19 +54,29 @@ impl Usage {
         }
         Ok(())
     }
+}
 
-    /// Counts one answer.
-    fn add_sized<B: Clone + Default + Debug + Drop, A: Allocator + Copy>(
-        &mut self,
-        answer: Answer<DirEntry<(B, Size), A>, A>,
+/// Answers are counted by the sizes in the states of their entries.
+#[derive(Drop)]
+struct BySizes;
+
+impl<B: Clone + Default + Debug + Drop, A: Allocator + Copy> Counted<(B, Size), A> for BySizes {
+    ghost errors = { errors_in };
+
+    ghost bytes = { bytes_in };
+
+    fn add(
+        &self,
+        usage: &mut Usage,
+        answer: &Answer<DirEntry<(B, Size), A>, A>,
     ) -> Result<(), UsageFault>
-        ensures counted { OnOk result (self.new ≡ with_sized (item answer) self.old) }
-        ensures told { OnOk result (¬ TellsMemory (item answer)) }
-        ensures faults { IfErr result (CannotAdd (with_sized (item answer) self.old) (item answer)) }
+        ensures counted { OnOk result (usage.new ≡ with_sized (item answer.now) usage.old) }
+        ensures told { OnOk result (¬ TellsMemory (item answer.now)) }
+        ensures faults { IfErr result (CannotAdd (with_sized (item answer.now) usage.old) (item answer.now)) }
     {
         match answer {
-            Ok(found) => self.add_sized_entry(&found),
-            Err(error) => self.add_error(&error),
+            Ok(found) => usage.add_sized_entry(found),
+            Err(error) => usage.add_error(error),
         }
     }
 }
@@ -107,11 +119,7 @@ pub fn usage_sized_of_rest<
     ensures totals { IfOk result (CountsSizesRest I.next_gives answers.old answers.new) }
     ensures faults { IfErr result (StopsAtSize I.next_gives answers.old) }
 {
-    let mut usage = Usage::nothing();
-    while let Some(answer) = answers.next() {
-        usage.add_sized(answer)?;
-    }
-    Ok(usage)
+    usage_by(&BySizes, answers)
 }
 
 /// Over one fixed file system, a walk with `WithSizes` comes to the same by its sizes as the walk that has no

@@ -1,15 +1,13 @@
 use Rattle.std.specs.Iterator.{IsFinite, size}
-use Rattle.jwalk_usage.specs.Sized.{sized_totals, with_sized}
-use Rattle.jwalk_usage.proofs.SizedFacts.{sized_push}
 use Rattle.jwalk_usage.proofs.AddFacts.{AddedSoFar}
-use Rattle.jwalk_usage.proofs.sized.usage_sized_of_rest.Given as goal
+use Rattle.jwalk_usage.proofs.by_answers.usage_by.Given as goal
 
 abbrev pub invariant-loop-answer : goal.invariant-loop-answer
 invariant-loop-answer g l =
     record {
       can : g.I.Iterator.can_next l.answers;
       ends : IsFinite (g.I.Iterator.remaining l.answers);
-      so_far : AddedSoFar sized_totals with_sized sized_push g.I.Iterator.next_gives l.fn.answers l.answers l.usage;
+      so_far : AddedSoFar g.N.Counted.errors g.N.Counted.bytes g.I.Iterator.next_gives l.fn.answers l.answers l.usage;
     }
 
 -- at most how many answers are to come
