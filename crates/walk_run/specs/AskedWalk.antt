@@ -1,16 +1,13 @@
 -- What a walk that is asked for prints.
-use Rattle.std.specs.Prelude.{◌≡◌, ℕ, true, List, Option, is_ok, if◌then◌else◌}
+use Rattle.std.specs.Prelude.{◌≡◌, ℕ, true, List, Option, Result, is_ok, if◌then◌else◌}
 use Rattle.std.specs.List.{list_all}
 use Rattle.std.specs.Io.KnownBytes.{Appends}
-use Rattle.std.specs.declared.clone.Clone as Clone
-use Rattle.std.specs.declared.default.Default as Default
-use Rattle.jwalk_fs.specs.declared.file_system.FileSystem as FileSystem
-use Rattle.jwalk_core.specs.declared.process_read_dir.ProcessReadDir as ProcessReadDir
-use Rattle.jwalk.specs.declared.crew.Readers as Readers
+use Rattle.jwalk_core.specs.declared.dir_entry.DirEntry.{DirEntry}
+use Rattle.jwalk_core.specs.declared.error.Error.{Error}
 use Rattle.jwalk.specs.declared.crew.Crew.{Crew}
+use Rattle.jwalk.specs.declared.crew.Session.{Session}
 use Rattle.jwalk.specs.declared.dir_entry_iter.DirEntryIter.{DirEntryIter}
 use Rattle.jwalk.specs.declared.walk_dir.WalkDirGeneric.{WalkDirGeneric}
-use Rattle.jwalk.specs.DirEntryIter.{Answers}
 use Rattle.jwalk.specs.WalkDir.{file_system_of, root_of, options_of, Starts}
 use Rattle.jwalk_model.specs.FileSystem.{Functions}
 use Rattle.jwalk_model.specs.Counted.{Worth}
@@ -35,12 +32,21 @@ pub record PrintsOver (fs : Functions) (asked : Asked) (root : List ℕ) (old ne
   pub prints : Appends old new (written asked (answers_over fs asked root))
   pub clean : list_all is_ok (answers_over fs asked root) ≡ true
 
--- A walk over a file system and from a root, which may have a crew, began as is asked for. It was called until it ended, what is asked for was written of its answers, and none was an error.
-pub record PrintsBegun (T : Type 0) {C S P A L R E : Type 0} (files : FileSystem.Ghosts S) (process : ProcessReadDir.Ghosts P C A R E) (clone : Clone.Ghosts R) (defaults : Default.Ghosts E) (readers : Readers.Ghosts L C S P A R E) (fs : S) (asked : Asked) (root : List ℕ) (old new : Option (List ℕ)) : Type 0 where
-  pub walk : WalkDirGeneric C S P A (Crew T) R E
-  pub file_system : file_system_of walk ≡ fs
-  pub root_of_it : root_of walk ≡ root
-  pub options : options_of walk ≡ options_for asked
-  pub it : DirEntryIter C S P A L R E
-  pub starts : Starts walk it
-  pub prints : PrintsAll (written asked) (Answers files process clone defaults readers) it old new true
+-- a walk under way, which may have a crew
+abbrev pub CrewWalk : (T C S P A R E : Type 0) → Type 0
+CrewWalk T C S P A R E = DirEntryIter C S P A (Session T C S P A R E) R E
+
+-- what is said of one call of it: of the walk, the answer, and the walk after the call
+abbrev pub CrewCalls : (T C S P A R E : Type 0) → Type 1
+CrewCalls T C S P A R E = CrewWalk T C S P A R E → Option (Result (DirEntry C A R E) (Error A)) → CrewWalk T C S P A R E → Type 0
+
+module _ {T C S P A R E : Type 0} (calls : CrewCalls T C S P A R E) where
+  -- A walk over a file system and from a root began as is asked for. It was called until it ended, what is asked for was written of its answers, and none was an error.
+  pub record PrintsBegun (fs : S) (asked : Asked) (root : List ℕ) (old new : Option (List ℕ)) : Type 0 where
+    pub walk : WalkDirGeneric C S P A (Crew T) R E
+    pub file_system : file_system_of walk ≡ fs
+    pub root_of_it : root_of walk ≡ root
+    pub options : options_of walk ≡ options_for asked
+    pub it : CrewWalk T C S P A R E
+    pub starts : Starts walk it
+    pub prints : PrintsAll (written asked) calls it old new true

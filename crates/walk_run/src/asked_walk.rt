@@ -1,7 +1,7 @@
 //! The walk that is asked for, over any file system, with its answers printed or their totals.
 ghost use Rattle.std.specs.Prelude.{◌≡◌, ◌≤◌, string_bytes, IfOk, IfErr, OnErr};
 ghost use Rattle.jwalk_core.specs.Job.{callback};
-ghost use Rattle.jwalk.specs.DirEntryIter.{job_of, Answers};
+ghost use Rattle.jwalk.specs.DirEntryIter.{job_of};
 ghost use Rattle.jwalk.specs.Parallelism.{parallelism_value};
 ghost use Rattle.jwalk.specs.WalkDir.{file_system_of, root_of, options_of};
 ghost use Rattle.walk_text.specs.Asked.{parallelism_by, options_for};
@@ -15,7 +15,7 @@ use crate::walk_printed::print_walked;
 use jwalk::crew::Session;
 use jwalk::file_system::FileSystem;
 use jwalk::read_dir::{NoProcess, ProcessReadDir};
-use jwalk::{ClientState, Crew, DirEntryIter, Parallelism, Readers, WalkDirGeneric};
+use jwalk::{ClientState, Crew, DirEntryIter, Host, Parallelism, Readers, WalkDirGeneric};
 use std::alloc::{AllocError, Allocator};
 use std::io::Write;
 use std::sync::{Arc, Wait};
@@ -25,6 +25,15 @@ use walk_text::asked::Asked;
 use walk_text::failure::Failure;
 use walk_text::read_by::ReadBy;
 use walk_text::words::Request;
+
+/// The walk that is asked for, under way.
+pub type AskedWalk<T, S, A> = DirEntryIter<
+    ((), ()),
+    S,
+    NoProcess,
+    A,
+    Session<T, ((), ()), S, NoProcess, A>,
+>;
 
 /// Returns what directories are read by. A crew is there for one walk alone.
 fn parallelism_of<T: Wait + Clock + Clone + Drop, A: Allocator + Copy>(
@@ -96,22 +105,21 @@ fn print_answers<
     rt: &T,
     alloc: A,
     asked: Asked,
-    walk: DirEntryIter<C, S, P, A, L>,
+    walk: &mut DirEntryIter<C, S, P, A, L>,
     out: &mut W,
 ) -> Result<bool, Failure>
 where
     C::ReadDirState: Send,
     C::DirEntryState: Send,
-    requires { P.IsLawful (callback (job_of walk)) }
-    ensures printed { IfOk result (PrintsAll (written asked) (Answers S.FileSystem P.ProcessReadDir
-        C.ReadDirState.Clone C.DirEntryState.Default L.Readers) walk (W.contents out.old) (W.contents out.new)) }
+    requires { P.IsLawful (callback (job_of walk.old)) }
+    ensures printed { IfOk result (PrintsAll (written asked) ⟦<DirEntryIter<C, S, P, A, L> as Iterator>⟧.next_gives
+        walk.old (W.contents out.old) (W.contents out.new)) }
     ensures status { IfErr result (λ failure. status_of failure ≡ 1) }
 {
     if asked.usage {
         return print_totals(walk, out);
     }
-    let mut walk = walk;
-    print_walked(rt, alloc, &mut walk, out)
+    print_walked(rt, alloc, walk, out)
 }
 
 /// Walks over a file system as is asked for, and prints one line for each answer, or the line of their totals. Returns
@@ -123,7 +131,7 @@ where
 ///
 /// If memory runs out before anything is printed, and for no other cause.
 pub fn print_asked<
-    T: Wait + Threads + Clock + Clone + Drop + Send + Sync + 'static,
+    T: Host,
     S: FileSystem + Send + Sync + 'static,
     A: Allocator + Copy + Send + Sync + 'static,
     W: Write,
@@ -132,9 +140,7 @@ pub fn print_asked<
     ensures status { IfOk result (λ status. status ≤ 1) }
     ensures memory { IfErr result (λ failure. failure ≡ Failure.Memory) }
     ensures untouched { OnErr result (W.contents out.new ≡ W.contents out.old) }
-    ensures walked { IfOk result (λ status. status ≡ 0 → PrintsBegun T S.FileSystem
-        ⟦<NoProcess as ProcessReadDir<((), ()), A>>⟧ ⟦<() as Clone>⟧ ⟦<() as Default>⟧
-        ⟦<Session<T, ((), ()), S, NoProcess, A> as Readers<((), ()), S, NoProcess, A>>⟧
+    ensures walked { IfOk result (λ status. status ≡ 0 → PrintsBegun ⟦<AskedWalk<T, S, A> as Iterator>⟧.next_gives
         fs request.now.asked request.now.root.now (W.contents out.old) (W.contents out.new)) }
     ensures printed { IfOk result (λ status. status ≡ 0 → S.IsFixed fs
         → PrintsOver (S.functions fs) request.now.asked request.now.root.now
@@ -142,6 +148,9 @@ pub fn print_asked<
 {
     let root = String::from_str(alloc, request.root)?;
     let walk = walk_of::<((), ()), _, _, _>(rt, fs, root, request.asked)?;
-    let answers = walk.into_iter();
-    Ok(status_once(print_answers(rt, alloc, request.asked, answers, out), err))
+    let mut answers = walk.into_iter();
+    Ok(status_once(
+        print_answers(rt, alloc, request.asked, &mut answers, out),
+        err,
+    ))
 }

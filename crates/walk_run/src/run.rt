@@ -3,24 +3,21 @@ ghost use Rattle.std.specs.Prelude.{◌≡◌, ◌≤◌, Err, map, string_bytes
 ghost use Rattle.walk_text.specs.Words.{AreGood, AskForTree};
 ghost use Rattle.walk_run.specs.Run.{BeginsWalk, PrintsWalk, TellsOfCall, Ends};
 
-use crate::asked_walk::print_asked;
-use crate::source::Source;
-use jwalk::Readers;
-use jwalk::crew::Session;
+use crate::asked_walk::{AskedWalk, print_asked};
+use crate::source::{Source, source_of};
+use jwalk::Host;
 use jwalk::file_system::FileSystem;
-use jwalk::read_dir::{NoProcess, ProcessReadDir};
 use std::alloc::Allocator;
 use std::io::{Read, Write};
-use std::sync::Wait;
-use std::thread::Threads;
-use std::time::Clock;
 use walk_text::failure::Failure;
-use walk_text::input::read_tree;
 use walk_text::words::parse_words;
+
+/// The walk of a call, under way.
+type CallWalk<T, S, A> = AskedWalk<T, Source<S, A>, A>;
 
 /// Walks as the words ask, and prints one line for each answer, or the line of their totals.
 fn try_run<
-    T: Wait + Threads + Clock + Clone + Drop + Send + Sync + 'static,
+    T: Host,
     S: FileSystem + Send + Sync + 'static,
     A: Allocator + Copy + Send + Sync + 'static,
     R: Read,
@@ -41,20 +38,14 @@ fn try_run<
     ensures told { IfErr result (TellsOfCall (map string_bytes words.now) (R.remaining input.old)) }
     ensures untouched { OnErr result (W.contents out.new ≡ W.contents out.old) }
     ensures unread { ¬ (AskForTree (map string_bytes words.now)) → input.new ≡ input.old }
-    ensures printed { IfOk result (λ status. status ≡ 0 → PrintsWalk T S.FileSystem
-        ⟦<Source<S, A> as FileSystem>⟧ ⟦<NoProcess as ProcessReadDir<((), ()), A>>⟧
-        ⟦<() as Clone>⟧ ⟦<() as Default>⟧
-        ⟦<Session<T, ((), ()), Source<S, A>, NoProcess, A> as Readers<((), ()), Source<S, A>, NoProcess, A>>⟧
+    ensures printed { IfOk result (λ status. status ≡ 0 → PrintsWalk ⟦<CallWalk<T, S, A> as Iterator>⟧.next_gives S.FileSystem
         disk (map string_bytes words.now) (R.remaining input.old) (W.contents out.old) (W.contents out.new)) }
 {
     let Some(request) = parse_words(words) else {
         return Err(Failure::BadWords);
     };
-    if request.asked.tree {
-        let tree = read_tree(alloc, input)?;
-        return print_asked(rt, alloc, Source::<S, A>::Tree(tree), &request, out, err);
-    }
-    print_asked(rt, alloc, Source::<S, A>::Disk(disk), &request, out, err)
+    let source = source_of(alloc, disk, request.asked.tree, input)?;
+    print_asked(rt, alloc, source, &request, out, err)
 }
 
 /// Walks as the words ask, prints one line for each answer, and returns the status. If the words ask for totals, it
@@ -67,7 +58,7 @@ fn try_run<
 /// The walk goes over the tree that the input describes, if the words ask for that, and over the disk otherwise; the
 /// input isn't read then. If the words ask for batches or a crew, threads of `rt` read.
 pub fn run<
-    T: Wait + Threads + Clock + Clone + Drop + Send + Sync + 'static,
+    T: Host,
     S: FileSystem + Send + Sync + 'static,
     A: Allocator + Copy + Send + Sync + 'static,
     R: Read,
@@ -79,10 +70,7 @@ pub fn run<
     ensures bad_words { ¬ (AreGood (map string_bytes words.now)) → result ≡ 2 }
     ensures untouched { result ≡ 2 → W.contents out.new ≡ W.contents out.old }
     ensures unread { ¬ (AskForTree (map string_bytes words.now)) → input.new ≡ input.old }
-    ensures printed { result ≡ 0 → PrintsWalk T S.FileSystem
-        ⟦<Source<S, A> as FileSystem>⟧ ⟦<NoProcess as ProcessReadDir<((), ()), A>>⟧
-        ⟦<() as Clone>⟧ ⟦<() as Default>⟧
-        ⟦<Session<T, ((), ()), Source<S, A>, NoProcess, A> as Readers<((), ()), Source<S, A>, NoProcess, A>>⟧
+    ensures printed { result ≡ 0 → PrintsWalk ⟦<CallWalk<T, S, A> as Iterator>⟧.next_gives S.FileSystem
         disk (map string_bytes words.now) (R.remaining input.old) (W.contents out.old) (W.contents out.new) }
 {
     match try_run(rt, alloc, disk, words, input, out, err) {

@@ -1,7 +1,14 @@
 //! What a walk reads from.
+ghost use Rattle.std.specs.Prelude.{◌≡◌, true, IfOk, IfErr};
+ghost use Rattle.walk_text.specs.Built.{TellsOfInput};
+ghost use Rattle.walk_run.specs.Source.{GoesOver};
+
 use jwalk::file_system::{Fault, FileSystem, Listed, MemoryFs, Metadata, Sink};
 use std::alloc::Allocator;
 use std::io;
+use std::io::Read;
+use walk_text::failure::Failure;
+use walk_text::input::read_tree;
 
 /// The disk, or a tree that standard input describes. Both are walked by the same code.
 #[derive(Drop)]
@@ -60,4 +67,22 @@ impl<S: FileSystem, A: Allocator + Copy> FileSystem for Source<S, A> {
             Source::Tree(tree) => tree.read_link(alloc, path),
         }
     }
+}
+
+/// Returns what a walk goes over: the tree that the input describes, if one is asked for, and the disk otherwise. The
+/// input isn't read then.
+pub fn source_of<S: FileSystem, A: Allocator + Copy, R: Read>(
+    alloc: A,
+    disk: S,
+    tree: bool,
+    input: &mut R,
+) -> Result<Source<S, A>, Failure>
+    ensures over { IfOk result (GoesOver tree disk (R.remaining input.old)) }
+    ensures told { IfErr result (λ failure. (tree ≡ true) × TellsOfInput (R.remaining input.old) failure) }
+    ensures unread { ¬ (tree ≡ true) → input.new ≡ input.old }
+{
+    if tree {
+        return Ok(Source::Tree(read_tree(alloc, input)?));
+    }
+    Ok(Source::Disk(disk))
 }

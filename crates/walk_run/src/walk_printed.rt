@@ -1,7 +1,7 @@
 //! A walk's answers, printed, while threads read its directories.
 ghost use Rattle.std.specs.Prelude.{◌≡◌, IfOk, IfErr};
 ghost use Rattle.jwalk_core.specs.Job.{callback};
-ghost use Rattle.jwalk.specs.DirEntryIter.{job_of, Answers};
+ghost use Rattle.jwalk.specs.DirEntryIter.{job_of};
 ghost use Rattle.walk_text.specs.Failure.{status_of};
 ghost use Rattle.jwalk_model.specs.Lines.{lines_of};
 ghost use Rattle.walk_run.specs.Answers.{PrintsAll};
@@ -30,8 +30,8 @@ where
     C::ReadDirState: Send,
     C::DirEntryState: Send,
     requires { P.IsLawful (callback (job_of walk.old)) }
-    ensures printed { IfOk result (PrintsAll lines_of (Answers S.FileSystem P.ProcessReadDir
-        C.ReadDirState.Clone C.DirEntryState.Default L.Readers) walk.old (W.contents out.old) (W.contents out.new)) }
+    ensures printed { IfOk result (PrintsAll lines_of ⟦<DirEntryIter<C, S, P, A, L> as Iterator>⟧.next_gives
+        walk.old (W.contents out.old) (W.contents out.new)) }
     ensures status { IfErr result (λ failure. status_of failure ≡ 1) }
 {
     let mut gathered = room(alloc)?;
