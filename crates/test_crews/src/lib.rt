@@ -14,8 +14,6 @@ mod early;
 #[cfg(test)]
 mod faults;
 #[cfg(test)]
-mod lost;
-#[cfg(test)]
 mod options;
 #[cfg(test)]
 mod own_crew;

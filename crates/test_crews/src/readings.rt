@@ -46,10 +46,12 @@ fn are_seven<S: FileSystem, L: Readers<States, S, NoProcess, Global>>(
 }
 
 /// Whether readings don't begin since the crew is busy.
-fn are_refused<S: FileSystem, L: Readers<States, S, NoProcess, Global>>(
-    tried: Result<Result<ReadsBy<S, L>, Error>, AllocError>,
-) -> bool {
-    matches!(tried, Ok(Err(error)) if error.is_busy())
+fn are_refused<R: Host, S: FileSystem + Send + Sync + 'static>(stand: &Stand<R, S>) -> bool {
+    match tried(stand) {
+        Ok(Err(error)) => error.is_busy(),
+        Ok(Ok(_reads)) => false,
+        Err(_) => false,
+    }
 }
 
 /// Whether these readings have the place of the crew, others are refused meanwhile, and they are all there.
@@ -58,7 +60,7 @@ fn have_the_place<
     S: FileSystem + Send + Sync + 'static,
     L: Readers<States, Arc<S>, NoProcess, Global>,
 >(stand: &Stand<R, S>, held: &mut ReadsBy<Arc<S>, L>) -> bool {
-    stand.crew.in_use() == 1 && are_refused(tried(stand)) && are_seven(held)
+    stand.crew.in_use() == 1 && are_refused(stand) && are_seven(held)
 }
 
 /// Whether that is so over a crew of one place.
