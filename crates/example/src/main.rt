@@ -25,7 +25,7 @@ fn main(rt: HostRuntime) -> anyhow::Result<()> {
     let disk = RealFs::new(rt.clone()?);
     let out = &mut io::writer(&rt);
     match name.as_deref().unwrap_or("") {
-        "usage_walk" => usage_walk::run(&rt, &root, out),
+        "usage_walk" => usage_walk::run(walk, out),
         "ignore_walk" => ignore_walk::run(&rt, &root, out),
         "batch_walk" => batch_walk::run(&rt, walk, out),
         "crew_walk" => crew_walk::run(&rt, disk, root, out),

@@ -20,8 +20,9 @@ pub fn run<I: BufRead + Drop, W: Write>(
             None => tree.add_file(&line, 0)?,
         }
     }
-    for answer in WalkDirGeneric::<((), ()), _, _, _>::new(tree, root).sort(true) {
+    let walk = WalkDirGeneric::<((), ()), _, _, _>::new(tree, root);
+    walk.sort(true).try_for_each(|answer| -> anyhow::Result<()> {
         writeln!(out, "{}", answer?.path()?)?;
-    }
-    Ok(())
+        Ok(())
+    })
 }

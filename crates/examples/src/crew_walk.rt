@@ -19,9 +19,9 @@ pub fn run<R: Host, S: FileSystem + Send + Sync + 'static, W: Write>(
             pool: crew.clone()?,
             busy_timeout: None,
         });
-    for answer in walk.into_iter() {
+    walk.try_for_each(|answer| -> anyhow::Result<()> {
         writeln!(out, "{}", answer?.path()?)?;
-    }
+        Ok(())
+    })
     // end walk
-    Ok(())
 }

@@ -13,12 +13,15 @@ fn find<R: Host, S: FileSystem + Send + Sync + 'static>(
 ) -> anyhow::Result<Vec<String>> {
     let mut found = Vec::new(*root.allocator());
     let walk = WalkDirGeneric::<((), ()), _, _, _>::new(fs, root);
-    for answer in walk.sort(true).workers(rt, 0)?.into_iter() {
-        let entry = answer?;
-        if entry.file_type().is_file() && entry.file_name().ends_with(ending) {
-            found.push(entry.path()?)?;
-        }
-    }
+    walk.sort(true)
+        .workers(rt, 0)?
+        .try_for_each(|answer| -> anyhow::Result<()> {
+            let entry = answer?;
+            if entry.file_type().is_file() && entry.file_name().ends_with(ending) {
+                found.push(entry.path()?)?;
+            }
+            Ok(())
+        })?;
     Ok(found)
 }
 // end find

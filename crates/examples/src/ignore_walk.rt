@@ -12,8 +12,8 @@ pub fn run<W: Write>(rt: &HostRuntime, root: &str, out: &mut W) -> anyhow::Resul
         .states::<(Chain, ()), ()>()
         .sort(true);
     let rules = IgnoreFiles::new(RealTexts::new(rt.clone()?));
-    for answer in with_ignore_files(walk, rules).into_iter() {
+    with_ignore_files(walk, rules).try_for_each(|answer| -> anyhow::Result<()> {
         writeln!(out, "{}", answer?.path()?)?;
-    }
-    Ok(())
+        Ok(())
+    })
 }

@@ -1,12 +1,16 @@
 //! Totals: prints how many files, directories and bytes there are below a folder.
-use jwalk::WalkDir;
+use jwalk::WalkDirGeneric;
+use jwalk::file_system::FileSystem;
+use jwalk::read_dir::NoProcess;
 use jwalk_usage::usage_kept;
 use std::io::Write;
 
-/// Prints the totals of the disk below a root.
-pub fn run<W: Write>(rt: &HostRuntime, root: &str, out: &mut W) -> anyhow::Result<()> {
-    let walk = WalkDir::at(rt, root)?.keep_metadata(true);
-    let totals = usage_kept(walk.into_iter())?;
+/// Prints the totals of a walk.
+pub fn run<S: FileSystem, W: Write>(
+    walk: WalkDirGeneric<((), ()), S, NoProcess>,
+    out: &mut W,
+) -> anyhow::Result<()> {
+    let totals = usage_kept(walk.keep_metadata(true).into_iter())?;
     writeln!(out, "{totals}")?;
     Ok(())
 }

@@ -169,7 +169,7 @@ fn totals_of_the_disk(rt: HostRuntime) -> anyhow::Result<()> {
     ];
     let folder = folder(&rt, "usage", FILES)?;
     let mut out = Vec::new(rt.alloc());
-    usage_walk::run(&rt, &folder, &mut out)?;
+    usage_walk::run(WalkDir::at(&rt, &folder)?, &mut out)?;
     fs::remove_dir_all(&rt, folder.as_str())?;
     assert!(rt; out.as_slice() == "files 3 dirs 3 links 0 others 0 errors 0 bytes 19\n".as_bytes());
     Ok(())
