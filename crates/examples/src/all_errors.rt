@@ -1,5 +1,5 @@
 //! Says of each error of a walk what it is. The tree is one in memory that has most sorts of them.
-use jwalk::file_system::{BuildError, MemoryFs};
+use jwalk::file_system::{BuildError, FileSystem, MemoryFs};
 use jwalk::{DirEntry, Error, WalkDirGeneric};
 use std::alloc::Global;
 use std::io::{ErrorKind, Write};
@@ -38,14 +38,14 @@ fn error_of(answer: &jwalk::Result<DirEntry<((), ())>>) -> Option<&Error> {
 }
 
 /// Prints each error of a walk.
-fn print_errors<W: Write>(
+fn print_errors<S: FileSystem, W: Write>(
     alloc: Global,
-    tree: &MemoryFs,
+    fs: &S,
     root: &str,
     out: &mut W,
 ) -> anyhow::Result<()> {
     let root = String::from_str(alloc, root)?;
-    let walk = WalkDirGeneric::<((), ()), _, _, _>::new(tree, root);
+    let walk = WalkDirGeneric::<((), ()), _, _, _>::new(fs, root);
     // begin loop
     for answer in walk.follow_links(true) {
         if let Some(error) = error_of(&answer) {

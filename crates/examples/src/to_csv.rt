@@ -1,5 +1,5 @@
 //! Writes a line of CSV for each file below a folder, by name: its length in bytes, and its path.
-use csv::WriterBuilder;
+use csv::{Writer, WriterBuilder};
 use jwalk::file_system::FileSystem;
 use jwalk::read_dir::NoProcess;
 use jwalk::{DirEntry, Host, WalkDirGeneric};
@@ -16,15 +16,18 @@ fn fields_of<D: FileSystem>(
     Ok([format!(in alloc; "{length}")?, file.path()?])
 }
 
-/// Writes the lines of a walk. The disk is asked for the lengths.
-pub fn run<R: Host + AllocGlobal, S: FileSystem + Send + Sync + 'static, D: FileSystem, W: Write>(
+/// Writes the line of each file of a walk. The disk is asked for the lengths.
+fn write_lines<
+    R: Host + AllocGlobal,
+    S: FileSystem + Send + Sync + 'static,
+    D: FileSystem,
+    W: Write,
+>(
     rt: &R,
     walk: WalkDirGeneric<((), ()), S, NoProcess>,
     disk: &D,
-    out: &mut W,
+    lines: &mut Writer<&mut W>,
 ) -> anyhow::Result<()> {
-    let mut lines = WriterBuilder::new().from_writer(out);
-    lines.write_record(["bytes", "path"])?;
     // begin walk
     for answer in walk.sort(true).workers(rt, 4)?.into_iter() {
         let entry = answer?;
@@ -33,6 +36,19 @@ pub fn run<R: Host + AllocGlobal, S: FileSystem + Send + Sync + 'static, D: File
         }
     }
     // end walk
+    Ok(())
+}
+
+/// Writes the names of the fields, and these lines.
+pub fn run<R: Host + AllocGlobal, S: FileSystem + Send + Sync + 'static, D: FileSystem, W: Write>(
+    rt: &R,
+    walk: WalkDirGeneric<((), ()), S, NoProcess>,
+    disk: &D,
+    out: &mut W,
+) -> anyhow::Result<()> {
+    let mut lines = WriterBuilder::new().from_writer(out);
+    lines.write_record(["bytes", "path"])?;
+    write_lines(rt, walk, disk, &mut lines)?;
     lines.flush()?;
     Ok(())
 }
