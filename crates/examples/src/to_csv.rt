@@ -1,5 +1,5 @@
 //! Writes a line of CSV for each file below a folder, by name: its length in bytes, and its path.
-use csv::{Writer, WriterBuilder};
+use csv::WriterBuilder;
 use jwalk::file_system::FileSystem;
 use jwalk::read_dir::NoProcess;
 use jwalk::{DirEntry, Host, WalkDirGeneric};
@@ -16,30 +16,7 @@ fn fields_of<D: FileSystem>(
     Ok([format!(in alloc; "{length}")?, file.path()?])
 }
 
-/// Writes the line of each file of a walk. The disk is asked for the lengths.
-fn write_lines<
-    R: Host + AllocGlobal,
-    S: FileSystem + Send + Sync + 'static,
-    D: FileSystem,
-    W: Write,
->(
-    rt: &R,
-    walk: WalkDirGeneric<((), ()), S, NoProcess>,
-    disk: &D,
-    lines: &mut Writer<&mut W>,
-) -> anyhow::Result<()> {
-    // begin walk
-    for answer in walk.sort(true).workers(rt, 4)?.into_iter() {
-        let entry = answer?;
-        if entry.file_type().is_file() {
-            lines.write_record(fields_of(rt.alloc(), disk, &entry)?)?;
-        }
-    }
-    // end walk
-    Ok(())
-}
-
-/// Writes the names of the fields, and these lines.
+/// Writes the lines of a walk. The disk is asked for the lengths.
 pub fn run<R: Host + AllocGlobal, S: FileSystem + Send + Sync + 'static, D: FileSystem, W: Write>(
     rt: &R,
     walk: WalkDirGeneric<((), ()), S, NoProcess>,
@@ -48,7 +25,17 @@ pub fn run<R: Host + AllocGlobal, S: FileSystem + Send + Sync + 'static, D: File
 ) -> anyhow::Result<()> {
     let mut lines = WriterBuilder::new().from_writer(out);
     lines.write_record(["bytes", "path"])?;
-    write_lines(rt, walk, disk, &mut lines)?;
+    // begin walk
+    walk.sort(true)
+        .workers(rt, 4)?
+        .try_for_each(|answer| -> anyhow::Result<()> {
+            let entry = answer?;
+            if entry.file_type().is_file() {
+                lines.write_record(fields_of(rt.alloc(), disk, &entry)?)?;
+            }
+            Ok(())
+        })?;
+    // end walk
     lines.flush()?;
     Ok(())
 }
