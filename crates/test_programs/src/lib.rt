@@ -4,6 +4,6 @@
 #[cfg(test)]
 mod disk;
 #[cfg(test)]
-mod examples;
+mod small_programs;
 #[cfg(test)]
 mod program;
