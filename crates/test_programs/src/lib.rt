@@ -4,6 +4,6 @@
 #[cfg(test)]
 mod disk;
 #[cfg(test)]
-mod small_programs;
-#[cfg(test)]
 mod program;
+#[cfg(test)]
+mod small_programs;
