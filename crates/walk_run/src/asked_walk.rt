@@ -1,10 +1,11 @@
 //! The walk that is asked for, over any file system, with its answers printed or their totals.
-ghost use Rattle.std.specs.Prelude.{◌≡◌, ◌≤◌, string_bytes, IfOk, IfErr, OnErr};
+ghost use Rattle.std.specs.Prelude.{◌≡◌, ◌≤◌, option_map, string_bytes, IfOk, IfErr, OnErr};
+ghost use Rattle.jwalk_model.specs.Options.{with_max_depth, with_min_depth, with_parallelism};
 ghost use Rattle.jwalk_core.specs.Job.{callback};
 ghost use Rattle.jwalk.specs.DirEntryIter.{job_of};
 ghost use Rattle.jwalk.specs.Parallelism.{parallelism_value};
 ghost use Rattle.jwalk.specs.WalkDir.{file_system_of, root_of, options_of};
-ghost use Rattle.walk_text.specs.Asked.{parallelism_by, options_for};
+ghost use Rattle.walk_text.specs.Asked.{parallelism_by, options_for, where_named};
 ghost use Rattle.walk_text.specs.Failure.{status_of};
 ghost use Rattle.walk_run.specs.Answers.{PrintsAll};
 ghost use Rattle.walk_run.specs.AskedWalk.{written, PrintsBegun, PrintsOver};
@@ -35,29 +36,56 @@ pub type AskedWalk<T, S, A> = DirEntryIter<
     Session<T, ((), ()), S, NoProcess, A>,
 >;
 
-/// Returns what directories are read by. A crew is there for one walk alone.
+/// Returns what directories are read by, if that is asked for. A crew is there for one walk alone.
 fn parallelism_of<T: Wait + Clock + Clone + Drop, A: Allocator + Copy>(
     rt: &T,
     alloc: A,
-    by: ReadBy,
-) -> Result<Parallelism<Crew<T>, A>, AllocError>
-    ensures { IfOk result (λ it. parallelism_value it ≡ parallelism_by by) }
+    by: Option<ReadBy>,
+) -> Result<Option<Parallelism<Crew<T>, A>>, AllocError>
+    ensures { IfOk result (λ it. option_map parallelism_value it ≡ option_map parallelism_by by) }
 {
     match by {
-        ReadBy::Batch(width) => Ok(Parallelism::RayonNewPool(width)),
-        ReadBy::Crew(workers) => {
+        None => Ok(None),
+        Some(ReadBy::Batch(width)) => Ok(Some(Parallelism::RayonNewPool(width))),
+        Some(ReadBy::Crew(workers)) => {
             let crew = Crew::new(rt.clone()?, 1, workers);
-            Ok(Parallelism::RayonExistingPool {
+            Ok(Some(Parallelism::RayonExistingPool {
                 pool: Arc::new(alloc, crew)?,
                 busy_timeout: None,
-            })
+            }))
         }
     }
 }
 
+/// Returns the walk with what is named of the least depth, the greatest, and what directories are read by. The last
+/// holds whatever the greatest depth is.
+fn with_named<C: ClientState, S: FileSystem, A: Allocator + Copy, W: Drop>(
+    walk: WalkDirGeneric<C, S, NoProcess, A, W>,
+    least: Option<usize>,
+    greatest: Option<usize>,
+    parallelism: Option<Parallelism<W, A>>,
+) -> WalkDirGeneric<C, S, NoProcess, A, W>
+    ensures file_system { file_system_of result ≡ file_system_of walk }
+    ensures root { root_of result ≡ root_of walk }
+    ensures options { options_of result ≡ where_named with_parallelism (option_map parallelism_value parallelism)
+        (where_named with_max_depth greatest (where_named with_min_depth least (options_of walk))) }
+{
+    let mut walk = walk;
+    if let Some(depth) = least {
+        walk = walk.min_depth(depth);
+    }
+    if let Some(depth) = greatest {
+        walk = walk.max_depth(depth);
+    }
+    if let Some(parallelism) = parallelism {
+        walk = walk.parallelism(parallelism);
+    }
+    walk
+}
+
 /// Returns the walk that is asked for, without a callback. Its options are set one after another: the order, hidden
-/// names, links, metadata, the least depth, the greatest, and last what directories are read by. The last holds whatever
-/// the greatest depth is. Metadata is kept for totals.
+/// names, links, metadata, the least depth, the greatest, and last what directories are read by. Metadata is kept for
+/// totals.
 pub fn walk_of<
     C: ClientState,
     T: Wait + Threads + Clock + Clone + Drop,
@@ -73,22 +101,13 @@ pub fn walk_of<
     ensures root { IfOk result (λ walk. root_of walk ≡ string_bytes root) }
     ensures options { IfOk result (λ walk. options_of walk ≡ options_for asked) }
 {
-    let alloc = *root.allocator();
-    let mut walk = WalkDirGeneric::with_crew(fs, root)
+    let parallelism = parallelism_of(rt, *root.allocator(), asked.read_by)?;
+    let walk = WalkDirGeneric::with_crew(fs, root)
         .sort(asked.sort)
         .skip_hidden(!asked.hidden)
         .follow_links(asked.follow)
         .keep_metadata(asked.usage);
-    if let Some(least) = asked.min {
-        walk = walk.min_depth(least);
-    }
-    if let Some(greatest) = asked.max {
-        walk = walk.max_depth(greatest);
-    }
-    if let Some(by) = asked.read_by {
-        walk = walk.parallelism(parallelism_of(rt, alloc, by)?);
-    }
-    Ok(walk)
+    Ok(with_named(walk, asked.min, asked.max, parallelism))
 }
 
 /// Prints what is asked for of a walk's answers: the line of their totals, or a line for each. Returns whether none was
@@ -105,21 +124,22 @@ fn print_answers<
     rt: &T,
     alloc: A,
     asked: Asked,
-    walk: &mut DirEntryIter<C, S, P, A, L>,
+    walk: DirEntryIter<C, S, P, A, L>,
     out: &mut W,
 ) -> Result<bool, Failure>
 where
     C::ReadDirState: Send,
     C::DirEntryState: Send,
-    requires { P.IsLawful (callback (job_of walk.old)) }
+    requires { P.IsLawful (callback (job_of walk)) }
     ensures printed { IfOk result (PrintsAll (written asked) ⟦<DirEntryIter<C, S, P, A, L> as Iterator>⟧.next_gives
-        walk.old (W.contents out.old) (W.contents out.new)) }
+        walk (W.contents out.old) (W.contents out.new)) }
     ensures status { IfErr result (λ failure. status_of failure ≡ 1) }
 {
     if asked.usage {
         return print_totals(walk, out);
     }
-    print_walked(rt, alloc, walk, out)
+    let mut walk = walk;
+    print_walked(rt, alloc, &mut walk, out)
 }
 
 /// Walks over a file system as is asked for, and prints one line for each answer, or the line of their totals. Returns
@@ -148,9 +168,6 @@ pub fn print_asked<
 {
     let root = String::from_str(alloc, request.root)?;
     let walk = walk_of::<((), ()), _, _, _>(rt, fs, root, request.asked)?;
-    let mut answers = walk.into_iter();
-    Ok(status_once(
-        print_answers(rt, alloc, request.asked, &mut answers, out),
-        err,
-    ))
+    let answers = walk.into_iter();
+    Ok(status_once(print_answers(rt, alloc, request.asked, answers, out), err))
 }
