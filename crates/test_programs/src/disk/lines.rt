@@ -27,7 +27,8 @@ pub fn lines(alloc: Global, answers: &[Answer], folder: &str) -> Result<String, 
         .replace(alloc, folder, "/t")
 }
 
-/// All answers of a walk with these settings. A test names a file system alone, since walks over the disk have long types.
+/// All answers of a walk with these settings. A test names a file system alone, since walks over the disk have long
+/// types.
 pub fn answers<S: FileSystem>(
     alloc: Global,
     fs: S,

@@ -24,8 +24,8 @@ pub const BAD_WORDS: Want<'static> = ("", "walk: bad words\n", 2);
 /// The words of a call, the lines of a tree, and the outcome.
 pub type Row<'a> = (&'a [&'a str], &'a str, Want<'a>);
 
-/// Runs the words in front and then the others over this disk. Returns the status, and what is written on standard error;
-/// none if memory runs out before.
+/// Runs the words in front and then the others over this disk. Returns the status, and what is written on standard
+/// error; none if memory runs out before.
 fn ran<S: FileSystem + Send + Sync + 'static>(
     rt: &impl Host,
     disk: S,

@@ -68,8 +68,8 @@ pub(crate) fn called_on<S: FileSystem + Send + Sync + 'static, X: Texts + Send +
     }
 }
 
-/// Runs a call over the tree of these lines and files of rules, whose output is a terminal or not, and returns the status.
-/// 255 if memory runs out before.
+/// Runs a call over the tree of these lines and files of rules, whose output is a terminal or not, and returns the
+/// status. 255 if memory runs out before.
 pub(crate) fn called(
     rt: &impl Host,
     (lines, files): (&str, &[RulesFile<'_>]),
