@@ -1,5 +1,6 @@
 //! Walks with callbacks and their answers, each read in every way.
 mod both;
+mod called;
 mod closures;
 mod ready;
 mod refusals;

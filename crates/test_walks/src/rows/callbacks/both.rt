@@ -4,8 +4,9 @@ ghost use Rattle.jwalk.specs.jwalk_model.Entry.{AtDepth};
 ghost use Rattle.jwalk.specs.jwalk_model.ReadDir.{list_depth};
 ghost use Rattle.jwalk.specs.jwalk_core.Entry.{item};
 
+use crate::rows::callbacks::called::called;
 use crate::rows::callbacks::rows::{Callback, Row, all_hold};
-use jwalk::read_dir::{Both, ByFn, FilterEntry, ProcessReadDir};
+use jwalk::read_dir::{Both, ByFn, FilterEntry};
 use std::alloc::AllocError;
 use test_fixtures::answers::Answer;
 use test_fixtures::trees::GROUPED;
@@ -32,7 +33,7 @@ pub fn drops_then_cuts(
     });
     let both = Both::new(drops, cuts);
     // end both
-    both.process(depth, path, state, list)
+    called(&both, depth, path, state, list)
 }
 
 /// Cuts a list first.
@@ -51,7 +52,7 @@ pub fn cuts_then_drops(
         Ok(())
     });
     let drops = FilterEntry::new(|_depth, name, _file_type| name != "a.txt");
-    Both::new(cuts, drops).process(depth, path, state, list)
+    called(&Both::new(cuts, drops), depth, path, state, list)
 }
 
 #[test]

@@ -4,8 +4,9 @@ ghost use Rattle.jwalk.specs.jwalk_model.Entry.{AtDepth};
 ghost use Rattle.jwalk.specs.jwalk_model.ReadDir.{list_depth};
 ghost use Rattle.jwalk.specs.jwalk_core.Entry.{item};
 
+use crate::rows::callbacks::called::called;
 use crate::rows::callbacks::rows::{Callback, Row, all_hold};
-use jwalk::read_dir::{ByFn, ProcessReadDir};
+use jwalk::read_dir::ByFn;
 use jwalk::{DirEntry, Error};
 use std::alloc::AllocError;
 use test_fixtures::answers::Answer;
@@ -73,7 +74,7 @@ pub fn by_closure(
     let changes = ByFn::new(|depth: Option<usize>, path: &str, _state: &mut (), list: &mut Vec<
         Answer,
     >| change.make(depth, path, list));
-    changes.process(depth, path, state, list)
+    called(&changes, depth, path, state, list)
 }
 
 fn is_group(entry: &DirEntry<((), ())>) -> bool {

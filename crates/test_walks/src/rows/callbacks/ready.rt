@@ -4,9 +4,10 @@ ghost use Rattle.jwalk.specs.jwalk_model.Entry.{AtDepth};
 ghost use Rattle.jwalk.specs.jwalk_model.ReadDir.{list_depth};
 ghost use Rattle.jwalk.specs.jwalk_core.Entry.{item};
 
+use crate::rows::callbacks::called::called;
 use crate::rows::callbacks::closures::Change;
 use crate::rows::callbacks::rows::{Callback, Row, all_hold};
-use jwalk::read_dir::{FilterEntry, ProcessReadDir, SkipNames};
+use jwalk::read_dir::{FilterEntry, SkipNames};
 use std::alloc::AllocError;
 use test_fixtures::answers::Answer;
 use test_fixtures::texts::texts;
@@ -24,7 +25,7 @@ pub fn skip_three(
     ensures { OnOk result (AtDepth (list_depth depth) (map item list.new.items)) }
 {
     let names = texts(*list.allocator(), &[], &["a.txt", "group 1", "group 2"])?;
-    SkipNames::new(names).process(depth, path, state, list)
+    called(&SkipNames::new(names), depth, path, state, list)
 }
 
 /// Keeps the files at depth 1 but for one.
@@ -41,7 +42,7 @@ pub fn keep_files(
     let filter = FilterEntry::new(|depth, name, file_type| {
         depth == 1 && name != "b.txt" && file_type.is_file()
     });
-    filter.process(depth, path, state, list)
+    called(&filter, depth, path, state, list)
 }
 
 /// Leaves out the directories of the name `target`.
@@ -57,7 +58,7 @@ pub fn leave_out_target(
 {
     let filter = FilterEntry::new(|_depth, name, file_type| name != "target"
         || !file_type.is_dir());
-    filter.process(depth, path, state, list)
+    called(&filter, depth, path, state, list)
 }
 
 #[test]
