@@ -5,7 +5,7 @@ use Rattle.std.specs.declared.clone.Clone as Clone
 use Rattle.std.specs.declared.default.Default as Default
 use Rattle.jwalk.specs.jwalk_model.Entry.{Item}
 use Rattle.jwalk.specs.jwalk_model.Walk.{whole_walk}
-use Rattle.jwalk_fs.specs.declared.file_system.FileSystem as FileSystem
+use Rattle.jwalk.specs.jwalk_fs.declared.file_system.FileSystem as FileSystem
 use Rattle.jwalk_core.specs.declared.process_read_dir.ProcessReadDir as ProcessReadDir
 use Rattle.jwalk.specs.jwalk_core.Given.{Given}
 use Rattle.jwalk.specs.jwalk_core.Job.{IsSteady}

@@ -5,6 +5,8 @@
 #[cfg(test)]
 mod callers;
 #[cfg(test)]
+mod collected;
+#[cfg(test)]
 mod error_texts;
 #[cfg(test)]
 mod errors;
