@@ -1,31 +1,28 @@
 //! Messages of workers, and the reading that is waited for.
-ghost use Rattle.std.specs.Arc.{arc_value};
-ghost use Rattle.jwalk_core.specs.Job.{callback};
-
 use crate::given::{self, Refusing, States, address, roots_of};
 use jwalk_board::board::{Board, HandOutRefusal};
 use jwalk_core::ancestors::Ancestors;
-use jwalk_core::client_state::ClientState;
 use jwalk_core::dir_entry::DirEntry;
 use jwalk_core::error::Error;
 use jwalk_core::job::Job;
 use jwalk_core::message::Message;
 use jwalk_core::mode::Mode;
 use jwalk_core::options::Options;
-use jwalk_core::process_read_dir::{NoProcess, ProcessReadDir};
+use jwalk_core::process_read_dir::NoProcess;
 use jwalk_core::read_dir_spec::ReadDirSpec;
 use jwalk_core::wanted::Wanted;
-use jwalk_fs::file_system::FileSystem;
 use jwalk_order::ordered::Ordered;
 use std::alloc::Global;
 use std::io::ErrorKind;
 use std::sync::Arc;
 
-/// The job of a walk over the tree of the tests.
+type Spec = ReadDirSpec<States>;
+
 type TreeJob<'f> = Job<States, &'f Refusing, NoProcess>;
 
-/// A board of directories and of what came of them.
-type Reads<C, S, P> = Board<ReadDirSpec<C>, Message<C, S, P>>;
+type Told<'f> = Message<States, &'f Refusing, NoProcess>;
+
+type Reads<'f> = Board<Spec, Told<'f>>;
 
 /// A root with three directories, of which one can't be read, and a file. Memory runs out at one path.
 fn tree(alloc: Global, at: &'static str) -> Option<Refusing> {
@@ -56,7 +53,7 @@ enum Comes {
 }
 
 /// Whether these are directories at these paths, one below the root.
-fn are_below<C: ClientState>(specs: &[ReadDirSpec<C>], paths: &[&str]) -> bool {
+fn are_below(specs: &[Spec], paths: &[&str]) -> bool {
     for (spec, path) in specs.iter().zip(paths) {
         if spec.path.as_str() != *path || spec.depth() != 1 {
             return false;
@@ -72,11 +69,7 @@ fn is_denied(error: &Error, path: &str) -> bool {
 }
 
 /// Whether a message has this outcome of a reading of the directory at a path.
-fn has<C: ClientState, S: FileSystem, P: ProcessReadDir<C, Global>>(
-    message: Message<C, S, P>,
-    path: &str,
-    comes: Comes,
-) -> bool {
+fn has(message: Told<'_>, path: &str, comes: Comes) -> bool {
     match message.into_outcome() {
         Ok(Ok(list)) => matches!(comes, Comes::List(count) if list.results_list().len() == count),
         Ok(Err(error)) => matches!(comes, Comes::Denied) && is_denied(&error, path),
@@ -85,27 +78,16 @@ fn has<C: ClientState, S: FileSystem, P: ProcessReadDir<C, Global>>(
 }
 
 /// Whether a message is of the directory at a path and by the options of the tests, and whether memory ran out for it.
-fn is_of<C: ClientState, S: FileSystem, P: ProcessReadDir<C, Global>>(
-    message: &Message<C, S, P>,
-    path: &str,
-    refused: bool,
-) -> bool {
+fn is_of(message: &Told<'_>, path: &str, refused: bool) -> bool {
     message.of().path.as_str() == path
         && message.job().options().reads_as(options())
         && message.is_refused() == refused
 }
 
 /// Whether the message of a directory has this outcome, and the directories below it are at these paths.
-fn tells<C: ClientState, S: FileSystem, P: ProcessReadDir<C, Global>>(
-    job: Arc<Job<C, S, P>>,
-    state: C::ReadDirState,
-    path: &str,
-    below: &[&str],
-    comes: Comes,
-) -> Option<bool>
-    requires { P.IsLawful (callback (arc_value job)) }
-{
-    let of = roots_of(&job, path, state)?.pop()?;
+fn tells(alloc: Global, fs: &Refusing, path: &str, below: &[&str], comes: Comes) -> Option<bool> {
+    let job = job_by(alloc, fs, options())?;
+    let of = roots_of(&job, path, ())?.pop()?;
     let (message, found) = Message::read(job, of);
     let is_told = is_of(&message, path, matches!(comes, Comes::Refusal))
         && are_below(found.as_slice(), below);
@@ -113,9 +95,11 @@ fn tells<C: ClientState, S: FileSystem, P: ProcessReadDir<C, Global>>(
 }
 
 /// Whether it does in a tree where memory runs out at one path.
-fn tells_in_tree(alloc: Global, path: &str, below: &[&str], comes: Comes) -> Option<bool> {
-    let fs = tree(alloc, "/r/a")?;
-    tells(job_by(alloc, &fs, options())?, (), path, below, comes)
+fn tells_in_tree(alloc: Global, path: &str, below: &[&str], comes: Comes) -> bool {
+    match &tree(alloc, "/r/a") {
+        Some(fs) => tells(alloc, fs, path, below, comes) == Some(true),
+        None => false,
+    }
 }
 
 #[test]
@@ -127,7 +111,7 @@ fn a_message_tells_what_came_of_a_reading(rt: HostRuntime) {
     ];
     for (path, below, comes) in ROWS {
         assert!(rt;
-            tells_in_tree(rt.alloc(), path, below, *comes) == Some(true),
+            tells_in_tree(rt.alloc(), path, below, *comes),
             "{:?}",
             path
         );
@@ -152,7 +136,7 @@ fn text(alloc: Global, path: &str) -> Option<Arc<String>> {
 }
 
 /// The reading of this directory, by the options of the tests.
-fn wanted_of<C: ClientState>(alloc: Global, of: &ReadDirSpec<C>) -> Option<Wanted> {
+fn wanted_of(alloc: Global, of: &Spec) -> Option<Wanted> {
     Some(Wanted {
         address: address(alloc, &[0])?,
         path: of.path.clone().ok()?,
@@ -181,25 +165,15 @@ fn change(alloc: Global, wanted: &mut Wanted, other: Other) -> Option<()> {
 }
 
 /// A board on which the root is queued, and the reading that it waits for.
-fn begin<C: ClientState, S: FileSystem, P: ProcessReadDir<C, Global>>(
-    alloc: Global,
-    job: &Job<C, S, P>,
-    state: C::ReadDirState,
-    other: Other,
-) -> Option<(Reads<C, S, P>, Wanted)>
-    requires { P.IsLawful (callback job.now) }
-{
-    let roots = roots_of(job, "/r", state)?;
+fn begin<'f>(alloc: Global, job: &TreeJob<'f>, other: Other) -> Option<(Reads<'f>, Wanted)> {
+    let roots = roots_of(job, "/r", ())?;
     let mut wanted = wanted_of(alloc, roots.first()?)?;
     change(alloc, &mut wanted, other)?;
     Some((Board::new(roots).ok()?, wanted))
 }
 
 /// What a message that was handed out is to a walk that waits.
-fn checked<C: ClientState, S: FileSystem, P: ProcessReadDir<C, Global>>(
-    item: &Ordered<Message<C, S, P>>,
-    wanted: &Wanted,
-) -> &'static str {
+fn checked(item: &Ordered<Told<'_>>, wanted: &Wanted) -> &'static str {
     if item.value.is_refused() {
         "memory"
     } else if wanted.fits(item) {
@@ -210,10 +184,7 @@ fn checked<C: ClientState, S: FileSystem, P: ProcessReadDir<C, Global>>(
 }
 
 /// The outcome of the reading that is wanted.
-fn asks<C: ClientState, S: FileSystem, P: ProcessReadDir<C, Global>>(
-    board: &mut Reads<C, S, P>,
-    wanted: &Wanted,
-) -> &'static str {
+fn asks(board: &mut Reads<'_>, wanted: &Wanted) -> &'static str {
     match board.hand_out() {
         Ok(item) => checked(&item, wanted),
         Err(HandOutRefusal::Stopped | HandOutRefusal::Memory) => "memory",
@@ -223,13 +194,11 @@ fn asks<C: ClientState, S: FileSystem, P: ProcessReadDir<C, Global>>(
 }
 
 /// A worker takes the least directory and finishes it. Returns the outcome of the reading that is wanted in between.
-fn read_least<C: ClientState, S: FileSystem, P: ProcessReadDir<C, Global>>(
-    board: &mut Reads<C, S, P>,
-    job: Arc<Job<C, S, P>>,
+fn read_least<'f>(
+    board: &mut Reads<'f>,
+    job: Arc<TreeJob<'f>>,
     wanted: &Wanted,
-) -> Option<&'static str>
-    requires { P.IsLawful (callback (arc_value job)) }
-{
+) -> Option<&'static str> {
     let Ordered {
         value: of,
         index_path: address,
@@ -241,31 +210,26 @@ fn read_least<C: ClientState, S: FileSystem, P: ProcessReadDir<C, Global>>(
     Some(in_hand)
 }
 
-/// Its outcome in a walk by a job: before the root is taken, while it is in hand, once it was read, and after that.
-fn answers_by<C: ClientState, S: FileSystem, P: ProcessReadDir<C, Global>>(
+/// Its outcome in a walk by these options: before the root is taken, while it is in hand, once it was read, and after
+/// that.
+fn answers_by(
     alloc: Global,
-    job: Arc<Job<C, S, P>>,
-    state: C::ReadDirState,
+    fs: &Refusing,
+    own: Options,
     other: Other,
-) -> Option<[&'static str; 4]>
-    requires { P.IsLawful (callback (arc_value job)) }
-{
-    let (mut board, wanted) = begin(alloc, &*job, state, other)?;
+) -> Option<(&'static str, &'static str, &'static str, &'static str)> {
+    let job = job_by(alloc, fs, own)?;
+    let (mut board, wanted) = begin(alloc, &job, other)?;
     let queued = asks(&mut board, &wanted);
     let in_hand = read_least(&mut board, job, &wanted)?;
     let read = asks(&mut board, &wanted);
-    Some([queued, in_hand, read, asks(&mut board, &wanted)])
+    Some((queued, in_hand, read, asks(&mut board, &wanted)))
 }
 
 /// Its outcome once the board was stopped.
-fn answer_after_stop<C: ClientState, S: FileSystem, P: ProcessReadDir<C, Global>>(
-    alloc: Global,
-    job: &Job<C, S, P>,
-    state: C::ReadDirState,
-) -> Option<&'static str>
-    requires { P.IsLawful (callback job.now) }
-{
-    let (mut board, wanted) = begin(alloc, job, state, Other::Nothing)?;
+fn answer_after_stop(alloc: Global, fs: &Refusing) -> Option<&'static str> {
+    let job = job_by(alloc, fs, options())?;
+    let (mut board, wanted) = begin(alloc, &job, Other::Nothing)?;
     board.stop();
     Some(asks(&mut board, &wanted))
 }
@@ -274,9 +238,10 @@ fn answer_after_stop<C: ClientState, S: FileSystem, P: ProcessReadDir<C, Global>
 fn is_waited_for(alloc: Global) -> Option<bool> {
     let fs = tree(alloc, "")?;
     let own = options().with_max_depth(0);
-    let answers = answers_by(alloc, job_by(alloc, &fs, own)?, (), Other::Options(own))?;
-    let stopped = answer_after_stop(alloc, &*job_by(alloc, &fs, options())?, ())?;
-    Some(answers == ["wait", "wait", "entered", "lost"] && stopped == "memory")
+    let (queued, in_hand, read, after) = answers_by(alloc, &fs, own, Other::Options(own))?;
+    let stopped = answer_after_stop(alloc, &fs)?;
+    let answers = [queued, in_hand, read, after, stopped];
+    Some(answers == ["wait", "wait", "entered", "lost", "memory"])
 }
 
 #[test]
@@ -284,16 +249,15 @@ fn a_reading_is_waited_for_until_it_comes(rt: HostRuntime) {
     assert!(rt; is_waited_for(rt.alloc()) == Some(true));
 }
 
-/// Its outcome once the root was read, if memory runs out at one path.
-fn answer_in_tree(alloc: Global, at: &'static str, other: Other) -> Option<&'static str> {
-    let fs = tree(alloc, at)?;
-    let [_, _, read, _] = answers_by(alloc, job_by(alloc, &fs, options())?, (), other)?;
-    Some(read)
-}
-
-/// Whether this is that outcome.
+/// Whether this is its outcome once the root was read, if memory runs out at one path.
 fn answers(alloc: Global, at: &'static str, other: Other, answer: &str) -> bool {
-    answer_in_tree(alloc, at, other) == Some(answer)
+    let Some(fs) = tree(alloc, at) else {
+        return false;
+    };
+    match answers_by(alloc, &fs, options(), other) {
+        Some((_, _, read, _)) => read == answer,
+        None => false,
+    }
 }
 
 #[test]
@@ -336,9 +300,9 @@ fn a_message_that_was_refused_memory_says_so_where_it_is_waited_for(rt: HostRunt
 // Lists of ancestors.
 
 /// Whether an entry and the directory below it, alone each, have the same list of ancestors, and which it is.
-fn have_list<C: ClientState>(
-    found: &[Result<DirEntry<C>, Error>],
-    below: &[ReadDirSpec<C>],
+fn have_list(
+    found: &[Result<DirEntry<States>, Error>],
+    below: &[Spec],
     ancestors: &Ancestors,
 ) -> bool {
     let [of] = below else {
@@ -349,14 +313,8 @@ fn have_list<C: ClientState>(
 }
 
 /// Whether the root's entry and its directory have the same list of ancestors.
-fn root_has_list_of_directory<C: ClientState, S: FileSystem, P: ProcessReadDir<C, Global>>(
-    job: &Job<C, S, P>,
-    state: C::ReadDirState,
-    ancestors: &Ancestors,
-) -> Option<bool>
-    requires { P.IsLawful (callback job.now) }
-{
-    let list = job.root_list("/r", state).ok()?;
+fn root_has_list_of_directory(job: &TreeJob<'_>, ancestors: &Ancestors) -> Option<bool> {
+    let list = job.root_list("/r", ()).ok()?;
     let below = list.read_children_specs().ok()?;
     Some(have_list(list.results_list(), below.as_slice(), ancestors))
 }
@@ -364,8 +322,8 @@ fn root_has_list_of_directory<C: ClientState, S: FileSystem, P: ProcessReadDir<C
 /// Whether both have the list of the root's path alone.
 fn root_is_its_own_ancestor(alloc: Global, root: &Ancestors) -> Option<bool> {
     let fs = tree(alloc, "")?;
-    let job: TreeJob<'_> = Job::new(alloc, &fs, NoProcess, options().with_follow_links(true));
-    root_has_list_of_directory(&job, (), root)
+    let job = Job::new(alloc, &fs, NoProcess, options().with_follow_links(true));
+    root_has_list_of_directory(&job, root)
 }
 
 /// Whether these are the same lists where they are to be, and others where not.

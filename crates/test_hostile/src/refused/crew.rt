@@ -1,17 +1,18 @@
 //! Walks that a crew reads for, where each request for memory is refused, or all from each on.
-ghost use Rattle.std.specs.Prelude.{◌≡◌, IfSome};
+ghost use Rattle.std.specs.Prelude.{IfSome};
 ghost use Rattle.jwalk.specs.WalkDir.{callback_of};
 
 use crate::refused::rows::{GROUPS, HANDED_ON, MOVED, Row};
-use jwalk::file_system::MemoryFs;
+use jwalk::file_system::{FileSystem, MemoryFs};
 use jwalk::read_dir::{NoProcess, ProcessReadDir};
 use jwalk::{ClientState, Crew, Error, Parallelism, WalkDirGeneric};
 use std::alloc::{Allocator, Global};
-use std::sync::Arc;
+use std::sync::{Arc, Wait};
 use std::thread;
-use std::time::Duration;
+use std::thread::Threads;
+use std::time::{Clock, Duration};
 use test_fixtures::host::Host;
-use test_fixtures::refused::callbacks::Texts;
+use test_fixtures::refused::callbacks::{Callback, Texts};
 use test_fixtures::refused::came::{Came, goes};
 use test_fixtures::refused::lines::Shown;
 use test_fixtures::refused::turns::MOST;
@@ -24,32 +25,47 @@ type Memory = &'static Refusing<Global>;
 /// A walk yet to begin that a crew is to read for.
 type Builder<R, C, P> = WalkDirGeneric<C, Arc<MemoryFs>, P, Memory, Crew<R>>;
 
-/// What walks of a row are made of.
-#[derive(Drop)]
-struct Made<'a, R: Drop> {
-    row: &'a Row,
+/// One without a callback.
+type Plain<R> = Builder<R, ((), ()), NoProcess>;
+
+/// One with a callback.
+type Called<R> = Builder<R, Texts<Memory>, Callback>;
+
+/// That a crew reads, as soon as it has a place.
+fn by_crew<R: Host>(pool: Arc<Crew<R>, Memory>) -> Parallelism<Crew<R>, Memory> {
+    Parallelism::RayonExistingPool {
+        pool,
+        busy_timeout: None,
+    }
+}
+
+/// Returns the walk of a row without a callback, if there is memory for its root.
+fn plain<R: Host>(
     memory: Memory,
     fs: Arc<MemoryFs>,
     pool: Arc<Crew<R>, Memory>,
+    row: &Row,
+) -> Option<Plain<R>> {
+    let root = String::from_str(memory, row.root).ok()?;
+    let walk = WalkDirGeneric::with_crew(fs, root)
+        .sort(true)
+        .follow_links(row.follow);
+    Some(walk.parallelism(by_crew(pool)))
 }
 
 /// Returns the walk of a row with this callback, if there is memory for its root.
-fn builder<R: Host, C: ClientState, P: ProcessReadDir<C, Memory>>(
-    made: Made<'_, R>,
-    process: P,
-) -> Option<Builder<R, C, P>>
-    ensures { IfSome result (λ walk. callback_of walk ≡ process) }
-{
-    let root = String::from_str(made.memory, made.row.root).ok()?;
-    let by_crew = Parallelism::RayonExistingPool {
-        pool: made.pool,
-        busy_timeout: None,
-    };
-    let walk = WalkDirGeneric::with_crew(made.fs, root)
+fn called<R: Host>(
+    memory: Memory,
+    fs: Arc<MemoryFs>,
+    pool: Arc<Crew<R>, Memory>,
+    row: &Row,
+    callback: Callback,
+) -> Option<Called<R>> {
+    let root = String::from_str(memory, row.root).ok()?;
+    let walk = WalkDirGeneric::with_crew(fs, root)
         .sort(true)
-        .follow_links(made.row.follow)
-        .parallelism(by_crew);
-    Some(walk.process_read_dir(process))
+        .follow_links(row.follow);
+    Some(walk.parallelism(by_crew(pool)).process_read_dir(callback))
 }
 
 /// How a walk comes out that didn't begin. A crew of which no thread could be started is busy.
@@ -61,32 +77,39 @@ fn not_begun<A: Allocator + Copy>(error: &Error<A>) -> Came {
     }
 }
 
-/// How the walk of a row comes out with this callback.
-fn comes_with<
-    R: Host,
+/// How a walk comes out that a crew is to read for, if there was memory for its root.
+fn comes_by<
+    R: Wait + Threads + Clock + Drop + Send + Sync + 'static,
     C: ClientState + Send + 'static,
-    P: ProcessReadDir<C, Memory> + Send + Sync + 'static,
->(alloc: Global, made: Made<'_, R>, process: P) -> Came
+    S: FileSystem + Send + Sync + 'static,
+    P: ProcessReadDir<C, A> + Send + Sync + 'static,
+    A: Allocator + Copy + Send + Sync + 'static,
+>(alloc: Global, walk: Option<WalkDirGeneric<C, S, P, A, Crew<R>>>, row: &Row) -> Came
 where
     C::ReadDirState: Send + 'static,
     C::DirEntryState: Shown + Send + 'static,
-    requires { P.IsLawful process }
+    requires { IfSome walk (λ w. P.IsLawful (callback_of w)) }
 {
-    let lines = made.row.lines;
-    let Some(walk) = builder::<R, C, P>(made, process) else {
+    let Some(walk) = walk else {
         return Came::Refused(0);
     };
     match walk.try_into_iter() {
-        Ok(walk) => goes(alloc, walk, lines),
+        Ok(walk) => goes(alloc, walk, row.lines),
         Err(error) => not_begun(&error),
     }
 }
 
 /// How the walk of a row comes out.
-fn comes<R: Host>(alloc: Global, made: Made<'_, R>) -> Came {
-    match made.row.callback {
-        Some(callback) => comes_with::<R, Texts<Memory>, _>(alloc, made, callback),
-        None => comes_with::<R, ((), ()), _>(alloc, made, NoProcess),
+fn comes<R: Host>(
+    alloc: Global,
+    memory: Memory,
+    fs: Arc<MemoryFs>,
+    pool: Arc<Crew<R>, Memory>,
+    row: &Row,
+) -> Came {
+    match row.callback {
+        Some(callback) => comes_by(alloc, called(memory, fs, pool, row, callback), row),
+        None => comes_by(alloc, plain(memory, fs, pool, row), row),
     }
 }
 
@@ -124,15 +147,7 @@ fn refused<R: Host>(
     let before = memory.pieces();
     let (fs, own) = (fs.clone().ok()?, pool.clone().ok()?);
     memory.refuse(refusals.first, refusals.many);
-    let came = comes(
-        rt.alloc(),
-        Made {
-            row,
-            memory,
-            fs,
-            pool: own,
-        },
-    );
+    let came = comes(rt.alloc(), memory, fs, own, row);
     let is_free = pool.in_use() == 0;
     let is_right = came != Came::Wrong && is_free && are_back(rt, memory, before);
     let refused = memory.refused();

@@ -1,14 +1,12 @@
 //! Walks whose batches threads read, where each request for memory is refused, or all from each on.
 use crate::refused::goes::Play;
 use crate::refused::rows::{GROUPS, HANDED_ON, MOVED, Row};
-use jwalk::ClientState;
 use jwalk::file_system::{BuildError, MemoryFs};
-use jwalk::read_dir::{NoProcess, ProcessReadDir};
+use jwalk::read_dir::NoProcess;
 use std::alloc::Global;
 use std::thread::Threads;
-use test_fixtures::refused::callbacks::Texts;
+use test_fixtures::refused::callbacks::{Callback, Texts};
 use test_fixtures::refused::came::{Came, TAKEN, WAYS};
-use test_fixtures::refused::lines::Shown;
 use test_fixtures::refused::on_threads::comes;
 use test_fixtures::refused::turns::{MOST, Repeated, Run, run_of};
 use test_fixtures::refusing_alloc::Refusing;
@@ -31,34 +29,30 @@ fn wide(alloc: Global) -> Result<MemoryFs, BuildError> {
     Ok(fs)
 }
 
-/// How a walk comes out with this memory and this callback.
-fn comes_with<
-    'm,
-    R: Threads + Sync,
-    C: ClientState + Send,
-    P: ProcessReadDir<C, &'m Refusing<Global>> + Send + Sync,
->(rt: &R, alloc: Global, memory: &'m Refusing<Global>, play: Play<'_>, process: P) -> Came
-where
-    C::ReadDirState: Send,
-    C::DirEntryState: Shown + Send,
-    requires { P.IsLawful process }
-{
-    match play.builder::<C, P, &Refusing<Global>>(memory, process) {
-        Some(walk) => comes(rt, alloc, memory, walk, play.taken, play.row.lines),
-        None => Came::Refused(0),
-    }
-}
-
-/// How a walk comes out with this memory and its row's callback.
-fn comes_over<R: Threads + Sync>(
+/// How a walk without a callback comes out with this memory.
+fn plain_comes<R: Threads + Sync>(
     rt: &R,
     alloc: Global,
     memory: &Refusing<Global>,
     play: Play<'_>,
 ) -> Came {
-    match play.row.callback {
-        Some(callback) => comes_with::<_, Texts<_>, _>(rt, alloc, memory, play, callback),
-        None => comes_with::<_, ((), ()), _>(rt, alloc, memory, play, NoProcess),
+    match play.builder::<((), ()), _, _>(memory, NoProcess) {
+        Some(walk) => comes(rt, alloc, memory, walk, play.taken, play.row.lines),
+        None => Came::Refused(0),
+    }
+}
+
+/// How a walk with this callback comes out with this memory.
+fn called_comes<R: Threads + Sync>(
+    rt: &R,
+    alloc: Global,
+    memory: &Refusing<Global>,
+    play: Play<'_>,
+    callback: Callback,
+) -> Came {
+    match play.builder::<Texts<&Refusing<Global>>, _, _>(memory, callback) {
+        Some(walk) => comes(rt, alloc, memory, walk, play.taken, play.row.lines),
+        None => Came::Refused(0),
     }
 }
 
@@ -77,7 +71,10 @@ fn first_wrong<R: Threads + AllocGlobal + Sync>(
     let memory = Refusing::new(rt.alloc());
     for number in 1..MOST {
         memory.refuse(number, many);
-        let came = comes_over(rt, rt.alloc(), &memory, play);
+        let came = match play.row.callback {
+            Some(callback) => called_comes(rt, rt.alloc(), &memory, play, callback),
+            None => plain_comes(rt, rt.alloc(), &memory, play),
+        };
         match run_of(&memory, number, came, may_be_whole(play)) {
             Run::Refused => {}
             Run::Quiet => return None,

@@ -1,15 +1,16 @@
 //! Directories without end: each lists one directory.
 ghost use Rattle.jwalk.specs.jwalk_model.Tree.{functions_of, only_root};
 
-use crate::by_crew::{ByCrew, Visit, WalkBy};
+use crate::by_crew::ByCrew;
+use jwalk::Crew;
 use jwalk::file_system::{Fault, FileSystem, FileType, Listed, Metadata};
 use jwalk::read_dir::NoProcess;
-use jwalk::{Crew, Readers};
 use std::alloc::{AllocError, Allocator, Global};
 use std::io;
 use std::io::ErrorKind;
 use std::sync::Arc;
 use std::sync::atomic::{AtomicUsize, Ordering};
+use test_fixtures::answers::{Answer, are_lines};
 use test_fixtures::builders::builder;
 use test_fixtures::host::Host;
 use test_fixtures::resting::{CountsLists, rests};
@@ -92,18 +93,13 @@ fn a_greatest_depth_ends_an_endless_walk_after_three_listings(rt: HostRuntime) {
     }
 }
 
-/// A walk with these options.
-fn walk_with(alloc: Global, settings: &[Setting]) -> Result<ByCrew<'_, Endless>, AllocError> {
-    Ok(ByCrew {
-        fs: Arc::new(alloc, Endless::new())?,
-        root: "/",
-        settings,
-    })
-}
-
-/// Whether three listings are asked for if a crew of two reads.
+/// Whether this is so if a crew of two reads.
 fn ends_by_crew<R: Host>(rt: &R) -> Result<bool, AllocError> {
-    let asked = walk_with(rt.alloc(), TO_THREE)?;
+    let asked = ByCrew {
+        fs: Arc::new(rt.alloc(), Endless::new())?,
+        root: "/",
+        settings: TO_THREE,
+    };
     Ok(asked.shows(rt, 2, FOUR) && asked.fs.lists() == 3)
 }
 
@@ -112,29 +108,23 @@ fn a_greatest_depth_ends_an_endless_walk_of_a_crew(rt: HostRuntime) {
     assert!(rt; ends_by_crew(&rt) == Ok(true));
 }
 
-/// That many entries on request, each one deeper than the one before.
-#[derive(Clone, Copy)]
-struct Deeper(usize);
-
-impl<S: FileSystem> Visit<S> for Deeper {
-    fn visit<L: Readers<((), ()), Arc<S>, NoProcess, Global>>(
-        &self,
-        walk: &mut WalkBy<S, L>,
-    ) -> bool {
-        for depth in 0..self.0 {
-            if !matches!(walk.next(), Some(Ok(entry)) if entry.depth() == depth) {
-                return false;
-            }
+/// Whether these are a hundred entries, each one deeper than the one before.
+fn are_a_hundred(found: &[Answer]) -> bool {
+    for (depth, answer) in found.iter().enumerate() {
+        if !matches!(answer, Ok(entry) if entry.depth() == depth) {
+            return false;
         }
-        true
     }
+    found.len() == 100
 }
 
-/// Whether a serial walk yields a hundred entries on request, and is dropped then.
+/// Whether a walk yields a hundred entries on request, and is dropped then.
 fn gives_a_hundred(alloc: Global) -> Result<bool, AllocError> {
-    let fs = Arc::new(alloc, Endless::new())?;
-    let mut walk = builder(alloc, fs, "/")?.into_iter();
-    Ok(Deeper(100).visit(&mut walk))
+    let fs = Endless::new();
+    let mut walk = builder(alloc, &fs, "/")?.into_iter();
+    let mut found = Vec::new(alloc);
+    let count = walk.fill(100, &mut found)?;
+    Ok(count == 100 && are_a_hundred(found.as_slice()))
 }
 
 #[test]
@@ -142,19 +132,49 @@ fn a_hundred_answers_of_an_endless_walk(rt: HostRuntime) {
     assert!(rt; gives_a_hundred(rt.alloc()) == Ok(true));
 }
 
-/// Whether a crew's walk yields that many entries on request, and once it is dropped nothing is listed any more.
-fn gives_and_rests<R: Host>(rt: &R, count: usize) -> Result<bool, AllocError> {
-    let asked = walk_with(rt.alloc(), &[])?;
-    let pool = Arc::new(rt.alloc(), Crew::new(rt.clone()?, 1, 2))?;
-    Ok(asked.lend(rt.alloc(), pool, &Deeper(count))? && rests(rt, &*asked.fs))
+/// The first answers of a walk that a crew of two reads for, which is dropped then.
+fn first_of_crew<R: Host>(
+    rt: &R,
+    asked: &ByCrew<'_, Endless>,
+    count: usize,
+) -> Result<Vec<Answer>, AllocError> {
+    let alloc = rt.alloc();
+    let pool = Arc::new(alloc, Crew::new(rt.clone()?, 1, 2))?;
+    let mut walk = asked.builder(alloc, pool)?.into_iter();
+    let mut found = Vec::new(alloc);
+    walk.fill(count, &mut found)?;
+    Ok(found)
+}
+
+/// Whether a crew's walk yields a hundred entries on request, and once it is dropped nothing is listed any more.
+fn gives_a_hundred_and_rests<R: Host>(rt: &R) -> Result<bool, AllocError> {
+    let asked = ByCrew {
+        fs: Arc::new(rt.alloc(), Endless::new())?,
+        root: "/",
+        settings: &[],
+    };
+    let found = first_of_crew(rt, &asked, 100)?;
+    Ok(are_a_hundred(found.as_slice()) && rests(rt, &*asked.fs))
 }
 
 #[test]
 fn a_hundred_answers_of_an_endless_walk_of_a_crew(rt: HostRuntime) {
-    assert!(rt; gives_and_rests(&rt, 100) == Ok(true));
+    assert!(rt; gives_a_hundred_and_rests(&rt) == Ok(true));
+}
+
+/// Whether nothing is listed any more once a crew's walk is dropped after five answers.
+fn rests_after_five<R: Host>(rt: &R) -> Result<bool, AllocError> {
+    let asked = ByCrew {
+        fs: Arc::new(rt.alloc(), Endless::new())?,
+        root: "/",
+        settings: &[],
+    };
+    let found = first_of_crew(rt, &asked, 5)?;
+    let wanted = "0 d /; 1 d /d; 2 d /d/d; 3 d /d/d/d; 4 d /d/d/d/d";
+    Ok(are_lines(rt.alloc(), found.as_slice(), wanted) && rests(rt, &*asked.fs))
 }
 
 #[test]
 fn no_listing_after_an_endless_walk_is_dropped(rt: HostRuntime) {
-    assert!(rt; gives_and_rests(&rt, 5) == Ok(true));
+    assert!(rt; rests_after_five(&rt) == Ok(true));
 }

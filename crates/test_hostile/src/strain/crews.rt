@@ -1,14 +1,13 @@
 //! A thousand walks on one crew, and two crews at once.
-use crate::by_crew::{ByCrew, Visit, WalkBy};
+use crate::by_crew::{ByCrew, CrewWalk};
+use jwalk::Crew;
 use jwalk::file_system::{FileSystem, MemoryFs, RealFs};
-use jwalk::read_dir::NoProcess;
-use jwalk::{Crew, Readers};
-use std::alloc::{AllocError, Global};
+use std::alloc::Global;
 use std::fs::Files;
 use std::sync::Arc;
 use std::thread;
 use std::time::Duration;
-use test_fixtures::answers::are_lines;
+use test_fixtures::answers::{Answer, are_lines};
 use test_fixtures::host::Host;
 use test_fixtures::trees::{FORKED, tree};
 
@@ -29,22 +28,15 @@ fn threads<R: Files + Drop>(alloc: Global, disk: &RealFs<R>) -> Option<usize> {
     Some(disk.read_dir(alloc, "/proc/self/task").ok()?.len())
 }
 
-/// That many entries of a walk, which is dropped then.
-#[derive(Clone, Copy)]
-struct First(usize);
-
-impl<S: FileSystem> Visit<S> for First {
-    fn visit<L: Readers<((), ()), Arc<S>, NoProcess, Global>>(
-        &self,
-        walk: &mut WalkBy<S, L>,
-    ) -> bool {
-        for _ in 0..self.0 {
-            if !matches!(walk.next(), Some(Ok(_))) {
-                return false;
-            }
+/// Begins a walk and drops it after that many answers.
+fn begins_and_drops<R: Host>(walk: CrewWalk<R, MemoryFs>, count: usize) -> bool {
+    let mut walk = walk.into_iter();
+    for _ in 0..count {
+        if !matches!(walk.next(), Some(Ok(_))) {
+            return false;
         }
-        true
     }
+    true
 }
 
 /// Whether that many walks on one crew, one after another, are begun and dropped.
@@ -52,8 +44,8 @@ fn begin_and_drop<R: Host>(rt: &R, walks: usize) -> Option<bool> {
     let asked = forked(rt.alloc())?;
     let pool = Arc::new(rt.alloc(), Crew::new(rt.clone().ok()?, 1, 2)).ok()?;
     for number in 0..walks {
-        let first = First(number % 8);
-        if !asked.lend(rt.alloc(), pool.clone().ok()?, &first).ok()? {
+        let walk = asked.builder(rt.alloc(), pool.clone().ok()?).ok()?;
+        if !begins_and_drops(walk, number % 8) {
             return Some(false);
         }
     }
@@ -84,37 +76,30 @@ fn a_thousand_walks_on_one_crew_leave_no_thread(rt: HostRuntime) {
     assert!(rt; leave_no_thread(&rt) == Some(true));
 }
 
-/// Whether two walks whose answers are taken in turn both yield the lines of the tree.
-fn both_show<
-    L: Readers<((), ()), Arc<MemoryFs>, NoProcess, Global>,
-    M: Readers<((), ()), Arc<MemoryFs>, NoProcess, Global>,
->(
-    alloc: Global,
-    first: &mut WalkBy<MemoryFs, L>,
-    second: &mut WalkBy<MemoryFs, M>,
-) -> Result<bool, AllocError> {
-    let mut found = (Vec::new(alloc), Vec::new(alloc));
-    for _ in 0..8 {
-        first.fill(1, &mut found.0)?;
-        second.fill(1, &mut found.1)?;
-    }
-    let is_shown = are_lines(alloc, found.0.as_slice(), LINES);
-    Ok(is_shown && are_lines(alloc, found.1.as_slice(), LINES))
-}
-
-/// Whether two walks do so, each on a crew of its own.
-fn both_show_by_two<R: Host>(rt: &R) -> Option<bool> {
+/// The answers of two walks in turn, each on a crew of its own.
+fn of_two<R: Host>(rt: &R) -> Option<(Vec<Answer>, Vec<Answer>)> {
     let alloc = rt.alloc();
     let asked = forked(alloc)?;
     let one = Arc::new(alloc, Crew::new(rt.clone().ok()?, 1, 2)).ok()?;
     let other = Arc::new(alloc, Crew::new(rt.clone().ok()?, 1, 3)).ok()?;
-    let first = asked.builder(alloc, one).ok()?;
-    let second = asked.builder(alloc, other).ok()?;
-    let (mut first, mut second) = (first.into_iter(), second.into_iter());
-    both_show(alloc, &mut first, &mut second).ok()
+    let mut first = asked.builder(alloc, one).ok()?.into_iter();
+    let mut second = asked.builder(alloc, other).ok()?.into_iter();
+    let mut found = (Vec::new(alloc), Vec::new(alloc));
+    for _ in 0..8 {
+        first.fill(1, &mut found.0).ok()?;
+        second.fill(1, &mut found.1).ok()?;
+    }
+    Some(found)
+}
+
+/// Whether both yield the lines of the tree.
+fn both_show<R: Host>(rt: &R) -> Option<bool> {
+    let (first, second) = of_two(rt)?;
+    let alloc = rt.alloc();
+    Some(are_lines(alloc, first.as_slice(), LINES) && are_lines(alloc, second.as_slice(), LINES))
 }
 
 #[test]
 fn two_crews_at_once(rt: HostRuntime) {
-    assert!(rt; both_show_by_two(&rt) == Some(true));
+    assert!(rt; both_show(&rt) == Some(true));
 }
