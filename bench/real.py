@@ -226,11 +226,15 @@ def find_sum(root):
     return ["sh", "-c", FIND_SUM, "sh", root]
 
 
-def adders(walk, root):
-    """The programs that add up what is below a root, hidden names too, each with its bounds beside `du` and `find`."""
-    usage = [walk, "--usage", "--hidden"]
-    yield "serial", [*usage, root], {"du": 2.4}
-    yield "crew 4", [*usage, "--crew", "4", root], {"du": 1.0, "find": 1.0}
+# What `walk --usage` is to take at most beside `du`: serial, and by a crew of 4.
+USAGE_BOUNDS = {"flat": (1.6, 0.6), "/usr": (1.5, 0.62)}
+
+
+def adders(tree, walk, root):
+    """The programs that add up what is below a root, hidden names too, each with its bounds beside `du`."""
+    usage, (serial, crew) = [walk, "--usage", "--hidden"], USAGE_BOUNDS[tree]
+    yield "serial", [*usage, root], {"du": serial}
+    yield "crew 4", [*usage, "--crew", "4", root], {"du": crew}
     yield "du", ["du", "-s", "--apparent-size", root], {}
     yield "find", find_sum(root), {}
     others = {"dust": ["-s", "-d", "0"], "gdu": ["-n", "-p", "-s", "-a"], "dua": ["--apparent-size", "aggregate"]}
@@ -258,7 +262,7 @@ def walked_totals(words):
 
 def add_up(tree, root, walk, output):
     """The times of all that add up a tree, and whether `walk` counts what `find` does."""
-    commands = list(adders(walk, root))
+    commands = list(adders(tree, walk, root))
     runs, _ = turns([(name, words) for name, words, _ in commands], output, count=USAGE_TURNS)
     for name, _, bounds in commands:
         of = runs[name]
