@@ -4,7 +4,7 @@ use Rattle.std.specs.Prelude.{◌||◌}
 use Rattle.std.proofs.lemmas.List.{map-set, get_or-map, length-map, take_all, drop_all}
 use Rattle.std.proofs.lemmas.List.Edits.{map_over_more}
 use Rattle.std.specs.List.{list_any}
-use Rattle.jwalk.specs.jwalk_core.Given.{Given, counted_item, counted_entry, IsProcessed}
+use Rattle.jwalk.specs.jwalk_job.Given.{Given, counted_item, counted_entry, IsProcessed}
 use Rattle.jwalk.specs.jwalk_model.Counted.{Worth, both}
 use Rattle.jwalk.specs.jwalk_model.Entry.{Item}
 use Rattle.jwalk.specs.jwalk_model.ReadDir.{Reading}

@@ -2,9 +2,9 @@
 use Rattle.std.specs.Prelude.{◌≡◌, List, Result, false}
 use Rattle.jwalk.specs.WalkDir.{file_system_of, options_of, root_of, state_of}
 use Rattle.jwalk.specs.declared.walk_dir.WalkDirGeneric.{WalkDirGeneric}
-use Rattle.jwalk.specs.jwalk_core.Given.{Given, counted_list}
-use Rattle.jwalk.specs.jwalk_core.declared.dir_entry.DirEntry.{DirEntry}
-use Rattle.jwalk.specs.jwalk_core.declared.error.Error.{Error}
+use Rattle.jwalk.specs.jwalk_job.Given.{Given, counted_list}
+use Rattle.jwalk.specs.jwalk_job.declared.dir_entry.DirEntry.{DirEntry}
+use Rattle.jwalk.specs.jwalk_job.declared.error.Error.{Error}
 use Rattle.jwalk.specs.jwalk_fs.declared.file_system.FileSystem as FileSystem
 use Rattle.jwalk.specs.jwalk_model.Counted.{Worth}
 use Rattle.jwalk.specs.jwalk_model.Job.{Job}

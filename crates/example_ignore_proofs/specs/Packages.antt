@@ -1,7 +1,7 @@
 -- Entries that lie in packages.
 use Rattle.std.specs.Prelude.{◌≡◌, ℕ, Bool, false, ◌&&◌, ◌||◌, List, [], ◌∷◌, map, Option, Ok, Err, codes, bytes_eq}
 use Rattle.std.specs.List.{list_any}
-use Rattle.jwalk.specs.jwalk_core.Given.{Given}
+use Rattle.jwalk.specs.jwalk_job.Given.{Given}
 use Rattle.jwalk.specs.jwalk_model.Counted.{Worth, both}
 use Rattle.jwalk.specs.jwalk_model.Entry.{Item, AtDepth}
 use Rattle.jwalk.specs.jwalk_model.FileType.{is_file}

@@ -2,7 +2,7 @@
 use Rattle.std.specs.Prelude.{}
 use Rattle.jwalk.specs.jwalk_callbacks.WithSizes.{asking-KeepsDepthsOf, counted_size, size_worth, sizes}
 use Rattle.jwalk.specs.jwalk_callbacks.declared.size.Size.{Size}
-use Rattle.jwalk.specs.jwalk_core.Given.{Given}
+use Rattle.jwalk.specs.jwalk_job.Given.{Given}
 use Rattle.jwalk.specs.jwalk_model.Counted.{blank}
 use Rattle.jwalk.specs.jwalk_model.FileSystem.{Functions}
 use Rattle.jwalk_ignore.specs.Callback.Given.{ignoring-KeepsDepthsOf, rules_alone}

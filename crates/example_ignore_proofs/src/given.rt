@@ -2,7 +2,7 @@
 ghost use Rattle.std.specs.Prelude.{◌≡◌, IfOk};
 ghost use Rattle.jwalk.specs.DirEntryIter.{NoneRefused};
 ghost use Rattle.jwalk.specs.WalkDir.{file_system_of};
-ghost use Rattle.jwalk.specs.jwalk_core.Job.{IsSteady};
+ghost use Rattle.jwalk.specs.jwalk_job.Job.{IsSteady};
 ghost use Rattle.jwalk_ignore.specs.Callback.IgnoreViews.{next_of};
 ghost use Rattle.example_ignore_proofs.specs.Given.{IsWholeWalk};
 

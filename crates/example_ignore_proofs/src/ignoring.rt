@@ -4,7 +4,7 @@ ghost use Rattle.jwalk.specs.jwalk_model.Options.{defaults, with_skip_hidden};
 ghost use Rattle.jwalk.specs.jwalk_model.Tree.{functions_of};
 ghost use Rattle.jwalk.specs.jwalk_model.Walk.{whole_walk};
 ghost use Rattle.jwalk.specs.jwalk_memory_fs.MemoryFs.{tree_of};
-ghost use Rattle.jwalk.specs.jwalk_core.Given.{counted_list};
+ghost use Rattle.jwalk.specs.jwalk_job.Given.{counted_list};
 ghost use Rattle.jwalk.specs.WalkDir.{file_system_of, options_of, root_of, state_of};
 ghost use Rattle.jwalk.specs.DirEntryIter.{NoneRefused};
 ghost use Rattle.jwalk_ignore.specs.Callback.Given.{first_settings, ignoring_alone, job_ignoring, no_rules_yet, rules_alone};

@@ -3,7 +3,7 @@ ghost use Rattle.std.specs.Prelude.{◌≡◌, ◌||◌, IfOk, map};
 ghost use Rattle.std.specs.List.{list_any};
 ghost use Rattle.jwalk.specs.DirEntryIter.{NoneRefused};
 ghost use Rattle.jwalk.specs.WalkDir.{file_system_of};
-ghost use Rattle.jwalk.specs.jwalk_core.Entry.{item};
+ghost use Rattle.jwalk.specs.jwalk_job.Entry.{item};
 ghost use Rattle.jwalk_ignore.specs.Callback.IgnoreViews.{settings_of, texts_of};
 ghost use Rattle.example_ignore_proofs.specs.Given.{IsWholeWalk};
 ghost use Rattle.example_ignore_proofs.specs.Packages.{CountsPackages, ignoring_packages, is_manifest, with_mark};

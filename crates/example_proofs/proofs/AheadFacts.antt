@@ -9,10 +9,10 @@ use Rattle.std.specs.declared.default.Default as Default
 use Rattle.jwalk.specs.jwalk_model.Entry.{Item}
 use Rattle.jwalk.specs.jwalk_model.Listing.{is_answered}
 use Rattle.jwalk.specs.jwalk_fs.declared.file_system.FileSystem as FileSystem
-use Rattle.jwalk.specs.jwalk_core.declared.process_read_dir.ProcessReadDir as ProcessReadDir
-use Rattle.jwalk.specs.jwalk_core.declared.dir_entry.DirEntry.{DirEntry}
-use Rattle.jwalk.specs.jwalk_core.declared.error.Error.{Error}
-use Rattle.jwalk.specs.jwalk_core.Entry.{item}
+use Rattle.jwalk.specs.jwalk_job.declared.process_read_dir.ProcessReadDir as ProcessReadDir
+use Rattle.jwalk.specs.jwalk_job.declared.dir_entry.DirEntry.{DirEntry}
+use Rattle.jwalk.specs.jwalk_job.declared.error.Error.{Error}
+use Rattle.jwalk.specs.jwalk_job.Entry.{item}
 use Rattle.jwalk.specs.jwalk_core.declared.readers.Readers as Readers
 use Rattle.jwalk.specs.jwalk_core.declared.dir_entry_iter.DirEntryIter.{DirEntryIter}
 use Rattle.jwalk.specs.DirEntryIter.{Position, by_crew, min_depth_of, width_of, early_of, Stops, PassesMany, none_passed, one_passed, one_entered, GrowsAhead, Answers}

@@ -3,10 +3,10 @@ use Rattle.std.proofs.Common.{◌≡◌, ◌∙◌, ◌<◌, ℕ, suc, true, fal
 use Rattle.std.specs.Prelude.{filter, is_some}
 use Rattle.jwalk.specs.jwalk_model.Entry.{Item, has_directory}
 use Rattle.jwalk.specs.jwalk_model.Counted.{children_by, item_by}
-use Rattle.jwalk.specs.jwalk_core.declared.dir_entry.DirEntry.{DirEntry}
-use Rattle.jwalk.specs.jwalk_core.declared.error.Error.{Error}
-use Rattle.jwalk.specs.jwalk_core.Entry.{item}
-use Rattle.jwalk.specs.jwalk_core.Given.{Given, counted_list, IsProcessed}
+use Rattle.jwalk.specs.jwalk_job.declared.dir_entry.DirEntry.{DirEntry}
+use Rattle.jwalk.specs.jwalk_job.declared.error.Error.{Error}
+use Rattle.jwalk.specs.jwalk_job.Entry.{item}
+use Rattle.jwalk.specs.jwalk_job.Given.{Given, counted_list, IsProcessed}
 use Rattle.example_proofs.specs.HandsOnNames.{worth_of, handed, names_handed_on}
 
 -- lists of equal length, where each item of one is seen as that of the other, changed

@@ -20,15 +20,15 @@ use Rattle.jwalk.specs.jwalk_order.IndexPath.{address}
 use Rattle.jwalk.specs.jwalk_order.Ordered.{address_of, child_count_of}
 use Rattle.jwalk.specs.jwalk_order.declared.index_path.IndexPath.{IndexPath}
 use Rattle.jwalk.specs.jwalk_order.declared.ordered.Ordered.{Ordered}
-use Rattle.jwalk.specs.jwalk_core.declared.process_read_dir.ProcessReadDir as ProcessReadDir
-use Rattle.jwalk.specs.jwalk_core.declared.error.Error.{Error}
-use Rattle.jwalk.specs.jwalk_core.declared.read_dir_spec.ReadDirSpec.{ReadDirSpec}
-use Rattle.jwalk.specs.jwalk_core.ReadDirSpec.{spec}
-use Rattle.jwalk.specs.jwalk_core.Given.{Given, counted_spec, counted_outcome}
-use Rattle.jwalk.specs.jwalk_core.declared.job.Job.{Job}
-use Rattle.jwalk.specs.jwalk_core.declared.read_dir.ReadDir.{ReadDir}
-use Rattle.jwalk.specs.jwalk_core.Job.{IsReadingOf, greatest_depth, job_by}
-use Rattle.jwalk.specs.jwalk_core.ReadDir.{outcome}
+use Rattle.jwalk.specs.jwalk_job.declared.process_read_dir.ProcessReadDir as ProcessReadDir
+use Rattle.jwalk.specs.jwalk_job.declared.error.Error.{Error}
+use Rattle.jwalk.specs.jwalk_job.declared.read_dir_spec.ReadDirSpec.{ReadDirSpec}
+use Rattle.jwalk.specs.jwalk_job.ReadDirSpec.{spec}
+use Rattle.jwalk.specs.jwalk_job.Given.{Given, counted_spec, counted_outcome}
+use Rattle.jwalk.specs.jwalk_job.declared.job.Job.{Job}
+use Rattle.jwalk.specs.jwalk_job.declared.read_dir.ReadDir.{ReadDir}
+use Rattle.jwalk.specs.jwalk_job.Job.{IsReadingOf, greatest_depth, job_by}
+use Rattle.jwalk.specs.jwalk_job.ReadDir.{outcome}
 use Rattle.jwalk.specs.jwalk_core.Message.{Message, IsLawfulMessage}
 use Rattle.jwalk.specs.jwalk_core.Wanted.{Fits}
 use Rattle.jwalk.specs.jwalk_core.declared.wanted.Wanted.{Wanted}

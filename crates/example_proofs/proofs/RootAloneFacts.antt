@@ -2,7 +2,7 @@
 use Rattle.std.proofs.Common.{◌≡◌, ℕ, List, Option, Some, None, Result, Ok, Err, map, ap, sym}
 use Rattle.jwalk.specs.jwalk_model.Entry.{Item}
 use Rattle.jwalk.specs.jwalk_model.Counted.{blank}
-use Rattle.jwalk.specs.jwalk_core.Given.{counted_item, IsProcessed}
+use Rattle.jwalk.specs.jwalk_job.Given.{counted_item, IsProcessed}
 use Rattle.std.specs.Prelude.{OnOk}
 use Rattle.example_proofs.specs.RootAlone.{emptied, root_alone}
 

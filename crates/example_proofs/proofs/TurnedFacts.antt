@@ -5,7 +5,7 @@ use mathlib.Core.List.{reverse-cons}
 use Rattle.std.specs.Prelude.{OnOk}
 use Rattle.jwalk.specs.jwalk_model.Entry.{Item}
 use Rattle.jwalk.specs.jwalk_model.Counted.{blank}
-use Rattle.jwalk.specs.jwalk_core.Given.{counted_item, IsProcessed}
+use Rattle.jwalk.specs.jwalk_job.Given.{counted_item, IsProcessed}
 use Rattle.example_proofs.specs.Turned.{turned}
 
 map-reverse : {X Y : Type 0} (f : X → Y) (xs : List X) → map f (reverse xs) ≡ reverse (map f xs)

@@ -2,11 +2,11 @@
 use Rattle.std.specs.Prelude.{Option, Result, IfSome, option_map}
 use Rattle.jwalk.specs.jwalk_model.Entry.{Item}
 use Rattle.jwalk.specs.jwalk_model.Counted.{Worth}
-use Rattle.jwalk.specs.jwalk_core.Entry.{item}
-use Rattle.jwalk.specs.jwalk_core.Given.{Given, counted_item}
+use Rattle.jwalk.specs.jwalk_job.Entry.{item}
+use Rattle.jwalk.specs.jwalk_job.Given.{Given, counted_item}
 use Rattle.jwalk.specs.DirEntryIter.{TellsMemory}
-use Rattle.jwalk.specs.jwalk_core.declared.dir_entry.DirEntry.{DirEntry}
-use Rattle.jwalk.specs.jwalk_core.declared.error.Error.{Error}
+use Rattle.jwalk.specs.jwalk_job.declared.dir_entry.DirEntry.{DirEntry}
+use Rattle.jwalk.specs.jwalk_job.declared.error.Error.{Error}
 
 module _ {C A R E : Type 0} where
   -- an answer, if there is one, as it counts over what is given

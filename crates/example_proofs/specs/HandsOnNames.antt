@@ -6,7 +6,7 @@ use Rattle.jwalk.specs.jwalk_model.Counted.{Worth, blank, bytes}
 use Rattle.jwalk.specs.jwalk_model.Job.{Job, Processing}
 use Rattle.jwalk.specs.jwalk_model.FileSystem.{Functions}
 use Rattle.jwalk.specs.jwalk_model.Options.{defaults, with_sort}
-use Rattle.jwalk.specs.jwalk_core.Given.{Given}
+use Rattle.jwalk.specs.jwalk_job.Given.{Given}
 
 -- a text counts by its bytes, and as nothing if there is none
 abbrev pub worth_of : {A : Type 0} → Option (String A) → Worth

@@ -1,7 +1,7 @@
 -- Numbers as states.
 use Rattle.std.specs.Prelude.{ℕ}
 use Rattle.jwalk.specs.jwalk_model.Counted.{Worth, number, both}
-use Rattle.jwalk.specs.jwalk_core.Given.{Given}
+use Rattle.jwalk.specs.jwalk_job.Given.{Given}
 
 -- two numbers count as both
 abbrev pub both_of : ℕ × ℕ → Worth

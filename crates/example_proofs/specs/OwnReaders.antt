@@ -10,12 +10,12 @@ use Rattle.jwalk.specs.jwalk_fs.declared.file_system.FileSystem as FileSystem
 use Rattle.jwalk.specs.jwalk_order.Addressed.{Addressed}
 use Rattle.jwalk.specs.jwalk_order.IndexPath.{address}
 use Rattle.jwalk.specs.jwalk_order.declared.index_path.IndexPath.{IndexPath}
-use Rattle.jwalk.specs.jwalk_core.declared.process_read_dir.ProcessReadDir as ProcessReadDir
-use Rattle.jwalk.specs.jwalk_core.declared.read_dir_spec.ReadDirSpec.{ReadDirSpec}
-use Rattle.jwalk.specs.jwalk_core.ReadDirSpec.{spec}
-use Rattle.jwalk.specs.jwalk_core.Given.{counted_spec}
-use Rattle.jwalk.specs.jwalk_core.declared.job.Job.{Job}
-use Rattle.jwalk.specs.jwalk_core.Job.{greatest_depth, job_by}
+use Rattle.jwalk.specs.jwalk_job.declared.process_read_dir.ProcessReadDir as ProcessReadDir
+use Rattle.jwalk.specs.jwalk_job.declared.read_dir_spec.ReadDirSpec.{ReadDirSpec}
+use Rattle.jwalk.specs.jwalk_job.ReadDirSpec.{spec}
+use Rattle.jwalk.specs.jwalk_job.Given.{counted_spec}
+use Rattle.jwalk.specs.jwalk_job.declared.job.Job.{Job}
+use Rattle.jwalk.specs.jwalk_job.Job.{greatest_depth, job_by}
 use Rattle.jwalk.specs.jwalk_core.Origin.{Origin, IsAt}
 use Rattle.jwalk.specs.WalkDir.{stateless}
 

@@ -3,7 +3,7 @@ use Rattle.std.specs.Prelude.{ℕ, List, [], Option, Some, None}
 use Rattle.jwalk.specs.jwalk_model.Entry.{Item}
 use Rattle.jwalk.specs.jwalk_model.Counted.{blank}
 use Rattle.jwalk.specs.jwalk_model.Job.{Processing, KeepsDepthsOf}
-use Rattle.jwalk.specs.jwalk_core.Given.{Given}
+use Rattle.jwalk.specs.jwalk_job.Given.{Given}
 
 module _ {R E : Type 0} where
   -- the root's list stays, and nothing of every other list

@@ -1,7 +1,7 @@
 -- Texts as states.
 use Rattle.std.specs.Prelude.{Option, String}
 use Rattle.jwalk.specs.jwalk_model.Counted.{blank}
-use Rattle.jwalk.specs.jwalk_core.Given.{Given}
+use Rattle.jwalk.specs.jwalk_job.Given.{Given}
 use Rattle.example_proofs.specs.HandsOnNames.{worth_of}
 
 -- states that are texts, with no callback

@@ -6,7 +6,7 @@ use Rattle.jwalk.specs.jwalk_model.Entry.{Item, AtDepth}
 use Rattle.jwalk.specs.jwalk_model.ReadDir.{list_depth}
 use Rattle.jwalk.specs.jwalk_model.Counted.{blank}
 use Rattle.jwalk.specs.jwalk_model.Job.{Processing, KeepsDepthsOf}
-use Rattle.jwalk.specs.jwalk_core.Given.{Given}
+use Rattle.jwalk.specs.jwalk_job.Given.{Given}
 
 module _ {R E : Type 0} where
   -- what the callback makes of a list

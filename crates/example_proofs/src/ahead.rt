@@ -1,7 +1,7 @@
 //! How much a walk reads ahead of an answer.
 ghost use Rattle.std.specs.Prelude.{◌≡◌, ◌≤◌, ◌+◌, ◌-◌, ◌*◌, max, true, false, IfOk, IsSomeAnd, option_map};
-ghost use Rattle.jwalk.specs.jwalk_core.Entry.{item};
-ghost use Rattle.jwalk.specs.jwalk_core.Job.{callback};
+ghost use Rattle.jwalk.specs.jwalk_job.Entry.{item};
+ghost use Rattle.jwalk.specs.jwalk_job.Job.{callback};
 ghost use Rattle.jwalk.specs.tree_crew.Crew.{workers_of};
 ghost use Rattle.jwalk.specs.WalkDir.{callback_of};
 ghost use Rattle.jwalk.specs.DirEntryIter.{by_crew, is_refused, job_of, min_depth_of, width_of, most_ahead, Stops, GrowsAhead};

@@ -2,7 +2,7 @@
 ghost use Rattle.std.specs.Prelude.{◌≡◌, IfOk};
 ghost use Rattle.jwalk.specs.jwalk_model.Options.{defaults};
 ghost use Rattle.jwalk.specs.jwalk_model.Walk.{stateless_walk};
-ghost use Rattle.jwalk.specs.jwalk_core.Given.{counted_list};
+ghost use Rattle.jwalk.specs.jwalk_job.Given.{counted_list};
 ghost use Rattle.jwalk.specs.WalkDir.{stateless};
 ghost use Rattle.jwalk.specs.DirEntryIter.{NoneRefused};
 ghost use Rattle.example_proofs.specs.Alike.{counted_answer, IsPlain};

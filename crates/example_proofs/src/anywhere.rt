@@ -3,7 +3,7 @@ ghost use Rattle.std.specs.Prelude.{◌≡◌, IfOk, reverse, string_bytes};
 ghost use Rattle.jwalk.specs.jwalk_model.Counted.{blank};
 ghost use Rattle.jwalk.specs.jwalk_model.Options.{defaults};
 ghost use Rattle.jwalk.specs.jwalk_model.Walk.{whole_walk};
-ghost use Rattle.jwalk.specs.jwalk_core.Given.{counted_list};
+ghost use Rattle.jwalk.specs.jwalk_job.Given.{counted_list};
 ghost use Rattle.jwalk.specs.DirEntryIter.{NoneRefused};
 ghost use Rattle.example_proofs.specs.Turned.{turned, turns};
 

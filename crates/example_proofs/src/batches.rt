@@ -1,6 +1,6 @@
 //! A walk taken in batches.
 ghost use Rattle.std.specs.Prelude.{IfOk};
-ghost use Rattle.jwalk.specs.jwalk_core.Job.{callback};
+ghost use Rattle.jwalk.specs.jwalk_job.Job.{callback};
 ghost use Rattle.jwalk.specs.DirEntryIter.{job_of, Counts};
 
 use jwalk::file_system::FileSystem;

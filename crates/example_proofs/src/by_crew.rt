@@ -2,9 +2,9 @@
 ghost use Rattle.std.specs.Prelude.{◌≡◌, ◌⊎◌, IfOk, IfErr};
 ghost use Rattle.jwalk.specs.jwalk_model.Error.{memory, busy};
 ghost use Rattle.jwalk.specs.jwalk_model.Walk.{whole_walk};
-ghost use Rattle.jwalk.specs.jwalk_core.Error.{failure};
-ghost use Rattle.jwalk.specs.jwalk_core.Given.{counted_list};
-ghost use Rattle.jwalk.specs.jwalk_core.Job.{IsSteady};
+ghost use Rattle.jwalk.specs.jwalk_job.Error.{failure};
+ghost use Rattle.jwalk.specs.jwalk_job.Given.{counted_list};
+ghost use Rattle.jwalk.specs.jwalk_job.Job.{IsSteady};
 ghost use Rattle.jwalk.specs.WalkDir.{file_system_of, callback_of, root_of, state_of, job_for};
 ghost use Rattle.jwalk.specs.DirEntryIter.{NoneRefused};
 

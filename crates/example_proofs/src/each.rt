@@ -4,7 +4,7 @@ ghost use Rattle.jwalk.specs.jwalk_model.Options.{defaults};
 ghost use Rattle.jwalk.specs.jwalk_model.Tree.{functions_of};
 ghost use Rattle.jwalk.specs.jwalk_model.Walk.{stateless_walk};
 ghost use Rattle.jwalk.specs.jwalk_memory_fs.MemoryFs.{tree_of};
-ghost use Rattle.jwalk.specs.jwalk_core.Given.{counted_list};
+ghost use Rattle.jwalk.specs.jwalk_job.Given.{counted_list};
 ghost use Rattle.jwalk.specs.WalkDir.{stateless};
 ghost use Rattle.jwalk.specs.DirEntryIter.{NoneRefused};
 ghost use Rattle.example_proofs.specs.Each.{CalledOn};

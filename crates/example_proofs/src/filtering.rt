@@ -2,7 +2,7 @@
 ghost use Rattle.std.specs.Prelude.{◌≡◌, IfOk, string_bytes};
 ghost use Rattle.jwalk.specs.jwalk_model.Counted.{blank};
 ghost use Rattle.jwalk.specs.jwalk_model.Walk.{whole_walk};
-ghost use Rattle.jwalk.specs.jwalk_core.Given.{counted_list};
+ghost use Rattle.jwalk.specs.jwalk_job.Given.{counted_list};
 ghost use Rattle.jwalk.specs.jwalk_callbacks.FilterEntry.{filtering};
 ghost use Rattle.jwalk.specs.DirEntryIter.{NoneRefused};
 ghost use Rattle.example_proofs.specs.Filtering.{no_target, job_without_target};

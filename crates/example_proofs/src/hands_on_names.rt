@@ -20,8 +20,8 @@ ghost use Rattle.std.specs.Prelude.{◌≡◌, IfOk, OnOk, map, filter, string_b
 ghost use Rattle.jwalk.specs.jwalk_model.Entry.{has_directory};
 ghost use Rattle.jwalk.specs.jwalk_model.Counted.{blank};
 ghost use Rattle.jwalk.specs.jwalk_model.Walk.{whole_walk};
-ghost use Rattle.jwalk.specs.jwalk_core.Entry.{entry, item};
-ghost use Rattle.jwalk.specs.jwalk_core.Given.{counted_entry, counted_item, counted_list};
+ghost use Rattle.jwalk.specs.jwalk_job.Entry.{entry, item};
+ghost use Rattle.jwalk.specs.jwalk_job.Given.{counted_entry, counted_item, counted_list};
 ghost use Rattle.jwalk.specs.DirEntryIter.{NoneRefused};
 ghost use Rattle.example_proofs.specs.HandsOnNames.{worth_of, handed, with_states, names_handed_on, job_handing_on};
 

@@ -5,8 +5,8 @@ ghost use Rattle.jwalk.specs.jwalk_model.Options.{defaults, crew, with_paralleli
 ghost use Rattle.jwalk.specs.jwalk_model.Tree.{functions_of};
 ghost use Rattle.jwalk.specs.jwalk_model.Walk.{stateless_walk};
 ghost use Rattle.jwalk.specs.jwalk_memory_fs.MemoryFs.{tree_of};
-ghost use Rattle.jwalk.specs.jwalk_core.Error.{failure};
-ghost use Rattle.jwalk.specs.jwalk_core.Given.{counted_list};
+ghost use Rattle.jwalk.specs.jwalk_job.Error.{failure};
+ghost use Rattle.jwalk.specs.jwalk_job.Given.{counted_list};
 ghost use Rattle.jwalk.specs.WalkDir.{file_system_of, root_of, options_of, stateless, NoneBusy};
 ghost use Rattle.jwalk.specs.DirEntryIter.{NoneRefused};
 

@@ -1,5 +1,5 @@
 //! Numbers as states.
-ghost use Rattle.jwalk.specs.jwalk_core.Job.{IsSteady};
+ghost use Rattle.jwalk.specs.jwalk_job.Job.{IsSteady};
 ghost use Rattle.example_proofs.specs.Numbers.{numbers};
 
 use jwalk::file_system::{FileSystem, MemoryFs};

@@ -3,8 +3,8 @@ ghost use Rattle.std.specs.Prelude.{◌≡◌, IfOk, map, string_bytes};
 ghost use Rattle.jwalk.specs.jwalk_model.Counted.{blank};
 ghost use Rattle.jwalk.specs.jwalk_model.Options.{defaults};
 ghost use Rattle.jwalk.specs.jwalk_model.Walk.{whole_walk};
-ghost use Rattle.jwalk.specs.jwalk_core.Entry.{item};
-ghost use Rattle.jwalk.specs.jwalk_core.Given.{counted_list};
+ghost use Rattle.jwalk.specs.jwalk_job.Entry.{item};
+ghost use Rattle.jwalk.specs.jwalk_job.Given.{counted_list};
 ghost use Rattle.jwalk.specs.DirEntryIter.{NoneRefused};
 ghost use Rattle.example_proofs.specs.RootAlone.{root_alone, emptied, empties};
 

@@ -3,7 +3,7 @@ ghost use Rattle.std.specs.Prelude.{◌≡◌, IfOk, IfErr, map, codes, [], ◌�
 ghost use Rattle.jwalk.specs.jwalk_model.Counted.{blank};
 ghost use Rattle.jwalk.specs.jwalk_model.Lines.{line_of};
 ghost use Rattle.jwalk.specs.jwalk_model.Walk.{whole_walk};
-ghost use Rattle.jwalk.specs.jwalk_core.Given.{counted_list};
+ghost use Rattle.jwalk.specs.jwalk_job.Given.{counted_list};
 ghost use Rattle.jwalk.specs.jwalk_callbacks.SkipNames.{names_of, skipping};
 ghost use Rattle.jwalk.specs.WalkDir.{file_system_of, callback_of, root_of, options_of};
 ghost use Rattle.jwalk.specs.DirEntryIter.{NoneRefused};

@@ -4,7 +4,7 @@ ghost use Rattle.jwalk.specs.jwalk_model.Counted.{blank, bytes};
 ghost use Rattle.jwalk.specs.jwalk_model.Tree.{only_root};
 ghost use Rattle.jwalk.specs.jwalk_model.WalkRows.{tree_a};
 ghost use Rattle.jwalk.specs.jwalk_memory_fs.MemoryFs.{tree_of, IsBuilt};
-ghost use Rattle.jwalk.specs.jwalk_core.Given.{counted_list};
+ghost use Rattle.jwalk.specs.jwalk_job.Given.{counted_list};
 ghost use Rattle.jwalk.specs.DirEntryIter.{NoneRefused};
 ghost use Rattle.example_proofs.specs.HandsOnNames.{names_handed_on, path_and_state};
 ghost use Rattle.example_proofs.specs.SmallTree.{step_at, step_of, all_go, IsBuiltBy};

@@ -1,5 +1,5 @@
 //! Texts as states.
-ghost use Rattle.jwalk.specs.jwalk_core.Job.{IsSteady};
+ghost use Rattle.jwalk.specs.jwalk_job.Job.{IsSteady};
 ghost use Rattle.example_proofs.specs.Texts.{texts};
 
 use jwalk::file_system::{FileSystem, MemoryFs};

@@ -1,8 +1,8 @@
 //! A whole walk at once.
 ghost use Rattle.std.specs.Prelude.{◌≡◌, IfOk};
 ghost use Rattle.jwalk.specs.jwalk_model.Walk.{stateless_walk, whole_walk};
-ghost use Rattle.jwalk.specs.jwalk_core.Given.{counted_list};
-ghost use Rattle.jwalk.specs.jwalk_core.Job.{IsSteady};
+ghost use Rattle.jwalk.specs.jwalk_job.Given.{counted_list};
+ghost use Rattle.jwalk.specs.jwalk_job.Job.{IsSteady};
 ghost use Rattle.jwalk.specs.WalkDir.{file_system_of, callback_of, root_of, state_of, options_of, job_for, stateless};
 ghost use Rattle.jwalk.specs.DirEntryIter.{NoneRefused};
 

@@ -8,9 +8,9 @@ use Rattle.jwalk_model.specs.Job as value
 use Rattle.jwalk_model.specs.FileSystem.{Functions}
 use Rattle.jwalk_model.specs.Walk.{whole_walk, stateless_walk}
 use Rattle.jwalk_fs.specs.declared.file_system.FileSystem as FileSystem
-use Rattle.jwalk_core.specs.declared.process_read_dir.ProcessReadDir as ProcessReadDir
-use Rattle.jwalk_core.specs.Given.{Given}
-use Rattle.jwalk_core.specs.Job.{IsSteady}
+use Rattle.jwalk_job.specs.declared.process_read_dir.ProcessReadDir as ProcessReadDir
+use Rattle.jwalk_job.specs.Given.{Given}
+use Rattle.jwalk_job.specs.Job.{IsSteady}
 use Rattle.jwalk_core.specs.declared.readers.Readers as Readers
 use Rattle.jwalk_core.specs.declared.dir_entry_iter.DirEntryIter.{DirEntryIter}
 use Rattle.jwalk_core.specs.DirEntryIter.{to_come}

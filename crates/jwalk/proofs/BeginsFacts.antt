@@ -12,14 +12,14 @@ use Rattle.jwalk_model.specs.Listing.{paired}
 use Rattle.jwalk_model.specs.Job as value
 use Rattle.jwalk_model.specs.Job.{root_list}
 use Rattle.jwalk_fs.specs.declared.file_system.FileSystem as FileSystem
-use Rattle.jwalk_core.specs.declared.process_read_dir.ProcessReadDir as ProcessReadDir
-use Rattle.jwalk_core.specs.declared.job.Job.{Job}
-use Rattle.jwalk_core.specs.declared.read_dir.ReadDir.{ReadDir}
-use Rattle.jwalk_core.specs.ReadDir.{reading}
-use Rattle.jwalk_core.specs.Options.{width_of}
-use Rattle.jwalk_core.specs.Given.{Given, counted_reading}
-use Rattle.jwalk_core.specs.Job as job
-use Rattle.jwalk_core.specs.Job.{file_system, callback, job_by, IsSteady}
+use Rattle.jwalk_job.specs.declared.process_read_dir.ProcessReadDir as ProcessReadDir
+use Rattle.jwalk_job.specs.declared.job.Job.{Job}
+use Rattle.jwalk_job.specs.declared.read_dir.ReadDir.{ReadDir}
+use Rattle.jwalk_job.specs.ReadDir.{reading}
+use Rattle.jwalk_job.specs.Options.{width_of}
+use Rattle.jwalk_job.specs.Given.{Given, counted_reading}
+use Rattle.jwalk_job.specs.Job as job
+use Rattle.jwalk_job.specs.Job.{file_system, callback, job_by, IsSteady}
 use Rattle.tree_crew.specs.declared.crew.NotStarted.{NotStarted}
 use Rattle.tree_crew.specs.declared.crew.NotStarted.TheVariants.{Busy, Memory}
 use Rattle.jwalk_core.specs.DirEntryIter.{by_crew, held_by}

@@ -16,11 +16,11 @@ use Rattle.jwalk_model.specs.Held.{pair_up, first_source, after_first}
 use Rattle.jwalk_model.specs.Walk.{whole_walk}
 use Rattle.jwalk_model.proofs.CountedFacts.{counted-has_directory}
 use Rattle.jwalk_fs.specs.declared.file_system.FileSystem as FileSystem
-use Rattle.jwalk_core.specs.declared.process_read_dir.ProcessReadDir as ProcessReadDir
-use Rattle.jwalk_core.specs.declared.error.Error.{Error}
-use Rattle.jwalk_core.specs.declared.dir_entry.DirEntry.{DirEntry}
-use Rattle.jwalk_core.specs.Given.{Given, counted_item, counted_spec, counted_outcome, counted_list}
-use Rattle.jwalk_core.specs.Job.{greatest_depth, job_by, IsSteady}
+use Rattle.jwalk_job.specs.declared.process_read_dir.ProcessReadDir as ProcessReadDir
+use Rattle.jwalk_job.specs.declared.error.Error.{Error}
+use Rattle.jwalk_job.specs.declared.dir_entry.DirEntry.{DirEntry}
+use Rattle.jwalk_job.specs.Given.{Given, counted_item, counted_spec, counted_outcome, counted_list}
+use Rattle.jwalk_job.specs.Job.{greatest_depth, job_by, IsSteady}
 use Rattle.tree_crew.specs.declared.crew.NotStarted.{NotStarted}
 use Rattle.tree_crew.specs.declared.crew.NotStarted.TheVariants.{Busy, Memory}
 use Rattle.jwalk_core.specs.declared.readers.Readers as Readers

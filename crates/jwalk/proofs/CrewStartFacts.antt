@@ -8,17 +8,17 @@ use Rattle.jwalk_model.specs.Error.{memory, busy}
 use Rattle.jwalk_model.specs.Entry.{Item, AtDepth, has_directory}
 use Rattle.jwalk_model.specs.Options.{crew}
 use Rattle.jwalk_model.specs.ReadDir.{Spec, Reading, children, AreClones}
-use Rattle.jwalk_core.specs.declared.read_dir.ReadDir.{ReadDir}
-use Rattle.jwalk_core.specs.ReadDir.{reading}
+use Rattle.jwalk_job.specs.declared.read_dir.ReadDir.{ReadDir}
+use Rattle.jwalk_job.specs.ReadDir.{reading}
 use Rattle.jwalk_model.specs.Listing.{Pair, nothing, paired}
 use Rattle.jwalk_model.specs.Held.{pair_up, sources, first_source, after_first}
 use Rattle.jwalk_model.proofs.HeldFacts.{directories}
 use Rattle.jwalk_fs.specs.declared.file_system.FileSystem as FileSystem
-use Rattle.jwalk_core.specs.declared.process_read_dir.ProcessReadDir as ProcessReadDir
-use Rattle.jwalk_core.specs.Given.{Given, counted_reading, ClonesCount}
-use Rattle.jwalk_core.specs.declared.job.Job.{Job}
-use Rattle.jwalk_core.specs.Options as options
-use Rattle.jwalk_core.specs.Job.{options_of, greatest_depth}
+use Rattle.jwalk_job.specs.declared.process_read_dir.ProcessReadDir as ProcessReadDir
+use Rattle.jwalk_job.specs.Given.{Given, counted_reading, ClonesCount}
+use Rattle.jwalk_job.specs.declared.job.Job.{Job}
+use Rattle.jwalk_job.specs.Options as options
+use Rattle.jwalk_job.specs.Job.{options_of, greatest_depth}
 use Rattle.jwalk_core.specs.declared.readers.Readers as Readers
 use Rattle.tree_crew.specs.declared.crew.NotStarted.{NotStarted}
 use Rattle.tree_crew.specs.declared.crew.NotStarted.TheVariants.{Busy, Memory}

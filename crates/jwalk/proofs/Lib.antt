@@ -8,7 +8,7 @@ mod CrewStartFacts
 pub use Rattle.jwalk_core.proofs.FillFacts as FillFacts
 pub use Rattle.jwalk_core.proofs.SameFacts as SameFacts
 -- what callers cite of a callback's lists
-pub use Rattle.jwalk_core.proofs.GivenFacts as GivenFacts
+pub use Rattle.jwalk_job.proofs.GivenFacts as GivenFacts
 -- what callers cite of callbacks that change states alone, and of sizes
 pub use Rattle.jwalk_model.proofs.StatesFacts as StatesFacts
 -- what callers cite of walks that keep metadata

@@ -19,13 +19,13 @@ use Rattle.jwalk_model.specs.Job.{reading, root_list}
 use Rattle.jwalk_model.specs.Walk.{whole_walk, stateless_walk}
 use Rattle.jwalk_model.proofs.HeldFacts.{alone}
 use Rattle.jwalk_fs.specs.declared.file_system.FileSystem as FileSystem
-use Rattle.jwalk_core.specs.declared.process_read_dir.ProcessReadDir as ProcessReadDir
-use Rattle.jwalk_core.specs.declared.error.Error.{Error}
-use Rattle.jwalk_core.specs.declared.dir_entry.DirEntry.{DirEntry}
-use Rattle.jwalk_core.specs.Error.{failure}
-use Rattle.jwalk_core.specs.Entry.{item}
-use Rattle.jwalk_core.specs.Given.{Given, counted_item, counted_spec, counted_list}
-use Rattle.jwalk_core.specs.Job.{options_of, greatest_depth, job_by, IsSteady}
+use Rattle.jwalk_job.specs.declared.process_read_dir.ProcessReadDir as ProcessReadDir
+use Rattle.jwalk_job.specs.declared.error.Error.{Error}
+use Rattle.jwalk_job.specs.declared.dir_entry.DirEntry.{DirEntry}
+use Rattle.jwalk_job.specs.Error.{failure}
+use Rattle.jwalk_job.specs.Entry.{item}
+use Rattle.jwalk_job.specs.Given.{Given, counted_item, counted_spec, counted_list}
+use Rattle.jwalk_job.specs.Job.{options_of, greatest_depth, job_by, IsSteady}
 use Rattle.jwalk_core.specs.declared.readers.Readers as Readers
 use Rattle.jwalk_core.specs.declared.dir_entry_iter.DirEntryIter.{DirEntryIter}
 use Rattle.jwalk.specs.declared.walk_dir.WalkDirGeneric.{WalkDirGeneric}

@@ -8,10 +8,10 @@ use Rattle.jwalk_model.specs.ReadDir.{Spec, Reading, children, AreClones}
 use Rattle.jwalk_model.specs.Listing.{Pair, nothing, paired}
 use Rattle.tree_crew.specs.declared.crew.NotStarted.{NotStarted}
 use Rattle.tree_crew.specs.declared.crew.NotStarted.TheVariants.{Busy, Memory}
-use Rattle.jwalk_core.specs.declared.job.Job.{Job}
-use Rattle.jwalk_core.specs.Options as options
-use Rattle.jwalk_core.specs.Given.{Given, counted_reading, ClonesCount}
-use Rattle.jwalk_core.specs.Job.{options_of}
+use Rattle.jwalk_job.specs.declared.job.Job.{Job}
+use Rattle.jwalk_job.specs.Options as options
+use Rattle.jwalk_job.specs.Given.{Given, counted_reading, ClonesCount}
+use Rattle.jwalk_job.specs.Job.{options_of}
 use Rattle.jwalk_core.specs.ReadAhead.{BeginsWith}
 use Rattle.jwalk_core.specs.DirEntryIter.{is_refused, by_crew, job_of, items_of, unread_of, width_of, frontier_of, read_ahead, held, held_by, IsWithin, IsSourced, IsRefused}
 use Rattle.jwalk_core.specs.declared.dir_entry_iter.DirEntryIter.{DirEntryIter}

@@ -12,6 +12,7 @@ pub use Rattle.jwalk_model.specs as jwalk_model
 pub use Rattle.jwalk_fs.specs as jwalk_fs
 pub use Rattle.jwalk_real_fs.specs as jwalk_real_fs
 pub use Rattle.jwalk_memory_fs.specs as jwalk_memory_fs
+pub use Rattle.jwalk_job.specs as jwalk_job
 pub use Rattle.jwalk_core.specs as jwalk_core
 pub use Rattle.jwalk_callbacks.specs as jwalk_callbacks
 pub use Rattle.jwalk_order.specs as jwalk_order

@@ -12,14 +12,14 @@ use Rattle.jwalk_model.specs.Listing.{paired}
 use Rattle.jwalk_model.specs.Counted.{Worth, blank}
 use Rattle.jwalk_model.specs.Job.{Job, root_list}
 use Rattle.jwalk_fs.specs.declared.file_system.FileSystem as FileSystem
-use Rattle.jwalk_core.specs.declared.process_read_dir.ProcessReadDir as ProcessReadDir
-use Rattle.jwalk_core.specs.declared.error.Error.{Error}
-use Rattle.jwalk_core.specs.declared.dir_entry.DirEntry.{DirEntry}
-use Rattle.jwalk_core.specs.Entry.{item}
-use Rattle.jwalk_core.specs.Options.{options_value, width_of}
-use Rattle.jwalk_core.specs.Given.{Given, counted_item}
-use Rattle.jwalk_core.specs.Job as job
-use Rattle.jwalk_core.specs.Job.{file_system, callback, IsSteady}
+use Rattle.jwalk_job.specs.declared.process_read_dir.ProcessReadDir as ProcessReadDir
+use Rattle.jwalk_job.specs.declared.error.Error.{Error}
+use Rattle.jwalk_job.specs.declared.dir_entry.DirEntry.{DirEntry}
+use Rattle.jwalk_job.specs.Entry.{item}
+use Rattle.jwalk_job.specs.Options.{options_value, width_of}
+use Rattle.jwalk_job.specs.Given.{Given, counted_item}
+use Rattle.jwalk_job.specs.Job as job
+use Rattle.jwalk_job.specs.Job.{file_system, callback, IsSteady}
 use Rattle.jwalk_core.specs.ReadAhead.{BeginsWith}
 use Rattle.jwalk_core.specs.DirEntryIter as iter
 use Rattle.tree_crew.specs.declared.crew.Crew.{Crew}

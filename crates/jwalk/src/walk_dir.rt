@@ -1,7 +1,7 @@
 //! The builder of a walk.
 ghost use Rattle.std.specs.Prelude.{◌≡◌, ◌⊎◌, true, false, None, string_bytes, IfOk, IfErr};
 ghost use Rattle.jwalk_model.specs.Error.{memory};
-ghost use Rattle.jwalk_core.specs.Error.{failure};
+ghost use Rattle.jwalk_job.specs.Error.{failure};
 
 mod crew_start;
 mod each;
@@ -11,14 +11,14 @@ mod workers;
 
 use jwalk_callbacks::by_fn::ByFn;
 use jwalk_callbacks::calls::Closure;
-use jwalk_core::client_state::ClientState;
-use jwalk_core::dir_entry::DirEntry;
+use jwalk_job::client_state::ClientState;
+use jwalk_job::dir_entry::DirEntry;
 use jwalk_core::dir_entry_iter::DirEntryIter;
-use jwalk_core::error::Error;
-use jwalk_core::job::Job;
-use jwalk_core::options::Options;
+use jwalk_job::error::Error;
+use jwalk_job::job::Job;
+use jwalk_job::options::Options;
 use jwalk_core::parallelism::Parallelism;
-use jwalk_core::process_read_dir::{NoProcess, ProcessReadDir};
+use jwalk_job::process_read_dir::{NoProcess, ProcessReadDir};
 use jwalk_core::readers::NoCrew;
 use jwalk_fs::file_system::FileSystem;
 use jwalk_real_fs::real_fs::RealFs;

@@ -5,8 +5,8 @@ use Rattle.std.specs.List.{filter}
 use Rattle.std.proofs.lemmas.Bool.Decides.{nat_tests}
 use Rattle.jwalk_model.specs.Entry.{Item, AtDepth}
 use Rattle.jwalk_model.specs.ReadDir.{list_depth}
-use Rattle.jwalk_core.specs.Given.{Given, IsProcessed}
-use Rattle.jwalk_core.proofs.GivenFacts.{depth_of_made}
+use Rattle.jwalk_job.specs.Given.{Given, IsProcessed}
+use Rattle.jwalk_job.proofs.GivenFacts.{depth_of_made}
 use Rattle.jwalk_callbacks.specs.ByFn.{is_at, Keeps}
 
 test_of : {depth : ℕ} (d : ℕ) → d ≡ depth → (d == depth) ≡ true

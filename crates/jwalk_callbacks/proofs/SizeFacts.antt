@@ -9,7 +9,7 @@ use Rattle.jwalk_model.specs.FileType.{is_file}
 use Rattle.jwalk_model.specs.FileSystem.{Functions}
 use Rattle.jwalk_model.specs.Entry.{Item, metadata_of, AtDepth}
 use Rattle.jwalk_model.specs.Counted.{entry_by, item_by}
-use Rattle.jwalk_core.specs.Given.{Given, IsProcessed}
+use Rattle.jwalk_job.specs.Given.{Given, IsProcessed}
 use Rattle.jwalk_callbacks.specs.WithSizes.{with_asked, size_of, sized_item, unasked_item, counted_size, PutsSizes}
 use Rattle.jwalk_callbacks.specs.declared.size.Size.{Size}
 

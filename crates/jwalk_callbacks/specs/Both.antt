@@ -3,7 +3,7 @@ use Rattle.std.specs.Prelude.{◌≡◌, ℕ, List, Option}
 use Rattle.jwalk_model.specs.Entry.{Item}
 use Rattle.jwalk_model.specs.Counted.{Worth}
 use Rattle.jwalk_model.specs.Job.{Processing, KeepsDepthsOf}
-use Rattle.jwalk_core.specs.Given.{Given}
+use Rattle.jwalk_job.specs.Given.{Given}
 use Rattle.jwalk_callbacks.specs.declared.both.Both.{Both}
 
 -- the callback that is called first

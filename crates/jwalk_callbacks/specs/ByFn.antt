@@ -4,7 +4,7 @@ use Rattle.std.specs.List.{filter}
 use Rattle.std.specs.declared.alloc.AllocError.{AllocError}
 use Rattle.jwalk_model.specs.Entry.{Item, AtDepth}
 use Rattle.jwalk_model.specs.ReadDir.{list_depth}
-use Rattle.jwalk_core.specs.Given.{Given, IsProcessed}
+use Rattle.jwalk_job.specs.Given.{Given, IsProcessed}
 use Rattle.jwalk_callbacks.specs.declared.calls.Closure.{Closure}
 use Rattle.jwalk_callbacks.specs.declared.by_fn.ByFn.{ByFn}
 

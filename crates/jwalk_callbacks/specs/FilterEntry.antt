@@ -8,7 +8,7 @@ use Rattle.jwalk_model.specs.Entry.{Entry, Item, AtDepth}
 use Rattle.jwalk_model.specs.ReadDir.{list_depth}
 use Rattle.jwalk_model.specs.Counted.{blank}
 use Rattle.jwalk_model.specs.Job.{Processing, KeepsDepthsOf}
-use Rattle.jwalk_core.specs.Given.{Given}
+use Rattle.jwalk_job.specs.Given.{Given}
 use Rattle.jwalk_callbacks.specs.declared.filter_entry.FilterEntry.{FilterEntry}
 
 -- a test of an entry's depth, name and type

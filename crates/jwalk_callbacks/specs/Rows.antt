@@ -16,7 +16,7 @@ use Rattle.jwalk_model.specs.Lines.{line_of}
 use Rattle.jwalk_model.specs.TreeRows.{d, f}
 use Rattle.jwalk_model.specs.Walk.{whole_walk}
 use Rattle.jwalk_model.specs.WalkRows.{tree_by, sorted}
-use Rattle.jwalk_core.specs.Given.{Given}
+use Rattle.jwalk_job.specs.Given.{Given}
 use Rattle.jwalk_callbacks.specs.declared.skip_names.SkipNames.{SkipNames}
 use Rattle.jwalk_callbacks.specs.Both.{chained, chaining, CountsAlike, MakesInTurn}
 use Rattle.jwalk_callbacks.specs.SkipNames.{names_of, skips, skipping, Skips}

@@ -5,7 +5,7 @@ use Rattle.jwalk_model.specs.Entry.{Entry, Item, AtDepth}
 use Rattle.jwalk_model.specs.ReadDir.{list_depth}
 use Rattle.jwalk_model.specs.Counted.{blank}
 use Rattle.jwalk_model.specs.Job.{Processing, KeepsDepthsOf}
-use Rattle.jwalk_core.specs.Given.{Given}
+use Rattle.jwalk_job.specs.Given.{Given}
 use Rattle.jwalk_callbacks.specs.declared.skip_names.SkipNames.{SkipNames}
 
 -- whether a name is one of these, byte for byte

@@ -12,7 +12,7 @@ use Rattle.jwalk_model.specs.Lines.{kind_name}
 use Rattle.jwalk_model.specs.Options.{Options}
 use Rattle.jwalk_model.specs.Job.{Job, Processing, KeepsDepthsOf}
 use Rattle.jwalk_model.specs.Walk.{whole_walk, stateless_walk}
-use Rattle.jwalk_core.specs.Given.{Given}
+use Rattle.jwalk_job.specs.Given.{Given}
 use Rattle.jwalk_callbacks.specs.declared.size.Size.{Size}
 use Rattle.jwalk_callbacks.specs.declared.size.Size.TheVariants.{Unasked, Len, Failed}
 use Rattle.jwalk_callbacks.specs.declared.with_sizes.WithSizes.{WithSizes}

@@ -1,8 +1,8 @@
 //! Two callbacks, one after the other.
-use jwalk_core::client_state::ClientState;
-use jwalk_core::dir_entry::DirEntry;
-use jwalk_core::error::Error;
-use jwalk_core::process_read_dir::ProcessReadDir;
+use jwalk_job::client_state::ClientState;
+use jwalk_job::dir_entry::DirEntry;
+use jwalk_job::error::Error;
+use jwalk_job::process_read_dir::ProcessReadDir;
 use std::alloc::{AllocError, Allocator};
 
 /// A callback that calls one callback and then another.

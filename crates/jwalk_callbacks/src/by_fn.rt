@@ -1,14 +1,14 @@
 //! A closure as a callback.
 ghost use Rattle.std.specs.Prelude.{◌≡◌, ◌<◌, ◌^◌, filter};
 ghost use Rattle.jwalk_model.specs.ReadDir.{list_depth};
-ghost use Rattle.jwalk_core.specs.Entry.{item};
+ghost use Rattle.jwalk_job.specs.Entry.{item};
 ghost use Rattle.jwalk_callbacks.specs.ByFn.{is_at};
 
 use crate::calls::{Calls, Closure};
-use jwalk_core::client_state::ClientState;
-use jwalk_core::dir_entry::DirEntry;
-use jwalk_core::error::Error;
-use jwalk_core::process_read_dir::ProcessReadDir;
+use jwalk_job::client_state::ClientState;
+use jwalk_job::dir_entry::DirEntry;
+use jwalk_job::error::Error;
+use jwalk_job::process_read_dir::ProcessReadDir;
 use std::alloc::{AllocError, Allocator};
 
 /// A closure as a callback: it is called with each list, and an entry whose depth it changed is dropped. Its user must
@@ -82,7 +82,7 @@ impl<
 > ProcessReadDir<C, A> for ByFn<K> {
     ghost use Rattle.std.specs.Prelude.{map, OnOk};
     ghost use Rattle.jwalk_model.specs.Entry.{AtDepth};
-    ghost use Rattle.jwalk_core.specs.Given.{IsProcessed};
+    ghost use Rattle.jwalk_job.specs.Given.{IsProcessed};
     ghost use Rattle.jwalk_callbacks.specs.ByFn.{Keeps, MakesBy, call_of};
 
     ghost IsLawful = { λ s. K.IsCallable (call_of s) };

@@ -1,12 +1,12 @@
 //! Entries that are kept if a test of them is true.
 ghost use Rattle.std.specs.Prelude.{map};
-ghost use Rattle.jwalk_core.specs.Entry.{item};
+ghost use Rattle.jwalk_job.specs.Entry.{item};
 ghost use Rattle.jwalk_callbacks.specs.FilterEntry.{IsAnswered, IsFilteredBy};
 
-use jwalk_core::client_state::ClientState;
-use jwalk_core::dir_entry::DirEntry;
-use jwalk_core::error::Error;
-use jwalk_core::process_read_dir::ProcessReadDir;
+use jwalk_job::client_state::ClientState;
+use jwalk_job::dir_entry::DirEntry;
+use jwalk_job::error::Error;
+use jwalk_job::process_read_dir::ProcessReadDir;
 use jwalk_model::file_type::FileType;
 use std::alloc::{AllocError, Allocator};
 

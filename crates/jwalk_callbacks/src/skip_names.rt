@@ -1,12 +1,12 @@
 //! Directories that are yielded and not entered, by their names.
 ghost use Rattle.std.specs.Prelude.{◌≡◌, map, string_bytes};
-ghost use Rattle.jwalk_core.specs.Entry.{item};
+ghost use Rattle.jwalk_job.specs.Entry.{item};
 ghost use Rattle.jwalk_callbacks.specs.SkipNames.{is_one_of, skipped_item};
 
-use jwalk_core::client_state::ClientState;
-use jwalk_core::dir_entry::DirEntry;
-use jwalk_core::error::Error;
-use jwalk_core::process_read_dir::ProcessReadDir;
+use jwalk_job::client_state::ClientState;
+use jwalk_job::dir_entry::DirEntry;
+use jwalk_job::error::Error;
+use jwalk_job::process_read_dir::ProcessReadDir;
 use std::alloc::{AllocError, Allocator, Global};
 
 /// A callback by which directories of some names are yielded and not entered.

@@ -1,14 +1,14 @@
 //! The length of each file, asked where its list is made.
 ghost use Rattle.std.specs.Prelude.{◌≡◌, OnOk, IfOk, map};
 ghost use Rattle.jwalk_model.specs.Entry.{metadata_of};
-ghost use Rattle.jwalk_core.specs.Entry.{entry, item};
+ghost use Rattle.jwalk_job.specs.Entry.{entry, item};
 ghost use Rattle.jwalk_callbacks.specs.WithSizes.{size_of, sized_item, unasked_item};
 
 use crate::size::Size;
-use jwalk_core::client_state::ClientState;
-use jwalk_core::dir_entry::DirEntry;
-use jwalk_core::error::Error;
-use jwalk_core::process_read_dir::ProcessReadDir;
+use jwalk_job::client_state::ClientState;
+use jwalk_job::dir_entry::DirEntry;
+use jwalk_job::error::Error;
+use jwalk_job::process_read_dir::ProcessReadDir;
 use jwalk_fs::file_system::FileSystem;
 use std::alloc::{AllocError, Allocator};
 use std::fmt::Debug;

@@ -7,9 +7,9 @@ use Rattle.jwalk_model.specs.Entry.{Item, has_directory}
 use Rattle.jwalk_model.specs.ReadDir.{Spec, Outcome, IsLawfulReading}
 use Rattle.jwalk_fs.specs.declared.file_system.FileSystem as FileSystem
 use Rattle.jwalk_order.specs.Frontier.{next_address}
-use Rattle.jwalk_core.specs.declared.process_read_dir.ProcessReadDir as ProcessReadDir
-use Rattle.jwalk_core.specs.declared.job.Job.{Job}
-use Rattle.jwalk_core.specs.Job.{greatest_depth}
+use Rattle.jwalk_job.specs.declared.process_read_dir.ProcessReadDir as ProcessReadDir
+use Rattle.jwalk_job.specs.declared.job.Job.{Job}
+use Rattle.jwalk_job.specs.Job.{greatest_depth}
 use Rattle.jwalk_core.specs.Reads.{ReadsFirstBy, ReadsNextBy}
 use Rattle.jwalk_core.specs.ReadAhead.{ReadAhead, nothing_ahead, BeginsWith}
 use Rattle.jwalk_core.specs.BatchReads.{PassesAddress}

@@ -4,8 +4,8 @@ use Rattle.std.specs.declared.clone.Clone as Clone
 use Rattle.std.specs.List.{AllZip}
 use Rattle.jwalk_model.specs.ReadDir.{Spec, IsClone, AreClones}
 use Rattle.jwalk_model.proofs.CloneFacts.{counted_clones}
-use Rattle.jwalk_core.specs.declared.read_dir_spec.ReadDirSpec.{ReadDirSpec}
-use Rattle.jwalk_core.specs.ReadDirSpec.{spec}
+use Rattle.jwalk_job.specs.declared.read_dir_spec.ReadDirSpec.{ReadDirSpec}
+use Rattle.jwalk_job.specs.ReadDirSpec.{spec}
 use Rattle.jwalk_core.specs.Origin.{CountAlike}
 
 -- clones of the same directories count alike

@@ -16,14 +16,14 @@ use Rattle.jwalk_model.proofs.CountedFacts.{counted-is_answered, counted-childre
 use Rattle.jwalk_model.proofs.HeldFacts.{directories, as_many_of, sourced, sourced_count, alone, heavy, pair_up-outcome}
 use Rattle.jwalk_model.proofs.WithinFacts.{at_depth, is_between}
 use Rattle.jwalk_fs.specs.declared.file_system.FileSystem as FileSystem
-use Rattle.jwalk_core.specs.declared.process_read_dir.ProcessReadDir as ProcessReadDir
-use Rattle.jwalk_core.specs.declared.error.Error.{Error}
-use Rattle.jwalk_core.specs.declared.dir_entry.DirEntry.{DirEntry}
-use Rattle.jwalk_core.specs.declared.job.Job.{Job}
-use Rattle.jwalk_core.specs.Error.{failure}
-use Rattle.jwalk_core.specs.Entry.{item}
-use Rattle.jwalk_core.specs.Given.{Given, counted_item, counted_spec, counted_reading, ClonesCount}
-use Rattle.jwalk_core.specs.Job.{options_of, greatest_depth, job_by, IsSteadyJob}
+use Rattle.jwalk_job.specs.declared.process_read_dir.ProcessReadDir as ProcessReadDir
+use Rattle.jwalk_job.specs.declared.error.Error.{Error}
+use Rattle.jwalk_job.specs.declared.dir_entry.DirEntry.{DirEntry}
+use Rattle.jwalk_job.specs.declared.job.Job.{Job}
+use Rattle.jwalk_job.specs.Error.{failure}
+use Rattle.jwalk_job.specs.Entry.{item}
+use Rattle.jwalk_job.specs.Given.{Given, counted_item, counted_spec, counted_reading, ClonesCount}
+use Rattle.jwalk_job.specs.Job.{options_of, greatest_depth, job_by, IsSteadyJob}
 use Rattle.jwalk_core.specs.declared.readers.Readers as Readers
 use Rattle.jwalk_core.specs.declared.dir_entry_iter.DirEntryIter.{DirEntryIter}
 use Rattle.jwalk_core.specs.Step.{ReadsUpTo, IsAtDirectory, StopsAtDirectory}

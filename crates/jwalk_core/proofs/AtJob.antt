@@ -14,17 +14,17 @@ use Rattle.jwalk_order.specs.IndexPath.{address}
 use Rattle.jwalk_order.specs.Ordered.{address_of, child_count_of}
 use Rattle.jwalk_order.specs.declared.ordered.Ordered.{Ordered}
 use Rattle.jwalk_board.specs.declared.board.plan.Plan as Plan
-use Rattle.jwalk_core.specs.declared.process_read_dir.ProcessReadDir as ProcessReadDir
-use Rattle.jwalk_core.specs.declared.error.Error.{Error}
-use Rattle.jwalk_core.specs.declared.read_dir_spec.ReadDirSpec.{ReadDirSpec}
-use Rattle.jwalk_core.specs.ReadDirSpec.{spec}
-use Rattle.jwalk_core.specs.Given.{Given, counted_spec, counted_outcome}
-use Rattle.jwalk_core.specs.declared.job.Job.{Job}
-use Rattle.jwalk_core.specs.declared.read_dir.ReadDir.{ReadDir}
-use Rattle.jwalk_core.specs.Job.{callback, job_by, IsSteadyJob}
-use Rattle.jwalk_core.specs.Plan.{tree_of}
-use Rattle.jwalk_core.specs.PlanReading.{IsPlanReading}
-use Rattle.jwalk_core.specs.ReadDir.{outcome}
+use Rattle.jwalk_job.specs.declared.process_read_dir.ProcessReadDir as ProcessReadDir
+use Rattle.jwalk_job.specs.declared.error.Error.{Error}
+use Rattle.jwalk_job.specs.declared.read_dir_spec.ReadDirSpec.{ReadDirSpec}
+use Rattle.jwalk_job.specs.ReadDirSpec.{spec}
+use Rattle.jwalk_job.specs.Given.{Given, counted_spec, counted_outcome}
+use Rattle.jwalk_job.specs.declared.job.Job.{Job}
+use Rattle.jwalk_job.specs.declared.read_dir.ReadDir.{ReadDir}
+use Rattle.jwalk_job.specs.Job.{callback, job_by, IsSteadyJob}
+use Rattle.jwalk_job.specs.Plan.{tree_of}
+use Rattle.jwalk_job.specs.PlanReading.{IsPlanReading}
+use Rattle.jwalk_job.specs.ReadDir.{outcome}
 use Rattle.tree_crew.specs.Origin as tree
 use Rattle.jwalk_core.specs.Message.{Message, Told, told}
 use Rattle.jwalk_core.specs.Origin.{begun, CountAlike, IsAt, IsMessageOf}

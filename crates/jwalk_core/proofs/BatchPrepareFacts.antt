@@ -11,12 +11,12 @@ use Rattle.jwalk_order.specs.Addresses.{IsAmong}
 use Rattle.jwalk_board.specs.Board.{Board}
 use Rattle.tree_walk.specs.BoardWalk as tree
 use Rattle.tree_walk.specs.BoardWalk.{left_on, next_on}
-use Rattle.jwalk_core.specs.declared.process_read_dir.ProcessReadDir as ProcessReadDir
-use Rattle.jwalk_core.specs.declared.read_dir_spec.ReadDirSpec.{ReadDirSpec}
-use Rattle.jwalk_core.specs.ReadDirSpec.{spec}
-use Rattle.jwalk_core.specs.Given.{Given}
-use Rattle.jwalk_core.specs.declared.job.Job.{Job}
-use Rattle.jwalk_core.specs.PlanReading.{IsPlanReading}
+use Rattle.jwalk_job.specs.declared.process_read_dir.ProcessReadDir as ProcessReadDir
+use Rattle.jwalk_job.specs.declared.read_dir_spec.ReadDirSpec.{ReadDirSpec}
+use Rattle.jwalk_job.specs.ReadDirSpec.{spec}
+use Rattle.jwalk_job.specs.Given.{Given}
+use Rattle.jwalk_job.specs.declared.job.Job.{Job}
+use Rattle.jwalk_job.specs.PlanReading.{IsPlanReading}
 use Rattle.jwalk_core.specs.Reads.{Read, IsMade, IsSound, IsSoundOver, IsSteadyWith}
 use Rattle.jwalk_core.specs.ReadAhead.{ReadAhead, nothing_ahead, Enters, MakesReady}
 use Rattle.jwalk_core.specs.BatchReads.{BatchReads, to_read_on, early_on, ahead_of, ReadsForNext}

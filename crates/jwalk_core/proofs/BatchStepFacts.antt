@@ -9,15 +9,15 @@ use Rattle.jwalk_fs.specs.declared.file_system.FileSystem as FileSystem
 use Rattle.jwalk_board.specs.Board.{Board}
 use Rattle.tree_walk.specs.BoardWalk as tree
 use Rattle.tree_walk.specs.BoardWalk.{left_on, frontier_on, next_on, GivesNext}
-use Rattle.jwalk_core.specs.declared.process_read_dir.ProcessReadDir as ProcessReadDir
-use Rattle.jwalk_core.specs.declared.read_dir_spec.ReadDirSpec.{ReadDirSpec}
-use Rattle.jwalk_core.specs.declared.error.Error.{Error}
-use Rattle.jwalk_core.specs.ReadDirSpec.{spec}
-use Rattle.jwalk_core.specs.Given.{Given}
-use Rattle.jwalk_core.specs.declared.job.Job.{Job}
-use Rattle.jwalk_core.specs.declared.read_dir.ReadDir.{ReadDir}
-use Rattle.jwalk_core.specs.PlanReading.{IsPlanReading}
-use Rattle.jwalk_core.specs.ReadDir.{outcome}
+use Rattle.jwalk_job.specs.declared.process_read_dir.ProcessReadDir as ProcessReadDir
+use Rattle.jwalk_job.specs.declared.read_dir_spec.ReadDirSpec.{ReadDirSpec}
+use Rattle.jwalk_job.specs.declared.error.Error.{Error}
+use Rattle.jwalk_job.specs.ReadDirSpec.{spec}
+use Rattle.jwalk_job.specs.Given.{Given}
+use Rattle.jwalk_job.specs.declared.job.Job.{Job}
+use Rattle.jwalk_job.specs.declared.read_dir.ReadDir.{ReadDir}
+use Rattle.jwalk_job.specs.PlanReading.{IsPlanReading}
+use Rattle.jwalk_job.specs.ReadDir.{outcome}
 use Rattle.jwalk_core.specs.Reads.{Read, IsMade, IsSound, IsSoundOver, IsSteadyWith, ReadsNext}
 use Rattle.jwalk_core.specs.ReadAhead.{nothing_ahead, EntersNext}
 use Rattle.jwalk_core.specs.BatchReads.{seen_made, to_read_on, early_on, ahead_of, PassesAddress}

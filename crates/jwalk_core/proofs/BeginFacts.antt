@@ -7,9 +7,9 @@ use Rattle.jwalk_board.specs.Board.{Board}
 use Rattle.tree_walk.specs.BoardWalk as tree
 use Rattle.tree_walk.specs.BoardWalk.{left_on}
 use Rattle.tree_walk.specs.ReadAhead as trees
-use Rattle.jwalk_core.specs.declared.read_dir_spec.ReadDirSpec.{ReadDirSpec}
-use Rattle.jwalk_core.specs.ReadDirSpec.{spec}
-use Rattle.jwalk_core.specs.declared.job.Job.{Job}
+use Rattle.jwalk_job.specs.declared.read_dir_spec.ReadDirSpec.{ReadDirSpec}
+use Rattle.jwalk_job.specs.ReadDirSpec.{spec}
+use Rattle.jwalk_job.specs.declared.job.Job.{Job}
 use Rattle.jwalk_core.specs.Reads.{Read, IsMade}
 use Rattle.jwalk_core.specs.ReadAhead.{nothing_ahead, BeginsWith}
 use Rattle.jwalk_core.specs.BatchReads.{seen_made, to_read_on, early_on, ahead_of}

@@ -7,11 +7,11 @@ use Rattle.jwalk_model.specs.Entry.{AtDepth}
 use Rattle.jwalk_model.specs.ReadDir.{Spec, Outcome, IsLawfulReading}
 use Rattle.jwalk_fs.specs.declared.file_system.FileSystem as FileSystem
 use Rattle.jwalk_order.specs.declared.ordered.Ordered.{Ordered}
-use Rattle.jwalk_core.specs.declared.process_read_dir.ProcessReadDir as ProcessReadDir
-use Rattle.jwalk_core.specs.declared.job.Job.{Job}
-use Rattle.jwalk_core.specs.ReadDirSpec.{spec}
-use Rattle.jwalk_core.specs.ReadDir.{outcome}
-use Rattle.jwalk_core.specs.Job.{options_of, greatest_depth, IsReadingOf, IsReadingBy}
+use Rattle.jwalk_job.specs.declared.process_read_dir.ProcessReadDir as ProcessReadDir
+use Rattle.jwalk_job.specs.declared.job.Job.{Job}
+use Rattle.jwalk_job.specs.ReadDirSpec.{spec}
+use Rattle.jwalk_job.specs.ReadDir.{outcome}
+use Rattle.jwalk_job.specs.Job.{options_of, greatest_depth, IsReadingOf, IsReadingBy}
 use Rattle.jwalk_core.specs.declared.wanted.Wanted.{Wanted}
 use Rattle.jwalk_core.specs.Message.{Message}
 use Rattle.jwalk_core.specs.Wanted.{IsFor, Fits}

@@ -10,11 +10,11 @@ use Rattle.jwalk_order.specs.Frontier.{next_address}
 use Rattle.jwalk_order.specs.Ordered.{address_of}
 use Rattle.jwalk_order.specs.declared.ordered.Ordered.{Ordered}
 use Rattle.jwalk_order.specs.Addressed.{addressed}
-use Rattle.jwalk_core.specs.declared.process_read_dir.ProcessReadDir as ProcessReadDir
-use Rattle.jwalk_core.specs.Given.{Given, counted_spec}
-use Rattle.jwalk_core.specs.Job.{options_of}
-use Rattle.jwalk_core.specs.Options.{options_value}
-use Rattle.jwalk_core.specs.ReadDirSpec.{spec}
+use Rattle.jwalk_job.specs.declared.process_read_dir.ProcessReadDir as ProcessReadDir
+use Rattle.jwalk_job.specs.Given.{Given, counted_spec}
+use Rattle.jwalk_job.specs.Job.{options_of}
+use Rattle.jwalk_job.specs.Options.{options_value}
+use Rattle.jwalk_job.specs.ReadDirSpec.{spec}
 use Rattle.jwalk_core.specs.declared.wanted.Wanted.{Wanted}
 use Rattle.jwalk_core.specs.Due.{IsDue}
 use Rattle.jwalk_core.specs.Message.{Message}

@@ -14,15 +14,15 @@ use Rattle.jwalk_model.proofs.CloneFacts.{counted_clones}
 use Rattle.jwalk_model.proofs.CountedFacts.{counted-children_of, counted-IsLawfulReading}
 use Rattle.jwalk_model.proofs.PreorderFacts.{preorder-first, fewer_to_read, heavy_specs}
 use Rattle.jwalk_fs.specs.declared.file_system.FileSystem as FileSystem
-use Rattle.jwalk_core.specs.declared.process_read_dir.ProcessReadDir as ProcessReadDir
-use Rattle.jwalk_core.specs.declared.job.Job.{Job}
-use Rattle.jwalk_core.specs.declared.error.Error.{Error}
-use Rattle.jwalk_core.specs.declared.read_dir.ReadDir.{ReadDir}
-use Rattle.jwalk_core.specs.Error.{failure}
-use Rattle.jwalk_core.specs.ReadDir.{outcome}
-use Rattle.jwalk_core.specs.Given.{Given, counted_spec, counted_outcome, ClonesCount}
-use Rattle.jwalk_core.specs.Job.{greatest_depth, job_by, IsSteadyJob, IsAsGiven}
-use Rattle.jwalk_core.specs.declared.read_dir_spec.ReadDirSpec.{ReadDirSpec}
+use Rattle.jwalk_job.specs.declared.process_read_dir.ProcessReadDir as ProcessReadDir
+use Rattle.jwalk_job.specs.declared.job.Job.{Job}
+use Rattle.jwalk_job.specs.declared.error.Error.{Error}
+use Rattle.jwalk_job.specs.declared.read_dir.ReadDir.{ReadDir}
+use Rattle.jwalk_job.specs.Error.{failure}
+use Rattle.jwalk_job.specs.ReadDir.{outcome}
+use Rattle.jwalk_job.specs.Given.{Given, counted_spec, counted_outcome, ClonesCount}
+use Rattle.jwalk_job.specs.Job.{greatest_depth, job_by, IsSteadyJob, IsAsGiven}
+use Rattle.jwalk_job.specs.declared.read_dir_spec.ReadDirSpec.{ReadDirSpec}
 use Rattle.jwalk_board.specs.Board.{Board}
 use Rattle.jwalk_core.specs.Reads.{Read}
 use Rattle.jwalk_core.specs.Reads.{MadeAsGiven, ReadsFirstBy, ReadsNextBy}

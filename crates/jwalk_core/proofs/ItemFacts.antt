@@ -5,9 +5,9 @@ use Rattle.std.specs.declared.default.Default as Default
 use Rattle.jwalk_model.specs.Entry.{Item}
 use Rattle.jwalk_model.specs.ReadDir.{Spec, Outcome}
 use Rattle.jwalk_fs.specs.declared.file_system.FileSystem as FileSystem
-use Rattle.jwalk_core.specs.declared.process_read_dir.ProcessReadDir as ProcessReadDir
-use Rattle.jwalk_core.specs.Given.{Given}
-use Rattle.jwalk_core.specs.Job.{IsAsGiven}
+use Rattle.jwalk_job.specs.declared.process_read_dir.ProcessReadDir as ProcessReadDir
+use Rattle.jwalk_job.specs.Given.{Given}
+use Rattle.jwalk_job.specs.Job.{IsAsGiven}
 use Rattle.jwalk_core.specs.declared.readers.Readers as Readers
 use Rattle.jwalk_core.specs.CrewReads.{IsNextBelow}
 use Rattle.jwalk_core.specs.ReadDirIter.{IsSteadyReads, KnownBy}

@@ -6,11 +6,11 @@ use Rattle.jwalk_model.specs.Error.{Failure, memory}
 use Rattle.jwalk_model.specs.Entry.{Item}
 use Rattle.jwalk_model.specs.ReadDir.{Spec, Outcome}
 use Rattle.jwalk_fs.specs.declared.file_system.FileSystem as FileSystem
-use Rattle.jwalk_core.specs.declared.process_read_dir.ProcessReadDir as ProcessReadDir
-use Rattle.jwalk_core.specs.declared.job.Job.{Job}
+use Rattle.jwalk_job.specs.declared.process_read_dir.ProcessReadDir as ProcessReadDir
+use Rattle.jwalk_job.specs.declared.job.Job.{Job}
 use Rattle.jwalk_core.specs.Reads.{ReadsNextBy}
-use Rattle.jwalk_core.specs.Given.{Given, ClonesCount}
-use Rattle.jwalk_core.specs.Job.{IsAsGiven, IsGivenOver}
+use Rattle.jwalk_job.specs.Given.{Given, ClonesCount}
+use Rattle.jwalk_job.specs.Job.{IsAsGiven, IsGivenOver}
 use Rattle.jwalk_core.specs.declared.readers.Missed.{Missed}
 use Rattle.jwalk_core.specs.declared.readers.Missed.TheVariants.{Memory, Lost}
 use Rattle.jwalk_core.specs.declared.readers.Readers as Readers

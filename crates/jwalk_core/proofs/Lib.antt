@@ -1,11 +1,3 @@
-pub mod GivenFacts
-mod TieFacts
-mod PathListFacts
-mod ListFacts
-mod GatheredFacts
-mod ReadingFacts
-mod OrderedFacts
-mod WalkedTrees
 pub mod DueFacts
 pub mod OriginFacts
 mod AtJob

@@ -8,10 +8,10 @@ use Rattle.jwalk_model.specs.ReadDir.{Spec, Outcome, children_of, AreClones}
 use Rattle.jwalk_model.proofs.CloneFacts.{counted_clones}
 use Rattle.jwalk_model.proofs.CountedFacts.{counted-children_of}
 use Rattle.jwalk_fs.specs.declared.file_system.FileSystem as FileSystem
-use Rattle.jwalk_core.specs.declared.process_read_dir.ProcessReadDir as ProcessReadDir
-use Rattle.jwalk_core.specs.declared.job.Job.{Job}
-use Rattle.jwalk_core.specs.Given.{Given, counted_spec}
-use Rattle.jwalk_core.specs.Job.{IsSteadyJob, IsReadingOf, IsAsGiven, job_by}
+use Rattle.jwalk_job.specs.declared.process_read_dir.ProcessReadDir as ProcessReadDir
+use Rattle.jwalk_job.specs.declared.job.Job.{Job}
+use Rattle.jwalk_job.specs.Given.{Given, counted_spec}
+use Rattle.jwalk_job.specs.Job.{IsSteadyJob, IsReadingOf, IsAsGiven, job_by}
 use Rattle.tree_crew.proofs.OriginFacts.{at_child}
 use Rattle.jwalk_core.specs.Origin.{Origin, IsAt}
 

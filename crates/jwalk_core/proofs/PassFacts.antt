@@ -17,13 +17,13 @@ use Rattle.jwalk_model.proofs.CountedFacts.{counted-has_directory, counted-after
 use Rattle.jwalk_model.proofs.HeldFacts.{directories, directories-append, as_many_of, lighter, lighter_alone, listed, alone, unread_none}
 use Rattle.jwalk_model.proofs.WithinFacts.{NoDeeper-append, of_reading, after, first_of}
 use Rattle.jwalk_fs.specs.declared.file_system.FileSystem as FileSystem
-use Rattle.jwalk_core.specs.declared.process_read_dir.ProcessReadDir as ProcessReadDir
-use Rattle.jwalk_core.specs.declared.job.Job.{Job}
-use Rattle.jwalk_core.specs.declared.error.Error.{Error}
-use Rattle.jwalk_core.specs.declared.dir_entry.DirEntry.{DirEntry}
-use Rattle.jwalk_core.specs.Entry.{item}
-use Rattle.jwalk_core.specs.Given.{Given, counted_entry, counted_item, counted_spec, counted_outcome, ClonesCount}
-use Rattle.jwalk_core.specs.Job.{options_of, greatest_depth, job_by, IsAsGiven}
+use Rattle.jwalk_job.specs.declared.process_read_dir.ProcessReadDir as ProcessReadDir
+use Rattle.jwalk_job.specs.declared.job.Job.{Job}
+use Rattle.jwalk_job.specs.declared.error.Error.{Error}
+use Rattle.jwalk_job.specs.declared.dir_entry.DirEntry.{DirEntry}
+use Rattle.jwalk_job.specs.Entry.{item}
+use Rattle.jwalk_job.specs.Given.{Given, counted_entry, counted_item, counted_spec, counted_outcome, ClonesCount}
+use Rattle.jwalk_job.specs.Job.{options_of, greatest_depth, job_by, IsAsGiven}
 use Rattle.jwalk_order.specs.Frontier.{next_address}
 use Rattle.jwalk_core.specs.Reads.{ReadsFirstBy}
 use Rattle.jwalk_core.specs.declared.readers.Readers as Readers

@@ -5,7 +5,7 @@ use Rattle.std.specs.declared.clone.Clone as Clone
 use Rattle.jwalk_model.specs.Entry.{Entry, Item, Children, has_directory}
 use Rattle.jwalk_model.specs.ReadDir.{Spec, Outcome, spec_of, spec_below, children_of, list_of, IsClone, AreClones}
 use Rattle.jwalk_model.specs.Held.{first_source, after_first, is_plain, pair_up}
-use Rattle.jwalk_core.specs.declared.job.Job.{Job}
+use Rattle.jwalk_job.specs.declared.job.Job.{Job}
 use Rattle.jwalk_core.specs.CrewReads.{IsBelow, IsNextBelow}
 use Rattle.jwalk_core.specs.Step.{PassesNext, passed_plainly, passed_entering, LeavesOut, none_left_out, one_left_out, ReadsUpTo}
 use Rattle.jwalk_core.specs.DirEntryIter.{IsSourceBelow, AreBelow, ArePlaced}

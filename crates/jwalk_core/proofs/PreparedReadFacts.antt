@@ -11,13 +11,13 @@ use Rattle.jwalk_model.specs.ReadDir.{Spec, Outcome, IsLawfulReading}
 use Rattle.jwalk_fs.specs.declared.file_system.FileSystem as FileSystem
 use Rattle.jwalk_order.specs.Addressed.{addresses_of}
 use Rattle.jwalk_order.specs.Frontier as order
-use Rattle.jwalk_core.specs.declared.process_read_dir.ProcessReadDir as ProcessReadDir
-use Rattle.jwalk_core.specs.declared.error.Error.{Error}
-use Rattle.jwalk_core.specs.Error.{failure}
-use Rattle.jwalk_core.specs.declared.job.Job.{Job}
-use Rattle.jwalk_core.specs.declared.read_dir.ReadDir.{ReadDir}
-use Rattle.jwalk_core.specs.Job.{greatest_depth}
-use Rattle.jwalk_core.specs.ReadDir.{outcome}
+use Rattle.jwalk_job.specs.declared.process_read_dir.ProcessReadDir as ProcessReadDir
+use Rattle.jwalk_job.specs.declared.error.Error.{Error}
+use Rattle.jwalk_job.specs.Error.{failure}
+use Rattle.jwalk_job.specs.declared.job.Job.{Job}
+use Rattle.jwalk_job.specs.declared.read_dir.ReadDir.{ReadDir}
+use Rattle.jwalk_job.specs.Job.{greatest_depth}
+use Rattle.jwalk_job.specs.ReadDir.{outcome}
 use Rattle.jwalk_core.specs.Reads.{ReadsNextBy}
 use Rattle.jwalk_core.specs.ReadAhead.{ReadAhead, HandsOnAt, ReadsLeast, MakesReady}
 use Rattle.jwalk_core.proofs.BatchPrepareFacts.{ready_enters}

@@ -14,16 +14,16 @@ use Rattle.jwalk_order.specs.Frontier.{passed}
 use Rattle.jwalk_board.specs.Board.{Board}
 use Rattle.tree_walk.specs.Reads as tree
 use Rattle.tree_walk.specs.BoardWalk.{left_on, frontier_on, GivesFirst}
-use Rattle.jwalk_core.specs.declared.process_read_dir.ProcessReadDir as ProcessReadDir
-use Rattle.jwalk_core.specs.declared.read_dir_spec.ReadDirSpec.{ReadDirSpec}
-use Rattle.jwalk_core.specs.declared.error.Error.{Error}
-use Rattle.jwalk_core.specs.ReadDirSpec.{spec}
-use Rattle.jwalk_core.specs.Given.{Given}
-use Rattle.jwalk_core.specs.declared.job.Job.{Job}
-use Rattle.jwalk_core.specs.declared.read_dir.ReadDir.{ReadDir}
-use Rattle.jwalk_core.specs.Job.{IsSteadyJob}
-use Rattle.jwalk_core.specs.PlanReading.{IsPlanReading}
-use Rattle.jwalk_core.specs.ReadDir.{outcome}
+use Rattle.jwalk_job.specs.declared.process_read_dir.ProcessReadDir as ProcessReadDir
+use Rattle.jwalk_job.specs.declared.read_dir_spec.ReadDirSpec.{ReadDirSpec}
+use Rattle.jwalk_job.specs.declared.error.Error.{Error}
+use Rattle.jwalk_job.specs.ReadDirSpec.{spec}
+use Rattle.jwalk_job.specs.Given.{Given}
+use Rattle.jwalk_job.specs.declared.job.Job.{Job}
+use Rattle.jwalk_job.specs.declared.read_dir.ReadDir.{ReadDir}
+use Rattle.jwalk_job.specs.Job.{IsSteadyJob}
+use Rattle.jwalk_job.specs.PlanReading.{IsPlanReading}
+use Rattle.jwalk_job.specs.ReadDir.{outcome}
 use Rattle.jwalk_core.specs.Reads.{Read, IsMade, MadeAsGiven, IsSoundOver, IsSound, ReadsFirst}
 use Rattle.jwalk_core.specs.BatchReads.{seen_made, to_read_on, early_on, PassesAddress}
 use Rattle.jwalk_core.proofs.SeenFacts.{All-seen}

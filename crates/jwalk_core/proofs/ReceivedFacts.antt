@@ -3,9 +3,9 @@ use Rattle.std.proofs.Common.{◌≡◌, ◌∙◌, ◌∷◌, [], ◌++◌, Lis
 use Rattle.std.specs.Prelude.{if◌then◌else◌, is_ok}
 use Rattle.std.proofs.lemmas.List.{map-append, reverse-append, reverse-reverse}
 use Rattle.jwalk_model.specs.Entry.{Item}
-use Rattle.jwalk_core.specs.declared.error.Error.{Error}
-use Rattle.jwalk_core.specs.declared.dir_entry.DirEntry.{DirEntry}
-use Rattle.jwalk_core.specs.Entry.{item}
+use Rattle.jwalk_job.specs.declared.error.Error.{Error}
+use Rattle.jwalk_job.specs.declared.dir_entry.DirEntry.{DirEntry}
+use Rattle.jwalk_job.specs.Entry.{item}
 use Rattle.jwalk_core.proofs.StackFacts as lists
 
 pub popped : {C A R E : Type 0} (stack left : List (Result (DirEntry C A R E) (Error A))) (x : Result (DirEntry C A R E) (Error A)) → stack ≡ left ++ x ∷ [] → map item (reverse stack) ≡ item x ∷ map item (reverse left)

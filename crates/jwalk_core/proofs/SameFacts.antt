@@ -8,12 +8,12 @@ use Rattle.jwalk_model.specs.Counted.{Worth}
 use Rattle.jwalk_model.specs.Held as value
 use Rattle.jwalk_model.specs.Job.{reading}
 use Rattle.jwalk_fs.specs.declared.file_system.FileSystem as FileSystem
-use Rattle.jwalk_core.specs.declared.process_read_dir.ProcessReadDir as ProcessReadDir
-use Rattle.jwalk_core.specs.declared.error.Error.{Error}
-use Rattle.jwalk_core.specs.declared.dir_entry.DirEntry.{DirEntry}
-use Rattle.jwalk_core.specs.Entry.{item}
-use Rattle.jwalk_core.specs.Given.{Given, counted_item}
-use Rattle.jwalk_core.specs.Job.{greatest_depth, job_by}
+use Rattle.jwalk_job.specs.declared.process_read_dir.ProcessReadDir as ProcessReadDir
+use Rattle.jwalk_job.specs.declared.error.Error.{Error}
+use Rattle.jwalk_job.specs.declared.dir_entry.DirEntry.{DirEntry}
+use Rattle.jwalk_job.specs.Entry.{item}
+use Rattle.jwalk_job.specs.Given.{Given, counted_item}
+use Rattle.jwalk_job.specs.Job.{greatest_depth, job_by}
 use Rattle.jwalk_core.specs.declared.readers.Readers as Readers
 use Rattle.jwalk_core.specs.declared.dir_entry_iter.DirEntryIter.{DirEntryIter}
 use Rattle.jwalk_core.specs.DirEntryIter.{job_of, min_depth_of, to_come, TellsMemory, IsSteadyWalk, Answers}

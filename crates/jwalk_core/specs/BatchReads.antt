@@ -7,11 +7,11 @@ use Rattle.jwalk_fs.specs.declared.file_system.FileSystem as FileSystem
 use Rattle.jwalk_order.specs.Frontier.{passed, next_address}
 use Rattle.jwalk_board.specs.Board.{Board}
 use Rattle.tree_walk.specs.BoardWalk as tree
-use Rattle.jwalk_core.specs.declared.process_read_dir.ProcessReadDir as ProcessReadDir
-use Rattle.jwalk_core.specs.declared.read_dir_spec.ReadDirSpec.{ReadDirSpec}
-use Rattle.jwalk_core.specs.ReadDirSpec.{spec}
-use Rattle.jwalk_core.specs.Given.{Given}
-use Rattle.jwalk_core.specs.declared.job.Job.{Job}
+use Rattle.jwalk_job.specs.declared.process_read_dir.ProcessReadDir as ProcessReadDir
+use Rattle.jwalk_job.specs.declared.read_dir_spec.ReadDirSpec.{ReadDirSpec}
+use Rattle.jwalk_job.specs.ReadDirSpec.{spec}
+use Rattle.jwalk_job.specs.Given.{Given}
+use Rattle.jwalk_job.specs.declared.job.Job.{Job}
 use Rattle.jwalk_core.specs.Reads.{Read, IsSteadyWith}
 use Rattle.jwalk_core.specs.ReadAhead.{ReadAhead, seen_ahead, MakesReady}
 

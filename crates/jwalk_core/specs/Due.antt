@@ -7,10 +7,10 @@ use Rattle.jwalk_model.specs.ReadDir.{Spec}
 use Rattle.jwalk_fs.specs.declared.file_system.FileSystem as FileSystem
 use Rattle.jwalk_order.specs.Frontier.{next_address}
 use Rattle.jwalk_order.specs.IndexPath.{address}
-use Rattle.jwalk_core.specs.declared.process_read_dir.ProcessReadDir as ProcessReadDir
-use Rattle.jwalk_core.specs.Given.{Given, counted_spec}
-use Rattle.jwalk_core.specs.Job.{IsSteadyJob, options_of}
-use Rattle.jwalk_core.specs.Options.{options_value}
+use Rattle.jwalk_job.specs.declared.process_read_dir.ProcessReadDir as ProcessReadDir
+use Rattle.jwalk_job.specs.Given.{Given, counted_spec}
+use Rattle.jwalk_job.specs.Job.{IsSteadyJob, options_of}
+use Rattle.jwalk_job.specs.Options.{options_value}
 use Rattle.jwalk_core.specs.declared.wanted.Wanted.{Wanted}
 use Rattle.jwalk_core.specs.Origin.{Origin, spec_at}
 use Rattle.jwalk_core.specs.Wanted.{IsDirectory}

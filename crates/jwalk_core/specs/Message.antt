@@ -4,14 +4,14 @@ use Rattle.std.specs.declared.alloc.AllocError.{AllocError}
 use Rattle.std.specs.declared.clone.Clone as Clone
 use Rattle.std.specs.declared.default.Default as Default
 use Rattle.jwalk_fs.specs.declared.file_system.FileSystem as FileSystem
-use Rattle.jwalk_core.specs.declared.process_read_dir.ProcessReadDir as ProcessReadDir
-use Rattle.jwalk_core.specs.declared.error.Error.{Error}
-use Rattle.jwalk_core.specs.declared.job.Job.{Job}
-use Rattle.jwalk_core.specs.declared.read_dir.ReadDir.{ReadDir}
-use Rattle.jwalk_core.specs.declared.read_dir_spec.ReadDirSpec.{ReadDirSpec}
-use Rattle.jwalk_core.specs.ReadDirSpec.{spec}
-use Rattle.jwalk_core.specs.ReadDir.{outcome}
-use Rattle.jwalk_core.specs.Job.{IsReadingOf}
+use Rattle.jwalk_job.specs.declared.process_read_dir.ProcessReadDir as ProcessReadDir
+use Rattle.jwalk_job.specs.declared.error.Error.{Error}
+use Rattle.jwalk_job.specs.declared.job.Job.{Job}
+use Rattle.jwalk_job.specs.declared.read_dir.ReadDir.{ReadDir}
+use Rattle.jwalk_job.specs.declared.read_dir_spec.ReadDirSpec.{ReadDirSpec}
+use Rattle.jwalk_job.specs.ReadDirSpec.{spec}
+use Rattle.jwalk_job.specs.ReadDir.{outcome}
+use Rattle.jwalk_job.specs.Job.{IsReadingOf}
 use Rattle.tree_crew.specs.Message as tree
 
 -- the job that read, the directory that was read, and the outcome, or that memory ran out

@@ -7,13 +7,13 @@ use Rattle.jwalk_model.specs.Job.{reading}
 use Rattle.jwalk_model.specs.ReadDir.{Spec, children_of}
 use Rattle.jwalk_fs.specs.declared.file_system.FileSystem as FileSystem
 use Rattle.jwalk_order.specs.Addressed.{Addressed}
-use Rattle.jwalk_core.specs.declared.process_read_dir.ProcessReadDir as ProcessReadDir
-use Rattle.jwalk_core.specs.declared.job.Job.{Job}
-use Rattle.jwalk_core.specs.declared.read_dir_spec.ReadDirSpec.{ReadDirSpec}
-use Rattle.jwalk_core.specs.Given.{Given, counted_spec}
-use Rattle.jwalk_core.specs.Job.{IsSteadyJob, job_by}
-use Rattle.jwalk_core.specs.ReadDirSpec.{spec}
-use Rattle.jwalk_core.specs.ReadDir.{outcome}
+use Rattle.jwalk_job.specs.declared.process_read_dir.ProcessReadDir as ProcessReadDir
+use Rattle.jwalk_job.specs.declared.job.Job.{Job}
+use Rattle.jwalk_job.specs.declared.read_dir_spec.ReadDirSpec.{ReadDirSpec}
+use Rattle.jwalk_job.specs.Given.{Given, counted_spec}
+use Rattle.jwalk_job.specs.Job.{IsSteadyJob, job_by}
+use Rattle.jwalk_job.specs.ReadDirSpec.{spec}
+use Rattle.jwalk_job.specs.ReadDir.{outcome}
 use Rattle.tree_crew.specs.Origin as tree
 use Rattle.tree_crew.specs.Origin.{at_address}
 use Rattle.jwalk_core.specs.Message.{Message}

@@ -7,10 +7,10 @@ use Rattle.jwalk_fs.specs.declared.file_system.FileSystem as FileSystem
 use Rattle.jwalk_order.specs.Addresses.{IsAmong}
 use Rattle.jwalk_board.specs.Seen.{seen}
 use Rattle.tree_walk.specs.ReadAhead as tree
-use Rattle.jwalk_core.specs.declared.process_read_dir.ProcessReadDir as ProcessReadDir
-use Rattle.jwalk_core.specs.declared.read_dir_spec.ReadDirSpec.{ReadDirSpec}
-use Rattle.jwalk_core.specs.ReadDirSpec.{spec}
-use Rattle.jwalk_core.specs.declared.job.Job.{Job}
+use Rattle.jwalk_job.specs.declared.process_read_dir.ProcessReadDir as ProcessReadDir
+use Rattle.jwalk_job.specs.declared.read_dir_spec.ReadDirSpec.{ReadDirSpec}
+use Rattle.jwalk_job.specs.ReadDirSpec.{spec}
+use Rattle.jwalk_job.specs.declared.job.Job.{Job}
 use Rattle.jwalk_core.specs.Reads.{spec_of, IsSound}
 
 -- the directories that are not read yet, in `queue`, and the addresses of the readings that were made and not handed on, in `done`

@@ -10,13 +10,13 @@ use Rattle.jwalk_model.specs.Job.{reading}
 use Rattle.jwalk_fs.specs.declared.file_system.FileSystem as FileSystem
 use Rattle.jwalk_order.specs.Addresses.{IsAmong}
 use Rattle.jwalk_order.specs.Frontier as frontier
-use Rattle.jwalk_core.specs.declared.process_read_dir.ProcessReadDir as ProcessReadDir
-use Rattle.jwalk_core.specs.declared.error.Error.{Error}
-use Rattle.jwalk_core.specs.declared.read_dir.ReadDir.{ReadDir}
-use Rattle.jwalk_core.specs.declared.job.Job.{Job}
-use Rattle.jwalk_core.specs.ReadDir.{outcome}
-use Rattle.jwalk_core.specs.Given.{Given, counted_spec, counted_outcome}
-use Rattle.jwalk_core.specs.Job.{greatest_depth, job_by, IsSteadyJob, IsGivenOver}
+use Rattle.jwalk_job.specs.declared.process_read_dir.ProcessReadDir as ProcessReadDir
+use Rattle.jwalk_job.specs.declared.error.Error.{Error}
+use Rattle.jwalk_job.specs.declared.read_dir.ReadDir.{ReadDir}
+use Rattle.jwalk_job.specs.declared.job.Job.{Job}
+use Rattle.jwalk_job.specs.ReadDir.{outcome}
+use Rattle.jwalk_job.specs.Given.{Given, counted_spec, counted_outcome}
+use Rattle.jwalk_job.specs.Job.{greatest_depth, job_by, IsSteadyJob, IsGivenOver}
 use Rattle.jwalk_core.specs.ReadAhead.{ReadAhead, nothing_ahead, Enters, MakesReady}
 use Rattle.jwalk_core.specs.BatchReads as board
 use Rattle.jwalk_core.specs.BatchReads.{PassesAddress, IsSteadyBatches}

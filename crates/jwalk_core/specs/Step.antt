@@ -5,8 +5,8 @@ use Rattle.jwalk_model.specs.Entry.{Item, has_directory}
 use Rattle.jwalk_model.specs.ReadDir.{Spec, Outcome, list_of}
 use Rattle.jwalk_model.specs.Listing.{after_reading, is_answered}
 use Rattle.jwalk_model.specs.Held.{first_source, is_plain}
-use Rattle.jwalk_core.specs.declared.job.Job.{Job}
-use Rattle.jwalk_core.specs.Job.{options_of, greatest_depth}
+use Rattle.jwalk_job.specs.declared.job.Job.{Job}
+use Rattle.jwalk_job.specs.Job.{options_of, greatest_depth}
 use Rattle.jwalk_core.specs.Reads.{ReadsFirstBy}
 
 -- A directory is to be read below the first item.

@@ -5,11 +5,11 @@ use Rattle.jwalk_model.specs.ReadDir.{Spec}
 use Rattle.jwalk_order.specs.IndexPath.{address}
 use Rattle.jwalk_order.specs.Ordered.{address_of}
 use Rattle.jwalk_order.specs.declared.ordered.Ordered.{Ordered}
-use Rattle.jwalk_core.specs.Text.{text}
-use Rattle.jwalk_core.specs.Ancestors.{texts}
-use Rattle.jwalk_core.specs.Options.{options_value}
-use Rattle.jwalk_core.specs.ReadDirSpec.{spec}
-use Rattle.jwalk_core.specs.Job.{options_of}
+use Rattle.jwalk_job.specs.Text.{text}
+use Rattle.jwalk_job.specs.Ancestors.{texts}
+use Rattle.jwalk_job.specs.Options.{options_value}
+use Rattle.jwalk_job.specs.ReadDirSpec.{spec}
+use Rattle.jwalk_job.specs.Job.{options_of}
 use Rattle.jwalk_core.specs.declared.wanted.Wanted.{Wanted}
 use Rattle.jwalk_core.specs.Message.{Message}
 

@@ -1,16 +1,16 @@
 //! Readings of directories in preorder, made in batches.
 ghost use Rattle.std.specs.Prelude.{◌≡◌, ◌≢◌, ◌≤◌, ◌+◌, [], length, map, option_map, IfOk, OnOk, OnErr};
-ghost use Rattle.jwalk_core.specs.ReadDirSpec.{spec};
-ghost use Rattle.jwalk_core.specs.ReadDir.{outcome};
-ghost use Rattle.jwalk_core.specs.Job.{callback};
+ghost use Rattle.jwalk_job.specs.ReadDirSpec.{spec};
+ghost use Rattle.jwalk_job.specs.ReadDir.{outcome};
+ghost use Rattle.jwalk_job.specs.Job.{callback};
 ghost use Rattle.jwalk_core.specs.Reads.{ReadsNext};
 ghost use Rattle.jwalk_core.specs.ReadAhead.{nothing_ahead, BeginsWith, EntersNext};
 
-use crate::client_state::ClientState;
-use crate::job::Job;
-use crate::process_read_dir::ProcessReadDir;
-use crate::read_dir::Outcome;
-use crate::read_dir_spec::ReadDirSpec;
+use jwalk_job::client_state::ClientState;
+use jwalk_job::job::Job;
+use jwalk_job::process_read_dir::ProcessReadDir;
+use jwalk_job::read_dir::Outcome;
+use jwalk_job::read_dir_spec::ReadDirSpec;
 use jwalk_fs::file_system::FileSystem;
 use std::alloc::{AllocError, Allocator, Global};
 use std::marker::Model;

@@ -3,10 +3,10 @@ ghost use Rattle.std.specs.Prelude.{◌≡◌, ◌≢◌, ◌≤◌, ◌↔◌, 
 ghost use Rattle.std.specs.Arc.{arc_value};
 ghost use Rattle.jwalk_model.specs.ReadDir.{children_of};
 ghost use Rattle.jwalk_order.specs.Frontier.{passed};
-ghost use Rattle.jwalk_core.specs.Error.{failure};
-ghost use Rattle.jwalk_core.specs.Entry.{entry};
-ghost use Rattle.jwalk_core.specs.ReadDirSpec.{spec};
-ghost use Rattle.jwalk_core.specs.ReadDir.{outcome};
+ghost use Rattle.jwalk_job.specs.Error.{failure};
+ghost use Rattle.jwalk_job.specs.Entry.{entry};
+ghost use Rattle.jwalk_job.specs.ReadDirSpec.{spec};
+ghost use Rattle.jwalk_job.specs.ReadDir.{outcome};
 ghost use Rattle.jwalk_core.specs.Reads.{StacksChildren};
 ghost use Rattle.jwalk_core.specs.BatchReads.{PassesAddress};
 ghost use Rattle.jwalk_core.specs.CrewReads.{job_of, to_read, frontier_of, next_address, IsBelow, IsNextBelow, IsTold, BeginsBy, NotLost, most_ahead, IsSteadyBefore, IsSteadyCrew, StartsSteady, StaysSteady, ReadsSteadily, IsReportedFor, IsGivenFor, StaysSteadyAfter, IsNotLostFirst, failure_of};
@@ -14,13 +14,13 @@ ghost use Rattle.jwalk_core.specs.ReadDirIter.{CrewReadsNext};
 
 pub mod started;
 
-use crate::client_state::ClientState;
-use crate::dir_entry::DirEntry;
-use crate::error::Error;
-use crate::job::Job;
-use crate::process_read_dir::ProcessReadDir;
-use crate::read_dir::{Outcome, directories_of};
-use crate::read_dir_spec::ReadDirSpec;
+use jwalk_job::client_state::ClientState;
+use jwalk_job::dir_entry::DirEntry;
+use jwalk_job::error::Error;
+use jwalk_job::job::Job;
+use jwalk_job::process_read_dir::ProcessReadDir;
+use jwalk_job::read_dir::{Outcome, directories_of};
+use jwalk_job::read_dir_spec::ReadDirSpec;
 use crate::readers::{Missed, NoCrew, Readers};
 use crate::wanted::Wanted;
 use jwalk_fs::file_system::FileSystem;

@@ -1,17 +1,17 @@
 //! A walk's answers.
 ghost use Rattle.std.specs.Prelude.{◌≡◌, true, Ok, IfOk, OnErr};
-ghost use Rattle.jwalk_core.specs.Entry.{entry, item};
-ghost use Rattle.jwalk_core.specs.Job.{callback};
+ghost use Rattle.jwalk_job.specs.Entry.{entry, item};
+ghost use Rattle.jwalk_job.specs.Job.{callback};
 
 mod on_threads;
 
-use crate::client_state::ClientState;
+use jwalk_job::client_state::ClientState;
 use crate::crew_reads::error_of;
-use crate::dir_entry::DirEntry;
-use crate::error::Error;
-use crate::job::Job;
-use crate::process_read_dir::ProcessReadDir;
-use crate::read_dir::{Outcome, ReadDir};
+use jwalk_job::dir_entry::DirEntry;
+use jwalk_job::error::Error;
+use jwalk_job::job::Job;
+use jwalk_job::process_read_dir::ProcessReadDir;
+use jwalk_job::read_dir::{Outcome, ReadDir};
 use crate::read_dir_iter::ReadDirIter;
 use crate::readers::{Missed, NoCrew, Readers};
 use jwalk_fs::file_system::FileSystem;
@@ -64,10 +64,10 @@ impl<
     ghost use Rattle.jwalk_model.specs.Entry.{AtDepth};
     ghost use Rattle.jwalk_model.specs.ReadDir.{children, AreClones};
     ghost use Rattle.jwalk_model.specs.Listing.{paired, is_answered};
-    ghost use Rattle.jwalk_core.specs.ReadDir.{reading, outcome};
-    ghost use Rattle.jwalk_core.specs.Given.{counted_reading, ClonesCount};
-    ghost use Rattle.jwalk_core.specs.Options as options;
-    ghost use Rattle.jwalk_core.specs.Job.{options_of};
+    ghost use Rattle.jwalk_job.specs.ReadDir.{reading, outcome};
+    ghost use Rattle.jwalk_job.specs.Given.{counted_reading, ClonesCount};
+    ghost use Rattle.jwalk_job.specs.Options as options;
+    ghost use Rattle.jwalk_job.specs.Job.{options_of};
     ghost use Rattle.jwalk_core.specs.ReadAhead.{nothing_ahead, BeginsWith};
     ghost use Rattle.jwalk_core.specs.DirEntryIter.{reads_of, by_crew, is_refused, job_of, min_depth_of, items_of, unread_of, width_of, frontier_of, read_ahead, early_of, held_by, IsWithin, IsSourced, IsRefused, most_ahead, ReadsStaySteady, Passes, GoesOn, Answers, AnswersWhatCame, Fills, Counts};
     ghost use Rattle.jwalk_core.specs.Step.{Receives};

@@ -2,16 +2,16 @@
 ghost use Rattle.std.specs.Prelude.{◌≡◌, [], IsErr, IsTrue, ◌↔◌, MatchResult, map};
 ghost use Rattle.std.specs.Arc.{arc_value};
 ghost use Rattle.jwalk_model.specs.ReadDir.{children_of, AreClones};
-ghost use Rattle.jwalk_core.specs.ReadDirSpec.{spec};
-ghost use Rattle.jwalk_core.specs.ReadDir.{outcome};
-ghost use Rattle.jwalk_core.specs.Job.{callback};
+ghost use Rattle.jwalk_job.specs.ReadDirSpec.{spec};
+ghost use Rattle.jwalk_job.specs.ReadDir.{outcome};
+ghost use Rattle.jwalk_job.specs.Job.{callback};
 ghost use Rattle.jwalk_core.specs.Message.{IsLawfulMessage, told};
 
-use crate::client_state::ClientState;
-use crate::job::Job;
-use crate::process_read_dir::ProcessReadDir;
-use crate::read_dir::Outcome;
-use crate::read_dir_spec::ReadDirSpec;
+use jwalk_job::client_state::ClientState;
+use jwalk_job::job::Job;
+use jwalk_job::process_read_dir::ProcessReadDir;
+use jwalk_job::read_dir::Outcome;
+use jwalk_job::read_dir_spec::ReadDirSpec;
 use jwalk_fs::file_system::FileSystem;
 use std::alloc::{AllocError, Allocator, Global};
 use std::marker::Model;

@@ -1,6 +1,6 @@
 //! Where the readings of a walk come from.
-use crate::job::Job;
-use crate::read_dir_spec::ReadDirSpec;
+use jwalk_job::job::Job;
+use jwalk_job::read_dir_spec::ReadDirSpec;
 use std::alloc::Global;
 
 /// Where the readings of a walk come from: the job that reads, and the directories that the walk begins with.

@@ -1,9 +1,9 @@
 //! How a walk's directories are read.
 ghost use Rattle.std.specs.Prelude.{◌≡◌};
-ghost use Rattle.jwalk_core.specs.Options.{mode_value};
+ghost use Rattle.jwalk_job.specs.Options.{mode_value};
 ghost use Rattle.jwalk_core.specs.Parallelism.{parallelism_value, crew_of};
 
-use crate::mode::Mode;
+use jwalk_job::mode::Mode;
 use crate::readers::NoCrew;
 use std::alloc::{AllocError, Allocator, Global};
 use std::sync::Arc;

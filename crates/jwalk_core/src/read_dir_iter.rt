@@ -1,27 +1,27 @@
 //! Readings in preorder.
 ghost use Rattle.std.specs.Prelude.{◌≡◌, ◌≢◌, ◌≤◌, ◌+◌, true, false, Ok, [], length, map, IfOk, IfErr, OnOk, OnErr, IsSome, option_map};
 ghost use Rattle.jwalk_model.specs.Error.{memory};
-ghost use Rattle.jwalk_core.specs.Error.{failure};
-ghost use Rattle.jwalk_core.specs.Entry.{entry};
-ghost use Rattle.jwalk_core.specs.ReadDirSpec.{spec};
-ghost use Rattle.jwalk_core.specs.ReadDir.{outcome};
-ghost use Rattle.jwalk_core.specs.Job.{callback};
+ghost use Rattle.jwalk_job.specs.Error.{failure};
+ghost use Rattle.jwalk_job.specs.Entry.{entry};
+ghost use Rattle.jwalk_job.specs.ReadDirSpec.{spec};
+ghost use Rattle.jwalk_job.specs.ReadDir.{outcome};
+ghost use Rattle.jwalk_job.specs.Job.{callback};
 
 mod on_threads;
 mod over_crew;
 mod over_readers;
 
 use crate::batch_reads::BatchReads;
-use crate::client_state::ClientState;
+use jwalk_job::client_state::ClientState;
 use crate::crew_reads::{CrewReads, error_of};
-use crate::dir_entry::DirEntry;
-use crate::error::Error;
-use crate::job::Job;
-use crate::mode::Mode;
+use jwalk_job::dir_entry::DirEntry;
+use jwalk_job::error::Error;
+use jwalk_job::job::Job;
+use jwalk_job::mode::Mode;
 use crate::parallelism::Parallelism;
-use crate::process_read_dir::ProcessReadDir;
-use crate::read_dir::{Outcome, ReadDir};
-use crate::read_dir_spec::ReadDirSpec;
+use jwalk_job::process_read_dir::ProcessReadDir;
+use jwalk_job::read_dir::{Outcome, ReadDir};
+use jwalk_job::read_dir_spec::ReadDirSpec;
 use crate::readers::{Missed, NoCrew, Readers};
 use jwalk_fs::file_system::FileSystem;
 use std::alloc::{AllocError, Allocator, Global};
@@ -67,9 +67,9 @@ impl<
     A: Allocator + Copy,
     L: Readers<C, S, P, A>,
 > ReadDirIter<C, S, P, A, L> {
-    ghost use Rattle.jwalk_core.specs.Options as options;
-    ghost use Rattle.jwalk_core.specs.Options.{mode_value};
-    ghost use Rattle.jwalk_core.specs.Job.{greatest_depth};
+    ghost use Rattle.jwalk_job.specs.Options as options;
+    ghost use Rattle.jwalk_job.specs.Options.{mode_value};
+    ghost use Rattle.jwalk_job.specs.Job.{greatest_depth};
     ghost use Rattle.jwalk_core.specs.Reads.{ReadsNextBy};
     ghost use Rattle.jwalk_core.specs.ReadAhead.{nothing_ahead, BeginsWith};
     ghost use Rattle.jwalk_core.specs.BatchReads.{PassesAddress};
@@ -256,7 +256,7 @@ impl<C: ClientState, S: FileSystem, P: ProcessReadDir<C, A>, A: Allocator + Copy
     A,
     NoCrew,
 > {
-    ghost use Rattle.jwalk_core.specs.Options as options;
+    ghost use Rattle.jwalk_job.specs.Options as options;
     ghost use Rattle.jwalk_core.specs.ReadAhead.{BeginsWith};
     ghost use Rattle.jwalk_core.specs.Parallelism.{parallelism_value};
     ghost use Rattle.jwalk_core.specs.ReadDirIter.{by_crew, job_of, to_read, width_of, read_ahead, frontier_of};
@@ -294,7 +294,7 @@ impl<
 
     ghost use Rattle.std.specs.Iterator.{at_most};
     ghost use Rattle.jwalk_model.specs.Held.{spec_weight};
-    ghost use Rattle.jwalk_core.specs.Job.{greatest_depth};
+    ghost use Rattle.jwalk_job.specs.Job.{greatest_depth};
     ghost use Rattle.jwalk_core.specs.ReadDirIter.{job_of, to_read, Gives};
 
     ghost can_next = { λ s. P.IsLawful (callback (job_of s)) };

@@ -7,9 +7,9 @@ ghost use Rattle.jwalk_core.specs.Due.{IsDue};
 ghost use Rattle.jwalk_core.specs.Origin.{Origin, IsMessageOf};
 ghost use Rattle.jwalk_core.specs.Wanted.{Fits};
 
-use crate::client_state::ClientState;
+use jwalk_job::client_state::ClientState;
 use crate::message::Message;
-use crate::process_read_dir::ProcessReadDir;
+use jwalk_job::process_read_dir::ProcessReadDir;
 use crate::wanted::Wanted;
 use jwalk_fs::file_system::FileSystem;
 use jwalk_order::ordered::Ordered;

@@ -1,18 +1,18 @@
 //! A walk over a crew.
 ghost use Rattle.std.specs.Prelude.{◌≡◌, IfOk, length, map};
 ghost use Rattle.std.specs.Arc.{arc_value};
-ghost use Rattle.jwalk_core.specs.Job.{callback};
-ghost use Rattle.jwalk_core.specs.ReadDirSpec.{spec};
+ghost use Rattle.jwalk_job.specs.Job.{callback};
+ghost use Rattle.jwalk_job.specs.ReadDirSpec.{spec};
 ghost use Rattle.tree_crew.specs.Crew.{limit_of};
 ghost use Rattle.jwalk_core.specs.Origin.{CountAlike, begun};
 
-use crate::client_state::ClientState;
-use crate::job::Job;
+use jwalk_job::client_state::ClientState;
+use jwalk_job::job::Job;
 use crate::message::Message;
 use crate::origin::Origin;
-use crate::process_read_dir::ProcessReadDir;
-use crate::read_dir::Outcome;
-use crate::read_dir_spec::ReadDirSpec;
+use jwalk_job::process_read_dir::ProcessReadDir;
+use jwalk_job::read_dir::Outcome;
+use jwalk_job::read_dir_spec::ReadDirSpec;
 use crate::readers::{Missed, Readers};
 use crate::wanted::Wanted;
 use jwalk_fs::file_system::FileSystem;

@@ -1,16 +1,16 @@
 //! Which reading an iterator waits for.
 ghost use Rattle.std.specs.Prelude.{◌↔◌, IsTrue, IfOk};
 ghost use Rattle.jwalk_order.specs.IndexPath.{address as indices_of};
-ghost use Rattle.jwalk_core.specs.ReadDirSpec.{spec};
-ghost use Rattle.jwalk_core.specs.Options.{options_value};
+ghost use Rattle.jwalk_job.specs.ReadDirSpec.{spec};
+ghost use Rattle.jwalk_job.specs.Options.{options_value};
 ghost use Rattle.jwalk_core.specs.Wanted.{Fits, IsDirectory, IsFor};
 
-use crate::ancestors::Ancestors;
-use crate::client_state::ClientState;
+use jwalk_job::ancestors::Ancestors;
+use jwalk_job::client_state::ClientState;
 use crate::message::Message;
-use crate::options::Options;
-use crate::process_read_dir::ProcessReadDir;
-use crate::read_dir_spec::ReadDirSpec;
+use jwalk_job::options::Options;
+use jwalk_job::process_read_dir::ProcessReadDir;
+use jwalk_job::read_dir_spec::ReadDirSpec;
 use jwalk_fs::file_system::FileSystem;
 use jwalk_order::index_path::IndexPath;
 use jwalk_order::ordered::Ordered;

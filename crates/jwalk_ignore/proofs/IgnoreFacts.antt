@@ -4,7 +4,7 @@ use Rattle.std.specs.Prelude.{OnOk}
 use Rattle.jwalk.specs.jwalk_model.Counted.{Worth, both}
 use Rattle.jwalk.specs.jwalk_model.Entry.{Item}
 use Rattle.jwalk.specs.jwalk_model.Job.{Processing}
-use Rattle.jwalk.specs.jwalk_core.Given.{Given, IsProcessed, counted_item}
+use Rattle.jwalk.specs.jwalk_job.Given.{Given, IsProcessed, counted_item}
 use Rattle.jwalk_ignore.specs.Rules.Chain as value
 use Rattle.jwalk_ignore.specs.Rules.ChainViews.{chain_value}
 use Rattle.jwalk_ignore.specs.Rules.ChainWorth.{chain_worth, rules_of, second_in, with_chain}

@@ -3,9 +3,9 @@ use Rattle.std.proofs.Common.{◌≡◌, ℕ, List, [], ◌∷◌, ◌++◌, Opt
 use Rattle.std.specs.Iterator.{Yields}
 use Rattle.std.proofs.lemmas.List.{map-append}
 use Rattle.jwalk.specs.jwalk_model.Entry.{Item}
-use Rattle.jwalk.specs.jwalk_core.declared.dir_entry.DirEntry.{DirEntry}
-use Rattle.jwalk.specs.jwalk_core.declared.error.Error.{Error}
-use Rattle.jwalk.specs.jwalk_core.Entry.{item}
+use Rattle.jwalk.specs.jwalk_job.declared.dir_entry.DirEntry.{DirEntry}
+use Rattle.jwalk.specs.jwalk_job.declared.error.Error.{Error}
+use Rattle.jwalk.specs.jwalk_job.Entry.{item}
 use Rattle.jwalk.specs.DirEntryIter.{TellsMemory}
 use Rattle.jwalk_usage.specs.declared.report.Usage.{Usage}
 use Rattle.jwalk_usage.specs.declared.report.UsageFault.{UsageFault}

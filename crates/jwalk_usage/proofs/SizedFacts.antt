@@ -12,7 +12,7 @@ use Rattle.jwalk.specs.jwalk_model.Counted.{Worth, blank, number, bytes, childre
 use Rattle.jwalk.specs.jwalk_model.Kept.{forgotten_entry, forgotten_item}
 use Rattle.jwalk.specs.jwalk_model.Walk.{whole_walk, stateless_job, stateless_walk}
 use Rattle.jwalk_model.proofs.KeptFacts.{metadata_changes_nothing_else}
-use Rattle.jwalk.specs.jwalk_core.Given.{counted_item}
+use Rattle.jwalk.specs.jwalk_job.Given.{counted_item}
 use Rattle.jwalk.specs.jwalk_callbacks.declared.size.Size.{Size}
 use Rattle.jwalk.specs.jwalk_callbacks.declared.size.Size.TheVariants.{Unasked, Len, Failed}
 use Rattle.jwalk.specs.jwalk_callbacks.WithSizes.{with_asked, counted_size, size_worth, sizing, job_sizing}

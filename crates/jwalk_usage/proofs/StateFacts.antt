@@ -3,7 +3,7 @@ use Rattle.std.proofs.Common.{◌≡◌, Bool, List, map, Some, None, Ok, Err, r
 use Rattle.jwalk.specs.jwalk_model.declared.file_type.FileType.{FileType}
 use Rattle.jwalk.specs.jwalk_model.FileSystem.{Functions}
 use Rattle.jwalk.specs.jwalk_model.Entry.{Item}
-use Rattle.jwalk.specs.jwalk_core.Given.{Given, counted_item}
+use Rattle.jwalk.specs.jwalk_job.Given.{Given, counted_item}
 use Rattle.jwalk_usage.specs.Totals.{entry_of, errors_of, bytes_of, totals}
 use Rattle.jwalk_usage.specs.Kept.{errors_kept, bytes_kept, kept_totals}
 use Rattle.jwalk_usage.proofs.TotalFacts.{totals_same}

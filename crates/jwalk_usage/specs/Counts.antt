@@ -7,9 +7,9 @@ use Rattle.jwalk.specs.jwalk_model.declared.metadata.Metadata.{Metadata}
 use Rattle.jwalk.specs.jwalk_model.FileType.{is_dir, is_file, is_symlink}
 use Rattle.jwalk.specs.jwalk_model.FileSystem.{Functions}
 use Rattle.jwalk.specs.jwalk_model.Entry.{Item}
-use Rattle.jwalk.specs.jwalk_core.declared.dir_entry.DirEntry.{DirEntry}
-use Rattle.jwalk.specs.jwalk_core.declared.error.Error.{Error}
-use Rattle.jwalk.specs.jwalk_core.Entry.{item}
+use Rattle.jwalk.specs.jwalk_job.declared.dir_entry.DirEntry.{DirEntry}
+use Rattle.jwalk.specs.jwalk_job.declared.error.Error.{Error}
+use Rattle.jwalk.specs.jwalk_job.Entry.{item}
 use Rattle.jwalk.specs.DirEntryIter.{TellsMemory, NoneRefused}
 use Rattle.jwalk_usage.specs.declared.report.Usage.{Usage}
 use Rattle.jwalk_usage.specs.declared.report.UsageFault.{UsageFault}

@@ -2,7 +2,7 @@
 ghost use Rattle.std.specs.Prelude.{◌≡◌, ℕ, IfOk, IfErr, OnOk};
 ghost use Rattle.std.specs.Iterator.{IsFinite};
 ghost use Rattle.jwalk.specs.jwalk_model.Entry.{Item};
-ghost use Rattle.jwalk.specs.jwalk_core.Entry.{item};
+ghost use Rattle.jwalk.specs.jwalk_job.Entry.{item};
 ghost use Rattle.jwalk.specs.DirEntryIter.{TellsMemory};
 ghost use Rattle.jwalk_usage.specs.Totals.{totals_by, with_answer};
 ghost use Rattle.jwalk_usage.specs.ByAnswers.{AddsRest, CannotAdd, StopsAdding};

@@ -1,6 +1,6 @@
 //! One answer after another, counted.
 ghost use Rattle.std.specs.Prelude.{◌≡◌, option_map};
-ghost use Rattle.jwalk.specs.jwalk_core.Entry.{children, entry};
+ghost use Rattle.jwalk.specs.jwalk_job.Entry.{children, entry};
 ghost use Rattle.jwalk_usage.specs.Totals.{has_failed, is_asked};
 ghost use Rattle.jwalk_usage.specs.Kept.{length_kept};
 
@@ -44,8 +44,8 @@ fn length_kept<C: ClientState, A: Allocator + Copy>(found: &DirEntry<C, A>) -> u
 impl Usage {
     ghost use Rattle.std.specs.Prelude.{◌≡◌, ◌≤◌, ◌+◌, ◌^◌, ◌⊎◌, true, Ok, Err, IfErr, OnOk};
     ghost use Rattle.jwalk.specs.jwalk_model.Error.{memory};
-    ghost use Rattle.jwalk.specs.jwalk_core.Entry.{entry, item};
-    ghost use Rattle.jwalk.specs.jwalk_core.Error.{failure};
+    ghost use Rattle.jwalk.specs.jwalk_job.Entry.{entry, item};
+    ghost use Rattle.jwalk.specs.jwalk_job.Error.{failure};
     ghost use Rattle.jwalk.specs.DirEntryIter.{TellsMemory};
     ghost use Rattle.jwalk_usage.specs.Counts.{nothing, with_type, with_length, with_one, CountsType, IsTooGreat, CannotCount};
     ghost use Rattle.jwalk_usage.specs.Kept.{is_known, with_kept};

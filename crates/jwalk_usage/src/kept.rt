@@ -1,7 +1,7 @@
 //! Totals of walks that keep metadata.
 ghost use Rattle.std.specs.Prelude.{◌≡◌, IfOk, IfErr, OnOk};
 ghost use Rattle.std.specs.Iterator.{IsFinite};
-ghost use Rattle.jwalk.specs.jwalk_core.Entry.{item};
+ghost use Rattle.jwalk.specs.jwalk_job.Entry.{item};
 ghost use Rattle.jwalk.specs.DirEntryIter.{TellsMemory};
 ghost use Rattle.jwalk_usage.specs.ByAnswers.{AddsAll, AddsRest, CannotAdd, StopsAdding};
 ghost use Rattle.jwalk_usage.specs.Kept.{bytes_kept, errors_kept, kept_totals, with_kept};

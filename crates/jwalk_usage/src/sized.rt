@@ -1,7 +1,7 @@
 //! Totals of walks that have the sizes of files in their entries.
 ghost use Rattle.std.specs.Prelude.{◌≡◌, IfOk, IfErr, OnOk};
 ghost use Rattle.std.specs.Iterator.{IsFinite};
-ghost use Rattle.jwalk.specs.jwalk_core.Entry.{item};
+ghost use Rattle.jwalk.specs.jwalk_job.Entry.{item};
 ghost use Rattle.jwalk.specs.DirEntryIter.{TellsMemory};
 ghost use Rattle.jwalk_usage.specs.ByAnswers.{CannotAdd};
 ghost use Rattle.jwalk_usage.specs.Sized.{bytes_in, errors_in, with_sized, CountsSizes, CountsSizesRest, StopsAtSize, SizesAddUp};
@@ -18,7 +18,7 @@ use std::fmt::Debug;
 
 impl Usage {
     ghost use Rattle.std.specs.Prelude.{◌≡◌, Ok, IfErr, OnOk};
-    ghost use Rattle.jwalk.specs.jwalk_core.Entry.{entry};
+    ghost use Rattle.jwalk.specs.jwalk_job.Entry.{entry};
     ghost use Rattle.jwalk_usage.specs.Counts.{IsTooGreat};
     ghost use Rattle.jwalk_usage.specs.Sized.{with_size, with_sized};
 

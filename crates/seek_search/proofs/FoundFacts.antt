@@ -3,9 +3,9 @@ use Rattle.std.proofs.Common.{◌≡◌, ◌∙◌, ℕ, Bool, true, false, ◌&
 use Rattle.std.specs.Iterator.{Yields}
 use Rattle.std.specs.List.{list_all}
 use Rattle.std.specs.Io.KnownBytes.{Appends}
-use Rattle.jwalk_core.specs.declared.dir_entry.DirEntry.{DirEntry}
-use Rattle.jwalk_core.specs.declared.error.Error.{Error}
-use Rattle.jwalk_core.specs.Entry.{item}
+use Rattle.jwalk_job.specs.declared.dir_entry.DirEntry.{DirEntry}
+use Rattle.jwalk_job.specs.declared.error.Error.{Error}
+use Rattle.jwalk_job.specs.Entry.{item}
 use Rattle.jwalk_model.specs.Entry.{Item}
 use Rattle.jwalk.proofs.FillFacts.{calls_on}
 use Rattle.seek_words.specs.Sought.{Sought}

@@ -4,10 +4,10 @@ use Rattle.std.specs.List.{list_all}
 use Rattle.std.specs.Io.KnownBytes.{Appends}
 use Rattle.jwalk_model.specs.Counted.{Worth}
 use Rattle.jwalk_model.specs.Entry.{Item}
-use Rattle.jwalk_core.specs.declared.dir_entry.DirEntry.{DirEntry}
-use Rattle.jwalk_core.specs.declared.error.Error.{Error}
-use Rattle.jwalk_core.specs.Entry.{item}
-use Rattle.jwalk_core.specs.Given.{Given, counted_item}
+use Rattle.jwalk_job.specs.declared.dir_entry.DirEntry.{DirEntry}
+use Rattle.jwalk_job.specs.declared.error.Error.{Error}
+use Rattle.jwalk_job.specs.Entry.{item}
+use Rattle.jwalk_job.specs.Given.{Given, counted_item}
 use Rattle.seek_words.specs.Sought.{Sought}
 use Rattle.seek_words.specs.declared.paths.Style.{Style}
 use Rattle.seek_search.specs.Found.{found_line, found_lines, is_clean, PrintsClean}

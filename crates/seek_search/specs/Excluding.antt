@@ -5,7 +5,7 @@ use Rattle.jwalk.specs.jwalk_model.Entry.{Item}
 use Rattle.jwalk.specs.jwalk_model.FileType.{is_dir}
 use Rattle.jwalk.specs.jwalk_model.Job.{KeepsDepthsOf, Processing}
 use Rattle.jwalk.specs.jwalk_model.Counted.{Worth}
-use Rattle.jwalk.specs.jwalk_core.Given.{Given}
+use Rattle.jwalk.specs.jwalk_job.Given.{Given}
 use Rattle.jwalk_ignore.specs.Rules.Chain.{is_ignored}
 use Rattle.jwalk_ignore.specs.Rules.Line.{patterns_of}
 use Rattle.jwalk_ignore.specs.Callback.MadeDepths.{filter_at}

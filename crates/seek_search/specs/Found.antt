@@ -3,9 +3,9 @@ use Rattle.std.specs.Prelude.{◌≡◌, ℕ, Bool, true, false, not, List, [], 
 use Rattle.std.specs.List.{list_all}
 use Rattle.std.specs.Iterator.{Drains}
 use Rattle.std.specs.Io.KnownBytes.{Appends}
-use Rattle.jwalk_core.specs.declared.dir_entry.DirEntry.{DirEntry}
-use Rattle.jwalk_core.specs.declared.error.Error.{Error}
-use Rattle.jwalk_core.specs.Entry.{item}
+use Rattle.jwalk_job.specs.declared.dir_entry.DirEntry.{DirEntry}
+use Rattle.jwalk_job.specs.declared.error.Error.{Error}
+use Rattle.jwalk_job.specs.Entry.{item}
 use Rattle.jwalk_model.specs.Entry.{Entry, Item}
 use Rattle.seek_words.specs.Paths.{line_of}
 use Rattle.seek_words.specs.Sought.{Sought, is_found}

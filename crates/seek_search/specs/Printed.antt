@@ -6,9 +6,9 @@ use Rattle.std.specs.declared.default.Default as Default
 use Rattle.jwalk.specs.jwalk_model.Entry.{Item}
 use Rattle.jwalk.specs.jwalk_model.Walk.{whole_walk}
 use Rattle.jwalk.specs.jwalk_fs.declared.file_system.FileSystem as FileSystem
-use Rattle.jwalk_core.specs.declared.process_read_dir.ProcessReadDir as ProcessReadDir
-use Rattle.jwalk.specs.jwalk_core.Given.{Given}
-use Rattle.jwalk.specs.jwalk_core.Job.{IsSteady}
+use Rattle.jwalk_job.specs.declared.process_read_dir.ProcessReadDir as ProcessReadDir
+use Rattle.jwalk.specs.jwalk_job.Given.{Given}
+use Rattle.jwalk.specs.jwalk_job.Job.{IsSteady}
 use Rattle.jwalk.specs.WalkDir.{callback_of, file_system_of, job_for, root_of, state_of}
 use Rattle.jwalk.specs.declared.walk_dir.WalkDirGeneric.{WalkDirGeneric}
 use Rattle.seek_words.specs.Filter.{sought_of}

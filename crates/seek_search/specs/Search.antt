@@ -8,7 +8,7 @@ use Rattle.jwalk.specs.jwalk_model.Job.{Job, Processing}
 use Rattle.jwalk.specs.jwalk_model.Options.{Options, with_skip_hidden}
 use Rattle.jwalk.specs.jwalk_model.Paths.{join, dot}
 use Rattle.jwalk.specs.jwalk_model.Walk.{whole_walk}
-use Rattle.jwalk.specs.jwalk_core.Given.{Given}
+use Rattle.jwalk.specs.jwalk_job.Given.{Given}
 use Rattle.jwalk_ignore.specs.Callback.Given.{ignoring-KeepsDepthsOf, no_rules_yet, rules_alone}
 use Rattle.jwalk_ignore.specs.Callback.IgnoreViews.{ignoring}
 use Rattle.jwalk_ignore.specs.Rules.Texts.{Texts}

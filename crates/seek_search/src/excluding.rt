@@ -1,7 +1,7 @@
 //! A callback that leaves out what lines of an ignore file name.
 ghost use Rattle.std.specs.Prelude.{◌≡◌, ◌++◌, ◌∷◌, [], map, IfOk, OnOk};
 ghost use Rattle.std.specs.List.{filter};
-ghost use Rattle.jwalk.specs.jwalk_core.Entry.{item};
+ghost use Rattle.jwalk.specs.jwalk_job.Entry.{item};
 ghost use Rattle.jwalk_ignore.specs.Rules.Chain.{is_ignored};
 ghost use Rattle.jwalk_ignore.specs.Rules.Matching.{patterns_say};
 ghost use Rattle.jwalk_ignore.specs.Rules.{rules_value};

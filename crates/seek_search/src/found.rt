@@ -1,7 +1,7 @@
 //! All answers of a walk, filtered and printed.
 ghost use Rattle.std.specs.Prelude.{◌≡◌, IfOk};
 ghost use Rattle.std.specs.Io.KnownBytes.{append_known};
-ghost use Rattle.jwalk_core.specs.Job.{callback};
+ghost use Rattle.jwalk_job.specs.Job.{callback};
 ghost use Rattle.jwalk.specs.DirEntryIter.{job_of, Answers};
 ghost use Rattle.seek_words.specs.Filter.{sought_of};
 ghost use Rattle.seek_words.specs.Lines.{style_of, gathered_of};

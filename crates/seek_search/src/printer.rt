@@ -1,7 +1,7 @@
 //! Answers of a walk, filtered and printed.
 ghost use Rattle.std.specs.Prelude.{◌≡◌, IfOk, OnOk};
 ghost use Rattle.std.specs.Io.KnownBytes.{Appends, append_known};
-ghost use Rattle.jwalk_core.specs.Entry.{entry, item};
+ghost use Rattle.jwalk_job.specs.Entry.{entry, item};
 ghost use Rattle.seek_words.specs.Filter.{sought_of};
 ghost use Rattle.seek_words.specs.Lines.{style_of, gathered_of};
 ghost use Rattle.seek_search.specs.Found.{entry_line, found_line, is_clean};

@@ -3,9 +3,9 @@
 //! An error is `! DEPTH PATH KIND`. The path is `-` if there is none, and the kind is `memory` if memory ran out. A
 //! loop has `loop ANCESTOR` for the kind. An entry is `DEPTH LETTER PATH`, followed by the error of its directory if
 //! that could not be read.
-use jwalk_core::client_state::ClientState;
-use jwalk_core::dir_entry::DirEntry;
-use jwalk_core::error::Error;
+use jwalk_job::client_state::ClientState;
+use jwalk_job::dir_entry::DirEntry;
+use jwalk_job::error::Error;
 use jwalk_model::file_type::FileType;
 use std::alloc::{AllocError, Allocator, Global};
 

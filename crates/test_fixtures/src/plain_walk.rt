@@ -1,14 +1,14 @@
 //! A walk by two stacks, with which other walks are compared.
-ghost use Rattle.jwalk_core.specs.Job.{callback};
+ghost use Rattle.jwalk_job.specs.Job.{callback};
 
 use crate::answers::Answer;
-use jwalk_core::client_state::ClientState;
-use jwalk_core::dir_entry::DirEntry;
-use jwalk_core::error::Error;
-use jwalk_core::job::Job;
-use jwalk_core::process_read_dir::ProcessReadDir;
-use jwalk_core::read_dir::ReadDir;
-use jwalk_core::read_dir_spec::ReadDirSpec;
+use jwalk_job::client_state::ClientState;
+use jwalk_job::dir_entry::DirEntry;
+use jwalk_job::error::Error;
+use jwalk_job::job::Job;
+use jwalk_job::process_read_dir::ProcessReadDir;
+use jwalk_job::read_dir::ReadDir;
+use jwalk_job::read_dir_spec::ReadDirSpec;
 use jwalk_fs::file_system::FileSystem;
 use std::alloc::{AllocError, Global};
 

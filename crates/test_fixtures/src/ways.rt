@@ -1,7 +1,7 @@
 //! The ways in which one and the same walk can be read.
 ghost use Rattle.std.specs.Iterator.{IsFinite};
 ghost use Rattle.jwalk.specs.DirEntryIter.{job_of};
-ghost use Rattle.jwalk.specs.jwalk_core.Job.{callback};
+ghost use Rattle.jwalk.specs.jwalk_job.Job.{callback};
 
 use crate::answers::{Answer, are_lines};
 use crate::plain_walk::plain_answers;
@@ -9,7 +9,7 @@ use crate::width::Width;
 use jwalk::file_system::FileSystem;
 use jwalk::read_dir::{Job, NoProcess, ProcessReadDir};
 use jwalk::{ClientState, DirEntryIter, Readers, WalkDirGeneric};
-use jwalk_core::options::Options;
+use jwalk_job::options::Options;
 use std::alloc::{AllocError, Global};
 use std::thread::Threads;
 

@@ -1,14 +1,14 @@
 //! What the tests work on: addresses, items at them, rehearsals, trees in memory and readings. None of it promises
 //! anything.
 ghost use Rattle.jwalk_model.specs.Tree.{functions_of, only_root};
-ghost use Rattle.jwalk_core.specs.Job.{callback};
+ghost use Rattle.jwalk_job.specs.Job.{callback};
 
 use jwalk_board::board::{Board, Move, Plan, Refused, Rehearsal, rehearse};
-use jwalk_core::client_state::ClientState;
-use jwalk_core::job::Job;
-use jwalk_core::process_read_dir::ProcessReadDir;
-use jwalk_core::read_dir::ReadDir;
-use jwalk_core::read_dir_spec::ReadDirSpec;
+use jwalk_job::client_state::ClientState;
+use jwalk_job::job::Job;
+use jwalk_job::process_read_dir::ProcessReadDir;
+use jwalk_job::read_dir::ReadDir;
+use jwalk_job::read_dir_spec::ReadDirSpec;
 use jwalk_fs::fault::Fault;
 use jwalk_fs::file_system::FileSystem;
 use jwalk_fs::listed::Listed;

@@ -1,5 +1,5 @@
 //! Readings of one directory, without a walk.
-ghost use Rattle.jwalk.specs.jwalk_core.Job.{callback};
+ghost use Rattle.jwalk.specs.jwalk_job.Job.{callback};
 
 use jwalk::file_system::FileSystem;
 use jwalk::read_dir::{Job, NoProcess, Options, ProcessReadDir, ReadDirSpec};

@@ -12,10 +12,10 @@ use Rattle.walk_text.specs.Asked.{parallelism_by, where_named, with_read_by}
 use Rattle.walk_run.specs.Answers.{PrintsAll}
 use Rattle.walk_run.specs.Totals.{usage_line, totals_line}
 use Rattle.walk_run.specs.AskedWalk.{written}
-use Rattle.jwalk_core.specs.declared.dir_entry.DirEntry.{DirEntry}
-use Rattle.jwalk_core.specs.declared.error.Error.{Error}
-use Rattle.jwalk_core.specs.Entry.{item}
-use Rattle.jwalk_core.specs.Given.{Given, counted_item}
+use Rattle.jwalk_job.specs.declared.dir_entry.DirEntry.{DirEntry}
+use Rattle.jwalk_job.specs.declared.error.Error.{Error}
+use Rattle.jwalk_job.specs.Entry.{item}
+use Rattle.jwalk_job.specs.Given.{Given, counted_item}
 use Rattle.jwalk_usage.proofs.StateFacts.{same_kept}
 
 module _ {R E : Type 0} (given : Given R E) where

@@ -3,9 +3,9 @@ use Rattle.std.specs.Prelude.{◌≡◌, ℕ, Bool, List, Option, Result, map, i
 use Rattle.std.specs.List.{list_all}
 use Rattle.std.specs.Iterator.{Drains}
 use Rattle.std.specs.Io.KnownBytes.{Appends}
-use Rattle.jwalk_core.specs.declared.dir_entry.DirEntry.{DirEntry}
-use Rattle.jwalk_core.specs.declared.error.Error.{Error}
-use Rattle.jwalk_core.specs.Entry.{item}
+use Rattle.jwalk_job.specs.declared.dir_entry.DirEntry.{DirEntry}
+use Rattle.jwalk_job.specs.declared.error.Error.{Error}
+use Rattle.jwalk_job.specs.Entry.{item}
 use Rattle.jwalk_model.specs.Entry.{Item}
 
 module _ {S C A R E : Type 0} (text : List (Item R E) → List ℕ) (steps : S → Option (Result (DirEntry C A R E) (Error A)) → S → Type 0) (answers : S) where

@@ -1,7 +1,7 @@
 //! The answers of a walk, printed.
 ghost use Rattle.std.specs.Prelude.{◌≡◌, ◌≤◌, [], true, Ok, is_ok, IfOk, IfErr, OnOk};
 ghost use Rattle.std.specs.Io.KnownBytes.{Appends, append_known};
-ghost use Rattle.jwalk_core.specs.Entry.{item};
+ghost use Rattle.jwalk_job.specs.Entry.{item};
 ghost use Rattle.jwalk_model.specs.Lines.{line_of};
 ghost use Rattle.walk_text.specs.Failure.{status_of};
 

@@ -1,7 +1,7 @@
 //! The walk that is asked for, over any file system, with its answers printed or their totals.
 ghost use Rattle.std.specs.Prelude.{◌≡◌, ◌≤◌, option_map, string_bytes, IfOk, IfErr, OnErr};
 ghost use Rattle.jwalk_model.specs.Options.{with_max_depth, with_min_depth, with_parallelism};
-ghost use Rattle.jwalk_core.specs.Job.{callback};
+ghost use Rattle.jwalk_job.specs.Job.{callback};
 ghost use Rattle.jwalk.specs.DirEntryIter.{job_of};
 ghost use Rattle.jwalk.specs.Parallelism.{parallelism_value};
 ghost use Rattle.jwalk.specs.WalkDir.{file_system_of, root_of, options_of};

@@ -1,6 +1,6 @@
 //! A walk's answers, printed, while threads read its directories.
 ghost use Rattle.std.specs.Prelude.{◌≡◌, IfOk, IfErr};
-ghost use Rattle.jwalk_core.specs.Job.{callback};
+ghost use Rattle.jwalk_job.specs.Job.{callback};
 ghost use Rattle.jwalk.specs.DirEntryIter.{job_of};
 ghost use Rattle.walk_text.specs.Failure.{status_of};
 ghost use Rattle.jwalk_model.specs.Lines.{lines_of};

@@ -1,8 +1,8 @@
 -- What the options of a call ask for.
 use Rattle.std.specs.Prelude.{true, false, not, Option, Some, None, is_some, if◌then◌else◌}
 use Rattle.jwalk_model.specs.Options.{Parallelism, crew, Options, defaults, with_sort, with_skip_hidden, with_follow_links, with_keep_metadata, with_min_depth, with_max_depth, with_parallelism}
-use Rattle.jwalk_core.specs.Options.{mode_value}
-use Rattle.jwalk_core.specs.declared.mode.Mode.TheVariants.{Batches}
+use Rattle.jwalk_job.specs.Options.{mode_value}
+use Rattle.jwalk_job.specs.declared.mode.Mode.TheVariants.{Batches}
 use Rattle.walk_text.specs.declared.asked.Asked.{Asked}
 use Rattle.walk_text.specs.declared.asked.Choice.{Choice}
 use Rattle.walk_text.specs.declared.asked.Choice.TheVariants.{Tree, Sort, Hidden, Follow, Usage, Min, Max, Read}

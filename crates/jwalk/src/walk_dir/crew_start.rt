@@ -4,9 +4,9 @@ ghost use Rattle.std.specs.Arc.{arc_value};
 ghost use Rattle.jwalk_model.specs.Entry.{AtDepth};
 ghost use Rattle.jwalk_model.specs.Options as parallelism;
 ghost use Rattle.jwalk_model.specs.ReadDir.{children, AreClones};
-ghost use Rattle.jwalk_core.specs.Entry.{item};
-ghost use Rattle.jwalk_core.specs.ReadDir.{reading};
-ghost use Rattle.jwalk_core.specs.Job.{callback};
+ghost use Rattle.jwalk_job.specs.Entry.{item};
+ghost use Rattle.jwalk_job.specs.ReadDir.{reading};
+ghost use Rattle.jwalk_job.specs.Job.{callback};
 ghost use Rattle.tree_crew.specs.Crew.{limit_of};
 ghost use Rattle.jwalk_core.specs.Session.{origin_of, awaited_by};
 ghost use Rattle.jwalk_core.specs.CrewReads as reads_by;
@@ -14,14 +14,14 @@ ghost use Rattle.jwalk.specs.CrewStart.{busied, left_of, is_refusal, IsFromRoot}
 ghost use Rattle.jwalk_core.specs.DirEntryIter.{reads_of, is_refused, by_crew, job_of, items_of, most_ahead, StartsSteady};
 
 use crate::walk_dir::WalkDirGeneric;
-use jwalk_core::client_state::ClientState;
+use jwalk_job::client_state::ClientState;
 use jwalk_core::crew_reads::CrewReads;
-use jwalk_core::dir_entry::DirEntry;
+use jwalk_job::dir_entry::DirEntry;
 use jwalk_core::dir_entry_iter::DirEntryIter;
-use jwalk_core::error::Error;
-use jwalk_core::job::Job;
-use jwalk_core::process_read_dir::ProcessReadDir;
-use jwalk_core::read_dir::ReadDir;
+use jwalk_job::error::Error;
+use jwalk_job::job::Job;
+use jwalk_job::process_read_dir::ProcessReadDir;
+use jwalk_job::read_dir::ReadDir;
 use jwalk_core::read_dir_iter::ReadDirIter;
 use jwalk_core::readers::Readers;
 use jwalk_core::session::Session;
@@ -184,7 +184,7 @@ where
     C::ReadDirState: Send + 'static,
     C::DirEntryState: Send + 'static,
 {
-    ghost use Rattle.jwalk_core.specs.Job.{options_of};
+    ghost use Rattle.jwalk_job.specs.Job.{options_of};
     ghost use Rattle.jwalk.specs.CrewStart.{IsBegun};
 
     /// Begins the walk, whose directories a crew reads.

@@ -1,19 +1,19 @@
 //! Walks over a crew.
 ghost use Rattle.std.specs.Prelude.{◌≡◌, ◌⊎◌, string_bytes, IfOk, IfErr, IfSome, IfNone, Some, None};
 ghost use Rattle.jwalk_model.specs.Options as parallelism;
-ghost use Rattle.jwalk_core.specs.Options.{mode_value};
+ghost use Rattle.jwalk_job.specs.Options.{mode_value};
 ghost use Rattle.jwalk_model.specs.Error.{memory, busy};
-ghost use Rattle.jwalk_core.specs.Error.{failure};
+ghost use Rattle.jwalk_job.specs.Error.{failure};
 
 use crate::walk_dir::WalkDirGeneric;
 use crate::walk_dir::crew_start::{Begun, CrewWalk, from_root_alone};
-use jwalk_core::client_state::ClientState;
+use jwalk_job::client_state::ClientState;
 use jwalk_core::crew_reads::started::start_error;
 use jwalk_core::dir_entry_iter::DirEntryIter;
-use jwalk_core::error::Error;
-use jwalk_core::job::Job;
-use jwalk_core::mode::Mode;
-use jwalk_core::process_read_dir::{NoProcess, ProcessReadDir};
+use jwalk_job::error::Error;
+use jwalk_job::job::Job;
+use jwalk_job::mode::Mode;
+use jwalk_job::process_read_dir::{NoProcess, ProcessReadDir};
 use jwalk_core::readers::Readers;
 use jwalk_core::session::Session;
 use jwalk_fs::file_system::FileSystem;

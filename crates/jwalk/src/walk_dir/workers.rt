@@ -3,9 +3,9 @@ ghost use Rattle.std.specs.Prelude.{◌≡◌, ◌<◌, min, None, IfOk, IsSomeA
 
 use crate::host::Host;
 use crate::walk_dir::WalkDirGeneric;
-use jwalk_core::client_state::ClientState;
+use jwalk_job::client_state::ClientState;
 use jwalk_core::parallelism::Parallelism;
-use jwalk_core::process_read_dir::ProcessReadDir;
+use jwalk_job::process_read_dir::ProcessReadDir;
 use jwalk_core::readers::NoCrew;
 use jwalk_fs::file_system::FileSystem;
 use std::alloc::{AllocError, Allocator};

@@ -1,21 +1,21 @@
 //! The start of readings that a crew makes ahead.
 ghost use Rattle.std.specs.Prelude.{◌≡◌, ◌+◌, map, IfOk, OnErr, OnOk};
 ghost use Rattle.std.specs.Arc.{arc_value};
-ghost use Rattle.jwalk_core.specs.Error.{failure};
-ghost use Rattle.jwalk_core.specs.ReadDirSpec.{spec};
-ghost use Rattle.jwalk_core.specs.Job.{callback};
+ghost use Rattle.jwalk_job.specs.Error.{failure};
+ghost use Rattle.jwalk_job.specs.ReadDirSpec.{spec};
+ghost use Rattle.jwalk_job.specs.Job.{callback};
 ghost use Rattle.tree_crew.specs.Crew.{limit_of};
 ghost use Rattle.jwalk_core.specs.Origin.{CountAlike};
 ghost use Rattle.jwalk_core.specs.Session.{origin_of, awaited_by};
 ghost use Rattle.jwalk_core.specs.CrewReads.{job_of, to_read, start_failure, most_ahead, BeginsBy};
 
-use crate::client_state::ClientState;
+use jwalk_job::client_state::ClientState;
 use crate::crew_reads::CrewReads;
-use crate::error::Error;
-use crate::job::Job;
+use jwalk_job::error::Error;
+use jwalk_job::job::Job;
 use crate::origin::Origin;
-use crate::process_read_dir::ProcessReadDir;
-use crate::read_dir_spec::ReadDirSpec;
+use jwalk_job::process_read_dir::ProcessReadDir;
+use jwalk_job::read_dir_spec::ReadDirSpec;
 use crate::readers::Readers;
 use crate::session::Session;
 use jwalk_fs::file_system::FileSystem;

@@ -1,12 +1,12 @@
 //! A walk's answers, where threads read the directories that are read together.
 ghost use Rattle.std.specs.Prelude.{◌≡◌, ◌≢◌, true, false, []};
-ghost use Rattle.jwalk_core.specs.Job.{callback};
+ghost use Rattle.jwalk_job.specs.Job.{callback};
 
-use crate::client_state::ClientState;
-use crate::dir_entry::DirEntry;
+use jwalk_job::client_state::ClientState;
+use jwalk_job::dir_entry::DirEntry;
 use crate::dir_entry_iter::DirEntryIter;
-use crate::error::Error;
-use crate::process_read_dir::ProcessReadDir;
+use jwalk_job::error::Error;
+use jwalk_job::process_read_dir::ProcessReadDir;
 use crate::readers::{Missed, Readers};
 use jwalk_fs::file_system::FileSystem;
 use std::alloc::{AllocError, Allocator};

@@ -1,13 +1,13 @@
 //! Readings in preorder, with threads for those that are made together.
 ghost use Rattle.std.specs.Prelude.{false, Ok, IsSome};
-ghost use Rattle.jwalk_core.specs.Entry.{entry};
-ghost use Rattle.jwalk_core.specs.Job.{callback};
+ghost use Rattle.jwalk_job.specs.Entry.{entry};
+ghost use Rattle.jwalk_job.specs.Job.{callback};
 
-use crate::client_state::ClientState;
-use crate::dir_entry::DirEntry;
-use crate::error::Error;
-use crate::process_read_dir::ProcessReadDir;
-use crate::read_dir::Outcome;
+use jwalk_job::client_state::ClientState;
+use jwalk_job::dir_entry::DirEntry;
+use jwalk_job::error::Error;
+use jwalk_job::process_read_dir::ProcessReadDir;
+use jwalk_job::read_dir::Outcome;
 use crate::read_dir_iter::ReadDirIter;
 use crate::readers::Readers;
 use jwalk_fs::file_system::FileSystem;

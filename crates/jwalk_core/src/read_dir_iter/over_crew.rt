@@ -3,19 +3,19 @@ ghost use Rattle.std.specs.Prelude.{◌≡◌, ◌⊎◌, ◌+◌, false, map, I
 ghost use Rattle.std.specs.Arc.{arc_value};
 ghost use Rattle.jwalk_model.specs.Error.{memory, busy};
 ghost use Rattle.jwalk_model.specs.Options as value;
-ghost use Rattle.jwalk_core.specs.Error.{failure};
-ghost use Rattle.jwalk_core.specs.Job.{callback};
-ghost use Rattle.jwalk_core.specs.ReadDirSpec.{spec};
+ghost use Rattle.jwalk_job.specs.Error.{failure};
+ghost use Rattle.jwalk_job.specs.Job.{callback};
+ghost use Rattle.jwalk_job.specs.ReadDirSpec.{spec};
 
-use crate::client_state::ClientState;
+use jwalk_job::client_state::ClientState;
 use crate::crew_reads::CrewReads;
 use crate::crew_reads::started::start_error;
-use crate::error::Error;
-use crate::job::Job;
+use jwalk_job::error::Error;
+use jwalk_job::job::Job;
 use crate::parallelism::Parallelism;
-use crate::process_read_dir::ProcessReadDir;
+use jwalk_job::process_read_dir::ProcessReadDir;
 use crate::read_dir_iter::ReadDirIter;
-use crate::read_dir_spec::ReadDirSpec;
+use jwalk_job::read_dir_spec::ReadDirSpec;
 use crate::readers::Readers;
 use crate::session::Session;
 use jwalk_fs::file_system::FileSystem;
@@ -36,7 +36,7 @@ where
     C::ReadDirState: Send + 'static,
     C::DirEntryState: Send + 'static,
 {
-    ghost use Rattle.jwalk_core.specs.Options as options;
+    ghost use Rattle.jwalk_job.specs.Options as options;
     ghost use Rattle.jwalk_core.specs.ReadAhead.{BeginsWith};
     ghost use Rattle.tree_crew.specs.Crew.{limit_of};
     ghost use Rattle.jwalk_core.specs.Parallelism.{parallelism_value, is_by_crew, crew_of};

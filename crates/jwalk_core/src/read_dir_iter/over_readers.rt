@@ -2,16 +2,16 @@
 ghost use Rattle.std.specs.Prelude.{◌≡◌, true, length, map, IfOk, IfErr};
 ghost use Rattle.std.specs.Arc.{arc_value};
 ghost use Rattle.jwalk_model.specs.Error.{memory};
-ghost use Rattle.jwalk_core.specs.Error.{failure};
-ghost use Rattle.jwalk_core.specs.ReadDirSpec.{spec};
+ghost use Rattle.jwalk_job.specs.Error.{failure};
+ghost use Rattle.jwalk_job.specs.ReadDirSpec.{spec};
 
-use crate::client_state::ClientState;
+use jwalk_job::client_state::ClientState;
 use crate::crew_reads::CrewReads;
-use crate::error::Error;
-use crate::job::Job;
-use crate::process_read_dir::ProcessReadDir;
+use jwalk_job::error::Error;
+use jwalk_job::job::Job;
+use jwalk_job::process_read_dir::ProcessReadDir;
 use crate::read_dir_iter::ReadDirIter;
-use crate::read_dir_spec::ReadDirSpec;
+use jwalk_job::read_dir_spec::ReadDirSpec;
 use crate::readers::Readers;
 use jwalk_fs::file_system::FileSystem;
 use std::alloc::Allocator;

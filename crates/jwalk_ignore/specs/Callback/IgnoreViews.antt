@@ -3,7 +3,7 @@ use Rattle.std.specs.Prelude.{◌≡◌, ℕ, List, Option}
 use Rattle.jwalk.specs.jwalk_model.Counted.{Worth, both}
 use Rattle.jwalk.specs.jwalk_model.Entry.{Item}
 use Rattle.jwalk.specs.jwalk_model.Job.{Processing, KeepsDepthsOf}
-use Rattle.jwalk.specs.jwalk_core.Given.{Given}
+use Rattle.jwalk.specs.jwalk_job.Given.{Given}
 use Rattle.jwalk_ignore.specs.Rules.ChainViews.{chain_value}
 use Rattle.jwalk_ignore.specs.Rules.ChainWorth.{chain_worth, rules_of, with_chain}
 use Rattle.jwalk_ignore.specs.Callback.IgnoreFiles.{by_rules}

@@ -1,6 +1,6 @@
 -- Files of rules that are read, and what is made of them, as values.
 use Rattle.std.specs.Prelude.{map}
-use Rattle.jwalk.specs.jwalk_core.Entry.{item}
+use Rattle.jwalk.specs.jwalk_job.Entry.{item}
 use Rattle.jwalk_ignore.specs.Rules.ChainViews.{chain_value}
 use Rattle.jwalk_ignore.specs.Callback.IgnoreFiles as value
 use Rattle.jwalk_ignore.specs.declared.callback.source.Source.{Source}

@@ -1,7 +1,7 @@
 //! Items of a list, as rules see them.
 ghost use Rattle.std.specs.Prelude.{◌≡◌, IfOk, map, filter, option_map, string_bytes};
 ghost use Rattle.std.specs.List.{list_any};
-ghost use Rattle.jwalk.specs.jwalk_core.Entry.{item};
+ghost use Rattle.jwalk.specs.jwalk_job.Entry.{item};
 ghost use Rattle.jwalk.specs.jwalk_model.Entry.{is_hidden};
 ghost use Rattle.jwalk_ignore.specs.Callback.IgnoreFiles.{depth_of, is_git, is_shown, kind_of, kind_of_file, root_of};
 

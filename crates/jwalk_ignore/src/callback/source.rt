@@ -4,7 +4,7 @@ ghost use Rattle.std.specs.IoError.{error_kind};
 ghost use Rattle.jwalk.specs.jwalk_model.Error.{io};
 ghost use Rattle.jwalk.specs.jwalk_model.Entry.{AtDepth};
 ghost use Rattle.jwalk.specs.jwalk_fs.Views.{AnswersValue};
-ghost use Rattle.jwalk.specs.jwalk_core.Entry.{item};
+ghost use Rattle.jwalk.specs.jwalk_job.Entry.{item};
 ghost use Rattle.jwalk_ignore.specs.Callback.IgnoreFiles.{file_of, is_missing, path_of, rules_found, with_found, with_item, with_rules};
 ghost use Rattle.jwalk_ignore.specs.Rules.Chain.{entered, with_link};
 ghost use Rattle.jwalk_ignore.specs.Rules.ChainViews.{chain_value};

@@ -1,7 +1,7 @@
 //! How walks come out that threads read.
 ghost use Rattle.jwalk.specs.DirEntryIter.{job_of};
 ghost use Rattle.jwalk.specs.WalkDir.{callback_of};
-ghost use Rattle.jwalk.specs.jwalk_core.Job.{callback};
+ghost use Rattle.jwalk.specs.jwalk_job.Job.{callback};
 
 use crate::refused::came::{Came, Taken, begin, goes_after, if_over, not_begun};
 use crate::refused::lines::{Given, Met, Shown, what_came};

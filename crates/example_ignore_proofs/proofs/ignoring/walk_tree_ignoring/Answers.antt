@@ -5,7 +5,7 @@ use Rattle.jwalk.specs.jwalk_model.Options.{with_skip_hidden}
 use Rattle.std.specs.Prelude.{false}
 use Rattle.jwalk.specs.jwalk_model.Tree.{functions_of}
 use Rattle.jwalk.specs.jwalk_memory_fs.MemoryFs.{tree_of}
-use Rattle.jwalk.specs.jwalk_core.Given.{counted_list}
+use Rattle.jwalk.specs.jwalk_job.Given.{counted_list}
 use Rattle.jwalk.specs.WalkDir.{state_of}
 use Rattle.jwalk_ignore.specs.Rules.ChainWorth.{chain_worth}
 use Rattle.jwalk_ignore.specs.Callback.Given.{ignoring_alone, no_rules_yet, rules_alone}

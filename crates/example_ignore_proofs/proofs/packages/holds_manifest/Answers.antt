@@ -1,7 +1,7 @@
 use Rattle.std.proofs.Common.{rules, tests, sym, ◌∙◌}
 use Rattle.std.proofs.lemmas.Iterator.{YieldsList-from_slice}
 use Rattle.std.proofs.lemmas.Iterator.Search.{any_from_yields_List}
-use Rattle.jwalk.specs.jwalk_core.Entry.{item}
+use Rattle.jwalk.specs.jwalk_job.Entry.{item}
 use Rattle.example_ignore_proofs.specs.Packages.{is_manifest}
 use Rattle.jwalk_ignore.proofs.ListFacts.{list_any-map}
 use Rattle.example_ignore_proofs.proofs.packages.holds_manifest.Goals as goal

@@ -1,6 +1,6 @@
 use Rattle.std.proofs.Common.{length, map, ap, sym, ◌∙◌}
 use Rattle.std.proofs.lemmas.List.{with_items_is}
-use Rattle.jwalk.specs.jwalk_core.Entry.{item}
+use Rattle.jwalk.specs.jwalk_job.Entry.{item}
 use Rattle.example_ignore_proofs.specs.Packages.{with_mark}
 use Rattle.example_ignore_proofs.proofs.PackageFacts.{changed_more, changed_all}
 use Rattle.example_ignore_proofs.proofs.packages.mark_all.Goals as goal

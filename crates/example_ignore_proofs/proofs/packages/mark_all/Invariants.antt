@@ -1,4 +1,4 @@
-use Rattle.jwalk.specs.jwalk_core.Entry.{item}
+use Rattle.jwalk.specs.jwalk_job.Entry.{item}
 use Rattle.example_ignore_proofs.specs.Packages.{with_mark}
 use Rattle.example_ignore_proofs.proofs.PackageFacts.{IsChangedTo}
 use Rattle.example_ignore_proofs.proofs.packages.mark_all.Given as goal

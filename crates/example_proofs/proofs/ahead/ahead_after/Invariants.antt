@@ -1,5 +1,5 @@
 use Rattle.std.proofs.Common.{◌≡◌, ◌≤◌, true}
-use Rattle.jwalk.specs.jwalk_core.Job.{callback}
+use Rattle.jwalk.specs.jwalk_job.Job.{callback}
 use Rattle.jwalk.specs.DirEntryIter.{by_crew, job_of, most_ahead}
 use Rattle.example_proofs.proofs.ahead.ahead_after.Given as goal
 

@@ -1,6 +1,6 @@
 use Rattle.std.proofs.Common.{◌∙◌, ◌-◌, arith}
 use Rattle.std.specs.Prelude.{option_map}
-use Rattle.jwalk.specs.jwalk_core.Entry.{item}
+use Rattle.jwalk.specs.jwalk_job.Entry.{item}
 use Rattle.example_proofs.proofs.AheadFacts.{none_ahead, grows_each, grows_unless, fewer_ahead}
 use Rattle.example_proofs.proofs.ahead.next_and_ahead.Goals as goal
 

@@ -1,7 +1,7 @@
 use Rattle.std.proofs.Common.{◌≡◌, ◌∙◌, refl, sym, ap, reverse, subst}
 use Rattle.std.proofs.lemmas.Result.{IfOk-weaker}
 use Rattle.jwalk.specs.jwalk_model.Options.{defaults}
-use Rattle.jwalk.specs.jwalk_core.Entry.{item}
+use Rattle.jwalk.specs.jwalk_job.Entry.{item}
 use Rattle.jwalk.specs.WalkDir.{file_system_of, options_of}
 use Rattle.example_proofs.specs.Turned.{turned}
 use Rattle.example_proofs.proofs.TurnedFacts.{made_turned}

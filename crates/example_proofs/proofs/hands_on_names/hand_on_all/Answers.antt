@@ -1,7 +1,7 @@
 use Rattle.std.proofs.Common.{◌≡◌, ◌∙◌, length, take, drop, ◌++◌, arith, sym, ap}
 use Rattle.std.proofs.Math.Seq.{take-append_seam}
-use Rattle.jwalk.specs.jwalk_core.Entry.{item}
-use Rattle.jwalk.specs.jwalk_core.Given.{counted_item, counted_list}
+use Rattle.jwalk.specs.jwalk_job.Entry.{item}
+use Rattle.jwalk.specs.jwalk_job.Given.{counted_item, counted_list}
 use Rattle.example_proofs.specs.HandsOnNames.{worth_of, handed, names_handed_on}
 use Rattle.example_proofs.proofs.HandedFacts.{all_changed}
 use Rattle.example_proofs.proofs.hands_on_names.hand_on_all.Goals as goal

@@ -1,6 +1,6 @@
 use Rattle.std.proofs.Common.{◌≡◌, ℕ, ◌<◌, ◌≤◌, get_or}
-use Rattle.jwalk.specs.jwalk_core.Entry.{item}
-use Rattle.jwalk.specs.jwalk_core.Given.{counted_item}
+use Rattle.jwalk.specs.jwalk_job.Entry.{item}
+use Rattle.jwalk.specs.jwalk_job.Given.{counted_item}
 use Rattle.example_proofs.specs.HandsOnNames.{worth_of, handed, names_handed_on}
 use Rattle.example_proofs.proofs.hands_on_names.hand_on_all.Given as goal
 

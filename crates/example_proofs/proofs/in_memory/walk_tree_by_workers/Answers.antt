@@ -4,7 +4,7 @@ use Rattle.jwalk.specs.DirEntryIter.{NoneRefused}
 use Rattle.jwalk.specs.jwalk_model.Options.{crew, defaults, with_parallelism}
 use Rattle.jwalk.specs.jwalk_model.Tree.{functions_of}
 use Rattle.jwalk.specs.jwalk_memory_fs.MemoryFs.{tree_of}
-use Rattle.jwalk.specs.jwalk_core.Given.{counted_list}
+use Rattle.jwalk.specs.jwalk_job.Given.{counted_list}
 use Rattle.jwalk.proofs.WholeFacts.{steady_begun, stateless_of}
 use Rattle.jwalk.proofs.CleanFacts.{whole_unless_busy}
 use Rattle.jwalk.proofs.AlikeFacts.{stateless_however_read}

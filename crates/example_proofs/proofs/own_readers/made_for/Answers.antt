@@ -1,6 +1,6 @@
 use Rattle.std.proofs.Common.{◌∙◌, map, sym, ap, refl}
 use Rattle.std.specs.Arc.{arc_value}
-use Rattle.jwalk.specs.jwalk_core.ReadDirSpec.{spec}
+use Rattle.jwalk.specs.jwalk_job.ReadDirSpec.{spec}
 use Rattle.example_proofs.proofs.OwnReadersFacts.{if_ok_both, roots_stacked}
 use Rattle.example_proofs.proofs.own_readers.made_for.Goals as goal
 

@@ -1,7 +1,7 @@
 use Rattle.std.proofs.Common.{◌≡◌, ◌++◌, List, map, length}
 use Rattle.jwalk.specs.jwalk_order.Addressed.{numbered}
 use Rattle.jwalk.specs.jwalk_order.IndexPath.{address}
-use Rattle.jwalk.specs.jwalk_core.ReadDirSpec.{spec}
+use Rattle.jwalk.specs.jwalk_job.ReadDirSpec.{spec}
 use Rattle.example_proofs.specs.OwnReaders.{stacked}
 use Rattle.example_proofs.proofs.own_readers.put_below.Given as goal
 

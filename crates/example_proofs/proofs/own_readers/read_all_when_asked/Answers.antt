@@ -1,8 +1,8 @@
 use Rattle.std.proofs.Common.{◌≢◌, ◌∙◌, All, Err, map, refl, sym, ap, subst}
 use Rattle.jwalk.specs.jwalk_model.Error.{memory}
-use Rattle.jwalk.specs.jwalk_core.Job.{file_system}
-use Rattle.jwalk.specs.jwalk_core.ReadDir.{outcome}
-use Rattle.jwalk.specs.jwalk_core.Given.{counted_outcome}
+use Rattle.jwalk.specs.jwalk_job.Job.{file_system}
+use Rattle.jwalk.specs.jwalk_job.ReadDir.{outcome}
+use Rattle.jwalk.specs.jwalk_job.Given.{counted_outcome}
 use Rattle.jwalk.specs.WalkDir.{stateless}
 use Rattle.jwalk.specs.ReadDirIter.{to_read}
 use Rattle.example_proofs.specs.OwnReaders.{readings_below}

@@ -1,7 +1,7 @@
 use Rattle.std.proofs.Common.{◌∙◌, false, refl, sym, ap, ap₂}
 use Rattle.jwalk.specs.jwalk_model.Options.{with_keep_metadata}
 use Rattle.jwalk.specs.jwalk_model.Walk.{stateless_walk}
-use Rattle.jwalk.specs.jwalk_core.Job.{IsSteady}
+use Rattle.jwalk.specs.jwalk_job.Job.{IsSteady}
 use Rattle.jwalk.specs.jwalk_callbacks.WithSizes.{asks, size_worth, sizing}
 use Rattle.jwalk.specs.WalkDir.{file_system_of, callback_of, options_of, root_of, stateless}
 use Rattle.jwalk.proofs.WholeFacts.{steady_start}

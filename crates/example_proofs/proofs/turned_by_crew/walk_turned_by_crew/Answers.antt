@@ -2,7 +2,7 @@ use Rattle.std.proofs.Common.{◌≡◌, ◌∙◌, refl, sym, ap, reverse, subs
 use Rattle.std.proofs.lemmas.Result.{IfOk-weaker}
 use Rattle.jwalk.specs.jwalk_model.Counted.{blank}
 use Rattle.jwalk.specs.jwalk_model.Options.{crew, defaults, with_parallelism}
-use Rattle.jwalk.specs.jwalk_core.Entry.{item}
+use Rattle.jwalk.specs.jwalk_job.Entry.{item}
 use Rattle.jwalk.specs.WalkDir.{file_system_of, options_of}
 use Rattle.jwalk.proofs.AlikeFacts.{whole_however_read}
 use Rattle.example_proofs.specs.Turned.{turned, turns}

@@ -1,5 +1,5 @@
 use Rattle.std.proofs.Common.{rules}
-use Rattle.jwalk_core.specs.Entry.{item}
+use Rattle.jwalk_job.specs.Entry.{item}
 use Rattle.jwalk_callbacks.specs.FilterEntry.{IsAnswered}
 use Rattle.jwalk_callbacks.proofs.FilterFacts.{viewed-IsFiltered}
 use Rattle.jwalk_callbacks.proofs.filter_entry.keep.Goals as goal

@@ -1,5 +1,5 @@
 use Rattle.std.proofs.Common.{map, string_bytes}
-use Rattle.jwalk_core.specs.Entry.{item}
+use Rattle.jwalk_job.specs.Entry.{item}
 use Rattle.jwalk_callbacks.specs.SkipNames.{skipped_item}
 use Rattle.jwalk_callbacks.proofs.SkipFacts.{IsChangedTo}
 use Rattle.jwalk_callbacks.proofs.skip_names.skip_all.Given as goal

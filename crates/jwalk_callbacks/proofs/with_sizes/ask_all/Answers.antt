@@ -1,6 +1,6 @@
 use Rattle.std.proofs.Common.{length, map, ap, sym, ◌∙◌, arith}
 use Rattle.std.proofs.lemmas.List.{with_items_is}
-use Rattle.jwalk_core.specs.Entry.{item}
+use Rattle.jwalk_job.specs.Entry.{item}
 use Rattle.jwalk_callbacks.specs.WithSizes.{sized_item, unasked_item}
 use Rattle.jwalk_callbacks.proofs.SkipFacts.{changed_more, changed_all}
 use Rattle.jwalk_callbacks.proofs.SizeFacts.{same_more}

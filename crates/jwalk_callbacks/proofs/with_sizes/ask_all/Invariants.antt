@@ -1,5 +1,5 @@
 use Rattle.std.proofs.Common.{◌≡◌, map}
-use Rattle.jwalk_core.specs.Entry.{item}
+use Rattle.jwalk_job.specs.Entry.{item}
 use Rattle.jwalk_callbacks.specs.WithSizes.{sized_item, unasked_item}
 use Rattle.jwalk_callbacks.proofs.SkipFacts.{IsChangedTo}
 use Rattle.jwalk_callbacks.proofs.with_sizes.ask_all.Given as goal

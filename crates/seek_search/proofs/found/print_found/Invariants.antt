@@ -1,6 +1,6 @@
 use Rattle.std.proofs.Common.{◌≡◌}
 use Rattle.std.specs.Io.KnownBytes.{append_known}
-use Rattle.jwalk_core.specs.Job.{callback}
+use Rattle.jwalk_job.specs.Job.{callback}
 use Rattle.jwalk.specs.DirEntryIter.{job_of, weight_of, Answers}
 use Rattle.seek_words.specs.Filter.{sought_of}
 use Rattle.seek_words.specs.Lines.{style_of, gathered_of}

@@ -1,6 +1,6 @@
 use Rattle.std.proofs.Common.{◌∙◌, map, subst, sym}
 use Rattle.std.proofs.lemmas.Result.{IfOk-weaker}
-use Rattle.jwalk.specs.jwalk_core.Entry.{item}
+use Rattle.jwalk.specs.jwalk_job.Entry.{item}
 use Rattle.jwalk.proofs.CleanFacts.{clean_whole}
 use Rattle.jwalk.proofs.WholeFacts.{steady_begun}
 use Rattle.seek_search.proofs.WholeFacts.{clean_entries, printed_whole}

@@ -1,8 +1,8 @@
 use Rattle.std.proofs.Common.{◌∙◌, refl, sym, ap, subst, map, is_ok}
 use Rattle.std.specs.List.{list_all}
 use Rattle.std.specs.Io.KnownBytes.{Appends}
-use Rattle.jwalk_core.specs.Entry.{item}
-use Rattle.jwalk_core.specs.Job.{IsSteady}
+use Rattle.jwalk_job.specs.Entry.{item}
+use Rattle.jwalk_job.specs.Job.{IsSteady}
 use Rattle.jwalk.specs.WalkDir.{file_system_of, callback_of, stateless}
 use Rattle.jwalk.proofs.CleanFacts.{clean_whole}
 use Rattle.jwalk.proofs.WholeFacts.{steady_begun, stateless_of}

@@ -1,5 +1,5 @@
 use Rattle.std.specs.Io.KnownBytes.{append_known}
-use Rattle.jwalk_core.specs.Job.{callback}
+use Rattle.jwalk_job.specs.Job.{callback}
 use Rattle.jwalk.specs.DirEntryIter.{job_of, weight_of, Answers}
 use Rattle.walk_run.proofs.PrintFacts.{PrintsSoFar}
 use Rattle.walk_run.proofs.walk_printed.print_walked.Given as goal

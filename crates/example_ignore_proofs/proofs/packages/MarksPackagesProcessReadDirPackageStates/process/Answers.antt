@@ -1,5 +1,5 @@
 use Rattle.std.proofs.Common.{map}
-use Rattle.jwalk.specs.jwalk_core.Entry.{item}
+use Rattle.jwalk.specs.jwalk_job.Entry.{item}
 use Rattle.jwalk.specs.jwalk_model.ReadDir.{list_depth}
 use Rattle.example_ignore_proofs.specs.Packages.{marks_keep}
 use Rattle.example_ignore_proofs.proofs.PackageFacts.{marks_made}

@@ -1,5 +1,5 @@
 use Rattle.std.proofs.Common.{map}
-use Rattle.jwalk.specs.jwalk_core.Entry.{item}
+use Rattle.jwalk.specs.jwalk_job.Entry.{item}
 use Rattle.example_proofs.specs.HandsOnNames.{names_handed_on}
 use Rattle.jwalk.proofs.GivenFacts.{depth_of_made}
 use Rattle.example_proofs.proofs.HandedFacts.{made_by, made_for}

@@ -1,5 +1,5 @@
 use Rattle.std.proofs.Common.{Some, None, inl, inr, refl, sym, option_map}
-use Rattle.jwalk_core.specs.ReadDir.{reading}
+use Rattle.jwalk_job.specs.ReadDir.{reading}
 use Rattle.tree_crew.specs.declared.crew.NotStarted.TheVariants.{Memory}
 use Rattle.jwalk.proofs.CrewStartFacts.{reads_alone, alone_from_root, held_of}
 use Rattle.jwalk_core.specs.DirEntryIter.{reads_of}

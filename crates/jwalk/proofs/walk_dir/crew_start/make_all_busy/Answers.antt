@@ -1,6 +1,6 @@
 use Rattle.std.proofs.Common.{length, map, ap, sym, ◌∙◌}
 use Rattle.std.proofs.lemmas.List.{with_items_is}
-use Rattle.jwalk_core.specs.Entry.{item}
+use Rattle.jwalk_job.specs.Entry.{item}
 use Rattle.jwalk_callbacks.proofs.SkipFacts.{changed_more, changed_all}
 use Rattle.jwalk.specs.CrewStart.{busied}
 use Rattle.jwalk.proofs.walk_dir.crew_start.make_all_busy.Goals as goal

@@ -1,4 +1,4 @@
-use Rattle.jwalk_core.specs.Entry.{item}
+use Rattle.jwalk_job.specs.Entry.{item}
 use Rattle.jwalk_callbacks.proofs.SkipFacts.{IsChangedTo}
 use Rattle.jwalk.specs.CrewStart.{busied}
 use Rattle.jwalk.proofs.walk_dir.crew_start.make_all_busy.Given as goal

@@ -1,7 +1,7 @@
 use Rattle.std.proofs.Common.{map, refl}
 use Rattle.jwalk_model.specs.ReadDir.{children, AreClones}
-use Rattle.jwalk_core.specs.ReadDirSpec.{spec}
-use Rattle.jwalk_core.specs.ReadDir.{reading}
+use Rattle.jwalk_job.specs.ReadDirSpec.{spec}
+use Rattle.jwalk_job.specs.ReadDir.{reading}
 use Rattle.jwalk_core.specs.CrewReads.{to_read}
 use Rattle.jwalk_core.proofs.AlikeFacts.{alike_clones}
 use Rattle.jwalk_core.proofs.ResultFacts.{none_on_ok, on_err, on_ok_as}

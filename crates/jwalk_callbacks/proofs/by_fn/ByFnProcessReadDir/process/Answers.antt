@@ -1,5 +1,5 @@
 use Rattle.jwalk_model.specs.ReadDir.{list_depth}
-use Rattle.jwalk_core.specs.Entry.{item}
+use Rattle.jwalk_job.specs.Entry.{item}
 use Rattle.jwalk_callbacks.proofs.DepthFilters.{all_left, keeps, made_at_depth}
 use Rattle.jwalk_callbacks.proofs.by_fn.ByFnProcessReadDir.process.Goals as goal
 

@@ -1,5 +1,5 @@
 use Rattle.std.proofs.Common.{map, ◌∙◌}
-use Rattle.jwalk_core.specs.Entry.{item}
+use Rattle.jwalk_job.specs.Entry.{item}
 use Rattle.jwalk_callbacks.proofs.SkipFacts.{on_ok}
 use Rattle.jwalk_callbacks.proofs.FilterFacts.{left-AtDepth, left-filtered_list, counted-filters}
 use Rattle.jwalk_callbacks.proofs.filter_entry.FilterEntryProcessReadDir.TheImpl.Goals as goal

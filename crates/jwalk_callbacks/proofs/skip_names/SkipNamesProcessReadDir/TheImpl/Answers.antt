@@ -1,5 +1,5 @@
 use Rattle.std.proofs.Common.{map, ◌∙◌}
-use Rattle.jwalk_core.specs.Entry.{item}
+use Rattle.jwalk_job.specs.Entry.{item}
 use Rattle.jwalk_callbacks.specs.SkipNames.{names_of, skips-KeepsDepthsOf}
 use Rattle.jwalk_callbacks.proofs.SkipFacts.{counted-skips, on_ok}
 use Rattle.jwalk_callbacks.proofs.skip_names.SkipNamesProcessReadDir.TheImpl.Goals as goal

@@ -1,5 +1,5 @@
 use Rattle.std.proofs.Common.{map}
-use Rattle.jwalk_core.specs.Entry.{item}
+use Rattle.jwalk_job.specs.Entry.{item}
 use Rattle.jwalk_callbacks.specs.WithSizes.{asks}
 use Rattle.jwalk_callbacks.proofs.SizeFacts.{depth-unasked, made_sized, on_ok_with}
 use Rattle.jwalk_callbacks.proofs.with_sizes.WithSizesProcessReadDirTuple2Size.TheImpl.Goals as goal

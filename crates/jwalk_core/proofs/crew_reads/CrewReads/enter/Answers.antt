@@ -1,7 +1,7 @@
 use Rattle.std.proofs.Common.{◌∙◌, ◌++◌, map, sym, ap}
 use Rattle.jwalk_order.specs.Frontier.{passed}
-use Rattle.jwalk_core.specs.ReadDirSpec.{spec}
-use Rattle.jwalk_core.specs.ReadDir.{outcome}
+use Rattle.jwalk_job.specs.ReadDirSpec.{spec}
+use Rattle.jwalk_job.specs.ReadDir.{outcome}
 use Rattle.jwalk_core.specs.CrewReads.{job_of, to_read, next_address, most_ahead}
 use Rattle.jwalk_core.proofs.CrewFacts.{told_reading}
 use Rattle.jwalk_core.proofs.CrewSteadyFacts.{as_many_found, front_steady}

@@ -1,6 +1,6 @@
 use Rattle.std.proofs.Common.{◌≡◌, ◌∙◌, true, Ok, map, reverse, sym, ap, subst}
-use Rattle.jwalk_core.specs.Entry.{entry}
-use Rattle.jwalk_core.specs.ReadDirSpec.{spec}
+use Rattle.jwalk_job.specs.Entry.{entry}
+use Rattle.jwalk_job.specs.ReadDirSpec.{spec}
 use Rattle.jwalk_core.specs.CrewReads.{IsNextBelow}
 use Rattle.jwalk_core.proofs.StackFacts.{last_first, no_last}
 use Rattle.jwalk_core.proofs.crew_reads.CrewReads.is_next.Goals as goal

@@ -1,6 +1,6 @@
 use Rattle.std.proofs.Common.{None, map, reverse, sym, subst}
 use Rattle.std.specs.Arc.{arc_value}
-use Rattle.jwalk_core.specs.ReadDirSpec.{spec}
+use Rattle.jwalk_job.specs.ReadDirSpec.{spec}
 use Rattle.jwalk_core.specs.CrewReads.{IsSteadyOver}
 use Rattle.jwalk_core.proofs.CrewSteadyFacts.{nothing_steady}
 use Rattle.jwalk_core.proofs.crew_reads.CrewReads.new.Goals as goal

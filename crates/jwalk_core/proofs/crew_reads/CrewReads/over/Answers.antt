@@ -1,7 +1,7 @@
 use Rattle.std.proofs.Common.{◌∙◌, map, reverse, length, refl, sym, ap}
 use Rattle.std.proofs.lemmas.List.{reverse-reverse, length-map}
 use Rattle.jwalk_order.specs.Frontier.{roots}
-use Rattle.jwalk_core.specs.ReadDirSpec.{spec}
+use Rattle.jwalk_job.specs.ReadDirSpec.{spec}
 use Rattle.jwalk_core.proofs.ResultFacts.{none_ok}
 use Rattle.jwalk_core.proofs.crew_reads.CrewReads.over.Goals as goal
 

@@ -1,10 +1,10 @@
 use Rattle.std.proofs.Common.{◌∙◌, List, ◌∷◌, Err, refl, sym, ap, subst}
 use Rattle.jwalk_model.specs.ReadDir.{Spec}
 use Rattle.jwalk_order.specs.IndexPath.{address}
-use Rattle.jwalk_core.specs.ReadDirSpec.{spec}
-use Rattle.jwalk_core.specs.ReadDir.{outcome}
-use Rattle.jwalk_core.specs.Given.{Given}
-use Rattle.jwalk_core.specs.Job.{options_of}
+use Rattle.jwalk_job.specs.ReadDirSpec.{spec}
+use Rattle.jwalk_job.specs.ReadDir.{outcome}
+use Rattle.jwalk_job.specs.Given.{Given}
+use Rattle.jwalk_job.specs.Job.{options_of}
 use Rattle.jwalk_core.specs.Wanted.{IsFor}
 use Rattle.jwalk_core.specs.CrewReads.{job_of, next_address, awaited, most_ready, IsSteadyOver}
 use Rattle.jwalk_core.proofs.CrewFacts.{told}

@@ -1,6 +1,6 @@
 use Rattle.std.proofs.Common.{◌∙◌, map, reverse, sym, subst, arith}
-use Rattle.jwalk_core.specs.ReadDirSpec.{spec}
-use Rattle.jwalk_core.specs.Job.{IsSteadyJob}
+use Rattle.jwalk_job.specs.ReadDirSpec.{spec}
+use Rattle.jwalk_job.specs.Job.{IsSteadyJob}
 use Rattle.jwalk_core.specs.CrewReads.{job_of, IsSteadyOver}
 use Rattle.jwalk_core.proofs.StackFacts.{popped}
 use Rattle.jwalk_core.proofs.ResultFacts.{fewer_not_lost}

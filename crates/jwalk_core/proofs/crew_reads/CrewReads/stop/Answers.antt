@@ -1,5 +1,5 @@
 use Rattle.std.proofs.Common.{None, map, reverse, sym, subst}
-use Rattle.jwalk_core.specs.ReadDirSpec.{spec}
+use Rattle.jwalk_job.specs.ReadDirSpec.{spec}
 use Rattle.jwalk_core.specs.CrewReads.{job_of, IsSteadyOver}
 use Rattle.jwalk_core.proofs.CrewSteadyFacts.{nothing_steady}
 use Rattle.jwalk_core.proofs.crew_reads.CrewReads.stop.Goals as goal

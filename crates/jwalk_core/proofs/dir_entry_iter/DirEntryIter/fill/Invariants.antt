@@ -1,5 +1,5 @@
 use Rattle.std.proofs.Common.{◌-◌}
-use Rattle.jwalk_core.specs.Job.{callback}
+use Rattle.jwalk_job.specs.Job.{callback}
 use Rattle.jwalk_core.specs.DirEntryIter.{job_of}
 use Rattle.jwalk_core.proofs.FillFacts.{Filled}
 use Rattle.jwalk_core.proofs.dir_entry_iter.DirEntryIter.fill.Given as goal

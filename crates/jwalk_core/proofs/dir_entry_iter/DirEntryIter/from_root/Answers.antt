@@ -1,6 +1,6 @@
 use Rattle.std.proofs.Common.{◌≡◌, ◌∙◌, true, false, refl, sym}
-use Rattle.jwalk_core.specs.ReadDir.{reading}
-use Rattle.jwalk_core.specs.Job.{greatest_depth}
+use Rattle.jwalk_job.specs.ReadDir.{reading}
+use Rattle.jwalk_job.specs.Job.{greatest_depth}
 use Rattle.jwalk_core.specs.DirEntryIter.{job_of, items_of}
 use Rattle.jwalk_core.proofs.AheadFacts.{begins_with_none}
 use Rattle.jwalk_core.proofs.AnswerFacts.{holds_root, at_root, within_root, root_sourced}

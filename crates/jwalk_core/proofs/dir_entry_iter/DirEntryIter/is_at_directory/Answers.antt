@@ -1,5 +1,5 @@
 use Rattle.std.proofs.Common.{◌∙◌, Ok, Err, map, reverse, refl, sym, ap}
-use Rattle.jwalk_core.specs.Entry.{item, children}
+use Rattle.jwalk_job.specs.Entry.{item, children}
 use Rattle.jwalk_core.proofs.StackFacts.{last_first, no_last, is_some-map}
 use Rattle.jwalk_core.proofs.PreparedPassFacts.{at_entry, not_at_entry, none_at}
 use Rattle.jwalk_core.proofs.dir_entry_iter.DirEntryIter.is_at_directory.Goals as goal

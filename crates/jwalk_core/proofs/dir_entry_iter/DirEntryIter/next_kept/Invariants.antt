@@ -1,5 +1,5 @@
 use Rattle.jwalk_model.specs.Held.{pair_up, weight}
-use Rattle.jwalk_core.specs.Job.{greatest_depth}
+use Rattle.jwalk_job.specs.Job.{greatest_depth}
 use Rattle.jwalk_core.specs.DirEntryIter.{job_of, items_of, unread_of}
 use Rattle.jwalk_core.proofs.PassFacts.{PassedOver}
 use Rattle.jwalk_core.proofs.dir_entry_iter.DirEntryIter.next_kept.Given as goal

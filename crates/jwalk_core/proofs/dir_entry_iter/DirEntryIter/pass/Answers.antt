@@ -1,10 +1,10 @@
 use Rattle.std.proofs.Common.{◌≡◌, ◌∙◌, [], Ok, Err, inr, map, reverse, refl, rules, sym, ap, arith}
 use Rattle.std.specs.Prelude.{option_map}
 use Rattle.std.proofs.lemmas.List.{nil_from_length}
-use Rattle.jwalk_core.specs.Error.{failure}
-use Rattle.jwalk_core.specs.Entry.{entry, item, children}
-use Rattle.jwalk_core.specs.ReadDir.{outcome}
-use Rattle.jwalk_core.specs.Job.{greatest_depth}
+use Rattle.jwalk_job.specs.Error.{failure}
+use Rattle.jwalk_job.specs.Entry.{entry, item, children}
+use Rattle.jwalk_job.specs.ReadDir.{outcome}
+use Rattle.jwalk_job.specs.Job.{greatest_depth}
 use Rattle.jwalk_core.specs.DirEntryIter.{by_crew, job_of, items_of, unread_of, position_of}
 use Rattle.jwalk_core.specs.ReadDirIter as readings
 use Rattle.jwalk_core.specs.ReadDirIter.{to_read}

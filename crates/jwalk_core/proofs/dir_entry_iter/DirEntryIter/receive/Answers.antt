@@ -1,7 +1,7 @@
 use Rattle.std.proofs.Common.{◌≡◌, ◌∙◌, ◌++◌, [], map, reverse, refl, ap, sym, append-nil, eqb-true}
 use Rattle.std.proofs.lemmas.List.{nil_from_length, reverse-reverse}
-use Rattle.jwalk_core.specs.Entry.{item}
-use Rattle.jwalk_core.specs.ReadDir.{reading}
+use Rattle.jwalk_job.specs.Entry.{item}
+use Rattle.jwalk_job.specs.ReadDir.{reading}
 use Rattle.jwalk_core.proofs.ReceivedFacts.{received}
 use Rattle.jwalk_core.proofs.dir_entry_iter.DirEntryIter.receive.Goals as goal
 

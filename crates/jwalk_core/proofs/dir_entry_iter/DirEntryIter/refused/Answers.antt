@@ -1,6 +1,6 @@
 use Rattle.std.proofs.Common.{◌∙◌, map, reverse, refl, ap}
-use Rattle.jwalk_core.specs.Entry.{item}
-use Rattle.jwalk_core.specs.Options.{width_of}
+use Rattle.jwalk_job.specs.Entry.{item}
+use Rattle.jwalk_job.specs.Options.{width_of}
 use Rattle.jwalk_core.proofs.AheadFacts.{begins_with_none}
 use Rattle.jwalk_core.proofs.dir_entry_iter.DirEntryIter.refused.Goals as goal
 

@@ -1,6 +1,6 @@
 use Rattle.std.proofs.Common.{◌∙◌, map, reverse, refl, ap}
 use Rattle.std.proofs.lemmas.List.{reverse-reverse}
-use Rattle.jwalk_core.specs.Entry.{item}
+use Rattle.jwalk_job.specs.Entry.{item}
 use Rattle.jwalk_core.proofs.dir_entry_iter.DirEntryIter.with_list.Goals as goal
 
 pub returns : goal.returns

@@ -1,5 +1,5 @@
 use Rattle.std.proofs.Common.{rules}
-use Rattle.jwalk_core.specs.Job.{callback}
+use Rattle.jwalk_job.specs.Job.{callback}
 use Rattle.jwalk_core.specs.DirEntryIter.{job_of}
 use Rattle.jwalk_core.proofs.ResultFacts.{goes_on}
 use Rattle.jwalk_core.proofs.dir_entry_iter.DirEntryIterIterator.next.Goals as goal

@@ -1,5 +1,5 @@
 use Rattle.std.proofs.Common.{Ok, refl}
-use Rattle.jwalk_core.specs.Entry.{entry}
+use Rattle.jwalk_job.specs.Entry.{entry}
 use Rattle.jwalk_core.proofs.GivesFacts.{gives_asked}
 use Rattle.jwalk_core.proofs.read_dir_iter.ReadDirIter.next_of.Goals as goal
 

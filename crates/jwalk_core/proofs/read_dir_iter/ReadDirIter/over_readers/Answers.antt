@@ -2,7 +2,7 @@ use Rattle.std.proofs.Common.{◌∙◌, map, sym, ap}
 use Rattle.std.proofs.lemmas.List.{length-map}
 use Rattle.std.specs.Arc.{arc_value}
 use Rattle.jwalk_order.specs.Frontier.{roots}
-use Rattle.jwalk_core.specs.ReadDirSpec.{spec}
+use Rattle.jwalk_job.specs.ReadDirSpec.{spec}
 use Rattle.jwalk_core.proofs.CrewSteadyFacts.{begins_by, starts_steady}
 use Rattle.jwalk_core.proofs.read_dir_iter.ReadDirIter.over_readers.Goals as goal
 

@@ -1,5 +1,5 @@
 use Rattle.std.proofs.Common.{false, refl, arith}
-use Rattle.jwalk_core.specs.ReadDir.{outcome}
+use Rattle.jwalk_job.specs.ReadDir.{outcome}
 use Rattle.jwalk_core.specs.CrewReads as crew
 use Rattle.jwalk_core.proofs.KnownFacts.{tells_refusal}
 use Rattle.jwalk_core.proofs.GivesFacts.{fewer_done}

@@ -1,5 +1,5 @@
 use Rattle.std.proofs.Common.{◌≡◌, true, false, refl, sym, subst}
-use Rattle.jwalk_core.specs.Job.{IsSteadyJob}
+use Rattle.jwalk_job.specs.Job.{IsSteadyJob}
 use Rattle.jwalk_core.proofs.read_dir_iter.ReadDirIter.stop.Goals as goal
 
 pub returns-in-Walk : goal.returns-in-Walk

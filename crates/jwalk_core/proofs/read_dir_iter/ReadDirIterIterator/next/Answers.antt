@@ -1,8 +1,8 @@
 use Rattle.std.proofs.Common.{◌<◌, IfSome, rules}
 use Rattle.std.specs.Prelude.{option_map}
 use Rattle.jwalk_model.specs.Held.{spec_weight}
-use Rattle.jwalk_core.specs.ReadDir.{outcome}
-use Rattle.jwalk_core.specs.Job.{callback, greatest_depth}
+use Rattle.jwalk_job.specs.ReadDir.{outcome}
+use Rattle.jwalk_job.specs.Job.{callback, greatest_depth}
 use Rattle.jwalk_core.specs.ReadDirIter.{by_crew, job_of, to_read, Known}
 use Rattle.jwalk_core.proofs.ResultFacts.{goes_on}
 use Rattle.jwalk_core.proofs.GivesFacts.{gives_fewer, some_of}

@@ -1,7 +1,7 @@
 use Rattle.std.proofs.Common.{◌≡◌, ◌∙◌, map, ap, sym, refl, rules}
 use Rattle.std.specs.List.{filter}
 use Rattle.std.proofs.lemmas.Fn.{filter_same}
-use Rattle.jwalk.specs.jwalk_core.Entry.{item}
+use Rattle.jwalk.specs.jwalk_job.Entry.{item}
 use Rattle.jwalk_ignore.specs.Callback.IgnoreFiles.{is_shown}
 use Rattle.jwalk_ignore.proofs.ListFacts.{filter_by}
 use Rattle.jwalk_ignore.proofs.callback.listed.drop_hidden.Goals as goal

@@ -3,7 +3,7 @@ use Rattle.std.specs.List.{filter}
 use Rattle.std.proofs.lemmas.List.{map-id}
 use Rattle.std.proofs.lemmas.Iterator.Adapters.{YieldsList-from_vec}
 use Rattle.std.proofs.lemmas.Iterator.Consumers.{YieldsList-end}
-use Rattle.jwalk.specs.jwalk_core.Entry.{item}
+use Rattle.jwalk.specs.jwalk_job.Entry.{item}
 use Rattle.jwalk_ignore.specs.Rules.Chain.{place_in}
 use Rattle.jwalk_ignore.specs.Rules.ChainViews.{chain_value}
 use Rattle.jwalk_ignore.specs.Callback.IgnoreFiles.{is_kept}

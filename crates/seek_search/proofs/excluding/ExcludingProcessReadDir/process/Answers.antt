@@ -1,7 +1,7 @@
 use Rattle.std.proofs.Common.{◌∙◌, not, ap, map, sym}
 use Rattle.std.specs.List.{filter}
 use Rattle.jwalk.specs.jwalk_model.ReadDir.{list_depth}
-use Rattle.jwalk.specs.jwalk_core.Entry.{item}
+use Rattle.jwalk.specs.jwalk_job.Entry.{item}
 use Rattle.jwalk_ignore.specs.Rules.{rules_value}
 use Rattle.seek_search.specs.Excluding.{excluded_of, is_included, patterns_in, place_of}
 use Rattle.seek_search.proofs.ExcludingFacts.{depths_kept, excludes_nothing, excludes_rest, processed_by}

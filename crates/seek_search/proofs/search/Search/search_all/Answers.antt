@@ -3,7 +3,7 @@ use Rattle.std.specs.Prelude.{is_some}
 use Rattle.std.specs.Arc.{arc_value}
 use Rattle.std.proofs.lemmas.Result.{IfOk-weaker}
 use Rattle.jwalk.specs.jwalk_model.Counted.{blank}
-use Rattle.jwalk.specs.jwalk_core.Job.{IsSteady}
+use Rattle.jwalk.specs.jwalk_job.Job.{IsSteady}
 use Rattle.jwalk.specs.WalkDir.{file_system_of, callback_of, options_of, root_of}
 use Rattle.seek_search.specs.Options.{options_for, with_crew}
 use Rattle.seek_search.specs.declared.options.WalkOptions.{WalkOptions}

@@ -1,6 +1,6 @@
 use Rattle.std.proofs.Common.{rules}
 use Rattle.std.proofs.lemmas.Fn.{All-from_retain}
-use Rattle.jwalk.specs.jwalk_core.Entry.{item}
+use Rattle.jwalk.specs.jwalk_job.Entry.{item}
 use Rattle.test_fixtures.proofs.Depths.{IsAt, all_at}
 use Rattle.test_fixtures.proofs.refused.callbacks.keep_depth.Goals as goal
 

@@ -1,8 +1,8 @@
 use Rattle.std.proofs.Common.{option_map, inl, inr, refl, ap, ◌∙◌, arith}
 use Rattle.jwalk_model.specs.Entry.{AtDepth}
-use Rattle.jwalk_core.specs.Options as options
-use Rattle.jwalk_core.specs.ReadDir.{reading}
-use Rattle.jwalk_core.specs.Job.{options_of}
+use Rattle.jwalk_job.specs.Options as options
+use Rattle.jwalk_job.specs.ReadDir.{reading}
+use Rattle.jwalk_job.specs.Job.{options_of}
 use Rattle.jwalk.proofs.CrewStartFacts.{reads_alone, refused_from_root, by_from_root, if_some_map}
 use Rattle.jwalk_core.specs.DirEntryIter.{reads_of}
 use Rattle.jwalk_core.proofs.AnswerFacts.{alone_steady}

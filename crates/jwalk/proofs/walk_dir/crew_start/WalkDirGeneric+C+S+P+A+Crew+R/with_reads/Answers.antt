@@ -1,5 +1,5 @@
 use Rattle.std.proofs.Common.{◌∙◌, sym, ap, subst}
-use Rattle.jwalk_core.specs.ReadDir.{reading}
+use Rattle.jwalk_job.specs.ReadDir.{reading}
 use Rattle.jwalk_core.specs.ReadDirIter as readings
 use Rattle.jwalk_core.specs.CrewReads as reads_by
 use Rattle.jwalk.specs.CrewStart.{IsToRead}

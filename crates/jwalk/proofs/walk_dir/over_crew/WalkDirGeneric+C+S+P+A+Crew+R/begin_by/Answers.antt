@@ -1,7 +1,7 @@
 use Rattle.std.proofs.Common.{◌≡◌, ◌∙◌, true, false, option_map}
 use Rattle.std.specs.Arc.{arc_value}
 use Rattle.tree_crew.specs.Crew.{limit_of}
-use Rattle.jwalk_core.specs.ReadDir.{reading}
+use Rattle.jwalk_job.specs.ReadDir.{reading}
 use Rattle.jwalk.proofs.BeginsFacts.{within_limit, made_root, starts_from_root, begins_from_root}
 use Rattle.jwalk.proofs.walk_dir.over_crew.WalkDirGeneric+C+S+P+A+Crew+R.begin_by.Goals as goal
 

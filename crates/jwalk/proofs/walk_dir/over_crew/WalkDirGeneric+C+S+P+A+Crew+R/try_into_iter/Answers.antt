@@ -1,5 +1,5 @@
 use Rattle.std.proofs.Common.{◌∙◌}
-use Rattle.jwalk_core.specs.Error.{failure}
+use Rattle.jwalk_job.specs.Error.{failure}
 use Rattle.jwalk.proofs.BeginsFacts.{fails_by}
 use Rattle.jwalk.proofs.walk_dir.over_crew.WalkDirGeneric+C+S+P+A+Crew+R.try_into_iter.Goals as goal
 

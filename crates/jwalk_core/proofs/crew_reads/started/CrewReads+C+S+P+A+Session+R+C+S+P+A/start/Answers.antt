@@ -1,8 +1,8 @@
 use Rattle.std.proofs.Common.{◌≡◌, ◌∙◌, ◌+◌, map, reverse, length, refl, sym, ap, subst}
 use Rattle.std.proofs.lemmas.List.{reverse-reverse, length-map}
 use Rattle.jwalk_order.specs.Frontier.{roots}
-use Rattle.jwalk_core.specs.ReadDirSpec.{spec}
-use Rattle.jwalk_core.specs.Job.{callback}
+use Rattle.jwalk_job.specs.ReadDirSpec.{spec}
+use Rattle.jwalk_job.specs.Job.{callback}
 use Rattle.tree_crew.specs.Crew.{limit_of}
 use Rattle.jwalk_core.specs.Origin.{begun, CountAlike}
 use Rattle.jwalk_core.proofs.CrewSteadyFacts.{origin_same, alike_length}

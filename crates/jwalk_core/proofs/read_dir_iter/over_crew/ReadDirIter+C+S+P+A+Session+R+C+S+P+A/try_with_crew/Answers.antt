@@ -1,5 +1,5 @@
 use Rattle.std.proofs.Common.{◌∙◌, map, sym}
-use Rattle.jwalk_core.specs.ReadDirSpec.{spec}
+use Rattle.jwalk_job.specs.ReadDirSpec.{spec}
 use Rattle.jwalk_core.proofs.CrewSteadyFacts.{starts_steady}
 use Rattle.jwalk_core.proofs.GivesFacts.{alone_steady}
 use Rattle.jwalk_core.proofs.ResultFacts.{ok_none}

@@ -1,6 +1,6 @@
 use Rattle.std.proofs.Common.{map}
 use Rattle.jwalk.specs.jwalk_model.ReadDir.{list_depth}
-use Rattle.jwalk.specs.jwalk_core.Entry.{item}
+use Rattle.jwalk.specs.jwalk_job.Entry.{item}
 use Rattle.jwalk_ignore.specs.Callback.IgnoreViews.{next_of, settings_of, texts_of, with_processed}
 use Rattle.jwalk_ignore.proofs.IgnoreFacts.{then_next}
 use Rattle.jwalk_ignore.proofs.callback.ignore_files.IgnoreFilesProcessReadDirTuple2Tuple2Chain.process.Goals as goal

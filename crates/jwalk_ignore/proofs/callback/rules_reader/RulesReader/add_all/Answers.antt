@@ -4,7 +4,7 @@ use Rattle.std.proofs.lemmas.List.{map-id}
 use Rattle.std.proofs.lemmas.Iterator.Adapters.{YieldsList-from_vec}
 use Rattle.std.proofs.lemmas.Iterator.Consumers.{YieldsList-end}
 use Rattle.std.proofs.lemmas.Result.{IfOk-from_err}
-use Rattle.jwalk.specs.jwalk_core.Entry.{item}
+use Rattle.jwalk.specs.jwalk_job.Entry.{item}
 use Rattle.jwalk_ignore.specs.Callback.IgnoreFiles.{with_listed}
 use Rattle.jwalk_ignore.specs.Callback.MadeDepths.{more_at}
 use Rattle.jwalk_ignore.specs.Callback.Sources.{made_value}

@@ -1,7 +1,7 @@
 use Rattle.std.proofs.Common.{◌≡◌, map}
 use Rattle.std.specs.Prelude.{fold}
 use Rattle.jwalk.specs.jwalk_model.Entry.{AtDepth}
-use Rattle.jwalk.specs.jwalk_core.Entry.{item}
+use Rattle.jwalk.specs.jwalk_job.Entry.{item}
 use Rattle.jwalk_ignore.specs.Callback.IgnoreFiles.{with_listed}
 use Rattle.jwalk_ignore.specs.Callback.Sources.{made_value}
 use Rattle.jwalk_ignore.proofs.callback.rules_reader.RulesReader.add_all.Given as goal

@@ -1,7 +1,7 @@
 use Rattle.std.proofs.Common.{◌∷◌, [], Err, map}
 use Rattle.std.proofs.lemmas.List.{map-append}
-use Rattle.jwalk.specs.jwalk_core.Entry.{item}
-use Rattle.jwalk.specs.jwalk_core.Error.{failure}
+use Rattle.jwalk.specs.jwalk_job.Entry.{item}
+use Rattle.jwalk.specs.jwalk_job.Error.{failure}
 use Rattle.jwalk_ignore.specs.Callback.MadeDepths.{append_at}
 use Rattle.jwalk_ignore.proofs.callback.rules_reader.RulesReader.add_root.Goals as goal
 

@@ -1,6 +1,6 @@
 use Rattle.std.proofs.Common.{◌∙◌, map, ap}
 use Rattle.std.specs.Prelude.{fold}
-use Rattle.jwalk.specs.jwalk_core.Entry.{item}
+use Rattle.jwalk.specs.jwalk_job.Entry.{item}
 use Rattle.jwalk_ignore.specs.Rules.ChainViews.{chain_value}
 use Rattle.jwalk_ignore.specs.Callback.IgnoreFiles.{with_root_item}
 use Rattle.jwalk_ignore.proofs.ReaderFacts.{begun}

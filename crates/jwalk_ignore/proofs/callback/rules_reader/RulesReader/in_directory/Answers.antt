@@ -1,5 +1,5 @@
 use Rattle.std.proofs.Common.{map}
-use Rattle.jwalk.specs.jwalk_core.Entry.{item}
+use Rattle.jwalk.specs.jwalk_job.Entry.{item}
 use Rattle.jwalk_ignore.specs.Rules.ChainViews.{chain_value}
 use Rattle.jwalk_ignore.specs.Callback.IgnoreFiles.{is_shown}
 use Rattle.jwalk_ignore.proofs.ReaderFacts.{left_at, left_from}

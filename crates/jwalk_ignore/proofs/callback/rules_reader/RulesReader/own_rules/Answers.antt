@@ -1,6 +1,6 @@
 use Rattle.std.proofs.Common.{◌≡◌, ◌∙◌, map, ap}
 use Rattle.std.specs.List.{list_any}
-use Rattle.jwalk.specs.jwalk_core.Entry.{item}
+use Rattle.jwalk.specs.jwalk_job.Entry.{item}
 use Rattle.jwalk_ignore.specs.Rules.ChainViews.{chain_value}
 use Rattle.jwalk_ignore.specs.Rules.Chain.{entered}
 use Rattle.jwalk_ignore.specs.Callback.IgnoreFiles.{is_git}

@@ -2,7 +2,7 @@ use Rattle.std.proofs.Common.{◌∷◌, [], Some, Err, map, string_bytes}
 use Rattle.std.specs.IoError.{error_kind}
 use Rattle.std.proofs.lemmas.Result.{on_ok_weaker}
 use Rattle.jwalk.specs.jwalk_model.Error.{io}
-use Rattle.jwalk.specs.jwalk_core.Entry.{item}
+use Rattle.jwalk.specs.jwalk_job.Entry.{item}
 use Rattle.jwalk_ignore.specs.Callback.MadeDepths.{append_at}
 use Rattle.jwalk_ignore.proofs.callback.source.Made.add_found.Goals as goal
 

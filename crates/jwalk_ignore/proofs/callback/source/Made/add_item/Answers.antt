@@ -1,6 +1,6 @@
 use Rattle.std.proofs.Common.{◌∷◌, [], map}
 use Rattle.std.proofs.lemmas.List.{map-append}
-use Rattle.jwalk.specs.jwalk_core.Entry.{item}
+use Rattle.jwalk.specs.jwalk_job.Entry.{item}
 use Rattle.jwalk_ignore.specs.Callback.MadeDepths.{append_at}
 use Rattle.jwalk_ignore.proofs.callback.source.Made.add_item.Goals as goal
 

@@ -1,6 +1,0 @@
-use Rattle.jwalk_core.proofs.job.Job.root_entry.Goals as goal
-
-pub returns-clause-value : goal.returns-clause-value
-returns-clause-value g c = λ given fixed default.
-    let above = rw (c.follow_links-follow_links.ensures, c.none.ensures, c.in_ok-path.ensures) at c.in_ok-ancestors.ensures in
-    rw (← above, ← c.in_ok-path.ensures) (c.made.ensures.value given fixed default)

@@ -1,5 +1,0 @@
-use Rattle.jwalk_core.proofs.WalkedTrees.{trees_walked}
-use Rattle.jwalk_core.proofs.laws.trees_are_walked.Goals as goal
-
-pub returns : goal.returns
-returns g c = trees_walked

@@ -1,5 +1,0 @@
-use Rattle.std.proofs.Common.{refl}
-use Rattle.jwalk_core.proofs.read_dir.ReadDir.new.Goals as goal
-
-pub returns : goal.returns
-returns g c = refl

@@ -1,0 +1,8 @@
+pub mod GivenFacts
+mod TieFacts
+mod PathListFacts
+mod ListFacts
+mod GatheredFacts
+mod ReadingFacts
+mod OrderedFacts
+mod WalkedTrees

@@ -1,0 +1,23 @@
+use Rattle.std.proofs.Common.{◌≡◌, ◌∙◌, ◌∷◌, ◌++◌, [], List, None, refl, map, ap, sym}
+use Rattle.std.specs.Prelude.{string_bytes}
+use Rattle.jwalk_model.specs.ReadDir.{Reading}
+use Rattle.jwalk_job.specs.Entry.{item}
+use Rattle.jwalk_job.specs.Given.{counted_item, counted_reading}
+use Rattle.jwalk_job.proofs.GivenFacts.{same_call}
+use Rattle.jwalk_job.proofs.job.Job.root_list.Goals as goal
+
+-- the list that the callback is given
+one_item : {X Y : Type 0} (view : X → Y) (made : X) (start list : List X) → start ≡ [] → list ≡ start ++ made ∷ [] → map view list ≡ view made ∷ []
+one_item view made start list none added = ap (map view) (added ∙ ap (λ l. l ++ made ∷ []) none)
+
+pub returns-clause-depth : goal.returns-clause-depth
+returns-clause-depth g c =
+    rw (ap (λ (r : Reading g.row.C-ReadDirState.Denot g.row.C-DirEntryState.Denot). r.list) c.new.ensures)
+    c.in_ok-process.ensures.depths
+
+pub returns-clause-value : goal.returns-clause-value
+returns-clause-value g c = λ given steady.
+    let path = c.as_str.ensures.value ∙ ap string_bytes c.deref.ensures ∙ c.in_ok-item.ensures.parent given steady.file_system steady.default in
+    let items = ap (map (counted_item given)) (one_item item c.in_ok-item.field-0.item c.new-items.result.items c.push.new.self.items c.new-items.ensures.items c.in_ok-push.ensures.items) ∙ ap (λ i. i ∷ []) (c.in_ok-item.ensures.value given steady.file_system steady.default) in
+    same_call (given.processed None) path refl items (c.in_ok-process.ensures.made given steady.callback)
+    ∙ sym (ap (counted_reading given) c.new.ensures)

@@ -1,0 +1,15 @@
+pub mod Text
+pub mod Ancestors
+pub mod Error
+pub mod Entry
+pub mod ReadDirSpec
+pub mod Options
+pub mod Given
+pub mod Sorting
+pub mod ReadDir
+pub mod Job
+pub mod Inside
+pub mod Gathering
+pub mod Plan
+pub mod PlanFacts
+pub mod PlanReading

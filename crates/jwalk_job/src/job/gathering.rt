@@ -1,0 +1,88 @@
+//! The items of a directory while it is listed.
+ghost use Rattle.std.specs.Prelude.{◌≡◌, ◌+◌, ◌<◌, ◌^◌, []};
+ghost use Rattle.jwalk_job.specs.ReadDirSpec.{spec};
+
+use super::Job;
+use super::inside::Inside;
+use crate::client_state::ClientState;
+use crate::dir_entry::DirEntry;
+use crate::error::Error;
+use crate::process_read_dir::ProcessReadDir;
+use crate::read_dir_spec::ReadDirSpec;
+use jwalk_fs::file_system::FileSystem;
+use jwalk_fs::sink::Sink;
+use jwalk_model::file_type::FileType;
+use jwalk_model::seen::Seen;
+use std::alloc::{AllocError, Allocator};
+use std::io;
+
+/// The entries and errors of a directory that is being listed, each made as soon as its name is known.
+#[derive(Drop)]
+pub(super) struct Gathering<'g, C: ClientState, S, P, A: Allocator + Copy> {
+    job: &'g Job<C, S, P, A>,
+    of: &'g ReadDirSpec<C, A>,
+    inside: Inside<A>,
+    items: Vec<Result<DirEntry<C, A>, Error<A>>, A>,
+    ghost fits: { (spec of.now).depth + 1 < 2 ^ 64 },
+}
+
+impl<'g, C: ClientState, S, P, A: Allocator + Copy> Gathering<'g, C, S, P, A> {
+    /// Returns no items yet, of this directory. `inside` is what they share.
+    pub(super) fn new(
+        job: &'g Job<C, S, P, A>,
+        of: &'g ReadDirSpec<C, A>,
+        inside: Inside<A>,
+    ) -> Self
+        requires { (spec of.now).depth + 1 < 2 ^ 64 }
+        ensures job { result.job.now ≡ job.now }
+        ensures of { result.of.now ≡ of.now }
+        ensures inside { result.inside ≡ inside }
+        ensures items { result.items.items ≡ [] }
+    {
+        Gathering {
+            job,
+            of,
+            inside,
+            items: Vec::new(job.alloc),
+        }
+    }
+
+    /// Returns the items.
+    pub(super) fn into_items(self) -> Vec<Result<DirEntry<C, A>, Error<A>>, A>
+        ensures { result ≡ self.entry.items }
+    {
+        self.items
+    }
+}
+
+impl<'g, C: ClientState, S: FileSystem, P: ProcessReadDir<C, A>, A: Allocator + Copy> Sink
+    for Gathering<'g, C, S, P, A> {
+    ghost use Rattle.jwalk_job.specs.Gathering.{IsGathered};
+
+    ghost Took = { λ first listing last. IsGathered S.FileSystem C.DirEntryState.Default first listing last };
+
+    fn take_seen(&mut self, name: &str, seen: io::Result<Seen>) -> Result<(), AllocError> {
+        match self.job.named(self.of, &mut self.inside, name, seen)? {
+            Some(item) => {
+                self.items.push(item)?;
+                Ok(())
+            }
+            None => Ok(()),
+        }
+    }
+
+    fn take(&mut self, name: &str, file_type: io::Result<FileType>) -> Result<(), AllocError> {
+        match file_type {
+            Ok(file_type) => self.take_seen(name, Ok(Seen::TypeAlone(file_type))),
+            Err(error) => self.take_seen(name, Err(error)),
+        }
+    }
+
+    fn take_error(&mut self, error: io::Error) -> Result<(), AllocError> {
+        let depth = self.of.depth() + 1;
+        let parent = self.of.path.clone()?;
+        self.items
+            .push(Err(Error::from_item(depth, parent, error)))?;
+        Ok(())
+    }
+}
