@@ -5,11 +5,11 @@ ghost use Rattle.jwalk_job.specs.Entry.{entry, item};
 ghost use Rattle.jwalk_callbacks.specs.WithSizes.{size_of, sized_item, unasked_item};
 
 use crate::size::Size;
+use jwalk_fs::file_system::FileSystem;
 use jwalk_job::client_state::ClientState;
 use jwalk_job::dir_entry::DirEntry;
 use jwalk_job::error::Error;
 use jwalk_job::process_read_dir::ProcessReadDir;
-use jwalk_fs::file_system::FileSystem;
 use std::alloc::{AllocError, Allocator};
 use std::fmt::Debug;
 

@@ -14,6 +14,9 @@ ghost use Rattle.jwalk_core.specs.ReadDirIter.{CrewReadsNext};
 
 pub mod started;
 
+use crate::readers::{Missed, NoCrew, Readers};
+use crate::wanted::Wanted;
+use jwalk_fs::file_system::FileSystem;
 use jwalk_job::client_state::ClientState;
 use jwalk_job::dir_entry::DirEntry;
 use jwalk_job::error::Error;
@@ -21,9 +24,6 @@ use jwalk_job::job::Job;
 use jwalk_job::process_read_dir::ProcessReadDir;
 use jwalk_job::read_dir::{Outcome, directories_of};
 use jwalk_job::read_dir_spec::ReadDirSpec;
-use crate::readers::{Missed, NoCrew, Readers};
-use crate::wanted::Wanted;
-use jwalk_fs::file_system::FileSystem;
 use jwalk_order::ordered::Ordered;
 use jwalk_order::ordered_queue::OrderedMatcher;
 use std::alloc::{AllocError, AllocFailed, Allocator, Global};

@@ -5,16 +5,16 @@ ghost use Rattle.jwalk_job.specs.Job.{callback};
 
 mod on_threads;
 
-use jwalk_job::client_state::ClientState;
 use crate::crew_reads::error_of;
+use crate::read_dir_iter::ReadDirIter;
+use crate::readers::{Missed, NoCrew, Readers};
+use jwalk_fs::file_system::FileSystem;
+use jwalk_job::client_state::ClientState;
 use jwalk_job::dir_entry::DirEntry;
 use jwalk_job::error::Error;
 use jwalk_job::job::Job;
 use jwalk_job::process_read_dir::ProcessReadDir;
 use jwalk_job::read_dir::{Outcome, ReadDir};
-use crate::read_dir_iter::ReadDirIter;
-use crate::readers::{Missed, NoCrew, Readers};
-use jwalk_fs::file_system::FileSystem;
 use std::alloc::{AllocError, Allocator, Global};
 
 /// A walk under way: an iterator over its entries and errors, in strict depth-first order.

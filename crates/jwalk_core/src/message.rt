@@ -7,12 +7,12 @@ ghost use Rattle.jwalk_job.specs.ReadDir.{outcome};
 ghost use Rattle.jwalk_job.specs.Job.{callback};
 ghost use Rattle.jwalk_core.specs.Message.{IsLawfulMessage, told};
 
+use jwalk_fs::file_system::FileSystem;
 use jwalk_job::client_state::ClientState;
 use jwalk_job::job::Job;
 use jwalk_job::process_read_dir::ProcessReadDir;
 use jwalk_job::read_dir::Outcome;
 use jwalk_job::read_dir_spec::ReadDirSpec;
-use jwalk_fs::file_system::FileSystem;
 use std::alloc::{AllocError, Allocator, Global};
 use std::marker::Model;
 use std::sync::Arc;

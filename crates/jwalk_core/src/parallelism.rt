@@ -3,8 +3,8 @@ ghost use Rattle.std.specs.Prelude.{◌≡◌};
 ghost use Rattle.jwalk_job.specs.Options.{mode_value};
 ghost use Rattle.jwalk_core.specs.Parallelism.{parallelism_value, crew_of};
 
-use jwalk_job::mode::Mode;
 use crate::readers::NoCrew;
+use jwalk_job::mode::Mode;
 use std::alloc::{AllocError, Allocator, Global};
 use std::sync::Arc;
 use std::time::Duration;

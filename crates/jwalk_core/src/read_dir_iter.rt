@@ -12,18 +12,18 @@ mod over_crew;
 mod over_readers;
 
 use crate::batch_reads::BatchReads;
-use jwalk_job::client_state::ClientState;
 use crate::crew_reads::{CrewReads, error_of};
+use crate::parallelism::Parallelism;
+use crate::readers::{Missed, NoCrew, Readers};
+use jwalk_fs::file_system::FileSystem;
+use jwalk_job::client_state::ClientState;
 use jwalk_job::dir_entry::DirEntry;
 use jwalk_job::error::Error;
 use jwalk_job::job::Job;
 use jwalk_job::mode::Mode;
-use crate::parallelism::Parallelism;
 use jwalk_job::process_read_dir::ProcessReadDir;
 use jwalk_job::read_dir::{Outcome, ReadDir};
 use jwalk_job::read_dir_spec::ReadDirSpec;
-use crate::readers::{Missed, NoCrew, Readers};
-use jwalk_fs::file_system::FileSystem;
 use std::alloc::{AllocError, Allocator, Global};
 
 /// An iterator over readings, each before those of its own directories: the one of the first directory not given yet

@@ -7,11 +7,11 @@ ghost use Rattle.jwalk_core.specs.Due.{IsDue};
 ghost use Rattle.jwalk_core.specs.Origin.{Origin, IsMessageOf};
 ghost use Rattle.jwalk_core.specs.Wanted.{Fits};
 
-use jwalk_job::client_state::ClientState;
 use crate::message::Message;
-use jwalk_job::process_read_dir::ProcessReadDir;
 use crate::wanted::Wanted;
 use jwalk_fs::file_system::FileSystem;
+use jwalk_job::client_state::ClientState;
+use jwalk_job::process_read_dir::ProcessReadDir;
 use jwalk_order::ordered::Ordered;
 use std::alloc::{AllocError, Allocator};
 

@@ -5,13 +5,13 @@ ghost use Rattle.jwalk_job.specs.ReadDirSpec.{spec};
 ghost use Rattle.jwalk_job.specs.Options.{options_value};
 ghost use Rattle.jwalk_core.specs.Wanted.{Fits, IsDirectory, IsFor};
 
+use crate::message::Message;
+use jwalk_fs::file_system::FileSystem;
 use jwalk_job::ancestors::Ancestors;
 use jwalk_job::client_state::ClientState;
-use crate::message::Message;
 use jwalk_job::options::Options;
 use jwalk_job::process_read_dir::ProcessReadDir;
 use jwalk_job::read_dir_spec::ReadDirSpec;
-use jwalk_fs::file_system::FileSystem;
 use jwalk_order::index_path::IndexPath;
 use jwalk_order::ordered::Ordered;
 use std::alloc::{AllocError, Allocator, Global};

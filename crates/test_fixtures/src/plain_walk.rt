@@ -2,6 +2,7 @@
 ghost use Rattle.jwalk_job.specs.Job.{callback};
 
 use crate::answers::Answer;
+use jwalk_fs::file_system::FileSystem;
 use jwalk_job::client_state::ClientState;
 use jwalk_job::dir_entry::DirEntry;
 use jwalk_job::error::Error;
@@ -9,7 +10,6 @@ use jwalk_job::job::Job;
 use jwalk_job::process_read_dir::ProcessReadDir;
 use jwalk_job::read_dir::ReadDir;
 use jwalk_job::read_dir_spec::ReadDirSpec;
-use jwalk_fs::file_system::FileSystem;
 use std::alloc::{AllocError, Global};
 
 /// How many answers a walk may have at most.

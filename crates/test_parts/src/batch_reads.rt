@@ -1,12 +1,12 @@
 //! Readings over a board, in turn and on threads.
 use crate::given::{self, Refusing, States, push_names, roots_of};
 use jwalk_core::batch_reads::BatchReads;
+use jwalk_fs::file_system::FileSystem;
 use jwalk_job::client_state::ClientState;
 use jwalk_job::job::Job;
 use jwalk_job::options::Options;
 use jwalk_job::process_read_dir::NoProcess;
 use jwalk_job::read_dir::Outcome;
-use jwalk_fs::file_system::FileSystem;
 use std::alloc::{AllocError, Global};
 use std::thread::Threads;
 

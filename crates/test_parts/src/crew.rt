@@ -1,16 +1,16 @@
 //! Messages of workers, and the reading that is waited for.
 use crate::given::{self, Refusing, States, address, roots_of};
 use jwalk_board::board::{Board, HandOutRefusal};
+use jwalk_core::message::Message;
+use jwalk_core::wanted::Wanted;
 use jwalk_job::ancestors::Ancestors;
 use jwalk_job::dir_entry::DirEntry;
 use jwalk_job::error::Error;
 use jwalk_job::job::Job;
-use jwalk_core::message::Message;
 use jwalk_job::mode::Mode;
 use jwalk_job::options::Options;
 use jwalk_job::process_read_dir::NoProcess;
 use jwalk_job::read_dir_spec::ReadDirSpec;
-use jwalk_core::wanted::Wanted;
 use jwalk_order::ordered::Ordered;
 use std::alloc::Global;
 use std::io::ErrorKind;

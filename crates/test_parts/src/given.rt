@@ -4,14 +4,14 @@ ghost use Rattle.jwalk_model.specs.Tree.{functions_of, only_root};
 ghost use Rattle.jwalk_job.specs.Job.{callback};
 
 use jwalk_board::board::{Board, Move, Plan, Refused, Rehearsal, rehearse};
+use jwalk_fs::fault::Fault;
+use jwalk_fs::file_system::FileSystem;
+use jwalk_fs::listed::Listed;
 use jwalk_job::client_state::ClientState;
 use jwalk_job::job::Job;
 use jwalk_job::process_read_dir::ProcessReadDir;
 use jwalk_job::read_dir::ReadDir;
 use jwalk_job::read_dir_spec::ReadDirSpec;
-use jwalk_fs::fault::Fault;
-use jwalk_fs::file_system::FileSystem;
-use jwalk_fs::listed::Listed;
 use jwalk_memory_fs::memory_fs::MemoryFs;
 use jwalk_model::metadata::Metadata;
 use jwalk_order::index_path::IndexPath;

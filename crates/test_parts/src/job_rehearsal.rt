@@ -11,6 +11,7 @@ ghost use Rattle.jwalk_job.specs.Plan.{tree_of};
 
 use crate::given::{self, States, address, are_at, is_at, push_names, roots_of};
 use jwalk_board::board::{Move, Refused, Rehearsal, rehearse};
+use jwalk_fs::file_system::FileSystem;
 use jwalk_job::client_state::ClientState;
 use jwalk_job::error::Error;
 use jwalk_job::job::Job;
@@ -18,7 +19,6 @@ use jwalk_job::options::Options;
 use jwalk_job::process_read_dir::{NoProcess, ProcessReadDir};
 use jwalk_job::read_dir::ReadDir;
 use jwalk_job::read_dir_spec::ReadDirSpec;
-use jwalk_fs::file_system::FileSystem;
 use jwalk_memory_fs::memory_fs::MemoryFs;
 use jwalk_order::ordered::Ordered;
 use std::alloc::{Allocator, Global};

@@ -8,11 +8,11 @@ ghost use Rattle.jwalk_job.specs.Error.{failure, ancestor_of, kind_of};
 ghost use Rattle.jwalk_model.specs.Lines.{kind_name, letter_of, failure_name, reading_part, entry_line, failure_line, line_of};
 
 use itoa::Buffer;
+use jwalk_fs::path_text::join_parts;
 use jwalk_job::client_state::ClientState;
 use jwalk_job::dir_entry::DirEntry;
 use jwalk_job::error::{Error, Result};
 use jwalk_job::read_children::ReadChildren;
-use jwalk_fs::path_text::join_parts;
 use jwalk_model::file_type::FileType;
 use std::alloc::Allocator;
 use std::io;

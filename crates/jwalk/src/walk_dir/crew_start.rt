@@ -14,18 +14,18 @@ ghost use Rattle.jwalk.specs.CrewStart.{busied, left_of, is_refusal, IsFromRoot}
 ghost use Rattle.jwalk_core.specs.DirEntryIter.{reads_of, is_refused, by_crew, job_of, items_of, most_ahead, StartsSteady};
 
 use crate::walk_dir::WalkDirGeneric;
-use jwalk_job::client_state::ClientState;
 use jwalk_core::crew_reads::CrewReads;
-use jwalk_job::dir_entry::DirEntry;
 use jwalk_core::dir_entry_iter::DirEntryIter;
-use jwalk_job::error::Error;
-use jwalk_job::job::Job;
-use jwalk_job::process_read_dir::ProcessReadDir;
-use jwalk_job::read_dir::ReadDir;
 use jwalk_core::read_dir_iter::ReadDirIter;
 use jwalk_core::readers::Readers;
 use jwalk_core::session::Session;
 use jwalk_fs::file_system::FileSystem;
+use jwalk_job::client_state::ClientState;
+use jwalk_job::dir_entry::DirEntry;
+use jwalk_job::error::Error;
+use jwalk_job::job::Job;
+use jwalk_job::process_read_dir::ProcessReadDir;
+use jwalk_job::read_dir::ReadDir;
 use std::alloc::Allocator;
 use std::sync::{Arc, Wait};
 use std::thread::Threads;

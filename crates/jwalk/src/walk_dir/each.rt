@@ -4,13 +4,13 @@ ghost use Rattle.jwalk.specs.Each.{BeginsAlone, BeginsOver, CallsWithEach, Calls
 ghost use Rattle.jwalk.specs.WalkDir.{callback_of};
 
 use crate::walk_dir::WalkDirGeneric;
+use jwalk_core::readers::{NoCrew, Readers};
+use jwalk_core::session::Session;
+use jwalk_fs::file_system::FileSystem;
 use jwalk_job::client_state::ClientState;
 use jwalk_job::dir_entry::DirEntry;
 use jwalk_job::error::Error;
 use jwalk_job::process_read_dir::ProcessReadDir;
-use jwalk_core::readers::{NoCrew, Readers};
-use jwalk_core::session::Session;
-use jwalk_fs::file_system::FileSystem;
 use std::alloc::{AllocError, Global};
 use std::sync::Wait;
 use std::thread::Threads;

@@ -1,9 +1,9 @@
 //! Walks with states of other types beside directories and entries.
 
 use crate::walk_dir::WalkDirGeneric;
+use jwalk_fs::file_system::FileSystem;
 use jwalk_job::client_state::ClientState;
 use jwalk_job::process_read_dir::NoProcess;
-use jwalk_fs::file_system::FileSystem;
 use std::alloc::Allocator;
 use std::fmt::Debug;
 

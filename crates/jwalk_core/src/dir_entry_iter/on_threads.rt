@@ -2,13 +2,13 @@
 ghost use Rattle.std.specs.Prelude.{◌≡◌, ◌≢◌, true, false, []};
 ghost use Rattle.jwalk_job.specs.Job.{callback};
 
-use jwalk_job::client_state::ClientState;
-use jwalk_job::dir_entry::DirEntry;
 use crate::dir_entry_iter::DirEntryIter;
-use jwalk_job::error::Error;
-use jwalk_job::process_read_dir::ProcessReadDir;
 use crate::readers::{Missed, Readers};
 use jwalk_fs::file_system::FileSystem;
+use jwalk_job::client_state::ClientState;
+use jwalk_job::dir_entry::DirEntry;
+use jwalk_job::error::Error;
+use jwalk_job::process_read_dir::ProcessReadDir;
 use std::alloc::{AllocError, Allocator};
 use std::thread::Threads;
 

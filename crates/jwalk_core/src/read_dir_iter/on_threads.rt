@@ -3,14 +3,14 @@ ghost use Rattle.std.specs.Prelude.{false, Ok, IsSome};
 ghost use Rattle.jwalk_job.specs.Entry.{entry};
 ghost use Rattle.jwalk_job.specs.Job.{callback};
 
+use crate::read_dir_iter::ReadDirIter;
+use crate::readers::Readers;
+use jwalk_fs::file_system::FileSystem;
 use jwalk_job::client_state::ClientState;
 use jwalk_job::dir_entry::DirEntry;
 use jwalk_job::error::Error;
 use jwalk_job::process_read_dir::ProcessReadDir;
 use jwalk_job::read_dir::Outcome;
-use crate::read_dir_iter::ReadDirIter;
-use crate::readers::Readers;
-use jwalk_fs::file_system::FileSystem;
 use std::alloc::{AllocError, Allocator};
 use std::thread::Threads;
 

@@ -5,15 +5,15 @@ ghost use Rattle.jwalk_model.specs.Error.{memory};
 ghost use Rattle.jwalk_job.specs.Error.{failure};
 ghost use Rattle.jwalk_job.specs.ReadDirSpec.{spec};
 
-use jwalk_job::client_state::ClientState;
 use crate::crew_reads::CrewReads;
+use crate::read_dir_iter::ReadDirIter;
+use crate::readers::Readers;
+use jwalk_fs::file_system::FileSystem;
+use jwalk_job::client_state::ClientState;
 use jwalk_job::error::Error;
 use jwalk_job::job::Job;
 use jwalk_job::process_read_dir::ProcessReadDir;
-use crate::read_dir_iter::ReadDirIter;
 use jwalk_job::read_dir_spec::ReadDirSpec;
-use crate::readers::Readers;
-use jwalk_fs::file_system::FileSystem;
 use std::alloc::Allocator;
 use std::sync::Arc;
 
