@@ -10,7 +10,7 @@ use Rattle.jwalk.specs.DirEntryIter.{TellsMemory}
 use Rattle.jwalk_usage.specs.declared.report.Usage.{Usage}
 use Rattle.jwalk_usage.specs.declared.report.UsageFault.{UsageFault}
 use Rattle.jwalk_usage.specs.Totals.{totals_by, with_answer}
-use Rattle.jwalk_usage.specs.ByAnswers.{CannotAdd, AddsUp, StopsAdding}
+use Rattle.jwalk_usage.specs.ByAnswers.{CannotAdd, AddsUp, StopsAddingRest}
 use Rattle.jwalk_usage.proofs.CountFacts.{yields_push, none_push}
 use Rattle.jwalk_usage.proofs.TotalFacts.{totals_push}
 
@@ -36,11 +36,10 @@ module _ {I C A R E : Type 0} (errors bytes : Item R E → ℕ) (next : I → Op
   }
 
   -- an answer that can't be counted
-  pub stops_adding : (now then : I) (u : Usage) (x : Result (DirEntry C A R E) (Error A)) (fault : UsageFault) → AddedSoFar now u → next now (Some x) then → CannotAdd (with_answer errors bytes (item x) u) (item x) fault → StopsAdding (totals_by errors bytes) next start fault
+  pub stops_adding : (now then : I) (u : Usage) (x : Result (DirEntry C A R E) (Error A)) (fault : UsageFault) → AddedSoFar now u → next now (Some x) then → CannotAdd (with_answer errors bytes (item x) u) (item x) fault → StopsAddingRest (totals_by errors bytes) next start then fault
   stops_adding now then u x fault so_far step cannot = record {
     answered = so_far.answered;
     last = x;
-    end = then;
     calls = (now, so_far.calls, step);
     tells = subst (λ all. CannotAdd all (item x) fault) (ap (with_answer errors bytes (item x)) so_far.adds.totals ∙ sym (totals_push errors bytes (map item so_far.answered) (item x))) cannot;
   }

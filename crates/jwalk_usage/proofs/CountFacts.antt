@@ -14,7 +14,7 @@ use Rattle.jwalk_usage.specs.declared.report.Usage.{Usage}
 use Rattle.jwalk_usage.specs.declared.report.UsageFault.{UsageFault}
 use Rattle.jwalk_usage.specs.declared.report.UsageFault.TheVariants.{TooMany, Memory}
 use Rattle.jwalk_usage.specs.Totals.{errors_of, bytes_of, totals}
-use Rattle.jwalk_usage.specs.Counts.{nothing, with_one, IsTooGreat, CountsType, CountsTypes, CannotCount, TellsOfLast, Counts, StopsCounting}
+use Rattle.jwalk_usage.specs.Counts.{nothing, with_one, IsTooGreat, CountsType, CountsTypes, CannotCount, TellsOfLast, Counts, StopsCountingRest}
 use Rattle.jwalk_usage.specs.Kept.{is_known, errors_kept, bytes_kept, kept_totals, with_kept}
 use Rattle.jwalk_usage.proofs.TotalFacts.{totals_push, types_push}
 
@@ -83,11 +83,10 @@ module _ {I C A R E : Type 0} (next : I → Option (Result (DirEntry C A R E) (E
   tells_of now u x Memory so_far cannot = cannot
 
   -- an answer that can't be counted
-  pub stops : (now then : I) (u : Usage) (x : Result (DirEntry C A R E) (Error A)) (fault : UsageFault) → CountedSoFar now u → next now (Some x) then → CannotCount fixed fs (item x) u fault → StopsCounting next fixed fs start fault
+  pub stops : (now then : I) (u : Usage) (x : Result (DirEntry C A R E) (Error A)) (fault : UsageFault) → CountedSoFar now u → next now (Some x) then → CannotCount fixed fs (item x) u fault → StopsCountingRest next fixed fs start then fault
   stops now then u x fault so_far step cannot = record {
     answered = so_far.answered;
     last = x;
-    end = then;
     calls = (now, so_far.calls, step);
     tells = tells_of now u x fault so_far cannot;
   }

@@ -32,10 +32,13 @@ module _ {I C A R E : Type 0} (total : List (Item R E) → Usage) (next : I → 
   abbrev pub AddsAll : I → Usage → Type 0
   AddsAll start usage = (answered : List (Result (DirEntry C A R E) (Error A))) × Drains next start answered × AddsUp total answered usage
 
-  -- Calls from the start yielded answers up to one that can't be counted, and this is why.
-  pub record StopsAdding (start : I) (fault : UsageFault) : Type 0 where
+  -- Calls from the start yielded answers up to one that can't be counted, which left the iterator so, and this is why.
+  pub record StopsAddingRest (start end : I) (fault : UsageFault) : Type 0 where
     pub answered : List (Result (DirEntry C A R E) (Error A))
     pub last : Result (DirEntry C A R E) (Error A)
-    pub end : I
     pub calls : YieldsThen next start answered (Some last) end
     pub tells : CannotAdd (total (map item answered ++ item last ∷ [])) (item last) fault
+
+  -- the same, wherever the iterator was left
+  abbrev pub StopsAdding : I → UsageFault → Type 0
+  StopsAdding start fault = (end : I) × StopsAddingRest start end fault

@@ -95,10 +95,13 @@ module _ {I C A R E : Type 0} (next : I → Option (Result (DirEntry C A R E) (E
   abbrev pub CountsAll : I → Usage → Type 0
   CountsAll start usage = (answered : List (Result (DirEntry C A R E) (Error A))) × Drains next start answered × Counts fixed fs answered usage
 
-  -- Calls from the start yielded answers up to one that can't be counted, and this is why.
-  pub record StopsCounting (start : I) (fault : UsageFault) : Type 0 where
+  -- Calls from the start yielded answers up to one that can't be counted, which left the iterator so, and this is why.
+  pub record StopsCountingRest (start end : I) (fault : UsageFault) : Type 0 where
     pub answered : List (Result (DirEntry C A R E) (Error A))
     pub last : Result (DirEntry C A R E) (Error A)
-    pub end : I
     pub calls : YieldsThen next start answered (Some last) end
     pub tells : TellsOfLast fixed fs (map item answered) (item last) fault
+
+  -- the same, wherever the iterator was left
+  abbrev pub StopsCounting : I → UsageFault → Type 0
+  StopsCounting start fault = (end : I) × StopsCountingRest start end fault

@@ -15,7 +15,7 @@ use Rattle.jwalk.specs.jwalk_callbacks.WithSizes.{sizing, job_sizing}
 use Rattle.jwalk_usage.specs.declared.report.Usage.{Usage}
 use Rattle.jwalk_usage.specs.declared.report.UsageFault.{UsageFault}
 use Rattle.jwalk_usage.specs.Totals.{one_if, has_failed, totals_by, with_answer, totals}
-use Rattle.jwalk_usage.specs.ByAnswers.{AddsRest, AddsAll, StopsAdding}
+use Rattle.jwalk_usage.specs.ByAnswers.{AddsRest, AddsAll, StopsAddingRest, StopsAdding}
 
 -- whether a size is the error of asking for it
 abbrev pub is_failure : Size → Bool
@@ -61,7 +61,11 @@ module _ {I C A R : Type 0} (next : I → Option (Result (DirEntry C A R Size) (
   abbrev pub CountsSizes : I → Usage → Type 0
   CountsSizes = AddsAll sized_totals next
 
-  -- Calls from the start yielded answers up to one that can't be counted, and this is why.
+  -- Calls from the start yielded answers up to one that can't be counted, which left the iterator so, and this is why.
+  abbrev pub StopsAtSizeRest : I → I → UsageFault → Type 0
+  StopsAtSizeRest = StopsAddingRest sized_totals next
+
+  -- the same, wherever the iterator was left
   abbrev pub StopsAtSize : I → UsageFault → Type 0
   StopsAtSize = StopsAdding sized_totals next
 

@@ -5,7 +5,7 @@ ghost use Rattle.jwalk.specs.jwalk_model.Entry.{Item};
 ghost use Rattle.jwalk.specs.jwalk_job.Entry.{item};
 ghost use Rattle.jwalk.specs.DirEntryIter.{TellsMemory};
 ghost use Rattle.jwalk_usage.specs.Totals.{totals_by, with_answer};
-ghost use Rattle.jwalk_usage.specs.ByAnswers.{AddsRest, CannotAdd, StopsAdding};
+ghost use Rattle.jwalk_usage.specs.ByAnswers.{AddsRest, CannotAdd, StopsAddingRest};
 
 use crate::report::{Usage, UsageFault};
 use jwalk::error::Result as Answer;
@@ -38,7 +38,7 @@ pub(crate) fn usage_by<
     requires can { I.can_next answers.old }
     requires ends { IsFinite (I.remaining answers.old) }
     ensures totals { IfOk result (AddsRest (totals_by N.errors N.bytes) I.next_gives answers.old answers.new) }
-    ensures faults { IfErr result (StopsAdding (totals_by N.errors N.bytes) I.next_gives answers.old) }
+    ensures faults { IfErr result (StopsAddingRest (totals_by N.errors N.bytes) I.next_gives answers.old answers.new) }
 {
     let mut usage = Usage::nothing();
     while let Some(answer) = answers.next() {

@@ -3,7 +3,7 @@ ghost use Rattle.std.specs.Prelude.{◌≡◌, IfOk, IfErr, OnOk};
 ghost use Rattle.std.specs.Iterator.{IsFinite};
 ghost use Rattle.jwalk.specs.jwalk_job.Entry.{item};
 ghost use Rattle.jwalk.specs.DirEntryIter.{TellsMemory};
-ghost use Rattle.jwalk_usage.specs.ByAnswers.{AddsAll, AddsRest, CannotAdd, StopsAdding};
+ghost use Rattle.jwalk_usage.specs.ByAnswers.{AddsAll, AddsRest, CannotAdd, StopsAdding, StopsAddingRest};
 ghost use Rattle.jwalk_usage.specs.Kept.{bytes_kept, errors_kept, kept_totals, with_kept};
 
 use crate::by_answers::{Counted, usage_by};
@@ -70,7 +70,7 @@ pub fn usage_kept_of_rest<
     requires can { I.can_next answers.old }
     requires ends { IsFinite (I.remaining answers.old) }
     ensures totals { IfOk result (AddsRest kept_totals I.next_gives answers.old answers.new) }
-    ensures faults { IfErr result (StopsAdding kept_totals I.next_gives answers.old) }
+    ensures faults { IfErr result (StopsAddingRest kept_totals I.next_gives answers.old answers.new) }
 {
     usage_by(&ByMetadata, answers)
 }

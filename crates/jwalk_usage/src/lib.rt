@@ -9,7 +9,7 @@
 
 ghost use Rattle.std.specs.Prelude.{IfOk, IfErr};
 ghost use Rattle.std.specs.Iterator.{IsFinite};
-ghost use Rattle.jwalk_usage.specs.Counts.{CountsAll, CountsRest, StopsCounting};
+ghost use Rattle.jwalk_usage.specs.Counts.{CountsAll, CountsRest, StopsCounting, StopsCountingRest};
 
 mod by_answers;
 mod counting;
@@ -69,7 +69,8 @@ pub fn usage_of_rest<
     requires ends { IsFinite (I.remaining answers.old) }
     ensures totals { IfOk result (CountsRest I.next_gives (S.IsFixed fs.now) (S.functions fs.now)
         answers.old answers.new) }
-    ensures faults { IfErr result (StopsCounting I.next_gives (S.IsFixed fs.now) (S.functions fs.now) answers.old) }
+    ensures faults { IfErr result (StopsCountingRest I.next_gives (S.IsFixed fs.now) (S.functions fs.now)
+        answers.old answers.new) }
 {
     let mut usage = Usage::nothing();
     while let Some(answer) = answers.next() {

@@ -4,7 +4,7 @@ ghost use Rattle.std.specs.Iterator.{IsFinite};
 ghost use Rattle.jwalk.specs.jwalk_job.Entry.{item};
 ghost use Rattle.jwalk.specs.DirEntryIter.{TellsMemory};
 ghost use Rattle.jwalk_usage.specs.ByAnswers.{CannotAdd};
-ghost use Rattle.jwalk_usage.specs.Sized.{bytes_in, errors_in, with_sized, CountsSizes, CountsSizesRest, StopsAtSize, SizesAddUp};
+ghost use Rattle.jwalk_usage.specs.Sized.{bytes_in, errors_in, with_sized, CountsSizes, CountsSizesRest, StopsAtSize, StopsAtSizeRest, SizesAddUp};
 
 use crate::by_answers::{Counted, usage_by};
 use crate::counting::has_failed;
@@ -117,7 +117,7 @@ pub fn usage_sized_of_rest<
     requires can { I.can_next answers.old }
     requires ends { IsFinite (I.remaining answers.old) }
     ensures totals { IfOk result (CountsSizesRest I.next_gives answers.old answers.new) }
-    ensures faults { IfErr result (StopsAtSize I.next_gives answers.old) }
+    ensures faults { IfErr result (StopsAtSizeRest I.next_gives answers.old answers.new) }
 {
     usage_by(&BySizes, answers)
 }
