@@ -1,5 +1,6 @@
 pub mod FitsFacts
 pub mod PiecesFacts
+pub mod NamesFacts
 pub mod ClassFacts
 pub mod PartsFacts
 pub mod RulesFacts

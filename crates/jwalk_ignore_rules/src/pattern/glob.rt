@@ -1,8 +1,7 @@
 //! Patterns of one name.
 use crate::pattern::byte_test::ByteTest;
-use crate::pattern::glob_search::{take_behind_star, take_front};
+use crate::pattern::glob_search;
 use crate::pattern::part::Part;
-use crate::pattern::taken::Taken;
 use std::alloc::{Allocator, Global};
 
 /// A pattern of one name, as `*.o`.
@@ -26,10 +25,6 @@ impl<A: Allocator + Copy> Glob<A> {
     pub(crate) fn fits(&self, name: &[u8]) -> bool
         ensures { IsTrue result ↔ IsNamed (glob_value self.now) name.now }
     {
-        let mut taken = take_front(&self.parts, name);
-        while let Taken::ToStar(behind, left) = taken {
-            taken = take_behind_star(behind, left);
-        }
-        matches!(taken, Taken::Whole)
+        glob_search::fits(&self.parts, name)
     }
 }

@@ -221,12 +221,7 @@ impl<A: Allocator + Copy> Chain<A> {
     /// # Errors
     ///
     /// If memory runs out.
-    pub fn with_link(
-        &self,
-        alloc: A,
-        kind: RulesKind,
-        link: Link<A>,
-    ) -> Result<Self, AllocError>
+    pub fn with_link(&self, alloc: A, kind: RulesKind, link: Link<A>) -> Result<Self, AllocError>
         ensures { IfOk result (λ chain. chain_value chain
             ≡ with_link kind (link_value link) (chain_value self.now)) }
     {

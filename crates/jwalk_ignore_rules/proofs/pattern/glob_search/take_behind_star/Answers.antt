@@ -1,7 +1,13 @@
+use Rattle.std.proofs.Common.{rules, tests, length, ◌≡◌}
 use Rattle.jwalk_ignore_rules.specs.Pattern.ByteTest.{test_value}
 use Rattle.jwalk_ignore_rules.specs.Pattern.Glob.{parts_value, TakesByte}
-use Rattle.jwalk_ignore_rules.proofs.FitsFacts.{star_next, behind_decides}
+use Rattle.jwalk_ignore_rules.proofs.FitsFacts.{star_next, behind_decides, all_behind}
 use Rattle.jwalk_ignore_rules.proofs.pattern.glob_search.take_behind_star.Goals as goal
+
+pub returns-then-is_empty-clause-decides : goal.returns-then-is_empty-clause-decides
+returns-then-is_empty-clause-decides g c =
+    let none : length c.args.parts.now ≡ 0 = search (rules, tests) in
+    all_behind test_value TakesByte (λ name. name) c.args.parts.now c.args.name.now none
 
 pub returns-in_default-clause-decides : goal.returns-in_default-clause-decides
 returns-in_default-clause-decides g c =

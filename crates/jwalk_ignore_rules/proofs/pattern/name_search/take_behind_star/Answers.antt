@@ -1,8 +1,14 @@
+use Rattle.std.proofs.Common.{rules, tests, length, ◌≡◌}
 use Rattle.jwalk_ignore_rules.specs.Pattern.Glob.{glob_value, IsNamed}
 use Rattle.jwalk_ignore_rules.specs.Pattern.Names.{names_of}
 use Rattle.jwalk_ignore_rules.specs.Pattern.NamePattern.{globs_value}
-use Rattle.jwalk_ignore_rules.proofs.FitsFacts.{star_next, behind_decides}
+use Rattle.jwalk_ignore_rules.proofs.FitsFacts.{star_next, behind_decides, all_behind}
 use Rattle.jwalk_ignore_rules.proofs.pattern.name_search.take_behind_star.Goals as goal
+
+pub returns-then-is_empty-clause-decides : goal.returns-then-is_empty-clause-decides
+returns-then-is_empty-clause-decides g c =
+    let none : length c.args.parts.now ≡ 0 = search (rules, tests) in
+    all_behind glob_value IsNamed names_of c.args.parts.now (names_of c.args.path.now) none
 
 pub returns-in_default-clause-decides : goal.returns-in_default-clause-decides
 returns-in_default-clause-decides g c =

@@ -1,7 +1,7 @@
 use Rattle.jwalk_ignore_rules.specs.Pattern.NamePattern.{globs_value, IsReached, PathDecides}
 use Rattle.jwalk_ignore_rules.specs.Pattern.Names.{names_of}
 use Rattle.jwalk_ignore_rules.specs.Pattern.Taken.{left_over}
-use Rattle.jwalk_ignore_rules.proofs.pattern.name_search.fits.Given as goal
+use Rattle.jwalk_ignore_rules.proofs.pattern.name_search.fits_front.Given as goal
 
 -- what was taken decides whether the path fits
 abbrev pub invariant-loop-taken : goal.invariant-loop-taken
