@@ -14,7 +14,7 @@ use Rattle.jwalk_ignore.specs.Rules.Texts.{Texts}
 use Rattle.jwalk_ignore.specs.declared.rules.chain.Chain.{Chain}
 use Rattle.jwalk_ignore.specs.declared.callback.settings.Settings.{Settings}
 use Rattle.jwalk_ignore.proofs.MadeFacts.{rules_by}
-use Rattle.jwalk_ignore.proofs.WorthFacts.{chain_back}
+use Rattle.jwalk_ignore_rules.proofs.WorthFacts.{chain_back}
 
 module _ {A B E : Type 0} (given : Given (Chain A × B) E) (own : B → Worth) (counts : CountsRules given own) where
   -- the rules that a state counts as

@@ -1,14 +1,7 @@
-pub mod FitsFacts
-pub mod PiecesFacts
-pub mod ClassFacts
-pub mod PartsFacts
-pub mod RulesFacts
-pub mod LineFacts
-pub mod MatchingFacts
-pub mod WorthFacts
 pub mod ListFacts
 pub mod MadeFacts
 pub mod IgnoreFacts
-pub mod ChainFacts
 pub mod FolderFacts
 pub mod ReaderFacts
+-- what callers cite of what rules say
+pub use Rattle.jwalk_ignore_rules.proofs.MatchingFacts as MatchingFacts

@@ -1,14 +1,17 @@
 -- What the reader of rules makes of a list.
-use Rattle.std.proofs.Common.{◌≡◌, ◌∙◌, ℕ, Bool, List, [], ◌∷◌, ◌++◌, map, length, reverse, ap, refl, sym}
-use Rattle.std.specs.Prelude.{fold}
+use Rattle.std.proofs.Common.{◌≡◌, ◌∙◌, ℕ, Bool, true, false, List, [], ◌∷◌, ◌++◌, map, length, reverse, Ok, Err, ap, refl, sym}
+use Rattle.std.specs.Prelude.{fold, not}
 use Rattle.std.specs.List.{filter, list_any}
 use Rattle.std.proofs.lemmas.List.{map-append, reverse-append}
 use Rattle.jwalk.specs.jwalk_model.Entry.{AtDepth, Item}
-use Rattle.jwalk_ignore.specs.Rules.Chain.{Chain, entered, place_in}
+use Rattle.jwalk.specs.jwalk_model.FileType.{is_dir}
+use Rattle.jwalk_ignore.specs.Rules.Chain.{Chain, entered, has_rules, place_in}
 use Rattle.jwalk_ignore.specs.Callback.IgnoreFiles.{Made, counts, in_directory, is_git, is_kept, is_shown, own_rules, with_listed}
 use Rattle.jwalk_ignore.specs.Callback.MadeDepths.{filter_at}
 use Rattle.jwalk_ignore.specs.Rules.Texts.{Texts}
 use Rattle.jwalk_ignore.specs.declared.callback.settings.Settings.{Settings}
+use Rattle.jwalk_ignore.proofs.ListFacts.{filter_none}
+use Rattle.jwalk_ignore_rules.proofs.ChainFacts.{none_ignored}
 
 -- what is shown of a list, the last first
 pub map_reverse : {X Y : Type 0} (view : X → Y) (xs : List X) → map view (reverse xs) ≡ reverse (map view xs)
@@ -43,3 +46,11 @@ module _ {R E : Type 0} where
   -- what is left once what is hidden or ignored is dropped is at the depth of the list
   pub left_at : (depth : ℕ) (shows keeps : Item R E → Bool) (own shown kept : List (Item R E)) → shown ≡ filter shows own → kept ≡ filter keeps shown → AtDepth depth own → AtDepth depth kept
   left_at depth shows keeps own shown kept shown_is kept_is at = rw (kept_is, shown_is) (filter_at depth keeps (filter shows own) (filter_at depth shows own at))
+
+one_kept : {R E : Type 0} (chain : Chain) (place : List ℕ) → has_rules chain ≡ false → (x : Item R E) → is_kept chain place x ≡ true
+one_kept chain place none (Ok e) = ap not (none_ignored chain (place ++ 47 ∷ e.file_name) (is_dir e.file_type) none)
+one_kept chain place none (Err f) = refl
+
+-- where there are no rules all is kept
+pub all_kept : {R E : Type 0} (chain : Chain) (place : List ℕ) (list : List (Item R E)) → has_rules chain ≡ false → filter (is_kept chain place) list ≡ list
+all_kept chain place list none = filter_none (is_kept chain place) (one_kept chain place none) list

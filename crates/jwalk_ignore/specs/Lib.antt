@@ -1,3 +1,4 @@
 pub mod Callback
-pub mod Pattern
-pub mod Rules
+-- what rules are and say
+pub use Rattle.jwalk_ignore_rules.specs.Pattern as Pattern
+pub use Rattle.jwalk_ignore_rules.specs.Rules as Rules

@@ -2,8 +2,6 @@
 #![tactic(auto)]
 
 mod callback;
-pub mod pattern;
-pub mod rules;
 
 pub use callback::{builder, ignore_files};
-pub use rules::{chain, decision, memory_texts, real_texts, texts};
+pub use jwalk_ignore_rules::{chain, decision, memory_texts, pattern, real_texts, rules, texts};

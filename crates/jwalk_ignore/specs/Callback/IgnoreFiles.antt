@@ -8,7 +8,7 @@ use Rattle.jwalk.specs.jwalk_model.FileType.{is_dir, is_file}
 use Rattle.jwalk.specs.jwalk_model.Paths.{join, parent}
 use Rattle.jwalk.specs.jwalk_model.Error.{io}
 use Rattle.jwalk.specs.jwalk_model.Entry.{Item, is_hidden}
-use Rattle.jwalk_ignore.specs.Rules.Chain.{Chain, below_root, entered, ignored, place_in, with_link}
+use Rattle.jwalk_ignore.specs.Rules.Chain.{Chain, below_root, entered, ignored, may_miss, place_in, with_link}
 use Rattle.jwalk_ignore.specs.Rules.Line.{patterns_of}
 use Rattle.jwalk_ignore.specs.Pattern.{Pattern}
 use Rattle.jwalk_ignore.specs.Rules.Texts.{Texts}
@@ -99,12 +99,6 @@ module _ {R E : Type 0} where
   -- with one item more
   abbrev pub with_item : Item R E → Made R E → Made R E
   with_item x made = record { chain = made.chain; list = made.list ++ x ∷ [] }
-
--- whether the file of rules of a kind may be missing that a directory's own list leads to: only `info/exclude` isn't listed
-abbrev pub may_miss : RulesKind → Bool
-may_miss rules.Ignore = false
-may_miss rules.Gitignore = false
-may_miss rules.Exclude = true
 
 -- the rules of a kind that a directory's own list leads to, for an entry at this depth
 abbrev pub source_in : List ℕ → ℕ → RulesKind → ℕ → Source

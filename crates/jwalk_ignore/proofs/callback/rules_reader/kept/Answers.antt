@@ -7,8 +7,8 @@ use Rattle.jwalk.specs.jwalk_job.Entry.{item}
 use Rattle.jwalk_ignore.specs.Rules.Chain.{place_in}
 use Rattle.jwalk_ignore.specs.Rules.ChainViews.{chain_value}
 use Rattle.jwalk_ignore.specs.Callback.IgnoreFiles.{is_kept}
-use Rattle.jwalk_ignore.proofs.ChainFacts.{all_kept}
 use Rattle.jwalk_ignore.proofs.ListFacts.{filter_more}
+use Rattle.jwalk_ignore.proofs.ReaderFacts.{all_kept}
 use Rattle.jwalk_ignore.proofs.callback.rules_reader.kept.Goals as goal
 
 pub returns-then-not-has_rules : goal.returns-then-not-has_rules

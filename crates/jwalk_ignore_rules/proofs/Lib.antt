@@ -1,0 +1,10 @@
+pub mod FitsFacts
+pub mod PiecesFacts
+pub mod NamesFacts
+pub mod ClassFacts
+pub mod PartsFacts
+pub mod RulesFacts
+pub mod LineFacts
+pub mod MatchingFacts
+pub mod WorthFacts
+pub mod ChainFacts

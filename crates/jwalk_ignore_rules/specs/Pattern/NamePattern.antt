@@ -1,0 +1,26 @@
+-- Patterns of the names of a path.
+use Rattle.std.specs.Prelude.{ℕ, List, map}
+use Rattle.jwalk_ignore_rules.specs.Pattern.ByteTest.{ByteTest}
+use Rattle.jwalk_ignore_rules.specs.Pattern.Glob.{glob_value, IsNamed}
+use Rattle.jwalk_ignore_rules.specs.Pattern.Names.{names_of}
+use Rattle.jwalk_ignore_rules.specs.Pattern.Fits.{Fits, part_map}
+use Rattle.jwalk_ignore_rules.specs.Pattern.Taken.{Decides, LeavesLater}
+use Rattle.jwalk_ignore_rules.specs.declared.pattern.glob.Glob.{Glob}
+use Rattle.jwalk_ignore_rules.specs.declared.pattern.part.Part.{Part}
+use Rattle.jwalk_ignore_rules.specs.declared.pattern.taken.Taken.{Taken}
+
+-- parts by value
+abbrev pub globs_value : {A : Type 0} → List (Part (Glob A)) → List (Part (List (Part ByteTest)))
+globs_value parts = map (part_map glob_value) parts
+
+-- names fit a pattern: `**` skips any number of names, and any other part takes one name
+abbrev pub IsReached : List (Part (List (Part ByteTest))) → List (List ℕ) → Type 0
+IsReached parts names = Fits IsNamed parts names
+
+-- what was taken of a path decides whether all fits, or what is left does
+abbrev pub PathDecides : {A : Type 0} → Taken (Glob A) → Type 0 → Type 0
+PathDecides taken all = Decides glob_value IsNamed names_of taken all
+
+-- what is left later fits what is left later
+abbrev pub PathLeavesLater : {A : Type 0} → Taken (Glob A) → List (Part (List (Part ByteTest))) → List (List ℕ) → Type 0
+PathLeavesLater taken parts names = LeavesLater glob_value IsNamed names_of taken parts names

@@ -1,0 +1,142 @@
+//! The pattern of one line.
+ghost use Rattle.std.specs.Prelude.{◌≡◌, ◌↔◌, [], IfOk, IsTrue};
+ghost use Rattle.std.specs.List.{list_any};
+ghost use Rattle.std.specs.Option.{option_map};
+ghost use Rattle.jwalk_ignore_rules.specs.Pattern.NamePattern.{globs_value};
+ghost use Rattle.jwalk_ignore_rules.specs.Pattern.Names.{is_slash};
+ghost use Rattle.jwalk_ignore_rules.specs.Pattern.PatternText.{without_first_slash, without_last_slash, ends_with_slash, first_parts};
+
+mod byte_class;
+mod byte_test;
+mod class;
+mod class_item;
+mod glob;
+mod glob_search;
+mod item_read;
+mod name_search;
+mod names;
+mod names_read;
+mod part;
+pub(crate) mod pieces;
+mod taken;
+mod token;
+
+use crate::pattern::glob::Glob;
+use crate::pattern::names_read::NamesRead;
+use crate::pattern::part::Part;
+use crate::rules::decision::Decision;
+use std::alloc::{AllocError, Allocator, Global};
+
+/// The pattern of one line of an ignore file.
+#[derive(Drop)]
+pub struct Pattern<A: Allocator + Copy = Global> {
+    keeps: bool,
+    only_dirs: bool,
+    parts: Vec<Part<Glob<A>>, A>,
+}
+
+/// Returns a text without the slash that it begins with.
+pub fn without_first_slash(text: &[u8]) -> &[u8]
+    ensures { result.now ≡ without_first_slash text.now }
+{
+    match text {
+        [b'/', behind @ ..] => behind,
+        _ => text,
+    }
+}
+
+/// Returns whether a text ends with a slash.
+fn ends_with_slash(text: &[u8]) -> bool
+    ensures { result ≡ ends_with_slash text.now }
+{
+    !text.is_empty() && text[text.len() - 1] == b'/'
+}
+
+/// Returns a text without the slash that it ends with.
+fn without_last_slash(text: &[u8]) -> &[u8]
+    ensures { result.now ≡ without_last_slash text.now }
+{
+    if !text.is_empty() && text[text.len() - 1] == b'/' {
+        &text[..text.len() - 1]
+    } else {
+        text
+    }
+}
+
+/// Returns whether a text has a slash.
+fn has_slash(text: &[u8]) -> bool
+    ensures { result ≡ list_any is_slash text.now }
+{
+    text.iter().any(|byte| *byte == b'/')
+}
+
+/// Returns the parts in front of those of a text: `**` if it has no slash.
+fn first_parts<A: Allocator + Copy>(
+    alloc: A,
+    text: &[u8],
+) -> Result<Vec<Part<Glob<A>>, A>, AllocError>
+    ensures { IfOk result (λ parts. globs_value parts.items ≡ first_parts text.now) }
+{
+    let mut parts = Vec::new(alloc);
+    if !has_slash(text) {
+        parts.push(Part::Many)?;
+    }
+    Ok(parts)
+}
+
+impl<A: Allocator + Copy> Pattern<A> {
+    ghost use Rattle.jwalk_ignore_rules.specs.Pattern.{Matches, decision_of, pattern_in, pattern_of_text, pattern_value};
+
+    /// Reads the pattern of a text. None if it is malformed.
+    fn of_text(alloc: A, keeps: bool, text: &[u8]) -> Result<Option<Self>, AllocError>
+        ensures { IfOk result (λ r. option_map pattern_value r ≡ pattern_of_text keeps text.now) }
+    {
+        let inner = without_last_slash(text);
+        let first = first_parts(alloc, inner)?;
+        match NamesRead::read(alloc, first, without_first_slash(inner))? {
+            Some(parts) => Ok(Some(Pattern {
+                keeps,
+                only_dirs: ends_with_slash(text),
+                parts,
+            })),
+            None => Ok(None),
+        }
+    }
+
+    /// Reads the pattern of a line's text. None for an empty text, a comment and a malformed pattern, which match
+    /// nothing.
+    ///
+    /// # Errors
+    ///
+    /// If memory runs out.
+    pub fn read(alloc: A, text: &[u8]) -> Result<Option<Self>, AllocError>
+        ensures { IfOk result (λ r. option_map pattern_value r ≡ pattern_in text.now) }
+    {
+        match text {
+            [] | [b'#', ..] => Ok(None),
+            [b'!', behind @ ..] => Pattern::of_text(alloc, true, behind),
+            _ => Pattern::of_text(alloc, false, text),
+        }
+    }
+
+    /// Returns what the pattern says of a path that it matches.
+    pub fn decision(&self) -> Decision
+        ensures { result ≡ decision_of (pattern_value self.now).keeps }
+    {
+        if self.keeps {
+            Decision::Kept
+        } else {
+            Decision::Ignored
+        }
+    }
+
+    /// Returns whether the pattern matches a path. `is_dir` says whether that is of a directory.
+    pub fn matches(&self, path: &[u8], is_dir: bool) -> bool
+        ensures { IsTrue result ↔ Matches (pattern_value self.now) path.now is_dir }
+    {
+        if self.only_dirs && !is_dir {
+            return false;
+        }
+        name_search::fits(&self.parts, path)
+    }
+}

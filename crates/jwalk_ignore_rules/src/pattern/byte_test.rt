@@ -1,0 +1,31 @@
+//! What one byte of a name is compared with.
+ghost use Rattle.std.specs.Prelude.{◌≡◌};
+
+use crate::pattern::class::Class;
+use std::alloc::{Allocator, Global};
+
+/// Which bytes fit at one place of a name.
+#[derive(Drop)]
+pub(crate) enum ByteTest<A: Allocator + Copy = Global> {
+    /// This byte alone.
+    Byte(u8),
+    /// Any byte: `?`.
+    Any,
+    /// A byte of a class: `[..]`.
+    OneOf(Class<A>),
+}
+
+impl<A: Allocator + Copy> ByteTest<A> {
+    ghost use Rattle.jwalk_ignore_rules.specs.Pattern.ByteTest.{test_value, fits};
+
+    /// Returns whether a byte fits.
+    pub(crate) fn fits(&self, byte: u8) -> bool
+        ensures { result ≡ fits (test_value self.now) byte }
+    {
+        match self {
+            ByteTest::Byte(own) => *own == byte,
+            ByteTest::Any => true,
+            ByteTest::OneOf(class) => class.has(byte),
+        }
+    }
+}

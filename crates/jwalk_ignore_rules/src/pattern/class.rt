@@ -1,0 +1,83 @@
+//! Classes of bytes in brackets.
+ghost use Rattle.std.specs.Prelude.{◌≡◌, ◌<◌, [], length, IfOk, IfSome};
+ghost use Rattle.std.specs.Option.{option_map};
+ghost use Rattle.jwalk_ignore_rules.specs.Pattern.Class.{closes, items_in};
+ghost use Rattle.jwalk_ignore_rules.specs.Pattern.ClassItem.{lists};
+
+use crate::pattern::class_item::ClassItem;
+use crate::pattern::item_read::item_in;
+use std::alloc::{AllocError, Allocator, Global};
+
+/// Returns whether a byte is among the items of a class.
+fn is_listed(items: &[ClassItem], byte: u8) -> bool
+    ensures { result ≡ lists items.now byte }
+{
+    items.iter().any(|item| item.has(byte))
+}
+
+/// Returns whether a byte behind this many items closes a class.
+fn closes(byte: u8, count: usize) -> bool
+    ensures { result ≡ closes byte count }
+{
+    byte == b']' && count != 0
+}
+
+/// Reads the items of a class up to its closing bracket, and returns what is behind it. None if they are malformed or
+/// there is no such bracket. A bracket that is the first item closes nothing.
+fn read_items<A: Allocator + Copy>(
+    alloc: A,
+    text: &[u8],
+) -> Result<Option<(Vec<ClassItem, A>, &[u8])>, AllocError>
+    ensures read { IfOk result (λ r. option_map (λ x. (x.0.items, x.1.now)) r ≡ items_in [] None 0 text.now) }
+    ensures shorter { IfOk result (λ r. IfSome r (λ x. length x.1.now < length text.now)) }
+{
+    let mut items = Vec::new(alloc);
+    let mut last = None;
+    let mut rest = text;
+    'items: while let Some((byte, behind)) = rest.split_first() {
+        if closes(*byte, items.len()) {
+            return Ok(Some((items, behind)));
+        }
+        let Some(read) = item_in(last, rest) else {
+            return Ok(None);
+        };
+        items.push(read.item)?;
+        last = read.last;
+        (_, rest) = rest.split_at(read.len);
+    }
+    Ok(None)
+}
+
+/// A class of bytes, as `[a-z]`, or `[!a-z]` and `[^a-z]` for all other bytes.
+#[derive(Drop)]
+pub(crate) struct Class<A: Allocator + Copy = Global> {
+    negated: bool,
+    items: Vec<ClassItem, A>,
+}
+
+impl<A: Allocator + Copy> Class<A> {
+    ghost use Rattle.jwalk_ignore_rules.specs.Pattern.Class.{class_in, class_value, has};
+
+    /// Reads a class behind its opening bracket, and returns what is behind its closing bracket. None if it is
+    /// malformed.
+    pub(crate) fn read(alloc: A, text: &[u8]) -> Result<Option<(Self, &[u8])>, AllocError>
+        ensures read { IfOk result (λ r. option_map (λ x. (class_value x.0, x.1.now)) r ≡ class_in text.now) }
+        ensures shorter { IfOk result (λ r. IfSome r (λ x. length x.1.now < length text.now)) }
+    {
+        let (negated, listed) = match text {
+            [b'!' | b'^', behind @ ..] => (true, behind),
+            _ => (false, text),
+        };
+        match read_items(alloc, listed)? {
+            Some((items, behind)) => Ok(Some((Class { negated, items }, behind))),
+            None => Ok(None),
+        }
+    }
+
+    /// Returns whether the class has a byte.
+    pub(crate) fn has(&self, byte: u8) -> bool
+        ensures { result ≡ has (class_value self.now) byte }
+    {
+        is_listed(&self.items, byte) != self.negated
+    }
+}

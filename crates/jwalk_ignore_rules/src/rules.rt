@@ -1,0 +1,85 @@
+//! The rules of one ignore file.
+ghost use Rattle.std.specs.Prelude.{◌≡◌, ◌++◌, IfOk, OnOk, map, option_to_list};
+ghost use Rattle.std.specs.Option.{option_map};
+ghost use Rattle.jwalk_ignore_rules.specs.Pattern.{pattern_value};
+
+pub mod chain;
+pub mod decision;
+mod line;
+pub mod link;
+pub mod memory_texts;
+pub mod real_texts;
+pub mod rules_kind;
+pub mod texts;
+
+use crate::pattern::Pattern;
+use crate::pattern::pieces::split_piece;
+use crate::rules::decision::Decision;
+use crate::rules::line::{text_of, without_mark};
+use std::alloc::{AllocError, Allocator, Global};
+
+/// The rules of one ignore file in git's format.
+///
+/// `docs/IGNORE.md` has the format. What the file doesn't say in that format matches nothing, so each file has rules.
+#[derive(Drop)]
+pub struct Rules<A: Allocator + Copy = Global> {
+    patterns: Vec<Pattern<A>, A>,
+}
+
+/// Puts a pattern behind others, if there is one.
+fn push_some<A: Allocator + Copy>(
+    patterns: &mut Vec<Pattern<A>, A>,
+    pattern: Option<Pattern<A>>,
+) -> Result<(), AllocError>
+    ensures { OnOk result (map pattern_value patterns.new.items
+        ≡ map pattern_value patterns.old.items ++ option_to_list (option_map pattern_value pattern)) }
+{
+    match pattern {
+        Some(pattern) => Ok(patterns.push(pattern)?),
+        None => Ok(()),
+    }
+}
+
+impl<A: Allocator + Copy> Rules<A> {
+    ghost use Rattle.jwalk_ignore_rules.specs.Rules.Line.{patterns_of};
+    ghost use Rattle.jwalk_ignore_rules.specs.Rules.{Says, rules_value};
+
+    /// Reads the bytes of an ignore file.
+    ///
+    /// # Errors
+    ///
+    /// If memory runs out.
+    pub fn parse(alloc: A, bytes: &[u8]) -> Result<Self, AllocError>
+        ensures { IfOk result (λ rules. rules_value rules ≡ patterns_of bytes.now) }
+    {
+        let mut patterns = Vec::new(alloc);
+        let mut rest = without_mark(bytes);
+        'lines: while !rest.is_empty() {
+            let (line, behind) = split_piece(rest, b'\n');
+            let pattern = Pattern::read(alloc, text_of(line))?;
+            push_some(&mut patterns, pattern)?;
+            rest = behind;
+        }
+        Ok(Rules { patterns })
+    }
+
+    /// Returns what the rules say of a path: the last pattern that matches decides.
+    ///
+    /// `path` is relative to the folder of the ignore file, with slashes between its names, and `is_dir` says whether
+    /// it is a directory. The path alone counts. That nothing below an ignored directory is found is up to the caller:
+    /// the pattern `foo/` ignores the directory `foo`, and says nothing of `foo/bar`.
+    ///
+    /// It takes no memory, and at most as many steps as the lengths of patterns and path multiplied, times a constant.
+    pub fn decision(&self, path: &[u8], is_dir: bool) -> Decision
+        ensures { Says (rules_value self.now) path.now is_dir result }
+    {
+        let mut rest = self.patterns.as_slice();
+        'patterns: while let Some((pattern, before)) = rest.split_last() {
+            if pattern.matches(path, is_dir) {
+                return pattern.decision();
+            }
+            rest = before;
+        }
+        Decision::Unsaid
+    }
+}

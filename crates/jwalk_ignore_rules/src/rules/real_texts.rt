@@ -1,0 +1,80 @@
+//! The files that a runtime reaches, as texts.
+use crate::rules::texts::Texts;
+use jwalk_fs::fault::Fault;
+use std::alloc::{AllocError, Allocator};
+use std::fs;
+use std::io::{self, ErrorKind, Read};
+use std::rt::{Files, HostRuntime};
+
+/// The files that a runtime reaches: the disk, if the runtime is the host's. It is made with the runtime that `main` is
+/// given, or with a `&` of it.
+///
+/// It returns what is there at the time of the call, and nothing is promised of that.
+#[derive(Drop)]
+pub struct RealTexts<R: Files + Drop = HostRuntime> {
+    rt: R,
+}
+
+impl<R: Files + Drop> RealTexts<R> {
+    ghost use Rattle.std.specs.Prelude.{◌≡◌};
+    ghost use Rattle.jwalk_ignore_rules.specs.Rules.RealTexts.{runtime_of};
+
+    /// Returns the files that this runtime reaches. It makes no call yet.
+    pub fn new(rt: R) -> Self
+        ensures { runtime_of result ≡ rt }
+    {
+        RealTexts { rt }
+    }
+}
+
+/// Returns an error of the system as a fault.
+fn fault(error: io::Error) -> Fault {
+    if error.kind() == ErrorKind::OutOfMemory {
+        Fault::Memory
+    } else {
+        Fault::Io(error)
+    }
+}
+
+/// Returns the bytes of a file.
+fn read_file<R: Files, A: Allocator + Copy>(
+    rt: &R,
+    alloc: A,
+    path: &str,
+) -> io::Result<Vec<u8, A>> {
+    let mut file = fs::open(rt, path)?;
+    let mut bytes = Vec::new(alloc);
+    file.read_to_end(&mut bytes)?;
+    Ok(bytes)
+}
+
+impl<R: Files + Drop> Texts for RealTexts<R> {
+    ghost use Rattle.jwalk_ignore_rules.specs.Rules.Texts.{no_texts};
+
+    ghost IsFixed = { λ _. ⊥ };
+
+    ghost functions = { λ _. no_texts };
+
+    fn read<A: Allocator + Copy>(&self, alloc: A, path: &str) -> Result<Vec<u8, A>, Fault> {
+        match read_file(&self.rt, alloc, path) {
+            Ok(bytes) => Ok(bytes),
+            Err(error) => Err(fault(error)),
+        }
+    }
+
+    fn exists(&self, path: &str) -> Result<bool, AllocError> {
+        match self.rt.symlink_metadata(path) {
+            Ok(_) => Ok(true),
+            Err(error) if error.kind() == ErrorKind::OutOfMemory => Err(AllocError),
+            Err(_) => Ok(false),
+        }
+    }
+
+    fn absolute<A: Allocator + Copy>(&self, alloc: A, path: &str) -> Result<String<A>, Fault> {
+        let path = if path.is_empty() { "." } else { path };
+        match self.rt.canonicalize(alloc, path) {
+            Ok(path) => Ok(path.into_string()),
+            Err(error) => Err(fault(error)),
+        }
+    }
+}
