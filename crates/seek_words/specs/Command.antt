@@ -1,9 +1,10 @@
 -- The command line.
-use Rattle.std.specs.Prelude.{◌≡◌, ℕ, true, List, [], ◌∷◌, map, codes, Some}
+use Rattle.std.specs.Prelude.{◌≡◌, ℕ, true, false, All, List, [], ◌∷◌, map, codes, Some}
 use Rattle.std.specs.Borrow.{Bor}
 use Rattle.clap.specs.Lexer.{usize_max}
 use Rattle.clap.specs.Simple.{new_shape, with_rule}
-use Rattle.clap.specs.Words.{App, Rule, Text, new_app, new_rule}
+use Rattle.clap.specs.Words.{App, Rule, Text, new_app, new_rule, rule_of}
+use Rattle.clap.specs.declared.builder.arg.Arg.{Arg}
 use Rattle.clap.specs.declared.builder.action.ArgAction.TheVariants.{Set, Append, Count}
 use Rattle.clap.specs.declared.builder.value_parser.ValueParser.TheVariants.{Unsigned, Names}
 
@@ -67,6 +68,17 @@ filter_rules kinds =
 abbrev pub kind_names : List Text
 kind_names =
     codes "f" ∷ codes "file" ∷ codes "d" ∷ codes "dir" ∷ codes "directory" ∷ codes "l" ∷ codes "symlink" ∷ codes "o" ∷ codes "other" ∷ []
+
+-- The arguments have these rules, and none is global.
+pub record HaveRules (args : List Arg) (rules : List Rule) : Type 0 where
+  pub local : All (λ arg. arg.global ≡ false) args
+  pub ruled : map rule_of args ≡ rules
+
+-- The arguments are those that say which entries are looked for.
+pub record AreFilters (args : List Arg) : Type 0 where
+  pub kinds : Bor (List (Bor Text))
+  pub names : map (λ it. it.now) kinds.now ≡ kind_names
+  pub rules : HaveRules args (filter_rules kinds)
 
 -- The arguments that say which entries are looked for are added.
 pub record AddsFilters (old new : App) : Type 0 where

@@ -1,7 +1,7 @@
 //! The command line.
 ghost use Rattle.std.specs.Prelude.{◌≡◌, ◌∷◌, [], false, map, IfOk};
 ghost use Rattle.clap.specs.Words.{app_of, rule_of};
-ghost use Rattle.seek_words.specs.Command.{flag_rule, valued_rule, listed_rule, depth_rule, sort_rule, threads_rule, kind_rule, kind_names, pattern_rule, root_rule, named_app, with_rules, pattern_rules, walk_rules, AddsFilters, IsSeek};
+ghost use Rattle.seek_words.specs.Command.{flag_rule, valued_rule, listed_rule, depth_rule, sort_rule, threads_rule, kind_rule, kind_names, pattern_rule, root_rule, named_app, with_rules, pattern_rules, walk_rules, HaveRules, AreFilters, IsSeek};
 
 use clap::{Arg, ArgAction, Command};
 use std::alloc::{AllocError, Global};
@@ -61,35 +61,36 @@ fn depth<'a>(alloc: Global, id: &'a str, help: &'a str) -> Arg<'a>
     valued(alloc, id, "N", help).value_parser(clap::value_parser!(usize))
 }
 
-/// Adds what says how a name is compared.
-fn with_patterns<'a>(alloc: Global, command: Command<'a>) -> Result<Command<'a>, AllocError>
-    ensures { IfOk result (λ all. app_of all ≡ with_rules (app_of command.entry) pattern_rules) }
+/// Returns the options that say how a name is compared.
+fn pattern_options<'a>(alloc: Global) -> Result<Vec<Arg<'a>>, AllocError>
+    ensures { IfOk result (λ options. HaveRules options.items pattern_rules) }
 {
-    let glob = flag(
-        alloc,
-        "glob",
-        'g',
-        "The pattern is a glob, which takes the whole name",
-    );
-    let full_path = flag(
-        alloc,
-        "full-path",
-        'p',
-        "The pattern is compared with the absolute path",
-    );
-    let ignored = flag(
-        alloc,
-        "ignore-case",
-        'i',
-        "The case of letters doesn't count",
-    );
-    let kept = flag(
-        alloc,
-        "case-sensitive",
-        's',
-        "The case of letters counts [default: if the pattern has an upper-case letter]",
-    );
-    command.arg(glob)?.arg(full_path)?.arg(ignored)?.arg(kept)
+    Ok(vec![in alloc;
+        flag(
+            alloc,
+            "glob",
+            'g',
+            "The pattern is a glob, which takes the whole name",
+        ),
+        flag(
+            alloc,
+            "full-path",
+            'p',
+            "The pattern is compared with the absolute path",
+        ),
+        flag(
+            alloc,
+            "ignore-case",
+            'i',
+            "The case of letters doesn't count",
+        ),
+        flag(
+            alloc,
+            "case-sensitive",
+            's',
+            "The case of letters counts [default: if the pattern has an upper-case letter]",
+        ),
+    ]?)
 }
 
 /// Returns the option that sorts.
@@ -118,25 +119,24 @@ fn threads_option<'a>(alloc: Global) -> Arg<'a>
     .value_parser(clap::value_parser!(usize).range(1..))
 }
 
-/// Adds what says which entries are walked.
-fn with_walk<'a>(alloc: Global, command: Command<'a>) -> Result<Command<'a>, AllocError>
-    ensures { IfOk result (λ all. app_of all ≡ with_rules (app_of command.entry) walk_rules) }
+/// Returns the options that say which entries are walked.
+fn walk_options<'a>(alloc: Global) -> Result<Vec<Arg<'a>>, AllocError>
+    ensures { IfOk result (λ options. HaveRules options.items walk_rules) }
 {
-    let hidden = flag(alloc, "hidden", 'H', "Hidden names come too");
-    let no_ignore = flag(alloc, "no-ignore", 'I', "Read no ignore files");
-    let exclude = listed(
-        alloc,
-        "exclude",
-        'E',
-        "LINE",
-        "Leave out what this line of an ignore file names",
-    );
-    let follow = flag(alloc, "follow", 'L', "Follow links");
-    let first = command.arg(hidden)?.arg(no_ignore)?.arg(exclude)?;
-    first
-        .arg(follow)?
-        .arg(sort_option(alloc))?
-        .arg(threads_option(alloc))
+    Ok(vec![in alloc;
+        flag(alloc, "hidden", 'H', "Hidden names come too"),
+        flag(alloc, "no-ignore", 'I', "Read no ignore files"),
+        listed(
+            alloc,
+            "exclude",
+            'E',
+            "LINE",
+            "Leave out what this line of an ignore file names",
+        ),
+        flag(alloc, "follow", 'L', "Follow links"),
+        sort_option(alloc),
+        threads_option(alloc),
+    ]?)
 }
 
 /// Returns the option with the types.
@@ -155,22 +155,23 @@ fn kind_option<'a>(alloc: Global) -> Arg<'a>
     .hide_possible_values(true)
 }
 
-/// Adds what says which of them are looked for.
-fn with_filters<'a>(alloc: Global, command: Command<'a>) -> Result<Command<'a>, AllocError>
-    ensures { IfOk result (λ all. AddsFilters (app_of command.entry) (app_of all)) }
+/// Returns the options that say which of them are looked for.
+fn filter_options<'a>(alloc: Global) -> Result<Vec<Arg<'a>>, AllocError>
+    ensures { IfOk result (λ options. AreFilters options.items) }
 {
-    let least = depth(alloc, "min-depth", "The least depth");
-    let greatest = depth(alloc, "max-depth", "The greatest depth").short('d');
-    let exact = depth(alloc, "exact-depth", "The depth, where a root has depth 0");
-    let extension = listed(alloc, "extension", 'e', "EXT", "The name's extension");
-    let print0 = flag(
-        alloc,
-        "print0",
-        '0',
-        "A zero byte behind each path, in place of a line feed",
-    );
-    let first = command.arg(least)?.arg(greatest)?.arg(exact)?;
-    first.arg(kind_option(alloc))?.arg(extension)?.arg(print0)
+    Ok(vec![in alloc;
+        depth(alloc, "min-depth", "The least depth"),
+        depth(alloc, "max-depth", "The greatest depth").short('d'),
+        depth(alloc, "exact-depth", "The depth, where a root has depth 0"),
+        kind_option(alloc),
+        listed(alloc, "extension", 'e', "EXT", "The name's extension"),
+        flag(
+            alloc,
+            "print0",
+            '0',
+            "A zero byte behind each path, in place of a line feed",
+        ),
+    ]?)
 }
 
 /// Returns the words behind the pattern.
@@ -203,7 +204,8 @@ fn named<'a>(alloc: Global) -> Result<Command<'a>, AllocError>
 pub(crate) fn command<'a>(alloc: Global) -> Result<Command<'a>, AllocError>
     ensures { IfOk result (λ all. IsSeek (app_of all)) }
 {
-    let named = named(alloc)?;
-    let walked = with_walk(alloc, with_patterns(alloc, named)?)?;
-    with_filters(alloc, walked)
+    let compared = pattern_options(alloc)?;
+    let walked = walk_options(alloc)?;
+    let filtered = filter_options(alloc)?;
+    named(alloc)?.args(compared)?.args(walked)?.args(filtered)
 }
