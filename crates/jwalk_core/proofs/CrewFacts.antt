@@ -1,5 +1,6 @@
 -- What a crew's message says of the awaited directory.
-use Rattle.std.proofs.Common.{◌≡◌, ◌∙◌, ◌+◌, ℕ, List, Ok, Err, IfOk, sym, subst, arith}
+use Rattle.std.proofs.Common.{◌≡◌, ◌∙◌, ◌+◌, ℕ, List, Ok, Err, sym, subst, arith}
+use Rattle.std.specs.Prelude.{IsOkAnd}
 use Rattle.std.specs.declared.clone.Clone as Clone
 use Rattle.std.specs.declared.default.Default as Default
 use Rattle.jwalk_model.specs.Options.{ReadsAs}
@@ -24,7 +25,7 @@ lawful_there max_depth reads_to of s (Err f) same there lawful = (omega (arith, 
 
 module _ {C S P A R E : Type 0} (files : FileSystem.Ghosts S) (process : ProcessReadDir.Ghosts P C A R E) (clone : Clone.Ghosts R) (defaults : Default.Ghosts E) (job : Job C S P A R E) (s : Spec R) (o : Outcome R E) where
   -- a message that fits what is awaited reports the directory's reading
-  pub told : (at : List ℕ) (wanted : Wanted A) (item : Ordered (Message C S P A R E) A) → IsFor at s (options_of job) wanted → Fits wanted item → IfOk item.value.outcome (λ read. outcome read ≡ o) → IsReadingOf files process clone defaults item.value.job (spec item.value.of) o → IsTold files process clone defaults job at s o
+  pub told : (at : List ℕ) (wanted : Wanted A) (item : Ordered (Message C S P A R E) A) → IsFor at s (options_of job) wanted → Fits wanted item → IsOkAnd item.value.outcome (λ read. outcome read ≡ o) → IsReadingOf files process clone defaults item.value.job (spec item.value.of) o → IsTold files process clone defaults job at s o
   told at wanted item is fits came reading = record {
     message = item;
     address = fits.at ∙ is.at;

@@ -1,5 +1,5 @@
 -- Readings that a crew makes ahead, and what is known of each.
-use Rattle.std.specs.Prelude.{◌≡◌, ℕ, Bool, true, false, List, [], ◌∷◌, ◌++◌, map, reverse, length, Option, Some, None, Result, Ok, Err, IfOk, IfErr, IfSome, IsSomeAnd}
+use Rattle.std.specs.Prelude.{◌≡◌, ℕ, Bool, true, false, List, [], ◌∷◌, ◌++◌, map, reverse, length, Option, Some, None, Result, Ok, Err, IsOkAnd, IfErr, IfSome, IsSomeAnd}
 use Rattle.std.specs.Arc.{arc_value}
 use Rattle.std.specs.declared.clone.Clone as Clone
 use Rattle.std.specs.declared.default.Default as Default
@@ -66,7 +66,7 @@ pub record IsTold {C S P A R E : Type 0} (files : FileSystem.Ghosts S) (process 
   pub address : address_of message ≡ at
   pub options : ReadsAs (options_of message.value.job) (options_of job)
   pub place : IsSamePlace (spec message.value.of) directory
-  pub told : IfOk message.value.outcome (λ o. view o ≡ outcome)
+  pub told : IsOkAnd message.value.outcome (λ o. view o ≡ outcome)
   pub reading : IsReadingOf files process clone defaults message.value.job (spec message.value.of) outcome
 
 -- why a reading didn't come, as an error
