@@ -5,6 +5,7 @@ ghost use Rattle.jwalk_job.specs.Error.{failure};
 
 mod crew_start;
 mod each;
+mod handed;
 mod over_crew;
 mod states;
 mod workers;

@@ -4,6 +4,7 @@ ghost use Rattle.jwalk.specs.Each.{BeginsAlone, BeginsOver, CallsWithEach, Calls
 ghost use Rattle.jwalk.specs.WalkDir.{callback_of};
 
 use crate::walk_dir::WalkDirGeneric;
+use crate::walk_dir::handed::{append_to, hand_to, hand_until_error};
 use jwalk_core::readers::{NoCrew, Readers};
 use jwalk_core::session::Session;
 use jwalk_fs::file_system::FileSystem;
@@ -33,7 +34,7 @@ impl<C: ClientState, S: FileSystem, P: ProcessReadDir<C, Global>> WalkDirGeneric
             (Answers S.FileSystem P.ProcessReadDir C.ReadDirState.Clone C.DirEntryState.Default
             ⟦<NoCrew as Readers<C, S, P, Global>>⟧) F.FnMut f }
     {
-        self.into_iter().for_each(f)
+        hand_to(self.into_iter(), f)
     }
 
     /// Begins the walk as `into_iter` does, and calls a closure with its answers, in order, until it returns an error
@@ -53,7 +54,7 @@ impl<C: ClientState, S: FileSystem, P: ProcessReadDir<C, Global>> WalkDirGeneric
             (Answers S.FileSystem P.ProcessReadDir C.ReadDirState.Clone C.DirEntryState.Default
             ⟦<NoCrew as Readers<C, S, P, Global>>⟧) F.FnMut f result }
     {
-        self.into_iter().try_for_each(f)
+        hand_until_error(self.into_iter(), f)
     }
 
     /// Begins the walk as `into_iter` does, and appends all its answers to `out`, in order.
@@ -72,7 +73,7 @@ impl<C: ClientState, S: FileSystem, P: ProcessReadDir<C, Global>> WalkDirGeneric
             (Answers S.FileSystem P.ProcessReadDir C.ReadDirState.Clone C.DirEntryState.Default
             ⟦<NoCrew as Readers<C, S, P, Global>>⟧) out.old.items result out.new.items }
     {
-        out.extend(self.into_iter())
+        append_to(self.into_iter(), out)
     }
 }
 
@@ -98,8 +99,7 @@ where
             (Answers S.FileSystem P.ProcessReadDir C.ReadDirState.Clone C.DirEntryState.Default
             ⟦<Session<R, C, S, P, Global> as Readers<C, S, P, Global>>⟧) F.FnMut f }
     {
-        let walk = self.into_iter();
-        walk.for_each(f)
+        hand_to(self.into_iter(), f)
     }
 
     /// Begins the walk as `into_iter` does, and calls a closure with its answers, in order, until it returns an error
@@ -122,8 +122,7 @@ where
             (Answers S.FileSystem P.ProcessReadDir C.ReadDirState.Clone C.DirEntryState.Default
             ⟦<Session<R, C, S, P, Global> as Readers<C, S, P, Global>>⟧) F.FnMut f result }
     {
-        let mut walk = self.into_iter();
-        walk.try_for_each(f)
+        hand_until_error(self.into_iter(), f)
     }
 
     /// Begins the walk as `into_iter` does, and appends all its answers to `out`, in order.
@@ -145,6 +144,6 @@ where
             (Answers S.FileSystem P.ProcessReadDir C.ReadDirState.Clone C.DirEntryState.Default
             ⟦<Session<R, C, S, P, Global> as Readers<C, S, P, Global>>⟧) out.old.items result out.new.items }
     {
-        out.extend(self.into_iter())
+        append_to(self.into_iter(), out)
     }
 }

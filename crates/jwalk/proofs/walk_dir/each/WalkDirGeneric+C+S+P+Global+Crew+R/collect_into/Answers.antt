@@ -2,11 +2,11 @@ use Rattle.jwalk.proofs.walk_dir.each.WalkDirGeneric+C+S+P+Global+Crew+R.collect
 
 pub returns : goal.returns
 returns g c =
-    let ran = c.extend.ensures.ran in
+    let ran = c.append_to.ensures in
     record {
-      walk = ran.0;
-      begun = rw ran.2 (record { starts = c.into_iter.ensures.starts; begins = c.into_iter.ensures.begins; steady = c.into_iter.ensures.steady });
-      answered = ran.1;
-      appended = ran.3.0;
-      calls = ran.4;
+      walk = ran.walk;
+      begun = rw ran.begun (record { starts = c.into_iter.ensures.starts; begins = c.into_iter.ensures.begins; steady = c.into_iter.ensures.steady });
+      answered = ran.answered;
+      appended = ran.appended;
+      calls = ran.calls;
     }

@@ -1,12 +1,13 @@
-use Rattle.jwalk.proofs.EachFacts.{may_call, calls_until}
 use Rattle.jwalk.proofs.walk_dir.each.WalkDirGeneric+C+S+P+Global+NoCrew.try_for_each.Goals as goal
-
-pub try_for_each-requires-clause-callable : goal.try_for_each-requires-clause-callable
-try_for_each-requires-clause-callable g c = record { at = λ xs t q x u yields folds step. may_call g.F.FnMut _ (λ p x q goes. (goes.0, goes.1)) xs c.args.f q x c.requires.callable folds }
 
 pub returns : goal.returns
 returns g c =
-    let ran = c.try_for_each.ensures.ran in
-    calls_until g.F.FnMut _ _ (λ e. e.0) c.args.f _ c.into_iter.result _
-    (record { own = c.into_iter.ensures.own; starts = c.into_iter.ensures.starts; holds = c.into_iter.ensures.holds })
-    ran.0 ran.1 ran.2 ran.3 ran.4 ran.5
+    let ran = c.hand_until_error.ensures in
+    record {
+      walk = ran.walk;
+      begun = rw ran.begun (record { own = c.into_iter.ensures.own; starts = c.into_iter.ensures.starts; holds = c.into_iter.ensures.holds });
+      answered = ran.answered;
+      last = ran.last;
+      passes = ran.passes;
+      ends = ran.ends;
+    }
