@@ -10,7 +10,7 @@ use Rattle.jwalk.specs.jwalk_model.Entry.{Item}
 use Rattle.jwalk.specs.jwalk_model.ReadDir.{Reading}
 use Rattle.jwalk_ignore.specs.Rules.ChainViews.{chain_value}
 use Rattle.jwalk_ignore.specs.Rules.ChainWorth.{bool_in, bool_worth, chain_worth}
-use Rattle.jwalk_ignore.specs.declared.rules.chain.Chain.{Chain}
+use Rattle.jwalk_ignore.specs.jwalk_ignore_rules.declared.rules.chain.Chain.{Chain}
 use Rattle.example_ignore_proofs.specs.Packages.{CountsPackages, is_manifest, packages, with_mark}
 
 -- a truth value is read as it was counted

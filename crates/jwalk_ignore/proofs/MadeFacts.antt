@@ -11,8 +11,8 @@ use Rattle.jwalk_ignore.specs.Rules.Chain.{Chain, below_root, entered, place_in}
 use Rattle.jwalk_ignore.specs.Callback.IgnoreFiles.{Folder, Made, Source, by_rules, counts, depth_of, entered_above, folders_above, in_directory, is_git, is_kept, is_shown, kind_of, own_rules, path_of, root_of, rules_found, source_above, source_in, with_above, with_absolute, with_folder, with_found, with_item, with_listed, with_own, with_root, with_root_item, with_rules}
 use Rattle.jwalk_ignore.specs.Pattern.{Pattern}
 use Rattle.jwalk_ignore.specs.Rules.Texts.{Texts}
-use Rattle.jwalk_ignore.specs.declared.rules.rules_kind.RulesKind.{RulesKind}
-use Rattle.jwalk_ignore.specs.declared.rules.rules_kind.RulesKind.TheVariants as rules
+use Rattle.jwalk_ignore_rules.specs.declared.rules.rules_kind.RulesKind.{RulesKind}
+use Rattle.jwalk_ignore_rules.specs.declared.rules.rules_kind.RulesKind.TheVariants as rules
 use Rattle.jwalk_ignore.specs.declared.callback.settings.Settings.{Settings}
 use Rattle.jwalk_ignore.proofs.ListFacts.{filter_by, fold_by}
 

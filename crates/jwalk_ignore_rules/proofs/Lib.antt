@@ -4,6 +4,7 @@ pub mod NamesFacts
 pub mod ClassFacts
 pub mod PartsFacts
 pub mod RulesFacts
+pub mod ChangedFacts
 pub mod LineFacts
 pub mod MatchingFacts
 pub mod WorthFacts

@@ -1,7 +1,7 @@
 -- Rules in force are read from what they count as.
 use Rattle.std.proofs.Common.{◌≡◌, ◌∙◌, Bool, true, false, List, [], ◌∷◌, ap, refl}
 use Rattle.jwalk_model.specs.Counted.{Worth}
-use Rattle.jwalk_ignore_rules.specs.Pattern.ByteTest.{ByteTest, Byte, Any, OneOf}
+use Rattle.jwalk_ignore_rules.specs.Pattern.ByteTest.{ByteTest, Byte, EitherCase, Any, OneOf}
 use Rattle.jwalk_ignore_rules.specs.Rules.Chain.{Chain, Link}
 use Rattle.jwalk_ignore_rules.specs.Rules.ChainWorth.{bool_worth, bool_in, list_worth, list_in, class_number, class_at, item_worth, item_in, test_worth, test_in, part_worth, part_in, name_worth, name_in, pattern_worth, pattern_in_worth, link_worth, link_in, chain_worth, chain_in}
 use Rattle.jwalk_ignore_rules.specs.Pattern.Class.{ClassValue}
@@ -39,13 +39,17 @@ item_back : (i : ClassItem) → item_in (item_worth i) ≡ i
 item_back (Range low high) = refl
 item_back (Named class) = ap Named (class_back class)
 
+-- a record of three
+three : {X Y Z V : Type 0} (make : X → Y → Z → V) {x x' : X} {y y' : Y} {z z' : Z} → x ≡ x' → y ≡ y' → z ≡ z' → make x y z ≡ make x' y' z'
+three make {x} {x'} {y} {y'} {z} {z'} p q r = ap (λ (a : _). make a y z) p ∙ ap (λ (a : _). make x' a z) q ∙ ap (make x' y') r
+
 class_value_back : (c : ClassValue) → test_in (test_worth (OneOf c)) ≡ OneOf c
-class_value_back c =
-    ap (λ (b : Bool). OneOf (record { negated = b; items = list_in item_in (list_worth item_worth c.items) })) (bool_back c.negated)
-    ∙ ap (λ (items : List ClassItem). OneOf (record { negated = c.negated; items = items })) (list_back item_worth item_in item_back c.items)
+class_value_back c = three (λ (negated : Bool) (either_case : Bool) (items : List ClassItem). OneOf (record { negated = negated; either_case = either_case; items = items }))
+    (bool_back c.negated) (bool_back c.either_case) (list_back item_worth item_in item_back c.items)
 
 test_back : (t : ByteTest) → test_in (test_worth t) ≡ t
 test_back (Byte byte) = refl
+test_back (EitherCase byte) = refl
 test_back Any = refl
 test_back (OneOf class) = class_value_back class
 
@@ -55,10 +59,6 @@ part_back worth back is (One t) = ap One (is t)
 
 name_back : (glob : List (Part ByteTest)) → name_in (name_worth glob) ≡ glob
 name_back glob = list_back (part_worth test_worth) (part_in test_in) (part_back test_worth test_in test_back) glob
-
--- a record of three
-three : {X Y Z V : Type 0} (make : X → Y → Z → V) {x x' : X} {y y' : Y} {z z' : Z} → x ≡ x' → y ≡ y' → z ≡ z' → make x y z ≡ make x' y' z'
-three make {x} {x'} {y} {y'} {z} {z'} p q r = ap (λ (a : _). make a y z) p ∙ ap (λ (a : _). make x' a z) q ∙ ap (make x' y') r
 
 pattern_back : (p : Pattern) → pattern_in_worth (pattern_worth p) ≡ p
 pattern_back p = three (λ (keeps : Bool) (only_dirs : Bool) (parts : List (Part (List (Part ByteTest)))). let made : Pattern = record { keeps = keeps; only_dirs = only_dirs; parts = parts } in made)

@@ -1,6 +1,7 @@
 -- The pattern of one line.
 pub mod ByteClass
 pub mod ByteTest
+mod CaseRows
 pub mod Class
 pub mod ClassItem
 pub mod Fits
@@ -15,9 +16,11 @@ pub mod PatternText
 pub mod Pieces
 pub mod Taken
 pub mod Token
-use Rattle.std.specs.Prelude.{ℕ, ◌==◌, Bool, true, false, IsTrue, List, [], ◌∷◌, length, Option, None, if◌then◌else◌}
+use Rattle.std.specs.Prelude.{ℕ, ◌==◌, Bool, true, false, IsTrue, List, [], ◌∷◌, length, map, Option, None, if◌then◌else◌}
 use Rattle.std.specs.Option.{option_map}
 use Rattle.jwalk_ignore_rules.specs.Pattern.ByteTest.{ByteTest as Test}
+use Rattle.jwalk_ignore_rules.specs.Pattern.Fits.{part_map}
+use Rattle.jwalk_ignore_rules.specs.Pattern.Glob.{glob_in_either_case}
 use Rattle.jwalk_ignore_rules.specs.Pattern.NamePattern.{globs_value, IsReached}
 use Rattle.jwalk_ignore_rules.specs.Pattern.Names.{names_of}
 use Rattle.jwalk_ignore_rules.specs.Pattern.NamesRead.{parts_in}
@@ -50,6 +53,10 @@ abbrev pub pattern_in : List ℕ → Option Pattern
 pattern_in [] = None
 pattern_in (byte ∷ behind) =
     if byte == 35 then None else if byte == 33 then pattern_of_text true behind else pattern_of_text false (byte ∷ behind)
+
+-- the same pattern with letters in either case
+abbrev pub pattern_in_either_case : Pattern → Pattern
+pattern_in_either_case pattern = record pattern { parts = map (part_map glob_in_either_case) pattern.parts }
 
 -- a pattern matches a path: the names fit, and it is a directory if the pattern ends with a slash
 abbrev pub Matches : Pattern → List ℕ → Bool → Type 0

@@ -2,6 +2,8 @@
 ghost use Rattle.std.specs.Prelude.{◌≡◌, ◌↔◌, [], IfOk, IsTrue};
 ghost use Rattle.std.specs.List.{list_any};
 ghost use Rattle.std.specs.Option.{option_map};
+ghost use Rattle.jwalk_ignore_rules.specs.Pattern.Fits.{part_map};
+ghost use Rattle.jwalk_ignore_rules.specs.Pattern.Glob.{glob_in_either_case, glob_value};
 ghost use Rattle.jwalk_ignore_rules.specs.Pattern.NamePattern.{globs_value};
 ghost use Rattle.jwalk_ignore_rules.specs.Pattern.Names.{is_slash};
 ghost use Rattle.jwalk_ignore_rules.specs.Pattern.PatternText.{without_first_slash, without_last_slash, ends_with_slash, first_parts};
@@ -84,8 +86,17 @@ fn first_parts<A: Allocator + Copy>(
     Ok(parts)
 }
 
+/// Has the letters of a part match in either case.
+fn ignore_case_of<A: Allocator + Copy>(part: &mut Part<Glob<A>>)
+    ensures { part_map glob_value part.new ≡ part_map glob_in_either_case (part_map glob_value part.old) }
+{
+    if let Part::One(glob) = part {
+        glob.ignore_case();
+    }
+}
+
 impl<A: Allocator + Copy> Pattern<A> {
-    ghost use Rattle.jwalk_ignore_rules.specs.Pattern.{Matches, decision_of, pattern_in, pattern_of_text, pattern_value};
+    ghost use Rattle.jwalk_ignore_rules.specs.Pattern.{Matches, decision_of, pattern_in, pattern_in_either_case, pattern_of_text, pattern_value};
 
     /// Reads the pattern of a text. None if it is malformed.
     fn of_text(alloc: A, keeps: bool, text: &[u8]) -> Result<Option<Self>, AllocError>
@@ -116,6 +127,16 @@ impl<A: Allocator + Copy> Pattern<A> {
             [] | [b'#', ..] => Ok(None),
             [b'!', behind @ ..] => Pattern::of_text(alloc, true, behind),
             _ => Pattern::of_text(alloc, false, text),
+        }
+    }
+
+    /// Has ASCII's letters match in either case: a byte its other case, and an item of a class what it has the other
+    /// case of. A class of all other bytes has none that it then lists.
+    pub fn ignore_case(&mut self)
+        ensures { pattern_value self.new ≡ pattern_in_either_case (pattern_value self.old) }
+    {
+        for part in self.parts.iter_mut() {
+            ignore_case_of(part);
         }
     }
 

@@ -4,7 +4,7 @@ use Rattle.std.specs.Prelude.{IsTrue, ◌↔◌, if◌then◌else◌}
 use Rattle.jwalk_ignore.specs.Rules.Matching.{matches}
 use Rattle.jwalk_ignore.specs.Pattern.{Pattern, Matches, decision_of}
 use Rattle.jwalk_ignore.specs.Rules.{LastMatch, Says}
-use Rattle.jwalk_ignore.specs.declared.rules.decision.Decision.TheVariants.{Unsaid}
+use Rattle.jwalk_ignore.specs.jwalk_ignore_rules.declared.rules.decision.Decision.TheVariants.{Unsaid}
 use Rattle.jwalk_ignore.proofs.MatchingFacts.{says_computed}
 
 -- what is said tells whether it matches

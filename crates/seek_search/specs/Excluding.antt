@@ -13,7 +13,7 @@ use Rattle.jwalk_ignore.specs.Rules.Matching.{patterns_say}
 use Rattle.jwalk_ignore.specs.Pattern.{Pattern}
 use Rattle.jwalk_ignore.specs.Pattern.PatternText.{without_first_slash}
 use Rattle.jwalk_ignore.specs.Rules.{rules_value}
-use Rattle.jwalk_ignore.specs.declared.rules.Rules.{Rules}
+use Rattle.jwalk_ignore.specs.jwalk_ignore_rules.declared.rules.Rules.{Rules}
 use Rattle.seek_search.specs.declared.excluding.Excluding.{Excluding}
 
 -- the patterns, and how long the root's path is

@@ -1,22 +1,17 @@
 -- Globs.
-use Rattle.std.specs.Prelude.{ℕ, ◌==◌, Bool, false, ◌||◌, List, [], ◌∷◌, ◌++◌, map, Option, option_map, if◌then◌else◌}
-use Rattle.std.specs.Char.{to_ascii_lowercase}
+use Rattle.std.specs.Prelude.{ℕ, ◌==◌, Bool, false, ◌||◌, List, [], ◌∷◌, ◌++◌, Option, option_map, if◌then◌else◌}
 use Rattle.jwalk_ignore.specs.Rules.Matching.{matches}
-use Rattle.jwalk_ignore.specs.Pattern.{Pattern, pattern_in, pattern_value}
+use Rattle.jwalk_ignore.specs.Pattern.{Pattern, pattern_in, pattern_in_either_case, pattern_value}
 use Rattle.jwalk_ignore.specs.Pattern.PatternText.{without_first_slash}
 use Rattle.seek_search.specs.declared.glob.Glob.{Glob as CodeGlob}
 
--- a glob by value: its pattern, and whether the case of ASCII's letters doesn't count
-pub record Glob : Type 0 where
-  pub pattern : Pattern
-  pub folds : Bool
+-- a glob by value: its pattern
+abbrev pub glob_value : CodeGlob → Pattern
+glob_value glob = pattern_value glob.pattern
 
-abbrev pub glob_value : CodeGlob → Glob
-glob_value glob = record { pattern = pattern_value glob.pattern; folds = glob.folds }
-
--- a text as it is compared: with small letters for those of ASCII, if case doesn't count
-abbrev pub folded : Bool → List ℕ → List ℕ
-folded folds text = if folds then map to_ascii_lowercase text else text
+-- a pattern, in either case of letters if case doesn't count
+abbrev pub in_case : Bool → Pattern → Pattern
+in_case ignores_case pattern = if ignores_case then pattern_in_either_case pattern else pattern
 
 -- whether a text begins with a `!` or a `#`
 abbrev pub has_mark : List ℕ → Bool
@@ -24,13 +19,13 @@ has_mark [] = false
 has_mark (c ∷ cs) = (c == 33) || (c == 35)
 
 -- a glob as the line of an ignore file, in which a mark in front means itself
-abbrev pub glob_line : Bool → List ℕ → List ℕ
-glob_line folds text = (if has_mark text then 92 ∷ [] else []) ++ folded folds text
+abbrev pub glob_line : List ℕ → List ℕ
+glob_line text = (if has_mark text then 92 ∷ [] else []) ++ text
 
 -- the glob of a text; none if it is malformed
-abbrev pub glob_in : Bool → List ℕ → Option Glob
-glob_in folds text = option_map (λ pattern. record { pattern = pattern; folds = folds }) (pattern_in (glob_line folds text))
+abbrev pub glob_in : Bool → List ℕ → Option Pattern
+glob_in ignores_case text = option_map (in_case ignores_case) (pattern_in (glob_line text))
 
 -- whether a glob takes a name or an absolute path
-abbrev pub glob_takes : Glob → List ℕ → Bool → Bool
-glob_takes glob text is_dir = matches glob.pattern (folded glob.folds (without_first_slash text)) is_dir
+abbrev pub glob_takes : Pattern → List ℕ → Bool → Bool
+glob_takes glob text is_dir = matches glob (without_first_slash text) is_dir

@@ -12,7 +12,7 @@ use Rattle.jwalk.specs.jwalk_job.Given.{Given}
 use Rattle.jwalk_ignore.specs.Callback.Given.{ignoring-KeepsDepthsOf, no_rules_yet, rules_alone}
 use Rattle.jwalk_ignore.specs.Callback.IgnoreViews.{ignoring}
 use Rattle.jwalk_ignore.specs.Rules.Texts.{Texts}
-use Rattle.jwalk_ignore.specs.declared.rules.chain.Chain.{Chain}
+use Rattle.jwalk_ignore.specs.jwalk_ignore_rules.declared.rules.chain.Chain.{Chain}
 use Rattle.jwalk_ignore.specs.declared.callback.settings.Settings.{Settings}
 use Rattle.seek_words.specs.Sought.{Sought}
 use Rattle.seek_words.specs.declared.paths.Style.{Style}

@@ -10,4 +10,4 @@ use Rattle.seek_search.specs.declared.sought_test.SoughtTest.TheVariants.{Any, F
 abbrev pub takes_of : SoughtTest → List ℕ → Bool → Bool
 takes_of Any text is_dir = true
 takes_of (Finds matcher) text is_dir = is_some (find_str (matcher_pattern matcher) text 0)
-takes_of (Takes glob memory) text is_dir = glob_takes (glob_value glob.now) text is_dir
+takes_of (Takes glob) text is_dir = glob_takes (glob_value glob.now) text is_dir

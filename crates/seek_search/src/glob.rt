@@ -1,10 +1,9 @@
 //! A glob that takes a whole name, or a whole path.
-ghost use Rattle.std.specs.Prelude.{◌≡◌, ◌++◌, map, IfOk, OnOk};
-ghost use Rattle.std.specs.Char.{to_ascii_lowercase};
+ghost use Rattle.std.specs.Prelude.{◌≡◌, IfOk};
 ghost use Rattle.std.specs.Option.{option_map};
 ghost use Rattle.jwalk_ignore.specs.Rules.Matching.{matches};
 ghost use Rattle.jwalk_ignore.specs.Pattern.{pattern_value};
-ghost use Rattle.seek_search.specs.Glob.{folded, has_mark};
+ghost use Rattle.seek_search.specs.Glob.{has_mark, in_case};
 
 use jwalk_ignore::pattern::{Pattern, without_first_slash};
 use std::alloc::{AllocError, Global};
@@ -13,29 +12,6 @@ use std::alloc::{AllocError, Global};
 #[derive(Drop)]
 pub(crate) struct Glob {
     pattern: Pattern,
-    /// The case of ASCII's letters doesn't count, and the pattern has small ones.
-    folds: bool,
-}
-
-/// Puts a text behind these bytes, with small letters for those of ASCII.
-fn push_small(text: &[u8], bytes: &mut Vec<u8>) -> Result<(), AllocError>
-    ensures { OnOk result (bytes.new.items ≡ bytes.old.items ++ map to_ascii_lowercase text.now) }
-{
-    for byte in text {
-        bytes.push(byte.to_ascii_lowercase())?;
-    }
-    Ok(())
-}
-
-/// Puts a text behind these bytes, with small letters for those of ASCII if case doesn't count.
-fn push_folded(folds: bool, text: &[u8], bytes: &mut Vec<u8>) -> Result<(), AllocError>
-    ensures { OnOk result (bytes.new.items ≡ bytes.old.items ++ folded folds text.now) }
-{
-    if folds {
-        push_small(text, bytes)
-    } else {
-        Ok(bytes.extend_from_slice(text)?)
-    }
 }
 
 /// Returns whether a text begins with a `!` or a `#`.
@@ -52,43 +28,53 @@ fn matches(pattern: &Pattern, path: &[u8], is_dir: bool) -> bool
     pattern.matches(path, is_dir)
 }
 
+/// Returns the same pattern, in either case of ASCII's letters if case doesn't count.
+fn in_case(ignores_case: bool, pattern: Pattern) -> Pattern
+    ensures { pattern_value result ≡ in_case ignores_case (pattern_value pattern) }
+{
+    let mut pattern = pattern;
+    if ignores_case {
+        pattern.ignore_case();
+    }
+    pattern
+}
+
 impl Glob {
     ghost use Rattle.seek_search.specs.Glob.{glob_in, glob_line, glob_takes, glob_value};
 
     /// Returns the line of an ignore file that a glob is. A `!` or a `#` in front has no meaning of its own.
-    fn line(alloc: Global, text: &[u8], folds: bool) -> Result<Vec<u8>, AllocError>
-        ensures { IfOk result (λ line. line.items ≡ glob_line folds text.now) }
+    fn line(alloc: Global, text: &[u8]) -> Result<Vec<u8>, AllocError>
+        ensures { IfOk result (λ line. line.items ≡ glob_line text.now) }
     {
         let mut line = Vec::new(alloc);
         if has_mark(text) {
             line.push(b'\\')?;
         }
-        push_folded(folds, text, &mut line)?;
+        line.extend_from_slice(text)?;
         Ok(line)
     }
 
     /// Reads a glob. None if it is malformed.
-    pub(crate) fn read(alloc: Global, text: &str, folds: bool) -> Result<Option<Self>, AllocError>
-        ensures { IfOk result (λ r. option_map glob_value r ≡ glob_in folds text.now) }
+    pub(crate) fn read(
+        alloc: Global,
+        text: &str,
+        ignores_case: bool,
+    ) -> Result<Option<Self>, AllocError>
+        ensures { IfOk result (λ r. option_map glob_value r ≡ glob_in ignores_case text.now) }
     {
-        let line = Glob::line(alloc, text.as_bytes(), folds)?;
+        let line = Glob::line(alloc, text.as_bytes())?;
         match Pattern::read(alloc, line.as_slice())? {
-            Some(pattern) => Ok(Some(Glob { pattern, folds })),
+            Some(pattern) => Ok(Some(Glob {
+                pattern: in_case(ignores_case, pattern),
+            })),
             None => Ok(None),
         }
     }
 
-    /// Returns whether it takes a name or an absolute path. `memory` is used for that.
-    pub(crate) fn takes(
-        &self,
-        text: &str,
-        is_dir: bool,
-        memory: &mut Vec<u8>,
-    ) -> Result<bool, AllocError>
-        ensures { IfOk result (λ yes. yes ≡ glob_takes (glob_value self.now) text.now is_dir) }
+    /// Returns whether it takes a name or an absolute path.
+    pub(crate) fn takes(&self, text: &str, is_dir: bool) -> bool
+        ensures { result ≡ glob_takes (glob_value self.now) text.now is_dir }
     {
-        memory.clear();
-        push_folded(self.folds, without_first_slash(text.as_bytes()), memory)?;
-        Ok(matches(&self.pattern, memory.as_slice(), is_dir))
+        matches(&self.pattern, without_first_slash(text.as_bytes()), is_dir)
     }
 }

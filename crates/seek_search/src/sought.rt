@@ -34,8 +34,8 @@ impl Sought {
     fn glob_of<'w>(alloc: Global, asked: &Asked<'w>) -> Result<Glob, BadPattern<'w>>
         ensures { IfOk result (IsGlobOf asked.now) }
     {
-        let folds = asked.case.is_ignored(asked.pattern);
-        match Glob::read(alloc, asked.pattern, folds)? {
+        let ignores_case = asked.case.is_ignored(asked.pattern);
+        match Glob::read(alloc, asked.pattern, ignores_case)? {
             Some(glob) => Ok(glob),
             None => Err(BadPattern::Glob(asked.pattern)),
         }

@@ -8,12 +8,12 @@ use regex::Matcher;
 use seek_words::name_test::NameTest;
 use std::alloc::{AllocError, Global};
 
-/// The test of what is sought, with the memory that it takes.
+/// The test of what is sought.
 #[derive(Drop)]
 pub(crate) enum SoughtTest<'s> {
     Any,
     Finds(Matcher<'s>),
-    Takes(&'s Glob, Vec<u8>),
+    Takes(&'s Glob),
 }
 
 impl<'s> SoughtTest<'s> {
@@ -26,7 +26,7 @@ impl<'s> SoughtTest<'s> {
         match sought {
             Sought::Any => Ok(SoughtTest::Any),
             Sought::Expression(expression) => Ok(SoughtTest::Finds(expression.matcher(alloc)?)),
-            Sought::Glob(glob) => Ok(SoughtTest::Takes(glob, Vec::new(alloc))),
+            Sought::Glob(glob) => Ok(SoughtTest::Takes(glob)),
         }
     }
 }
@@ -40,7 +40,7 @@ impl<'s> NameTest for SoughtTest<'s> {
         match self {
             SoughtTest::Any => Ok(true),
             SoughtTest::Finds(matcher) => Ok(matcher.is_match(text)),
-            SoughtTest::Takes(glob, memory) => glob.takes(text, is_dir, memory),
+            SoughtTest::Takes(glob) => Ok(glob.takes(text, is_dir)),
         }
     }
 }

@@ -13,7 +13,7 @@ use Rattle.jwalk_ignore.specs.Callback.IgnoreViews.{ignoring}
 use Rattle.jwalk_ignore.specs.Callback.IgnoreFiles.{Made, by_rules}
 use Rattle.jwalk_ignore.specs.Callback.MadeDepths.{by_rules_at}
 use Rattle.jwalk_ignore.specs.Rules.Texts.{Texts}
-use Rattle.jwalk_ignore.specs.declared.rules.chain.Chain.{Chain}
+use Rattle.jwalk_ignore_rules.specs.declared.rules.chain.Chain.{Chain}
 use Rattle.jwalk_ignore.specs.declared.callback.settings.Settings.{Settings}
 
 -- A callback that is given what rules leave keeps depths with them.

@@ -12,8 +12,8 @@ use Rattle.jwalk_ignore.specs.Rules.Chain.{Chain, below_root, entered, ignored, 
 use Rattle.jwalk_ignore.specs.Rules.Line.{patterns_of}
 use Rattle.jwalk_ignore.specs.Pattern.{Pattern}
 use Rattle.jwalk_ignore.specs.Rules.Texts.{Texts}
-use Rattle.jwalk_ignore.specs.declared.rules.rules_kind.RulesKind.{RulesKind}
-use Rattle.jwalk_ignore.specs.declared.rules.rules_kind.RulesKind.TheVariants as rules
+use Rattle.jwalk_ignore_rules.specs.declared.rules.rules_kind.RulesKind.{RulesKind}
+use Rattle.jwalk_ignore_rules.specs.declared.rules.rules_kind.RulesKind.TheVariants as rules
 use Rattle.jwalk_ignore.specs.declared.callback.settings.Settings.{Settings}
 
 -- the directory or file that makes a directory a repository

@@ -8,7 +8,7 @@ use Rattle.jwalk_ignore.specs.Rules.ChainViews.{chain_value}
 use Rattle.jwalk_ignore.specs.Rules.ChainWorth.{chain_worth, rules_of, with_chain}
 use Rattle.jwalk_ignore.specs.Callback.IgnoreFiles.{by_rules}
 use Rattle.jwalk_ignore.specs.Rules.Texts.{Texts}
-use Rattle.jwalk_ignore.specs.declared.rules.chain.Chain.{Chain}
+use Rattle.jwalk_ignore_rules.specs.declared.rules.chain.Chain.{Chain}
 use Rattle.jwalk_ignore.specs.declared.callback.ignore_files.IgnoreFiles.{IgnoreFiles}
 use Rattle.jwalk_ignore.specs.declared.callback.settings.Settings.{Settings}
 

@@ -6,18 +6,25 @@ use Rattle.jwalk_ignore_rules.specs.Pattern.ClassItem.{lists}
 use Rattle.jwalk_ignore_rules.specs.declared.pattern.class_item.ClassItem.{ClassItem}
 use Rattle.jwalk_ignore_rules.specs.declared.pattern.class.Class.{Class}
 
--- a class by value: whether it has all other bytes, and the items
+-- a class by value: whether it has all other bytes, whether its items take letters in either case, and the items
 pub record ClassValue : Type 0 where
   pub negated : Bool
+  pub either_case : Bool
   pub items : List ClassItem
 
 -- a class by value
 abbrev pub class_value : {A : Type 0} → Class A → ClassValue
-class_value class = record { negated = class.negated; items = class.items.items }
+class_value class = record { negated = class.negated; either_case = class.either_case; items = class.items.items }
 
 -- whether a class has a byte
 abbrev pub has : ClassValue → ℕ → Bool
-has class byte = if class.negated then not (lists class.items byte) else lists class.items byte
+has class byte =
+    let listed = lists class.either_case class.items byte in
+    if class.negated then not listed else listed
+
+-- the same class with letters in either case
+abbrev pub class_in_either_case : ClassValue → ClassValue
+class_in_either_case class = record class { either_case = true }
 
 -- whether a byte behind this many items closes a class: as the first item it does not
 abbrev pub closes : ℕ → ℕ → Bool
@@ -38,7 +45,7 @@ items_in items last zero (byte ∷ behind) =
 -- a class of these items, and what is behind it
 abbrev pub class_of : Bool → Option (List ClassItem × List ℕ) → Option (ClassValue × List ℕ)
 class_of negated None = None
-class_of negated (Some listed) = Some (record { negated = negated; items = listed.0 }, listed.1)
+class_of negated (Some listed) = Some (record { negated = negated; either_case = false; items = listed.0 }, listed.1)
 
 -- a class behind its opening bracket, and what is behind its closing bracket; none if it is malformed
 abbrev pub class_in : List ℕ → Option (ClassValue × List ℕ)

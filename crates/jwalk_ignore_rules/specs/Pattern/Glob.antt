@@ -1,6 +1,6 @@
 -- Patterns of one name.
 use Rattle.std.specs.Prelude.{ℕ, List, IsTrue, map}
-use Rattle.jwalk_ignore_rules.specs.Pattern.ByteTest.{ByteTest, test_value, fits}
+use Rattle.jwalk_ignore_rules.specs.Pattern.ByteTest.{ByteTest, test_value, fits, in_either_case}
 use Rattle.jwalk_ignore_rules.specs.Pattern.Fits.{Fits, part_map}
 use Rattle.jwalk_ignore_rules.specs.Pattern.Taken.{Decides, LeavesLater}
 use Rattle.jwalk_ignore_rules.specs.declared.pattern.byte_test.ByteTest.{ByteTest as CodeTest}
@@ -23,6 +23,10 @@ glob_value glob = parts_value glob.parts.items
 -- a name fits a pattern: `*` skips any number of bytes, and any other part takes one byte
 abbrev pub IsNamed : List (Part ByteTest) → List ℕ → Type 0
 IsNamed glob name = Fits TakesByte glob name
+
+-- the same pattern with letters in either case
+abbrev pub glob_in_either_case : List (Part ByteTest) → List (Part ByteTest)
+glob_in_either_case glob = map (part_map in_either_case) glob
 
 -- what was taken of a name decides whether all fits, or what is left does
 abbrev pub GlobDecides : {A : Type 0} → Taken (CodeTest A) → Type 0 → Type 0

@@ -37,7 +37,7 @@ row_escaped = refl
 row_class : pattern_in (codes "[]a-c]") ≡ Some (record {
   keeps = false;
   only_dirs = false;
-  parts = Many ∷ One (One (OneOf (record { negated = false; items = Range 93 93 ∷ Range 97 97 ∷ Range 97 99 ∷ [] })) ∷ []) ∷ [];
+  parts = Many ∷ One (One (OneOf (record { negated = false; either_case = false; items = Range 93 93 ∷ Range 97 97 ∷ Range 97 99 ∷ [] })) ∷ []) ∷ [];
 })
 row_class = refl
 

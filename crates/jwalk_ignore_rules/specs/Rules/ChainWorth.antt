@@ -1,7 +1,7 @@
 -- What rules in force count as, and how they are read from that.
 use Rattle.std.specs.Prelude.{ℕ, Bool, true, false, List, [], ◌∷◌, ◌==◌, if◌then◌else◌}
 use Rattle.jwalk_model.specs.Counted.{Worth, blank, number, bytes, both}
-use Rattle.jwalk_ignore_rules.specs.Pattern.ByteTest.{ByteTest, Byte, Any, OneOf}
+use Rattle.jwalk_ignore_rules.specs.Pattern.ByteTest.{ByteTest, Byte, EitherCase, Any, OneOf}
 use Rattle.jwalk_ignore_rules.specs.Rules.Chain.{Chain, Link}
 use Rattle.jwalk_ignore_rules.specs.Pattern.{Pattern}
 use Rattle.jwalk_ignore_rules.specs.declared.pattern.byte_class.ByteClass.{ByteClass}
@@ -91,12 +91,14 @@ item_in _ = Range 0 0
 -- what one byte is compared with
 abbrev pub test_worth : ByteTest → Worth
 test_worth (Byte byte) = number byte
+test_worth (EitherCase byte) = bytes (byte ∷ [])
 test_worth Any = blank
-test_worth (OneOf class) = both (bool_worth class.negated) (list_worth item_worth class.items)
+test_worth (OneOf class) = both (both (bool_worth class.negated) (bool_worth class.either_case)) (list_worth item_worth class.items)
 
 abbrev pub test_in : Worth → ByteTest
 test_in (number byte) = Byte byte
-test_in (both negated items) = OneOf (record { negated = bool_in negated; items = list_in item_in items })
+test_in (bytes (byte ∷ [])) = EitherCase byte
+test_in (both flags items) = OneOf (record { negated = bool_in (first_in flags); either_case = bool_in (second_in flags); items = list_in item_in items })
 test_in _ = Any
 
 -- a part of a pattern

@@ -9,6 +9,8 @@ use std::alloc::{Allocator, Global};
 pub(crate) enum ByteTest<A: Allocator + Copy = Global> {
     /// This byte alone.
     Byte(u8),
+    /// This letter, small or capital, or this byte if it is no letter.
+    EitherCase(u8),
     /// Any byte: `?`.
     Any,
     /// A byte of a class: `[..]`.
@@ -16,7 +18,7 @@ pub(crate) enum ByteTest<A: Allocator + Copy = Global> {
 }
 
 impl<A: Allocator + Copy> ByteTest<A> {
-    ghost use Rattle.jwalk_ignore_rules.specs.Pattern.ByteTest.{test_value, fits};
+    ghost use Rattle.jwalk_ignore_rules.specs.Pattern.ByteTest.{test_value, fits, in_either_case};
 
     /// Returns whether a byte fits.
     pub(crate) fn fits(&self, byte: u8) -> bool
@@ -24,8 +26,20 @@ impl<A: Allocator + Copy> ByteTest<A> {
     {
         match self {
             ByteTest::Byte(own) => *own == byte,
+            ByteTest::EitherCase(own) => own.eq_ignore_ascii_case(&byte),
             ByteTest::Any => true,
             ByteTest::OneOf(class) => class.has(byte),
+        }
+    }
+
+    /// Has letters fit in either case.
+    pub(crate) fn ignore_case(&mut self)
+        ensures { test_value self.new ≡ in_either_case (test_value self.old) }
+    {
+        match self {
+            ByteTest::Byte(own) => *self = ByteTest::EitherCase(*own),
+            ByteTest::OneOf(class) => class.ignore_case(),
+            ByteTest::EitherCase(_) | ByteTest::Any => {}
         }
     }
 }

@@ -8,11 +8,11 @@ use crate::pattern::class_item::ClassItem;
 use crate::pattern::item_read::item_in;
 use std::alloc::{AllocError, Allocator, Global};
 
-/// Returns whether a byte is among the items of a class.
-fn is_listed(items: &[ClassItem], byte: u8) -> bool
-    ensures { result ≡ lists items.now byte }
+/// Returns whether one of the items of a class takes a byte.
+fn is_listed(either_case: bool, items: &[ClassItem], byte: u8) -> bool
+    ensures { result ≡ lists either_case items.now byte }
 {
-    items.iter().any(|item| item.has(byte))
+    items.iter().any(|item| item.takes(either_case, byte))
 }
 
 /// Returns whether a byte behind this many items closes a class.
@@ -52,11 +52,13 @@ fn read_items<A: Allocator + Copy>(
 #[derive(Drop)]
 pub(crate) struct Class<A: Allocator + Copy = Global> {
     negated: bool,
+    /// Its items take letters in either case.
+    either_case: bool,
     items: Vec<ClassItem, A>,
 }
 
 impl<A: Allocator + Copy> Class<A> {
-    ghost use Rattle.jwalk_ignore_rules.specs.Pattern.Class.{class_in, class_value, has};
+    ghost use Rattle.jwalk_ignore_rules.specs.Pattern.Class.{class_in, class_in_either_case, class_value, has};
 
     /// Reads a class behind its opening bracket, and returns what is behind its closing bracket. None if it is
     /// malformed.
@@ -69,15 +71,29 @@ impl<A: Allocator + Copy> Class<A> {
             _ => (false, text),
         };
         match read_items(alloc, listed)? {
-            Some((items, behind)) => Ok(Some((Class { negated, items }, behind))),
+            Some((items, behind)) => Ok(Some((
+                Class {
+                    negated,
+                    either_case: false,
+                    items,
+                },
+                behind,
+            ))),
             None => Ok(None),
         }
+    }
+
+    /// Has the items take letters in either case.
+    pub(crate) fn ignore_case(&mut self)
+        ensures { class_value self.new ≡ class_in_either_case (class_value self.old) }
+    {
+        self.either_case = true;
     }
 
     /// Returns whether the class has a byte.
     pub(crate) fn has(&self, byte: u8) -> bool
         ensures { result ≡ has (class_value self.now) byte }
     {
-        is_listed(&self.items, byte) != self.negated
+        is_listed(self.either_case, &self.items, byte) != self.negated
     }
 }

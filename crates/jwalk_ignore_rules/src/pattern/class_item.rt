@@ -1,6 +1,6 @@
 //! What is listed between the brackets of a class.
 ghost use Rattle.std.specs.Prelude.{◌≡◌};
-ghost use Rattle.jwalk_ignore_rules.specs.Pattern.ClassItem.{item_has};
+ghost use Rattle.jwalk_ignore_rules.specs.Pattern.ClassItem.{item_has, item_takes};
 
 use crate::pattern::byte_class::ByteClass;
 
@@ -15,12 +15,23 @@ pub(crate) enum ClassItem {
 
 impl ClassItem {
     /// Returns whether the item has a byte.
-    pub(crate) fn has(self, byte: u8) -> bool
+    fn has(self, byte: u8) -> bool
         ensures { result ≡ item_has self byte }
     {
         match self {
             ClassItem::Range(low, high) => low <= byte && byte <= high,
             ClassItem::Named(class) => class.has(byte),
+        }
+    }
+
+    /// Returns whether the item takes a byte. In either case it also does by the other case of a letter.
+    pub(crate) fn takes(self, either_case: bool, byte: u8) -> bool
+        ensures { result ≡ item_takes either_case self byte }
+    {
+        if either_case {
+            self.has(byte.to_ascii_lowercase()) || self.has(byte.to_ascii_uppercase())
+        } else {
+            self.has(byte)
         }
     }
 }

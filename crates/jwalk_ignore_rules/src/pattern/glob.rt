@@ -1,4 +1,8 @@
 //! Patterns of one name.
+ghost use Rattle.std.specs.Prelude.{◌≡◌, ◌↔◌, IsTrue};
+ghost use Rattle.jwalk_ignore_rules.specs.Pattern.ByteTest.{in_either_case, test_value};
+ghost use Rattle.jwalk_ignore_rules.specs.Pattern.Fits.{part_map};
+
 use crate::pattern::byte_test::ByteTest;
 use crate::pattern::glob_search;
 use crate::pattern::part::Part;
@@ -10,15 +14,32 @@ pub(crate) struct Glob<A: Allocator + Copy = Global> {
     parts: Vec<Part<ByteTest<A>>, A>,
 }
 
+/// Has the letters of a part fit in either case.
+fn ignore_case_of<A: Allocator + Copy>(part: &mut Part<ByteTest<A>>)
+    ensures { part_map test_value part.new ≡ part_map in_either_case (part_map test_value part.old) }
+{
+    if let Part::One(test) = part {
+        test.ignore_case();
+    }
+}
+
 impl<A: Allocator + Copy> Glob<A> {
-    ghost use Rattle.std.specs.Prelude.{◌≡◌, ◌↔◌, IsTrue};
-    ghost use Rattle.jwalk_ignore_rules.specs.Pattern.Glob.{glob_value, parts_value, IsNamed};
+    ghost use Rattle.jwalk_ignore_rules.specs.Pattern.Glob.{glob_in_either_case, glob_value, parts_value, IsNamed};
 
     /// Returns the pattern of these parts.
     pub(crate) fn new(parts: Vec<Part<ByteTest<A>>, A>) -> Self
         ensures { glob_value result ≡ parts_value parts.items }
     {
         Glob { parts }
+    }
+
+    /// Has letters fit in either case.
+    pub(crate) fn ignore_case(&mut self)
+        ensures { glob_value self.new ≡ glob_in_either_case (glob_value self.old) }
+    {
+        for part in self.parts.iter_mut() {
+            ignore_case_of(part);
+        }
     }
 
     /// Returns whether a name fits.
