@@ -1,7 +1,7 @@
 -- Lists that are gone over and filtered.
-use Rattle.std.proofs.Common.{◌≡◌, ◌∙◌, Bool, true, false, cond, List, [], ◌∷◌, ◌++◌, map, ap, refl, sym}
-use Rattle.std.specs.Prelude.{fold, ◌||◌}
-use Rattle.std.specs.List.{filter, list_any}
+use Rattle.std.proofs.Common.{◌≡◌, ◌∙◌, Bool, true, false, cond, List, [], ◌∷◌, ◌++◌, map, Option, Some, None, ap, refl, sym}
+use Rattle.std.specs.Prelude.{find, fold, option_map}
+use Rattle.std.specs.List.{filter}
 use Rattle.std.proofs.lemmas.List.{map-append}
 
 -- what is gone over by a view is the view of what is gone over
@@ -51,7 +51,17 @@ filter_more test mark (y ∷ xs) x =
     ap (λ (l : _). filter test (mark y ∷ l)) (map-append mark xs (x ∷ []))
     ∙ filter_seam test (mark y) (map mark xs) (mark x ∷ []) (test (mark y)) (sym (ap (filter test) (map-append mark xs (x ∷ []))) ∙ filter_more test mark xs x)
 
--- a test of what a view shows
-pub list_any-map : {X Y : Type 0} (view : X → Y) (test : Y → Bool) (xs : List X) → list_any test (map view xs) ≡ list_any (λ x. test (view x)) xs
-list_any-map view test [] = refl
-list_any-map view test (x ∷ xs) = ap (λ (b : Bool). test (view x) || b) (list_any-map view test xs)
+found_or : {X Y : Type 0} (view : X → Y) (b : Bool) (x : X) (r : Option X) → cond b (Some (view x)) (option_map view r) ≡ option_map view (cond b (Some x) r)
+found_or view true x r = refl
+found_or view false x r = refl
+
+-- the first of what a view shows that passes a test
+pub find-map : {X Y : Type 0} (view : X → Y) (test : Y → Bool) (xs : List X) → find test (map view xs) ≡ option_map view (find (λ x. test (view x)) xs)
+find-map view test [] = refl
+find-map view test (x ∷ xs) =
+    ap (λ (r : Option _). cond (test (view x)) (Some (view x)) r) (find-map view test xs) ∙ found_or view (test (view x)) x (find (λ y. test (view y)) xs)
+
+-- what two views show, one after the other
+pub option_map-twice : {X Y Z : Type 0} (first : X → Y) (second : Y → Z) (r : Option X) → option_map (λ x. second (first x)) r ≡ option_map second (option_map first r)
+option_map-twice first second None = refl
+option_map-twice first second (Some x) = refl

@@ -1,14 +1,15 @@
 -- What rules make of lists doesn't go by states.
-use Rattle.std.proofs.Common.{◌≡◌, ◌∙◌, ℕ, Bool, true, false, List, [], ◌∷◌, map, length, reverse, Option, Some, None, Result, Ok, Err, ap, refl, sym}
-use Rattle.std.specs.Prelude.{fold, option_map, ◌||◌}
-use Rattle.std.specs.List.{list_any, filter}
+use Rattle.std.proofs.Common.{◌≡◌, ◌∙◌, ℕ, Bool, true, false, cond, List, [], ◌∷◌, map, length, reverse, Option, Some, None, Result, Ok, Err, ap, refl, sym}
+use Rattle.std.specs.Prelude.{find, fold, not, option_and_then, option_map, ◌&&◌}
+use Rattle.std.specs.List.{filter}
 use Rattle.std.specs.declared.io.ErrorKind.{ErrorKind}
 use Rattle.std.proofs.lemmas.List.{map-append}
 use Rattle.jwalk.specs.jwalk_model.Error.{io}
 use Rattle.jwalk.specs.jwalk_model.Entry.{Children, Item}
 use Rattle.jwalk.specs.jwalk_model.Counted.{children_by, item_by}
+use Rattle.jwalk.specs.jwalk_model.declared.file_type.FileType.{FileType}
 use Rattle.jwalk_ignore.specs.Rules.Chain.{Chain, below_root, entered, place_in}
-use Rattle.jwalk_ignore.specs.Callback.IgnoreFiles.{Folder, Made, Source, by_rules, counts, depth_of, entered_above, folders_above, in_directory, is_git, is_kept, is_shown, kind_of, own_rules, path_of, root_of, rules_found, source_above, source_in, with_above, with_absolute, with_folder, with_found, with_item, with_listed, with_own, with_root, with_root_item, with_rules}
+use Rattle.jwalk_ignore.specs.Callback.IgnoreFiles.{Folder, Made, Source, by_rules, counts, depth_of, entered_above, folders_above, git_by, git_in, in_directory, is_git, is_git_dir, is_kept, is_repository, is_shown, kind_of, own_rules, path_of, root_of, rules_found, source_above, source_in, with_above, with_absolute, with_folder, with_found, with_item, with_listed, with_own, with_root, with_root_item, with_rules}
 use Rattle.jwalk_ignore.specs.Pattern.{Pattern}
 use Rattle.jwalk_ignore.specs.Rules.Texts.{Texts}
 use Rattle.jwalk_ignore_rules.specs.declared.rules.rules_kind.RulesKind.{RulesKind}
@@ -33,24 +34,28 @@ module _ {R E V W : Type 0} (view : R → V) (mark : E → W) where
   by_found source (Err k) made = ap (with_list made.chain) (sym (map-append (item_by view mark) made.list (Err (io source.depth (Some (path_of source)) k) ∷ [])))
 
   by_source : (texts : Texts) (source : Source) (made : Made R E) → with_rules texts source (made_by made) ≡ made_by (with_rules texts source made)
-  by_source texts source made = by_found source (rules_found source.may_miss (texts.bytes_of (path_of source))) made
+  by_source texts source made = by_found source (rules_found texts source.kind source.may_miss (path_of source)) made
 
-  by_own : (texts : Texts) (counted : Bool) (directory : List ℕ) (before : ℕ) (kind : Option RulesKind) (depth : ℕ) (made : Made R E)
-      → with_own texts counted directory before kind depth (made_by made) ≡ made_by (with_own texts counted directory before kind depth made)
-  by_own texts counted directory before None depth made = refl
-  by_own texts counted directory before (Some kind) depth made = by_source texts (source_in directory before kind depth) made
+  by_own : (texts : Texts) (counted excluded : Bool) (directory : List ℕ) (before : ℕ) (kind : Option RulesKind) (depth : ℕ) (made : Made R E)
+      → with_own texts counted excluded directory before kind depth (made_by made) ≡ made_by (with_own texts counted excluded directory before kind depth made)
+  by_own texts counted excluded directory before None depth made = refl
+  by_own texts counted excluded directory before (Some kind) depth made = by_source texts (source_in directory before kind depth) made
 
-  kind_by : (counted : Bool) (x : Item R E) → kind_of counted (item_by view mark x) ≡ kind_of counted x
-  kind_by counted (Ok e) = refl
-  kind_by counted (Err f) = refl
+  kind_by : (counted excluded : Bool) (x : Item R E) → kind_of counted excluded (item_by view mark x) ≡ kind_of counted excluded x
+  kind_by counted excluded (Ok e) = refl
+  kind_by counted excluded (Err f) = refl
 
   depth_by : (x : Item R E) → depth_of (item_by view mark x) ≡ depth_of x
   depth_by (Ok e) = refl
   depth_by (Err f) = refl
 
-  git_by : (x : Item R E) → is_git (item_by view mark x) ≡ is_git x
-  git_by (Ok e) = refl
-  git_by (Err f) = refl
+  named_git : (x : Item R E) → is_git (item_by view mark x) ≡ is_git x
+  named_git (Ok e) = refl
+  named_git (Err f) = refl
+
+  led_by : (texts : Texts) (directory : List ℕ) (x : Item R E) → git_by texts directory (item_by view mark x) ≡ git_by texts directory x
+  led_by texts directory (Ok e) = refl
+  led_by texts directory (Err f) = refl
 
   shown_by : (settings : Settings) (x : Item R E) → is_shown settings (item_by view mark x) ≡ is_shown settings x
   shown_by settings (Ok e) = refl
@@ -68,27 +73,37 @@ module _ {R E V W : Type 0} (view : R → V) (mark : E → W) where
   root_by (Ok e) = root_of_some e.read_children
   root_by (Err f) = refl
 
-  any_git : (list : List (Item R E)) → list_any is_git (map (item_by view mark) list) ≡ list_any is_git list
-  any_git [] = refl
-  any_git (x ∷ list) = ap (λ (b : Bool). b || list_any is_git (map (item_by view mark) list)) (git_by x) ∙ ap (λ (b : Bool). is_git x || b) (any_git list)
+  git_or : (texts : Texts) (directory : List ℕ) (x : Item R E) (list : List (Item R E)) (b : Bool) → git_in texts directory (map (item_by view mark) list) ≡ git_in texts directory list
+      → option_and_then (git_by texts directory) (cond b (Some (item_by view mark x)) (find is_git (map (item_by view mark) list))) ≡ option_and_then (git_by texts directory) (cond b (Some x) (find is_git list))
+  git_or texts directory x list true rest = led_by texts directory x
+  git_or texts directory x list false rest = rest
 
-  by_listed : (texts : Texts) (counted : Bool) (directory : List ℕ) (before : ℕ) (made : Made R E) (x : Item R E)
-      → with_listed texts counted directory before (made_by made) (item_by view mark x) ≡ made_by (with_listed texts counted directory before made x)
-  by_listed texts counted directory before made x =
-      ap (λ (k : Option RulesKind). with_own texts counted directory before k (depth_of (item_by view mark x)) (with_item (item_by view mark x) (made_by made))) (kind_by counted x)
-      ∙ ap (λ (d : ℕ). with_own texts counted directory before (kind_of counted x) d (with_item (item_by view mark x) (made_by made))) (depth_by x)
-      ∙ ap (with_own texts counted directory before (kind_of counted x) (depth_of x)) (one_more made x)
-      ∙ by_own texts counted directory before (kind_of counted x) (depth_of x) (with_item x made)
+  git_all : (texts : Texts) (directory : List ℕ) (list : List (Item R E)) → git_in texts directory (map (item_by view mark) list) ≡ git_in texts directory list
+  git_all texts directory [] = refl
+  git_all texts directory (x ∷ list) =
+      ap (λ (b : Bool). option_and_then (git_by texts directory) (cond b (Some (item_by view mark x)) (find is_git (map (item_by view mark) list)))) (named_git x)
+      ∙ git_or texts directory x list (is_git x) (git_all texts directory list)
+
+  by_listed : (texts : Texts) (counted excluded : Bool) (directory : List ℕ) (before : ℕ) (made : Made R E) (x : Item R E)
+      → with_listed texts counted excluded directory before (made_by made) (item_by view mark x) ≡ made_by (with_listed texts counted excluded directory before made x)
+  by_listed texts counted excluded directory before made x =
+      let kind : Option RulesKind = kind_of counted excluded x in
+      ap (λ (k : Option RulesKind). with_own texts counted excluded directory before k (depth_of (item_by view mark x)) (with_item (item_by view mark x) (made_by made))) (kind_by counted excluded x)
+      ∙ ap (λ (d : ℕ). with_own texts counted excluded directory before kind d (with_item (item_by view mark x) (made_by made))) (depth_by x)
+      ∙ ap (with_own texts counted excluded directory before kind (depth_of x)) (one_more made x)
+      ∙ by_own texts counted excluded directory before kind (depth_of x) (with_item x made)
 
   own_by : (settings : Settings) (texts : Texts) (directory : List ℕ) (chain : Chain) (list : List (Item R E))
       → own_rules settings texts directory chain (map (item_by view mark) list) ≡ made_by (own_rules settings texts directory chain list)
   own_by settings texts directory chain list =
-      let inside : Bool → Chain = λ git. entered git chain in
-      let from : Bool → Made V W = λ git. fold (with_listed texts (counts settings (inside git)) directory (length (place_in (inside git) directory))) (with_list (inside git) []) (map (item_by view mark) list) in
-      let is : Bool = list_any is_git list in
-      ap from (any_git list)
-      ∙ fold_by (with_listed texts (counts settings (inside is)) directory (length (place_in (inside is) directory))) (with_listed texts (counts settings (inside is)) directory (length (place_in (inside is) directory)))
-      made_by (item_by view mark) (by_listed texts (counts settings (inside is)) directory (length (place_in (inside is) directory))) (record { chain = inside is; list = [] }) list
+      let inside : Option FileType → Chain = λ git. entered (is_repository git) chain in
+      let from : Option FileType → Made V W = λ git. fold (with_listed texts (counts settings (inside git)) (is_git_dir git) directory (length (place_in (inside git) directory))) (with_list (inside git) []) (map (item_by view mark) list) in
+      let is : Option FileType = git_in texts directory list in
+      let counted : Bool = counts settings (inside is) in
+      let before : ℕ = length (place_in (inside is) directory) in
+      ap from (git_all texts directory list)
+      ∙ fold_by (with_listed texts counted (is_git_dir is) directory before) (with_listed texts counted (is_git_dir is) directory before)
+      made_by (item_by view mark) (by_listed texts counted (is_git_dir is) directory before) (record { chain = inside is; list = [] }) list
 
   left_by : (settings : Settings) (directory : List ℕ) (own : Made R E)
       → filter (is_kept own.chain (place_in own.chain directory)) (filter (is_shown settings) (map (item_by view mark) own.list))
@@ -112,10 +127,11 @@ module _ {R E V W : Type 0} (view : R → V) (mark : E → W) where
     by_folder : (made : Made R E) (folder : Folder) → with_folder settings texts (made_by made) folder ≡ made_by (with_folder settings texts made folder)
     by_folder made folder =
         let inside : Made R E = entered_above settings texts folder made in
-        let first : Made R E = with_above settings texts folder folder.is_repository rules.Exclude inside in
-        let second : Made R E = with_above settings texts folder (counts settings inside.chain) rules.Gitignore first in
-        ap (λ (m : Made V W). with_above settings texts folder true rules.Ignore (with_above settings texts folder (counts settings inside.chain) rules.Gitignore m)) (by_above folder folder.is_repository rules.Exclude inside)
-        ∙ ap (with_above settings texts folder true rules.Ignore) (by_above folder (counts settings inside.chain) rules.Gitignore first)
+        let counted : Bool = not folder.is_outer && counts settings inside.chain in
+        let first : Made R E = with_above settings texts folder (is_git_dir folder.git) rules.Exclude inside in
+        let second : Made R E = with_above settings texts folder counted rules.Gitignore first in
+        ap (λ (m : Made V W). with_above settings texts folder true rules.Ignore (with_above settings texts folder counted rules.Gitignore m)) (by_above folder (is_git_dir folder.git) rules.Exclude inside)
+        ∙ ap (with_above settings texts folder true rules.Ignore) (by_above folder counted rules.Gitignore first)
         ∙ by_above folder true rules.Ignore second
 
     all_folders : (made : Made R E) (folders : List Folder) → fold (with_folder settings texts) (made_by made) folders ≡ made_by (fold (with_folder settings texts) made folders)
@@ -124,7 +140,7 @@ module _ {R E V W : Type 0} (view : R → V) (mark : E → W) where
         ap (λ (m : Made V W). fold (with_folder settings texts) m folders) (by_folder made folder) ∙ all_folders (with_folder settings texts made folder) folders
 
     by_absolute : (root : List ℕ) (made : Made R E) (found : Result (List ℕ) ErrorKind) → with_absolute settings texts root (made_by made) found ≡ made_by (with_absolute settings texts root made found)
-    by_absolute root made (Ok absolute) = all_folders (record { chain = below_root root absolute; list = made.list }) (reverse (folders_above texts (length absolute) absolute))
+    by_absolute root made (Ok absolute) = all_folders (record { chain = below_root root absolute; list = made.list }) (reverse (folders_above texts false (length absolute) absolute))
     by_absolute root made (Err k) = ap (with_list (below_root root root)) (sym (map-append (item_by view mark) made.list (Err (io 0 (Some root) k) ∷ [])))
 
     by_root : (root : Option (List ℕ)) (made : Made R E) → with_root settings texts root (made_by made) ≡ made_by (with_root settings texts root made)

@@ -1,12 +1,13 @@
 -- What the reader of rules makes of a list.
-use Rattle.std.proofs.Common.{◌≡◌, ◌∙◌, ℕ, Bool, true, false, List, [], ◌∷◌, ◌++◌, map, length, reverse, Ok, Err, ap, refl, sym}
+use Rattle.std.proofs.Common.{◌≡◌, ◌∙◌, ℕ, Bool, true, false, List, [], ◌∷◌, ◌++◌, map, length, reverse, Option, Ok, Err, ap, refl, sym}
 use Rattle.std.specs.Prelude.{fold, not}
-use Rattle.std.specs.List.{filter, list_any}
+use Rattle.std.specs.List.{filter}
 use Rattle.std.proofs.lemmas.List.{map-append, reverse-append}
 use Rattle.jwalk.specs.jwalk_model.Entry.{AtDepth, Item}
 use Rattle.jwalk.specs.jwalk_model.FileType.{is_dir}
+use Rattle.jwalk.specs.jwalk_model.declared.file_type.FileType.{FileType}
 use Rattle.jwalk_ignore.specs.Rules.Chain.{Chain, entered, has_rules, place_in}
-use Rattle.jwalk_ignore.specs.Callback.IgnoreFiles.{Made, counts, in_directory, is_git, is_kept, is_shown, own_rules, with_listed}
+use Rattle.jwalk_ignore.specs.Callback.IgnoreFiles.{Made, counts, git_in, in_directory, is_git_dir, is_kept, is_repository, is_shown, own_rules, with_listed}
 use Rattle.jwalk_ignore.specs.Callback.MadeDepths.{filter_at}
 use Rattle.jwalk_ignore.specs.Rules.Texts.{Texts}
 use Rattle.jwalk_ignore.specs.declared.callback.settings.Settings.{Settings}
@@ -26,14 +27,18 @@ module _ {R E : Type 0} where
 
   module _ (settings : Settings) (texts : Texts) (directory : List ℕ) (chain : Chain) (list : List (Item R E)) where
     -- all of a list is gone over in the directory that was entered
-    pub own_from : (inside : Chain) (counted : Bool) (before : ℕ) (start : List (Item R E))
-        → inside ≡ entered (list_any is_git list) chain → counted ≡ counts settings inside → before ≡ length (place_in inside directory) → start ≡ []
-        → fold (with_listed texts counted directory before) (begun inside start) list ≡ own_rules settings texts directory chain list
-    own_from inside counted before start is counts_is before_is none =
-        ap (λ (b : Bool). fold (with_listed texts b directory before) (begun inside start) list) counts_is
-        ∙ ap (λ (n : ℕ). fold (with_listed texts (counts settings inside) directory n) (begun inside start) list) before_is
-        ∙ ap (λ (l : List (Item R E)). fold (with_listed texts (counts settings inside) directory (length (place_in inside directory))) (begun inside l) list) none
-        ∙ ap (λ (i : Chain). fold (with_listed texts (counts settings i) directory (length (place_in i directory))) (begun i []) list) is
+    pub own_from : (git : Option FileType) (inside : Chain) (counted excluded : Bool) (before : ℕ) (start : List (Item R E))
+        → git ≡ git_in texts directory list → inside ≡ entered (is_repository git) chain → counted ≡ counts settings inside → excluded ≡ is_git_dir git
+        → before ≡ length (place_in inside directory) → start ≡ []
+        → fold (with_listed texts counted excluded directory before) (begun inside start) list ≡ own_rules settings texts directory chain list
+    own_from git inside counted excluded before start git_is is counts_is excluded_is before_is none =
+        ap (λ (b : Bool). fold (with_listed texts b excluded directory before) (begun inside start) list) counts_is
+        ∙ ap (λ (b : Bool). fold (with_listed texts (counts settings inside) b directory before) (begun inside start) list) excluded_is
+        ∙ ap (λ (n : ℕ). fold (with_listed texts (counts settings inside) (is_git_dir git) directory n) (begun inside start) list) before_is
+        ∙ ap (λ (l : List (Item R E)). fold (with_listed texts (counts settings inside) (is_git_dir git) directory (length (place_in inside directory))) (begun inside l) list) none
+        ∙ ap (λ (i : Chain). fold (with_listed texts (counts settings i) (is_git_dir git) directory (length (place_in i directory))) (begun i []) list) is
+        ∙ ap (λ (found : Option FileType). fold (with_listed texts (counts settings (entered (is_repository found) chain)) (is_git_dir found) directory (length (place_in (entered (is_repository found) chain) directory)))
+        (begun (entered (is_repository found) chain) []) list) git_is
 
     -- of what its own rules make of a list, what is hidden or ignored is dropped
     pub left_from : (own : Made R E) (shown kept : List (Item R E)) → own ≡ own_rules settings texts directory chain list

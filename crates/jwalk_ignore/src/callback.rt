@@ -2,6 +2,7 @@
 
 pub mod builder;
 mod folder;
+mod git;
 pub mod ignore_files;
 mod listed;
 mod places;

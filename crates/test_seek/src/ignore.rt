@@ -9,6 +9,7 @@ mod planted;
 mod refused;
 mod rows;
 mod rules;
+mod starts;
 mod tree_rows;
 mod trees;
 mod unread;

@@ -1,11 +1,14 @@
 -- What the callback makes of lists: which rules are read, and what they leave.
 use Prim.Native.Nat.{zero}
-use Rattle.std.specs.Prelude.{ℕ, suc, Bool, true, false, ◌&&◌, ◌||◌, not, List, [], ◌∷◌, ◌++◌, filter, fold, reverse, length, bytes_eq, codes, Option, Some, None, option_map, Result, Ok, Err, if◌then◌else◌}
-use Rattle.std.specs.List.{list_any}
+use Rattle.std.specs.Prelude.{ℕ, suc, Bool, true, false, ◌&&◌, ◌||◌, not, List, [], ◌∷◌, ◌++◌, filter, find, fold, reverse, length, bytes_eq, codes, Option, Some, None, option_map, option_and_then, Result, Ok, Err, if◌then◌else◌}
+use Rattle.std.specs.Option.{option_map_or}
 use Rattle.std.specs.declared.io.ErrorKind.{ErrorKind}
 use Rattle.std.specs.declared.io.ErrorKind.TheVariants as kind
-use Rattle.jwalk.specs.jwalk_model.FileType.{is_dir, is_file}
-use Rattle.jwalk.specs.jwalk_model.Paths.{join, parent}
+use Rattle.jwalk.specs.jwalk_job.Error as error
+use Rattle.jwalk.specs.jwalk_model.FileType.{is_dir, is_file, is_symlink}
+use Rattle.jwalk.specs.jwalk_model.declared.file_type.FileType.{FileType}
+use Rattle.jwalk.specs.jwalk_model.declared.file_type.FileType.TheVariants as type
+use Rattle.jwalk.specs.jwalk_model.Paths.{file_name, join, parent}
 use Rattle.jwalk.specs.jwalk_model.Error.{io}
 use Rattle.jwalk.specs.jwalk_model.Entry.{Item, is_hidden}
 use Rattle.jwalk_ignore.specs.Rules.Chain.{Chain, below_root, entered, ignored, may_miss, place_in, with_link}
@@ -16,9 +19,29 @@ use Rattle.jwalk_ignore_rules.specs.declared.rules.rules_kind.RulesKind.{RulesKi
 use Rattle.jwalk_ignore_rules.specs.declared.rules.rules_kind.RulesKind.TheVariants as rules
 use Rattle.jwalk_ignore.specs.declared.callback.settings.Settings.{Settings}
 
--- the directory or file that makes a directory a repository
+-- what may make a directory a repository
 abbrev pub git : List ℕ
 git = codes ".git"
+
+-- the type that a path leads to, if that can be told
+abbrev pub type_told : Result FileType ErrorKind → Option FileType
+type_told (Ok type) = Some type
+type_told (Err k) = None
+
+-- what `.git` of a directory leads to
+abbrev pub git_at : Texts → List ℕ → Option FileType
+git_at texts directory = type_told (texts.target_type_of (join directory git))
+
+-- whether a `.git` that leads to this makes its directory a repository
+abbrev pub is_repository : Option FileType → Bool
+is_repository (Some type.Dir) = true
+is_repository (Some type.File) = true
+is_repository _ = false
+
+-- whether a `.git` that leads to this may hold `info/exclude`
+abbrev pub is_git_dir : Option FileType → Bool
+is_git_dir (Some type) = is_dir type
+is_git_dir None = false
 
 -- the file that has rules of a kind, below their directory
 abbrev pub file_of : RulesKind → List ℕ
@@ -37,23 +60,39 @@ kind_of_file counted name =
     else if counted && bytes_eq name (codes ".gitignore") then Some rules.Gitignore
     else None
 
--- the kind of rules that are read for an entry, where `.gitignore` counts or not
-abbrev pub kind_of : {R E : Type 0} → Bool → Item R E → Option RulesKind
-kind_of counted (Ok e) =
-    if is_file e.file_type then kind_of_file counted e.file_name
-    else if bytes_eq e.file_name git then Some rules.Exclude
-    else None
-kind_of counted (Err f) = None
+-- the kind of rules that an item has itself: it is a regular file, and no link to one
+abbrev pub own_kind : {R E : Type 0} → Bool → Item R E → Option RulesKind
+own_kind counted (Ok e) = if is_file e.file_type && not e.through_link then kind_of_file counted e.file_name else None
+own_kind counted (Err f) = None
 
--- whether an item is an entry of the name `.git`
+-- whether the last part of a path is `.git`
+abbrev pub is_git_path : List ℕ → Bool
+is_git_path path = option_map_or (λ name. bytes_eq name git) (file_name path) false
+
+-- whether an item is of the name `.git`: an entry, or an error at such a path
 abbrev pub is_git : {R E : Type 0} → Item R E → Bool
 is_git (Ok e) = bytes_eq e.file_name git
-is_git (Err f) = false
+is_git (Err f) = option_map_or is_git_path (error.path_of f) false
 
--- the depth of an entry
+-- the kind of rules that are read for an item, where `.gitignore` counts or not and `.git` may hold `info/exclude` or not
+abbrev pub kind_of : {R E : Type 0} → Bool → Bool → Item R E → Option RulesKind
+kind_of counted excluded x =
+    if is_git x then (if excluded then Some rules.Exclude else None)
+    else own_kind counted x
+
+-- the depth of an item
 abbrev pub depth_of : {R E : Type 0} → Item R E → ℕ
 depth_of (Ok e) = e.depth
-depth_of (Err f) = 0
+depth_of (Err f) = error.depth_of f
+
+-- what an item of the name `.git` leads to: the texts are asked where it is a link or an error
+abbrev pub git_by : {R E : Type 0} → Texts → List ℕ → Item R E → Option FileType
+git_by texts directory (Ok e) = if is_symlink e.file_type then git_at texts directory else Some e.file_type
+git_by texts directory (Err f) = git_at texts directory
+
+-- what `.git` leads to in the list of a directory
+abbrev pub git_in : {R E : Type 0} → Texts → List ℕ → List (Item R E) → Option FileType
+git_in texts directory list = option_and_then (git_by texts directory) (find is_git list)
 
 -- whether nothing is at a path
 abbrev pub is_missing : ErrorKind → Bool
@@ -61,10 +100,26 @@ is_missing kind.NotFound = true
 is_missing kind.NotADirectory = true
 is_missing _ = false
 
--- rules by their file's bytes; none where the file may be missing and is
-abbrev pub rules_found : Bool → Result (List ℕ) ErrorKind → Result (Option (List Pattern)) ErrorKind
-rules_found may_miss (Ok bytes) = Ok (Some (patterns_of bytes))
-rules_found may_miss (Err k) = if may_miss && is_missing k then Ok None else Err k
+-- the type of the file of rules of a kind at a path: `info/exclude` may be a link to one
+abbrev pub type_of : Texts → RulesKind → List ℕ → Result FileType ErrorKind
+type_of texts rules.Ignore path = texts.type_of path
+type_of texts rules.Gitignore path = texts.type_of path
+type_of texts rules.Exclude path = texts.target_type_of path
+
+-- rules by their file's bytes
+abbrev pub rules_read : Result (List ℕ) ErrorKind → Result (Option (List Pattern)) ErrorKind
+rules_read (Ok bytes) = Ok (Some (patterns_of bytes))
+rules_read (Err k) = Err k
+
+-- rules by the type of what is there, and by its bytes; none where nothing is, or no regular file
+abbrev pub rules_typed : Result FileType ErrorKind → Result (List ℕ) ErrorKind → Result (Option (List Pattern)) ErrorKind
+rules_typed (Ok type) bytes = if is_file type then rules_read bytes else Ok None
+rules_typed (Err k) bytes = if is_missing k then Ok None else Err k
+
+-- the rules of a kind at a path; a file that may be missing is looked for first
+abbrev pub rules_found : Texts → RulesKind → Bool → List ℕ → Result (Option (List Pattern)) ErrorKind
+rules_found texts kind may_miss path =
+    if may_miss then rules_typed (type_of texts kind path) (texts.bytes_of path) else rules_read (texts.bytes_of path)
 
 -- the rules of one file that are to be read: their kind, the folder that they are in, how much of a path is before what they match, the depth of the entry that they are read for, and whether the file may be missing
 pub record Source : Type 0 where
@@ -94,7 +149,7 @@ module _ {R E : Type 0} where
 
   -- with the rules of a file
   abbrev pub with_rules : Texts → Source → Made R E → Made R E
-  with_rules texts source made = with_found source (rules_found source.may_miss (texts.bytes_of (path_of source))) made
+  with_rules texts source made = with_found source (rules_found texts source.kind source.may_miss (path_of source)) made
 
   -- with one item more
   abbrev pub with_item : Item R E → Made R E → Made R E
@@ -105,7 +160,7 @@ abbrev pub source_in : List ℕ → ℕ → RulesKind → ℕ → Source
 source_in directory before kind depth = record { kind = kind; folder = directory; before = before; depth = depth; may_miss = may_miss kind }
 
 -- A directory's own list: each file of rules in it is read, and an error comes behind its entry.
-module _ {R E : Type 0} (texts : Texts) (counted : Bool) (directory : List ℕ) (before : ℕ) where
+module _ {R E : Type 0} (texts : Texts) (counted excluded : Bool) (directory : List ℕ) (before : ℕ) where
   -- with the rules of a kind, if there is one
   abbrev pub with_own : Option RulesKind → ℕ → Made R E → Made R E
   with_own None depth made = made
@@ -113,13 +168,14 @@ module _ {R E : Type 0} (texts : Texts) (counted : Bool) (directory : List ℕ) 
 
   -- with an item more, and the rules that are read for it
   abbrev pub with_listed : Made R E → Item R E → Made R E
-  with_listed made x = with_own (kind_of counted x) (depth_of x) (with_item x made)
+  with_listed made x = with_own (kind_of counted excluded x) (depth_of x) (with_item x made)
 
 -- the rules in force in a directory whose list this is, with those that it has itself, and the list with their errors
 abbrev pub own_rules : {R E : Type 0} → Settings → Texts → List ℕ → Chain → List (Item R E) → Made R E
 own_rules settings texts directory chain list =
-    let inside = entered (list_any is_git list) chain in
-    fold (with_listed texts (counts settings inside) directory (length (place_in inside directory))) (record { chain = inside; list = [] }) list
+    let found = git_in texts directory list in
+    let inside = entered (is_repository found) chain in
+    fold (with_listed texts (counts settings inside) (is_git_dir found) directory (length (place_in inside directory))) (record { chain = inside; list = [] }) list
 
 -- whether an item is an error, or an entry that is neither `.git` nor hidden
 abbrev pub is_shown : {R E : Type 0} → Settings → Item R E → Bool
@@ -142,23 +198,28 @@ abbrev pub root_of : {R E : Type 0} → Item R E → Option (List ℕ)
 root_of (Ok e) = option_map (λ c. c.path) e.read_children
 root_of (Err f) = None
 
--- a folder above the root, and whether it holds `.git`
+-- a folder above the root: what its `.git` leads to, and whether a nearer one is a repository, where `.git` doesn't count
 pub record Folder : Type 0 where
   pub path : List ℕ
-  pub is_repository : Bool
+  pub git : Option FileType
+  pub is_outer : Bool
+
+-- whether no `.git` counts above a folder
+abbrev pub ends_git : Folder → Bool
+ends_git folder = folder.is_outer || is_repository folder.git
 
 module _ (texts : Texts) where
   -- the folder at a path
-  abbrev pub folder_at : List ℕ → Folder
-  folder_at path = record { path = path; is_repository = texts.exists (join path git) }
+  abbrev pub folder_at : Bool → List ℕ → Folder
+  folder_at is_outer path = record { path = path; git = if is_outer then None else git_at texts path; is_outer = is_outer }
 
-  -- the folders above a path, the nearest first, up to the first that holds `.git`; at most this many
-  abbrev pub folders_above : ℕ → List ℕ → List Folder
-  folders_above zero path = []
-  folders_above (suc n) path =
+  -- the folders above a path, the nearest first, where a nearer one is a repository or none; at most this many
+  abbrev pub folders_above : Bool → ℕ → List ℕ → List Folder
+  folders_above is_outer zero path = []
+  folders_above is_outer (suc n) path =
       elim (parent path) [
         | None ↦ []
-        | Some above ↦ if texts.exists (join above git) then folder_at above ∷ [] else folder_at above ∷ folders_above n above
+        | Some above ↦ folder_at is_outer above ∷ folders_above (ends_git (folder_at is_outer above)) n above
       ]
 
 -- the rules of a kind in a folder above the root
@@ -168,23 +229,23 @@ source_above folder kind = record { kind = kind; folder = folder.path; before = 
 module _ {R E : Type 0} (settings : Settings) (texts : Texts) where
   -- the same chain, in a folder
   abbrev pub entered_above : Folder → Made R E → Made R E
-  entered_above folder made = record { chain = entered folder.is_repository made.chain; list = made.list }
+  entered_above folder made = record { chain = entered (is_repository folder.git) made.chain; list = made.list }
 
   -- with what is read of one kind in a folder
   abbrev pub with_above : Folder → Bool → RulesKind → Made R E → Made R E
   with_above folder read kind made = if read then with_rules texts (source_above folder kind) made else made
 
-  -- with the rules of a folder above the root
+  -- with the rules of a folder above the root: beyond a repository `.ignore` alone counts
   abbrev pub with_folder : Made R E → Folder → Made R E
   with_folder made folder =
       let inside = entered_above folder made in
       with_above folder true rules.Ignore
-      (with_above folder (counts settings inside.chain) rules.Gitignore
-      (with_above folder folder.is_repository rules.Exclude inside))
+      (with_above folder (not folder.is_outer && counts settings inside.chain) rules.Gitignore
+      (with_above folder (is_git_dir folder.git) rules.Exclude inside))
 
   -- with the rules of the folders above an absolute path, the farthest first
   abbrev pub with_folders : List ℕ → Made R E → Made R E
-  with_folders absolute made = fold with_folder made (reverse (folders_above texts (length absolute) absolute))
+  with_folders absolute made = fold with_folder made (reverse (folders_above texts false (length absolute) absolute))
 
   -- with the rules above a root, if its absolute path is found
   abbrev pub with_absolute : List ℕ → Made R E → Result (List ℕ) ErrorKind → Made R E

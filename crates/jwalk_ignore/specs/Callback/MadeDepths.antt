@@ -1,11 +1,10 @@
 -- The lists that rules make are at the depth of the list.
-use Rattle.std.specs.Prelude.{ℕ, Bool, true, false, cond, List, [], ◌∷◌, ◌++◌, map, filter, fold, length, reverse, Option, Some, None, Result, Ok, Err}
-use Rattle.std.specs.List.{list_any}
+use Rattle.std.specs.Prelude.{ℕ, Bool, true, false, not, ◌&&◌, cond, List, [], ◌∷◌, ◌++◌, map, filter, fold, length, reverse, Option, Some, None, Result, Ok, Err}
 use Rattle.std.specs.declared.io.ErrorKind.{ErrorKind}
 use Rattle.jwalk.specs.jwalk_model.Error.{io}
 use Rattle.jwalk.specs.jwalk_model.Entry.{Item, AtDepth}
 use Rattle.jwalk_ignore.specs.Rules.Chain.{Chain, below_root, entered, place_in}
-use Rattle.jwalk_ignore.specs.Callback.IgnoreFiles.{Folder, Made, Source, by_rules, counts, depth_of, entered_above, folders_above, is_git, is_kept, is_shown, kind_of, own_rules, path_of, root_of, rules_found, source_above, source_in, with_above, with_absolute, with_folder, with_found, with_item, with_listed, with_own, with_root, with_root_item, with_rules}
+use Rattle.jwalk_ignore.specs.Callback.IgnoreFiles.{Folder, Made, Source, by_rules, counts, depth_of, entered_above, folders_above, git_in, is_git_dir, is_kept, is_repository, is_shown, kind_of, own_rules, path_of, root_of, rules_found, source_above, source_in, with_above, with_absolute, with_folder, with_found, with_item, with_listed, with_own, with_root, with_root_item, with_rules}
 use Rattle.jwalk_ignore.specs.Pattern.{Pattern}
 use Rattle.jwalk_ignore.specs.Rules.Texts.{Texts}
 use Rattle.jwalk_ignore_rules.specs.declared.rules.rules_kind.RulesKind.{RulesKind}
@@ -68,15 +67,15 @@ module _ {R E : Type 0} (depth : ℕ) where
   found_at_depth source (Err e) made k = append_at depth made.list (Err (io source.depth (Some (path_of source)) e) ∷ []) k tt
 
   rules_at : (texts : Texts) (source : Source) (made : Made R E) → IsAt made → IsAt (with_rules texts source made)
-  rules_at texts source made k = found_at_depth source (rules_found source.may_miss (texts.bytes_of (path_of source))) made k
+  rules_at texts source made k = found_at_depth source (rules_found texts source.kind source.may_miss (path_of source)) made k
 
-  own_at : (texts : Texts) (counted : Bool) (directory : List ℕ) (before : ℕ) (kind : Option RulesKind) (d : ℕ) (made : Made R E) → IsAt made → IsAt (with_own texts counted directory before kind d made)
-  own_at texts counted directory before None d made k = k
-  own_at texts counted directory before (Some kind) d made k = rules_at texts (source_in directory before kind d) made k
+  own_at : (texts : Texts) (counted excluded : Bool) (directory : List ℕ) (before : ℕ) (kind : Option RulesKind) (d : ℕ) (made : Made R E) → IsAt made → IsAt (with_own texts counted excluded directory before kind d made)
+  own_at texts counted excluded directory before None d made k = k
+  own_at texts counted excluded directory before (Some kind) d made k = rules_at texts (source_in directory before kind d) made k
 
-  listed_at : (texts : Texts) (counted : Bool) (directory : List ℕ) (before : ℕ) (made : Made R E) (x : Item R E) → AtDepth depth (x ∷ []) → IsAt made → IsAt (with_listed texts counted directory before made x)
-  listed_at texts counted directory before made x h k =
-      own_at texts counted directory before (kind_of counted x) (depth_of x) (with_item x made) (item_at x made h k)
+  listed_at : (texts : Texts) (counted excluded : Bool) (directory : List ℕ) (before : ℕ) (made : Made R E) (x : Item R E) → AtDepth depth (x ∷ []) → IsAt made → IsAt (with_listed texts counted excluded directory before made x)
+  listed_at texts counted excluded directory before made x h k =
+      own_at texts counted excluded directory before (kind_of counted excluded x) (depth_of x) (with_item x made) (item_at x made h k)
 
   module _ (settings : Settings) (texts : Texts) where
     above_at : (folder : Folder) (read : Bool) (kind : RulesKind) (made : Made R E) → IsAt made → IsAt (with_above settings texts folder read kind made)
@@ -86,16 +85,17 @@ module _ {R E : Type 0} (depth : ℕ) where
     folder_at : (made : Made R E) (folder : Folder) → IsAt made → IsAt (with_folder settings texts made folder)
     folder_at made folder k =
         let inside : Made R E = entered_above settings texts folder made in
-        let first : Made R E = with_above settings texts folder folder.is_repository rules.Exclude inside in
-        let second : Made R E = with_above settings texts folder (counts settings inside.chain) rules.Gitignore first in
-        above_at folder true rules.Ignore second (above_at folder (counts settings inside.chain) rules.Gitignore first (above_at folder folder.is_repository rules.Exclude inside k))
+        let counted : Bool = not folder.is_outer && counts settings inside.chain in
+        let first : Made R E = with_above settings texts folder (is_git_dir folder.git) rules.Exclude inside in
+        let second : Made R E = with_above settings texts folder counted rules.Gitignore first in
+        above_at folder true rules.Ignore second (above_at folder counted rules.Gitignore first (above_at folder (is_git_dir folder.git) rules.Exclude inside k))
 
     folders_at : (made : Made R E) (folders : List Folder) → IsAt made → IsAt (fold (with_folder settings texts) made folders)
     folders_at made [] k = k
     folders_at made (folder ∷ folders) k = folders_at (with_folder settings texts made folder) folders (folder_at made folder k)
 
     absolute_at : (root : List ℕ) (made : Made R E) (found : Result (List ℕ) ErrorKind) → IsAt made → IsAt (with_absolute settings texts root made found)
-    absolute_at root made (Ok absolute) k = folders_at (record { chain = below_root root absolute; list = made.list }) (reverse (folders_above texts (length absolute) absolute)) k
+    absolute_at root made (Ok absolute) k = folders_at (record { chain = below_root root absolute; list = made.list }) (reverse (folders_above texts false (length absolute) absolute)) k
     absolute_at root made (Err e) k = append_at depth made.list (Err (io 0 (Some root) e) ∷ []) k tt
 
     root_at : (root : Option (List ℕ)) (made : Made R E) → IsAt made → IsAt (with_root settings texts root made)
@@ -108,9 +108,10 @@ module _ {R E : Type 0} (depth : ℕ) where
         fold_at depth (with_root_item settings texts) (λ (m : Made R E). m.list)
         (λ made x one k. root_at (root_of x) (with_item x made) (item_at x made one k)) (record { chain = chain; list = [] }) list h tt
     by_rules_at (Some d) path chain list h =
-        let inside : Chain = entered (list_any is_git list) chain in
+        let excluded : Bool = is_git_dir (git_in texts path list) in
+        let inside : Chain = entered (is_repository (git_in texts path list)) chain in
         let own : Made R E = own_rules settings texts path chain list in
         filter_at depth (is_kept own.chain (place_in own.chain path)) (filter (is_shown settings) own.list)
         (filter_at depth (is_shown settings) own.list
-        (fold_at depth (with_listed texts (counts settings inside) path (length (place_in inside path))) (λ (m : Made R E). m.list)
-        (listed_at texts (counts settings inside) path (length (place_in inside path))) (record { chain = inside; list = [] }) list h tt))
+        (fold_at depth (with_listed texts (counts settings inside) excluded path (length (place_in inside path))) (λ (m : Made R E). m.list)
+        (listed_at texts (counts settings inside) excluded path (length (place_in inside path))) (record { chain = inside; list = [] }) list h tt))

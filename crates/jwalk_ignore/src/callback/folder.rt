@@ -1,12 +1,14 @@
 //! The folders above a root.
-ghost use Rattle.std.specs.Prelude.{◌≡◌, IfOk, length, map};
-ghost use Rattle.jwalk_ignore.specs.Callback.IgnoreFiles.{folder_at, folders_above, source_above};
+ghost use Rattle.std.specs.Prelude.{◌≡◌, false, IfOk, length, map};
+ghost use Rattle.jwalk_ignore.specs.Callback.IgnoreFiles.{ends_git, folder_at, folders_above, source_above};
 ghost use Rattle.jwalk_ignore.specs.Callback.Folders.{folder_value};
 ghost use Rattle.jwalk_ignore.specs.Callback.Sources.{source_value};
 
+use crate::callback::git::{git_at, is_repository};
 use crate::callback::source::Source;
 use crate::rules::rules_kind::RulesKind;
 use crate::rules::texts::Texts;
+use jwalk::file_system::FileType;
 use jwalk::path_text;
 use std::alloc::{AllocError, Allocator};
 
@@ -14,26 +16,40 @@ use std::alloc::{AllocError, Allocator};
 #[derive(Clone, Copy)]
 pub(crate) struct Folder<'p> {
     path: &'p str,
-    /// It holds `.git`.
-    pub(crate) is_repository: bool,
+    /// What its `.git` leads to, where that counts.
+    pub(crate) git: Option<FileType>,
+    /// A nearer folder is a repository.
+    pub(crate) is_outer: bool,
 }
 
 impl<'p> Folder<'p> {
-    /// Returns the folder at a path.
+    /// Returns the folder at a path. Beyond a repository its `.git` doesn't count.
     fn at<T: Texts, A: Allocator + Copy>(
         texts: &T,
         alloc: A,
+        is_outer: bool,
         path: &'p str,
     ) -> Result<Self, AllocError>
         ensures { T.IsFixed texts.now
-            → IfOk result (λ folder. folder_value folder ≡ folder_at (T.functions texts.now) path.now) }
+            → IfOk result (λ folder. folder_value folder ≡ folder_at (T.functions texts.now) is_outer path.now) }
     {
-        let git = path_text::join(alloc, path, ".git")?;
-        let is_repository = texts.exists(git.as_str())?;
+        let git = if is_outer {
+            None
+        } else {
+            git_at(texts, alloc, path)?
+        };
         Ok(Folder {
             path,
-            is_repository,
+            git,
+            is_outer,
         })
+    }
+
+    /// Returns whether no `.git` counts above it.
+    fn ends_git(self) -> bool
+        ensures { result ≡ ends_git (folder_value self) }
+    {
+        self.is_outer || is_repository(self.git)
     }
 
     /// Returns the folder's file of rules of a kind.
@@ -50,27 +66,26 @@ impl<'p> Folder<'p> {
     }
 }
 
-/// Returns the folders above a path, the nearest first, up to the first that holds `.git`.
+/// Returns the folders above a path, the nearest first, up to `/`.
 pub(crate) fn folders_above<'p, T: Texts, A: Allocator + Copy>(
     texts: &T,
     alloc: A,
     path: &'p str,
 ) -> Result<Vec<Folder<'p>, A>, AllocError>
     ensures { T.IsFixed texts.now → IfOk result (λ folders. map folder_value folders.items
-        ≡ folders_above (T.functions texts.now) (length path.now) path.now) }
+        ≡ folders_above (T.functions texts.now) false (length path.now) path.now) }
 {
     let mut folders = Vec::new(alloc);
     let mut rest = path;
     let mut left = path.len();
+    let mut is_outer = false;
     'folders: while left > 0 {
         let Some(above) = path_text::parent(rest) else {
             return Ok(folders);
         };
-        let folder = Folder::at(texts, alloc, above)?;
+        let folder = Folder::at(texts, alloc, is_outer, above)?;
         folders.push(folder)?;
-        if folder.is_repository {
-            return Ok(folders);
-        }
+        is_outer = folder.ends_git();
         rest = above;
         left -= 1;
     }

@@ -28,13 +28,13 @@ use std::mem;
 ///
 /// - All `.ignore` files decide before all `.gitignore` files, and these before `.git/info/exclude`. Of one kind the
 ///   nearer decides first, and in one file the last pattern that matches.
-/// - `.gitignore` counts in a directory that holds `.git`, and below it. Below another `.git` the rules of the outer
-///   repository end; those of `.ignore` go on.
-/// - `.git` is dropped, as directory and as file. Where it is a file, no `info/exclude` is read.
-/// - A file of rules is read where the list has a regular file of its name. If it can't be read, an error with its path
-///   comes right behind its entry, and it has no rules.
-/// - The rules of folders above the root, up to the first that holds `.git`, are read once, for the root's list. The
-///   root itself is never dropped.
+/// - `.gitignore` counts in a repository: a directory whose `.git` leads to a directory or a file, and all below it. In
+///   another repository the rules of the outer one end; those of `.ignore` go on.
+/// - `.git` is dropped, as directory, as file and as link. Where it is a file, no `info/exclude` is read.
+/// - A file of rules is read where the list has a regular file of its name that is no link. If it can't be read, an error
+///   with its path comes right behind its entry, and it has no rules.
+/// - The rules of folders above the root are read once, for the root's list: those that would be in force if the walk had
+///   begun at `/`. The root itself is never dropped.
 ///
 /// If memory runs out, the callback fails with that.
 #[derive(Drop)]

@@ -1,13 +1,15 @@
 //! Items of a list, as rules see them.
-ghost use Rattle.std.specs.Prelude.{◌≡◌, IfOk, map, filter, option_map, string_bytes};
-ghost use Rattle.std.specs.List.{list_any};
+ghost use Rattle.std.specs.Prelude.{◌≡◌, IfOk, map, filter, find, option_map, string_bytes};
 ghost use Rattle.jwalk.specs.jwalk_job.Entry.{item};
 ghost use Rattle.jwalk.specs.jwalk_model.Entry.{is_hidden};
-ghost use Rattle.jwalk_ignore.specs.Callback.IgnoreFiles.{depth_of, is_git, is_shown, kind_of, kind_of_file, root_of};
+ghost use Rattle.jwalk_ignore.specs.Callback.IgnoreFiles.{depth_of, git_by, git_in, is_git, is_git_path, is_shown, kind_of, kind_of_file, own_kind, root_of};
 
+use crate::callback::git::git_at;
 use crate::callback::settings::Settings;
 use crate::rules::rules_kind::RulesKind;
-use jwalk::{ClientState, DirEntry, Error};
+use crate::rules::texts::Texts;
+use jwalk::file_system::FileType;
+use jwalk::{ClientState, DirEntry, Error, path_text};
 use std::alloc::{AllocError, Allocator};
 
 /// Returns the kind of rules that a regular file of this name has.
@@ -23,21 +25,40 @@ fn kind_of_file(counted: bool, name: &str) -> Option<RulesKind>
     }
 }
 
-/// Returns the kind of rules that are read for an item, where `.gitignore` counts or not.
-pub(crate) fn kind_of<C: ClientState, A: Allocator + Copy>(
+/// Returns the kind of rules that an item has itself: it is a regular file, and no link to one.
+fn own_kind<C: ClientState, A: Allocator + Copy>(
     counted: bool,
     found: &Result<DirEntry<C, A>, Error<A>>,
 ) -> Option<RulesKind>
-    ensures { result ≡ kind_of counted (item found.now) }
+    ensures { result ≡ own_kind counted (item found.now) }
 {
     match found {
-        Ok(entry) if entry.file_type.is_file() => kind_of_file(counted, entry.file_name.as_str()),
-        Ok(entry) if entry.file_name.as_str() == ".git" => Some(RulesKind::Exclude),
+        Ok(entry) if entry.file_type.is_file() && !entry.path_is_symlink() => {
+            kind_of_file(counted, entry.file_name.as_str())
+        }
         _ => None,
     }
 }
 
-/// Returns the depth of an item that is an entry.
+/// Returns the kind of rules that are read for an item, where `.gitignore` counts or not and `.git` may hold
+/// `info/exclude` or not.
+pub(crate) fn kind_of<C: ClientState, A: Allocator + Copy>(
+    counted: bool,
+    excluded: bool,
+    found: &Result<DirEntry<C, A>, Error<A>>,
+) -> Option<RulesKind>
+    ensures { result ≡ kind_of counted excluded (item found.now) }
+{
+    if !is_git(found) {
+        own_kind(counted, found)
+    } else if excluded {
+        Some(RulesKind::Exclude)
+    } else {
+        None
+    }
+}
+
+/// Returns the depth of an item.
 pub(crate) fn depth_of<C: ClientState, A: Allocator + Copy>(
     found: &Result<DirEntry<C, A>, Error<A>>,
 ) -> usize
@@ -45,29 +66,72 @@ pub(crate) fn depth_of<C: ClientState, A: Allocator + Copy>(
 {
     match found {
         Ok(entry) => entry.depth,
-        Err(_) => 0,
+        Err(error) => error.depth(),
     }
 }
 
-/// Returns whether an item is an entry of the name `.git`.
-pub(crate) fn is_git<C: ClientState, A: Allocator + Copy>(
-    found: &Result<DirEntry<C, A>, Error<A>>,
-) -> bool
+/// Returns whether the last part of a path is `.git`.
+fn is_git_path(path: &str) -> bool
+    ensures { result ≡ is_git_path path.now }
+{
+    match path_text::file_name(path) {
+        Some(name) => name == ".git",
+        None => false,
+    }
+}
+
+/// Returns whether an item is of the name `.git`: an entry, or an error at such a path.
+fn is_git<C: ClientState, A: Allocator + Copy>(found: &Result<DirEntry<C, A>, Error<A>>) -> bool
     ensures { result ≡ is_git (item found.now) }
 {
     match found {
         Ok(entry) => entry.file_name.as_str() == ".git",
-        Err(_) => false,
+        Err(error) => match error.path() {
+            Some(path) => is_git_path(path),
+            None => false,
+        },
     }
 }
 
-/// Returns whether a list has an entry of the name `.git`.
-pub(crate) fn holds_git<C: ClientState, A: Allocator + Copy>(
-    list: &[Result<DirEntry<C, A>, Error<A>>],
-) -> bool
-    ensures { result ≡ list_any is_git (map item list.now) }
+/// Returns the first item of the name `.git`.
+fn git_of<'l, C: ClientState, A: Allocator + Copy>(
+    list: &'l [Result<DirEntry<C, A>, Error<A>>],
+) -> Option<&'l Result<DirEntry<C, A>, Error<A>>>
+    ensures { option_map (λ found. item found.now) result ≡ find is_git (map item list.now) }
 {
-    list.iter().any(|found| is_git(found))
+    list.iter().find(|found| is_git(*found))
+}
+
+/// Returns what an item of the name `.git` leads to: the texts are asked where it is a link or an error.
+fn git_by<T: Texts, C: ClientState, A: Allocator + Copy>(
+    texts: &T,
+    alloc: A,
+    directory: &str,
+    found: &Result<DirEntry<C, A>, Error<A>>,
+) -> Result<Option<FileType>, AllocError>
+    ensures { T.IsFixed texts.now → IfOk result (λ git. git
+        ≡ git_by (T.functions texts.now) directory.now (item found.now)) }
+{
+    match found {
+        Ok(entry) if !entry.file_type.is_symlink() => Ok(Some(entry.file_type)),
+        _ => git_at(texts, alloc, directory),
+    }
+}
+
+/// Returns what `.git` leads to in the list of a directory.
+pub(crate) fn git_in<T: Texts, C: ClientState, A: Allocator + Copy>(
+    texts: &T,
+    alloc: A,
+    directory: &str,
+    list: &[Result<DirEntry<C, A>, Error<A>>],
+) -> Result<Option<FileType>, AllocError>
+    ensures { T.IsFixed texts.now → IfOk result (λ git. git
+        ≡ git_in (T.functions texts.now) directory.now (map item list.now)) }
+{
+    match git_of(list) {
+        Some(found) => git_by(texts, alloc, directory, found),
+        None => Ok(None),
+    }
 }
 
 /// Returns whether a name is hidden.

@@ -10,7 +10,8 @@ ghost use Rattle.jwalk_ignore.specs.Callback.Places.{IsPlaced};
 ghost use Rattle.jwalk_ignore.specs.Callback.Sources.{made_value};
 
 use crate::callback::folder::{Folder, folders_above};
-use crate::callback::listed::{depth_of, drop_hidden, holds_git, kind_of, root_of};
+use crate::callback::git::{is_git_dir, is_repository};
+use crate::callback::listed::{depth_of, drop_hidden, git_in, kind_of, root_of};
 use crate::callback::places::Places;
 use crate::callback::settings::Settings;
 use crate::callback::source::{Made, Source};
@@ -37,6 +38,8 @@ struct Directory<'p> {
     before: usize,
     /// Whether `.gitignore` counts in it.
     counted: bool,
+    /// Whether its `.git` may hold `info/exclude`.
+    excluded: bool,
 }
 
 /// Returns whether rules don't ignore an item.
@@ -105,12 +108,13 @@ impl<T: Texts> RulesReader<T> {
         made: &mut Made<C, A>,
     ) -> Result<(), AllocError>
         ensures value { T.IsFixed self.now.texts → OnOk result (made_value made.new
-            ≡ with_listed (T.functions self.now.texts) of.entry.counted of.entry.path.now of.entry.before (made_value made.old) (item found)) }
+            ≡ with_listed (T.functions self.now.texts) of.entry.counted of.entry.excluded of.entry.path.now of.entry.before
+            (made_value made.old) (item found)) }
         ensures depth { (depth : _) → AtDepth depth (item found ∷ []) → AtDepth depth (map item made.old.list.items)
             → OnOk result (AtDepth depth (map item made.new.list.items)) }
     {
         let depth = depth_of(&found);
-        let kind = kind_of(of.counted, &found);
+        let kind = kind_of(of.counted, of.excluded, &found);
         made.add_item(found)?;
         let Some(kind) = kind else {
             return Ok(());
@@ -133,7 +137,7 @@ impl<T: Texts> RulesReader<T> {
         made: &mut Made<C, A>,
     ) -> Result<(), AllocError>
         ensures value { T.IsFixed self.now.texts → OnOk result (made_value made.new
-            ≡ fold (with_listed (T.functions self.now.texts) of.entry.counted of.entry.path.now of.entry.before)
+            ≡ fold (with_listed (T.functions self.now.texts) of.entry.counted of.entry.excluded of.entry.path.now of.entry.before)
             (made_value made.old) (map item list.items)) }
         ensures depth { (depth : _) → AtDepth depth (map item list.items) → AtDepth depth (map item made.old.list.items)
             → OnOk result (AtDepth depth (map item made.new.list.items)) }
@@ -157,11 +161,13 @@ impl<T: Texts> RulesReader<T> {
             → IfOk result (λ made. AtDepth depth (map item made.list.items)) }
     {
         let alloc = *list.allocator();
-        let chain = chain.entered(alloc, holds_git(&list))?;
+        let git = git_in(&self.texts, alloc, directory, &list)?;
+        let chain = chain.entered(alloc, is_repository(git))?;
         let of = Directory {
             path: directory,
             before: chain.place_len(directory),
             counted: self.settings.counts(&chain),
+            excluded: is_git_dir(git),
         };
         let mut made = Made {
             chain,
@@ -219,9 +225,9 @@ impl<T: Texts> RulesReader<T> {
         ensures depth { (depth : _) → AtDepth depth (map item made.old.list.items)
             → OnOk result (AtDepth depth (map item made.new.list.items)) }
     {
-        made.enter(folder.is_repository)?;
-        let counted = self.settings.counts(&made.chain);
-        self.add_above(folder, folder.is_repository, RulesKind::Exclude, made)?;
+        made.enter(is_repository(folder.git))?;
+        let counted = !folder.is_outer && self.settings.counts(&made.chain);
+        self.add_above(folder, is_git_dir(folder.git), RulesKind::Exclude, made)?;
         self.add_above(folder, counted, RulesKind::Gitignore, made)?;
         self.add_above(folder, true, RulesKind::Ignore, made)
     }

@@ -5,7 +5,7 @@ ghost use Rattle.jwalk.specs.jwalk_model.Error.{io};
 ghost use Rattle.jwalk.specs.jwalk_model.Entry.{AtDepth};
 ghost use Rattle.jwalk.specs.jwalk_fs.Views.{AnswersValue};
 ghost use Rattle.jwalk.specs.jwalk_job.Entry.{item};
-ghost use Rattle.jwalk_ignore.specs.Callback.IgnoreFiles.{file_of, is_missing, path_of, rules_found, with_found, with_item, with_rules};
+ghost use Rattle.jwalk_ignore.specs.Callback.IgnoreFiles.{file_of, is_missing, path_of, rules_found, rules_read, rules_typed, type_of, with_found, with_item, with_rules};
 ghost use Rattle.jwalk_ignore.specs.Rules.Chain.{entered, with_link};
 ghost use Rattle.jwalk_ignore.specs.Rules.ChainViews.{chain_value};
 ghost use Rattle.jwalk_ignore.specs.Callback.Sources.{made_value, source_value};
@@ -16,7 +16,7 @@ use crate::rules::chain::Chain;
 use crate::rules::link::Link;
 use crate::rules::rules_kind::RulesKind;
 use crate::rules::texts::Texts;
-use jwalk::file_system::Fault;
+use jwalk::file_system::{Fault, FileType};
 use jwalk::{ClientState, DirEntry, Error, path_text};
 use std::alloc::{AllocError, Allocator};
 use std::io::ErrorKind;
@@ -34,7 +34,7 @@ pub(crate) struct Source<'p> {
     pub(crate) before: usize,
     /// The depth of the entry that they are read for.
     pub(crate) depth: usize,
-    /// Whether the file may be missing.
+    /// Whether the file may be missing, so that it is looked for first.
     pub(crate) may_miss: bool,
 }
 
@@ -56,20 +56,63 @@ fn is_missing(kind: ErrorKind) -> bool
     matches!(kind, ErrorKind::NotFound | ErrorKind::NotADirectory)
 }
 
-/// Returns the rules of the file at a path. None if it may be missing and is.
-fn rules_at<T: Texts, A: Allocator + Copy>(
+/// Returns the type of the file of rules of a kind at a path. That of `info/exclude` may be a link to one.
+fn type_of<T: Texts>(texts: &T, kind: RulesKind, path: &str) -> Result<FileType, Fault>
+    ensures { T.IsFixed texts.now
+        → AnswersValue (λ file_type. file_type) result (type_of (T.functions texts.now) kind path.now) }
+{
+    match kind {
+        RulesKind::Ignore | RulesKind::Gitignore => texts.file_type(path),
+        RulesKind::Exclude => texts.target_type(path),
+    }
+}
+
+/// Returns the rules of the file at a path.
+fn rules_read<T: Texts, A: Allocator + Copy>(
     texts: &T,
     alloc: A,
     path: &str,
-    may_miss: bool,
 ) -> Result<Option<Rules<A>>, Fault>
     ensures { T.IsFixed texts.now → AnswersValue (option_map rules_value) result
-        (rules_found may_miss ((T.functions texts.now).bytes_of path.now)) }
+        (rules_read ((T.functions texts.now).bytes_of path.now)) }
 {
-    match texts.read(alloc, path) {
-        Ok(bytes) => Ok(Some(Rules::parse(alloc, &bytes)?)),
-        Err(Fault::Io(error)) if may_miss && is_missing(error.kind()) => Ok(None),
+    let bytes = texts.read(alloc, path)?;
+    Ok(Some(Rules::parse(alloc, &bytes)?))
+}
+
+/// Returns the rules of a kind at a path, if a regular file is there.
+fn rules_looked_for<T: Texts, A: Allocator + Copy>(
+    texts: &T,
+    alloc: A,
+    kind: RulesKind,
+    path: &str,
+) -> Result<Option<Rules<A>>, Fault>
+    ensures { T.IsFixed texts.now → AnswersValue (option_map rules_value) result
+        (rules_typed (type_of (T.functions texts.now) kind path.now) ((T.functions texts.now).bytes_of path.now)) }
+{
+    match type_of(texts, kind, path) {
+        Ok(file_type) if file_type.is_file() => rules_read(texts, alloc, path),
+        Ok(_) => Ok(None),
+        Err(Fault::Io(error)) if is_missing(error.kind()) => Ok(None),
         Err(fault) => Err(fault),
+    }
+}
+
+/// Returns the rules of a kind at a path. A file that may be missing is looked for first.
+fn rules_at<T: Texts, A: Allocator + Copy>(
+    texts: &T,
+    alloc: A,
+    kind: RulesKind,
+    may_miss: bool,
+    path: &str,
+) -> Result<Option<Rules<A>>, Fault>
+    ensures { T.IsFixed texts.now → AnswersValue (option_map rules_value) result
+        (rules_found (T.functions texts.now) kind may_miss path.now) }
+{
+    if may_miss {
+        rules_looked_for(texts, alloc, kind, path)
+    } else {
+        rules_read(texts, alloc, path)
     }
 }
 
@@ -145,7 +188,7 @@ impl<C: ClientState, A: Allocator + Copy> Made<C, A> {
     {
         let alloc = *self.list.allocator();
         let path = path_text::join(alloc, source.folder, file_of(source.kind))?;
-        let found = rules_at(texts, alloc, path.as_str(), source.may_miss);
+        let found = rules_at(texts, alloc, source.kind, source.may_miss, path.as_str());
         self.add_found(source, path, found)
     }
 

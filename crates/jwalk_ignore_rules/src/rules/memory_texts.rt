@@ -1,25 +1,40 @@
 //! Texts in memory.
-ghost use Rattle.std.specs.Prelude.{◌≡◌, ℕ, List, None, Some, Ok, Err, IfOk, OnOk, option_map};
+ghost use Rattle.std.specs.Prelude.{◌≡◌, ℕ, List, None, Ok, Err, IfOk, OnOk, option_map};
 
 use crate::rules::texts::Texts;
 use jwalk_fs::fault::Fault;
+use jwalk_model::file_type::FileType;
 use jwalk_fs::path_text;
 use std::alloc::{AllocError, Allocator, Global};
 use std::collections::BTreeMap;
 use std::io;
 use std::io::ErrorKind;
 
-/// What is at a path: a file's bytes, or the kind of the error that reading it ends in.
+/// What is at a path: a regular file's bytes, or something that can't be read.
 #[derive(Drop)]
 pub(crate) enum Content<A: Allocator + Copy> {
-    /// The file is read.
+    /// A regular file that is read.
     Bytes(Vec<u8, A>),
-    /// The file is there and isn't read.
-    Denied(ErrorKind),
+    /// Something of this type, which reading ends in an error of this kind.
+    Unread(FileType, ErrorKind),
 }
 
-/// A map in memory from paths to the bytes of files. A path exists if it was put in, and a path is absolute from `/` on.
-/// Paths are compared byte for byte.
+impl<A: Allocator + Copy> Content<A> {
+    ghost use Rattle.jwalk_ignore_rules.specs.Rules.MemoryTexts.{stored};
+
+    /// Returns its type.
+    fn file_type(&self) -> FileType
+        ensures { result ≡ (stored self.now).file_type }
+    {
+        match self {
+            Content::Bytes(_) => FileType::File,
+            Content::Unread(file_type, _) => *file_type,
+        }
+    }
+}
+
+/// A map in memory from paths to the bytes of files. At a path is what was put there, a link leads nowhere, and a path is
+/// absolute from `/` on. Paths are compared byte for byte.
 pub struct MemoryTexts<A: Allocator + Copy = Global> {
     alloc: A,
     contents: BTreeMap<String<A>, Content<A>, A>,
@@ -35,7 +50,7 @@ impl<A: Allocator + Copy> Drop for MemoryTexts<A> {
 }
 
 impl<A: Allocator + Copy> MemoryTexts<A> {
-    ghost use Rattle.jwalk_ignore_rules.specs.Rules.MemoryTexts.{Holds, content, found_at};
+    ghost use Rattle.jwalk_ignore_rules.specs.Rules.MemoryTexts.{Holds, file, found_at, stored};
 
     /// Returns no texts. The allocator serves all that is put in.
     pub fn new(alloc: A) -> Self
@@ -47,32 +62,49 @@ impl<A: Allocator + Copy> MemoryTexts<A> {
         }
     }
 
-    /// Puts a file with these bytes at a path, in place of what is there.
+    /// Puts a regular file with these bytes at a path, in place of what is there.
     ///
     /// # Errors
     ///
     /// If memory runs out.
     pub fn add(&mut self, path: &str, bytes: &[u8]) -> Result<(), AllocError>
-        ensures { OnOk result (Holds path.now (Ok bytes.now) self.old self.new) }
+        ensures { OnOk result (Holds path.now (file (Ok bytes.now)) self.old self.new) }
     {
         let bytes = copied(self.alloc, bytes)?;
         self.put(path, Content::Bytes(bytes))
     }
 
-    /// Puts a file at a path that exists and can't be read: it is an error of this kind.
+    /// Puts a regular file at a path that can't be read: it is an error of this kind.
     ///
     /// # Errors
     ///
     /// If memory runs out.
     pub fn deny(&mut self, path: &str, kind: ErrorKind) -> Result<(), AllocError>
-        ensures { OnOk result (Holds path.now (Err kind) self.old self.new) }
+        ensures { OnOk result (Holds path.now (file (Err kind)) self.old self.new) }
     {
-        self.put(path, Content::Denied(kind))
+        self.put(path, Content::Unread(FileType::File, kind))
+    }
+
+    /// Puts something of a type at a path that can't be read: it is an error of this kind. A link leads nowhere.
+    ///
+    /// # Errors
+    ///
+    /// If memory runs out.
+    pub fn add_unread(
+        &mut self,
+        path: &str,
+        file_type: FileType,
+        kind: ErrorKind,
+    ) -> Result<(), AllocError>
+        ensures { OnOk result (Holds path.now (record { file_type = file_type; bytes = Err kind })
+            self.old self.new) }
+    {
+        self.put(path, Content::Unread(file_type, kind))
     }
 
     /// Puts something at a path.
     fn put(&mut self, path: &str, there: Content<A>) -> Result<(), AllocError>
-        ensures { OnOk result (Holds path.now (content there) self.old self.new) }
+        ensures { OnOk result (Holds path.now (stored there) self.old self.new) }
     {
         let path = String::from_str(self.alloc, path)?;
         self.contents.insert(path, there)?;
@@ -81,7 +113,7 @@ impl<A: Allocator + Copy> MemoryTexts<A> {
 
     /// Returns what is at a path.
     fn found(&self, path: &str) -> Option<&Content<A>>
-        ensures { option_map (λ there. content there.now) result ≡ found_at self.now path.now }
+        ensures { option_map (λ there. stored there.now) result ≡ found_at self.now path.now }
     {
         self.contents.get(path)
     }
@@ -106,13 +138,23 @@ impl<A: Allocator + Copy> Texts for MemoryTexts<A> {
     fn read<B: Allocator + Copy>(&self, alloc: B, path: &str) -> Result<Vec<u8, B>, Fault> {
         match self.found(path) {
             Some(Content::Bytes(bytes)) => Ok(copied(alloc, bytes)?),
-            Some(Content::Denied(kind)) => Err(Fault::Io(io::Error::from(*kind))),
+            Some(Content::Unread(_, kind)) => Err(Fault::Io(io::Error::from(*kind))),
             None => Err(Fault::Io(io::Error::from(ErrorKind::NotFound))),
         }
     }
 
-    fn exists(&self, path: &str) -> Result<bool, AllocError> {
-        Ok(self.found(path).is_some())
+    fn file_type(&self, path: &str) -> Result<FileType, Fault> {
+        match self.found(path) {
+            Some(content) => Ok(content.file_type()),
+            None => Err(Fault::Io(io::Error::from(ErrorKind::NotFound))),
+        }
+    }
+
+    fn target_type(&self, path: &str) -> Result<FileType, Fault> {
+        match self.found(path) {
+            Some(content) if !content.file_type().is_symlink() => Ok(content.file_type()),
+            _ => Err(Fault::Io(io::Error::from(ErrorKind::NotFound))),
+        }
     }
 
     fn absolute<B: Allocator + Copy>(&self, alloc: B, path: &str) -> Result<String<B>, Fault> {

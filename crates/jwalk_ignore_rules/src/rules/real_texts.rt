@@ -1,7 +1,8 @@
 //! The files that a runtime reaches, as texts.
 use crate::rules::texts::Texts;
 use jwalk_fs::fault::Fault;
-use std::alloc::{AllocError, Allocator};
+use jwalk_model::file_type::FileType;
+use std::alloc::Allocator;
 use std::fs;
 use std::io::{self, ErrorKind, Read};
 use std::rt::{Files, HostRuntime};
@@ -36,6 +37,28 @@ fn fault(error: io::Error) -> Fault {
     }
 }
 
+/// Returns the type of what was found.
+fn type_of(found: &fs::Metadata) -> FileType {
+    let found = found.file_type();
+    if found.is_dir() {
+        FileType::Dir
+    } else if found.is_file() {
+        FileType::File
+    } else if found.is_symlink() {
+        FileType::Symlink
+    } else {
+        FileType::Other
+    }
+}
+
+/// Returns the type of what a call found.
+fn type_found(found: io::Result<fs::Metadata>) -> Result<FileType, Fault> {
+    match found {
+        Ok(found) => Ok(type_of(&found)),
+        Err(error) => Err(fault(error)),
+    }
+}
+
 /// Returns the bytes of a file.
 fn read_file<R: Files, A: Allocator + Copy>(
     rt: &R,
@@ -62,12 +85,12 @@ impl<R: Files + Drop> Texts for RealTexts<R> {
         }
     }
 
-    fn exists(&self, path: &str) -> Result<bool, AllocError> {
-        match self.rt.symlink_metadata(path) {
-            Ok(_) => Ok(true),
-            Err(error) if error.kind() == ErrorKind::OutOfMemory => Err(AllocError),
-            Err(_) => Ok(false),
-        }
+    fn file_type(&self, path: &str) -> Result<FileType, Fault> {
+        type_found(self.rt.symlink_metadata(path))
+    }
+
+    fn target_type(&self, path: &str) -> Result<FileType, Fault> {
+        type_found(self.rt.metadata(path))
     }
 
     fn absolute<A: Allocator + Copy>(&self, alloc: A, path: &str) -> Result<String<A>, Fault> {

@@ -1,19 +1,20 @@
 //! What rules are read from, as a trait.
-ghost use Rattle.std.specs.Prelude.{◌≡◌, IfOk, string_bytes};
+ghost use Rattle.std.specs.Prelude.{string_bytes};
 ghost use Rattle.std.specs.Arc.{arc_value};
 ghost use Rattle.jwalk_fs.specs.Views.{AnswersValue};
 ghost use Rattle.jwalk_ignore_rules.specs.Rules.Texts.{Texts as Functions};
 
 use jwalk_fs::fault::Fault;
-use std::alloc::{AllocError, Allocator};
+use jwalk_model::file_type::FileType;
+use std::alloc::Allocator;
 use std::sync::Arc;
 
-/// What rules are read from: the bytes of files, whether a path exists, and absolute paths.
+/// What rules are read from: the bytes of files, the types of what paths are and lead to, and absolute paths.
 ///
 /// If the answers may change, or can't be promised, it says that it isn't fixed. Then it promises nothing, and names any
 /// functions:
 ///
-///     ghost use Rattle.jwalk_ignore.specs.Rules.Texts.{no_texts};
+///     ghost use Rattle.jwalk_ignore_rules.specs.Rules.Texts.{no_texts};
 ///
 ///     ghost IsFixed = { λ _. ⊥ };
 ///
@@ -34,13 +35,23 @@ pub trait Texts: Drop {
         ensures { IsFixed self.now
             → AnswersValue (λ bytes. bytes.items) result ((functions self.now).bytes_of path.now) };
 
-    /// Returns whether something is at a path, a link among them. If that can't be told, nothing is.
+    /// Returns the type of what is at a path. That of a link is `FileType::Symlink`, as with `std::fs::symlink_metadata`.
     ///
     /// # Errors
     ///
-    /// If memory runs out.
-    fn exists(&self, path: &str) -> Result<bool, AllocError>
-        ensures { IsFixed self.now → IfOk result (λ found. found ≡ (functions self.now).exists path.now) };
+    /// `Fault::Io` if it can't be told, of kind `NotFound` if nothing is there. `Fault::Memory` if memory runs out.
+    fn file_type(&self, path: &str) -> Result<FileType, Fault>
+        ensures { IsFixed self.now
+            → AnswersValue (λ file_type. file_type) result ((functions self.now).type_of path.now) };
+
+    /// Returns the type of what a path leads to, all links followed, as with `std::fs::metadata`.
+    ///
+    /// # Errors
+    ///
+    /// `Fault::Io` if it can't be told, of kind `NotFound` if the path leads nowhere. `Fault::Memory` if memory runs out.
+    fn target_type(&self, path: &str) -> Result<FileType, Fault>
+        ensures { IsFixed self.now
+            → AnswersValue (λ file_type. file_type) result ((functions self.now).target_type_of path.now) };
 
     /// Returns the absolute path of a directory: it begins with a slash, ends with none unless it is `/`, and has
     /// neither `.` nor `..` nor links.
@@ -63,8 +74,12 @@ impl<T: Texts, B: Allocator> Texts for Arc<T, B> {
         (**self).read(alloc, path)
     }
 
-    fn exists(&self, path: &str) -> Result<bool, AllocError> {
-        (**self).exists(path)
+    fn file_type(&self, path: &str) -> Result<FileType, Fault> {
+        (**self).file_type(path)
+    }
+
+    fn target_type(&self, path: &str) -> Result<FileType, Fault> {
+        (**self).target_type(path)
     }
 
     fn absolute<A: Allocator + Copy>(&self, alloc: A, path: &str) -> Result<String<A>, Fault> {
@@ -82,8 +97,12 @@ impl<T: Texts> Texts for &T {
         T::read(*self, alloc, path)
     }
 
-    fn exists(&self, path: &str) -> Result<bool, AllocError> {
-        T::exists(*self, path)
+    fn file_type(&self, path: &str) -> Result<FileType, Fault> {
+        T::file_type(*self, path)
+    }
+
+    fn target_type(&self, path: &str) -> Result<FileType, Fault> {
+        T::target_type(*self, path)
     }
 
     fn absolute<A: Allocator + Copy>(&self, alloc: A, path: &str) -> Result<String<A>, Fault> {

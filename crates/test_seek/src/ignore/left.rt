@@ -42,16 +42,36 @@ pub(crate) fn text_of(alloc: Global, answers: &[Answer<Rules>]) -> Result<String
     Ok(text)
 }
 
-/// Returns all that a walk by name yields that has these rules, whatever states it has besides.
+/// Returns all that a walk by name yields that has these rules and follows links or not, whatever states it has besides.
 fn found_by_name<
     B: Clone + Default + Debug + Drop,
     E: Default + Debug + Drop,
     S: FileSystem,
     X: Texts,
->(fs: S, root: String, rules: IgnoreFiles<X>) -> Result<Vec<Answer<((Chain, B), E)>>, AllocError> {
+>(
+    fs: S,
+    root: String,
+    follows: bool,
+    rules: IgnoreFiles<X>,
+) -> Result<Vec<Answer<((Chain, B), E)>>, AllocError> {
     let alloc = *root.allocator();
-    let walk = WalkDirGeneric::<((Chain, B), E), _, _, _>::new(fs, root).sort(true);
+    let walk = WalkDirGeneric::<((Chain, B), E), _, _, _>::new(fs, root)
+        .sort(true)
+        .follow_links(follows);
     all_of(alloc, with_ignore_files(walk, rules).into_iter())
+}
+
+/// Returns what a walk by name from a root yields behind the root, each item on a line. It follows links or not.
+fn left_by(
+    alloc: Global,
+    planted: &Planted,
+    rules: IgnoreFiles<&MemoryTexts>,
+    root: &str,
+    follows: bool,
+) -> Result<String, BuildError> {
+    let root = String::from_str(alloc, root)?;
+    let found: Vec<Answer<Rules>> = found_by_name(&planted.fs, root, follows, rules)?;
+    Ok(text_of(alloc, &found)?)
 }
 
 /// Returns what a walk by name from a root yields behind the root, each item on a line.
@@ -61,12 +81,13 @@ pub(crate) fn left_from(
     rules: IgnoreFiles<&MemoryTexts>,
     root: &str,
 ) -> Result<String, BuildError> {
-    let found: Vec<Answer<Rules>> = found_by_name(
-        &planted.fs,
-        String::from_str(alloc, root)?,
-        rules,
-    )?;
-    Ok(text_of(alloc, &found)?)
+    left_by(alloc, planted, rules, root, false)
+}
+
+/// Returns what is left of a tree by a walk that follows links, hidden names too.
+pub(crate) fn left_following(alloc: Global, planted: &Planted) -> Result<String, BuildError> {
+    let rules = IgnoreFiles::new(&planted.texts).keep_hidden(true);
+    left_by(alloc, planted, rules, "/r", true)
 }
 
 /// Returns what is left of a tree, hidden names too.

@@ -84,6 +84,30 @@ fn rules_on_the_disk(rt: HostRuntime) -> io::Result<()> {
     remove(&rt, folder.as_str())
 }
 
+/// A folder above `s` in which no file of rules is a regular file, and `.git` is a link that leads nowhere.
+const ABOVE: &[Step] = &[
+    Step::Link("nowhere", ".git"),
+    Step::Dir(".gitignore"),
+    Step::File("a\n", "rules"),
+    Step::Link("rules", ".ignore"),
+    Step::Dir("s"),
+    Step::File("", "s/a"),
+    Step::Link("../rules", "s/.ignore"),
+];
+
+#[test]
+fn rules_are_regular_files_on_the_disk(rt: HostRuntime) -> io::Result<()> {
+    let folder = make(&rt, "above", ABOVE)?;
+    let root = format!(in rt.alloc(); "{}/s", folder.as_str())?;
+    let lines = lines_of(rt.alloc(), root.as_str(), &["a"])?;
+    let disk = RealFs::new(rt.clone()?);
+    let texts = RealTexts::new(rt.clone()?);
+    let want = (lines.as_str(), "", 0);
+    let words: &[&str] = &[".", root.as_str()];
+    assert!(rt; comes(&rt, disk, texts, "-j1", words, &want));
+    remove(&rt, folder.as_str())
+}
+
 #[test]
 fn a_name_with_a_line_feed(rt: HostRuntime) -> io::Result<()> {
     let folder = make(&rt, "feed", &[Step::File("", "a\nb"), Step::File("", "\n")])?;

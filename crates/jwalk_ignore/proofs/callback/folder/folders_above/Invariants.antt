@@ -1,6 +1,6 @@
 use denote.Shadow.{shadow}
 use denote.Text.{Utf8}
-use Rattle.std.proofs.Common.{◌≡◌, ◌++◌, length, map}
+use Rattle.std.proofs.Common.{◌≡◌, ◌++◌, false, length, map}
 use Rattle.jwalk_ignore.specs.Callback.Folders.{folder_value}
 use Rattle.jwalk_ignore.specs.Callback.IgnoreFiles.{folders_above}
 use Rattle.jwalk_ignore.proofs.callback.folder.folders_above.Given as goal
@@ -9,7 +9,7 @@ use Rattle.jwalk_ignore.proofs.callback.folder.folders_above.Given as goal
 abbrev pub invariant-folders : goal.invariant-folders
 invariant-folders g l = record {
   text : shadow (Utf8 l.rest);
-  all : g.T.Texts.IsFixed l.texts → folders_above (g.T.Texts.functions l.texts) (length l.path) l.path ≡ map folder_value l.folders.items ++ folders_above (g.T.Texts.functions l.texts) l.left l.rest;
+  all : g.T.Texts.IsFixed l.texts → folders_above (g.T.Texts.functions l.texts) false (length l.path) l.path ≡ map folder_value l.folders.items ++ folders_above (g.T.Texts.functions l.texts) l.is_outer l.left l.rest;
 }
 
 abbrev pub decreases-folders : goal.decreases-folders

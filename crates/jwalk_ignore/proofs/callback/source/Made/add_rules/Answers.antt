@@ -11,5 +11,5 @@ returns-clause-value g c = λ fixed.
     let source = source_value c.args.source in
     let place : c.as_str.result.now ≡ path_of source = c.as_str.ensures.value ∙ c.in_ok-path.ensures ∙ ap (join c.args.source.folder.now) c.file_of.ensures in
     on_ok_weaker c.add_found.result
-    (λ is. is ∙ ap (λ path. with_found source (rules_found c.args.source.may_miss (texts.bytes_of path)) (made_value c.args.self.now)) place)
-    (c.add_found.ensures.value (rules_found c.args.source.may_miss (texts.bytes_of c.as_str.result.now)) (c.rules_at-found.ensures fixed))
+    (λ is. is ∙ ap (λ path. with_found source (rules_found texts source.kind source.may_miss path) (made_value c.args.self.now)) place)
+    (c.add_found.ensures.value (rules_found texts source.kind source.may_miss c.as_str.result.now) (c.rules_at-found.ensures fixed))

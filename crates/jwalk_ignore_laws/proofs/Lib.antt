@@ -1,0 +1,5 @@
+pub mod NameFacts
+pub mod StartFacts
+pub mod OwnFacts
+pub mod AlikeFacts
+pub mod WayFacts

@@ -1,0 +1,4 @@
+//! The laws on which rules of ignore files are in force where.
+#![tactic(auto)]
+
+pub mod starts;
