@@ -2,7 +2,7 @@
 use Rattle.std.specs.Prelude.{ℕ, List, Result, Ok, Err}
 use Rattle.std.specs.declared.io.ErrorKind.{ErrorKind}
 use Rattle.std.specs.declared.io.ErrorKind.TheVariants as kind
-use Rattle.jwalk.specs.jwalk_model.declared.file_type.FileType.{FileType}
+use Rattle.jwalk_model.specs.declared.file_type.FileType.{FileType}
 
 -- the bytes of the file at each path, the type of what is there and of what it leads to, and the absolute path of a path
 pub record Texts : Type 0 where
