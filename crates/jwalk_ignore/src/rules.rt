@@ -9,7 +9,7 @@ mod line;
 pub(crate) mod link;
 pub mod memory_texts;
 pub mod real_texts;
-pub(crate) mod rules_kind;
+pub mod rules_kind;
 pub mod texts;
 
 use crate::pattern::Pattern;

@@ -4,7 +4,7 @@ ghost use Rattle.jwalk_ignore.specs.Callback.IgnoreFiles.{may_miss};
 
 /// Which file rules are from. All of one kind decide before those of the next.
 #[derive(Clone, Copy, Debug, PartialEq, Eq)]
-pub(crate) enum RulesKind {
+pub enum RulesKind {
     /// `.ignore`.
     Ignore,
     /// `.gitignore`.
