@@ -95,6 +95,7 @@ ended (suc b) (c ∷ u) n one less = ended b u n one (omega arith)
 -- behind a slash that the path ends with
 pub goes_on : (u n : List ℕ) → names_of n ≡ n ∷ [] → Goes (u ++ 47 ∷ []) n ((u ++ 47 ∷ []) ++ n)
 goes_on u n one = λ b less.
-    let short : b ≤ length u + 1 = rw (sym (length-append u (47 ∷ []))) less in
-    (rw (length-append (u ++ 47 ∷ []) n) (omega (arith, less)),
-     ap (λ (l : List ℕ). names_of (drop b l)) (append_assoc u (47 ∷ []) n) ∙ ended b u n one short)
+    let short : b ≤ length u + 1 = rw (sym (length-append u (47 ∷ []))) less in (
+      rw (length-append (u ++ 47 ∷ []) n) (omega (arith, less)),
+      ap (λ (l : List ℕ). names_of (drop b l)) (append_assoc u (47 ∷ []) n) ∙ ended b u n one short,
+    )

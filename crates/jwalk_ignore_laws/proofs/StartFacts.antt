@@ -16,7 +16,6 @@ use Rattle.jwalk_ignore.specs.declared.callback.settings.Settings.{Settings}
 use Rattle.jwalk_ignore.specs.jwalk_ignore_rules.declared.rules.rules_kind.RulesKind.{RulesKind}
 use Rattle.jwalk_ignore.specs.jwalk_ignore_rules.declared.rules.rules_kind.RulesKind.TheVariants as rules
 use Rattle.jwalk_ignore.specs.Rules.Texts.{Texts}
-
 use Rattle.jwalk_ignore_laws.proofs.NameFacts.{names_behind, names_both}
 
 -- ---- a parent is shorter

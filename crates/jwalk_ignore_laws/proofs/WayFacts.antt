@@ -330,14 +330,15 @@ module _ (settings : Settings) (texts : Texts) where
       let place : place_in own next ≡ place_in chain next = ap (λ (f : List ℕ). f ++ drop own.root_len next) front.0 ∙ ap (λ (l : ℕ). chain.front ++ drop l next) front.1 in
       let above_is = from_above next d above in
       let begun_links : (kind : RulesKind) → links_in kind (begun settings texts next) ≡ links_in kind inside =
-      λ kind. sym (links_unplaced kind (begun settings texts next)) ∙ ap (links_in kind) above_is ∙ links_unplaced kind inside in
-      ((rooted.0, front.0 ∙ rooted.1, rw front.1 (omega (arith, rooted.2, go.2))),
-       record {
-         repository = mine.repository ∙ sym (ap (λ (c : Chain). c.in_repository) above_is);
-         links = λ kind. subst (λ (q : List ℕ). LinksAlike q next (links_in kind own) (links_in kind (begun settings texts next))) (sym place)
-             (subst (λ (ms : List Link). LinksAlike (place_in chain next) next (links_in kind own) ms) (sym (begun_links kind))
-             (links_go (place_in chain d) d n (place_in chain next) next go.0 go.1 (links_in kind own) (links_in kind inside) (mine.links kind)));
-       })
+      λ kind. sym (links_unplaced kind (begun settings texts next)) ∙ ap (links_in kind) above_is ∙ links_unplaced kind inside in (
+        (rooted.0, front.0 ∙ rooted.1, rw front.1 (omega (arith, rooted.2, go.2))),
+        record {
+          repository = mine.repository ∙ sym (ap (λ (c : Chain). c.in_repository) above_is);
+          links = λ kind. subst (λ (q : List ℕ). LinksAlike q next (links_in kind own) (links_in kind (begun settings texts next))) (sym place)
+              (subst (λ (ms : List Link). LinksAlike (place_in chain next) next (links_in kind own) ms) (sym (begun_links kind))
+              (links_go (place_in chain d) d n (place_in chain next) next go.0 go.1 (links_in kind own) (links_in kind inside) (mine.links kind)));
+        },
+      )
 
   not_nil : (d next : List ℕ) → d ≢ [] → length d ≤ length next → next ≢ []
   not_nil [] next some less = absurd (some refl)
@@ -361,13 +362,14 @@ module _ (settings : Settings) (texts : Texts) where
   begun_alike : (d : List ℕ) → AlikeAt d (begun settings texts d)
   begun_alike d =
       let first : Chain = begun settings texts d in
-      let front = begun_front settings texts d in
-      ((d, front.0, rw front.1 (omega arith)),
-       record {
-         repository = refl;
-         links = λ kind. subst (λ (q : List ℕ). LinksAlike q d (links_in kind first) (links_in kind first)) (sym (begun_place d))
-             (links_keep d d (d ++ 47 ∷ []) d (keeps_slash d) (keeps_all d) (links_in kind first) (links_in kind first) (within_alike d (links_in kind first) (begun_within settings texts kind d)));
-       })
+      let front = begun_front settings texts d in (
+        (d, front.0, rw front.1 (omega arith)),
+        record {
+          repository = refl;
+          links = λ kind. subst (λ (q : List ℕ). LinksAlike q d (links_in kind first) (links_in kind first)) (sym (begun_place d))
+              (links_keep d d (d ++ 47 ∷ []) d (keeps_slash d) (keeps_all d) (links_in kind first) (links_in kind first) (within_alike d (links_in kind first) (begun_within settings texts kind d)));
+        },
+      )
 
   alike_same : (d : List ℕ) (chain : Chain) → AlikeAt d chain → AreTheSame d chain (begun settings texts d)
   alike_same d chain (rooted, alike) =

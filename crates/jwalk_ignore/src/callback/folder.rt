@@ -47,7 +47,7 @@ impl<'p> Folder<'p> {
 
     /// Returns whether no `.git` counts above it.
     fn ends_git(self) -> bool
-        ensures { result ≡ ends_git (folder_value self) }
+        ensures { result ≡ ends_git (folder_value self.entry) }
     {
         self.is_outer || is_repository(self.git)
     }

@@ -72,11 +72,9 @@ fn a_link_to_a_file_of_rules_is_not_read(rt: HostRuntime) -> Result<(), BuildErr
 #[test]
 fn an_exclude_that_is_no_file_is_not_read(rt: HostRuntime) -> Result<(), BuildError> {
     let mut planted = repository(rt.alloc(), "a")?;
-    planted.texts.add_unread(
-        "/r/.git/info/exclude",
-        FileType::Other,
-        ErrorKind::Other,
-    )?;
+    planted
+        .texts
+        .add_unread("/r/.git/info/exclude", FileType::Other, ErrorKind::Other)?;
     assert!(rt; leaves(rt.alloc(), &planted, "/r", "a\n"));
     Ok(())
 }
@@ -94,9 +92,7 @@ fn what_git_leads_to_makes_a_repository(rt: HostRuntime) -> Result<(), BuildErro
     for (git, counts) in GITS {
         let mut planted = tree_of(rt.alloc(), ".gitignore=a|\na\ns/\ns/a\ns/b")?;
         planted.fs.add_link("/r/.git", "..")?;
-        planted
-            .texts
-            .add_unread("/r/.git", *git, ErrorKind::Other)?;
+        planted.texts.add_unread("/r/.git", *git, ErrorKind::Other)?;
         let (whole, below) = if *counts {
             (".gitignore\ns\ns/b\n", "s/b\n")
         } else {

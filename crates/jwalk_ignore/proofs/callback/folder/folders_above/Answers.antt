@@ -1,4 +1,4 @@
-use Rattle.std.proofs.Common.{◌≡◌, ◌∙◌, ◌++◌, ◌-◌, None, map, length, ap, sym, rules, arith}
+use Rattle.std.proofs.Common.{◌≡◌, ◌∙◌, ◌++◌, ◌-◌, None, false, map, length, ap, sym, rules, arith}
 use Rattle.jwalk.specs.jwalk_model.Paths.{parent}
 use Rattle.jwalk_ignore.specs.Callback.Folders.{folder_value}
 use Rattle.jwalk_ignore.specs.Callback.IgnoreFiles.{folders_above}
@@ -18,6 +18,6 @@ folders-preserved g c = record {
       let texts = g.T.Texts.functions c.args.texts.now in
       let left = c.folders.left - 1 in
       more_found texts folder_value c.folders.folders.items (folders_above texts false (length c.args.path.now) c.args.path.now) c.folders.is_outer c.folders.left c.folders.rest.now (c.folders.invariant.all fixed)
-      c.in_ok-folder.folder c.in-Some.above.now left c.ends_git.result (omega arith) (sym c.in-Some.ensures) (c.in_ok-folder.ensures fixed) c.ends_git.ensures
-      ∙ ap (λ l. map folder_value l ++ folders_above texts c.ends_git.result left c.in-Some.above.now) (sym c.in_ok-push.ensures.items);
+      c.in_ok-folder.folder c.in-Some.above.now left c.ends_git-is_outer.result (omega arith) (sym c.in-Some.ensures) (c.in_ok-folder.ensures fixed) c.ends_git-is_outer.ensures
+      ∙ ap (λ l. map folder_value l ++ folders_above texts c.ends_git-is_outer.result left c.in-Some.above.now) (sym c.in_ok-push.ensures.items);
 }
