@@ -120,7 +120,8 @@ module _ {T X : Type 0} (takes : T → X → Type 0) (parts : List (Part T)) (fr
       last_none takes test front (subst (λ (xs : List X). Fits takes (front ++ One test ∷ []) xs) none (subst (λ (ps : List (Part T)). Fits takes ps items) is fits))
 
   module _ (items : List X) (before : List X) (last : X) (at_end : items ≡ before ++ last ∷ []) where
-    both_fit : Fits takes parts items → takes test last × Fits takes front before
+    -- the last part takes the last item, and the others the others
+    pub both_fit : Fits takes parts items → takes test last × Fits takes front before
     both_fit fits =
         last_fits takes test last front before (subst (λ (xs : List X). Fits takes (front ++ One test ∷ []) xs) at_end (subst (λ (ps : List (Part T)). Fits takes ps items) is fits))
 

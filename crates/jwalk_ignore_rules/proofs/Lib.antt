@@ -4,6 +4,10 @@ pub mod NamesFacts
 pub mod ClassFacts
 pub mod PartsFacts
 pub mod RulesFacts
+pub mod OnlyFacts
+pub mod IndexFacts
+pub mod LastMatchFacts
+pub mod LastNamesFacts
 pub mod ChangedFacts
 pub mod LineFacts
 pub mod MatchingFacts

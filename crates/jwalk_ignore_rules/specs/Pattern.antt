@@ -16,7 +16,7 @@ pub mod PatternText
 pub mod Pieces
 pub mod Taken
 pub mod Token
-use Rattle.std.specs.Prelude.{ℕ, ◌==◌, Bool, true, false, IsTrue, List, [], ◌∷◌, length, map, Option, None, if◌then◌else◌}
+use Rattle.std.specs.Prelude.{◌≡◌, ◌++◌, ℕ, ◌==◌, Bool, true, false, IsTrue, List, [], ◌∷◌, length, map, Option, None, if◌then◌else◌}
 use Rattle.std.specs.Option.{option_map}
 use Rattle.jwalk_ignore_rules.specs.Pattern.ByteTest.{ByteTest as Test}
 use Rattle.jwalk_ignore_rules.specs.Pattern.Fits.{part_map}
@@ -61,6 +61,10 @@ pattern_in_either_case pattern = record pattern { parts = map (part_map glob_in_
 -- a pattern matches a path: the names fit, and it is a directory if the pattern ends with a slash
 abbrev pub Matches : Pattern → List ℕ → Bool → Type 0
 Matches pattern path is_dir = (IsTrue pattern.only_dirs → IsTrue is_dir) × IsReached pattern.parts (names_of path)
+
+-- each path that a pattern matches ends with this name
+abbrev pub EndsWith : Pattern → List ℕ → Type 0
+EndsWith pattern name = (path : List ℕ) → (is_dir : Bool) → Matches pattern path is_dir → (front : List (List ℕ)) × (names_of path ≡ front ++ name ∷ [])
 
 -- what a pattern says of a path that it matches, by whether it begins with `!`
 abbrev pub decision_of : Bool → Decision

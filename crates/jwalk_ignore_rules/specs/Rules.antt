@@ -2,6 +2,7 @@
 pub mod Chain
 pub mod ChainViews
 pub mod ChainWorth
+pub mod LastNames
 pub mod Line
 pub mod Matching
 mod MatchingRows
@@ -16,7 +17,7 @@ use Rattle.jwalk_ignore_rules.specs.declared.rules.Rules.{Rules}
 
 -- rules by value: the patterns, in the order of their lines
 abbrev pub rules_value : {A : Type 0} → Rules A → List Pattern
-rules_value rules = map pattern_value rules.patterns.items
+rules_value rules = map pattern_value rules.patterns.items.items
 
 -- none of these patterns matches a path
 abbrev pub NoneMatches : List Pattern → List ℕ → Bool → Type 0

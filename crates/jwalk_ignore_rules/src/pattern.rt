@@ -1,5 +1,5 @@
 //! The pattern of one line.
-ghost use Rattle.std.specs.Prelude.{◌≡◌, ◌↔◌, [], IfOk, IsTrue};
+ghost use Rattle.std.specs.Prelude.{◌≡◌, ◌↔◌, [], IfOk, IfSome, IsTrue};
 ghost use Rattle.std.specs.List.{list_any};
 ghost use Rattle.std.specs.Option.{option_map};
 ghost use Rattle.jwalk_ignore_rules.specs.Pattern.Fits.{part_map};
@@ -16,7 +16,7 @@ mod glob;
 mod glob_search;
 mod item_read;
 mod name_search;
-mod names;
+pub(crate) mod names;
 mod names_read;
 mod part;
 pub(crate) mod pieces;
@@ -96,7 +96,7 @@ fn ignore_case_of<A: Allocator + Copy>(part: &mut Part<Glob<A>>)
 }
 
 impl<A: Allocator + Copy> Pattern<A> {
-    ghost use Rattle.jwalk_ignore_rules.specs.Pattern.{Matches, decision_of, pattern_in, pattern_in_either_case, pattern_of_text, pattern_value};
+    ghost use Rattle.jwalk_ignore_rules.specs.Pattern.{EndsWith, Matches, decision_of, pattern_in, pattern_in_either_case, pattern_of_text, pattern_value};
 
     /// Reads the pattern of a text. None if it is malformed.
     fn of_text(alloc: A, keeps: bool, text: &[u8]) -> Result<Option<Self>, AllocError>
@@ -127,6 +127,16 @@ impl<A: Allocator + Copy> Pattern<A> {
             [] | [b'#', ..] => Ok(None),
             [b'!', behind @ ..] => Pattern::of_text(alloc, true, behind),
             _ => Pattern::of_text(alloc, false, text),
+        }
+    }
+
+    /// Returns the name with which each path ends that the pattern matches, if its last part is a plain name.
+    pub(crate) fn last_name(&self, alloc: A) -> Result<Option<Vec<u8, A>>, AllocError>
+        ensures { IfOk result (λ r. IfSome r (λ name. EndsWith (pattern_value self.now) name.items)) }
+    {
+        match self.parts.split_last() {
+            Some((Part::One(glob), _)) => glob.only_name(alloc),
+            _ => Ok(None),
         }
     }
 

@@ -1,12 +1,12 @@
 //! Patterns of one name.
-ghost use Rattle.std.specs.Prelude.{◌≡◌, ◌↔◌, IsTrue};
+ghost use Rattle.std.specs.Prelude.{◌≡◌, ◌↔◌, IfOk, IfSome, IsTrue};
 ghost use Rattle.jwalk_ignore_rules.specs.Pattern.ByteTest.{in_either_case, test_value};
 ghost use Rattle.jwalk_ignore_rules.specs.Pattern.Fits.{part_map};
 
 use crate::pattern::byte_test::ByteTest;
 use crate::pattern::glob_search;
 use crate::pattern::part::Part;
-use std::alloc::{Allocator, Global};
+use std::alloc::{AllocError, Allocator, Global};
 
 /// A pattern of one name, as `*.o`.
 #[derive(Drop)]
@@ -24,13 +24,27 @@ fn ignore_case_of<A: Allocator + Copy>(part: &mut Part<ByteTest<A>>)
 }
 
 impl<A: Allocator + Copy> Glob<A> {
-    ghost use Rattle.jwalk_ignore_rules.specs.Pattern.Glob.{glob_in_either_case, glob_value, parts_value, IsNamed};
+    ghost use Rattle.jwalk_ignore_rules.specs.Pattern.Glob.{glob_in_either_case, glob_value, parts_value, IsNamed, TakesOnly};
 
     /// Returns the pattern of these parts.
     pub(crate) fn new(parts: Vec<Part<ByteTest<A>>, A>) -> Self
         ensures { glob_value result ≡ parts_value parts.items }
     {
         Glob { parts }
+    }
+
+    /// Returns the only name that fits, if the pattern has neither stars nor other tests than bytes.
+    pub(crate) fn only_name(&self, alloc: A) -> Result<Option<Vec<u8, A>>, AllocError>
+        ensures { IfOk result (λ r. IfSome r (λ name. TakesOnly (glob_value self.now) name.items)) }
+    {
+        let mut name = Vec::new(alloc);
+        for part in &self.parts {
+            let Part::One(ByteTest::Byte(byte)) = part else {
+                return Ok(None);
+            };
+            name.push(*byte)?;
+        }
+        Ok(Some(name))
     }
 
     /// Has letters fit in either case.

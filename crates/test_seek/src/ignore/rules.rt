@@ -45,3 +45,28 @@ fn one_line_has_a_pattern(rt: HostRuntime) {
     assert!(rt; matches!(Pattern::read(alloc, b"#a"), Ok(None)));
     assert!(rt; matches!(Pattern::read(alloc, b"[a"), Ok(None)));
 }
+
+/// Returns a text that repeats a piece, and then ends.
+fn repeated(alloc: Global, piece: &[u8], times: usize, end: &[u8]) -> Option<Vec<u8>> {
+    let mut text = Vec::new(alloc);
+    for _ in 0..times {
+        text.extend_from_slice(piece).ok()?;
+    }
+    text.extend_from_slice(end).ok()?;
+    Some(text)
+}
+
+/// Returns what is said of a deep path by one line, which repeats a piece before it ends.
+fn said_of_deep(alloc: Global, piece: &[u8], times: usize, end: &[u8]) -> Option<Decision> {
+    let line = repeated(alloc, piece, times, end)?;
+    let path = repeated(alloc, b"a/", 300, b"aaaaaaaaaaaaaaaaaaaaaaaaaaaaaaaaaaaaaaaac")?;
+    decided(alloc, &line, &path, false)
+}
+
+#[test]
+fn many_stars_are_tried_once(rt: HostRuntime) {
+    let alloc = rt.alloc();
+    assert!(rt; said_of_deep(alloc, b"a*", 120, b"*c") == Some(Decision::Unsaid));
+    assert!(rt; said_of_deep(alloc, b"**/", 1000, b"b") == Some(Decision::Unsaid));
+    assert!(rt; said_of_deep(alloc, b"**/a/", 1000, b"*c") == Some(Decision::Unsaid));
+}

@@ -7,7 +7,7 @@ use Rattle.jwalk_ignore_rules.proofs.rules.Rules.parse.Goals as goal
 
 pub lines-preserved : goal.lines-preserved
 lines-preserved g c =
-    let old : List Pattern = map pattern_value c.lines.patterns.items in
+    let old : List Pattern = map pattern_value c.lines.patterns.items.items in
     let others : List Pattern = filter_map pattern_of_line (lines_of c.split_piece.result.1.now) in
     let found : option_to_list _ ≡ option_to_list (pattern_of_line c.split_piece.result.0.now) = ap option_to_list (c.in_ok-pattern.ensures ∙ ap pattern_in c.text_of.ensures) in
     c.lines.invariant
