@@ -1,6 +1,6 @@
 -- The links that a directory's own rules add.
 use Prim.Native.Nat.{zero}
-use Rattle.std.proofs.Common.{◌≡◌, ◌∙◌, ◌≤◌, ◌⊎◌, inl, inr, ℕ, suc, Bool, true, false, cond, List, [], ◌∷◌, ◌++◌, length, Option, Some, None, Result, Ok, Err, ap, refl, sym, arith, append_assoc, append-nil}
+use Rattle.std.proofs.Common.{◌≡◌, ◌∙◌, ◌≤◌, ℕ, suc, Bool, true, false, cond, List, [], ◌∷◌, ◌++◌, length, Option, Some, None, Result, Ok, Err, ap, refl, sym, arith, append_assoc, append-nil}
 use Rattle.std.specs.Prelude.{◌&&◌, bytes_eq, codes, find, flat_map, fold, not, option_and_then}
 use Rattle.std.specs.List.{filter}
 use Rattle.std.specs.declared.io.ErrorKind.{ErrorKind}
@@ -9,12 +9,11 @@ use Rattle.jwalk_model.specs.Entry.{Item}
 use Rattle.jwalk_model.specs.FileType.{is_file}
 use Rattle.jwalk_model.specs.Paths.{join}
 use Rattle.jwalk_model.specs.declared.file_type.FileType.{FileType}
-use Rattle.jwalk_ignore.specs.Callback.IgnoreFiles.{Made, Source, counts, depth_of, file_of, git, git_by, git_in, is_git, is_git_dir, is_missing, is_repository, kind_of, kind_of_file, may_miss, own_kind, own_rules, rules_found, rules_read, rules_typed, source_in, type_of, with_found, with_item, with_listed, with_own}
+use Rattle.jwalk_ignore.specs.Callback.IgnoreFiles.{Made, Source, depth_of, file_of, git, git_by, git_in, is_git, is_git_dir, is_missing, kind_of, kind_of_file, may_miss, own_kind, rules_found, rules_read, rules_typed, source_in, with_item, with_listed, with_own}
 use Rattle.jwalk_ignore_laws.specs.Starts.{Agrees, is_of, is_regular, links_in, same_kind}
 use Rattle.jwalk_ignore.specs.Pattern.{Pattern}
-use Rattle.jwalk_ignore.specs.Rules.Chain.{Chain, Link, entered, place_in, with_link}
+use Rattle.jwalk_ignore.specs.Rules.Chain.{Chain, Link, with_link}
 use Rattle.jwalk_ignore.specs.Rules.Texts.{Texts}
-use Rattle.jwalk_ignore.specs.declared.callback.settings.Settings.{Settings}
 use Rattle.jwalk_ignore.specs.jwalk_ignore_rules.declared.rules.rules_kind.RulesKind.{RulesKind}
 use Rattle.jwalk_ignore.specs.jwalk_ignore_rules.declared.rules.rules_kind.RulesKind.TheVariants as rules
 use Rattle.jwalk_ignore_laws.proofs.StartFacts.{found_put, put, put_at}

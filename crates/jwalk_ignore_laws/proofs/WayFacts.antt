@@ -1,6 +1,6 @@
 -- The rules on the way to a directory.
 use Prim.Native.Nat.{zero}
-use Rattle.std.proofs.Common.{◌≡◌, ◌≢◌, ◌∙◌, ◌≤◌, ◌<◌, ◌⊎◌, inl, inr, ℕ, suc, T, Bool, true, false, cond, List, [], ◌∷◌, ◌++◌, length, drop, reverse, Option, Some, None, Result, Ok, ap, subst, refl, sym, arith, eqb-true, append_assoc, append-nil, length-append}
+use Rattle.std.proofs.Common.{◌≡◌, ◌≢◌, ◌∙◌, ◌≤◌, ◌⊎◌, inl, inr, ℕ, suc, T, Bool, true, false, cond, List, [], ◌∷◌, ◌++◌, length, drop, reverse, Option, Some, None, Result, ap, subst, refl, sym, arith, eqb-true, append_assoc, append-nil, length-append}
 use Rattle.std.specs.Prelude.{◌&&◌, ◌||◌, ◌==◌, fold, not}
 use Rattle.std.specs.Path.{has_no_slash}
 use Rattle.std.specs.declared.io.ErrorKind.{ErrorKind}
@@ -9,9 +9,9 @@ use Rattle.jwalk_model.specs.Entry.{Item}
 use Rattle.jwalk_model.specs.declared.file_type.FileType.{FileType}
 use Rattle.jwalk_model.specs.PathTexts.{IsName}
 use Rattle.jwalk_model.specs.Paths.{join, parent, starts_with_slash, with_slash}
-use Rattle.jwalk_ignore.specs.Callback.IgnoreFiles.{Folder, Made, counts, ends_git, file_of, folder_at, folders_above, git_at, git_in, is_git_dir, is_repository, own_rules, rules_found, source_above, with_absolute, with_root}
-use Rattle.jwalk_ignore_laws.specs.Starts.{Agrees, AreTheSame, IsWay, Lists, RulesAreTheSame, WalksBeginSo, begun, below, come_to, in_folder, links_in, same_kind, unplaced}
-use Rattle.jwalk_ignore.specs.Rules.Chain.{Chain, Link, below_root, entered, no_rules, place_in}
+use Rattle.jwalk_ignore.specs.Callback.IgnoreFiles.{Folder, Made, counts, ends_git, file_of, folder_at, folders_above, git_in, is_git_dir, is_repository, own_rules, rules_found, source_above, with_absolute, with_root}
+use Rattle.jwalk_ignore_laws.specs.Starts.{Agrees, AreTheSame, IsWay, Lists, RulesAreTheSame, WalksBeginSo, begun, below, come_to, links_in, same_kind, unplaced}
+use Rattle.jwalk_ignore.specs.Rules.Chain.{Chain, Link, below_root, entered, place_in}
 use Rattle.jwalk_ignore.specs.Pattern.Names.{names_of}
 use Rattle.jwalk_ignore.specs.Rules.Texts.{Texts}
 use Rattle.jwalk_ignore.specs.declared.callback.settings.Settings.{Settings}
@@ -19,8 +19,8 @@ use Rattle.jwalk_ignore.specs.jwalk_ignore_rules.declared.rules.rules_kind.Rules
 use Rattle.jwalk_ignore.specs.jwalk_ignore_rules.declared.rules.rules_kind.RulesKind.TheVariants as rules
 use Rattle.jwalk_ignore_laws.proofs.AlikeFacts.{Alike, LinksAlike, Within, drop_whole, entered_alike, keeps_all, keeps_slash, links_go, links_keep, more_alike, patterns_same, says_alike, within_alike, within_if, within_more}
 use Rattle.jwalk_ignore_laws.proofs.NameFacts.{Goes, drop_front, goes_behind, goes_on, one_name}
-use Rattle.jwalk_ignore_laws.proofs.OwnFacts.{found_links, list_front, list_links, list_repository, looked_for, put_front, put_links, put_repository, reads}
-use Rattle.jwalk_ignore_laws.proofs.StartFacts.{folder_put, folders_put, one_more, put_above, put_all, put_at, put_folder, put_inside, rules_come_from_above, shorter}
+use Rattle.jwalk_ignore_laws.proofs.OwnFacts.{found_links, list_front, list_links, list_repository, put_front, put_links, put_repository, reads}
+use Rattle.jwalk_ignore_laws.proofs.StartFacts.{folder_put, folders_put, one_more, put_above, put_all, put_folder, put_inside, rules_come_from_above, shorter}
 
 -- ---- the links of a folder above
 

@@ -12,8 +12,7 @@ fn leaves(alloc: Global, planted: &Planted, root: &str, wanted: &str) -> bool {
     matches!(left_from(alloc, planted, rules, root), Ok(left) if left.as_str() == wanted)
 }
 
-/// Returns a tree with a repository in a folder, above which `.ignore` and `.gitignore` have rules, that of git not to be
-/// read.
+/// Returns a tree with a repository in another, of which the outer one has rules in `.ignore` and in `.gitignore`.
 fn with_repository(alloc: Global) -> Result<Planted, BuildError> {
     let tree = ".git/\n.gitignore=y|\n.ignore=x|\np/\np/.git/\np/x\np/s/\np/s/x\np/s/y\nx";
     let mut planted = tree_of(alloc, tree)?;
@@ -31,10 +30,11 @@ fn ignore_files_above_a_repository_are_in_force(rt: HostRuntime) -> Result<(), B
     let mut planted = with_repository(alloc)?;
     let whole = ".gitignore\n.ignore\np\np/s\np/s/y\n";
     assert!(rt; leaves(alloc, &planted, "/r", whole));
+    assert!(rt; leaves(alloc, &planted, "/r/p", "p/s\np/s/y\n"));
+    // Beyond the repository no file of git's is opened.
     planted
         .texts
         .deny("/r/.gitignore", ErrorKind::PermissionDenied)?;
-    assert!(rt; leaves(alloc, &planted, "/r/p", "p/s\np/s/y\n"));
     assert!(rt; leaves(alloc, &planted, "/r/p/s", "p/s/y\n"));
     Ok(())
 }
