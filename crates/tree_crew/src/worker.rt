@@ -13,7 +13,7 @@ use crate::hand_in::HandIn;
 use crate::message::Message;
 use crate::shared::Shared;
 use crate::sleepers::Sleepers;
-use crate::steps::Turn;
+use crate::steps::{Called, Turn};
 use crate::waiting::wait_a_turn;
 use crate::work::Handled;
 use jwalk_board::board::Plan;
@@ -71,6 +71,55 @@ impl<
         }
     }
 
+    /// Wakes those who are called, without the lock.
+    fn leave(&self, held: MutexGuard<'_, Sleepers>, calls: Called) {
+        drop(held);
+        self.shared.call(calls);
+    }
+
+    /// Blocks until it is called or for a turn, if nobody is called, and else wakes those who are. Returns the lock, taken
+    /// again.
+    fn rest<'b>(
+        &'b self,
+        held: MutexGuard<'b, Sleepers>,
+        calls: Called,
+    ) -> MutexGuard<'b, Sleepers> {
+        let rt = &self.shared.crew.rt;
+        if !calls.is_empty() {
+            self.leave(held, calls);
+            return self.shared.sleepers.lock(rt);
+        }
+        let mut held = held;
+        held.add_worker();
+        let (mut woken, timed_out) = wait_a_turn(rt, &self.shared.queued, held);
+        woken.remove_worker(timed_out);
+        woken
+    }
+
+    /// Takes a specification as soon as one may be taken: none once the board is done or stopped.
+    fn take<'b>(&'b self, held: MutexGuard<'b, Sleepers>) -> Option<Ordered<T, A>>
+        ensures { IfSome result (λ item. IsAt J.Plan (origin_at (arc_value self.now.shared).work)
+            (address_of item) item.value) }
+    {
+        let mut held = held;
+        for _ in self.shared.crew.rt.forever() {
+            let (turn, wanted, _receipt) = self.shared.turn(&mut held);
+            let calls = held.called_by(wanted);
+            match turn {
+                Turn::Wait | Turn::Rest => held = self.rest(held, calls),
+                Turn::Read(item) => {
+                    self.leave(held, calls);
+                    return Some(item);
+                }
+                Turn::End => {
+                    self.leave(held, calls);
+                    return None;
+                }
+            }
+        }
+        unreachable!()
+    }
+
     /// Hands in what was read, if anything, and takes a specification as soon as one may be taken: none once the board
     /// is done or stopped. There is a receipt for what was handed in.
     fn next(
@@ -84,37 +133,9 @@ impl<
         ensures handed_in { IsHandedIn (arc_value self.now.shared).work (λ absence. IsAbsenceOf absence
             (arc_value self.now.shared).work) read result.1 }
     {
-        let rt = &self.shared.crew.rt;
-        let mut sleepers = self.shared.sleepers.lock(rt);
-        let receipt = self.hand_in(&mut sleepers, read);
-        for _ in rt.forever() {
-            let (turn, wanted, _receipt) = self.shared.turn(&mut sleepers);
-            let calls = sleepers.called_by(wanted);
-            match turn {
-                Turn::Wait | Turn::Rest if calls.is_empty() => {
-                    sleepers.add_worker();
-                    let (woken, timed_out) = wait_a_turn(rt, &self.shared.queued, sleepers);
-                    sleepers = woken;
-                    sleepers.remove_worker(timed_out);
-                }
-                Turn::Wait | Turn::Rest => {
-                    drop(sleepers);
-                    self.shared.call(calls);
-                    sleepers = self.shared.sleepers.lock(rt);
-                }
-                Turn::Read(item) => {
-                    drop(sleepers);
-                    self.shared.call(calls);
-                    return (Some(item), receipt);
-                }
-                Turn::End => {
-                    drop(sleepers);
-                    self.shared.call(calls);
-                    return (None, receipt);
-                }
-            }
-        }
-        unreachable!()
+        let mut held = self.shared.sleepers.lock(&self.shared.crew.rt);
+        let receipt = self.hand_in(&mut held, read);
+        (self.take(held), receipt)
     }
 
     /// Reads a specification that was taken. If memory runs out for the reading, its message reports it. Returns none
