@@ -3,8 +3,8 @@ ghost use Rattle.std.specs.Prelude.{◌≡◌, ℕ, List, None, Ok, Err, IfOk, O
 
 use crate::rules::texts::Texts;
 use jwalk_fs::fault::Fault;
-use jwalk_model::file_type::FileType;
 use jwalk_fs::path_text;
+use jwalk_model::file_type::FileType;
 use std::alloc::{AllocError, Allocator, Global};
 use std::collections::BTreeMap;
 use std::io;
