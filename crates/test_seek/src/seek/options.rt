@@ -110,6 +110,7 @@ fn extensions(rt: HostRuntime) {
         &["--extension=tar.gz", ".", "/t"],
         "/t/sub/notes.tar.gz\n",
     );
+    prints(&rt, &["-e", ".TAR.gz", ".", "/t"], "/t/sub/notes.tar.gz\n");
     prints(&rt, &["-e", "hidden", "-H", ".", "/t"], "");
 }
 
