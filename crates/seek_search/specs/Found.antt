@@ -1,5 +1,5 @@
 -- What is printed of a walk's answers.
-use Rattle.std.specs.Prelude.{◌≡◌, ℕ, Bool, true, false, not, List, [], Option, Result, Ok, Err, map, flat_map, is_some, option_and_then, if◌then◌else◌}
+use Rattle.std.specs.Prelude.{◌≡◌, ℕ, ◌==◌, Bool, true, false, not, ◌&&◌, List, [], Option, Result, Ok, Err, map, flat_map, is_some, option_and_then, if◌then◌else◌}
 use Rattle.std.specs.List.{list_all}
 use Rattle.std.specs.Iterator.{Drains}
 use Rattle.std.specs.Io.KnownBytes.{Appends}
@@ -26,9 +26,13 @@ module _ {R E : Type 0} where
   abbrev pub found_lines : Sought → Style → List (Item R E) → List ℕ
   found_lines sought style = flat_map (found_line sought style)
 
-  -- whether an answer is an entry, and its directory was read if it was to be
+  -- whether an entry is a root that is no directory, and no link to one
+  abbrev pub is_flat_root : Entry R E → Bool
+  is_flat_root e = e.depth == 0 && not (is_some e.read_children)
+
+  -- whether an answer is an entry, and its directory was read if it was to be; a root has a directory
   abbrev pub is_clean : Item R E → Bool
-  is_clean (Ok e) = not (is_some (option_and_then (λ children. children.error) e.read_children))
+  is_clean (Ok e) = not (is_flat_root e) && not (is_some (option_and_then (λ children. children.error) e.read_children))
   is_clean (Err f) = false
 
 -- The line of each of these answers that is looked for is printed, and all of them are clean.

@@ -8,3 +8,4 @@ pub mod Run
 pub mod Found
 pub mod Options
 pub mod Printed
+pub mod KeptLinks

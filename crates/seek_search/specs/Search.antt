@@ -90,7 +90,7 @@ yielded_by fs texts asked = flat_map (yielded_below fs texts asked) (roots_asked
 
 -- how paths are written, to a terminal or not
 abbrev pub style_asked : Bool → Asked → Style
-style_asked on_terminal asked = record { here = length asked.roots.items == 0; masked = on_terminal; separator = if asked.print0 then 0 else 10 }
+style_asked on_terminal asked = record { here = length asked.roots.items == 0; to_terminal = on_terminal; separator = if asked.print0 then 0 else 10 }
 
 -- the folder that relative paths are below, ended by a slash; nothing if its absolute path isn't found
 abbrev pub front_at : Result (List ℕ) ErrorKind → List ℕ

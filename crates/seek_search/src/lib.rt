@@ -5,6 +5,7 @@ mod bad_pattern;
 mod excluding;
 pub mod found;
 mod glob;
+mod kept_links;
 mod kept_rules;
 pub mod options;
 pub mod printer;

@@ -6,7 +6,7 @@ ghost use Rattle.seek_words.specs.Filter.{sought_of};
 ghost use Rattle.seek_words.specs.Lines.{style_of, gathered_of};
 ghost use Rattle.seek_search.specs.Found.{entry_line, found_line, is_clean};
 
-use crate::report::report_error;
+use crate::report::{report_entry, report_error};
 use jwalk::error::Result as Answer;
 use jwalk::{ClientState, DirEntry};
 use seek_words::filter::Filter;
@@ -65,20 +65,15 @@ impl<'w, T: NameTest> Printer<'w, T> {
         ensures sought { sought_of T.takes self.new.filter ≡ sought_of T.takes self.old.filter }
         ensures style { style_of self.new.lines ≡ style_of self.old.lines }
     {
-        let found = match &answer {
-            Ok(found) => found,
-            Err(error) => {
-                report_error(error, err);
-                return Ok(false);
+        match &answer {
+            Ok(found) => {
+                print_entry(&mut self.filter, &mut self.lines, found, out)?;
+                Ok(report_entry(found, err))
             }
-        };
-        print_entry(&mut self.filter, &mut self.lines, found, out)?;
-        match found.read_children_error() {
-            Some(error) => {
+            Err(error) => {
                 report_error(error, err);
                 Ok(false)
             }
-            None => Ok(true),
         }
     }
 }

@@ -1,5 +1,5 @@
 //! A call of the program.
-ghost use Rattle.std.specs.Prelude.{◌≡◌, ◌≤◌, ◌⊎◌, ℕ, Some, true, flat_map, map, string_bytes, Ok, IfOk};
+ghost use Rattle.std.specs.Prelude.{◌≡◌, ◌<◌, ◌≤◌, ◌⊎◌, ℕ, Some, true, flat_map, map, string_bytes, Ok, IfOk};
 ghost use Rattle.std.specs.Arc.{arc_value};
 ghost use Rattle.std.specs.Option.{option_map};
 ghost use Rattle.seek_words.specs.Subject.{front_of};
@@ -7,11 +7,13 @@ ghost use Rattle.seek_search.specs.Printed.{PrintsAll};
 ghost use Rattle.seek_words.specs.Asks.{texts_of};
 ghost use Rattle.seek_words.specs.AsksFor.{AskForText};
 ghost use Rattle.seek_words.specs.Refusal.{status_of as status_for};
-ghost use Rattle.seek_search.specs.Run.{PrintsAsked, Searches};
+ghost use Rattle.seek_search.specs.Run.{AskForSearch, Ends, PrintsAsked, Searches};
 ghost use Rattle.seek_search.specs.Search.{front_asked, sought_asked, style_asked, yielded_below, yielded_by};
 ghost use Rattle.seek_search.specs.Sought.{takes_by};
 
+use crate::kept_links::KeptLinks;
 use crate::printer::Printer;
+use crate::report::report_hidden;
 use crate::search::Search;
 use crate::sought::Sought;
 use crate::sought_test::SoughtTest;
@@ -21,6 +23,7 @@ use jwalk_ignore::texts::Texts;
 use seek_words::asked::Asked;
 use seek_words::filter::Filter;
 use seek_words::halt::Halt;
+use seek_words::hidden::finds_none_shown;
 use seek_words::lines::Lines;
 use seek_words::paths::Style;
 use seek_words::refusal::Refusal;
@@ -90,7 +93,7 @@ fn style_of(on_terminal: bool, asked: &Asked<'_>) -> Style
 {
     Style {
         here: asked.roots.is_empty(),
-        masked: on_terminal,
+        to_terminal: on_terminal,
         separator: if asked.print0 { 0 } else { b'\n' },
     }
 }
@@ -184,20 +187,29 @@ fn search_asked<
     let mut printer = Printer { filter, lines };
     let search = Search {
         asked,
-        disk: shared(alloc, disk)?,
+        disk: shared(
+            alloc,
+            KeptLinks {
+                disk,
+                follow: asked.follow,
+            },
+        )?,
         texts: shared(alloc, texts)?,
         crew: crew_of(rt, alloc, asked)?,
     };
     let clean = search_roots(alloc, &search, &mut printer, out, err)?;
     printer.lines.finish(out)?;
+    if clean && !printer.lines.has_printed() && finds_none_shown(asked) {
+        report_hidden(asked.pattern, err);
+    }
     Ok(clean)
 }
 
 /// Prints what is asked for by words that ask for no search, and returns the status.
 fn refuse<W: Write, E: Write>(refusal: &Refusal<'_>, out: &mut W, err: &mut E) -> u8
-    ensures text { result ≡ 0 → status_for refusal.now ≡ 0 }
+    ensures refused { 0 < status_for refusal.now → result ≡ status_for refusal.now }
+    ensures text { status_for refusal.now ≡ 0 → result ≤ 1 }
     ensures untouched { result ≡ 2 → W.contents out.new ≡ W.contents out.old }
-    ensures status { result ≤ 2 }
 {
     let status = refusal.status();
     if status > 0 {
@@ -245,6 +257,9 @@ pub fn run<
     err: &mut E,
 ) -> u8
     ensures status { result ≤ 2 }
+    ensures ends { Ends (map string_bytes words.now) result }
+    ensures bad_words { ¬ (AskForText (map string_bytes words.now)) → ¬ (AskForSearch (map string_bytes words.now))
+        → (result ≡ 2) ⊎ (result ≡ 1) }
     ensures untouched { result ≡ 2 → W.contents out.new ≡ W.contents out.old }
     ensures done { result ≡ 0 → AskForText (map string_bytes words.now)
         ⊎ Searches (S.IsFixed disk × X.IsFixed texts) (S.functions disk) (X.functions texts) on_terminal

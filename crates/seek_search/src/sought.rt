@@ -1,5 +1,5 @@
 //! What names are looked for.
-ghost use Rattle.std.specs.Prelude.{◌≡◌, IfOk};
+ghost use Rattle.std.specs.Prelude.{◌≡◌, IfOk, IfErr};
 ghost use Rattle.seek_search.specs.Sought.{takes_any};
 
 use crate::bad_pattern::BadPattern;
@@ -28,11 +28,13 @@ fn takes_any(asked: &Asked<'_>) -> bool
 }
 
 impl Sought {
+    ghost use Rattle.seek_search.specs.BadPattern.{IsBadFor, IsNoExpression, IsNoGlob};
     ghost use Rattle.seek_search.specs.Sought.{IsFor, IsGlobOf, IsExpressionOf};
 
     /// Reads the glob that is asked for.
     fn glob_of<'w>(alloc: Global, asked: &Asked<'w>) -> Result<Glob, BadPattern<'w>>
-        ensures { IfOk result (IsGlobOf asked.now) }
+        ensures glob { IfOk result (IsGlobOf asked.now) }
+        ensures rejected { IfErr result (IsNoGlob asked.now) }
     {
         let ignores_case = asked.case.is_ignored(asked.pattern);
         match Glob::read(alloc, asked.pattern, ignores_case)? {
@@ -43,7 +45,8 @@ impl Sought {
 
     /// Reads the regular expression that is asked for.
     fn expression_of<'w>(alloc: Global, asked: &Asked<'w>) -> Result<Regex, BadPattern<'w>>
-        ensures { IfOk result (IsExpressionOf asked.now) }
+        ensures expression { IfOk result (IsExpressionOf asked.now) }
+        ensures rejected { IfErr result (IsNoExpression asked.now) }
     {
         match read_expression(alloc, asked.pattern, asked.case) {
             Ok(expression) => Ok(expression),
@@ -54,7 +57,8 @@ impl Sought {
 
     /// Reads the pattern that is asked for.
     pub(crate) fn read<'w>(alloc: Global, asked: &Asked<'w>) -> Result<Self, BadPattern<'w>>
-        ensures { IfOk result (IsFor asked.now) }
+        ensures sought { IfOk result (IsFor asked.now) }
+        ensures rejected { IfErr result (IsBadFor asked.now) }
     {
         if takes_any(asked) {
             return Ok(Sought::Any);

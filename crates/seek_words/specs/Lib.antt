@@ -17,3 +17,4 @@ pub mod Lines
 pub mod Wanted
 pub mod Sought
 pub mod Filter
+pub mod Hidden

@@ -1,5 +1,5 @@
 -- The lines that are printed.
-use Rattle.std.specs.Prelude.{ℕ, List}
+use Rattle.std.specs.Prelude.{ℕ, Bool, List}
 use Rattle.seek_words.specs.declared.lines.Lines.{Lines}
 use Rattle.seek_words.specs.declared.paths.Style.{Style}
 
@@ -10,3 +10,7 @@ style_of lines = lines.style
 -- the bytes that aren't written yet
 abbrev pub gathered_of : Lines → List ℕ
 gathered_of lines = lines.gathered.items
+
+-- whether a line was printed
+abbrev pub has_printed : Lines → Bool
+has_printed lines = lines.has_printed

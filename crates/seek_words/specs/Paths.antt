@@ -15,7 +15,7 @@ shown_folder style folder = if style.here then without_here folder else folder
 
 -- a text as it is written: with a question mark for each control character, if it is for a terminal
 abbrev pub shown_text : Style → List ℕ → List ℕ
-shown_text style text = if style.masked then masked text else text
+shown_text style text = if style.to_terminal then masked text else text
 
 -- the line of a name in a folder: its path, and the separator
 abbrev pub line_of : Style → List ℕ → List ℕ → List ℕ

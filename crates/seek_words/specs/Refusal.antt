@@ -28,3 +28,7 @@ IsRefusedFor words (Words error) = (app : App) × IsSeek app × HasKind (fault_o
 IsRefusedFor words (Conflict one other) = (app : App) × IsSeek app × (has_conflict (matches_of app words) ≡ true)
 IsRefusedFor words (Slash pattern) = (app : App) × IsSeek app × (asked : Asked) × Asks (matches_of app words) asked × NamesSlash asked
 IsRefusedFor words Memory = Unit {0}
+
+-- Words are bad: they are refused, and not for memory.
+abbrev pub AreBad : List Text → Type 0
+AreBad words = (refusal : Refusal) × IsRefusedFor words refusal × (status_of refusal ≡ 2)

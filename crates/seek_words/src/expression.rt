@@ -1,5 +1,6 @@
 //! The regular expression that a name is looked for by.
-ghost use Rattle.std.specs.Prelude.{◌≡◌, IfOk};
+ghost use Rattle.std.specs.Prelude.{◌≡◌, IfOk, IfErr};
+ghost use Rattle.regex.specs.Sources.{IsRefusal};
 ghost use Rattle.regex.specs.Strings.{regex_source, regex_config, IsReadFromSource};
 ghost use Rattle.seek_words.specs.Expression.{config_for};
 
@@ -16,6 +17,7 @@ pub fn read_expression(alloc: Global, pattern: &str, case: Case) -> Result<Regex
     ensures source { IfOk result (λ it. regex_source it ≡ pattern.now) }
     ensures options { IfOk result (λ it. regex_config it ≡ config_for case pattern.now) }
     ensures read { IfOk result IsReadFromSource }
+    ensures rejected { IfErr result (IsRefusal (config_for case pattern.now) pattern.now) }
 {
     RegexBuilder::new(pattern)
         .case_insensitive(case.is_ignored(pattern))

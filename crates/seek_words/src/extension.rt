@@ -1,7 +1,7 @@
 //! Extensions of names.
 ghost use Rattle.std.specs.Prelude.{◌≡◌, map};
 ghost use Rattle.std.specs.List.{list_any};
-ghost use Rattle.seek_words.specs.Extension.{is_dotted, has_extension, has_one};
+ghost use Rattle.seek_words.specs.Extension.{is_dotted, without_dot, has_ending, has_extension, has_one};
 
 /// Returns whether a text is a dot and an extension.
 #[tactic(auto, using(crate::proofs::ExtensionFacts::same_folded))]
@@ -14,14 +14,30 @@ fn is_dotted(text: &[u8], extension: &[u8]) -> bool
     }
 }
 
-/// Returns whether a name ends with a dot and an extension, and has something in front of them. The case of letters of
-/// ASCII doesn't count.
+/// Returns an extension without one dot in front.
+fn without_dot(extension: &[u8]) -> &[u8]
+    ensures { result.now ≡ without_dot extension.now }
+{
+    match extension {
+        [b'.', behind @ ..] => behind,
+        _ => extension,
+    }
+}
+
+/// Returns whether a name ends with a dot and this text, and has something in front of them.
+fn has_ending(name: &[u8], ending: &[u8]) -> bool
+    ensures { result ≡ has_ending ending.now name.now }
+{
+    let taken = ending.len() + 1;
+    name.len() > taken && is_dotted(&name[name.len() - taken..], ending)
+}
+
+/// Returns whether a name has an extension, which may be named with its dot: the name ends with a dot and the extension,
+/// and has something in front of them. The case of letters of ASCII doesn't count.
 pub fn has_extension(name: &str, extension: &str) -> bool
     ensures { result ≡ has_extension name.now extension.now }
 {
-    let (name, extension) = (name.as_bytes(), extension.as_bytes());
-    let taken = extension.len() + 1;
-    name.len() > taken && is_dotted(&name[name.len() - taken..], extension)
+    has_ending(name.as_bytes(), without_dot(extension.as_bytes()))
 }
 
 /// Returns whether a name has one of these extensions.

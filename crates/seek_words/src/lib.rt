@@ -9,6 +9,7 @@ pub mod expression;
 pub mod extension;
 pub mod filter;
 pub mod halt;
+pub mod hidden;
 pub mod kinds;
 pub mod lines;
 pub mod masked;

@@ -1,5 +1,5 @@
 //! The lines that are printed.
-ghost use Rattle.std.specs.Prelude.{◌≡◌, [], IfOk, OnOk};
+ghost use Rattle.std.specs.Prelude.{◌≡◌, true, false, [], IfOk, OnOk};
 ghost use Rattle.std.specs.Io.KnownBytes.{Appends, append_known};
 ghost use Rattle.seek_words.specs.Paths.{line_of};
 
@@ -12,15 +12,16 @@ use std::io::Write;
 /// It stays below 64 KiB, at which a free makes the C library's allocator put all its small pieces together.
 const GATHERED: usize = 16384;
 
-/// Lines that are gathered, and written once there are enough.
+/// Lines that are gathered, and written once there are enough. For a terminal each is written at once.
 #[derive(Drop)]
 pub struct Lines {
     style: Style,
     gathered: Vec<u8>,
+    has_printed: bool,
 }
 
 impl Lines {
-    ghost use Rattle.seek_words.specs.Lines.{style_of, gathered_of};
+    ghost use Rattle.seek_words.specs.Lines.{style_of, gathered_of, has_printed};
 
     /// Returns no lines yet, for paths that are written so.
     ///
@@ -30,11 +31,20 @@ impl Lines {
     pub fn new(alloc: Global, style: Style) -> Result<Self, AllocError>
         ensures style { IfOk result (λ lines. style_of lines ≡ style) }
         ensures empty { IfOk result (λ lines. gathered_of lines ≡ []) }
+        ensures none { IfOk result (λ lines. has_printed lines ≡ false) }
     {
         Ok(Lines {
             style,
             gathered: Vec::with_capacity(alloc, 2 * GATHERED)?,
+            has_printed: false,
         })
+    }
+
+    /// Returns whether a line was printed.
+    pub fn has_printed(&self) -> bool
+        ensures { result ≡ has_printed self.now }
+    {
+        self.has_printed
     }
 
     /// Writes the lines that were gathered.
@@ -42,6 +52,7 @@ impl Lines {
         ensures written { OnOk result (Appends (W.contents out.old) (W.contents out.new) (gathered_of self.old)) }
         ensures empty { OnOk result (gathered_of self.new ≡ []) }
         ensures style { style_of self.new ≡ style_of self.old }
+        ensures as_before { has_printed self.new ≡ has_printed self.old }
     {
         if out.write_all(self.gathered.as_slice()).is_err() {
             return Err(Halt::Output);
@@ -50,7 +61,8 @@ impl Lines {
         Ok(())
     }
 
-    /// Prints the line of a name in a folder: it is gathered, and written once there are enough.
+    /// Prints the line of a name in a folder: it is gathered, and written once there are enough, or at once to a
+    /// terminal.
     ///
     /// # Errors
     ///
@@ -58,10 +70,13 @@ impl Lines {
     pub fn print<W: Write>(&mut self, folder: &str, name: &str, out: &mut W) -> Result<(), Halt>
         ensures printed { OnOk result (Appends (append_known (W.contents out.old) (gathered_of self.old))
             (append_known (W.contents out.new) (gathered_of self.new)) (line_of (style_of self.old) folder.now name.now)) }
+        ensures at_once { OnOk result ((style_of self.old).to_terminal ≡ true → gathered_of self.new ≡ []) }
+        ensures has_printed { OnOk result (has_printed self.new ≡ true) }
         ensures style { style_of self.new ≡ style_of self.old }
     {
         self.style.write(folder, name, &mut self.gathered)?;
-        if self.gathered.len() < GATHERED {
+        self.has_printed = true;
+        if self.gathered.len() < GATHERED && !self.style.to_terminal {
             return Ok(());
         }
         self.write_gathered(out)

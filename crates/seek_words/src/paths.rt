@@ -13,8 +13,8 @@ use std::alloc::{AllocError, Allocator};
 pub struct Style {
     /// The walk's root is the folder that the program runs in, and wasn't named: a `./` in front isn't written.
     pub here: bool,
-    /// A question mark is written for each control character in a path, as is due to a terminal.
-    pub masked: bool,
+    /// It is written to a terminal: a question mark stands for each control character in a path.
+    pub to_terminal: bool,
     /// The byte behind a path.
     pub separator: u8,
 }
@@ -71,7 +71,7 @@ impl Style {
         ensures { OnOk result (out.new.items ≡ out.old.items ++ line_of self folder.now name.now) }
     {
         let folder = self.folder(folder);
-        if self.masked {
+        if self.to_terminal {
             let alloc = *out.allocator();
             let (folder, name) = (masked(alloc, folder)?, masked(alloc, name)?);
             push_path(folder.as_str(), name.as_str(), out)?;

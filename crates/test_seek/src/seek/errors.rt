@@ -1,6 +1,6 @@
 //! Errors on the way.
 use crate::seek::output::Output;
-use crate::seek::runs::{Row, all_come, called};
+use crate::seek::runs::{Row, RulesFile, all_come, called};
 use std::alloc::{AllocError, Global};
 
 #[test]
@@ -18,6 +18,28 @@ fn a_root_that_is_missing(rt: HostRuntime) {
             &[],
             ("/r/a\n", "seek: /no: entity not found\n", 1),
         ),
+    ];
+    all_come(&rt, ROWS);
+}
+
+#[test]
+fn a_root_that_is_no_directory(rt: HostRuntime) {
+    const LINKS: &str = "d /r\nf 1 /r/a\nd /r/d\nf 1 /r/d/x\nl d\t/r/l\nl a\t/r/k\n";
+    const TOLD: &str = "seek: /r/a: Not a directory\nseek: /r/k: Not a directory\n";
+    const ROWS: &[Row] = &[
+        (
+            &[".", "/r/a", "/r/k", "/r/l"],
+            LINKS,
+            &[],
+            ("/r/l/x\n", TOLD, 1),
+        ),
+        (
+            &["-L", ".", "/r/a", "/r/k", "/r/l"],
+            LINKS,
+            &[],
+            ("/r/l/x\n", TOLD, 1),
+        ),
+        (&["-d0", ".", "/r/l"], LINKS, &[], ("", "", 0)),
     ];
     all_come(&rt, ROWS);
 }
@@ -52,6 +74,40 @@ fn a_link_that_leads_back(rt: HostRuntime) {
             BACK,
             &[],
             ("/r/a\n", "seek: /r/here: a link that leads back to /r\n", 1),
+        ),
+    ];
+    all_come(&rt, ROWS);
+}
+
+#[test]
+fn a_link_that_leads_nowhere(rt: HostRuntime) {
+    const NOWHERE: &str =
+        "d /r\nf 1 /r/.ignore\nl no\t/r/c\nl no\t/r/.h\nd /r/b\nl no\t/r/b/d\nl no\t/r/b/e\n";
+    const RULES: &[RulesFile] = &[("/r/.ignore", "e\n")];
+    const ROWS: &[Row] = &[
+        (
+            &["-L", "--sort", ".", "/r"],
+            NOWHERE,
+            RULES,
+            ("/r/b\n/r/b/d\n/r/c\n", "", 0),
+        ),
+        (
+            &["-LI", "-tl", ".", "/r"],
+            NOWHERE,
+            RULES,
+            ("/r/c\n/r/b/d\n/r/b/e\n", "", 0),
+        ),
+        (
+            &["-LH", "-E", "c", "-tl", ".", "/r"],
+            NOWHERE,
+            RULES,
+            ("/r/.h\n/r/b/d\n", "", 0),
+        ),
+        (
+            &["-L", ".", "/r/c"],
+            NOWHERE,
+            RULES,
+            ("", "seek: /r/c: Not a directory\n", 1),
         ),
     ];
     all_come(&rt, ROWS);

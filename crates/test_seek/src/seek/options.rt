@@ -1,5 +1,5 @@
 //! Each option.
-use crate::seek::runs::{prints, prints_by};
+use crate::seek::runs::{Row, TREE, all_come, prints, prints_by};
 
 /// All that is below `/t` and isn't hidden.
 const SHOWN: &str =
@@ -48,6 +48,20 @@ fn hidden(rt: HostRuntime) {
     prints(&rt, &["hid", "/t"], "");
     prints(&rt, &["-H", "hid", "/t"], "/t/.hidden\n");
     prints(&rt, &["--hidden", "hid", "/t"], "/t/.hidden\n");
+}
+
+#[test]
+fn a_pattern_for_hidden_names_without_hidden(rt: HostRuntime) {
+    const TOLD: &str = "seek: the pattern '^\\.h' finds hidden names alone: add -H to have these\n";
+    const GLOB_TOLD: &str =
+        "seek: the pattern '.h*' finds hidden names alone: add -H to have these\n";
+    const ROWS: &[Row] = &[
+        (&["^\\.h", "/t"], TREE, &[], ("", TOLD, 0)),
+        (&["-g", ".h*", "/t"], TREE, &[], ("", GLOB_TOLD, 0)),
+        (&["-H", "^\\.h", "/t"], TREE, &[], ("/t/.hidden\n", "", 0)),
+        (&["-p", "^\\.h", "/t"], TREE, &[], ("", "", 0)),
+    ];
+    all_come(&rt, ROWS);
 }
 
 #[test]
@@ -110,6 +124,7 @@ fn extensions(rt: HostRuntime) {
         &["--extension=tar.gz", ".", "/t"],
         "/t/sub/notes.tar.gz\n",
     );
+    prints(&rt, &["-e", ".TAR.gz", ".", "/t"], "/t/sub/notes.tar.gz\n");
     prints(&rt, &["-e", "hidden", "-H", ".", "/t"], "");
 }
 
@@ -128,7 +143,6 @@ fn glob(rt: HostRuntime) {
         "/t/sub/c.rs\n/t/sub/deep/a.rs\n",
     );
     prints(&rt, &["-g", "sub", "/t"], "/t/sub\n");
-    prints(&rt, &["-g", ".", "/t"], "");
 }
 
 #[test]
@@ -213,7 +227,6 @@ fn no_root_is_the_folder_without_a_dot_in_front(rt: HostRuntime) {
 #[test]
 fn a_root_is_not_printed(rt: HostRuntime) {
     prints(&rt, &["sub", "/t/sub"], "");
-    prints(&rt, &["txt", "/t/a.txt"], "");
 }
 
 #[test]

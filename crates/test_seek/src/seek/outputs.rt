@@ -83,3 +83,22 @@ fn control_characters_elsewhere(rt: HostRuntime) {
     let want = "/t/\u{1b}[31m\n/t/\u{1b}[31m/a\u{9b}b\n/t/\u{7f}é\t\n";
     assert!(rt; prints_names(&rt, &[".", "/t"], false, want));
 }
+
+#[test]
+fn each_line_is_written_at_once_to_a_terminal(rt: HostRuntime) {
+    let tree: (&str, &[(&str, &str)]) = ("d /r\nf 1 /r/a\nf 1 /r/b\n", &[]);
+    for (on_terminal, want) in [(true, "/r/a\n"), (false, "/r/a\n/r/b\n")] {
+        let mut out = Output::taking(rt.alloc(), 1);
+        let mut err = Output::new(rt.alloc());
+        called(
+            &rt,
+            tree,
+            "-j1",
+            &[".", "/r"],
+            on_terminal,
+            &mut out,
+            &mut err,
+        );
+        assert_eq!(rt; out.written(), want.as_bytes());
+    }
+}

@@ -1,0 +1,36 @@
+//! Patterns for hidden names.
+ghost use Rattle.std.specs.Prelude.{◌≡◌};
+ghost use Rattle.jwalk_model.specs.Entry.{is_hidden};
+ghost use Rattle.seek_words.specs.Hidden.{begins_escaped_dot, finds_none_shown};
+
+use crate::asked::Asked;
+
+/// Returns whether a text begins with `^\.`.
+fn begins_escaped_dot(text: &[u8]) -> bool
+    ensures { result ≡ begins_escaped_dot text.now }
+{
+    matches!(text, [b'^', b'\\', b'.', ..])
+}
+
+/// Returns whether a text begins with a dot.
+fn begins_dot(text: &[u8]) -> bool
+    ensures { result ≡ is_hidden text.now }
+{
+    matches!(text, [b'.', ..])
+}
+
+/// Returns whether a pattern can find hidden names alone, and they don't come: a regular expression that begins with
+/// `^\.`, or a glob that begins with a dot. One that is compared with paths may find others.
+pub fn finds_none_shown(asked: &Asked<'_>) -> bool
+    ensures { result ≡ finds_none_shown asked.now }
+{
+    if asked.hidden || asked.full_path {
+        return false;
+    }
+    let pattern = asked.pattern.as_bytes();
+    if asked.glob {
+        begins_dot(pattern)
+    } else {
+        begins_escaped_dot(pattern)
+    }
+}
