@@ -1,6 +1,6 @@
 //! Errors, reported on standard error.
 ghost use Rattle.std.specs.Prelude.{◌≡◌, Ok};
-ghost use Rattle.jwalk_core.specs.Entry.{entry};
+ghost use Rattle.jwalk_job.specs.Entry.{entry};
 ghost use Rattle.seek_search.specs.Found.{is_clean, is_flat_root};
 
 use jwalk::path_text::join_parts;
