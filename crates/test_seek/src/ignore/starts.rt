@@ -103,3 +103,17 @@ fn what_git_leads_to_makes_a_repository(rt: HostRuntime) -> Result<(), BuildErro
     }
     Ok(())
 }
+
+#[test]
+fn a_git_that_leads_back_to_its_directory_makes_a_repository(
+    rt: HostRuntime,
+) -> Result<(), BuildError> {
+    let mut planted = tree_of(rt.alloc(), ".gitignore=a|\na\nb")?;
+    planted.fs.add_link("/r/.git", ".")?;
+    planted
+        .texts
+        .add_unread("/r/.git", FileType::Dir, ErrorKind::IsADirectory)?;
+    let followed = left_following(rt.alloc(), &planted)?;
+    assert!(rt; followed.as_str() == ".gitignore\nb\n! 1 .git\n");
+    Ok(())
+}
