@@ -4,3 +4,4 @@ pub mod TreeLineFacts
 pub mod TextLineFacts
 pub mod BuiltFacts
 pub mod WordFacts
+pub mod PrintFacts
