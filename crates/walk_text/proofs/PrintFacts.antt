@@ -4,7 +4,7 @@ use Rattle.std.specs.Fmt.{decimal}
 use Rattle.std.specs.Io.KnownBytes.{Appends}
 use Rattle.std.specs.Option.{option_copied}
 use Rattle.std.specs.declared.io.ErrorKind.{ErrorKind}
-use Rattle.jwalk_core.specs.Error.{depth_of, kind_of, path_of}
+use Rattle.jwalk_job.specs.Error.{depth_of, kind_of, path_of}
 use Rattle.jwalk_model.specs.Error.{Failure, io, unnamed, looped, busy, memory, lost}
 use Rattle.jwalk_model.specs.Lines.{failure_line, kind_name}
 

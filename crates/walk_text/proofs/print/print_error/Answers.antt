@@ -4,7 +4,7 @@ use Rattle.std.specs.Io.KnownBytes.{Appends}
 use Rattle.std.specs.IoError.{error_kind}
 use Rattle.std.specs.Option.{option_copied, option_map}
 use Rattle.std.proofs.lemmas.Result.{on_ok_weaker}
-use Rattle.jwalk_core.specs.Error.{failure, kind_of}
+use Rattle.jwalk_job.specs.Error.{failure, kind_of}
 use Rattle.walk_text.proofs.PrintFacts.{then, then_is, kind_line, text_or}
 use Rattle.walk_text.proofs.print.print_error.Goals as goal
 
