@@ -1,12 +1,13 @@
 -- Texts that are written one after another.
-use Rattle.std.proofs.Common.{◌≡◌, ◌∙◌, ℕ, List, ◌++◌, Option, Some, None, Bor, ap, append_assoc, codes, refl, unwrap_or}
+use Rattle.std.proofs.Common.{◌≡◌, ◌∙◌, ℕ, List, ◌++◌, Option, Some, None, Bor, ap, append_assoc, codes, sym, unwrap_or}
 use Rattle.std.specs.Fmt.{decimal}
 use Rattle.std.specs.Io.KnownBytes.{Appends}
 use Rattle.std.specs.Option.{option_copied}
 use Rattle.std.specs.declared.io.ErrorKind.{ErrorKind}
 use Rattle.jwalk_job.specs.Error.{depth_of, kind_of, path_of}
 use Rattle.jwalk_model.specs.Error.{Failure, io, unnamed, looped, busy, memory, lost}
-use Rattle.jwalk_model.specs.Lines.{failure_line, kind_name}
+use Rattle.jwalk_model.specs.Entry.{Children}
+use Rattle.jwalk_model.specs.Lines.{failure_line, failure_name, kind_name, reading_part}
 
 -- one text more in front
 pub then : (old mid new : Option (List ℕ)) (first rest : List ℕ) → Appends old mid first → Appends mid new rest → Appends old new (first ++ rest)
@@ -33,3 +34,9 @@ kind_line (looped depth ancestor child) kind is = cc
 kind_line busy kind is = cc
 kind_line memory kind is = cc
 kind_line lost kind is = cc
+
+-- the text for a reading that ended in an error
+pub reading_failed : {R : Type 0} (reading : Option (Children R)) (children : Children R) (failure : Failure) → reading ≡ Some children → children.error ≡ Some failure
+    → codes " ! " ++ failure_name failure ≡ reading_part reading
+reading_failed reading children failure is failed =
+    sym (ap reading_part is ∙ ap (λ error. reading_part (Some (record children { error = error }))) failed)
