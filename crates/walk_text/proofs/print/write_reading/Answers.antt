@@ -2,8 +2,8 @@ use Rattle.std.proofs.Common.{◌∙◌, ap, subst, sym}
 use Rattle.std.specs.Io.KnownBytes.{Appends}
 use Rattle.std.specs.Option.{option_copied, option_map}
 use Rattle.std.proofs.lemmas.Result.{on_ok_weaker}
-use Rattle.jwalk_core.specs.Entry.{children}
-use Rattle.jwalk_core.specs.Error.{failure}
+use Rattle.jwalk_job.specs.Entry.{children}
+use Rattle.jwalk_job.specs.Error.{failure}
 use Rattle.walk_text.proofs.PrintFacts.{reading_failed, then}
 use Rattle.walk_text.proofs.print.write_reading.Goals as goal
 
