@@ -59,7 +59,12 @@ fn repeated(alloc: Global, piece: &[u8], times: usize, end: &[u8]) -> Option<Vec
 /// Returns what is said of a deep path by one line, which repeats a piece before it ends.
 fn said_of_deep(alloc: Global, piece: &[u8], times: usize, end: &[u8]) -> Option<Decision> {
     let line = repeated(alloc, piece, times, end)?;
-    let path = repeated(alloc, b"a/", 300, b"aaaaaaaaaaaaaaaaaaaaaaaaaaaaaaaaaaaaaaaac")?;
+    let path = repeated(
+        alloc,
+        b"a/",
+        300,
+        b"aaaaaaaaaaaaaaaaaaaaaaaaaaaaaaaaaaaaaaaac",
+    )?;
     decided(alloc, &line, &path, false)
 }
 
