@@ -1,5 +1,5 @@
 -- The statuses of words and patterns that are rejected.
-use Rattle.std.proofs.Common.{◌≡◌, ◌<◌, ◌≤◌, ◌⊎◌, ℕ, List, inl, inr, refl, sym, subst, ◌∙◌, arith}
+use Rattle.std.proofs.Common.{◌≡◌, ◌<◌, ◌≤◌, ◌⊎◌, ℕ, zero, suc, List, inl, inr, refl, sym, subst, ◌∙◌, arith}
 use Rattle.seek_words.proofs.EndFacts.{asked_for_text, refusal_most}
 use Rattle.seek_words.specs.AsksFor.{AskFor, AskForText}
 use Rattle.seek_words.specs.Refusal.{IsRefusedFor, status_of as status_for}
@@ -19,9 +19,9 @@ never_zero (bad.Glob pattern) is = absurd (cc)
 never_zero bad.Memory is = absurd (cc)
 
 at_most_two : (n : ℕ) → n ≤ 2 → (n ≡ 0) ⊎ (n ≡ 1) ⊎ (n ≡ 2)
-at_most_two 0 most = inl refl
-at_most_two 1 most = inr (inl refl)
-at_most_two 2 most = inr (inr refl)
+at_most_two zero most = inl refl
+at_most_two (suc zero) most = inr (inl refl)
+at_most_two (suc (suc zero)) most = inr (inr refl)
 at_most_two (suc (suc (suc n))) most = absurd (omega (arith, most))
 
 -- words that are refused end with the refusal's status, or with 1 where a text can't be written
@@ -29,7 +29,7 @@ pub refused_ends : (words : List (List ℕ)) (refusal : Refusal) (status : ℕ) 
     → (0 < status_for refusal → status ≡ status_for refusal) → (status_for refusal ≡ 0 → status ≤ 1) → Ends words status
 refused_ends words refusal status refused told text =
     elim (at_most_two (status_for refusal) (refusal_most refusal)) [
-      | inl zero ↦ inr (inl (inl (asked_for_text words refusal refused zero), text zero))
+      | inl none ↦ inr (inl (inl (asked_for_text words refusal refused none), text none))
       | inr (inl one) ↦ inr (inr (told (omega (arith, one)) ∙ one))
       | inr (inr two) ↦ inl (inl (refusal, refused, two), told (omega (arith, two)) ∙ two)
     ]
@@ -38,7 +38,7 @@ refused_ends words refusal status refused told text =
 pub text_asked : (words : List (List ℕ)) (refusal : Refusal) (status : ℕ) → IsRefusedFor words refusal → (0 < status_for refusal → status ≡ status_for refusal) → status ≡ 0 → AskForText words
 text_asked words refusal status refused told is =
     elim (at_most_two (status_for refusal) (refusal_most refusal)) [
-      | inl zero ↦ asked_for_text words refusal refused zero
+      | inl none ↦ asked_for_text words refusal refused none
       | inr (inl one) ↦ absurd (omega (arith, is, one, told (omega (arith, one))))
       | inr (inr two) ↦ absurd (omega (arith, is, two, told (omega (arith, two))))
     ]
