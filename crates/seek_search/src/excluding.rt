@@ -66,7 +66,7 @@ fn place_of<A: Allocator + Copy>(
 }
 
 /// Returns whether rules ignore a name in a folder. The place of the folder is left as it was.
-#[tactic(auto, using(jwalk_ignore::proofs::MatchingFacts::says_computed))]
+#[tactic(auto, using(jwalk_ignore_rules::proofs::MatchingFacts::says_computed))]
 fn ignores<A: Allocator + Copy>(
     rules: &Rules,
     place: &mut Vec<u8, A>,
