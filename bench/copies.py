@@ -1,0 +1,128 @@
+#!/usr/bin/env python3
+"""Tries copy_into.sh on a small library that stands in for this one: a first copy, an update, files that a user changed,
+and a copy without a list.
+
+    python3 bench/copies.py
+"""
+import os
+import shutil
+import subprocess
+import sys
+import tempfile
+
+TOP = os.path.dirname(os.path.dirname(os.path.abspath(__file__)))
+LINES = "below:\nabove: jwalk\njwalk: below\njwalk_usage: jwalk\njwalk_ignore: jwalk\n"
+LIST = "crates/jwalk/copied.sha256"
+
+
+def write(path, text):
+    os.makedirs(os.path.dirname(path), exist_ok=True)
+    with open(path, "w") as file:
+        file.write(text)
+
+
+def read(path):
+    with open(path) as file:
+        return file.read()
+
+
+def make_library(folder):
+    """A library of four crates, and a crate that isn't part of it."""
+    shutil.copy(f"{TOP}/copy_into.sh", folder)
+    write(f"{folder}/crates.txt", LINES)
+    for name in ["below", "jwalk", "jwalk_usage", "jwalk_ignore", "above"]:
+        write(f"{folder}/crates/{name}/src/lib.rt", f"//! {name}\n")
+    write(f"{folder}/crates/jwalk/must-fail/a.edit", "wrong\n")
+    write(f"{folder}/crates/jwalk/specs/Old.antt", "old\n")
+    write(f"{folder}/crates/jwalk/out/kept", "proved\n")
+
+
+def change_library(folder):
+    """One file changes, one comes and one goes."""
+    write(f"{folder}/crates/below/src/lib.rt", "//! below, newer\n")
+    write(f"{folder}/crates/below/src/more.rt", "//! more\n")
+    os.remove(f"{folder}/crates/jwalk/specs/Old.antt")
+    write(f"{folder}/crates/jwalk/out/kept", "proved again\n")
+
+
+def copy(library, *words):
+    """Runs the script, and returns its status and what it wrote on standard error."""
+    ran = subprocess.run(["bash", f"{library}/copy_into.sh", *words], capture_output=True, text=True)
+    return ran.returncode, ran.stderr
+
+
+def files_of(folder):
+    """The text of each file below a folder."""
+    found = {}
+    for at, _, names in os.walk(folder):
+        for name in names:
+            path = os.path.join(at, name)
+            found[os.path.relpath(path, folder)] = read(path)
+    return found
+
+
+def check(what, holds):
+    if not holds:
+        sys.exit(f"copy_into.sh: {what}: no")
+
+
+def first_copy(library, user):
+    check("a first copy ends with 0", copy(library, user)[0] == 0)
+    found = files_of(user)
+    check("it has the library and what that uses", "crates/below/src/lib.rt" in found and "crates/above/src/lib.rt" not in found)
+    check("it has no wrong bodies", not any("must-fail" in path for path in found))
+    check("it has what was proved", found["crates/jwalk/out/kept"] == "proved\n")
+    listed = [line.split("  ")[1] for line in found[LIST].splitlines()]
+    check("all other files are listed", sorted(listed) == sorted(set(found) - {LIST, "crates/jwalk/out/kept"}))
+    sums = subprocess.run(["sha256sum", "-c", "--quiet", LIST], cwd=user)
+    check("with their sums", sums.returncode == 0)
+    status, said = copy(library, user)
+    check("a second one is refused", status == 1 and "is there already" in said and files_of(user) == found)
+
+
+def update(library, user):
+    check("an update ends with 0", copy(library, "--update", user)[0] == 0)
+    found = files_of(user)
+    check("it replaces files", found["crates/below/src/lib.rt"] == "//! below, newer\n")
+    check("it adds files", found["crates/below/src/more.rt"] == "//! more\n")
+    check("it takes files away, and folders that are empty", not os.path.exists(f"{user}/crates/jwalk/specs"))
+    check("it brings what was proved", found["crates/jwalk/out/kept"] == "proved again\n")
+    check("a second one changes nothing", copy(library, "--update", user)[0] == 0 and files_of(user) == found)
+
+
+def update_changed(library, user):
+    """Three files are the user's: one that is newer here, one that went, and one that came."""
+    for path in ["crates/below/src/lib.rt", "crates/jwalk/specs/Old.antt", "crates/below/src/more.rt"]:
+        write(f"{user}/{path}", "mine\n")
+    for _ in range(2):
+        status, said = copy(library, "--update", user)
+        found = files_of(user)
+        check("changed files give 1", status == 1)
+        for path in ["crates/below/src/lib.rt", "crates/jwalk/specs/Old.antt", "crates/below/src/more.rt"]:
+            check(f"{path} is left and named", found[path] == "mine\n" and f"{path} was changed" in said)
+
+
+def update_unlisted(library, user):
+    os.remove(f"{user}/{LIST}")
+    found = files_of(user)
+    status, said = copy(library, "--update", user)
+    check("without a list nothing is changed", status == 1 and LIST in said and files_of(user) == found)
+
+
+def main():
+    with tempfile.TemporaryDirectory() as room:
+        library, user, other = (f"{room}/{name}" for name in ["library", "user", "other"])
+        for folder in [library, user, other]:
+            os.mkdir(folder)
+        make_library(library)
+        first_copy(library, user)
+        check("another first copy ends with 0", copy(library, other)[0] == 0)
+        change_library(library)
+        update(library, user)
+        update_changed(library, other)
+        update_unlisted(library, user)
+    print("copy_into.sh: a first copy, an update, changed files and a copy without a list are as they should be")
+
+
+if __name__ == "__main__":
+    main()
