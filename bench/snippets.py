@@ -1,5 +1,5 @@
 #!/usr/bin/env python3
-"""Compares the code that README.md and docs/*.md show with the files of the crates.
+"""Compares the code that README.md and the documents show with the files of the crates.
 
     python3 bench/snippets.py
 
@@ -95,7 +95,8 @@ def is_compared(language, above, shown):
 
 
 def main():
-    documents = ["README.md", *sorted(f"docs/{it}" for it in os.listdir(f"{TOP}/docs") if it.endswith(".md"))]
+    folders = ["docs", "docs/internals"]
+    documents = ["README.md", *sorted(f"{at}/{it}" for at in folders for it in os.listdir(f"{TOP}/{at}") if it.endswith(".md"))]
     compared = 0
     for document in documents:
         for number, *block in blocks(read(document)):
