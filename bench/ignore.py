@@ -2,6 +2,7 @@
 """Rows of ignore files, paths and what git says of them, as in crates/test_seek/src/ignore/rows.rt.
 
     python3 bench/ignore.py [SEED [COUNT]]
+    python3 bench/ignore.py speed [PROGRAM ..]      times of `seek` beside `fd` (ignore_speed.py)
 
 Makes random ignore files and paths, and asks `git check-ignore` about each in a fresh repository, with the directories
 on disk, since git takes a path's type from there. A row is left out where git's answer is about a directory above the
@@ -14,6 +15,8 @@ import re
 import subprocess
 import sys
 import tempfile
+
+import ignore_speed
 
 ENVIRONMENT = dict(os.environ, GIT_CONFIG_GLOBAL="/dev/null", GIT_CONFIG_SYSTEM="/dev/null", LC_ALL="C")
 
@@ -203,6 +206,8 @@ def written(data):
 
 
 def main():
+    if sys.argv[1:2] == ["speed"]:
+        return ignore_speed.main(sys.argv[2:])
     seed = int(sys.argv[1]) if len(sys.argv) > 1 else 1
     count = int(sys.argv[2]) if len(sys.argv) > 2 else 20
     rows = [(rules, [(p.rstrip(b"/"), p.endswith(b"/")) for p in paths]) for rules, paths in FIXED]
