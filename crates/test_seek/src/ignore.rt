@@ -1,6 +1,5 @@
 //! What ignore files say of paths and leave of trees, beside git's answers.
 mod always;
-mod beside;
 mod by_crew;
 mod callback;
 mod left;
