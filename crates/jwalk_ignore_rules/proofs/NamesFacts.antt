@@ -82,8 +82,8 @@ one_kept : (end : List ℕ) (last : ℕ) → filter is_name ((end ++ last ∷ []
 one_kept [] last = refl
 one_kept (c ∷ cs) last = refl
 
--- two lists that are the same have the same last item
-same_last : {X : Type 0} (xs ys : List X) (x y : X) → xs ++ x ∷ [] ≡ ys ++ y ∷ [] → x ≡ y
+-- lists that are the same have the same last item
+pub same_last : {X : Type 0} (xs ys : List X) (x y : X) → xs ++ x ∷ [] ≡ ys ++ y ∷ [] → x ≡ y
 same_last [] [] x y is = cc
 same_last [] (b ∷ []) x y is = cc
 same_last [] (b ∷ c ∷ ys) x y is = cc

@@ -1,11 +1,11 @@
 //! The pattern of one line.
-ghost use Rattle.std.specs.Prelude.{◌≡◌, ◌↔◌, [], IfOk, IfSome, IsTrue};
+ghost use Rattle.std.specs.Prelude.{◌≡◌, ◌↔◌, [], false, IfOk, IfSome, IsTrue};
 ghost use Rattle.std.specs.List.{list_any};
-ghost use Rattle.std.specs.Option.{option_map};
+ghost use Rattle.std.specs.Option.{ForSome, option_map};
 ghost use Rattle.jwalk_ignore_rules.specs.Pattern.Fits.{part_map};
 ghost use Rattle.jwalk_ignore_rules.specs.Pattern.Glob.{glob_in_either_case, glob_value};
-ghost use Rattle.jwalk_ignore_rules.specs.Pattern.NamePattern.{globs_value};
-ghost use Rattle.jwalk_ignore_rules.specs.Pattern.Names.{is_slash};
+ghost use Rattle.jwalk_ignore_rules.specs.Pattern.NamePattern.{IsReached, LastByteIs, globs_value};
+ghost use Rattle.jwalk_ignore_rules.specs.Pattern.Names.{is_slash, names_of};
 ghost use Rattle.jwalk_ignore_rules.specs.Pattern.PatternText.{without_first_slash, without_last_slash, ends_with_slash, first_parts};
 
 mod byte_class;
@@ -34,7 +34,10 @@ use std::alloc::{AllocError, Allocator, Global};
 pub struct Pattern<A: Allocator + Copy = Global> {
     keeps: bool,
     only_dirs: bool,
+    /// The byte with which each path ends that the pattern matches, if it has no slash there and there is one such byte.
+    last_byte: Option<u8>,
     parts: Vec<Part<Glob<A>>, A>,
+    ghost ended: { ForSome last_byte (λ byte. LastByteIs (globs_value parts.items) byte) },
 }
 
 /// Returns a text without the slash that it begins with.
@@ -86,6 +89,16 @@ fn first_parts<A: Allocator + Copy>(
     Ok(parts)
 }
 
+/// Returns the byte with which each path ends that fits these parts, if they end with one.
+fn last_byte_of<A: Allocator + Copy>(parts: &[Part<Glob<A>>]) -> Option<u8>
+    ensures { ForSome result (λ byte. LastByteIs (globs_value parts.now) byte) }
+{
+    match parts.split_last() {
+        Some((Part::One(glob), _)) => glob.last_byte(),
+        _ => None,
+    }
+}
+
 /// Has the letters of a part match in either case.
 fn ignore_case_of<A: Allocator + Copy>(part: &mut Part<Glob<A>>)
     ensures { part_map glob_value part.new ≡ part_map glob_in_either_case (part_map glob_value part.old) }
@@ -108,6 +121,7 @@ impl<A: Allocator + Copy> Pattern<A> {
             Some(parts) => Ok(Some(Pattern {
                 keeps,
                 only_dirs: ends_with_slash(text),
+                last_byte: last_byte_of(&parts),
                 parts,
             })),
             None => Ok(None),
@@ -145,6 +159,7 @@ impl<A: Allocator + Copy> Pattern<A> {
     pub fn ignore_case(&mut self)
         ensures { pattern_value self.new ≡ pattern_in_either_case (pattern_value self.old) }
     {
+        self.last_byte = None;
         for part in self.parts.iter_mut() {
             ignore_case_of(part);
         }
@@ -161,11 +176,21 @@ impl<A: Allocator + Copy> Pattern<A> {
         }
     }
 
+    /// Returns whether the pattern may match a path, by its last byte alone.
+    fn may_end(&self, path: &[u8]) -> bool
+        ensures { result ≡ false → IsReached (globs_value self.now.parts.items) (names_of path.now) → ⊥ }
+    {
+        match (self.last_byte, path.split_last()) {
+            (Some(own), Some((byte, _))) => *byte == own || *byte == b'/',
+            _ => true,
+        }
+    }
+
     /// Returns whether the pattern matches a path. `is_dir` says whether that is of a directory.
     pub fn matches(&self, path: &[u8], is_dir: bool) -> bool
         ensures { IsTrue result ↔ Matches (pattern_value self.now) path.now is_dir }
     {
-        if self.only_dirs && !is_dir {
+        if self.only_dirs && !is_dir || !self.may_end(path) {
             return false;
         }
         name_search::fits(&self.parts, path)

@@ -24,13 +24,13 @@ glob_value glob = parts_value glob.parts.items
 abbrev pub IsNamed : List (Part ByteTest) → List ℕ → Type 0
 IsNamed glob name = Fits TakesByte glob name
 
+-- each name that fits ends with this byte
+abbrev pub EachEndsWith : List (Part ByteTest) → ℕ → Type 0
+EachEndsWith glob byte = (name : List ℕ) → IsNamed glob name → (front : List ℕ) × (name ≡ front ++ byte ∷ [])
+
 -- no name fits but this one
 abbrev pub TakesOnly : List (Part ByteTest) → List ℕ → Type 0
 TakesOnly glob name = (other : List ℕ) → IsNamed glob other → other ≡ name
-
--- no name that fits ends with this byte
-abbrev pub NoneEndsWith : List (Part ByteTest) → ℕ → Type 0
-NoneEndsWith glob byte = (before : List ℕ) → IsNamed glob (before ++ byte ∷ []) → ⊥
 
 -- the same pattern with letters in either case
 abbrev pub glob_in_either_case : List (Part ByteTest) → List (Part ByteTest)
