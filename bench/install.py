@@ -81,28 +81,29 @@ def checks(top, to):
     check("other words are bad", run(top, "--all")[0] == 2 and run(top, "--prefix")[0] == 2)
 
 
-def offered(shell, to, line):
-    """The words that a shell offers behind this line."""
+def offered(shell, to, line, wanted):
+    """What a shell shows behind this line, where zsh has ten seconds to show what is wanted."""
     name, word = line.split()[0], line.split()[-1]
     share = f"{to}/share"
     scripts = {
         "bash": f"compopt() {{ :; }}; . {share}/bash-completion/completions/{name}; "
         f"COMP_WORDS=({line}); COMP_CWORD=$((${{#COMP_WORDS[@]}} - 1)); _{name}; printf '%s\\n' ${{COMPREPLY[@]}}",
-        "zsh": f"fpath=({share}/zsh/site-functions $fpath); autoload -U compinit; compinit -u -D; "
-        "zmodload zsh/zpty; zpty z zsh -f -i; "
-        f"zpty -w z 'fpath=({share}/zsh/site-functions $fpath); autoload -U compinit; compinit -u -D; PS1=; cd /'; "
-        f"sleep 1; zpty -w -n z '{line}'$'\\t'; sleep 1; zpty -r z out '*{word}*{word}*'; zpty -d z; print -r -- $out",
+        "zsh": f"zmodload zsh/zpty; zpty z zsh -f -i; zpty -w z 'fpath=({share}/zsh/site-functions $fpath); "
+        "autoload -U compinit; compinit -u -D; cd /; echo rea\"\"dy'; zpty -r z seen '*ready*'; "
+        f"zpty -w -n z '{line}'$'\\t'; for i in {{1..50}}; do sleep 0.2; zpty -r -t z seen && print -r -- $seen; "
+        f"[[ $seen == *{wanted}* ]] && break; done; zpty -d z",
         "fish": f"source {share}/fish/vendor_completions.d/{name}.fish; complete -C '{line}'",
     }
-    ran = subprocess.run([shell, "-c", scripts[shell]], capture_output=True, text=True, timeout=60, stdin=subprocess.DEVNULL)
-    return ran.stdout
+    words = [shell, "-f", "-c"] if shell == "zsh" else [shell, "-c"]
+    ran = subprocess.run([*words, scripts[shell]], capture_output=True, timeout=60, stdin=subprocess.DEVNULL)
+    return ran.stdout.decode(errors="replace")
 
 
 def completes(to):
     tried = [shell for shell in ["bash", "zsh", "fish"] if shutil.which(shell)]
     for shell in tried:
         for line, wanted in TYPED:
-            check(f"{shell} offers {wanted} for {line!r}", wanted in offered(shell, to, line))
+            check(f"{shell} offers {wanted} for {line!r}", wanted in offered(shell, to, line, wanted))
     return tried
 
 
