@@ -1,5 +1,5 @@
 #!/usr/bin/env bash
-# Installs the programs walk and seek, with their man pages and with completions for bash, zsh and fish.
+# Installs the programs, with their man pages and with completions for bash, zsh and fish.
 #
 #     ./install.sh [--prefix DIR]           DIR is ~/.local unless it is named
 #     ./install.sh [--prefix DIR] --check   runs what is installed there, and compares what it prints

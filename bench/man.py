@@ -18,8 +18,18 @@ TOP = os.path.dirname(os.path.dirname(os.path.abspath(__file__)))
 
 
 def read(path):
-    with open(f"{TOP}/{path}", encoding="utf-8") as file:
-        return file.read()
+    try:
+        with open(f"{TOP}/{path}", encoding="utf-8") as file:
+            return file.read()
+    except OSError as error:
+        sys.exit(f"{path} can't be read: {error.strerror}")
+
+
+def command_files():
+    """The command lines of programs, of which each has a crate NAME with its main and a crate NAME_words."""
+    names = [it.split("/")[1] for it in sorted(glob.glob("crates/*/src/main.rt", root_dir=TOP))]
+    files = [f"crates/{name}_words/src/command.rt" for name in names]
+    return [it for it in files if os.path.exists(f"{TOP}/{it}")]
 
 
 class Program:
@@ -230,7 +240,7 @@ def for_fish(program):
 
 def made():
     """Each file that is made, with its text."""
-    programs = [walk()] + [by_clap(path) for path in sorted(glob.glob("crates/*_words/src/command.rt", root_dir=TOP))]
+    programs = [walk()] + [by_clap(path) for path in command_files()]
     files = {}
     for program in programs:
         others = [it.name for it in programs if it is not program]
