@@ -108,7 +108,7 @@ def walk():
     head = section(page, "# The program `walk`")
     synopsis = next(line for line in head if line.startswith("walk "))
     options = []
-    for word, effect, _ in table(section(page, "## Words"), "word"):
+    for word, effect in table(section(page, "## Words"), "word"):
         name, _, value = word.strip("`").partition(" ")
         arg = Made(name.strip("-")).call("long", [name.strip("-")]).call("help", [without_links(effect)])
         arg.call("value_name" if value else "action", [value or "ArgAction::SetTrue"])
