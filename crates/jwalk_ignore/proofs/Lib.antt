@@ -1,7 +1,6 @@
 pub mod ListFacts
 pub mod MadeFacts
 pub mod IgnoreFacts
-pub mod FolderFacts
 pub mod ReaderFacts
 -- what callers cite of what rules say
 pub use Rattle.jwalk_ignore_rules.proofs.MatchingFacts as MatchingFacts

@@ -9,7 +9,9 @@ use Rattle.jwalk.specs.jwalk_model.Entry.{Children, Item}
 use Rattle.jwalk.specs.jwalk_model.Counted.{children_by, item_by}
 use Rattle.jwalk.specs.jwalk_model.declared.file_type.FileType.{FileType}
 use Rattle.jwalk_ignore.specs.Rules.Chain.{Chain, below_root, entered, place_in}
-use Rattle.jwalk_ignore.specs.Callback.IgnoreFiles.{Folder, Made, Source, by_rules, counts, depth_of, entered_above, folders_above, git_by, git_in, in_directory, is_git, is_git_dir, is_kept, is_repository, is_shown, kind_of, own_rules, path_of, root_of, rules_found, source_above, source_in, with_above, with_absolute, with_folder, with_found, with_item, with_listed, with_own, with_root, with_root_item, with_rules}
+use Rattle.jwalk_ignore.specs.Callback.IgnoreFiles.{Made, Source, by_rules, counts, depth_of, entered_above, git_by, git_in, in_directory, is_git, is_kept, is_shown, kind_of, own_rules, path_of, root_of, rules_found, source_above, source_in, with_above, with_absolute, with_folder, with_found, with_item, with_listed, with_own, with_root, with_root_item, with_rules}
+use Rattle.jwalk_ignore.specs.Rules.Folder.{Folder, folders_above}
+use Rattle.jwalk_ignore.specs.Rules.Git.{is_git_dir, is_repository}
 use Rattle.jwalk_ignore.specs.Pattern.{Pattern}
 use Rattle.jwalk_ignore.specs.Rules.Texts.{Texts}
 use Rattle.jwalk_ignore_rules.specs.declared.rules.rules_kind.RulesKind.{RulesKind}

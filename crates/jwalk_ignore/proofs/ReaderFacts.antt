@@ -7,7 +7,8 @@ use Rattle.jwalk.specs.jwalk_model.Entry.{AtDepth, Item}
 use Rattle.jwalk.specs.jwalk_model.FileType.{is_dir}
 use Rattle.jwalk.specs.jwalk_model.declared.file_type.FileType.{FileType}
 use Rattle.jwalk_ignore.specs.Rules.Chain.{Chain, entered, has_rules, place_in}
-use Rattle.jwalk_ignore.specs.Callback.IgnoreFiles.{Made, counts, git_in, in_directory, is_git_dir, is_kept, is_repository, is_shown, own_rules, with_listed}
+use Rattle.jwalk_ignore.specs.Callback.IgnoreFiles.{Made, counts, git_in, in_directory, is_kept, is_shown, own_rules, with_listed}
+use Rattle.jwalk_ignore.specs.Rules.Git.{is_git_dir, is_repository}
 use Rattle.jwalk_ignore.specs.Callback.MadeDepths.{filter_at}
 use Rattle.jwalk_ignore.specs.Rules.Texts.{Texts}
 use Rattle.jwalk_ignore.specs.declared.callback.settings.Settings.{Settings}

@@ -1,5 +1,4 @@
 -- The callback that honours ignore files, as values.
-pub mod Folders
 pub mod Given
 pub mod IgnoreFiles
 pub mod IgnoreViews

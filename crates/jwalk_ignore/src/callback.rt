@@ -1,8 +1,6 @@
 //! The callback that honours ignore files: which of them it reads, and what they leave of a list.
 
 pub mod builder;
-mod folder;
-mod git;
 pub mod ignore_files;
 mod listed;
 mod places;

@@ -9,7 +9,8 @@ use Rattle.jwalk_model.specs.Entry.{Item}
 use Rattle.jwalk_model.specs.FileType.{is_file}
 use Rattle.jwalk_model.specs.Paths.{join}
 use Rattle.jwalk_model.specs.declared.file_type.FileType.{FileType}
-use Rattle.jwalk_ignore.specs.Callback.IgnoreFiles.{Made, Source, depth_of, file_of, git, git_by, git_in, is_git, is_git_dir, is_missing, kind_of, kind_of_file, own_kind, rules_found, rules_read, rules_typed, source_in, with_item, with_listed, with_own}
+use Rattle.jwalk_ignore.specs.Callback.IgnoreFiles.{Made, Source, depth_of, file_of, git_by, git_in, is_git, is_missing, kind_of, kind_of_file, own_kind, rules_found, rules_read, rules_typed, source_in, with_item, with_listed, with_own}
+use Rattle.jwalk_ignore.specs.Rules.Git.{git, is_git_dir}
 use Rattle.jwalk_ignore_laws.specs.Starts.{Agrees, is_of, is_regular, links_in, same_kind}
 use Rattle.jwalk_ignore.specs.Pattern.{Pattern}
 use Rattle.jwalk_ignore.specs.Rules.Chain.{Chain, Link, may_miss, with_link}

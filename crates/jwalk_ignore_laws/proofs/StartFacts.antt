@@ -8,7 +8,9 @@ use Rattle.jwalk_model.specs.Paths.{parent}
 use Rattle.jwalk_model.proofs.PathParents.{path_parent_is}
 use Rattle.std.specs.Prelude.{◌&&◌, fold, not}
 use Rattle.std.specs.declared.io.ErrorKind.{ErrorKind}
-use Rattle.jwalk_ignore.specs.Callback.IgnoreFiles.{Folder, Made, Source, counts, ends_git, entered_above, folder_at, folders_above, is_git_dir, is_repository, path_of, rules_found, source_above, with_above, with_folder, with_found}
+use Rattle.jwalk_ignore.specs.Callback.IgnoreFiles.{Made, Source, counts, entered_above, path_of, rules_found, source_above, with_above, with_folder, with_found}
+use Rattle.jwalk_ignore.specs.Rules.Folder.{Folder, ends_git, folder_at, folders_above}
+use Rattle.jwalk_ignore.specs.Rules.Git.{is_git_dir, is_repository}
 use Rattle.jwalk_ignore_laws.specs.Starts.{FoldersAreAbove, RulesComeFromAbove, begun, in_folder, unplaced}
 use Rattle.jwalk_ignore.specs.Pattern.{Pattern}
 use Rattle.jwalk_ignore.specs.Rules.Chain.{Chain, Link, below_root, entered, no_rules, with_link}

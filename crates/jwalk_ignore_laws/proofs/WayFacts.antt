@@ -9,7 +9,9 @@ use Rattle.jwalk_model.specs.Entry.{Item}
 use Rattle.jwalk_model.specs.declared.file_type.FileType.{FileType}
 use Rattle.jwalk_model.specs.PathTexts.{IsName}
 use Rattle.jwalk_model.specs.Paths.{join, parent, starts_with_slash, with_slash}
-use Rattle.jwalk_ignore.specs.Callback.IgnoreFiles.{Folder, Made, counts, ends_git, file_of, folder_at, folders_above, git_in, is_git_dir, is_repository, own_rules, rules_found, source_above, with_absolute, with_root}
+use Rattle.jwalk_ignore.specs.Callback.IgnoreFiles.{Made, counts, file_of, git_in, own_rules, rules_found, source_above, with_absolute, with_root}
+use Rattle.jwalk_ignore.specs.Rules.Folder.{Folder, ends_git, folder_at, folders_above}
+use Rattle.jwalk_ignore.specs.Rules.Git.{is_git_dir, is_repository}
 use Rattle.jwalk_ignore_laws.specs.Starts.{Agrees, AreTheSame, IsWay, Lists, RulesAreTheSame, WalksBeginSo, begun, below, come_to, links_in, same_kind, unplaced}
 use Rattle.jwalk_ignore.specs.Rules.Chain.{Chain, Link, below_root, entered, place_in}
 use Rattle.jwalk_ignore.specs.Pattern.Names.{names_of}

@@ -10,6 +10,7 @@ pub mod LastMatchFacts
 pub mod LastNamesFacts
 pub mod ChangedFacts
 pub mod LineFacts
+pub mod FolderFacts
 pub mod MatchingFacts
 pub mod WorthFacts
 pub mod ChainFacts

@@ -59,3 +59,43 @@ names_end path i inside here after =
 -- a path without a slash
 pub one_name : (path : List ℕ) → ((k : ℕ) → k < length path → get_or path k 0 ≢ 47) → names_of path ≡ filter is_name (path ∷ [])
 one_name path none = ap (filter is_name) (one_piece 47 path (none_behind 47 path 0 (λ k from inside. none k inside)))
+
+-- a text that ends with another byte than that, taken apart: the last piece ends with it
+module _ (own last : ℕ) where
+  abbrev EndsLast : List (List ℕ) → Type 0
+  EndsLast parts = (others : List (List ℕ)) × (end : List ℕ) × (parts ≡ others ++ (end ++ last ∷ []) ∷ [])
+
+  onto_ended : (c : ℕ) (parts : List (List ℕ)) → EndsLast parts → EndsLast (onto_first c parts)
+  onto_ended c parts ([], end, is) = ([], c ∷ end, ap (onto_first c) is)
+  onto_ended c parts (first ∷ others, end, is) = ((c ∷ first) ∷ others, end, ap (onto_first c) is)
+
+  by_byte : (c : ℕ) (cs : List ℕ) (b : Bool) → is_byte own c ≡ b → EndsLast (pieces own cs) → EndsLast (pieces own (c ∷ cs))
+  by_byte c cs true e (others, end, is) = ([] ∷ others, end, simp e (ap (λ (l : List (List ℕ)). [] ∷ l) is))
+  by_byte c cs false e ends = subst EndsLast (sym (ap (λ (b : Bool). cond b ([] ∷ pieces own cs) (onto_first c (pieces own cs))) e)) (onto_ended c (pieces own cs) ends)
+
+  last_piece : last ≢ own → (text : List ℕ) → EndsLast (pieces own (text ++ last ∷ []))
+  last_piece other [] = ([], [], ap (λ (b : Bool). cond b ([] ∷ [] ∷ []) ((last ∷ []) ∷ [])) (ne_eqb last own other))
+  last_piece other (c ∷ cs) = by_byte c (cs ++ last ∷ []) (is_byte own c) refl (last_piece other cs)
+
+-- a name that ends with a byte is a name
+one_kept : (end : List ℕ) (last : ℕ) → filter is_name ((end ++ last ∷ []) ∷ []) ≡ (end ++ last ∷ []) ∷ []
+one_kept [] last = refl
+one_kept (c ∷ cs) last = refl
+
+-- two lists that are the same have the same last item
+same_last : {X : Type 0} (xs ys : List X) (x y : X) → xs ++ x ∷ [] ≡ ys ++ y ∷ [] → x ≡ y
+same_last [] [] x y is = cc
+same_last [] (b ∷ []) x y is = cc
+same_last [] (b ∷ c ∷ ys) x y is = cc
+same_last (a ∷ []) [] x y is = cc
+same_last (a ∷ c ∷ xs) [] x y is = cc
+same_last (a ∷ xs) (b ∷ ys) x y is = same_last xs ys x y (ap (drop 1) is)
+
+-- the last name of a path ends with the path's last byte, unless that is a slash
+pub last_byte : (path front : List ℕ) (last : ℕ) → path ≡ front ++ last ∷ [] → last ≢ 47 → (before : List (List ℕ)) (name : List ℕ) → names_of path ≡ before ++ name ∷ []
+    → (end : List ℕ) × (name ≡ end ++ last ∷ [])
+last_byte path front last is other before name names =
+    let (others, end, at) = last_piece 47 last other front in
+    let all : names_of path ≡ filter is_name others ++ (end ++ last ∷ []) ∷ [] =
+    ap names_of is ∙ ap (filter is_name) at ∙ filter-append is_name others ((end ++ last ∷ []) ∷ []) ∙ ap (λ (l : List (List ℕ)). filter is_name others ++ l) (one_kept end last) in
+    (end, same_last before (filter is_name others) name (end ++ last ∷ []) (sym names ∙ all))

@@ -4,11 +4,12 @@ use Rattle.std.specs.Prelude.{IfOk, IfSome}
 use Rattle.std.proofs.lemmas.Bool.Decides.{Decides-eqb}
 use Rattle.jwalk_ignore_rules.specs.Pattern.ByteTest.{ByteTest, Byte}
 use Rattle.jwalk_ignore_rules.specs.Pattern.Glob.{IsNamed, TakesOnly}
+use Rattle.jwalk_ignore_rules.specs.Pattern.NamePattern.{IsReached, LastMisfits}
 use Rattle.jwalk_ignore_rules.specs.Pattern.Names.{names_of}
 use Rattle.jwalk_ignore_rules.specs.Pattern.{EndsWith, Pattern}
 use Rattle.jwalk_ignore_rules.specs.declared.pattern.part.Part.{Part}
 use Rattle.jwalk_ignore_rules.specs.declared.pattern.part.Part.TheVariants.{One}
-use Rattle.jwalk_ignore_rules.proofs.FitsFacts.{both_fit, none_at_end}
+use Rattle.jwalk_ignore_rules.proofs.FitsFacts.{both_fit, last_unfit, none_at_end}
 
 -- a part that takes one byte
 abbrev pub plain : ℕ → Part ByteTest
@@ -36,6 +37,14 @@ module _ {X : Type 0} where
   pub by_last : (xs : List X) → ByLast xs
   by_last [] = inl refl
   by_last (x ∷ xs) = one_more x xs (by_last xs)
+
+-- a pattern whose last part takes one name fits no path whose last name doesn't fit that part
+pub last_misfits : (parts front : List (Part (List (Part ByteTest)))) (glob : List (Part ByteTest)) → parts ≡ front ++ One glob ∷ [] → (path : List ℕ) → LastMisfits glob path
+    → IsReached parts (names_of path) → ⊥
+last_misfits parts front glob is path misfits fits = at_last (by_last (names_of path)) where
+  at_last : ByLast (names_of path) → ⊥
+  at_last (inl none) = none_at_end IsNamed parts front glob is (names_of path) none fits
+  at_last (inr (before, last, at_end)) = last_unfit IsNamed parts front glob is (names_of path) before last at_end (misfits before last at_end) fits
 
 -- where the last part takes one name alone, all paths that fit end with it
 pub ends_with : (p : Pattern) (front : List (Part (List (Part ByteTest)))) (glob : List (Part ByteTest)) (name : List ℕ) → p.parts ≡ front ++ One glob ∷ [] → TakesOnly glob name → EndsWith p name

@@ -2,6 +2,8 @@
 pub mod Chain
 pub mod ChainViews
 pub mod ChainWorth
+pub mod Folder
+pub mod Git
 pub mod LastNames
 pub mod Line
 pub mod Matching

@@ -6,6 +6,8 @@ ghost use Rattle.jwalk_ignore_rules.specs.Rules.{Says};
 
 pub mod chain;
 pub mod decision;
+pub mod folder;
+pub mod git;
 mod last_names;
 mod line;
 pub mod link;

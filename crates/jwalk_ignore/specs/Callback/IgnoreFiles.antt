@@ -1,47 +1,23 @@
 -- What the callback makes of lists: which rules are read, and what they leave.
-use Prim.Native.Nat.{zero}
-use Rattle.std.specs.Prelude.{ℕ, suc, Bool, true, false, ◌&&◌, ◌||◌, not, List, [], ◌∷◌, ◌++◌, filter, find, fold, reverse, length, bytes_eq, codes, Option, Some, None, option_map, option_and_then, Result, Ok, Err, if◌then◌else◌}
+use Rattle.std.specs.Prelude.{ℕ, Bool, true, false, ◌&&◌, ◌||◌, not, List, [], ◌∷◌, ◌++◌, filter, find, fold, reverse, length, bytes_eq, codes, Option, Some, None, option_map, option_and_then, Result, Ok, Err, if◌then◌else◌}
 use Rattle.std.specs.Option.{option_map_or}
 use Rattle.std.specs.declared.io.ErrorKind.{ErrorKind}
 use Rattle.std.specs.declared.io.ErrorKind.TheVariants as kind
 use Rattle.jwalk.specs.jwalk_job.Error as error
 use Rattle.jwalk.specs.jwalk_model.FileType.{is_dir, is_file, is_symlink}
 use Rattle.jwalk.specs.jwalk_model.declared.file_type.FileType.{FileType}
-use Rattle.jwalk.specs.jwalk_model.declared.file_type.FileType.TheVariants as type
-use Rattle.jwalk.specs.jwalk_model.Paths.{file_name, join, parent}
+use Rattle.jwalk.specs.jwalk_model.Paths.{file_name, join}
 use Rattle.jwalk.specs.jwalk_model.Error.{io}
 use Rattle.jwalk.specs.jwalk_model.Entry.{Item, is_hidden}
 use Rattle.jwalk_ignore.specs.Rules.Chain.{Chain, below_root, entered, ignored, may_miss, place_in, with_link}
+use Rattle.jwalk_ignore.specs.Rules.Folder.{Folder, folders_above}
+use Rattle.jwalk_ignore.specs.Rules.Git.{git, git_at, is_git_dir, is_repository}
 use Rattle.jwalk_ignore.specs.Rules.Line.{patterns_of}
 use Rattle.jwalk_ignore.specs.Pattern.{Pattern}
 use Rattle.jwalk_ignore.specs.Rules.Texts.{Texts}
 use Rattle.jwalk_ignore_rules.specs.declared.rules.rules_kind.RulesKind.{RulesKind}
 use Rattle.jwalk_ignore_rules.specs.declared.rules.rules_kind.RulesKind.TheVariants as rules
 use Rattle.jwalk_ignore.specs.declared.callback.settings.Settings.{Settings}
-
--- what may make a directory a repository
-abbrev pub git : List ℕ
-git = codes ".git"
-
--- the type that a path leads to, if that can be told
-abbrev pub type_told : Result FileType ErrorKind → Option FileType
-type_told (Ok type) = Some type
-type_told (Err k) = None
-
--- what `.git` of a directory leads to
-abbrev pub git_at : Texts → List ℕ → Option FileType
-git_at texts directory = type_told (texts.target_type_of (join directory git))
-
--- whether a `.git` that leads to this makes its directory a repository
-abbrev pub is_repository : Option FileType → Bool
-is_repository (Some type.Dir) = true
-is_repository (Some type.File) = true
-is_repository _ = false
-
--- whether a `.git` that leads to this may hold `info/exclude`
-abbrev pub is_git_dir : Option FileType → Bool
-is_git_dir (Some type) = is_dir type
-is_git_dir None = false
 
 -- the file that has rules of a kind, below their directory
 abbrev pub file_of : RulesKind → List ℕ
@@ -197,30 +173,6 @@ in_directory settings texts directory chain list =
 abbrev pub root_of : {R E : Type 0} → Item R E → Option (List ℕ)
 root_of (Ok e) = option_map (λ c. c.path) e.read_children
 root_of (Err f) = None
-
--- a folder above the root: what its `.git` leads to, and whether a nearer one is a repository, where `.git` doesn't count
-pub record Folder : Type 0 where
-  pub path : List ℕ
-  pub git : Option FileType
-  pub is_outer : Bool
-
--- whether no `.git` counts above a folder
-abbrev pub ends_git : Folder → Bool
-ends_git folder = folder.is_outer || is_repository folder.git
-
-module _ (texts : Texts) where
-  -- the folder at a path
-  abbrev pub folder_at : Bool → List ℕ → Folder
-  folder_at is_outer path = record { path = path; git = if is_outer then None else git_at texts path; is_outer = is_outer }
-
-  -- the folders above a path, the nearest first, where a nearer one is a repository or none; at most this many
-  abbrev pub folders_above : Bool → ℕ → List ℕ → List Folder
-  folders_above is_outer zero path = []
-  folders_above is_outer (suc n) path =
-      elim (parent path) [
-        | None ↦ []
-        | Some above ↦ folder_at is_outer above ∷ folders_above (ends_git (folder_at is_outer above)) n above
-      ]
 
 -- the rules of a kind in a folder above the root
 abbrev pub source_above : Folder → RulesKind → Source

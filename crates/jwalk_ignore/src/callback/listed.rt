@@ -4,8 +4,8 @@ ghost use Rattle.jwalk.specs.jwalk_job.Entry.{item};
 ghost use Rattle.jwalk.specs.jwalk_model.Entry.{is_hidden};
 ghost use Rattle.jwalk_ignore.specs.Callback.IgnoreFiles.{depth_of, git_by, git_in, is_git, is_git_path, is_shown, kind_of, kind_of_file, own_kind, root_of};
 
-use crate::callback::git::git_at;
 use crate::callback::settings::Settings;
+use crate::rules::git::git_at;
 use crate::rules::rules_kind::RulesKind;
 use crate::rules::texts::Texts;
 use jwalk::file_system::FileType;

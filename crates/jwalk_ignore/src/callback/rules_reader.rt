@@ -4,18 +4,18 @@ ghost use Rattle.jwalk.specs.jwalk_model.Entry.{AtDepth};
 ghost use Rattle.jwalk.specs.jwalk_job.Entry.{item};
 ghost use Rattle.jwalk_ignore.specs.Rules.Chain.{place_in};
 ghost use Rattle.jwalk_ignore.specs.Rules.ChainViews.{chain_value};
-ghost use Rattle.jwalk_ignore.specs.Callback.Folders.{folder_value};
+ghost use Rattle.jwalk_ignore.specs.Rules.Folder.{folder_value};
 ghost use Rattle.jwalk_ignore.specs.Callback.IgnoreFiles.{at_root, by_rules, in_directory, is_kept, own_rules, with_above, with_absolute, with_folder, with_folders, with_listed, with_root_item};
 ghost use Rattle.jwalk_ignore.specs.Callback.Places.{IsPlaced};
 ghost use Rattle.jwalk_ignore.specs.Callback.Sources.{made_value};
 
-use crate::callback::folder::{Folder, folders_above};
-use crate::callback::git::{is_git_dir, is_repository};
 use crate::callback::listed::{depth_of, drop_hidden, git_in, kind_of, root_of};
 use crate::callback::places::Places;
 use crate::callback::settings::Settings;
 use crate::callback::source::{Made, Source};
 use crate::rules::chain::Chain;
+use crate::rules::folder::{Folder, folders_above};
+use crate::rules::git::{is_git_dir, is_repository};
 use crate::rules::rules_kind::RulesKind;
 use crate::rules::texts::Texts;
 use jwalk::file_system::Fault;
@@ -211,7 +211,7 @@ impl<T: Texts> RulesReader<T> {
         if !read {
             return Ok(());
         }
-        made.add_rules(&self.texts, folder.source(kind))
+        made.add_rules(&self.texts, Source::above(folder, kind))
     }
 
     /// Adds the rules of a folder above the root.

@@ -5,14 +5,16 @@ ghost use Rattle.jwalk.specs.jwalk_model.Error.{io};
 ghost use Rattle.jwalk.specs.jwalk_model.Entry.{AtDepth};
 ghost use Rattle.jwalk.specs.jwalk_fs.Views.{AnswersValue};
 ghost use Rattle.jwalk.specs.jwalk_job.Entry.{item};
-ghost use Rattle.jwalk_ignore.specs.Callback.IgnoreFiles.{file_of, is_missing, path_of, rules_found, rules_read, rules_typed, type_of, with_found, with_item, with_rules};
+ghost use Rattle.jwalk_ignore.specs.Callback.IgnoreFiles.{file_of, is_missing, path_of, rules_found, rules_read, rules_typed, source_above, type_of, with_found, with_item, with_rules};
 ghost use Rattle.jwalk_ignore.specs.Rules.Chain.{entered, with_link};
 ghost use Rattle.jwalk_ignore.specs.Rules.ChainViews.{chain_value};
 ghost use Rattle.jwalk_ignore.specs.Callback.Sources.{made_value, source_value};
+ghost use Rattle.jwalk_ignore.specs.Rules.Folder.{folder_value};
 ghost use Rattle.jwalk_ignore.specs.Rules.{rules_value};
 
 use crate::rules::Rules;
 use crate::rules::chain::Chain;
+use crate::rules::folder::Folder;
 use crate::rules::link::Link;
 use crate::rules::rules_kind::RulesKind;
 use crate::rules::texts::Texts;
@@ -36,6 +38,21 @@ pub(crate) struct Source<'p> {
     pub(crate) depth: usize,
     /// Whether the file may be missing, so that it is looked for first.
     pub(crate) may_miss: bool,
+}
+
+impl<'p> Source<'p> {
+    /// Returns the file of rules of a kind in a folder above the root.
+    pub(crate) fn above(folder: Folder<'p>, kind: RulesKind) -> Self
+        ensures { source_value result ≡ source_above (folder_value folder.entry) kind }
+    {
+        Source {
+            kind,
+            folder: folder.path,
+            before: folder.path.len(),
+            depth: 0,
+            may_miss: true,
+        }
+    }
 }
 
 /// Returns the name of the file that has rules of a kind, below their folder.

@@ -1,5 +1,5 @@
 -- Patterns of one name.
-use Rattle.std.specs.Prelude.{◌≡◌, ℕ, List, IsTrue, map}
+use Rattle.std.specs.Prelude.{◌≡◌, ◌++◌, ℕ, List, [], ◌∷◌, IsTrue, map}
 use Rattle.jwalk_ignore_rules.specs.Pattern.ByteTest.{ByteTest, test_value, fits, in_either_case}
 use Rattle.jwalk_ignore_rules.specs.Pattern.Fits.{Fits, part_map}
 use Rattle.jwalk_ignore_rules.specs.Pattern.Taken.{Decides, LeavesLater}
@@ -27,6 +27,10 @@ IsNamed glob name = Fits TakesByte glob name
 -- no name fits but this one
 abbrev pub TakesOnly : List (Part ByteTest) → List ℕ → Type 0
 TakesOnly glob name = (other : List ℕ) → IsNamed glob other → other ≡ name
+
+-- no name that fits ends with this byte
+abbrev pub NoneEndsWith : List (Part ByteTest) → ℕ → Type 0
+NoneEndsWith glob byte = (before : List ℕ) → IsNamed glob (before ++ byte ∷ []) → ⊥
 
 -- the same pattern with letters in either case
 abbrev pub glob_in_either_case : List (Part ByteTest) → List (Part ByteTest)

@@ -1,5 +1,5 @@
 -- Patterns of the names of a path.
-use Rattle.std.specs.Prelude.{ℕ, List, map}
+use Rattle.std.specs.Prelude.{◌≡◌, ◌++◌, ℕ, List, [], ◌∷◌, map}
 use Rattle.jwalk_ignore_rules.specs.Pattern.ByteTest.{ByteTest}
 use Rattle.jwalk_ignore_rules.specs.Pattern.Glob.{glob_value, IsNamed}
 use Rattle.jwalk_ignore_rules.specs.Pattern.Names.{names_of}
@@ -16,6 +16,10 @@ globs_value parts = map (part_map glob_value) parts
 -- names fit a pattern: `**` skips any number of names, and any other part takes one name
 abbrev pub IsReached : List (Part (List (Part ByteTest))) → List (List ℕ) → Type 0
 IsReached parts names = Fits IsNamed parts names
+
+-- the last name of a path doesn't fit a pattern
+abbrev pub LastMisfits : List (Part ByteTest) → List ℕ → Type 0
+LastMisfits glob path = (before : List (List ℕ)) → (name : List ℕ) → names_of path ≡ before ++ name ∷ [] → IsNamed glob name → ⊥
 
 -- what was taken of a path decides whether all fits, or what is left does
 abbrev pub PathDecides : {A : Type 0} → Taken (Glob A) → Type 0 → Type 0

@@ -1,5 +1,5 @@
 //! Patterns of one name.
-ghost use Rattle.std.specs.Prelude.{◌≡◌, ◌↔◌, IfOk, IfSome, IsTrue};
+ghost use Rattle.std.specs.Prelude.{◌≡◌, ◌↔◌, false, IfOk, IfSome, IsTrue};
 ghost use Rattle.jwalk_ignore_rules.specs.Pattern.ByteTest.{in_either_case, test_value};
 ghost use Rattle.jwalk_ignore_rules.specs.Pattern.Fits.{part_map};
 
@@ -24,7 +24,7 @@ fn ignore_case_of<A: Allocator + Copy>(part: &mut Part<ByteTest<A>>)
 }
 
 impl<A: Allocator + Copy> Glob<A> {
-    ghost use Rattle.jwalk_ignore_rules.specs.Pattern.Glob.{glob_in_either_case, glob_value, parts_value, IsNamed, TakesOnly};
+    ghost use Rattle.jwalk_ignore_rules.specs.Pattern.Glob.{glob_in_either_case, glob_value, parts_value, IsNamed, NoneEndsWith, TakesOnly};
 
     /// Returns the pattern of these parts.
     pub(crate) fn new(parts: Vec<Part<ByteTest<A>>, A>) -> Self
@@ -53,6 +53,16 @@ impl<A: Allocator + Copy> Glob<A> {
     {
         for part in self.parts.iter_mut() {
             ignore_case_of(part);
+        }
+    }
+
+    /// Returns whether a name that fits may end with a byte, by the pattern's last part alone.
+    pub(crate) fn may_end_with(&self, byte: u8) -> bool
+        ensures { result ≡ false → NoneEndsWith (glob_value self.now) byte }
+    {
+        match self.parts.split_last() {
+            Some((Part::One(test), _)) => test.fits(byte),
+            _ => true,
         }
     }
 

@@ -1,8 +1,9 @@
 //! The search in a path for what is between the double stars of a pattern.
-ghost use Rattle.std.specs.Prelude.{◌≤◌, ◌∷◌, ◌↔◌, length, IsTrue, MatchOption};
+ghost use Rattle.std.specs.Prelude.{◌≡◌, ◌≤◌, ◌∷◌, ◌↔◌, false, length, IsTrue, MatchOption};
+ghost use Rattle.jwalk_ignore_rules.specs.Pattern.Glob.{glob_value};
 ghost use Rattle.jwalk_ignore_rules.specs.declared.pattern.part.Part.TheVariants.{Many};
 ghost use Rattle.jwalk_ignore_rules.specs.Pattern.Names.{names_of};
-ghost use Rattle.jwalk_ignore_rules.specs.Pattern.NamePattern.{globs_value, IsReached, PathDecides, PathLeavesLater};
+ghost use Rattle.jwalk_ignore_rules.specs.Pattern.NamePattern.{globs_value, IsReached, LastMisfits, PathDecides, PathLeavesLater};
 ghost use Rattle.jwalk_ignore_rules.specs.Pattern.Taken.{left_over};
 
 use crate::pattern::glob::Glob;
@@ -76,6 +77,16 @@ fn fits_front<A: Allocator + Copy>(parts: &[Part<Glob<A>>], path: &[u8]) -> bool
     matches!(taken, Taken::Whole)
 }
 
+/// Returns whether the last name of a path may fit a pattern, by its last byte alone.
+fn may_end<A: Allocator + Copy>(glob: &Glob<A>, path: &[u8]) -> bool
+    ensures { result ≡ false → LastMisfits (glob_value glob.now) path.now }
+{
+    match path.split_last() {
+        Some((byte, _)) if *byte != b'/' => glob.may_end_with(*byte),
+        _ => true,
+    }
+}
+
 /// Compares the parts behind the last double star with the last names of a path. Returns the parts up to that star, or
 /// none, and what is left of the path. None if the parts don't fit.
 fn take_back<'p, 'n, A: Allocator + Copy>(
@@ -92,6 +103,9 @@ fn take_back<'p, 'n, A: Allocator + Copy>(
         let Part::One(glob) = part else {
             return Some((rest, left));
         };
+        if !may_end(glob, left) {
+            return None;
+        }
         let Some((before, name)) = split_last_name(left) else {
             return None;
         };

@@ -4,7 +4,13 @@ use Rattle.jwalk_ignore_rules.specs.Pattern.Glob.{glob_value, IsNamed}
 use Rattle.jwalk_ignore_rules.specs.Pattern.Names.{names_of}
 use Rattle.jwalk_ignore_rules.specs.Pattern.NamePattern.{globs_value}
 use Rattle.jwalk_ignore_rules.proofs.FitsFacts.{mapped_last, none_at_end, last_unfit, without_last}
+use Rattle.jwalk_ignore_rules.proofs.OnlyFacts.{last_misfits}
 use Rattle.jwalk_ignore_rules.proofs.pattern.name_search.take_back.Goals as goal
+
+pub returns-then-not-may_end : goal.returns-then-not-may_end
+returns-then-not-may_end g c = λ fits.
+    let is = mapped_last glob_value IsNamed names_of c.loop-part.rest.now c.in-Some.front.now c.in-Some.part.now (One c.in-One.glob) c.in-Some.ensures.cases.0 c.in-One.is in
+    last_misfits (globs_value c.loop-part.rest.now) (globs_value c.in-Some.front.now) (glob_value c.in-One.glob) is c.loop-part.left.now (c.if-not-may_end.ensures refl) (c.loop-part.invariant.0 fits)
 
 pub returns-in_default-split_last_name : goal.returns-in_default-split_last_name
 returns-in_default-split_last_name g c = λ fits.

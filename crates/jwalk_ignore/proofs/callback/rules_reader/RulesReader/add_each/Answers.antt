@@ -3,7 +3,7 @@ use Rattle.std.specs.Prelude.{fold}
 use Rattle.std.proofs.lemmas.List.{map-id}
 use Rattle.std.proofs.lemmas.Iterator.Adapters.{YieldsList-from_vec}
 use Rattle.std.proofs.lemmas.Iterator.Consumers.{YieldsList-end}
-use Rattle.jwalk_ignore.specs.Callback.Folders.{folder_value}
+use Rattle.jwalk_ignore.specs.Rules.Folder.{folder_value}
 use Rattle.jwalk_ignore.specs.Callback.IgnoreFiles.{with_folder}
 use Rattle.jwalk_ignore.specs.Callback.Sources.{made_value}
 use Rattle.jwalk_ignore.proofs.ListFacts.{fold_more}

@@ -2,7 +2,7 @@ use Rattle.std.proofs.Common.{◌≡◌, map}
 use Rattle.std.specs.Prelude.{fold}
 use Rattle.jwalk.specs.jwalk_model.Entry.{AtDepth}
 use Rattle.jwalk.specs.jwalk_job.Entry.{item}
-use Rattle.jwalk_ignore.specs.Callback.Folders.{folder_value}
+use Rattle.jwalk_ignore.specs.Rules.Folder.{folder_value}
 use Rattle.jwalk_ignore.specs.Callback.IgnoreFiles.{with_folder}
 use Rattle.jwalk_ignore.specs.Callback.Sources.{made_value}
 use Rattle.jwalk_ignore.proofs.callback.rules_reader.RulesReader.add_each.Given as goal

@@ -1,7 +1,7 @@
 use Rattle.std.proofs.Common.{◌∙◌, map, reverse, ap}
 use Rattle.std.specs.Prelude.{fold}
 use Rattle.std.proofs.lemmas.Result.{on_ok_weaker}
-use Rattle.jwalk_ignore.specs.Callback.Folders.{folder_value}
+use Rattle.jwalk_ignore.specs.Rules.Folder.{folder_value}
 use Rattle.jwalk_ignore.specs.Callback.IgnoreFiles.{with_folder}
 use Rattle.jwalk_ignore.specs.Callback.Sources.{made_value}
 use Rattle.jwalk_ignore.proofs.ReaderFacts.{map_reverse}

@@ -2,7 +2,8 @@ use Rattle.std.proofs.Common.{◌≡◌, ◌∙◌, map, ap}
 use Rattle.jwalk.specs.jwalk_job.Entry.{item}
 use Rattle.jwalk_ignore.specs.Rules.ChainViews.{chain_value}
 use Rattle.jwalk_ignore.specs.Rules.Chain.{entered}
-use Rattle.jwalk_ignore.specs.Callback.IgnoreFiles.{git_in, is_repository}
+use Rattle.jwalk_ignore.specs.Callback.IgnoreFiles.{git_in}
+use Rattle.jwalk_ignore.specs.Rules.Git.{is_repository}
 use Rattle.jwalk_ignore.proofs.ReaderFacts.{own_from}
 use Rattle.jwalk_ignore.proofs.callback.rules_reader.RulesReader.own_rules.Goals as goal
 

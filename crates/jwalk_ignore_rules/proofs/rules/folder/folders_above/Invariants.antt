@@ -1,9 +1,8 @@
 use denote.Shadow.{shadow}
 use denote.Text.{Utf8}
 use Rattle.std.proofs.Common.{◌≡◌, ◌++◌, false, length, map}
-use Rattle.jwalk_ignore.specs.Callback.Folders.{folder_value}
-use Rattle.jwalk_ignore.specs.Callback.IgnoreFiles.{folders_above}
-use Rattle.jwalk_ignore.proofs.callback.folder.folders_above.Given as goal
+use Rattle.jwalk_ignore_rules.specs.Rules.Folder.{folder_value, folders_above}
+use Rattle.jwalk_ignore_rules.proofs.rules.folder.folders_above.Given as goal
 
 -- the folders that were found, and those above what is left, are all
 abbrev pub invariant-folders : goal.invariant-folders

@@ -1,9 +1,8 @@
 use Rattle.std.proofs.Common.{◌≡◌, ◌∙◌, ◌++◌, ◌-◌, None, false, map, length, ap, sym, rules, arith}
-use Rattle.jwalk.specs.jwalk_model.Paths.{parent}
-use Rattle.jwalk_ignore.specs.Callback.Folders.{folder_value}
-use Rattle.jwalk_ignore.specs.Callback.IgnoreFiles.{folders_above}
-use Rattle.jwalk_ignore.proofs.FolderFacts.{all_found, more_found}
-use Rattle.jwalk_ignore.proofs.callback.folder.folders_above.Goals as goal
+use Rattle.jwalk_model.specs.Paths.{parent}
+use Rattle.jwalk_ignore_rules.specs.Rules.Folder.{folder_value, folders_above}
+use Rattle.jwalk_ignore_rules.proofs.FolderFacts.{all_found, more_found}
+use Rattle.jwalk_ignore_rules.proofs.rules.folder.folders_above.Goals as goal
 
 pub returns-in_default : goal.returns-in_default
 returns-in_default g c = λ fixed.

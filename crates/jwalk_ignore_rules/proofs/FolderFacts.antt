@@ -2,9 +2,9 @@
 use Prim.Native.Nat.{zero}
 use Rattle.std.proofs.Common.{◌≡◌, ◌∙◌, ℕ, suc, Bool, List, [], ◌∷◌, ◌++◌, map, Option, Some, None, ap, refl, sym, append_assoc, append-nil}
 use Rattle.std.proofs.lemmas.List.{map-append}
-use Rattle.jwalk.specs.jwalk_model.Paths.{parent}
-use Rattle.jwalk_ignore.specs.Callback.IgnoreFiles.{Folder, ends_git, folder_at, folders_above}
-use Rattle.jwalk_ignore.specs.Rules.Texts.{Texts}
+use Rattle.jwalk_model.specs.Paths.{parent}
+use Rattle.jwalk_ignore_rules.specs.Rules.Folder.{Folder, ends_git, folder_at, folders_above}
+use Rattle.jwalk_ignore_rules.specs.Rules.Texts.{Texts}
 
 module _ (texts : Texts) where
   -- what is above a parent

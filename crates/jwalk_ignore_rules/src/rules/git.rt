@@ -1,14 +1,15 @@
 //! What `.git` of a directory leads to.
 ghost use Rattle.std.specs.Prelude.{◌≡◌, IfOk};
-ghost use Rattle.jwalk_ignore.specs.Callback.IgnoreFiles.{git_at, is_git_dir, is_repository};
+ghost use Rattle.jwalk_ignore_rules.specs.Rules.Git.{git_at, is_git_dir, is_repository};
 
 use crate::rules::texts::Texts;
-use jwalk::file_system::{Fault, FileType};
-use jwalk::path_text;
+use jwalk_fs::fault::Fault;
+use jwalk_fs::path_text;
+use jwalk_model::file_type::FileType;
 use std::alloc::{AllocError, Allocator};
 
 /// Returns the type of what `.git` of a directory leads to. None if it leads nowhere, or if that can't be told.
-pub(crate) fn git_at<T: Texts, A: Allocator + Copy>(
+pub fn git_at<T: Texts, A: Allocator + Copy>(
     texts: &T,
     alloc: A,
     directory: &str,
@@ -24,14 +25,14 @@ pub(crate) fn git_at<T: Texts, A: Allocator + Copy>(
 }
 
 /// Returns whether a `.git` that leads to this makes its directory a repository.
-pub(crate) fn is_repository(git: Option<FileType>) -> bool
+pub fn is_repository(git: Option<FileType>) -> bool
     ensures { result ≡ is_repository git }
 {
     matches!(git, Some(FileType::Dir | FileType::File))
 }
 
 /// Returns whether a `.git` that leads to this may hold `info/exclude`.
-pub(crate) fn is_git_dir(git: Option<FileType>) -> bool
+pub fn is_git_dir(git: Option<FileType>) -> bool
     ensures { result ≡ is_git_dir git }
 {
     matches!(git, Some(FileType::Dir))

@@ -1,25 +1,22 @@
 //! The folders above a root.
 ghost use Rattle.std.specs.Prelude.{◌≡◌, false, IfOk, length, map};
-ghost use Rattle.jwalk_ignore.specs.Callback.IgnoreFiles.{ends_git, folder_at, folders_above, source_above};
-ghost use Rattle.jwalk_ignore.specs.Callback.Folders.{folder_value};
-ghost use Rattle.jwalk_ignore.specs.Callback.Sources.{source_value};
+ghost use Rattle.jwalk_ignore_rules.specs.Rules.Folder.{ends_git, folder_at, folder_value, folders_above};
 
-use crate::callback::git::{git_at, is_repository};
-use crate::callback::source::Source;
-use crate::rules::rules_kind::RulesKind;
+use crate::rules::git::{git_at, is_repository};
 use crate::rules::texts::Texts;
-use jwalk::file_system::FileType;
-use jwalk::path_text;
+use jwalk_fs::path_text;
+use jwalk_model::file_type::FileType;
 use std::alloc::{AllocError, Allocator};
 
 /// A folder above the root.
 #[derive(Clone, Copy)]
-pub(crate) struct Folder<'p> {
-    path: &'p str,
+pub struct Folder<'p> {
+    /// Its path.
+    pub path: &'p str,
     /// What its `.git` leads to, where that counts.
-    pub(crate) git: Option<FileType>,
+    pub git: Option<FileType>,
     /// A nearer folder is a repository.
-    pub(crate) is_outer: bool,
+    pub is_outer: bool,
 }
 
 impl<'p> Folder<'p> {
@@ -51,23 +48,10 @@ impl<'p> Folder<'p> {
     {
         self.is_outer || is_repository(self.git)
     }
-
-    /// Returns the folder's file of rules of a kind.
-    pub(crate) fn source(self, kind: RulesKind) -> Source<'p>
-        ensures { source_value result ≡ source_above (folder_value self.entry) kind }
-    {
-        Source {
-            kind,
-            folder: self.path,
-            before: self.path.len(),
-            depth: 0,
-            may_miss: true,
-        }
-    }
 }
 
 /// Returns the folders above a path, the nearest first, up to `/`.
-pub(crate) fn folders_above<'p, T: Texts, A: Allocator + Copy>(
+pub fn folders_above<'p, T: Texts, A: Allocator + Copy>(
     texts: &T,
     alloc: A,
     path: &'p str,
