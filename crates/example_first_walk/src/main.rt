@@ -7,7 +7,11 @@ use std::env;
 fn main(rt: HostRuntime) -> anyhow::Result<()> {
     let root = env::args(&rt)?.nth(1);
     for answer in WalkDir::at(&rt, root.as_deref().unwrap_or("."))?.sort(true) {
-        println!(rt; "{}", answer?.path()?)?;
+        let entry = answer?;
+        println!(rt; "{}", entry.path()?)?;
+        if let Some(error) = entry.read_children_error() {
+            anyhow::bail!("{error}");
+        }
     }
     Ok(())
 }

@@ -1,0 +1,10 @@
+# Completions of walk for fish, made by bench/man.py.
+complete -c walk -l tree -d 'walks the tree that standard input describes, in place of the disk'
+complete -c walk -l sort -d 'the entries of a directory are in the order of names'
+complete -c walk -l hidden -d 'names that start with a dot are included'
+complete -c walk -l follow -d 'a link is replaced by what it leads to, under the link'\''s own path'
+complete -c walk -l usage -d 'one line of totals is printed at the end, in place of the lines of entries and errors'
+complete -c walk -l min -x -d 'no entry above this depth is printed'
+complete -c walk -l max -x -d 'no entry below this depth is printed'
+complete -c walk -l batch -x -d 'up to N directories are read together, by several threads where there are enough of them'
+complete -c walk -l crew -x -d 'N threads read directories ahead while lines are printed, up to 256 of them'
