@@ -34,7 +34,7 @@ use std::alloc::{AllocError, Allocator, Global};
 pub struct Pattern<A: Allocator + Copy = Global> {
     keeps: bool,
     only_dirs: bool,
-    /// The byte with which each path ends that the pattern matches, if it has no slash there and there is one such byte.
+    /// The byte that each path ends with that the pattern matches, unless it ends with a slash, if there is such a byte.
     last_byte: Option<u8>,
     parts: Vec<Part<Glob<A>>, A>,
     ghost ended: { ForSome last_byte (λ byte. LastByteIs (globs_value parts.items) byte) },

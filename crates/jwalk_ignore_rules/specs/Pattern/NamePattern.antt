@@ -17,7 +17,7 @@ globs_value parts = map (part_map glob_value) parts
 abbrev pub IsReached : List (Part (List (Part ByteTest))) → List (List ℕ) → Type 0
 IsReached parts names = Fits IsNamed parts names
 
--- a path whose last byte is known, and isn't a slash, fits only if that is this one
+-- each path that fits ends with this byte, unless it ends with a slash
 abbrev pub LastByteIs : List (Part (List (Part ByteTest))) → ℕ → Type 0
 LastByteIs parts byte = (front : List ℕ) → (last : ℕ) → last ≢ 47 → IsReached parts (names_of (front ++ last ∷ [])) → last ≡ byte
 
