@@ -1,0 +1,9 @@
+pub mod SumFacts
+pub mod GreatFacts
+pub mod ClosingFacts
+pub mod ComingFacts
+pub mod RootFacts
+pub mod LastFacts
+pub mod TurnFacts
+pub mod RunFacts
+pub mod WholeFacts

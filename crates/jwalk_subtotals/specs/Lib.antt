@@ -1,0 +1,11 @@
+pub mod Subtotal
+pub mod Counted
+pub mod Subtotals
+pub mod Stack
+pub mod Files
+pub mod Error
+pub mod Coming
+pub mod Turns
+pub mod Whole
+pub mod Roots
+pub mod Rows

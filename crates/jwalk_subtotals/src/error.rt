@@ -1,0 +1,38 @@
+//! Why subtotals end, and what comes between them.
+ghost use Rattle.std.specs.Prelude.{◌≡◌};
+ghost use Rattle.jwalk.specs.jwalk_job.Error.{failure};
+ghost use Rattle.jwalk_subtotals.specs.Error.{ends_walk, is_last};
+
+use jwalk::Error;
+use std::alloc::{Allocator, Global};
+
+/// What is yielded beside subtotals: an error of the walk, or why no more subtotals come.
+#[derive(Drop)]
+#[derive_where(Debug)]
+pub enum SubtotalError<A: Allocator + Copy = Global> {
+    /// An answer of the walk that is an error.
+    Walk(Error<A>),
+    /// A number passes the greatest `u128`.
+    TooMany,
+    /// Memory ran out for the subtotals.
+    Memory,
+}
+
+/// Returns whether an error of a walk is one with which the walk ends: memory ran out, or it reports on a crew.
+pub(crate) fn ends_walk<A: Allocator + Copy>(error: &Error<A>) -> bool
+    ensures { result ≡ ends_walk (failure error.now) }
+{
+    error.is_memory() || error.is_lost() || error.is_busy()
+}
+
+impl<A: Allocator + Copy> SubtotalError<A> {
+    /// Returns whether nothing is yielded behind it: always, but for an error of the walk that the walk goes on after.
+    pub fn is_last(&self) -> bool
+        ensures { result ≡ is_last self.now }
+    {
+        match self {
+            SubtotalError::Walk(error) => ends_walk(error),
+            SubtotalError::TooMany | SubtotalError::Memory => true,
+        }
+    }
+}

@@ -1,0 +1,244 @@
+//! Subtotals while a walk is under way.
+ghost use Rattle.std.specs.Prelude.{◌≡◌, option_map};
+ghost use Rattle.std.specs.Iterator.{at_most};
+ghost use Rattle.jwalk.specs.jwalk_job.Entry.{entry};
+ghost use Rattle.jwalk_subtotals.specs.Subtotals.{asked};
+ghost use Rattle.jwalk_subtotals.specs.Coming.{CanGoOn, Gives, weight};
+
+use crate::counting::{counted_once, one_error, own};
+use crate::error::{SubtotalError, ends_walk};
+use crate::files::Files;
+use crate::options::SubtotalOptions;
+use crate::stack::{Stack, WithSubtotal};
+use jwalk::error::Result as Answer;
+use jwalk::{ClientState, DirEntry, Error};
+use std::alloc::{AllocError, Allocator};
+use std::mem;
+
+/// What is known of the walk's next answer.
+#[derive(Drop)]
+enum Ahead<C: ClientState, A: Allocator + Copy> {
+    /// It wasn't taken from the walk.
+    Unasked,
+    /// It was taken, and isn't counted yet.
+    Taken(Answer<DirEntry<C, A>, A>),
+    /// There is none: the walk has ended.
+    Over,
+}
+
+/// What a turn does.
+#[derive(Drop)]
+enum Turn<C: ClientState, A: Allocator + Copy> {
+    Yields(Result<WithSubtotal<C, A>, SubtotalError<A>>),
+    GoesOn,
+    Ends,
+}
+
+/// An iterator over the subtotals of a walk, which [`subtotals`](crate::subtotals) returns.
+pub struct Subtotals<C: ClientState, A: Allocator + Copy, I> {
+    answers: I,
+    options: SubtotalOptions,
+    stack: Stack<C, A>,
+    files: Files<A>,
+    ahead: Ahead<C, A>,
+    // An error was yielded behind which nothing comes.
+    stopped: bool,
+}
+
+impl<C: ClientState, A: Allocator + Copy, I: Drop> Drop for Subtotals<C, A, I> {
+    fn drop(self) {
+        let Subtotals {
+            answers: _,
+            options: _,
+            stack: _,
+            files: _,
+            ahead: _,
+            stopped: _,
+        } = self;
+    }
+}
+
+/// Returns an entry, if its subtotal is asked for.
+fn asked<C: ClientState, A: Allocator + Copy>(
+    options: &SubtotalOptions,
+    found: DirEntry<C, A>,
+) -> Option<DirEntry<C, A>>
+    ensures { option_map entry result ≡ asked options.now (entry found) }
+{
+    let is_dir = found.file_type().is_dir();
+    if found.depth() <= options.max_depth && (options.all || is_dir || found.depth() == 0) {
+        Some(found)
+    } else {
+        None
+    }
+}
+
+impl<C: ClientState, A: Allocator + Copy, I: Iterator<Item = Answer<DirEntry<C, A>, A>>> Subtotals<
+    C,
+    A,
+    I,
+> {
+    ghost use Rattle.std.specs.Prelude.{true, false, Ok, Err, OnOk};
+    ghost use Rattle.std.specs.Iterator.{IsFinite};
+    ghost use Rattle.jwalk_subtotals.specs.declared.iter.Turn.TheVariants.{Yields, GoesOn};
+    ghost use Rattle.jwalk_subtotals.specs.declared.iter.Ahead.TheVariants.{Unasked, Taken, Over};
+    ghost use Rattle.jwalk_subtotals.specs.Coming.{answers_of, options_of, held, is_stopped, IsFresh};
+    ghost use Rattle.jwalk_subtotals.specs.Turns.{Closes, Opens, Turns};
+
+    /// Returns the subtotals of these answers.
+    pub(crate) fn new(alloc: A, answers: I, options: SubtotalOptions) -> Self
+        ensures fresh { IsFresh result }
+        ensures answers { answers_of result ≡ answers }
+        ensures options { options_of result ≡ options }
+    {
+        Subtotals {
+            answers,
+            options,
+            stack: Stack::new(alloc),
+            files: Files::new(alloc),
+            ahead: Ahead::Unasked,
+            stopped: false,
+        }
+    }
+
+    /// Yields an error behind which nothing comes.
+    fn stop(&mut self, error: SubtotalError<A>) -> Turn<C, A>
+        ensures yields { result ≡ Yields (Err error) }
+        ensures stopped { self.new ≡ record self.old { stopped = true } }
+    {
+        self.stopped = true;
+        Turn::Yields(Err(error))
+    }
+
+    /// Takes the next answer.
+    fn take(&mut self)
+        requires can { I.can_next (answers_of self.old) }
+        requires ends { IsFinite (I.remaining (answers_of self.old)) }
+        requires runs { is_stopped self.old ≡ false }
+        requires unasked { self.old.ahead ≡ Unasked }
+        ensures { Turns I.next_gives I.can_next I.remaining self.old GoesOn self.new }
+    {
+        match self.answers.next() {
+            Some(answer) => self.ahead = Ahead::Taken(answer),
+            None => self.ahead = Ahead::Over,
+        }
+    }
+
+    /// Closes the last open entry.
+    fn close(&mut self) -> Turn<C, A>
+        requires runs { is_stopped self.old ≡ false }
+        ensures { Closes self.old result self.new }
+    {
+        match self.stack.close() {
+            Ok(Some(closed)) => Turn::Yields(Ok(closed)),
+            Ok(None) => Turn::GoesOn,
+            Err(_) => self.stop(SubtotalError::TooMany),
+        }
+    }
+
+    /// Opens an entry below the last open one.
+    fn enter(&mut self, found: DirEntry<C, A>) -> Result<(), AllocError>
+        ensures rest { self.new ≡ record self.old { stack = self.new.stack; files = self.new.files } }
+        ensures opened { OnOk result (Opens (options_of self.old) (held self.old) (entry found) (held self.new)) }
+    {
+        let again = self.files.insert(counted_once(&self.options, &found))?;
+        let counted = own(self.options.apparent, again, &found);
+        let depth = found.depth();
+        self.stack.push(depth, asked(&self.options, found), counted)
+    }
+
+    /// Opens an entry that was taken; or first closes one that it isn't below.
+    fn place(&mut self, found: DirEntry<C, A>) -> Turn<C, A>
+        requires can { I.can_next (answers_of self.old) }
+        requires ends { IsFinite (I.remaining (answers_of self.old)) }
+        requires runs { is_stopped self.old ≡ false }
+        requires unasked { self.old.ahead ≡ Unasked }
+        ensures { Turns I.next_gives I.can_next I.remaining (record self.old { ahead = Taken (Ok found) }) result self.new }
+    {
+        if !self.stack.is_above(found.depth()) {
+            self.ahead = Ahead::Taken(Ok(found));
+            return self.close();
+        }
+        match self.enter(found) {
+            Ok(()) => Turn::GoesOn,
+            Err(AllocError) => self.stop(SubtotalError::Memory),
+        }
+    }
+
+    /// Counts an error that was taken; or first closes an entry that it isn't below. An error with which the walk ends
+    /// is yielded at once.
+    fn place_error(&mut self, error: Error<A>) -> Turn<C, A>
+        requires can { I.can_next (answers_of self.old) }
+        requires ends { IsFinite (I.remaining (answers_of self.old)) }
+        requires runs { is_stopped self.old ≡ false }
+        requires unasked { self.old.ahead ≡ Unasked }
+        ensures { Turns I.next_gives I.can_next I.remaining (record self.old { ahead = Taken (Err error) }) result self.new }
+    {
+        if ends_walk(&error) {
+            return self.stop(SubtotalError::Walk(error));
+        }
+        if !self.stack.is_above(error.depth()) {
+            self.ahead = Ahead::Taken(Err(error));
+            return self.close();
+        }
+        match self.stack.count(&one_error()) {
+            Ok(()) => Turn::Yields(Err(SubtotalError::Walk(error))),
+            Err(_) => self.stop(SubtotalError::TooMany),
+        }
+    }
+
+    /// Closes the last open entry of a walk that has ended.
+    fn close_last(&mut self) -> Turn<C, A>
+        requires runs { is_stopped self.old ≡ false }
+        requires over { self.old.ahead ≡ Over }
+        ensures { Turns I.next_gives I.can_next I.remaining self.old result self.new }
+    {
+        if self.stack.is_empty() {
+            return Turn::Ends;
+        }
+        self.close()
+    }
+
+    /// Takes an answer, counts one or closes an entry.
+    fn turn(&mut self) -> Turn<C, A>
+        requires { CanGoOn I.can_next I.remaining self.old }
+        ensures { Turns I.next_gives I.can_next I.remaining self.old result self.new }
+    {
+        if self.stopped {
+            return Turn::Ends;
+        }
+        match mem::replace(&mut self.ahead, Ahead::Unasked) {
+            Ahead::Unasked => {
+                self.take();
+                Turn::GoesOn
+            }
+            Ahead::Taken(Ok(found)) => self.place(found),
+            Ahead::Taken(Err(error)) => self.place_error(error),
+            Ahead::Over => {
+                self.ahead = Ahead::Over;
+                self.close_last()
+            }
+        }
+    }
+}
+
+impl<C: ClientState, A: Allocator + Copy, I: Iterator<Item = Answer<DirEntry<C, A>, A>>> Iterator
+    for Subtotals<C, A, I> {
+    type Item = Result<WithSubtotal<C, A>, SubtotalError<A>>;
+
+    ghost can_next = { CanGoOn I.can_next I.remaining };
+
+    ghost next_gives = { Gives I.next_gives };
+
+    ghost remaining = { λ s. at_most (weight I.remaining s) };
+
+    fn next(&mut self) -> Option<Result<WithSubtotal<C, A>, SubtotalError<A>>> {
+        loop {
+            match self.turn() {
+                Turn::Yields(yielded) => return Some(yielded),
+                Turn::GoesOn => {}
+                Turn::Ends => return None,
+            }
+        }
+    }
+}
