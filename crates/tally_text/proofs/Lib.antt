@@ -1,0 +1,3 @@
+pub mod ScaleFacts
+pub mod NodesFacts
+pub mod TableFacts

@@ -1,0 +1,6 @@
+pub mod Scale
+pub mod SizeRows
+pub mod Line
+pub mod Nodes
+pub mod Layout
+pub mod Table
