@@ -4,3 +4,4 @@ pub mod Line
 pub mod Nodes
 pub mod Layout
 pub mod Table
+pub mod Document

@@ -1,6 +1,7 @@
 //! How the results of `tally` are written, over plain values: sizes, lines, a tree of results, tables and JSON.
 #![tactic(auto)]
 
+pub mod document;
 pub mod layout;
 pub mod line;
 pub mod node;
