@@ -4,7 +4,7 @@ use Rattle.std.specs.Prelude.{find, if◌then◌else◌}
 use Rattle.std.proofs.lemmas.Bool.{cases_lt}
 use Rattle.std.proofs.Math.Pow.{pow_mono}
 
--- so many numbers from this one on
+-- numbers that follow one another, from this one on
 abbrev pub numbers_from : ℕ → ℕ → List ℕ
 numbers_from zero k = []
 numbers_from (suc n) k = k ∷ numbers_from n (suc k)

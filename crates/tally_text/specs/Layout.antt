@@ -4,7 +4,7 @@ use Rattle.seek_words.specs.Masked.{masked}
 use Rattle.tally_text.specs.declared.layout.Layout.{Layout}
 use Rattle.tally_text.specs.Scale.{size_text}
 
--- a text, so many times
+-- a text, repeated
 abbrev pub repeated : ℕ → List ℕ → List ℕ
 repeated zero text = []
 repeated (suc n) text = repeated n text ++ text

@@ -17,11 +17,11 @@ pub struct Layout {
     pub bar: usize,
     /// The size that a whole bar shows.
     pub total: u128,
-    /// It is written to a terminal: a question mark stands for each control character in a name.
+    /// It is written to a terminal, where a control character in a name is a question mark.
     pub to_terminal: bool,
 }
 
-/// Puts a text behind these bytes, so many times.
+/// Puts a text behind these bytes, this number of times.
 fn push_times(text: &str, times: usize, out: &mut Vec<u8, Global>) -> Result<(), AllocError>
     ensures { OnOk result (out.new.items ≡ out.old.items ++ repeated times text.now) }
 {

@@ -19,7 +19,7 @@ values_in rows id = unwrap_or (all_of id rows) []
 abbrev pub texts_of : List (Bor Text) → List Text
 texts_of = map (λ it. it.now)
 
--- A number that a text stands for, if it is one of 64 bits.
+-- The number that a text is, if it is one of 64 bits.
 abbrev pub IsNumberOf : Option Text → Option ℕ → Type 0
 IsNumberOf None number = number ≡ None
 IsNumberOf (Some text) number =
