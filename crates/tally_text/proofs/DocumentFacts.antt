@@ -1,11 +1,12 @@
 -- The data of nodes.
-use Rattle.std.proofs.Common.{◌≡◌, ◌∙◌, false, ◌||◌, List, [], ◌∷◌, map, refl, ap, ap₂, subst, sym, append_assoc, ◌++◌}
+use Rattle.std.proofs.Common.{◌≡◌, ◌∙◌, ℕ, ◌^◌, Bool, true, false, nat_lt, ◌||◌, List, [], ◌∷◌, map, refl, ap, ap₂, subst, sym, append_assoc, ◌++◌}
 use Rattle.std.proofs.lemmas.List.{map-append}
-use Rattle.serde_json.specs.Data.{Data}
+use Rattle.std.specs.Prelude.{decimal, if◌then◌else◌}
+use Rattle.serde_json.specs.Data.{Data, number, string, unsigned}
 use Rattle.serde_json.specs.View.{items_of, items_view, view}
 use Rattle.serde_json.specs.declared.value.Value.{Value}
 use Rattle.serde_json.specs.Written.{has_float, items_have_float}
-use Rattle.tally_text.specs.Document.{data_step, data_of, data_with}
+use Rattle.tally_text.specs.Document.{data_step, data_of, data_with, number_data}
 use Rattle.tally_text.specs.declared.node.Node.{Node}
 use Rattle.tally_text.specs.declared.node.Node.TheViews.{out-Node}
 use Rattle.tally_text.specs.declared.node.Node.TheFolds.{fold-roll-Node, fold_out-Node, ind-Node}
@@ -20,10 +21,25 @@ children_have_none : (nodes : List ((node : Node) × HasNoFloat node)) → items
 children_have_none [] = refl
 children_have_none (e ∷ nodes) = ap₂ (λ a b. a || b) e.1 (children_have_none nodes)
 
+or_none : {a b : Bool} → a ≡ false → b ≡ false → (a || b) ≡ false
+or_none {a} {b} left right = ap₂ (λ x y. x || y) left right
+
+in_number : (n : ℕ) (few : Bool) → has_float (if few then number (unsigned n) else string (decimal n)) ≡ false
+in_number n true = refl
+in_number n false = refl
+
+of_number : (n : ℕ) → has_float (number_data n) ≡ false
+of_number n = in_number n (nat_lt n (2 ^ 64))
+
 no_float : (node : Node) → HasNoFloat node
 no_float = ind-Node HasNoFloat (λ x y is.
     let inner = subst (λ z. items_have_float (items_of (map data_of z.children.items)) ≡ false) is (children_have_none y.children.items) in
-    ap has_float (fold-roll-Node Data data_step x) ∙ ap (λ b. b || false) inner)
+    let n = x.numbers in
+    let all : (has_float (number_data n.bytes) || (items_have_float (items_of (map data_of x.children.items)) || (has_float (number_data n.dirs) || (has_float (number_data n.errors)
+    || (has_float (number_data n.file_bytes) || (has_float (number_data n.files) || (has_float (number_data n.links) || (false || (has_float (number_data n.others) || false))))))))) ≡ false
+    = or_none (of_number n.bytes) (or_none inner (or_none (of_number n.dirs) (or_none (of_number n.errors) (or_none (of_number n.file_bytes) (or_none (of_number n.files)
+    (or_none (of_number n.links) (or_none refl (or_none (of_number n.others) refl)))))))) in
+    ap has_float (fold-roll-Node Data data_step x) ∙ all)
 
 -- no number in the data of trees is a float
 pub none_has_float : (trees : List Node) → items_have_float (items_of (map data_of trees)) ≡ false

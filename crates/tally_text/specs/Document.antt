@@ -1,5 +1,5 @@
 -- Results as JSON.
-use Rattle.std.specs.Prelude.{codes, string_bytes}
+use Rattle.std.specs.Prelude.{ℕ, ◌^◌, nat_lt, codes, decimal, string_bytes, if◌then◌else◌}
 use Rattle.serde_json.specs.Data.{Data, Items, Members, array, no_members, number, object, put, string, unsigned}
 use Rattle.serde_json.specs.View.{items_of}
 use Rattle.tally_text.specs.declared.node.Node.{Node}
@@ -7,12 +7,16 @@ use Rattle.tally_text.specs.declared.numbers.Numbers.{Numbers}
 use Rattle.tally_text.specs.declared.node.Node.TheOpen.{Node-F}
 use Rattle.tally_text.specs.declared.node.Node.TheFolds.{fold-Node}
 
+-- a number, or its digits as a text if it needs more than 64 bits
+abbrev pub number_data : ℕ → Data
+number_data n = if nat_lt n (2 ^ 64) then number (unsigned n) else string (decimal n)
+
 -- members with those of numbers
 abbrev pub with_numbers : Numbers → Members → Members
 with_numbers n members =
-    put (codes "errors") (number (unsigned n.errors)) (put (codes "others") (number (unsigned n.others)) (put (codes "links") (number (unsigned n.links))
-    (put (codes "dirs") (number (unsigned n.dirs)) (put (codes "files") (number (unsigned n.files)) (put (codes "file_bytes") (number (unsigned n.file_bytes))
-    (put (codes "bytes") (number (unsigned n.bytes)) members))))))
+    put (codes "errors") (number_data n.errors) (put (codes "others") (number_data n.others) (put (codes "links") (number_data n.links)
+    (put (codes "dirs") (number_data n.dirs) (put (codes "files") (number_data n.files) (put (codes "file_bytes") (number_data n.file_bytes)
+    (put (codes "bytes") (number_data n.bytes) members))))))
 
 -- a node with its members by their keys: its numbers, its name and these children
 abbrev pub data_with : {A : Type 0} → Node-F A → Items → Data

@@ -1,9 +1,9 @@
 //! Results as JSON.
-ghost use Rattle.std.specs.Prelude.{◌≡◌, ◌≤◌, ◌^◌, string_bytes, map, IfOk, IfErr, OnOk};
-ghost use Rattle.serde_json.specs.Data.{array, no_members, number, put, unsigned};
+ghost use Rattle.std.specs.Prelude.{◌≡◌, string_bytes, map, IfOk, OnOk};
+ghost use Rattle.serde_json.specs.Data.{array, no_members, put};
 ghost use Rattle.serde_json.specs.View.{view, items_of, items_view, members_view};
 ghost use Rattle.serde_json.specs.Written.{compact_text};
-ghost use Rattle.tally_text.specs.Document.{data_of, data_with, with_numbers};
+ghost use Rattle.tally_text.specs.Document.{data_of, data_with, number_data, with_numbers};
 ghost use Rattle.tally_text.specs.declared.node.Node.TheViews.{out-Node};
 
 use crate::node::Node;
@@ -11,33 +11,13 @@ use crate::numbers::Numbers;
 use serde_json::{Map, Number, Value};
 use std::alloc::{AllocError, Global};
 
-/// Why results aren't written as JSON.
-#[derive(Clone, Copy, Debug, PartialEq, Eq)]
-pub enum DocumentError {
-    /// A number needs more than 64 bits.
-    TooGreat,
-    /// Memory ran out.
-    Memory,
-}
-
-impl From<AllocError> for DocumentError {
-    ghost use Rattle.tally_text.specs.declared.document.DocumentError.TheVariants.{Memory};
-
-    ghost from_gives = { λ _ error. error ≡ Memory };
-
-    fn from(_refused: AllocError) -> DocumentError {
-        DocumentError::Memory
-    }
-}
-
-/// Returns a number as JSON has it.
-fn number_of(n: u128) -> Result<Value, DocumentError>
-    ensures value { IfOk result (λ value. view value ≡ number (unsigned n)) }
-    ensures too_great { IfErr result (λ error. (error ≡ DocumentError.TooGreat) × (2 ^ 64 ≤ n)) }
+/// Returns a number as JSON has it, or its digits as a text if it needs more than 64 bits.
+fn number_of(alloc: Global, n: u128) -> Result<Value, AllocError>
+    ensures { IfOk result (λ value. view value ≡ number_data n) }
 {
     match Number::from_u128(n) {
         Some(number) => Ok(Value::Number(number)),
-        None => Err(DocumentError::TooGreat),
+        None => Ok(Value::String(format!(in alloc; "{n}")?)),
     }
 }
 
@@ -47,16 +27,15 @@ fn put_number(
     alloc: Global,
     key: &str,
     n: u128,
-) -> Result<(), DocumentError>
+) -> Result<(), AllocError>
     ensures { OnOk result (members_view members.new.entries
-        ≡ put key.now (number (unsigned n)) (members_view members.old.entries)) }
+        ≡ put key.now (number_data n) (members_view members.old.entries)) }
 {
-    serde_json::put(members, alloc, key, number_of(n)?)?;
-    Ok(())
+    serde_json::put(members, alloc, key, number_of(alloc, n)?)
 }
 
 /// Returns the members that the numbers of a node are.
-fn members_of_numbers(alloc: Global, numbers: Numbers) -> Result<Map<String, Value>, DocumentError>
+fn members_of_numbers(alloc: Global, numbers: Numbers) -> Result<Map<String, Value>, AllocError>
     ensures { IfOk result (λ members. members_view members.entries ≡ with_numbers numbers no_members) }
 {
     let mut members = Map::new(alloc);
@@ -71,7 +50,7 @@ fn members_of_numbers(alloc: Global, numbers: Numbers) -> Result<Map<String, Val
 }
 
 /// Returns the results of a node as JSON, with what its children are as JSON.
-fn value_of(alloc: Global, node: &Node, children: Vec<Value>) -> Result<Value, DocumentError>
+fn value_of(alloc: Global, node: &Node, children: Vec<Value>) -> Result<Value, AllocError>
     ensures { IfOk result (λ value. view value ≡ data_with (out-Node node.now) (items_view children.items)) }
 {
     let mut members = members_of_numbers(alloc, node.numbers)?;
@@ -82,7 +61,7 @@ fn value_of(alloc: Global, node: &Node, children: Vec<Value>) -> Result<Value, D
 }
 
 /// Returns nodes as JSON.
-fn values_of(alloc: Global, nodes: &[Node]) -> Result<Vec<Value>, DocumentError>
+fn values_of(alloc: Global, nodes: &[Node]) -> Result<Vec<Value>, AllocError>
     ensures { IfOk result (λ values. map view values.items ≡ map data_of nodes.now) }
 {
     let mut values = Vec::new(alloc);
@@ -101,14 +80,14 @@ fn array_of(values: Vec<Value>) -> Value
 }
 
 /// Returns trees of results as one JSON document: an array of trees. Each is an object with its name, its numbers and
-/// its children, which are such objects.
+/// its children, which are such objects. A number that needs more than 64 bits is a text, its digits.
 ///
 /// # Errors
 ///
-/// If a number needs more than 64 bits, or if memory runs out.
-pub fn document(alloc: Global, trees: &[Node]) -> Result<String<Global>, DocumentError>
+/// If memory runs out.
+pub fn document(alloc: Global, trees: &[Node]) -> Result<String<Global>, AllocError>
     ensures { IfOk result (λ text. string_bytes text ≡ compact_text (array (items_of (map data_of trees.now)))) }
 {
     let values = values_of(alloc, trees)?;
-    Ok(array_of(values).to_string(alloc)?)
+    array_of(values).to_string(alloc)
 }
