@@ -5,3 +5,4 @@ pub mod Nodes
 pub mod Layout
 pub mod Table
 pub mod Document
+pub mod LineRows
