@@ -1,0 +1,4 @@
+pub mod ScaleFacts
+pub mod NodesFacts
+pub mod TableFacts
+pub mod DocumentFacts

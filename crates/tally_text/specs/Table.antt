@@ -1,0 +1,82 @@
+-- A table: the rows of a tree, and its total.
+use Rattle.std.specs.Prelude.{ℕ, ◌*◌, ◌+◌, ◌-◌, ◌^◌, ◌==◌, Bool, max, min, List, [], ◌∷◌, ◌++◌, length, map, codes, decimal, string_bytes, Option, None, Some, if◌then◌else◌}
+use Rattle.std.specs.List.{concat}
+use Rattle.std.specs.Str.{chars}
+use Rattle.tally_text.specs.Layout.{row_text}
+use Rattle.tally_text.specs.Scale.{size_text}
+use Rattle.tally_text.specs.declared.layout.Layout.{Layout}
+use Rattle.tally_text.specs.declared.node.Node.{Node}
+use Rattle.tally_text.specs.declared.node.Node.TheOpen.{Node-F}
+use Rattle.tally_text.specs.declared.node.Node.TheViews.{out-Node}
+use Rattle.tally_text.specs.declared.node.Node.TheFolds.{fold-Node}
+use Rattle.tally_text.specs.declared.rest.Rest.{Rest}
+use Rattle.tally_text.specs.declared.scale.Scale.{Scale}
+
+-- the row of a node, at the level of its depth below the root's entries
+abbrev pub own_row : Layout → Node → List ℕ
+own_row layout node =
+    row_text layout ((out-Node node).depth - 1) (out-Node node).numbers.bytes (string_bytes (out-Node node).name)
+
+-- the row of what is in a directory beyond its largest entries, if there is something
+abbrev pub rest_row : Layout → ℕ → Rest → List ℕ
+rest_row layout levels rest =
+    if rest.count == 0 then [] else row_text layout levels rest.bytes (codes "(" ++ decimal rest.count ++ codes " more)")
+
+-- one node: its row, and the rows of what is in it, each with those below it
+abbrev pub rows_step : Layout → Node-F (List ℕ) → List ℕ
+rows_step layout n =
+    row_text layout (n.depth - 1) n.numbers.bytes (string_bytes n.name) ++ (concat n.children.items ++ rest_row layout n.depth n.rest)
+
+-- the rows of a node and of all below it
+abbrev pub rows_of : Layout → Node → List ℕ
+rows_of layout = fold-Node (List ℕ) (rows_step layout)
+
+-- the rows of what is in a node, and of all below that
+abbrev pub below_text : Layout → Node → List ℕ
+below_text layout node =
+    concat (map (rows_of layout) (out-Node node).children.items) ++ rest_row layout (out-Node node).depth (out-Node node).rest
+
+-- the greatest of these numbers
+abbrev pub most_of : List ℕ → ℕ
+most_of [] = 0
+most_of (n ∷ ns) = max n (most_of ns)
+
+-- how many columns a name takes with what is in front of it: two for each level, and one for each character, as far as 64 bits go
+abbrev pub columns_at : ℕ → List ℕ → ℕ
+columns_at depth name = min (length (chars name) + min ((depth - 1) * 2) (2 ^ 64 - 1)) (2 ^ 64 - 1)
+
+-- how many columns the name of a node takes
+abbrev pub columns_of : Node → ℕ
+columns_of node = columns_at (out-Node node).depth (string_bytes (out-Node node).name)
+
+-- one node: the most columns that its name takes, or one below it
+abbrev pub longest_step : Node-F ℕ → ℕ
+longest_step n = max (columns_at n.depth (string_bytes n.name)) (most_of n.children.items)
+
+-- the most columns that a name in a tree takes
+abbrev pub longest_of : Node → ℕ
+longest_of = fold-Node ℕ longest_step
+
+-- how many columns a size takes at least: as many as that of the root, and eight
+abbrev pub column_for : Scale → Node → ℕ
+column_for scale root = max (length (size_text scale (out-Node root).numbers.bytes)) 8
+
+-- how many columns are left for bars in a row of this width
+abbrev pub bar_for : Scale → Option ℕ → Node → ℕ
+bar_for scale None root = 0
+bar_for scale (Some width) root = width - longest_of root - column_for scale root - 4
+
+-- the layout of a table
+abbrev pub layout_for : Scale → Option ℕ → Bool → Node → Layout
+layout_for scale width to_terminal root =
+    record {
+      scale = scale;
+      column = column_for scale root;
+      bar = bar_for scale width root;
+      total = (out-Node root).numbers.bytes;
+      to_terminal = to_terminal;
+    }
+
+-- the table of a tree: the rows of what is below the root, and the total behind them
+abbrev pub table_text : Layout → Node → List ℕ
+table_text layout root = below_text layout root ++ own_row layout root

@@ -1,0 +1,126 @@
+//! Tables: the rows of a tree, and its total.
+ghost use Rattle.std.specs.Prelude.{◌≡◌, ◌++◌, length, IfOk, OnOk};
+ghost use Rattle.std.specs.Str.{chars};
+ghost use Rattle.tally_text.specs.Table.{own_row, rest_row, below_text, columns_of, longest_of, column_for, bar_for, layout_for, table_text};
+
+use crate::layout::Layout;
+use crate::node::Node;
+use crate::rest::Rest;
+use crate::scale::Scale;
+use std::alloc::{AllocError, Global};
+
+/// Puts the row of what is beyond the largest entries of a directory behind these bytes, if there is something.
+fn push_rest(
+    layout: &Layout,
+    levels: usize,
+    rest: Rest,
+    out: &mut Vec<u8, Global>,
+) -> Result<(), AllocError>
+    ensures { OnOk result (out.new.items ≡ out.old.items ++ rest_row layout.now levels rest) }
+{
+    if rest.count == 0 {
+        return Ok(());
+    }
+    let name = format!(in *out.allocator(); "({} more)", rest.count)?;
+    layout.push_row(levels, rest.bytes, name.as_str(), out)
+}
+
+/// Returns how many characters a text has.
+fn characters(text: &str) -> usize
+    ensures { result ≡ length (chars text.now) }
+{
+    text.chars().count()
+}
+
+impl Node {
+    /// Puts its own row behind these bytes.
+    fn push_own(&self, layout: &Layout, out: &mut Vec<u8, Global>) -> Result<(), AllocError>
+        ensures { OnOk result (out.new.items ≡ out.old.items ++ own_row layout.now self.now) }
+    {
+        let levels = self.depth.saturating_sub(1);
+        layout.push_row(levels, self.numbers.bytes, self.name.as_str(), out)
+    }
+
+    /// Puts the rows of what is in it and of all below that behind these bytes.
+    #[tactic(auto, using(crate::proofs::TableFacts::one_more))]
+    fn push_below(&self, layout: &Layout, out: &mut Vec<u8, Global>) -> Result<(), AllocError>
+        ensures { OnOk result (out.new.items ≡ out.old.items ++ below_text layout.now self.now) }
+    {
+        for child in &self.children {
+            child.push_own(layout, out)?;
+            child.push_below(layout, out)?;
+        }
+        push_rest(layout, self.depth, self.rest, out)
+    }
+
+    /// Returns how many columns its name takes in a table, with what is in front of it.
+    fn columns(&self) -> usize
+        ensures { result ≡ columns_of self.now }
+    {
+        let levels = self.depth.saturating_sub(1);
+        characters(self.name.as_str()).saturating_add(levels.saturating_mul(2))
+    }
+
+    /// Returns the most columns that its name or one below it takes.
+    #[tactic(auto, using(crate::proofs::TableFacts::longest_out))]
+    fn longest(&self) -> usize
+        ensures { result ≡ longest_of self.now }
+    {
+        let mut longest = self.columns();
+        for child in &self.children {
+            longest = longest.max(child.longest());
+        }
+        longest
+    }
+}
+
+/// Returns the layout of the table of a tree, with bars if a width is given.
+fn layout_for(
+    alloc: Global,
+    scale: Scale,
+    width: Option<usize>,
+    to_terminal: bool,
+    root: &Node,
+) -> Result<Layout, AllocError>
+    ensures { IfOk result (λ layout. layout ≡ layout_for scale width to_terminal root.now) }
+{
+    let total = root.numbers.bytes;
+    let mut size = Vec::new(alloc);
+    scale.push(total, &mut size)?;
+    let column = size.len().max(8);
+    let bar = match width {
+        Some(width) => width
+            .saturating_sub(root.longest())
+            .saturating_sub(column)
+            .saturating_sub(4),
+        None => 0,
+    };
+    Ok(Layout {
+        scale,
+        column,
+        bar,
+        total,
+        to_terminal,
+    })
+}
+
+/// Puts the table of a tree behind these bytes: the rows of what is below the root, each directory before what is in
+/// it, and the total behind them. If a width is given, rows have bars that show a size's share of the total.
+///
+/// # Errors
+///
+/// If memory runs out.
+pub fn push_table(
+    scale: Scale,
+    width: Option<usize>,
+    to_terminal: bool,
+    root: &Node,
+    out: &mut Vec<u8, Global>,
+) -> Result<(), AllocError>
+    ensures { OnOk result (out.new.items
+        ≡ out.old.items ++ table_text (layout_for scale width to_terminal root.now) root.now) }
+{
+    let layout = layout_for(*out.allocator(), scale, width, to_terminal, root)?;
+    root.push_below(&layout, out)?;
+    root.push_own(&layout, out)
+}

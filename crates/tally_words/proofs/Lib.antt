@@ -1,0 +1,2 @@
+pub mod AsksFacts
+pub mod CommandFacts

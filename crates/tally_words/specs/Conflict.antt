@@ -1,0 +1,26 @@
+-- Options that exclude each other.
+use Rattle.std.specs.Prelude.{Bool, ◌&&◌, ◌||◌, List, codes, is_some}
+use Rattle.clap.specs.Words.{Row, Text, first_of}
+use Rattle.tally_words.specs.Asks.{is_named}
+
+-- whether an option has a value
+abbrev pub has_value : List Row → Text → Bool
+has_value rows id = is_some (first_of id rows)
+
+-- whether lines are asked for
+abbrev pub asks_lines : List Row → Bool
+asks_lines rows = is_named rows (codes "plain") || is_named rows (codes "print0")
+
+-- whether lines and JSON are asked for, or a number of entries in lines or in JSON
+abbrev pub has_form_conflict : List Row → Bool
+has_form_conflict rows =
+    (asks_lines rows && is_named rows (codes "json")) || ((asks_lines rows || is_named rows (codes "json")) && has_value rows (codes "largest"))
+
+-- whether totals alone are asked for, and more
+abbrev pub has_total_conflict : List Row → Bool
+has_total_conflict rows =
+    is_named rows (codes "summarize") && (is_named rows (codes "all") || (has_value rows (codes "max-depth") || has_value rows (codes "largest")))
+
+-- whether two options exclude each other
+abbrev pub has_conflict : List Row → Bool
+has_conflict rows = has_form_conflict rows || has_total_conflict rows

@@ -1,0 +1,6 @@
+pub mod Status
+pub mod Command
+pub mod Asks
+pub mod Conflict
+pub mod AsksFor
+pub mod Refusal

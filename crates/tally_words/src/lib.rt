@@ -1,0 +1,8 @@
+//! The words of a call of `tally`, and what they ask for.
+#![tactic(auto)]
+
+pub mod asked;
+mod command;
+pub mod form;
+pub mod refusal;
+pub mod words;

@@ -1,0 +1,193 @@
+//! What words ask for.
+ghost use Rattle.std.specs.Prelude.{◌≡◌, codes, is_some, map, IfOk, IfErr};
+ghost use Rattle.clap.specs.Words.{found_of, rows_of, one_of};
+ghost use Rattle.tally_words.specs.Asks.{is_named, values_in, texts_of, form_in, IsNumberOf, IsDepthIn, Asks};
+ghost use Rattle.tally_words.specs.AsksFor.{AskFor, GiveValues};
+ghost use Rattle.tally_words.specs.Conflict.{has_value, asks_lines, has_form_conflict, has_total_conflict, has_conflict};
+ghost use Rattle.tally_words.specs.Refusal.{IsRefusedFor};
+
+use crate::asked::Asked;
+use crate::command::command;
+use crate::form::Form;
+use crate::refusal::Refusal;
+use clap::ArgMatches;
+use std::alloc::{AllocError, Global};
+use std::convert::AsStr;
+
+/// Returns whether an option without a value was named.
+fn is_named(found: &ArgMatches<'_>, id: &str) -> bool
+    ensures { result ≡ is_named (rows_of (found_of found.now)) id.now }
+{
+    found.get_count(id) > 0
+}
+
+/// Returns whether an option has a value.
+fn has_value(found: &ArgMatches<'_>, id: &str) -> bool
+    ensures { result ≡ has_value (rows_of (found_of found.now)) id.now }
+{
+    found.get_str(id).is_some()
+}
+
+/// Returns a copy of a list of texts.
+fn copied<'w>(alloc: Global, texts: &[&'w str]) -> Result<Vec<&'w str>, AllocError>
+    ensures { IfOk result (λ copy. copy.items ≡ texts.now) }
+{
+    let mut copy = Vec::new(alloc);
+    copy.extend_from_slice(texts)?;
+    Ok(copy)
+}
+
+/// Returns the values of an option.
+fn values_of<'w>(
+    alloc: Global,
+    found: &ArgMatches<'w>,
+    id: &str,
+) -> Result<Vec<&'w str>, AllocError>
+    ensures { IfOk result (λ values. texts_of values.items ≡ values_in (rows_of (found_of found.now)) id.now) }
+{
+    match found.get_strs(id) {
+        Some(values) => copied(alloc, values),
+        None => Ok(Vec::new(alloc)),
+    }
+}
+
+/// Returns the number that an option has.
+fn number_of(found: &ArgMatches<'_>, id: &str) -> Option<usize>
+    ensures { IsNumberOf (one_of id.now (rows_of (found_of found.now))) result }
+{
+    found.get_one::<usize>(id)
+}
+
+/// Returns the greatest depth that is named: 0 where the totals alone are asked for.
+fn depth_of(found: &ArgMatches<'_>) -> Option<usize>
+    ensures { IsDepthIn (rows_of (found_of found.now)) result }
+{
+    let named = number_of(found, "max-depth");
+    if is_named(found, "summarize") {
+        Some(0)
+    } else {
+        named
+    }
+}
+
+/// Returns how results are written.
+fn form_of(found: &ArgMatches<'_>) -> Form
+    ensures { result ≡ form_in (rows_of (found_of found.now)) }
+{
+    if is_named(found, "json") {
+        Form::Json
+    } else if is_named(found, "print0") {
+        Form::ZeroLines
+    } else if is_named(found, "plain") {
+        Form::Lines
+    } else {
+        Form::Table
+    }
+}
+
+/// Returns what is asked for by words that were read.
+fn asked_of<'w>(alloc: Global, found: &ArgMatches<'w>) -> Result<Asked<'w>, AllocError>
+    ensures { IfOk result (Asks (rows_of (found_of found.now))) }
+{
+    let roots = values_of(alloc, found, "root")?;
+    let excludes = values_of(alloc, found, "exclude")?;
+    Ok(Asked {
+        roots,
+        form: form_of(found),
+        depth: depth_of(found),
+        all: is_named(found, "all"),
+        largest: number_of(found, "largest"),
+        bytes: is_named(found, "bytes"),
+        apparent: is_named(found, "apparent"),
+        each_name: is_named(found, "count-links"),
+        one_file_system: is_named(found, "one-file-system"),
+        follow: is_named(found, "follow"),
+        sort: is_named(found, "sort"),
+        threads: number_of(found, "threads"),
+        excludes,
+        ignore: is_named(found, "ignore"),
+        exclude_hidden: is_named(found, "exclude-hidden"),
+    })
+}
+
+/// Returns an option for lines, if one was named.
+fn lines_option(found: &ArgMatches<'_>) -> Option<&'static str>
+    ensures { is_some result ≡ asks_lines (rows_of (found_of found.now)) }
+{
+    if is_named(found, "plain") {
+        Some("plain")
+    } else if is_named(found, "print0") {
+        Some("print0")
+    } else {
+        None
+    }
+}
+
+/// Returns two options for what no form has both: lines and JSON, or a number of entries in lines or JSON.
+fn form_conflict(found: &ArgMatches<'_>) -> Option<(&'static str, &'static str)>
+    ensures { is_some result ≡ has_form_conflict (rows_of (found_of found.now)) }
+{
+    let lines = lines_option(found);
+    let json = is_named(found, "json");
+    let largest = has_value(found, "largest");
+    match lines {
+        Some(lines) if json => Some(("json", lines)),
+        Some(lines) if largest => Some(("largest", lines)),
+        None if json && largest => Some(("json", "largest")),
+        _ => None,
+    }
+}
+
+/// Returns two options of which one is for totals alone, and one for more.
+fn total_conflict(found: &ArgMatches<'_>) -> Option<(&'static str, &'static str)>
+    ensures { is_some result ≡ has_total_conflict (rows_of (found_of found.now)) }
+{
+    if !is_named(found, "summarize") {
+        None
+    } else if is_named(found, "all") {
+        Some(("summarize", "all"))
+    } else if has_value(found, "max-depth") {
+        Some(("summarize", "max-depth"))
+    } else if has_value(found, "largest") {
+        Some(("summarize", "largest"))
+    } else {
+        None
+    }
+}
+
+/// Returns two options that were named and exclude each other.
+fn conflict_of(found: &ArgMatches<'_>) -> Option<(&'static str, &'static str)>
+    ensures { is_some result ≡ has_conflict (rows_of (found_of found.now)) }
+{
+    match form_conflict(found) {
+        Some(both) => Some(both),
+        None => total_conflict(found),
+    }
+}
+
+/// Returns the values that words give to options.
+fn matches_of<'w, S: AsStr>(alloc: Global, words: &'w [S]) -> Result<ArgMatches<'w>, Refusal>
+    ensures read { IfOk result (λ found. GiveValues (map S.text words.entry.now) (rows_of (found_of found))) }
+    ensures refused { IfErr result (IsRefusedFor (map S.text words.entry.now)) }
+{
+    match command(alloc)?.try_get_matches_from(words) {
+        Ok(found) => Ok(found),
+        Err(error) => Err(Refusal::Words(error)),
+    }
+}
+
+/// Reads the words of a call, of which the first is the program's name.
+///
+/// # Errors
+///
+/// If the words are bad or ask for help or the version; if two options exclude each other; or if memory runs out.
+pub fn read_words<'w, S: AsStr>(alloc: Global, words: &'w [S]) -> Result<Asked<'w>, Refusal>
+    ensures asked { IfOk result (AskFor (map S.text words.entry.now)) }
+    ensures refused { IfErr result (IsRefusedFor (map S.text words.entry.now)) }
+{
+    let found = matches_of(alloc, words)?;
+    match conflict_of(&found) {
+        Some((one, other)) => Err(Refusal::Conflict(one, other)),
+        None => Ok(asked_of(alloc, &found)?),
+    }
+}
