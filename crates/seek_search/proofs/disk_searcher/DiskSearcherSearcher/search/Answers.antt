@@ -1,0 +1,25 @@
+use Rattle.std.proofs.Common.{◌∙◌, ap, ap₂, subst, sym}
+use Rattle.seek_words.specs.Lines.{gathered_of}
+use Rattle.seek_words.specs.Wanted.{Wants}
+use Rattle.seek_found.proofs.CleanFacts.{printed_as}
+use Rattle.seek_words.specs.Asks.{texts_of}
+use Rattle.seek_search.specs.KeptLinks.{functions_kept}
+use Rattle.seek_search.specs.Search.{yielded_by}
+use Rattle.seek_search.specs.declared.kept_links.KeptLinks.{KeptLinks}
+use Rattle.seek_search.proofs.RunFacts.{printed_by, sought_by, written_last}
+use Rattle.seek_search.proofs.disk_searcher.DiskSearcherSearcher.search.Goals as goal
+
+pub returns : goal.returns
+returns g c = λ is. λ both.
+    let fixed = both.0 in
+    let told = both.1 in
+    let asked = c.args.asked.now in
+    let disk = c.in_ok-shared.ensures in
+    let texts = c.in_ok-shared-2.ensures in
+    let over = c.in_ok-clean.ensures (subst (λ (d : KeptLinks _). g.S.FileSystem.IsFixed d.disk) (sym disk) fixed) (subst g.X.Texts.IsFixed (sym texts) told) is in
+    let sought = sought_by (ap (λ l. let w : Wants = record { depths = asked.depths; kinds = asked.kinds; extensions = texts_of l } in w) c.as_slice.ensures.value) c.in_ok-new.ensures (c.in_ok-path_of.ensures told) in
+    written_last (g.W.Write.contents c.args.out.now) (g.W.Write.contents c.search_roots.new.out) (g.W.Write.contents c.finish.new.out)
+    (gathered_of c.in_ok-lines.lines) (gathered_of c.search_roots.new.printer.lines) c.in_ok-lines.ensures.empty
+    (printed_by sought (c.in_ok-lines.ensures.style ∙ c.style_of.ensures)
+    (printed_as (ap₂ (λ fs t. yielded_by fs t asked) (ap (λ (d : KeptLinks _). functions_kept d.follow (g.S.FileSystem.functions d.disk)) disk) (ap g.X.Texts.functions texts)) over))
+    c.in_ok-finish.ensures.written
