@@ -27,12 +27,7 @@ pub fn print_found<
     C: ClientState,
     A: Allocator + Copy,
     I: Iterator<Item = Answer<DirEntry<C, A>, A>>,
->(
-    answers: &mut I,
-    printer: &mut Printer<'_, T>,
-    out: &mut W,
-    err: &mut E,
-) -> Result<bool, Halt>
+>(answers: &mut I, printer: &mut Printer<'_, T>, out: &mut W, err: &mut E) -> Result<bool, Halt>
     requires can { I.can_next answers.old }
     requires ends { IsFinite (I.remaining answers.old) }
     ensures printed { IfOk result (PrintsFound I.next_gives answers.old (sought_of T.takes printer.old.filter)

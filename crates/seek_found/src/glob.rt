@@ -55,11 +55,7 @@ impl Glob {
     }
 
     /// Reads a glob. None if it is malformed.
-    pub fn read(
-        alloc: Global,
-        text: &str,
-        ignores_case: bool,
-    ) -> Result<Option<Self>, AllocError>
+    pub fn read(alloc: Global, text: &str, ignores_case: bool) -> Result<Option<Self>, AllocError>
         ensures { IfOk result (λ r. option_map glob_value r ≡ glob_in ignores_case text.now) }
     {
         let line = Glob::line(alloc, text.as_bytes())?;

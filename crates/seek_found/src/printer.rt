@@ -7,9 +7,9 @@ ghost use Rattle.seek_words.specs.Lines.{style_of, gathered_of};
 ghost use Rattle.seek_found.specs.Found.{entry_line, found_line, is_clean};
 
 use crate::report::{report_entry, report_error};
-use jwalk_job::error::Result as Answer;
 use jwalk_job::client_state::ClientState;
 use jwalk_job::dir_entry::DirEntry;
+use jwalk_job::error::Result as Answer;
 use seek_words::filter::Filter;
 use seek_words::halt::Halt;
 use seek_words::lines::Lines;

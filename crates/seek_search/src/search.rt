@@ -12,11 +12,8 @@ ghost use Rattle.seek_search.specs.Search.{all_below, excluded_asked, ignoring_w
 ghost use Rattle.seek_found.specs.SoughtTest.{takes_of};
 
 use crate::excluding::Excluding;
-
 use crate::kept_rules::{KeptRules, KeptStates};
 use crate::options::WalkOptions;
-
-
 use jwalk::file_system::FileSystem;
 use jwalk::read_dir::{NoProcess, ProcessReadDir};
 use jwalk::{ClientState, Crew, WalkDirGeneric};
