@@ -1,5 +1,5 @@
 mod GlobFacts
-mod EndFacts
+pub mod EndFacts
 pub mod FoundFacts
 pub mod WholeFacts
 pub mod CleanFacts

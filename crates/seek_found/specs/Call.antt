@@ -1,5 +1,5 @@
 -- How a call of the program ends.
-use Rattle.std.specs.Prelude.{◌≡◌, ◌≤◌, ◌⊎◌, ℕ, List, Option}
+use Rattle.std.specs.Prelude.{◌≡◌, ◌≤◌, ◌⊎◌, ℕ, List}
 use Rattle.seek_words.specs.AsksFor.{AskFor, AskForText}
 use Rattle.seek_words.specs.Refusal.{AreBad}
 use Rattle.seek_words.specs.declared.asked.Asked.{Asked}
@@ -21,10 +21,11 @@ abbrev pub Ends : List (List ℕ) → ℕ → Type 0
 Ends words status =
     ((AreBad words ⊎ HaveBadPattern words) × (status ≡ 2)) ⊎ ((AskForText words ⊎ AskForSearch words) × (status ≤ 1)) ⊎ (status ≡ 1)
 
--- The words ask for a search, what names are looked for is what the pattern says, and what such a search prints is printed.
-pub record Searches (Prints : Asked → Sought → Option (List ℕ) → Option (List ℕ) → Type 0) (words : List (List ℕ)) (old new : Option (List ℕ)) : Type 0 where
-  pub asked : Asked
-  pub ask : AskFor words asked
-  pub sought : Sought
-  pub is_for : IsFor asked sought
-  pub prints : Prints asked sought old new
+-- The words ask for this search, and what names are looked for is what the pattern says.
+abbrev pub AskToSearch : List (List ℕ) → Asked × Sought → Type 0
+AskToSearch words (asked, sought) = AskFor words asked × IsFor asked sought
+
+-- A call that searches nothing ends so, and with 0 only if a text is asked for.
+pub record EndsUnsearched (words : List (List ℕ)) (status : ℕ) : Type 0 where
+  pub ends : Ends words status
+  pub text : status ≡ 0 → AskForText words

@@ -15,7 +15,7 @@ module _ {R E : Type 0} where
   -- the line of an entry, if it is looked for
   abbrev pub entry_line : Sought → Style → Entry R E → List ℕ
   entry_line sought style e =
-      if is_found sought e.depth e.file_type e.parent_path e.file_name then line_of style e.parent_path e.file_name else []
+      if is_found sought e.depth e.file_type e.parent_path e.file_name e.seen then line_of style e.parent_path e.file_name else []
 
   -- what is printed of an answer
   abbrev pub found_line : Sought → Style → Item R E → List ℕ

@@ -1,11 +1,10 @@
-//! A call of the program.
-ghost use Rattle.std.specs.Prelude.{◌≡◌, ◌<◌, ◌≤◌, ◌⊎◌, true, map, string_bytes, Ok};
-ghost use Rattle.seek_words.specs.AsksFor.{AskForText};
+//! How a call of the program begins and ends.
+ghost use Rattle.std.specs.Prelude.{◌≡◌, ◌<◌, ◌≤◌, true, map, string_bytes, Ok, IfOk, IfErr, OnOk};
 ghost use Rattle.seek_words.specs.Refusal.{status_of as status_for};
-ghost use Rattle.seek_found.specs.Call.{AskForSearch, Ends, Searches};
+ghost use Rattle.seek_found.specs.Call.{AskToSearch, EndsUnsearched};
 
-use crate::searcher::Searcher;
 use crate::sought::Sought;
+use seek_words::asked::Asked;
 use seek_words::halt::Halt;
 use seek_words::refusal::Refusal;
 use seek_words::words::read_words;
@@ -27,7 +26,7 @@ fn refuse<W: Write, E: Write>(refusal: &Refusal<'_>, out: &mut W, err: &mut E) -
 }
 
 /// Returns the status of a search that ended so. What ended it before its end is reported.
-fn status_of<E: Write>(ended: Result<bool, Halt>, err: &mut E) -> u8
+pub fn status_of<E: Write>(ended: Result<bool, Halt>, err: &mut E) -> u8
     ensures status { result ≤ 1 }
     ensures clean { result ≡ 0 → ended ≡ Ok true }
     ensures all { ended ≡ Ok true → result ≡ 0 }
@@ -41,34 +40,29 @@ fn status_of<E: Write>(ended: Result<bool, Halt>, err: &mut E) -> u8
     }
 }
 
-/// Reads the words, of which the first is the program's name, searches as they ask, and returns the status.
+/// Reads the words of a call, of which the first is the program's name, and the pattern among them.
 ///
-/// The status is 0 if all was searched and there was no error. It is 1 if there was one, if memory ran out, or if the
-/// output can't be written. It is 2 for bad words, and then nothing is printed.
-pub fn call<S: Searcher, W: Write, E: Write>(
+/// # Errors
+///
+/// If there is nothing to search for. Then the text that is asked for is printed, or it is reported why words are bad, and
+/// the error is the status that the program ends with.
+pub fn read_call<'w, W: Write, E: Write>(
     alloc: Global,
-    searcher: S,
-    words: &[String],
+    words: &'w [String],
     out: &mut W,
     err: &mut E,
-) -> u8
-    ensures status { result ≤ 2 }
-    ensures ends { Ends (map string_bytes words.now) result }
-    ensures bad_words { ¬ (AskForText (map string_bytes words.now)) → ¬ (AskForSearch (map string_bytes words.now))
-        → (result ≡ 2) ⊎ (result ≡ 1) }
-    ensures untouched { result ≡ 2 → W.contents out.new ≡ W.contents out.old }
-    ensures done { result ≡ 0 → AskForText (map string_bytes words.now)
-        ⊎ Searches (S.Prints searcher) (map string_bytes words.now) (W.contents out.old) (W.contents out.new) }
+) -> Result<(Asked<'w>, Sought), u8>
+    ensures asked { IfOk result (AskToSearch (map string_bytes words.entry.now)) }
+    ensures ended { IfErr result (EndsUnsearched (map string_bytes words.entry.now)) }
+    ensures untouched { IfErr result (λ status. status ≡ 2 → W.contents out.new ≡ W.contents out.old) }
+    ensures unwritten { OnOk result (W.contents out.new ≡ W.contents out.old) }
 {
     let asked = match read_words(alloc, words) {
         Ok(asked) => asked,
-        Err(refusal) => return refuse(&refusal, out, err),
+        Err(refusal) => return Err(refuse(&refusal, out, err)),
     };
     match Sought::read(alloc, &asked) {
-        Ok(sought) => {
-            let ended = searcher.search(&asked, &sought, out, err);
-            status_of(ended, err)
-        }
-        Err(bad) => bad.report(err),
+        Ok(sought) => Ok((asked, sought)),
+        Err(bad) => Err(bad.report(err)),
     }
 }

@@ -8,6 +8,5 @@ pub mod found;
 pub mod glob;
 pub mod printer;
 pub mod report;
-pub mod searcher;
 pub mod sought;
 pub mod sought_test;

@@ -40,7 +40,8 @@ fn print_entry<T: NameTest, C: ClientState, A: Allocator + Copy, W: Write>(
     ensures style { style_of lines.new ≡ style_of lines.old }
 {
     let (folder, name) = (found.parent_path(), found.file_name());
-    if !filter.passes(found.depth(), found.file_type(), folder, name)? {
+    let seen = found.metadata_seen();
+    if !filter.passes(found.depth(), found.file_type(), folder, name, seen)? {
         return Ok(());
     }
     lines.print(folder, name, out)

@@ -2,10 +2,10 @@
 use Rattle.std.specs.Prelude.{ℕ, Bool, List, Option}
 use Rattle.jwalk.specs.jwalk_model.FileSystem.{Functions}
 use Rattle.jwalk_ignore.specs.Rules.Texts.{Texts}
+use Rattle.seek_words.specs.AsksFor.{AskFor}
 use Rattle.seek_words.specs.declared.asked.Asked.{Asked}
-use Rattle.seek_found.specs.Call as call
 use Rattle.seek_found.specs.Found.{PrintsClean}
-use Rattle.seek_found.specs.Sought.{takes_by}
+use Rattle.seek_found.specs.Sought.{IsFor, takes_by}
 use Rattle.seek_found.specs.declared.sought.Sought.{Sought}
 use Rattle.seek_search.specs.KeptLinks.{functions_kept}
 use Rattle.seek_search.specs.Search.{sought_asked, style_asked, yielded_by}
@@ -15,10 +15,10 @@ abbrev pub PrintsAsked : Functions → Texts → Bool → Asked → Sought → O
 PrintsAsked fs texts on_terminal asked sought =
     PrintsClean (yielded_by (functions_kept asked.follow fs) texts asked) (sought_asked texts asked (takes_by sought)) (style_asked on_terminal asked)
 
--- So it is if the file system and the texts are fixed.
-abbrev pub PrintsIfFixed : Type 0 → Functions → Texts → Bool → Asked → Sought → Option (List ℕ) → Option (List ℕ) → Type 0
-PrintsIfFixed fixed fs texts on_terminal asked sought old new = fixed → PrintsAsked fs texts on_terminal asked sought old new
-
 -- The words ask for a search, what names are looked for is what the pattern says, and what is asked for is printed, if the file system and the texts are fixed.
-abbrev pub Searches : Type 0 → Functions → Texts → Bool → List (List ℕ) → Option (List ℕ) → Option (List ℕ) → Type 0
-Searches fixed fs texts on_terminal = call.Searches (PrintsIfFixed fixed fs texts on_terminal)
+pub record Searches (fixed : Type 0) (fs : Functions) (texts : Texts) (on_terminal : Bool) (words : List (List ℕ)) (old new : Option (List ℕ)) : Type 0 where
+  pub asked : Asked
+  pub ask : AskFor words asked
+  pub sought : Sought
+  pub is_for : IsFor asked sought
+  pub prints : fixed → PrintsAsked fs texts on_terminal asked sought old new

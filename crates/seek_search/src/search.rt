@@ -111,6 +111,7 @@ impl<
             sort: self.asked.sort,
             hidden: self.asked.hidden,
             follow: self.asked.follow,
+            metadata: !self.asked.sizes.is_empty(),
             greatest: self.asked.depths.greatest,
         }
     }

@@ -6,7 +6,7 @@ use Rattle.seek_found.proofs.CleanFacts.{clean_none, printed_as}
 use Rattle.seek_words.specs.Asks.{texts_of}
 use Rattle.seek_search.specs.Search.{yielded_below}
 use Rattle.seek_search.proofs.RunFacts.{first_true, one_root, second_true}
-use Rattle.seek_search.proofs.disk_searcher.search_each.Goals as goal
+use Rattle.seek_search.proofs.run.search_each.Goals as goal
 
 pub loop-root-init : goal.loop-root-init
 loop-root-init g c = record { whole = λ fixed told is. clean_none _ _ _; sought = refl; style = refl }
