@@ -10,8 +10,8 @@ use Rattle.jwalk.specs.jwalk_model.Entry.{Item}
 use Rattle.seek_words.specs.Sought.{Sought}
 use Rattle.seek_words.specs.Wanted.{Wants}
 use Rattle.seek_words.specs.declared.paths.Style.{Style}
-use Rattle.seek_search.specs.Found.{found_lines, PrintsClean}
-use Rattle.seek_search.proofs.CleanFacts.{clean_then, first_written, printed_as, rest_written}
+use Rattle.seek_found.specs.Found.{found_lines, PrintsClean}
+use Rattle.seek_found.proofs.CleanFacts.{clean_then, first_written, printed_as, rest_written}
 use Rattle.seek_words.specs.Asks.{texts_of}
 
 -- what is gone over with one root more

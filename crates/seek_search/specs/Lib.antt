@@ -1,11 +1,6 @@
-pub mod BadPattern
-pub mod Glob
-pub mod Sought
-pub mod SoughtTest
 pub mod Excluding
 pub mod Search
 pub mod Run
-pub mod Found
 pub mod Options
 pub mod Printed
 pub mod KeptLinks

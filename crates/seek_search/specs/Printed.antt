@@ -13,10 +13,10 @@ use Rattle.jwalk.specs.WalkDir.{callback_of, file_system_of, job_for, root_of, s
 use Rattle.jwalk.specs.declared.walk_dir.WalkDirGeneric.{WalkDirGeneric}
 use Rattle.seek_words.specs.Filter.{sought_of}
 use Rattle.seek_words.specs.Lines.{gathered_of, style_of}
-use Rattle.seek_search.specs.Found.{PrintsClean}
-use Rattle.seek_search.specs.SoughtTest.{takes_of}
-use Rattle.seek_search.specs.declared.printer.Printer.{Printer}
-use Rattle.seek_search.specs.declared.sought_test.SoughtTest.{SoughtTest}
+use Rattle.seek_found.specs.Found.{PrintsClean}
+use Rattle.seek_found.specs.SoughtTest.{takes_of}
+use Rattle.seek_found.specs.declared.printer.Printer.{Printer}
+use Rattle.seek_found.specs.declared.sought_test.SoughtTest.{SoughtTest}
 
 -- If there was no error, the line of each of these answers that a printer looks for is written, or gathered by it.
 abbrev pub PrintsAll : {R E : Type 0} → List (Item R E) → Printer SoughtTest → Printer SoughtTest → Option (List ℕ) → Option (List ℕ) → Bool → Type 0

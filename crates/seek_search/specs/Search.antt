@@ -1,5 +1,5 @@
 -- What a search goes over, and what it finds.
-use Rattle.std.specs.Prelude.{ℕ, ◌==◌, Bool, false, List, [], ◌∷◌, flat_map, length, Option, None, Some, Result, Ok, Err, if◌then◌else◌}
+use Rattle.std.specs.Prelude.{ℕ, ◌==◌, Bool, false, not, List, [], ◌∷◌, flat_map, length, Option, None, Some, Result, Ok, Err, if◌then◌else◌}
 use Rattle.std.specs.declared.io.ErrorKind.{ErrorKind}
 use Rattle.jwalk.specs.jwalk_model.Counted.{Worth, blank}
 use Rattle.jwalk.specs.jwalk_model.Entry.{Item}
@@ -24,7 +24,13 @@ use Rattle.seek_search.specs.Excluding.{Excluded, excluded_by, excluding, exclud
 
 -- what is asked of walks
 abbrev pub walk_options : Asked → WalkOptions
-walk_options asked = record { sort = asked.sort; hidden = asked.hidden; follow = asked.follow; greatest = asked.depths.greatest }
+walk_options asked = record {
+  sort = asked.sort;
+  hidden = asked.hidden;
+  follow = asked.follow;
+  metadata = not (length asked.sizes.items == 0);
+  greatest = asked.depths.greatest;
+}
 
 -- the options of walks. Whether a crew reads makes no difference to what they yield.
 abbrev pub options_asked : Asked → Options
@@ -104,7 +110,7 @@ front_asked texts asked = if asked.full_path then Some (front_at (texts.absolute
 -- what is looked for, where these texts pass
 abbrev pub sought_asked : Texts → Asked → (List ℕ → Bool → Bool) → Sought
 sought_asked texts asked takes = record {
-  wanted = record { depths = asked.depths; kinds = asked.kinds; extensions = texts_of asked.extensions.items };
+  wanted = record { depths = asked.depths; kinds = asked.kinds; extensions = texts_of asked.extensions.items; sizes = asked.sizes.items };
   takes = takes;
   front = front_asked texts asked;
 }

@@ -19,6 +19,8 @@ pub struct WalkOptions {
     pub hidden: bool,
     /// Links are followed.
     pub follow: bool,
+    /// Entries keep the metadata that their type came with.
+    pub metadata: bool,
     /// The greatest depth, if there is one.
     pub greatest: Option<usize>,
 }
@@ -52,7 +54,8 @@ impl WalkOptions {
         let mut walk = WalkDirGeneric::with_crew(fs, root)
             .sort(self.sort)
             .skip_hidden(!self.hidden)
-            .follow_links(self.follow);
+            .follow_links(self.follow)
+            .keep_metadata(self.metadata);
         if let Some(greatest) = self.greatest {
             walk = walk.max_depth(greatest);
         }

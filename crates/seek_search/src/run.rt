@@ -1,35 +1,33 @@
 //! A call of the program.
-ghost use Rattle.std.specs.Prelude.{◌≡◌, ◌<◌, ◌≤◌, ◌⊎◌, ℕ, Some, true, flat_map, map, string_bytes, Ok, IfOk};
+ghost use Rattle.std.specs.Prelude.{◌≡◌, ◌≤◌, ◌⊎◌, ℕ, Some, true, flat_map, map, string_bytes, IfOk};
 ghost use Rattle.std.specs.Arc.{arc_value};
 ghost use Rattle.std.specs.Option.{option_map};
-ghost use Rattle.seek_words.specs.Subject.{front_of};
-ghost use Rattle.seek_search.specs.Printed.{PrintsAll};
 ghost use Rattle.seek_words.specs.Asks.{texts_of};
 ghost use Rattle.seek_words.specs.AsksFor.{AskForText};
-ghost use Rattle.seek_words.specs.Refusal.{status_of as status_for};
-ghost use Rattle.seek_search.specs.Run.{AskForSearch, Ends, PrintsAsked, Searches};
-ghost use Rattle.seek_search.specs.Search.{front_asked, sought_asked, style_asked, yielded_below, yielded_by};
-ghost use Rattle.seek_search.specs.Sought.{takes_by};
+ghost use Rattle.seek_words.specs.Subject.{front_of};
+ghost use Rattle.seek_found.specs.Call.{AskForSearch, Ends};
+ghost use Rattle.seek_search.specs.Printed.{PrintsAll};
+ghost use Rattle.seek_search.specs.Run.{PrintsAsked, Searches};
+ghost use Rattle.seek_search.specs.Search.{front_asked, style_asked, yielded_below, yielded_by};
 
 use crate::kept_links::KeptLinks;
-use crate::printer::Printer;
-use crate::report::report_hidden;
 use crate::search::Search;
-use crate::sought::Sought;
-use crate::sought_test::SoughtTest;
 use jwalk::Crew;
 use jwalk::file_system::{Fault, FileSystem};
 use jwalk_ignore::texts::Texts;
+use seek_found::call::{read_call, status_of};
+use seek_found::printer::Printer;
+use seek_found::report::report_hidden;
+use seek_found::sought::Sought;
+use seek_found::sought_test::SoughtTest;
 use seek_words::asked::Asked;
 use seek_words::filter::Filter;
 use seek_words::halt::Halt;
 use seek_words::hidden::finds_none_shown;
 use seek_words::lines::Lines;
 use seek_words::paths::Style;
-use seek_words::refusal::Refusal;
 use seek_words::subject::AbsolutePath;
 use seek_words::wanted::Wanted;
-use seek_words::words::read_words;
 use std::alloc::{AllocError, Global};
 use std::io::Write;
 use std::sync::{Arc, Wait};
@@ -177,6 +175,7 @@ fn search_asked<
         depths: asked.depths,
         kinds: asked.kinds,
         extensions: asked.extensions.as_slice(),
+        sizes: asked.sizes.as_slice(),
     };
     let filter = Filter {
         wanted,
@@ -203,35 +202,6 @@ fn search_asked<
         report_hidden(asked.pattern, err);
     }
     Ok(clean)
-}
-
-/// Prints what is asked for by words that ask for no search, and returns the status.
-fn refuse<W: Write, E: Write>(refusal: &Refusal<'_>, out: &mut W, err: &mut E) -> u8
-    ensures refused { 0 < status_for refusal.now → result ≡ status_for refusal.now }
-    ensures text { status_for refusal.now ≡ 0 → result ≤ 1 }
-    ensures untouched { result ≡ 2 → W.contents out.new ≡ W.contents out.old }
-{
-    let status = refusal.status();
-    if status > 0 {
-        let _ = write!(err, "{refusal}");
-        return status;
-    }
-    u8::from(write!(out, "{refusal}").is_err() || out.flush().is_err())
-}
-
-/// Returns the status of a search that ended so. What ended it before its end is reported.
-fn status_of<E: Write>(ended: Result<bool, Halt>, err: &mut E) -> u8
-    ensures status { result ≤ 1 }
-    ensures clean { result ≡ 0 → ended ≡ Ok true }
-    ensures all { ended ≡ Ok true → result ≡ 0 }
-{
-    match ended {
-        Ok(clean) => u8::from(!clean),
-        Err(halt) => {
-            halt.report(err);
-            1
-        }
-    }
 }
 
 /// Searches the disk as the words ask, of which the first is the program's name. Prints the path of each entry that is
@@ -265,25 +235,20 @@ pub fn run<
         ⊎ Searches (S.IsFixed disk × X.IsFixed texts) (S.functions disk) (X.functions texts) on_terminal
         (map string_bytes words.now) (W.contents out.old) (W.contents out.new) }
 {
-    let asked = match read_words(alloc, words) {
-        Ok(asked) => asked,
-        Err(refusal) => return refuse(&refusal, out, err),
+    let (asked, sought) = match read_call(alloc, words, out, err) {
+        Ok(read) => read,
+        Err(status) => return status,
     };
-    match Sought::read(alloc, &asked) {
-        Ok(sought) => {
-            let ended = search_asked(
-                rt,
-                alloc,
-                disk,
-                texts,
-                &asked,
-                &sought,
-                on_terminal,
-                out,
-                err,
-            );
-            status_of(ended, err)
-        }
-        Err(bad) => bad.report(err),
-    }
+    let ended = search_asked(
+        rt,
+        alloc,
+        disk,
+        texts,
+        &asked,
+        &sought,
+        on_terminal,
+        out,
+        err,
+    );
+    status_of(ended, err)
 }

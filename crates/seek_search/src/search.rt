@@ -9,20 +9,20 @@ ghost use Rattle.jwalk_ignore.specs.Callback.IgnoreViews.{next_of, settings_of, 
 ghost use Rattle.seek_search.specs.Excluding.{excluded_of};
 ghost use Rattle.seek_search.specs.Printed.{PrintsAll, PrintsWalk};
 ghost use Rattle.seek_search.specs.Search.{all_below, excluded_asked, ignoring_walk, kept_below, walk_options, yielded_below};
-ghost use Rattle.seek_search.specs.SoughtTest.{takes_of};
+ghost use Rattle.seek_found.specs.SoughtTest.{takes_of};
 
 use crate::excluding::Excluding;
-use crate::found::print_found;
 use crate::kept_rules::{KeptRules, KeptStates};
 use crate::options::WalkOptions;
-use crate::printer::Printer;
-use crate::sought_test::SoughtTest;
 use jwalk::file_system::FileSystem;
 use jwalk::read_dir::{NoProcess, ProcessReadDir};
 use jwalk::{ClientState, Crew, WalkDirGeneric};
 use jwalk_ignore::builder::with_hidden_shown;
 use jwalk_ignore::ignore_files::IgnoreFiles;
 use jwalk_ignore::texts::Texts;
+use seek_found::found::print_found;
+use seek_found::printer::Printer;
+use seek_found::sought_test::SoughtTest;
 use seek_words::asked::Asked;
 use seek_words::halt::Halt;
 use std::alloc::Global;
@@ -111,6 +111,7 @@ impl<
             sort: self.asked.sort,
             hidden: self.asked.hidden,
             follow: self.asked.follow,
+            metadata: !self.asked.sizes.is_empty(),
             greatest: self.asked.depths.greatest,
         }
     }

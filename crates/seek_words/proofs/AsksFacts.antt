@@ -1,6 +1,9 @@
 -- What options were given.
-use Rattle.std.proofs.Common.{◌≡◌, ℕ, List, [], map, Option, None, Some, Result, Ok, Err, unwrap_or, option_map, refl, sym, ◌∙◌, ap, Bor}
+use Rattle.std.proofs.Common.{◌≡◌, ◌<◌, ℕ, length, subst, List, [], map, Option, None, Some, Result, Ok, Err, unwrap_or, option_map, refl, sym, ◌∙◌, ap, Bor}
+use Rattle.std.specs.List.{Contains}
 use Rattle.std.specs.Str.Parse.{ParsesUnsigned}
+use Rattle.std.proofs.Math.ListN.{get_or}
+use Rattle.std.proofs.lemmas.List.{get_or-map, length-map}
 use Rattle.clap.specs.Words.{ReadsOne}
 use Rattle.seek_words.specs.Asks.{IsNumberOf, texts_of}
 
@@ -30,3 +33,7 @@ value_some value r first is found = ap (λ o. unwrap_or o []) (ap (option_map (�
 -- and of none
 pub value_none : (r : Option (Bor (List ℕ))) (first : Option (List ℕ)) → r ≡ None → option_map (λ s. s.now) r ≡ first → [] ≡ unwrap_or first []
 value_none r first is found = ap (λ o. unwrap_or o []) (ap (option_map (λ s. s.now)) (sym is) ∙ found)
+
+-- a text among those of values
+pub named_at : (texts : List (Bor (List ℕ))) (i : ℕ) (d : Bor (List ℕ)) → i < length texts → Contains (texts_of texts) (get_or texts i d).now
+named_at texts i d below = (i, subst (λ n. i < n) (sym (length-map texts (λ it. it.now))) below, get_or-map (λ it. it.now) texts i d _ below)

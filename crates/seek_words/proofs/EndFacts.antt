@@ -1,13 +1,16 @@
 -- The statuses of words that ask for no search.
-use Rattle.std.proofs.Common.{◌≡◌, ◌≤◌, ◌⊎◌, ℕ, List, inl, inr, refl, subst, sym, ap, ◌∙◌, arith}
-use Rattle.clap.specs.Words.{App, IsAmong, HasKind, Kinds, Text, fault_of, kind_of}
+use Rattle.std.proofs.Common.{◌≡◌, codes, ◌≤◌, ◌⊎◌, ℕ, List, inl, inr, refl, subst, sym, ap, ◌∙◌, arith}
+use Rattle.std.specs.Prelude.{Result, Ok, Err, IfErr}
+use Rattle.std.specs.Result.{IsErrAnd}
+use Rattle.clap.specs.Words.{App, IsAmong, HasKind, Kinds, Row, Text, fault_of, kind_of}
 use Rattle.clap.specs.declared.error.kind.ErrorKind.{ErrorKind}
 use Rattle.clap.specs.declared.error.kind.ErrorKind.TheVariants.{InvalidValue, UnknownArgument, InvalidSubcommand, NoEquals, ValueValidation, TooManyValues, TooFewValues, WrongNumberOfValues, ArgumentConflict, MissingRequiredArgument, MissingSubcommand, DisplayHelp, DisplayHelpOnMissingArgumentOrSubcommand, DisplayVersion, Io, Format, OutOfMemory}
-use Rattle.seek_words.specs.AsksFor.{AskForText}
-use Rattle.seek_words.specs.Refusal.{IsRefusedFor, status_of}
+use Rattle.seek_words.specs.Asks.{values_in}
+use Rattle.seek_words.specs.AsksFor.{AskForText, GiveValues}
+use Rattle.seek_words.specs.Refusal.{IsRefusedFor, IsRefusedSize, status_of}
 use Rattle.seek_words.specs.Status.{status_of_kind}
 use Rattle.seek_words.specs.declared.refusal.Refusal.{Refusal}
-use Rattle.seek_words.specs.declared.refusal.Refusal.TheVariants.{Words, Conflict, Slash, Memory}
+use Rattle.seek_words.specs.declared.refusal.Refusal.TheVariants.{Words, Conflict, NoSize, Slash, Memory}
 
 -- only help and version end with 0
 zero_kind : (k : ErrorKind) → status_of_kind k ≡ 0 → (k ≡ DisplayHelp) ⊎ (k ≡ DisplayVersion)
@@ -41,6 +44,7 @@ among_kinds k kinds zero (inr among) =
 pub asked_for_text : (words : List Text) (refusal : Refusal) → IsRefusedFor words refusal → status_of refusal ≡ 0 → AskForText words
 asked_for_text words (Words error) refused zero = (refused.0, refused.1, among_kinds (kind_of error) (fault_of refused.0 words) zero refused.2)
 asked_for_text words (Conflict one other) refused zero = absurd (cc)
+asked_for_text words (NoSize text) refused zero = absurd (cc)
 asked_for_text words (Slash pattern) refused zero = absurd (cc)
 asked_for_text words Memory refused zero = absurd (cc)
 
@@ -66,5 +70,20 @@ kind_most OutOfMemory = omega arith
 pub refusal_most : (refusal : Refusal) → status_of refusal ≤ 2
 refusal_most (Words error) = kind_most (kind_of error)
 refusal_most (Conflict one other) = omega arith
+refusal_most (NoSize text) = omega arith
 refusal_most (Slash pattern) = omega arith
 refusal_most Memory = omega arith
+
+-- sizes that are refused are why words are
+pub size_refused : (words : List Text) (rows : List Row) → GiveValues words rows → (refusal : Refusal) → IsRefusedSize (values_in rows (codes "size")) refusal → IsRefusedFor words refusal
+size_refused words rows read (Words error) why = absurd why
+size_refused words rows read (Conflict one other) why = absurd why
+size_refused words rows read (NoSize text) why =
+    (read.app, read.is_seek, subst (λ (it : List Row). IsRefusedSize (values_in it (codes "size")) (NoSize text)) read.values why)
+size_refused words rows read (Slash pattern) why = absurd why
+size_refused words rows read Memory why = tt
+
+-- why words are refused is why the refusal is returned
+pub returned_for : {X : Type 0} (words : List Text) (result : Result X Refusal) (refusal : Refusal) → IsErrAnd result (λ it. it ≡ refusal) → IsRefusedFor words refusal → IfErr result (IsRefusedFor words)
+returned_for words (Ok x) refusal is why = tt
+returned_for words (Err it) refusal is why = subst (λ (r : Refusal). IsRefusedFor words r) (sym is) why

@@ -5,3 +5,4 @@ pub mod CaseFacts
 pub mod ExtensionFacts
 pub mod PathFacts
 pub mod MaskedFacts
+pub mod SizeFacts

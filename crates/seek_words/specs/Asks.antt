@@ -4,6 +4,7 @@ use Rattle.std.specs.Borrow.{Bor}
 use Rattle.std.specs.List.{list_any}
 use Rattle.std.specs.Str.Parse.{IsNumeral, digits_value, without_leading_plus}
 use Rattle.clap.specs.Words.{Row, Text, all_of, count_of, first_of, one_of}
+use Rattle.seek_words.specs.Size.{size_in}
 use Rattle.seek_words.specs.declared.case.Case.{Case}
 use Rattle.seek_words.specs.declared.case.Case.TheVariants.{Smart, Ignored, Kept}
 use Rattle.seek_words.specs.declared.depths.Depths.{Depths}
@@ -13,6 +14,10 @@ use Rattle.seek_words.specs.declared.asked.Asked.{Asked}
 -- whether an option of one word was named
 abbrev pub is_named : List Row → Text → Bool
 is_named rows id = nat_lt 0 (count_of id rows)
+
+-- whether one of two options of one word was named
+abbrev pub is_either_named : List Row → Text → Text → Bool
+is_either_named rows id other = is_named rows id || is_named rows other
 
 -- the values of an option
 abbrev pub values_in : List Row → Text → List Text
@@ -68,13 +73,14 @@ pub record Asks (rows : List Row) (asked : Asked) : Type 0 where
   pub glob : asked.glob ≡ is_named rows (codes "glob")
   pub full_path : asked.full_path ≡ is_named rows (codes "full-path")
   pub case : asked.case ≡ case_in rows
-  pub hidden : asked.hidden ≡ is_named rows (codes "hidden")
-  pub no_ignore : asked.no_ignore ≡ is_named rows (codes "no-ignore")
+  pub hidden : asked.hidden ≡ is_either_named rows (codes "hidden") (codes "unrestricted")
+  pub no_ignore : asked.no_ignore ≡ is_either_named rows (codes "no-ignore") (codes "unrestricted")
   pub follow : asked.follow ≡ is_named rows (codes "follow")
   pub sort : asked.sort ≡ is_named rows (codes "sort")
   pub depths : AreDepthsIn rows asked.depths
   pub kinds : asked.kinds ≡ kinds_in (values_in rows (codes "type"))
   pub extensions : texts_of asked.extensions.items ≡ values_in rows (codes "extension")
+  pub sizes : map Some asked.sizes.items ≡ map size_in (values_in rows (codes "size"))
   pub excludes : texts_of asked.excludes.items ≡ values_in rows (codes "exclude")
   pub print0 : asked.print0 ≡ is_named rows (codes "print0")
   pub threads : IsNumberOf (one_of (codes "threads") rows) asked.threads

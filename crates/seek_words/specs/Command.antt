@@ -52,7 +52,7 @@ threads_rule = record (valued_rule (codes "threads")) { short = Some 106; parser
 -- which entries are walked
 abbrev pub walk_rules : List Rule
 walk_rules =
-    flag_rule (codes "hidden") 72 ∷ flag_rule (codes "no-ignore") 73 ∷ listed_rule (codes "exclude") 69 ∷ flag_rule (codes "follow") 76 ∷ sort_rule ∷ threads_rule ∷ []
+    flag_rule (codes "hidden") 72 ∷ flag_rule (codes "no-ignore") 73 ∷ flag_rule (codes "unrestricted") 117 ∷ listed_rule (codes "exclude") 69 ∷ flag_rule (codes "follow") 76 ∷ sort_rule ∷ threads_rule ∷ []
 
 -- the types, by these names
 abbrev pub kind_rule : Bor (List (Bor Text)) → Rule
@@ -62,7 +62,7 @@ kind_rule kinds = record (listed_rule (codes "type") 116) { parser = Some (Names
 abbrev pub filter_rules : Bor (List (Bor Text)) → List Rule
 filter_rules kinds =
     depth_rule (codes "min-depth") ∷ record (depth_rule (codes "max-depth")) { short = Some 100 } ∷ depth_rule (codes "exact-depth")
-    ∷ kind_rule kinds ∷ listed_rule (codes "extension") 101 ∷ flag_rule (codes "print0") 48 ∷ []
+    ∷ kind_rule kinds ∷ listed_rule (codes "extension") 101 ∷ listed_rule (codes "size") 83 ∷ flag_rule (codes "print0") 48 ∷ []
 
 -- the names of types
 abbrev pub kind_names : List Text

@@ -14,6 +14,7 @@ pub mod Paths
 pub mod Absolute
 pub mod Subject
 pub mod Lines
+pub mod Size
 pub mod Wanted
 pub mod Sought
 pub mod Filter

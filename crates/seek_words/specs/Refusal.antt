@@ -1,19 +1,21 @@
 -- Why words are refused.
-use Rattle.std.specs.Prelude.{◌≡◌, ℕ, true, false, List}
-use Rattle.std.specs.List.{list_any}
+use Rattle.std.specs.Prelude.{◌≡◌, ℕ, true, false, codes, List, None}
+use Rattle.std.specs.List.{list_any, Contains}
 use Rattle.clap.specs.Words.{App, HasKind, Text, fault_of, kind_of, matches_of}
-use Rattle.seek_words.specs.Asks.{Asks, is_slash}
+use Rattle.seek_words.specs.Asks.{Asks, is_slash, values_in}
 use Rattle.seek_words.specs.Command.{IsSeek}
 use Rattle.seek_words.specs.Conflict.{has_conflict}
+use Rattle.seek_words.specs.Size.{size_in}
 use Rattle.seek_words.specs.declared.asked.Asked.{Asked}
 use Rattle.seek_words.specs.declared.refusal.Refusal.{Refusal}
-use Rattle.seek_words.specs.declared.refusal.Refusal.TheVariants.{Words, Conflict, Slash, Memory}
+use Rattle.seek_words.specs.declared.refusal.Refusal.TheVariants.{Words, Conflict, NoSize, Slash, Memory}
 use Rattle.seek_words.specs.Status.{status_of_kind}
 
 -- the status that the program ends with
 abbrev pub status_of : Refusal → ℕ
 status_of (Words error) = status_of_kind (kind_of error)
 status_of (Conflict one other) = 2
+status_of (NoSize text) = 2
 status_of (Slash pattern) = 2
 status_of Memory = 1
 
@@ -22,10 +24,17 @@ pub record NamesSlash (asked : Asked) : Type 0 where
   pub by_name : asked.full_path ≡ false
   pub slash : list_any is_slash asked.pattern.now ≡ true
 
--- Why words are refused: they aren't those of the command line, or ask for a text; options exclude each other; the pattern has a slash and is compared with names; or memory ran out.
+-- Why sizes are refused: one of their texts stands for none, or memory ran out.
+abbrev pub IsRefusedSize : List Text → Refusal → Type 0
+IsRefusedSize texts (NoSize text) = Contains texts text.now × (size_in text.now ≡ None)
+IsRefusedSize texts Memory = Unit {0}
+IsRefusedSize texts _ = ⊥
+
+-- Why words are refused: they aren't those of the command line, or ask for a text; options exclude each other; a size is none; the pattern has a slash and is compared with names; or memory ran out.
 abbrev pub IsRefusedFor : List Text → Refusal → Type 0
 IsRefusedFor words (Words error) = (app : App) × IsSeek app × HasKind (fault_of app words) error
 IsRefusedFor words (Conflict one other) = (app : App) × IsSeek app × (has_conflict (matches_of app words) ≡ true)
+IsRefusedFor words (NoSize text) = (app : App) × IsSeek app × IsRefusedSize (values_in (matches_of app words) (codes "size")) (NoSize text)
 IsRefusedFor words (Slash pattern) = (app : App) × IsSeek app × (asked : Asked) × Asks (matches_of app words) asked × NamesSlash asked
 IsRefusedFor words Memory = Unit {0}
 

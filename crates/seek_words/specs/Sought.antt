@@ -2,10 +2,11 @@
 use Rattle.std.specs.Prelude.{ℕ, Bool, ◌&&◌, List, Option, None, Some}
 use Rattle.jwalk_model.specs.FileType.{is_dir}
 use Rattle.jwalk_model.specs.declared.file_type.FileType.{FileType}
+use Rattle.jwalk_model.specs.declared.metadata.Metadata.{Metadata}
 use Rattle.seek_words.specs.Absolute.{absolute_path}
 use Rattle.seek_words.specs.Wanted.{Wants, is_wanted}
 
--- what is looked for: the depths, types and extensions, which texts pass, and what is in front of a relative path where the absolute path is tested
+-- what is looked for: the depths, types, extensions and sizes, which texts pass, and what is in front of a relative path where the absolute path is tested
 pub record Sought : Type 0 where
   pub wanted : Wants
   pub takes : List ℕ → Bool → Bool
@@ -16,7 +17,7 @@ abbrev pub subject : Option (List ℕ) → List ℕ → List ℕ → List ℕ
 subject None folder name = name
 subject (Some front) folder name = absolute_path front folder name
 
--- whether an entry is looked for, by its depth, its type, its folder and its name
-abbrev pub is_found : Sought → ℕ → FileType → List ℕ → List ℕ → Bool
-is_found sought depth type folder name =
-    is_wanted sought.wanted depth type name && sought.takes (subject sought.front folder name) (is_dir type)
+-- whether an entry is looked for, by its depth, its type, its folder, its name and its metadata, if that is known
+abbrev pub is_found : Sought → ℕ → FileType → List ℕ → List ℕ → Option Metadata → Bool
+is_found sought depth type folder name seen =
+    is_wanted sought.wanted depth type name seen && sought.takes (subject sought.front folder name) (is_dir type)

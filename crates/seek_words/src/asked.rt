@@ -2,6 +2,7 @@
 use crate::case::Case;
 use crate::depths::Depths;
 use crate::kinds::Kinds;
+use crate::size::Size;
 use std::alloc::Global;
 
 /// What a call asks for.
@@ -31,6 +32,8 @@ pub struct Asked<'w> {
     pub kinds: Kinds,
     /// The extensions of what is looked for; any, if there are none.
     pub extensions: Vec<&'w str, Global>,
+    /// The sizes of what is looked for, which are of files; any entry, if there are none.
+    pub sizes: Vec<Size, Global>,
     /// Lines of an ignore file, for what is left out.
     pub excludes: Vec<&'w str, Global>,
     /// A zero byte is behind each path, in place of a line feed.

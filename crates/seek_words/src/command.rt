@@ -126,6 +126,7 @@ fn walk_options<'a>(alloc: Global) -> Result<Vec<Arg<'a>>, AllocError>
     Ok(vec![in alloc;
         flag(alloc, "hidden", 'H', "Hidden names come too"),
         flag(alloc, "no-ignore", 'I', "Read no ignore files"),
+        flag(alloc, "unrestricted", 'u', "The same as -HI"),
         listed(
             alloc,
             "exclude",
@@ -165,6 +166,13 @@ fn filter_options<'a>(alloc: Global) -> Result<Vec<Arg<'a>>, AllocError>
         depth(alloc, "exact-depth", "The depth, where a root has depth 0"),
         kind_option(alloc),
         listed(alloc, "extension", 'e', "EXT", "The name's extension"),
+        listed(
+            alloc,
+            "size",
+            'S',
+            "SIZE",
+            "The size of a file: +N and a unit for at least, -N for at most, N for exactly that",
+        ),
         flag(
             alloc,
             "print0",

@@ -1,5 +1,6 @@
 //! Which entries are looked for.
 ghost use Rattle.std.specs.Prelude.{◌≡◌, IfOk, option_map};
+ghost use Rattle.std.specs.Option.{option_copied};
 ghost use Rattle.jwalk_model.specs.FileType.{is_dir};
 ghost use Rattle.seek_words.specs.Subject.{front_of};
 ghost use Rattle.seek_words.specs.Sought.{is_found, subject};
@@ -8,6 +9,7 @@ use crate::name_test::NameTest;
 use crate::subject::AbsolutePath;
 use crate::wanted::Wanted;
 use jwalk_model::file_type::FileType;
+use jwalk_model::metadata::Metadata;
 use std::alloc::AllocError;
 
 /// Which entries are looked for.
@@ -45,7 +47,8 @@ fn passes_test<T: NameTest>(
 impl<'w, T: NameTest> Filter<'w, T> {
     ghost use Rattle.seek_words.specs.Filter.{sought_of};
 
-    /// Returns whether an entry is looked for, which has this depth, type and name, and is in this folder.
+    /// Returns whether an entry is looked for, which has this depth, type and name, and is in this folder. `seen` is its
+    /// metadata, if that is known.
     ///
     /// # Errors
     ///
@@ -56,11 +59,13 @@ impl<'w, T: NameTest> Filter<'w, T> {
         file_type: FileType,
         folder: &str,
         name: &str,
+        seen: Option<&Metadata>,
     ) -> Result<bool, AllocError>
-        ensures answer { IfOk result (λ yes. yes ≡ is_found (sought_of T.takes self.old) depth file_type folder.now name.now) }
+        ensures answer { IfOk result (λ yes. yes
+            ≡ is_found (sought_of T.takes self.old) depth file_type folder.now name.now (option_copied seen.entry)) }
         ensures same { sought_of T.takes self.new ≡ sought_of T.takes self.old }
     {
-        if !self.wanted.has(depth, file_type, name) {
+        if !self.wanted.has(depth, file_type, name, seen) {
             return Ok(false);
         }
         passes_test(

@@ -16,6 +16,7 @@ pub mod masked;
 pub mod name_test;
 pub mod paths;
 pub mod refusal;
+pub mod size;
 pub mod subject;
 pub mod wanted;
 pub mod words;

@@ -14,6 +14,8 @@ pub enum Refusal<'w> {
     Words(Error),
     /// These two options exclude each other.
     Conflict(&'static str, &'static str),
+    /// This is no size.
+    NoSize(&'w str),
     /// This pattern has a slash, and isn't compared with paths.
     Slash(&'w str),
     /// Memory ran out.
@@ -41,7 +43,7 @@ impl<'w> Refusal<'w> {
     {
         match self {
             Refusal::Words(error) => status_of_kind(error.kind()),
-            Refusal::Conflict(_, _) | Refusal::Slash(_) => 2,
+            Refusal::Conflict(_, _) | Refusal::NoSize(_) | Refusal::Slash(_) => 2,
             Refusal::Memory => 1,
         }
     }
@@ -68,6 +70,10 @@ impl<'w> fmt::Display for Refusal<'w> {
                     "seek: the options --{one} and --{other} exclude each other"
                 )
             }
+            Refusal::NoSize(text) => writeln!(
+                f,
+                "seek: '{text}' is no size: write a number and a unit, as in +10k, with + for at least and - for at most that"
+            ),
             Refusal::Slash(pattern) => writeln!(
                 f,
                 "seek: no name has a slash, and the pattern '{pattern}' has one: write `seek . {pattern}` to list that folder, or add --full-path"

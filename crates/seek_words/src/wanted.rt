@@ -1,10 +1,13 @@
 //! What is looked for, but for the pattern.
 ghost use Rattle.std.specs.Prelude.{◌≡◌};
+ghost use Rattle.std.specs.Option.{option_copied};
 
 use crate::depths::Depths;
 use crate::extension::has_one;
 use crate::kinds::Kinds;
+use crate::size::{Size, is_sized};
 use jwalk_model::file_type::FileType;
+use jwalk_model::metadata::Metadata;
 
 /// What is looked for, but for the pattern.
 #[derive(Clone, Copy)]
@@ -15,15 +18,26 @@ pub struct Wanted<'w> {
     pub kinds: Kinds,
     /// The extensions of names; any, if there are none.
     pub extensions: &'w [&'w str],
+    /// The sizes of files; any entry, if there are none.
+    pub sizes: &'w [Size],
 }
 
 impl<'w> Wanted<'w> {
     ghost use Rattle.seek_words.specs.Wanted.{is_wanted, wants_of};
 
-    /// Returns whether an entry of this depth, type and name is looked for.
-    pub fn has(&self, depth: usize, file_type: FileType, name: &str) -> bool
-        ensures { result ≡ is_wanted (wants_of self.now) depth file_type name.now }
+    /// Returns whether an entry of this depth, type, name and metadata is looked for.
+    pub fn has(
+        &self,
+        depth: usize,
+        file_type: FileType,
+        name: &str,
+        seen: Option<&Metadata>,
+    ) -> bool
+        ensures { result ≡ is_wanted (wants_of self.now) depth file_type name.now (option_copied seen.entry) }
     {
-        self.depths.has(depth) && self.kinds.has(file_type) && has_one(name, self.extensions)
+        self.depths.has(depth)
+            && self.kinds.has(file_type)
+            && has_one(name, self.extensions)
+            && is_sized(self.sizes, file_type, seen)
     }
 }

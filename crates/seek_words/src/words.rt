@@ -1,11 +1,12 @@
 //! What words ask for.
-ghost use Rattle.std.specs.Prelude.{◌≡◌, [], codes, is_some, map, unwrap_or, IfOk, IfErr};
+ghost use Rattle.std.specs.Prelude.{◌≡◌, [], codes, is_some, map, unwrap_or, IfOk, IfErr, Some};
 ghost use Rattle.std.specs.List.{list_any};
 ghost use Rattle.clap.specs.Words.{found_of, rows_of, first_of, one_of};
-ghost use Rattle.seek_words.specs.Asks.{is_named, values_in, texts_of, IsNumberOf, case_in, depths_by, AreDepthsIn, names_one, kinds_in, is_slash, Asks};
+ghost use Rattle.seek_words.specs.Asks.{is_either_named, is_named, values_in, texts_of, IsNumberOf, case_in, depths_by, AreDepthsIn, names_one, kinds_in, is_slash, Asks};
 ghost use Rattle.seek_words.specs.AsksFor.{AskFor, GiveValues};
 ghost use Rattle.seek_words.specs.Conflict.{has_conflict, has_value};
-ghost use Rattle.seek_words.specs.Refusal.{IsRefusedFor};
+ghost use Rattle.seek_words.specs.Refusal.{IsRefusedFor, IsRefusedSize};
+ghost use Rattle.seek_words.specs.Size.{size_in};
 
 use crate::asked::Asked;
 use crate::case::Case;
@@ -13,6 +14,7 @@ use crate::command::command;
 use crate::depths::Depths;
 use crate::kinds::Kinds;
 use crate::refusal::Refusal;
+use crate::size::Size;
 use clap::ArgMatches;
 use std::alloc::{AllocError, Global};
 use std::convert::AsStr;
@@ -22,6 +24,13 @@ fn is_named(found: &ArgMatches<'_>, id: &str) -> bool
     ensures { result ≡ is_named (rows_of (found_of found.now)) id.now }
 {
     found.get_count(id) > 0
+}
+
+/// Returns whether one of two options of one word was named.
+fn is_either_named(found: &ArgMatches<'_>, id: &str, other: &str) -> bool
+    ensures { result ≡ is_either_named (rows_of (found_of found.now)) id.now other.now }
+{
+    is_named(found, id) || is_named(found, other)
 }
 
 /// Returns a copy of a list of texts.
@@ -122,13 +131,32 @@ fn kinds_of(names: &[&str]) -> Kinds
     }
 }
 
+/// Returns the sizes of these texts.
+fn sizes_of<'w>(alloc: Global, texts: &[&'w str]) -> Result<Vec<Size>, Refusal<'w>>
+    ensures sizes { IfOk result (λ sizes. map Some sizes.items ≡ map size_in (texts_of texts.now)) }
+    ensures refused { IfErr result (IsRefusedSize (texts_of texts.now)) }
+{
+    let mut sizes = Vec::new(alloc);
+    for text in texts {
+        let Some(size) = Size::read(text) else {
+            return Err(Refusal::NoSize(text));
+        };
+        sizes.reserve(1)?;
+        sizes.push_reserved(size);
+    }
+    Ok(sizes)
+}
+
 /// Returns what is asked for by words that were read.
-fn asked_of<'w>(alloc: Global, found: &ArgMatches<'w>) -> Result<Asked<'w>, AllocError>
-    ensures { IfOk result (Asks (rows_of (found_of found.now))) }
+fn asked_of<'w>(alloc: Global, found: &ArgMatches<'w>) -> Result<Asked<'w>, Refusal<'w>>
+    ensures asked { IfOk result (Asks (rows_of (found_of found.now))) }
+    ensures refused { IfErr result (IsRefusedSize (values_in (rows_of (found_of found.now)) (codes "size"))) }
 {
     let roots = values_of(alloc, found, "root")?;
     let kinds = values_of(alloc, found, "type")?;
     let extensions = values_of(alloc, found, "extension")?;
+    let texts = values_of(alloc, found, "size")?;
+    let sizes = sizes_of(alloc, texts.as_slice())?;
     let excludes = values_of(alloc, found, "exclude")?;
     Ok(Asked {
         pattern: pattern_of(found),
@@ -136,13 +164,14 @@ fn asked_of<'w>(alloc: Global, found: &ArgMatches<'w>) -> Result<Asked<'w>, Allo
         glob: is_named(found, "glob"),
         full_path: is_named(found, "full-path"),
         case: case_of(found),
-        hidden: is_named(found, "hidden"),
-        no_ignore: is_named(found, "no-ignore"),
+        hidden: is_either_named(found, "hidden", "unrestricted"),
+        no_ignore: is_either_named(found, "no-ignore", "unrestricted"),
         follow: is_named(found, "follow"),
         sort: is_named(found, "sort"),
         depths: depths_of(found),
         kinds: kinds_of(kinds.as_slice()),
         extensions,
+        sizes,
         excludes,
         print0: is_named(found, "print0"),
         threads: number_of(found, "threads"),
@@ -197,8 +226,8 @@ fn matches_of<'w, S: AsStr>(alloc: Global, words: &'w [S]) -> Result<ArgMatches<
 ///
 /// # Errors
 ///
-/// If the words are bad or ask for help or the version; if two options exclude each other; if the pattern has a slash and
-/// isn't compared with paths; or if memory runs out.
+/// If the words are bad or ask for help or the version; if two options exclude each other; if a size is none; if the
+/// pattern has a slash and isn't compared with paths; or if memory runs out.
 pub fn read_words<'w, S: AsStr>(alloc: Global, words: &'w [S]) -> Result<Asked<'w>, Refusal<'w>>
     ensures asked { IfOk result (AskFor (map S.text words.entry.now)) }
     ensures refused { IfErr result (IsRefusedFor (map S.text words.entry.now)) }

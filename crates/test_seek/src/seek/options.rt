@@ -1,5 +1,5 @@
 //! Each option.
-use crate::seek::runs::{Row, TREE, all_come, prints, prints_by};
+use crate::seek::runs::{Row, RulesFile, TREE, all_come, prints, prints_by};
 
 /// All that is below `/t` and isn't hidden.
 const SHOWN: &str =
@@ -48,6 +48,20 @@ fn hidden(rt: HostRuntime) {
     prints(&rt, &["hid", "/t"], "");
     prints(&rt, &["-H", "hid", "/t"], "/t/.hidden\n");
     prints(&rt, &["--hidden", "hid", "/t"], "/t/.hidden\n");
+}
+
+#[test]
+fn unrestricted(rt: HostRuntime) {
+    const LEFT: &str = "d /r\nf 1 /r/.ignore\nf 1 /r/a\nf 1 /r/.h\n";
+    const RULES: &[RulesFile] = &[("/r/.ignore", "a\n")];
+    const ALL: &str = "/r/.ignore\n/r/a\n/r/.h\n";
+    const ROWS: &[Row] = &[
+        (&[".", "/r"], LEFT, RULES, ("", "", 0)),
+        (&["-u", ".", "/r"], LEFT, RULES, (ALL, "", 0)),
+        (&["-uu", ".", "/r"], LEFT, RULES, (ALL, "", 0)),
+        (&["--unrestricted", ".", "/r"], LEFT, RULES, (ALL, "", 0)),
+    ];
+    all_come(&rt, ROWS);
 }
 
 #[test]
@@ -126,6 +140,62 @@ fn extensions(rt: HostRuntime) {
     );
     prints(&rt, &["-e", ".TAR.gz", ".", "/t"], "/t/sub/notes.tar.gz\n");
     prints(&rt, &["-e", "hidden", "-H", ".", "/t"], "");
+}
+
+/// A directory, a link, and files of these sizes.
+const SIZED: &str = "d /s\nf 999 /s/a\nf 1000 /s/b\nf 1024 /s/c\nf 1025 /s/d\nd /s/e\nl b\t/s/l\n";
+
+#[test]
+fn sizes(rt: HostRuntime) {
+    const ROWS: &[Row] = &[
+        (
+            &["-S", "+1k", ".", "/s"],
+            SIZED,
+            &[],
+            ("/s/b\n/s/c\n/s/d\n", "", 0),
+        ),
+        (&["-S-1k", ".", "/s"], SIZED, &[], ("/s/a\n/s/b\n", "", 0)),
+        (&["-S", "1k", ".", "/s"], SIZED, &[], ("/s/b\n", "", 0)),
+        (
+            &["--size=+1ki", ".", "/s"],
+            SIZED,
+            &[],
+            ("/s/c\n/s/d\n", "", 0),
+        ),
+        (&["-S", "1025B", ".", "/s"], SIZED, &[], ("/s/d\n", "", 0)),
+        (
+            &["-S+1Kb", "-S-1KiB", ".", "/s"],
+            SIZED,
+            &[],
+            ("/s/b\n/s/c\n", "", 0),
+        ),
+        (&["-S+1m", ".", "/s"], SIZED, &[], ("", "", 0)),
+        (
+            &["-L", "-S1k", ".", "/s"],
+            SIZED,
+            &[],
+            ("/s/b\n/s/l\n", "", 0),
+        ),
+        (&["-S+0b", "-td", ".", "/s"], SIZED, &[], ("", "", 0)),
+    ];
+    all_come(&rt, ROWS);
+}
+
+#[test]
+fn what_is_no_size(rt: HostRuntime) {
+    const TOLD: &str =
+        "seek: '1' is no size: write a number and a unit, as in +10k, with + for at least and - for at most that\n";
+    prints_by(&rt, "-j1", &["-S+k", ".", "/t"], "", 2);
+    prints_by(&rt, "-j1", &["-S1x", ".", "/t"], "", 2);
+    prints_by(
+        &rt,
+        "-j1",
+        &["-S", "18446744073709551616b", ".", "/t"],
+        "",
+        2,
+    );
+    prints_by(&rt, "-j1", &["-S", "18014398509481984ki", ".", "/t"], "", 2);
+    all_come(&rt, &[(&["-S", "1", ".", "/t"], TREE, &[], ("", TOLD, 2))]);
 }
 
 #[test]

@@ -2,7 +2,7 @@ use Rattle.std.proofs.Common.{◌≡◌, ◌∙◌, ap, arith, length, refl, tak
 use Rattle.std.specs.Prelude.{flat_map}
 use Rattle.std.proofs.Math.Seq.{take-length}
 use Rattle.std.specs.Arc.{arc_value}
-use Rattle.seek_search.proofs.CleanFacts.{clean_none, printed_as}
+use Rattle.seek_found.proofs.CleanFacts.{clean_none, printed_as}
 use Rattle.seek_words.specs.Asks.{texts_of}
 use Rattle.seek_search.specs.Search.{yielded_below}
 use Rattle.seek_search.proofs.RunFacts.{first_true, one_root, second_true}

@@ -6,7 +6,7 @@ use Rattle.seek_words.specs.Lines.{style_of}
 use Rattle.seek_search.specs.Printed.{PrintsAll}
 use Rattle.seek_words.specs.Asks.{texts_of}
 use Rattle.seek_search.specs.Search.{yielded_below}
-use Rattle.seek_search.specs.SoughtTest.{takes_of}
+use Rattle.seek_found.specs.SoughtTest.{takes_of}
 use Rattle.seek_search.proofs.run.search_each.Given as goal
 
 -- what is found below the roots so far is printed, if there was no error

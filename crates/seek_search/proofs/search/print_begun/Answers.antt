@@ -3,11 +3,11 @@ use Rattle.std.proofs.lemmas.Result.{IfOk-weaker}
 use Rattle.jwalk.specs.jwalk_job.Entry.{item}
 use Rattle.jwalk.proofs.CleanFacts.{clean_whole}
 use Rattle.jwalk.proofs.WholeFacts.{steady_begun}
-use Rattle.seek_search.proofs.WholeFacts.{clean_entries, printed_whole}
+use Rattle.seek_found.proofs.WholeFacts.{clean_entries, printed_whole}
 use Rattle.seek_search.proofs.search.print_begun.Goals as goal
 
-pub print_found-requires : goal.print_found-requires
-print_found-requires g c = subst g.P.ProcessReadDir.IsLawful (sym c.into_iter-answers.ensures.starts.callback) c.requires
+pub print_found-requires-clause-can : goal.print_found-requires-clause-can
+print_found-requires-clause-can g c = subst g.P.ProcessReadDir.IsLawful (sym c.into_iter-answers.ensures.starts.callback) c.requires
 
 pub returns-clause-whole : goal.returns-clause-whole
 returns-clause-whole g c =

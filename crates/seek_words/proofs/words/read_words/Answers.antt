@@ -1,7 +1,8 @@
-use Rattle.std.proofs.Common.{◌≡◌, ◌∙◌, ap, false, sym, subst, rules}
+use Rattle.std.proofs.Common.{◌≡◌, ◌∙◌, ap, false, map, sym, subst, rules}
 use Rattle.std.specs.Prelude.{is_some}
 use Rattle.seek_words.specs.Asks.{Asks}
 use Rattle.seek_words.specs.Conflict.{has_conflict}
+use Rattle.seek_words.proofs.EndFacts.{returned_for, size_refused}
 use Rattle.seek_words.proofs.words.read_words.Goals.{else-not-asked-via-then-not-asked+else-has_slash, else-not-asked-via-else-not-asked}
 use Rattle.seek_words.proofs.words.read_words.Goals as goal
 
@@ -9,6 +10,12 @@ pub returns-in-Some-clause-refused : goal.returns-in-Some-clause-refused
 returns-in-Some-clause-refused g c =
     let read = c.in_ok-found.ensures.read in
     (read.app, read.is_seek, ap has_conflict (sym read.values) ∙ sym c.conflict_of.ensures ∙ ap is_some c.in-Some.is)
+
+pub returns-in_err-asked-clause-refused : goal.returns-in_err-asked-clause-refused
+returns-in_err-asked-clause-refused g c =
+    let refusal = c.in_err-asked.field-0.0 in
+    returned_for (map g.S.AsStr.text c.args.words.now) c.from_residual-in_err-asked.result refusal c.from_residual-in_err-asked.ensures.1
+    (size_refused _ _ c.in_ok-found.ensures.read refusal c.in_err-asked.ensures.refused)
 
 pub returns-then-has_slash-clause-refused : goal.returns-then-has_slash-clause-refused
 returns-then-has_slash-clause-refused g c =
@@ -18,7 +25,7 @@ returns-then-has_slash-clause-refused g c =
       read.app,
       read.is_seek,
       asked,
-      subst (λ (rows : _). Asks rows asked) read.values c.in_ok-asked.ensures,
+      subst (λ (rows : _). Asks rows asked) read.values c.in_ok-asked.ensures.asked,
       record { by_name = by_name; slash = sym c.has_slash.ensures ∙ c.if-has_slash.true },
     )
 
@@ -29,7 +36,7 @@ returns-clause-asked g c =
       rows = _;
       values = c.in_ok-found.ensures.read;
       free = sym c.conflict_of.ensures ∙ ap is_some c.in_default.is;
-      asks = c.in_ok-asked.ensures;
+      asks = c.in_ok-asked.ensures.asked;
       slash = λ by_name. elim c.else-not-asked.branch [
         | else-not-asked-via-then-not-asked+else-has_slash w ↦ sym w.has_slash.ensures ∙ w.if-has_slash.false
         | else-not-asked-via-else-not-asked w ↦ absurd (cc (by_name, w.if-not-asked.false))

@@ -10,7 +10,7 @@ use Rattle.jwalk_ignore.specs.Callback.IgnoreViews.{ignoring, next_of, settings_
 use Rattle.jwalk_ignore.specs.declared.callback.settings.Settings.{Settings}
 use Rattle.seek_search.specs.Options.{options_for, with_crew}
 use Rattle.seek_search.specs.declared.options.WalkOptions.{WalkOptions}
-use Rattle.seek_search.proofs.CleanFacts.{printed_as}
+use Rattle.seek_found.proofs.CleanFacts.{printed_as}
 use Rattle.seek_words.specs.Asks.{texts_of}
 use Rattle.seek_search.specs.Excluding.{excluded_by, excluded_of, excluding}
 use Rattle.seek_search.specs.Search.{excluded_asked, options_asked, settings_asked}

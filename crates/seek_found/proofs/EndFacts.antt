@@ -1,0 +1,67 @@
+-- The statuses of words and patterns that are rejected.
+use Rattle.std.proofs.Common.{◌≡◌, ◌<◌, ◌≤◌, ◌⊎◌, ℕ, zero, suc, List, inl, inr, refl, sym, subst, ◌∙◌, arith}
+use Rattle.seek_words.proofs.EndFacts.{asked_for_text, refusal_most}
+use Rattle.seek_words.specs.AsksFor.{AskFor, AskForText}
+use Rattle.seek_words.specs.Refusal.{IsRefusedFor, status_of as status_for}
+use Rattle.seek_words.specs.declared.asked.Asked.{Asked}
+use Rattle.seek_words.specs.declared.refusal.Refusal.{Refusal}
+use Rattle.seek_found.specs.BadPattern.{status_of, IsBadFor}
+use Rattle.seek_found.specs.Call.{AskForSearch, Ends}
+use Rattle.seek_found.specs.Sought.{IsFor}
+use Rattle.seek_found.specs.declared.bad_pattern.BadPattern.{BadPattern}
+use Rattle.seek_found.specs.declared.bad_pattern.BadPattern.TheVariants as bad
+use Rattle.seek_found.specs.declared.sought.Sought.{Sought}
+
+-- no bad pattern ends with 0
+pub never_zero : (why : BadPattern) → status_of why ≡ 0 → ⊥
+never_zero (bad.Expression pattern error) is = absurd (cc)
+never_zero (bad.Glob pattern) is = absurd (cc)
+never_zero bad.Memory is = absurd (cc)
+
+at_most_two : (n : ℕ) → n ≤ 2 → (n ≡ 0) ⊎ (n ≡ 1) ⊎ (n ≡ 2)
+at_most_two zero most = inl refl
+at_most_two (suc zero) most = inr (inl refl)
+at_most_two (suc (suc zero)) most = inr (inr refl)
+at_most_two (suc (suc (suc n))) most = absurd (omega (arith, most))
+
+-- words that are refused end with the refusal's status, or with 1 where a text can't be written
+pub refused_ends : (words : List (List ℕ)) (refusal : Refusal) (status : ℕ) → IsRefusedFor words refusal
+    → (0 < status_for refusal → status ≡ status_for refusal) → (status_for refusal ≡ 0 → status ≤ 1) → Ends words status
+refused_ends words refusal status refused told text =
+    elim (at_most_two (status_for refusal) (refusal_most refusal)) [
+      | inl none ↦ inr (inl (inl (asked_for_text words refusal refused none), text none))
+      | inr (inl one) ↦ inr (inr (told (omega (arith, one)) ∙ one))
+      | inr (inr two) ↦ inl (inl (refusal, refused, two), told (omega (arith, two)) ∙ two)
+    ]
+
+-- only a text ends with 0 among what is refused
+pub text_asked : (words : List (List ℕ)) (refusal : Refusal) (status : ℕ) → IsRefusedFor words refusal → (0 < status_for refusal → status ≡ status_for refusal) → status ≡ 0 → AskForText words
+text_asked words refusal status refused told is =
+    elim (at_most_two (status_for refusal) (refusal_most refusal)) [
+      | inl none ↦ asked_for_text words refusal refused none
+      | inr (inl one) ↦ absurd (omega (arith, is, one, told (omega (arith, one))))
+      | inr (inr two) ↦ absurd (omega (arith, is, two, told (omega (arith, two))))
+    ]
+
+-- a pattern that is rejected ends with its status
+pub rejected_ends : (words : List (List ℕ)) (asked : Asked) → AskFor words asked → (why : BadPattern) → IsBadFor asked why → (status : ℕ) → status ≡ status_of why → Ends words status
+rejected_ends words asked ask (bad.Expression pattern error) is status told = inl (inr (asked, ask, bad.Expression pattern error, is, refl), told)
+rejected_ends words asked ask (bad.Glob pattern) is status told = inl (inr (asked, ask, bad.Glob pattern, is, refl), told)
+rejected_ends words asked ask bad.Memory is status told = inr (inr told)
+
+-- a search ends with 0 or 1
+pub searched_ends : (words : List (List ℕ)) (asked : Asked) → AskFor words asked → (sought : Sought) → IsFor asked sought → (status : ℕ) → status ≤ 1 → Ends words status
+searched_ends words asked ask sought is status most = inr (inl (inr (asked, ask, sought, is), most))
+
+-- no status is above 2
+pub ends_most : (words : List (List ℕ)) (status : ℕ) → Ends words status → status ≤ 2
+ends_most words status (inl (why, two)) = omega (arith, two)
+ends_most words status (inr (inl (asks, most))) = omega (arith, most)
+ends_most words status (inr (inr one)) = omega (arith, one)
+
+-- words that ask for nothing end with 2 or 1
+pub bad_ends : (words : List (List ℕ)) (status : ℕ) → Ends words status → ¬ (AskForText words) → ¬ (AskForSearch words) → (status ≡ 2) ⊎ (status ≡ 1)
+bad_ends words status (inl (why, two)) no_text no_search = inl two
+bad_ends words status (inr (inl (inl text, most))) no_text no_search = absurd (no_text text)
+bad_ends words status (inr (inl (inr search, most))) no_text no_search = absurd (no_search search)
+bad_ends words status (inr (inr one)) no_text no_search = inr one

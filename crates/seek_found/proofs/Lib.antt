@@ -1,0 +1,5 @@
+mod GlobFacts
+pub mod EndFacts
+pub mod FoundFacts
+pub mod WholeFacts
+pub mod CleanFacts

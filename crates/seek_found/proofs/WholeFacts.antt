@@ -1,0 +1,53 @@
+-- What is printed of answers doesn't go by their states.
+use Rattle.std.proofs.Common.{◌≡◌, ◌∙◌, ℕ, Bool, true, false, ◌&&◌, List, [], ◌∷◌, ◌++◌, Option, Some, None, Result, Ok, Err, map, is_ok, sym, ap, subst, refl}
+use Rattle.std.specs.List.{list_all}
+use Rattle.std.specs.Io.KnownBytes.{Appends}
+use Rattle.jwalk_model.specs.Counted.{Worth}
+use Rattle.jwalk_model.specs.Entry.{Item}
+use Rattle.jwalk_job.specs.declared.dir_entry.DirEntry.{DirEntry}
+use Rattle.jwalk_job.specs.declared.error.Error.{Error}
+use Rattle.jwalk_job.specs.Entry.{item}
+use Rattle.jwalk_job.specs.Given.{Given, counted_item}
+use Rattle.seek_words.specs.Sought.{Sought}
+use Rattle.seek_words.specs.declared.paths.Style.{Style}
+use Rattle.seek_found.specs.Found.{found_line, found_lines, is_clean, PrintsClean}
+
+module _ {R E : Type 0} (given : Given R E) where
+  same_line : (sought : Sought) (style : Style) (x : Item R E) → found_line sought style (counted_item given x) ≡ found_line sought style x
+  same_line sought style (Ok e) = refl
+  same_line sought style (Err f) = refl
+
+  same_lines : (sought : Sought) (style : Style) (xs : List (Item R E)) → found_lines sought style (map (counted_item given) xs) ≡ found_lines sought style xs
+  same_lines sought style [] = refl
+  same_lines sought style (x ∷ xs) =
+      ap (λ l. l ++ found_lines sought style (map (counted_item given) xs)) (same_line sought style x)
+      ∙ ap (λ l. found_line sought style x ++ l) (same_lines sought style xs)
+
+  same_clean : (x : Item R E) → is_clean (counted_item given x) ≡ is_clean x
+  same_clean (Err f) = refl
+  same_clean (Ok e) =
+      elim e.read_children as (λ o. is_clean (counted_item given (Ok (record e { read_children = o }))) ≡ is_clean {R = R} {E = E} (Ok (record e { read_children = o }))) [ None ↦ refl | Some c ↦ refl ]
+
+  all_clean : (xs : List (Item R E)) → list_all is_clean (map (counted_item given) xs) ≡ list_all is_clean xs
+  all_clean [] = refl
+  all_clean (x ∷ xs) =
+      ap (λ b. b && list_all is_clean (map (counted_item given) xs)) (same_clean x) ∙ ap (λ b. is_clean x && b) (all_clean xs)
+
+  -- what is printed of answers is printed of the whole walk that they count as
+  pub printed_whole : (sought : Sought) (style : Style) (old new : Option (List ℕ)) (clean : Bool) (xs : List (Item R E)) (whole : List (Item Worth Worth))
+      → clean ≡ true → clean ≡ list_all is_clean xs → Appends old new (found_lines sought style xs) → map (counted_item given) xs ≡ whole
+      → PrintsClean whole sought style old new
+  printed_whole sought style old new clean xs whole is all lines told = record {
+    lines = subst (λ l. Appends old new l) (sym (same_lines sought style xs) ∙ ap (found_lines sought style) told) lines;
+    clean = ap (list_all is_clean) (sym told) ∙ all_clean xs ∙ sym all ∙ is;
+  }
+
+rest_true : (a b : Bool) → (a && b) ≡ true → b ≡ true
+rest_true true b is = is
+rest_true false b is = absurd (cc)
+
+-- clean answers are entries
+pub clean_entries : {C A R E : Type 0} (xs : List (Result (DirEntry C A R E) (Error A))) → list_all is_clean (map item xs) ≡ true → list_all is_ok xs ≡ true
+clean_entries [] clean = refl
+clean_entries (Ok e ∷ xs) clean = clean_entries xs (rest_true (is_clean (item (Ok e))) (list_all is_clean (map item xs)) clean)
+clean_entries (Err f ∷ xs) clean = let no : false ≡ true = clean in absurd (cc)

@@ -1,0 +1,24 @@
+use Rattle.std.proofs.Common.{◌≡◌}
+use Rattle.std.specs.Io.KnownBytes.{append_known}
+use Rattle.std.specs.Iterator.{IsFinite, size}
+use Rattle.seek_words.specs.Filter.{sought_of}
+use Rattle.seek_words.specs.Lines.{style_of, gathered_of}
+use Rattle.seek_found.proofs.FoundFacts.{FoundSoFar}
+use Rattle.seek_found.proofs.found.print_found.Given as goal
+
+abbrev pub invariant-loop-answer : goal.invariant-loop-answer
+invariant-loop-answer g l =
+    record {
+      can : g.I.Iterator.can_next l.answers;
+      ends : IsFinite (g.I.Iterator.remaining l.answers);
+      so_far : FoundSoFar g.I.Iterator.next_gives l.fn.answers
+          (sought_of g.T.NameTest.takes l.fn.printer.filter) (style_of l.fn.printer.lines) l.answers
+          (append_known (g.W.Write.contents l.fn.out) (gathered_of l.fn.printer.lines))
+          (append_known (g.W.Write.contents l.out) (gathered_of l.printer.lines)) l.clean;
+      sought : sought_of g.T.NameTest.takes l.printer.filter ≡ sought_of g.T.NameTest.takes l.fn.printer.filter;
+      style : style_of l.printer.lines ≡ style_of l.fn.printer.lines;
+    }
+
+-- at most how many answers are to come
+abbrev pub decreases-loop-answer : goal.decreases-loop-answer
+decreases-loop-answer g l = size (g.I.Iterator.remaining l.answers)

@@ -1,0 +1,6 @@
+pub mod BadPattern
+pub mod Glob
+pub mod Sought
+pub mod SoughtTest
+pub mod Found
+pub mod Call

@@ -1,0 +1,51 @@
+//! Why a pattern is refused.
+ghost use Rattle.std.specs.Prelude.{◌≡◌};
+
+use regex::Error;
+use std::alloc::AllocError;
+use std::io::Write;
+
+/// Why there is nothing to look for.
+#[derive(Debug, Drop)]
+pub enum BadPattern<'w> {
+    /// This is no regular expression, or is too large a one.
+    Expression(&'w str, Error),
+    /// This is no glob.
+    Glob(&'w str),
+    /// Memory ran out.
+    Memory,
+}
+
+impl<'w> BadPattern<'w> {
+    ghost use Rattle.seek_found.specs.BadPattern.{status_of};
+
+    /// Reports it on standard error, and returns the status that the program ends with.
+    pub fn report<E: Write>(&self, err: &mut E) -> u8
+        ensures { result ≡ status_of self.now }
+    {
+        match self {
+            BadPattern::Expression(pattern, error) => {
+                let _ = writeln!(err, "seek: bad pattern '{pattern}': {error}");
+                2
+            }
+            BadPattern::Glob(pattern) => {
+                let _ = writeln!(err, "seek: bad pattern '{pattern}': no glob");
+                2
+            }
+            BadPattern::Memory => {
+                let _ = writeln!(err, "seek: memory refused");
+                1
+            }
+        }
+    }
+}
+
+impl<'w> From<AllocError> for BadPattern<'w> {
+    ghost use Rattle.seek_found.specs.declared.bad_pattern.BadPattern.TheVariants.{Memory};
+
+    ghost from_gives = { λ _ bad. bad ≡ Memory };
+
+    fn from(_refused: AllocError) -> BadPattern<'w> {
+        BadPattern::Memory
+    }
+}

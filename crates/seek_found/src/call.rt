@@ -1,0 +1,68 @@
+//! How a call of the program begins and ends.
+ghost use Rattle.std.specs.Prelude.{◌≡◌, ◌<◌, ◌≤◌, true, map, string_bytes, Ok, IfOk, IfErr, OnOk};
+ghost use Rattle.seek_words.specs.Refusal.{status_of as status_for};
+ghost use Rattle.seek_found.specs.Call.{AskToSearch, EndsUnsearched};
+
+use crate::sought::Sought;
+use seek_words::asked::Asked;
+use seek_words::halt::Halt;
+use seek_words::refusal::Refusal;
+use seek_words::words::read_words;
+use std::alloc::Global;
+use std::io::Write;
+
+/// Prints what is asked for by words that ask for no search, and returns the status.
+fn refuse<W: Write, E: Write>(refusal: &Refusal<'_>, out: &mut W, err: &mut E) -> u8
+    ensures refused { 0 < status_for refusal.now → result ≡ status_for refusal.now }
+    ensures text { status_for refusal.now ≡ 0 → result ≤ 1 }
+    ensures untouched { result ≡ 2 → W.contents out.new ≡ W.contents out.old }
+{
+    let status = refusal.status();
+    if status > 0 {
+        let _ = write!(err, "{refusal}");
+        return status;
+    }
+    u8::from(write!(out, "{refusal}").is_err() || out.flush().is_err())
+}
+
+/// Returns the status of a search that ended so. What ended it before its end is reported.
+pub fn status_of<E: Write>(ended: Result<bool, Halt>, err: &mut E) -> u8
+    ensures status { result ≤ 1 }
+    ensures clean { result ≡ 0 → ended ≡ Ok true }
+    ensures all { ended ≡ Ok true → result ≡ 0 }
+{
+    match ended {
+        Ok(clean) => u8::from(!clean),
+        Err(halt) => {
+            halt.report(err);
+            1
+        }
+    }
+}
+
+/// Reads the words of a call, of which the first is the program's name, and the pattern among them.
+///
+/// # Errors
+///
+/// If there is nothing to search for. Then the text that is asked for is printed, or it is reported why words are bad, and
+/// the error is the status that the program ends with.
+pub fn read_call<'w, W: Write, E: Write>(
+    alloc: Global,
+    words: &'w [String],
+    out: &mut W,
+    err: &mut E,
+) -> Result<(Asked<'w>, Sought), u8>
+    ensures asked { IfOk result (AskToSearch (map string_bytes words.entry.now)) }
+    ensures ended { IfErr result (EndsUnsearched (map string_bytes words.entry.now)) }
+    ensures untouched { IfErr result (λ status. status ≡ 2 → W.contents out.new ≡ W.contents out.old) }
+    ensures unwritten { OnOk result (W.contents out.new ≡ W.contents out.old) }
+{
+    let asked = match read_words(alloc, words) {
+        Ok(asked) => asked,
+        Err(refusal) => return Err(refuse(&refusal, out, err)),
+    };
+    match Sought::read(alloc, &asked) {
+        Ok(sought) => Ok((asked, sought)),
+        Err(bad) => Err(bad.report(err)),
+    }
+}

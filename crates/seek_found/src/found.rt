@@ -1,0 +1,44 @@
+//! All answers of a walk, filtered and printed.
+ghost use Rattle.std.specs.Prelude.{◌≡◌, IfOk};
+ghost use Rattle.std.specs.Iterator.{IsFinite};
+ghost use Rattle.std.specs.Io.KnownBytes.{append_known};
+ghost use Rattle.seek_words.specs.Filter.{sought_of};
+ghost use Rattle.seek_words.specs.Lines.{style_of, gathered_of};
+ghost use Rattle.seek_found.specs.Found.{PrintsFound};
+
+use crate::printer::Printer;
+use jwalk_job::client_state::ClientState;
+use jwalk_job::dir_entry::DirEntry;
+use jwalk_job::error::Result as Answer;
+use seek_words::halt::Halt;
+use seek_words::name_test::NameTest;
+use std::alloc::Allocator;
+use std::io::Write;
+
+/// Prints what passes of a walk's answers, and reports the errors. Returns whether there was none.
+///
+/// # Errors
+///
+/// If memory runs out, or if the output can't be written.
+pub fn print_found<
+    T: NameTest,
+    W: Write,
+    E: Write,
+    C: ClientState,
+    A: Allocator + Copy,
+    I: Iterator<Item = Answer<DirEntry<C, A>, A>>,
+>(answers: &mut I, printer: &mut Printer<'_, T>, out: &mut W, err: &mut E) -> Result<bool, Halt>
+    requires can { I.can_next answers.old }
+    requires ends { IsFinite (I.remaining answers.old) }
+    ensures printed { IfOk result (PrintsFound I.next_gives answers.old (sought_of T.takes printer.old.filter)
+        (style_of printer.old.lines) (append_known (W.contents out.old) (gathered_of printer.old.lines))
+        (append_known (W.contents out.new) (gathered_of printer.new.lines))) }
+    ensures sought { sought_of T.takes printer.new.filter ≡ sought_of T.takes printer.old.filter }
+    ensures style { style_of printer.new.lines ≡ style_of printer.old.lines }
+{
+    let mut clean = true;
+    while let Some(answer) = answers.next() {
+        clean &= printer.print(answer, out, err)?;
+    }
+    Ok(clean)
+}

@@ -1,0 +1,85 @@
+//! Errors, reported on standard error.
+ghost use Rattle.std.specs.Prelude.{◌≡◌, Ok};
+ghost use Rattle.jwalk_job.specs.Entry.{entry};
+ghost use Rattle.seek_found.specs.Found.{is_clean, is_flat_root};
+
+use jwalk_fs::path_text::join_parts;
+use jwalk_job::client_state::ClientState;
+use jwalk_job::dir_entry::DirEntry;
+use jwalk_job::error::Error;
+use std::alloc::Allocator;
+use std::io::Write;
+
+/// The path of an item, in parts: that of its folder, what is put between, and its name. All are empty if it isn't known.
+type Place<'p> = (&'p str, &'static str, &'p str);
+
+/// Returns the path that an error came with, or else that of the directory that it came in.
+fn path_of<A: Allocator + Copy>(error: &Error<A>) -> Option<&str> {
+    match error.path() {
+        Some(path) => Some(path),
+        None => error.parent_path(),
+    }
+}
+
+/// Returns the path of an entry.
+fn place_of<C: ClientState, A: Allocator + Copy>(found: &DirEntry<C, A>) -> Place<'_> {
+    join_parts(found.parent_path(), found.file_name())
+}
+
+/// Reports an error on its own line, with its path, or else with this one. If that can't be written, it isn't.
+fn report_at<A: Allocator + Copy, E: Write>(error: &Error<A>, own: Place<'_>, err: &mut E) {
+    let (folder, slash, name) = match path_of(error) {
+        Some(path) => (path, "", ""),
+        None => own,
+    };
+    let is_known = !folder.is_empty() || !name.is_empty();
+    let _ = match (error.io_error(), error.loop_ancestor()) {
+        (Some(io), _) if is_known => writeln!(err, "seek: {folder}{slash}{name}: {io}"),
+        (_, Some(above)) => writeln!(err, "seek: {folder}: a link that leads back to {above}"),
+        _ if is_known => writeln!(err, "seek: {folder}{slash}{name}: {error}"),
+        _ => writeln!(err, "seek: {error}"),
+    };
+}
+
+/// Reports an error of a walk on its own line, with its path, or else with that of the directory that it came in. If
+/// that can't be written, it isn't.
+pub fn report_error<A: Allocator + Copy, E: Write>(error: &Error<A>, err: &mut E) {
+    report_at(error, ("", "", ""), err);
+}
+
+/// Returns whether an entry is a root that is no directory, and no link to one.
+fn is_flat_root<C: ClientState, A: Allocator + Copy>(found: &DirEntry<C, A>) -> bool
+    ensures { result ≡ is_flat_root (entry found.now) }
+{
+    found.depth() == 0 && found.read_children.is_none()
+}
+
+/// Reports that an entry is a root that is no directory, or the error of its directory's reading. Returns whether there
+/// is nothing to report.
+pub fn report_entry<C: ClientState, A: Allocator + Copy, E: Write>(
+    found: &DirEntry<C, A>,
+    err: &mut E,
+) -> bool
+    ensures { result ≡ is_clean (Ok (entry found.now)) }
+{
+    if is_flat_root(found) {
+        let (folder, slash, name) = place_of(found);
+        let _ = writeln!(err, "seek: {folder}{slash}{name}: Not a directory");
+        return false;
+    }
+    match found.read_children_error() {
+        Some(error) => {
+            report_at(error, place_of(found), err);
+            false
+        }
+        None => true,
+    }
+}
+
+/// Reports that a pattern finds hidden names alone, and that these don't come.
+pub fn report_hidden<E: Write>(pattern: &str, err: &mut E) {
+    let _ = writeln!(
+        err,
+        "seek: the pattern '{pattern}' finds hidden names alone: add -H to have these"
+    );
+}
