@@ -86,11 +86,15 @@ module _ {C A I R E : Type 0} where
   abbrev pub is_stopped : Subtotals C A I R E → Bool
   is_stopped s = s.stopped
 
-  -- Nothing was taken from the walk yet.
-  pub record IsFresh (s : Subtotals C A I R E) : Type 0 where
-    pub held : held s ≡ record { frames = []; files = []; waiting = [] }
+  -- Nothing was taken from the walk yet, and these files were counted before.
+  pub record IsFreshBeside (files : List Identity) (s : Subtotals C A I R E) : Type 0 where
+    pub held : held s ≡ record { frames = []; files = files; waiting = [] }
     pub goes_on : is_over s ≡ false
     pub runs : is_stopped s ≡ false
+
+  -- the same where no file was counted
+  abbrev pub IsFresh : Subtotals C A I R E → Type 0
+  IsFresh s = IsFreshBeside [] s
 
   -- the same of an iterator over subtotals
   abbrev pub CanGoOn : (I → Type 0) → (I → Count) → Subtotals C A I R E → Type 0

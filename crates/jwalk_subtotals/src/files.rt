@@ -4,24 +4,37 @@ ghost use Rattle.jwalk_subtotals.specs.Counted.{is_repeated};
 ghost use Rattle.jwalk_subtotals.specs.Files.{files_of, AreWith};
 
 use jwalk::file_system::Identity;
-use std::alloc::{AllocError, Allocator};
+use std::alloc::{AllocError, Allocator, Global};
 use std::collections::HashSet;
 use std::hash::{BuildHasherDefault, FoldHasher};
+use std::mem;
 
-/// The files that were counted, of those that other names may lead to.
+/// The files that were counted, of those that other names may lead to. Subtotals of one walk after another count each
+/// once, if one hands them on to the next: see [`subtotals_beside`](crate::subtotals_beside).
 #[derive(Drop)]
-pub(crate) struct Files<A: Allocator + Copy> {
+pub struct Files<A: Allocator + Copy = Global> {
     known: HashSet<Identity, BuildHasherDefault<FoldHasher>, A>,
+    alloc: A,
 }
 
 impl<A: Allocator + Copy> Files<A> {
     /// Returns no files.
-    pub(crate) fn new(alloc: A) -> Self
+    pub fn new(alloc: A) -> Self
         ensures { files_of result ≡ [] }
     {
         Files {
             known: HashSet::new(alloc),
+            alloc,
         }
+    }
+
+    /// Returns these files, and leaves none.
+    pub(crate) fn take(&mut self) -> Self
+        ensures taken { result ≡ self.old }
+        ensures none { files_of self.new ≡ [] }
+    {
+        let none = Files::new(self.alloc);
+        mem::replace(self, none)
     }
 
     /// Adds a file, if it is known, and returns whether it was there before. If memory runs out, nothing is changed.

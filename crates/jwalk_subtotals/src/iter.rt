@@ -82,12 +82,13 @@ impl<C: ClientState, A: Allocator + Copy, I: Iterator<Item = Answer<DirEntry<C, 
     ghost use Rattle.std.specs.Iterator.{IsFinite};
     ghost use Rattle.jwalk_subtotals.specs.declared.iter.Turn.TheVariants.{Yields, GoesOn};
     ghost use Rattle.jwalk_subtotals.specs.declared.iter.Ahead.TheVariants.{Unasked, Taken, Over};
-    ghost use Rattle.jwalk_subtotals.specs.Coming.{answers_of, options_of, held, is_stopped, IsFresh};
+    ghost use Rattle.jwalk_subtotals.specs.Coming.{answers_of, options_of, held, is_stopped, IsFreshBeside};
+    ghost use Rattle.jwalk_subtotals.specs.Files.{files_of};
     ghost use Rattle.jwalk_subtotals.specs.Turns.{Closes, Opens, Turns};
 
-    /// Returns the subtotals of these answers.
-    pub(crate) fn new(alloc: A, answers: I, options: SubtotalOptions) -> Self
-        ensures fresh { IsFresh result }
+    /// Returns the subtotals of these answers, beside files that were counted before.
+    pub(crate) fn new(alloc: A, files: Files<A>, answers: I, options: SubtotalOptions) -> Self
+        ensures fresh { IsFreshBeside (files_of files) result }
         ensures answers { answers_of result ≡ answers }
         ensures options { options_of result ≡ options }
     {
@@ -95,10 +96,20 @@ impl<C: ClientState, A: Allocator + Copy, I: Iterator<Item = Answer<DirEntry<C, 
             answers,
             options,
             stack: Stack::new(alloc),
-            files: Files::new(alloc),
+            files,
             ahead: Ahead::Unasked,
             stopped: false,
         }
+    }
+
+    /// Returns the files that were counted so far, for the subtotals of another walk
+    /// ([`subtotals_beside`](crate::subtotals_beside)), and leaves none: what comes later counts as if none were counted.
+    pub fn take_files(&mut self) -> Files<A>
+        ensures taken { files_of result ≡ (held self.old).files }
+        ensures rest { self.new ≡ record self.old { files = self.new.files } }
+        ensures none { (held self.new).files ≡ [] }
+    {
+        self.files.take()
     }
 
     /// Yields an error behind which nothing comes.

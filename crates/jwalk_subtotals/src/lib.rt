@@ -13,11 +13,12 @@
 
 ghost use Rattle.std.specs.Prelude.{◌≡◌};
 ghost use Rattle.std.specs.Iterator.{IsFinite};
-ghost use Rattle.jwalk_subtotals.specs.Coming.{answers_of, options_of, CanGoOn, IsFresh};
+ghost use Rattle.jwalk_subtotals.specs.Coming.{answers_of, options_of, CanGoOn, IsFresh, IsFreshBeside};
+ghost use Rattle.jwalk_subtotals.specs.Files.{files_of};
 
 mod counting;
 pub mod error;
-mod files;
+pub mod files;
 pub mod iter;
 pub mod laws;
 pub mod options;
@@ -25,6 +26,7 @@ pub mod stack;
 pub mod subtotal;
 
 pub use error::SubtotalError;
+pub use files::Files;
 use iter::Subtotals;
 use jwalk::error::Result as Answer;
 use jwalk::{ClientState, DirEntry};
@@ -68,5 +70,22 @@ pub fn subtotals<
     ensures options { options_of result ≡ options }
     ensures can { CanGoOn I.can_next I.remaining result }
 {
-    Subtotals::new(alloc, answers, options)
+    Subtotals::new(alloc, Files::new(alloc), answers, options)
+}
+
+/// Returns the subtotals of a walk's answers, beside walks that were counted before: a file that is among these, and may
+/// have several names, counts no size again. [`take_files`](Subtotals::take_files) returns the files for the next walk.
+pub fn subtotals_beside<
+    C: ClientState,
+    A: Allocator + Copy,
+    I: Iterator<Item = Answer<DirEntry<C, A>, A>> + Drop,
+>(alloc: A, files: Files<A>, answers: I, options: SubtotalOptions) -> Subtotals<C, A, I>
+    requires can { I.can_next answers }
+    requires ends { IsFinite (I.remaining answers) }
+    ensures fresh { IsFreshBeside (files_of files) result }
+    ensures answers { answers_of result ≡ answers }
+    ensures options { options_of result ≡ options }
+    ensures can { CanGoOn I.can_next I.remaining result }
+{
+    Subtotals::new(alloc, files, answers, options)
 }

@@ -49,6 +49,4 @@ pub record Asks (rows : List Row) (asked : Asked) : Type 0 where
   pub follow : asked.follow ≡ is_named rows (codes "follow")
   pub sort : asked.sort ≡ is_named rows (codes "sort")
   pub threads : IsNumberOf (one_of (codes "threads") rows) asked.threads
-  pub excludes : texts_of asked.excludes.items ≡ values_in rows (codes "exclude")
-  pub ignore : asked.ignore ≡ is_named rows (codes "ignore")
   pub exclude_hidden : asked.exclude_hidden ≡ is_named rows (codes "exclude-hidden")

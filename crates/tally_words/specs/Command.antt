@@ -32,10 +32,6 @@ number_rule id letter = record (valued_rule id letter) { parser = Some (Unsigned
 abbrev pub threads_rule : Rule
 threads_rule = record (valued_rule (codes "threads") 106) { parser = Some (Unsigned 1 18446744073709551615) }
 
--- what doesn't count, of which each word of it has one line
-abbrev pub exclude_rule : Rule
-exclude_rule = record (valued_rule (codes "exclude") 69) { action = Some Append }
-
 -- the words that are no options
 abbrev pub root_rule : Rule
 root_rule = record (new_rule (codes "root")) { value_names = 1; action = Some Append; range = Some (record { start_inclusive = 0; end_inclusive = usize_max }) }
@@ -53,7 +49,7 @@ form_rules =
 -- what counts
 abbrev pub counted_rules : List Rule
 counted_rules =
-    flag_rule (codes "apparent") ∷ short_rule (codes "count-links") 108 ∷ exclude_rule ∷ flag_rule (codes "ignore") ∷ flag_rule (codes "exclude-hidden") ∷ []
+    flag_rule (codes "apparent") ∷ short_rule (codes "count-links") 108 ∷ flag_rule (codes "exclude-hidden") ∷ []
 
 -- how directories are read
 abbrev pub walked_rules : List Rule

@@ -29,10 +29,6 @@ pub struct Asked<'w> {
     pub sort: bool,
     /// How many threads read directories, if that was named.
     pub threads: Option<usize>,
-    /// Lines of an ignore file, for what doesn't count.
-    pub excludes: Vec<&'w str, Global>,
-    /// What ignore files name doesn't count.
-    pub ignore: bool,
     /// Hidden names don't count.
     pub exclude_hidden: bool,
 }

@@ -1,7 +1,7 @@
 //! The command line.
 ghost use Rattle.std.specs.Prelude.{◌≡◌, ◌∷◌, [], false, IfOk};
 ghost use Rattle.clap.specs.Words.{app_of, rule_of};
-ghost use Rattle.tally_words.specs.Command.{flag_rule, short_rule, valued_rule, number_rule, threads_rule, exclude_rule, root_rule, named_app, with_rules, shown_rules, form_rules, counted_rules, walked_rules, tally_app, HaveRules};
+ghost use Rattle.tally_words.specs.Command.{flag_rule, short_rule, valued_rule, number_rule, threads_rule, root_rule, named_app, with_rules, shown_rules, form_rules, counted_rules, walked_rules, tally_app, HaveRules};
 
 use clap::{Arg, ArgAction, Command};
 use std::alloc::{AllocError, Global};
@@ -103,13 +103,6 @@ fn form_options<'a>(alloc: Global) -> Result<Vec<Arg<'a>>, AllocError>
 fn counted_options<'a>(alloc: Global) -> Result<Vec<Arg<'a>>, AllocError>
     ensures { IfOk result (λ options. HaveRules options.items counted_rules) }
 {
-    let exclude = valued(
-        alloc,
-        "exclude",
-        'E',
-        "LINE",
-        "Leave out what this line of an ignore file names",
-    );
     Ok(vec![in alloc;
         flag(
             alloc,
@@ -117,8 +110,6 @@ fn counted_options<'a>(alloc: Global) -> Result<Vec<Arg<'a>>, AllocError>
             "Count lengths, and not what is allocated"
         ),
         short(alloc, "count-links", 'l', "Count each name of a file"),
-        exclude.action(ArgAction::Append),
-        flag(alloc, "ignore", "Leave out what ignore files name"),
         flag(
             alloc,
             "exclude-hidden",

@@ -90,7 +90,6 @@ fn asked_of<'w>(alloc: Global, found: &ArgMatches<'w>) -> Result<Asked<'w>, Allo
     ensures { IfOk result (Asks (rows_of (found_of found.now))) }
 {
     let roots = values_of(alloc, found, "root")?;
-    let excludes = values_of(alloc, found, "exclude")?;
     Ok(Asked {
         roots,
         form: form_of(found),
@@ -104,8 +103,6 @@ fn asked_of<'w>(alloc: Global, found: &ArgMatches<'w>) -> Result<Asked<'w>, Allo
         follow: is_named(found, "follow"),
         sort: is_named(found, "sort"),
         threads: number_of(found, "threads"),
-        excludes,
-        ignore: is_named(found, "ignore"),
         exclude_hidden: is_named(found, "exclude-hidden"),
     })
 }

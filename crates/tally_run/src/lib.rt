@@ -1,0 +1,12 @@
+//! What the program `tally` does with its words and a disk: it counts what is below each root, and writes the results.
+#![tactic(auto)]
+
+mod counting;
+mod failure;
+mod report;
+mod results;
+mod roots;
+pub mod run;
+pub mod screen;
+mod shown;
+mod walks;

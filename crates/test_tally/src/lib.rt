@@ -1,0 +1,13 @@
+//! Runs of the program `tally`.
+#![tactic(auto)]
+
+#[cfg(test)]
+mod files;
+#[cfg(test)]
+mod forms;
+#[cfg(test)]
+mod lines;
+#[cfg(test)]
+mod numbered;
+#[cfg(test)]
+mod runs;

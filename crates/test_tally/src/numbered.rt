@@ -1,0 +1,93 @@
+//! A tree on a disk that knows which file is which, and how much of it a file takes.
+ghost use Rattle.jwalk.specs.jwalk_model.Tree.{functions_of, only_root};
+
+use jwalk::file_system::{
+    Details, Fault, FileSystem, Identity, Listed, MemoryFs, Metadata, Moment, Seen,
+};
+use jwalk::path_text::join;
+use std::alloc::Allocator;
+use std::io;
+
+/// What the disk knows of a path: the path, its device and inode, how many names the file has, and its blocks.
+pub(crate) type Known = (&'static str, u64, u64, u64, u64);
+
+/// A tree, with what is known of some of its paths.
+#[derive(Drop)]
+pub(crate) struct Numbered {
+    pub(crate) tree: MemoryFs,
+    pub(crate) known: &'static [Known],
+}
+
+/// Returns metadata with what is known of a path.
+fn with_known(metadata: Metadata, (_, device, inode, links, blocks): &Known) -> Metadata {
+    const NEVER: Moment = Moment {
+        seconds: 0,
+        nanoseconds: 0,
+    };
+    metadata.with_details(Details {
+        identity: Identity {
+            device: *device,
+            inode: *inode,
+        },
+        links: *links,
+        blocks: *blocks,
+        modified: NEVER,
+        accessed: NEVER,
+        changed: NEVER,
+        created: None,
+        mode: 0,
+        uid: 0,
+        gid: 0,
+    })
+}
+
+impl Numbered {
+    /// Returns metadata of a path with what is known of it.
+    fn told(&self, path: &str, metadata: Metadata) -> Metadata {
+        for known in self.known {
+            if known.0 == path {
+                return with_known(metadata, known);
+            }
+        }
+        metadata
+    }
+}
+
+impl FileSystem for Numbered {
+    ghost IsFixed = { λ _. ⊥ };
+
+    ghost functions = { λ _. functions_of only_root };
+
+    fn read_dir<A: Allocator + Copy>(
+        &self,
+        alloc: A,
+        path: &str,
+    ) -> Result<Vec<io::Result<Listed<A>>, A>, Fault> {
+        let mut items = Vec::new(alloc);
+        for item in self.tree.read_dir(alloc, path)? {
+            let Listed { name, .. } = match item {
+                Ok(listed) => listed,
+                Err(error) => return Err(Fault::Io(error)),
+            };
+            let own = join(alloc, path, name.as_str())?;
+            let seen = self.symlink_metadata(own.as_str())?;
+            items.push(Ok(Listed {
+                name,
+                seen: Ok(Seen::Whole(seen)),
+            }))?;
+        }
+        Ok(items)
+    }
+
+    fn metadata(&self, path: &str) -> Result<Metadata, Fault> {
+        Ok(self.told(path, self.tree.metadata(path)?))
+    }
+
+    fn symlink_metadata(&self, path: &str) -> Result<Metadata, Fault> {
+        Ok(self.told(path, self.tree.symlink_metadata(path)?))
+    }
+
+    fn read_link<A: Allocator + Copy>(&self, alloc: A, path: &str) -> Result<String<A>, Fault> {
+        self.tree.read_link(alloc, path)
+    }
+}

@@ -1,0 +1,63 @@
+//! The outcome of a run.
+use jwalk::file_system::FileSystem;
+use std::alloc::Global;
+use std::process::Abort;
+use tally_run::run::run;
+use tally_run::screen::Screen;
+use test_fixtures::host::Host;
+use test_fixtures::texts::texts;
+use walk_text::tree::build_tree;
+
+/// A tree of three directories, one file hidden.
+pub(crate) const TREE_A: &str =
+    "d /t\nf 1 /t/c.txt\nf 2 /t/a.txt\nd /t/group 2\nf 3 /t/group 2/.hidden_file.txt\nf 4 /t/group 2/e.txt\nd /t/group 1\nf 5 /t/group 1/d.txt\nf 6 /t/b.txt\n";
+
+/// What is written on standard output and on standard error, and the status.
+pub(crate) type Want<'a> = (&'a str, &'a str, u8);
+
+/// The words of a call behind the program's name, the lines of a tree, and the outcome.
+pub(crate) type Row<'a> = (&'a [&'a str], &'a str, Want<'a>);
+
+/// No terminal, and lines of 80 characters.
+const FILE: Screen = Screen {
+    is_terminal: false,
+    width: 80,
+};
+
+/// Returns whether a call over a disk, by this many threads, has this outcome.
+pub(crate) fn comes<S: FileSystem + Send + Sync + 'static>(
+    rt: &impl Host,
+    disk: S,
+    threads: &str,
+    words: &[&str],
+    want: &Want<'_>,
+) -> bool {
+    let alloc: Global = rt.alloc();
+    let Ok(words) = texts(alloc, &["tally", threads], words) else {
+        return false;
+    };
+    let (mut out, mut err) = (Vec::new(alloc), Vec::new(alloc));
+    let status = run(rt, alloc, disk, words.as_slice(), FILE, &mut out, &mut err);
+    out.as_slice() == want.0.as_bytes() && err.as_slice() == want.1.as_bytes() && status == want.2
+}
+
+/// Returns the number of the first row whose outcome is another, by one thread or by three.
+fn first_wrong(rt: &impl Host, rows: &[Row<'_>]) -> Option<usize> {
+    for (number, (words, lines, want)) in rows.iter().enumerate() {
+        for threads in &["-j1", "-j3"] {
+            let is_so = match build_tree(rt.alloc(), lines.as_bytes()) {
+                Ok(disk) => comes(rt, disk, threads, words, want),
+                Err(_) => false,
+            };
+            if !is_so {
+                return Some(number);
+            }
+        }
+    }
+    None
+}
+
+/// Each row has its outcome, by one thread and by three.
+pub(crate) fn all_come(rt: &(impl Abort + Host), rows: &[Row<'_>]) {
+    assert_eq!(rt; first_wrong(rt, rows), None);
+}
