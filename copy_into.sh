@@ -1,5 +1,6 @@
 #!/usr/bin/env bash
-# Copies the library into another repository: jwalk, jwalk_usage and jwalk_ignore, and each crate that they use.
+# Copies the library into another repository: jwalk, jwalk_usage, jwalk_subtotals and jwalk_ignore, and each crate that
+# they use.
 #
 #     ./copy_into.sh DIR            a first copy
 #     ./copy_into.sh --update DIR   replaces an earlier copy by this one
@@ -31,7 +32,7 @@ list=crates/jwalk/copied.sha256
 # The crates that a crate uses, by its line of crates.txt; those of the toolchain have none.
 uses() { sed -n "s/^$1://p" crates.txt; }
 
-wanted=(jwalk jwalk_usage jwalk_ignore)
+wanted=(jwalk jwalk_usage jwalk_subtotals jwalk_ignore)
 for ((at = 0; at < ${#wanted[@]}; at++)); do
     for name in $(uses "${wanted[at]}"); do
         if grep -q "^$name:" crates.txt && [[ " ${wanted[*]} " != *" $name "* ]]; then

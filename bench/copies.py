@@ -11,7 +11,7 @@ import sys
 import tempfile
 
 TOP = os.path.dirname(os.path.dirname(os.path.abspath(__file__)))
-LINES = "below:\nabove: jwalk\njwalk: below\njwalk_usage: jwalk\njwalk_ignore: jwalk\n"
+LINES = "below:\nabove: jwalk\njwalk: below\njwalk_usage: jwalk\njwalk_subtotals: jwalk_usage\njwalk_ignore: jwalk\n"
 LIST = "crates/jwalk/copied.sha256"
 
 
@@ -30,7 +30,7 @@ def make_library(folder):
     """A library of four crates, and a crate that isn't part of it."""
     shutil.copy(f"{TOP}/copy_into.sh", folder)
     write(f"{folder}/crates.txt", LINES)
-    for name in ["below", "jwalk", "jwalk_usage", "jwalk_ignore", "above"]:
+    for name in ["below", "jwalk", "jwalk_usage", "jwalk_subtotals", "jwalk_ignore", "above"]:
         write(f"{folder}/crates/{name}/src/lib.rt", f"//! {name}\n")
     write(f"{folder}/crates/jwalk/must-fail/a.edit", "wrong\n")
     write(f"{folder}/crates/jwalk/specs/Old.antt", "old\n")

@@ -10,7 +10,8 @@ _seek() {
     --exact-depth) compopt +o default; return ;;
     -t | --type) compopt +o default; COMPREPLY=($(compgen -W "f file d dir directory l symlink o other" -- "$word")); return ;;
     -e | --extension) compopt +o default; return ;;
+    -S | --size) compopt +o default; return ;;
     esac
-    if [[ $word == -* ]]; then COMPREPLY=($(compgen -W "-g --glob -p --full-path -i --ignore-case -s --case-sensitive -H --hidden -I --no-ignore -E --exclude -L --follow --sort -j --threads --min-depth -d --max-depth --exact-depth -t --type -e --extension -0 --print0 -h --help -V --version" -- "$word")); fi
+    if [[ $word == -* ]]; then COMPREPLY=($(compgen -W "-g --glob -p --full-path -i --ignore-case -s --case-sensitive -H --hidden -I --no-ignore -u --unrestricted -E --exclude -L --follow --sort -j --threads --min-depth -d --max-depth --exact-depth -t --type -e --extension -S --size -0 --print0 -h --help -V --version" -- "$word")); fi
 }
 complete -o default -F _seek seek
