@@ -78,7 +78,7 @@ impl<C: ClientState, A: Allocator + Copy, I: Iterator<Item = Answer<DirEntry<C, 
     A,
     I,
 > {
-    ghost use Rattle.std.specs.Prelude.{true, false, Ok, Err, OnOk};
+    ghost use Rattle.std.specs.Prelude.{[], true, false, Ok, Err, OnOk};
     ghost use Rattle.std.specs.Iterator.{IsFinite};
     ghost use Rattle.jwalk_subtotals.specs.declared.iter.Turn.TheVariants.{Yields, GoesOn};
     ghost use Rattle.jwalk_subtotals.specs.declared.iter.Ahead.TheVariants.{Unasked, Taken, Over};
