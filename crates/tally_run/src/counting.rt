@@ -1,11 +1,11 @@
-//! Roots, counted one after another.
+//! The subtotals of a walk, taken one after another.
+ghost use Rattle.std.specs.Iterator.{IsFinite};
+
 use crate::failure::Failure;
 use crate::report::{report_entry, report_error};
 use crate::results::Results;
 use crate::shown::Shown;
-use jwalk::error::Result as Answer;
-use jwalk::{ClientState, DirEntry};
-use jwalk_subtotals::iter::Subtotals;
+use jwalk::ClientState;
 use jwalk_subtotals::{SubtotalError, WithSubtotal};
 use std::alloc::{Allocator, Global};
 use std::io::Write;
@@ -39,17 +39,20 @@ fn take_one<C: ClientState, A: Allocator + Copy, W: Write, E: Write>(
 pub(crate) fn take_all<
     C: ClientState,
     A: Allocator + Copy,
-    I: Iterator<Item = Answer<DirEntry<C, A>, A>>,
+    I: Iterator<Item = Result<WithSubtotal<C, A>, SubtotalError<A>>>,
     W: Write,
     E: Write,
 >(
     alloc: Global,
-    subtotals: &mut Subtotals<C, A, I>,
+    subtotals: &mut I,
     shown: Shown,
     results: &mut Results,
     out: &mut W,
     err: &mut E,
-) -> Result<bool, Failure> {
+) -> Result<bool, Failure>
+    requires can { I.can_next subtotals.old }
+    requires ends { IsFinite (I.remaining subtotals.old) }
+{
     let mut clean = true;
     while let Some(yielded) = subtotals.next() {
         clean &= take_one(alloc, yielded, shown, results, out, err)?;
