@@ -1,6 +1,7 @@
 //! A call of the program.
-ghost use Rattle.std.specs.Prelude.{◌≡◌, ◌<◌, ◌≤◌};
+ghost use Rattle.std.specs.Prelude.{◌≡◌, ◌<◌, ◌≤◌, map, string_bytes};
 ghost use Rattle.tally_words.specs.Refusal.{status_of as status_for};
+ghost use Rattle.tally_run.specs.Run.{Ends};
 
 use crate::counting::take_all;
 use crate::failure::Failure;
@@ -239,6 +240,7 @@ pub fn run<T: Host, S: FileSystem + Send + Sync + 'static, W: Write, E: Write>(
     err: &mut E,
 ) -> u8
     ensures status { result ≤ 2 }
+    ensures ends { Ends (map string_bytes words.now) result }
     ensures untouched { result ≡ 2 → W.contents out.new ≡ W.contents out.old }
 {
     match read_words(alloc, words) {
