@@ -50,3 +50,5 @@ pub record Asks (rows : List Row) (asked : Asked) : Type 0 where
   pub sort : asked.sort ≡ is_named rows (codes "sort")
   pub threads : IsNumberOf (one_of (codes "threads") rows) asked.threads
   pub exclude_hidden : asked.exclude_hidden ≡ is_named rows (codes "exclude-hidden")
+  pub excludes : texts_of asked.excludes.items ≡ values_in rows (codes "exclude")
+  pub ignore : asked.ignore ≡ is_named rows (codes "ignore")

@@ -24,6 +24,10 @@ short_rule id letter = record (flag_rule id) { short = Some letter }
 abbrev pub valued_rule : Text → ℕ → Rule
 valued_rule id letter = record (new_rule id) { long = Some id; short = Some letter; action = Some Set; value_names = 1 }
 
+-- one that may be repeated
+abbrev pub listed_rule : Text → ℕ → Rule
+listed_rule id letter = record (valued_rule id letter) { action = Some Append }
+
 -- an option with a number
 abbrev pub number_rule : Text → ℕ → Rule
 number_rule id letter = record (valued_rule id letter) { parser = Some (Unsigned 0 18446744073709551615) }
@@ -49,7 +53,7 @@ form_rules =
 -- what counts
 abbrev pub counted_rules : List Rule
 counted_rules =
-    flag_rule (codes "apparent") ∷ short_rule (codes "count-links") 108 ∷ flag_rule (codes "exclude-hidden") ∷ []
+    flag_rule (codes "apparent") ∷ short_rule (codes "count-links") 108 ∷ flag_rule (codes "exclude-hidden") ∷ listed_rule (codes "exclude") 69 ∷ flag_rule (codes "ignore") ∷ []
 
 -- how directories are read
 abbrev pub walked_rules : List Rule

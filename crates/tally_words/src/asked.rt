@@ -31,4 +31,8 @@ pub struct Asked<'w> {
     pub threads: Option<usize>,
     /// Hidden names don't count.
     pub exclude_hidden: bool,
+    /// Lines of an ignore file. What they leave out doesn't count.
+    pub excludes: Vec<&'w str, Global>,
+    /// What ignore files leave out doesn't count.
+    pub ignore: bool,
 }

@@ -1,7 +1,7 @@
 //! The command line.
 ghost use Rattle.std.specs.Prelude.{◌≡◌, ◌∷◌, [], false, IfOk};
 ghost use Rattle.clap.specs.Words.{app_of, rule_of};
-ghost use Rattle.tally_words.specs.Command.{flag_rule, short_rule, valued_rule, number_rule, threads_rule, root_rule, named_app, with_rules, shown_rules, form_rules, counted_rules, walked_rules, tally_app, HaveRules};
+ghost use Rattle.tally_words.specs.Command.{flag_rule, short_rule, valued_rule, listed_rule, number_rule, threads_rule, root_rule, named_app, with_rules, shown_rules, form_rules, counted_rules, walked_rules, tally_app, HaveRules};
 
 use clap::{Arg, ArgAction, Command};
 use std::alloc::{AllocError, Global};
@@ -44,6 +44,14 @@ fn number<'a>(alloc: Global, id: &'a str, letter: char, help: &'a str) -> Arg<'a
     ensures local { result.global ≡ false }
 {
     valued(alloc, id, letter, "N", help).value_parser(clap::value_parser!(usize))
+}
+
+/// Returns an option with a value, which may be repeated.
+fn listed<'a>(alloc: Global, id: &'a str, letter: char, value: &'a str, help: &'a str) -> Arg<'a>
+    ensures rule { rule_of result ≡ listed_rule id.entry.now letter }
+    ensures local { result.global ≡ false }
+{
+    valued(alloc, id, letter, value, help).action(ArgAction::Append)
 }
 
 /// Returns the options that say which results are written.
@@ -115,6 +123,14 @@ fn counted_options<'a>(alloc: Global) -> Result<Vec<Arg<'a>>, AllocError>
             "exclude-hidden",
             "Leave out names that start with a dot"
         ),
+        listed(
+            alloc,
+            "exclude",
+            'E',
+            "LINE",
+            "Leave out what this line of an ignore file names"
+        ),
+        flag(alloc, "ignore", "Leave out what ignore files name"),
     ]?)
 }
 

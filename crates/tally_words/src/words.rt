@@ -90,6 +90,7 @@ fn asked_of<'w>(alloc: Global, found: &ArgMatches<'w>) -> Result<Asked<'w>, Allo
     ensures { IfOk result (Asks (rows_of (found_of found.now))) }
 {
     let roots = values_of(alloc, found, "root")?;
+    let excludes = values_of(alloc, found, "exclude")?;
     Ok(Asked {
         roots,
         form: form_of(found),
@@ -104,6 +105,8 @@ fn asked_of<'w>(alloc: Global, found: &ArgMatches<'w>) -> Result<Asked<'w>, Allo
         sort: is_named(found, "sort"),
         threads: number_of(found, "threads"),
         exclude_hidden: is_named(found, "exclude-hidden"),
+        excludes,
+        ignore: is_named(found, "ignore"),
     })
 }
 
