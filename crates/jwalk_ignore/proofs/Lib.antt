@@ -2,5 +2,6 @@ pub mod ListFacts
 pub mod MadeFacts
 pub mod IgnoreFacts
 pub mod ReaderFacts
+pub mod ExcludingFacts
 -- what callers cite of what rules say
 pub use Rattle.jwalk_ignore_rules.proofs.MatchingFacts as MatchingFacts

@@ -5,3 +5,4 @@ pub mod IgnoreViews
 pub mod MadeDepths
 pub mod Places
 pub mod Sources
+pub mod Excluding

@@ -1,6 +1,8 @@
-//! The callback that honours ignore files: which of them it reads, and what they leave of a list.
+//! The callback that honours ignore files: which of them it reads, and what they leave of a list; and one that leaves out
+//! what lines of a call name.
 
 pub mod builder;
+pub mod excluding;
 pub mod ignore_files;
 mod listed;
 mod places;

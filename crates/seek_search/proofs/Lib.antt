@@ -1,3 +1,2 @@
-pub mod ExcludingFacts
 pub mod SearchFacts
 pub mod RunFacts

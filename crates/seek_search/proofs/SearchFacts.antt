@@ -10,7 +10,7 @@ use Rattle.jwalk_ignore.specs.Callback.IgnoreViews.{ignoring, Ignores}
 use Rattle.jwalk_ignore.specs.Rules.Texts.{Texts}
 use Rattle.jwalk_ignore.specs.declared.callback.settings.Settings.{Settings}
 use Rattle.seek_search.specs.Options.{with_crew}
-use Rattle.seek_search.specs.Excluding.{Excluded, Excludes, excluding, excluding-KeepsDepthsOf}
+use Rattle.jwalk_ignore.specs.Callback.Excluding.{Excluded, Excludes, excluding, excluding-KeepsDepthsOf}
 use Rattle.seek_search.specs.Search.{given_kept, ignoring_walk, job_with}
 
 -- the callback of ignore files with lines behind it makes of lists what is given

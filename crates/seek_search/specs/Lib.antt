@@ -1,4 +1,3 @@
-pub mod Excluding
 pub mod Search
 pub mod Run
 pub mod Options

@@ -20,7 +20,7 @@ use Rattle.seek_search.specs.Options.{options_for}
 use Rattle.seek_search.specs.declared.options.WalkOptions.{WalkOptions}
 use Rattle.seek_words.specs.Asks.{texts_of}
 use Rattle.seek_words.specs.declared.asked.Asked.{Asked}
-use Rattle.seek_search.specs.Excluding.{Excluded, excluded_by, excluding, excluding-KeepsDepthsOf}
+use Rattle.jwalk_ignore.specs.Callback.Excluding.{Excluded, excluded_by, excluding, excluding-KeepsDepthsOf}
 
 -- what is asked of walks
 abbrev pub walk_options : Asked → WalkOptions

@@ -1,12 +1,12 @@
 //! The callback of a search that honours ignore files.
 ghost use Rattle.std.specs.Arc.{arc_value};
 ghost use Rattle.jwalk_ignore.specs.Callback.IgnoreViews.{next_of, settings_of, texts_of, Ignores};
-ghost use Rattle.seek_search.specs.Excluding.{excluded_of, Excludes};
+ghost use Rattle.jwalk_ignore.specs.Callback.Excluding.{excluded_of, Excludes};
 
-use crate::excluding::Excluding;
 use jwalk::read_dir::ProcessReadDir;
 use jwalk::{DirEntry, Error};
 use jwalk_ignore::chain::Chain;
+use jwalk_ignore::excluding::Excluding;
 use jwalk_ignore::ignore_files::IgnoreFiles;
 use jwalk_ignore::texts::Texts;
 use std::alloc::{AllocError, Global};

@@ -7,7 +7,7 @@ use Rattle.jwalk.specs.WalkDir.{file_system_of, callback_of}
 use Rattle.jwalk_ignore.specs.Rules.ChainWorth.{chain_worth}
 use Rattle.jwalk_ignore.specs.Callback.Given.{rules_alone}
 use Rattle.jwalk_ignore.specs.Callback.IgnoreViews.{ignoring, next_of, settings_of, texts_of}
-use Rattle.seek_search.specs.Excluding.{excluded_of, excluding}
+use Rattle.jwalk_ignore.specs.Callback.Excluding.{excluded_of, excluding}
 use Rattle.seek_search.specs.Search.{given_kept}
 use Rattle.seek_found.proofs.CleanFacts.{printed_as}
 use Rattle.seek_search.proofs.SearchFacts.{ignores_kept, whole_of}

@@ -8,7 +8,7 @@ use Rattle.jwalk.specs.WalkDir.{file_system_of, callback_of, options_of, root_of
 use Rattle.seek_search.specs.Options.{options_for, with_crew}
 use Rattle.seek_search.specs.declared.options.WalkOptions.{WalkOptions}
 use Rattle.seek_words.specs.Asks.{texts_of}
-use Rattle.seek_search.specs.Excluding.{Excluded, excluded_by, excluded_of, excluding}
+use Rattle.jwalk_ignore.specs.Callback.Excluding.{Excluded, excluded_by, excluded_of, excluding}
 use Rattle.seek_search.specs.Search.{excluded_asked, given_all, options_asked}
 use Rattle.seek_found.proofs.CleanFacts.{printed_as}
 use Rattle.seek_search.proofs.SearchFacts.{whole_of, same_by_crew}

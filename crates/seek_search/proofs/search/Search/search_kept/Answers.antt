@@ -12,7 +12,7 @@ use Rattle.seek_search.specs.Options.{options_for, with_crew}
 use Rattle.seek_search.specs.declared.options.WalkOptions.{WalkOptions}
 use Rattle.seek_found.proofs.CleanFacts.{printed_as}
 use Rattle.seek_words.specs.Asks.{texts_of}
-use Rattle.seek_search.specs.Excluding.{excluded_by, excluded_of, excluding}
+use Rattle.jwalk_ignore.specs.Callback.Excluding.{excluded_by, excluded_of, excluding}
 use Rattle.seek_search.specs.Search.{excluded_asked, options_asked, settings_asked}
 use Rattle.seek_search.proofs.SearchFacts.{hidden_by_crew, ignoring_same}
 use Rattle.seek_search.proofs.search.Search.search_kept.Goals as goal

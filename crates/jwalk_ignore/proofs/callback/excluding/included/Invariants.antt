@@ -2,8 +2,8 @@ use Rattle.std.proofs.Common.{◌≡◌, map}
 use Rattle.std.specs.List.{filter}
 use Rattle.jwalk.specs.jwalk_job.Entry.{item}
 use Rattle.jwalk_ignore.specs.Rules.{rules_value}
-use Rattle.seek_search.specs.Excluding.{is_included}
-use Rattle.seek_search.proofs.excluding.included.Given as goal
+use Rattle.jwalk_ignore.specs.Callback.Excluding.{is_included}
+use Rattle.jwalk_ignore.proofs.callback.excluding.included.Given as goal
 
 -- what is kept so far is left of what was gone over, and the place is that of the folder
 abbrev pub invariant-loop-found : goal.invariant-loop-found

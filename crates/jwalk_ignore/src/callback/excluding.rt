@@ -5,19 +5,33 @@ ghost use Rattle.jwalk.specs.jwalk_job.Entry.{item};
 ghost use Rattle.jwalk_ignore.specs.Rules.Chain.{is_ignored};
 ghost use Rattle.jwalk_ignore.specs.Rules.Matching.{patterns_say};
 ghost use Rattle.jwalk_ignore.specs.Rules.{rules_value};
-ghost use Rattle.seek_search.specs.Excluding.{behind, lines_text, place_of, is_included};
+ghost use Rattle.jwalk_ignore.specs.Callback.Excluding.{behind, lines_text, place_of, is_included};
 
+use crate::pattern::without_first_slash;
+use crate::rules::Rules;
 use jwalk::read_dir::ProcessReadDir;
 use jwalk::{ClientState, DirEntry, Error};
-use jwalk_ignore::pattern::without_first_slash;
-use jwalk_ignore::rules::Rules;
 use std::alloc::{AllocError, Allocator, Global};
 use std::mem;
 
-/// A callback that drops what rules ignore, so that nothing below it is read. They match what is behind the root in a
-/// path, and the root stays.
+/// A callback that drops what lines of an ignore file name, so that nothing below it is read. The lines are those of the
+/// caller, and no file is asked for.
+///
+/// ```text
+/// let excluding = Excluding::new(rt.alloc(), &["*.o", "!main.o", "/target/"], root)?;
+/// for answer in WalkDir::at(&rt, root)?.process_read_dir(excluding).into_iter() { .. }
+/// ```
+///
+/// A line means what it does in a file of rules that lies in the root: it matches what is behind the root in a path, and
+/// of several lines that match the last decides. The root itself stays, and so does each error. The states of the walk
+/// may be any.
+///
+/// [`IgnoreFiles::then`](crate::ignore_files::IgnoreFiles::then) hands what ignore files leave to such a callback. Then a
+/// line with a `!` brings nothing back that they drop.
+///
+/// If memory runs out, the callback fails with that.
 #[derive(Drop)]
-pub(crate) struct Excluding {
+pub struct Excluding {
     /// None if there are no lines.
     rules: Option<Rules>,
     /// How long the root's path is.
@@ -132,10 +146,14 @@ fn included<C: ClientState, A: Allocator + Copy>(
 }
 
 impl Excluding {
-    ghost use Rattle.seek_search.specs.Excluding.{excluded_by, excluded_of};
+    ghost use Rattle.jwalk_ignore.specs.Callback.Excluding.{excluded_by, excluded_of};
 
-    /// Returns the callback of these lines, below a root with this path.
-    pub(crate) fn new(alloc: Global, lines: &[&str], root: &str) -> Result<Self, AllocError>
+    /// Returns the callback of these lines, for walks below a root with this path.
+    ///
+    /// # Errors
+    ///
+    /// If memory runs out.
+    pub fn new(alloc: Global, lines: &[&str], root: &str) -> Result<Self, AllocError>
         ensures { IfOk result (λ it. excluded_of it ≡ excluded_by (map (λ it. it.now) lines.now) root.now) }
     {
         let root_len = root.len();
@@ -154,7 +172,7 @@ impl Excluding {
 }
 
 impl<C: ClientState, A: Allocator + Copy> ProcessReadDir<C, A> for Excluding {
-    ghost use Rattle.seek_search.specs.Excluding.{excluded_of, Excludes};
+    ghost use Rattle.jwalk_ignore.specs.Callback.Excluding.{excluded_of, Excludes};
 
     ghost IsLawful = { λ _. Unit {0} };
 

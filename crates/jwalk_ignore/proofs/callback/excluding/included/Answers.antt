@@ -6,8 +6,8 @@ use Rattle.std.proofs.lemmas.Iterator.Consumers.{YieldsList-end}
 use Rattle.jwalk.specs.jwalk_job.Entry.{item}
 use Rattle.jwalk_ignore.specs.Rules.{rules_value}
 use Rattle.jwalk_ignore.proofs.ListFacts.{filter_more}
-use Rattle.seek_search.specs.Excluding.{is_included}
-use Rattle.seek_search.proofs.excluding.included.Goals as goal
+use Rattle.jwalk_ignore.specs.Callback.Excluding.{is_included}
+use Rattle.jwalk_ignore.proofs.callback.excluding.included.Goals as goal
 
 pub loop-found-preserved : goal.loop-found-preserved
 loop-found-preserved g c =

@@ -3,9 +3,9 @@ use Rattle.std.specs.List.{filter}
 use Rattle.jwalk.specs.jwalk_model.ReadDir.{list_depth}
 use Rattle.jwalk.specs.jwalk_job.Entry.{item}
 use Rattle.jwalk_ignore.specs.Rules.{rules_value}
-use Rattle.seek_search.specs.Excluding.{excluded_of, is_included, patterns_in, place_of}
-use Rattle.seek_search.proofs.ExcludingFacts.{depths_kept, excludes_nothing, excludes_rest, processed_by}
-use Rattle.seek_search.proofs.excluding.ExcludingProcessReadDir.process.Goals as goal
+use Rattle.jwalk_ignore.specs.Callback.Excluding.{excluded_of, is_included, patterns_in, place_of}
+use Rattle.jwalk_ignore.proofs.ExcludingFacts.{depths_kept, excludes_nothing, excludes_rest, processed_by}
+use Rattle.jwalk_ignore.proofs.callback.excluding.ExcludingProcessReadDir.process.Goals as goal
 
 pub returns-in_default-clause-made : goal.returns-in_default-clause-made
 returns-in_default-clause-made g c = λ given makes.

@@ -14,7 +14,7 @@ use Rattle.jwalk_ignore.specs.Pattern.{Pattern}
 use Rattle.jwalk_ignore.specs.Pattern.PatternText.{without_first_slash}
 use Rattle.jwalk_ignore.specs.Rules.{rules_value}
 use Rattle.jwalk_ignore.specs.jwalk_ignore_rules.declared.rules.Rules.{Rules}
-use Rattle.seek_search.specs.declared.excluding.Excluding.{Excluding}
+use Rattle.jwalk_ignore.specs.declared.callback.excluding.Excluding.{Excluding}
 
 -- the patterns, and how long the root's path is
 pub record Excluded : Type 0 where

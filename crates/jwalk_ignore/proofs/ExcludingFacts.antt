@@ -9,7 +9,7 @@ use Rattle.jwalk.specs.jwalk_job.Given.{Given, counted_item, counted_reading, Is
 use Rattle.jwalk_ignore.specs.Callback.MadeDepths.{filter_at}
 use Rattle.jwalk_ignore.specs.Pattern.{Pattern}
 use Rattle.jwalk_ignore.proofs.ListFacts.{filter_by, filter_none}
-use Rattle.seek_search.specs.Excluding.{Excluded, Excludes, excluding, is_included, place_of}
+use Rattle.jwalk_ignore.specs.Callback.Excluding.{Excluded, Excludes, excluding, is_included, place_of}
 
 module _ {R E : Type 0} where
   -- no patterns leave nothing out
