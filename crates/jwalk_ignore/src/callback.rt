@@ -4,6 +4,7 @@
 pub mod builder;
 pub mod excluding;
 pub mod ignore_files;
+pub mod kept_rules;
 mod listed;
 mod places;
 mod rules_reader;

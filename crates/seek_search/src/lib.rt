@@ -2,7 +2,6 @@
 #![tactic(auto)]
 
 mod kept_links;
-mod kept_rules;
 pub mod options;
 pub mod run;
 mod search;

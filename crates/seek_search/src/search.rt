@@ -11,7 +11,6 @@ ghost use Rattle.seek_search.specs.Printed.{PrintsAll, PrintsWalk};
 ghost use Rattle.seek_search.specs.Search.{all_below, excluded_asked, ignoring_walk, kept_below, walk_options, yielded_below};
 ghost use Rattle.seek_found.specs.SoughtTest.{takes_of};
 
-use crate::kept_rules::{KeptRules, KeptStates};
 use crate::options::WalkOptions;
 use jwalk::file_system::FileSystem;
 use jwalk::read_dir::{NoProcess, ProcessReadDir};
@@ -19,6 +18,7 @@ use jwalk::{ClientState, Crew, WalkDirGeneric};
 use jwalk_ignore::builder::with_hidden_shown;
 use jwalk_ignore::excluding::Excluding;
 use jwalk_ignore::ignore_files::IgnoreFiles;
+use jwalk_ignore::kept_rules::{KeptRules, KeptStates};
 use jwalk_ignore::texts::Texts;
 use seek_found::found::print_found;
 use seek_found::printer::Printer;

@@ -1,25 +1,26 @@
-//! The callback of a search that honours ignore files.
+//! Ignore files, and lines behind them, as one callback.
 ghost use Rattle.std.specs.Arc.{arc_value};
 ghost use Rattle.jwalk_ignore.specs.Callback.IgnoreViews.{next_of, settings_of, texts_of, Ignores};
 ghost use Rattle.jwalk_ignore.specs.Callback.Excluding.{excluded_of, Excludes};
 
+use crate::callback::excluding::Excluding;
+use crate::callback::ignore_files::IgnoreFiles;
+use crate::rules::chain::Chain;
+use crate::rules::texts::Texts;
 use jwalk::read_dir::ProcessReadDir;
 use jwalk::{DirEntry, Error};
-use jwalk_ignore::chain::Chain;
-use jwalk_ignore::excluding::Excluding;
-use jwalk_ignore::ignore_files::IgnoreFiles;
-use jwalk_ignore::texts::Texts;
 use std::alloc::{AllocError, Global};
 use std::sync::Arc;
 
-/// The states of a search that honours ignore files: the rules in force.
-pub(crate) type KeptStates = ((Chain, ()), ());
+/// The states of a walk with [`KeptRules`]: the rules in force.
+pub type KeptStates = ((Chain, ()), ());
 
-/// Rules of ignore files, and what lines leave out of the rest. It has a type of its own, since proofs compare the types
-/// of walks, and these are long where they name both.
+/// A callback that drops what ignore files say, and then what lines leave out of the rest. It does the same as the
+/// callback within it, and has a short type of its own: a function over any texts that begins a walk is proved with
+/// this one.
 #[derive(Drop)]
-pub(crate) struct KeptRules<X: Texts> {
-    pub(crate) rules: IgnoreFiles<Arc<X>, Excluding>,
+pub struct KeptRules<X: Texts> {
+    pub rules: IgnoreFiles<Arc<X>, Excluding>,
 }
 
 impl<X: Texts> ProcessReadDir<KeptStates, Global> for KeptRules<X> {
