@@ -5,8 +5,9 @@ _tally() {
     case $before in
     -d | --max-depth) compopt +o default; return ;;
     -n | --largest) compopt +o default; return ;;
+    -E | --exclude) compopt +o default; return ;;
     -j | --threads) compopt +o default; return ;;
     esac
-    if [[ $word == -* ]]; then COMPREPLY=($(compgen -W "-d --max-depth -a --all -n --largest -s --summarize -b --bytes --plain -0 --print0 --json --apparent -l --count-links --exclude-hidden -x --one-file-system -L --follow --sort -j --threads -h --help -V --version" -- "$word")); fi
+    if [[ $word == -* ]]; then COMPREPLY=($(compgen -W "-d --max-depth -a --all -n --largest -s --summarize -b --bytes --plain -0 --print0 --json --apparent -l --count-links --exclude-hidden -E --exclude --ignore -x --one-file-system -L --follow --sort -j --threads -h --help -V --version" -- "$word")); fi
 }
 complete -o default -F _tally tally

@@ -2,6 +2,7 @@
 #![tactic(auto)]
 
 use jwalk::file_system::{Patient, RealFs};
+use jwalk_ignore::real_texts::RealTexts;
 use std::io::{IsTerminal, Write};
 use std::process::ExitCode;
 use std::{env, io};
@@ -11,8 +12,8 @@ use tally_run::screen::Screen;
 /// How many characters a line has where `COLUMNS` doesn't say.
 const WIDTH: usize = 80;
 
-/// The disk, where a directory is opened again after a moment if no descriptor was left.
-type Disk = Patient<RealFs, HostRuntime>;
+/// The disk, where a directory is opened again after a moment if no descriptor was left; and the files of rules on it.
+type Disk = (Patient<RealFs, HostRuntime>, RealTexts);
 
 /// Returns the words of the call, what results are written to, and the disk.
 fn call_of(rt: &HostRuntime) -> io::Result<(Vec<String>, Screen, Disk)> {
@@ -26,16 +27,17 @@ fn call_of(rt: &HostRuntime) -> io::Result<(Vec<String>, Screen, Disk)> {
         width,
     };
     let disk = Patient::new(RealFs::new(rt.clone()?), rt.clone()?);
-    Ok((words, screen, disk))
+    Ok((words, screen, (disk, RealTexts::new(rt.clone()?))))
 }
 
 fn main(rt: HostRuntime) -> ExitCode {
     let mut err = rt.stderr();
     let status = match call_of(&rt) {
-        Ok((words, screen, disk)) => run(
+        Ok((words, screen, (disk, texts))) => run(
             &rt,
             rt.alloc(),
             disk,
+            texts,
             words.as_slice(),
             screen,
             &mut io::writer(&rt),

@@ -11,17 +11,19 @@ pub(crate) enum Failure {
     TooMany,
     /// Memory ran out.
     Memory,
+    /// A walk ended with an error, which was reported.
+    Walk,
     /// Standard output can't be written.
     Output,
 }
 
 impl Failure {
-    /// Reports it on standard error, unless it is that the output can't be written.
+    /// Reports it on standard error, unless it was reported, or is that the output can't be written.
     pub(crate) fn report<E: Write>(self, err: &mut E) {
         let _ = match self {
             Failure::TooMany => writeln!(err, "tally: a total passes the greatest number"),
             Failure::Memory => writeln!(err, "tally: memory refused"),
-            Failure::Output => Ok(()),
+            Failure::Walk | Failure::Output => Ok(()),
         };
     }
 }

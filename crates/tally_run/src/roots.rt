@@ -10,6 +10,8 @@ const ABOVE: usize = 2048;
 #[derive(Drop)]
 pub(crate) struct Roots {
     counted: Vec<Identity, Global>,
+    // Directories on other file systems than their root's aren't read.
+    one_file_system: bool,
 }
 
 /// Returns which directory is at a path, if it is one, and that is known.
@@ -31,10 +33,16 @@ fn folder_of(path: &str) -> &str {
 
 impl Roots {
     /// Returns no roots.
-    pub(crate) fn new(alloc: Global) -> Self {
+    pub(crate) fn new(alloc: Global, one_file_system: bool) -> Self {
         Roots {
             counted: Vec::new(alloc),
+            one_file_system,
         }
+    }
+
+    /// Returns whether a walk of what is above a directory reads that directory.
+    fn is_read_from(&self, above: Identity, at: Identity) -> bool {
+        above != at && (!self.one_file_system || above.device == at.device)
     }
 
     /// Returns whether a directory, or one above it, is among the roots.
@@ -53,7 +61,7 @@ impl Roots {
             }
             path = join(alloc, path.as_str(), "..")?;
             match directory_at(disk, path.as_str())? {
-                Some(above) if above != at => at = above,
+                Some(above) if self.is_read_from(above, at) => at = above,
                 _ => return Ok(false),
             }
         }

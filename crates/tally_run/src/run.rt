@@ -3,16 +3,15 @@ ghost use Rattle.std.specs.Prelude.{◌≡◌, ◌<◌, ◌≤◌, map, string_b
 ghost use Rattle.tally_words.specs.Refusal.{status_of as status_for};
 ghost use Rattle.tally_run.specs.Run.{Ends};
 
-use crate::counting::take_all;
 use crate::failure::Failure;
 use crate::results::{Lines, Results};
 use crate::roots::Roots;
 use crate::screen::Screen;
-use crate::shown::Shown;
 use crate::walks::Walks;
 use jwalk::Host;
 use jwalk::file_system::FileSystem;
-use jwalk_subtotals::{Files, SubtotalOptions, subtotals_beside};
+use jwalk_ignore::texts::Texts;
+use jwalk_subtotals::Files;
 use seek_words::paths::Style;
 use std::alloc::{AllocError, Global};
 use std::io::Write;
@@ -60,53 +59,31 @@ fn results_of(alloc: Global, asked: &Asked<'_>, screen: Screen) -> Result<Result
     }
 }
 
-/// Returns what is counted. All subtotals are taken, since the error of a directory comes with its own.
-fn options_of(asked: &Asked<'_>) -> SubtotalOptions {
-    SubtotalOptions {
-        apparent: asked.apparent,
-        each_name: asked.each_name,
-        all: true,
-        max_depth: usize::MAX,
-    }
-}
-
-/// Counts what is below a root, beside the files that were counted before. Returns the files that are counted now, and
-/// whether there was no error.
-fn count_root<T: Host, S: FileSystem + Send + Sync + 'static, W: Write, E: Write>(
-    alloc: Global,
-    walks: &Walks<'_, '_, T, S>,
-    files: Files<Global>,
-    root: &str,
-    results: &mut Results,
-    out: &mut W,
-    err: &mut E,
-) -> Result<(Files<Global>, bool), Failure> {
-    let walk = walks.below(alloc, root)?;
-    let mut subtotals = subtotals_beside(alloc, files, walk, options_of(walks.asked()));
-    let shown = Shown::of(walks.asked());
-    let clean = take_all(alloc, &mut subtotals, shown, results, out, err)?;
-    Ok((subtotals.take_files(), clean))
-}
-
 /// Counts what is below each of these roots, but for those that lie below an earlier one. Returns whether there was no
 /// error.
-fn count_roots<T: Host, S: FileSystem + Send + Sync + 'static, W: Write, E: Write>(
+fn count_roots<
+    T: Host,
+    S: FileSystem + Send + Sync + 'static,
+    X: Texts + Send + Sync + 'static,
+    W: Write,
+    E: Write,
+>(
     alloc: Global,
-    walks: &Walks<'_, '_, T, S>,
+    walks: &Walks<'_, '_, T, S, X>,
     roots: &[&str],
     results: &mut Results,
     out: &mut W,
     err: &mut E,
 ) -> Result<bool, Failure> {
-    let mut known = Roots::new(alloc);
+    let mut known = Roots::new(alloc, walks.asked().one_file_system);
     let mut files = Files::new(alloc);
     let mut clean = true;
     for root in roots {
         if !known.add(alloc, walks.disk(), root)? {
-            let _ = writeln!(err, "tally: {root}: counted already, below an earlier root");
+            let _ = writeln!(err, "tally: {root}: left out, below an earlier root");
             continue;
         }
-        let (counted, without_error) = count_root(alloc, walks, files, root, results, out, err)?;
+        let (counted, without_error) = walks.count_below(alloc, files, root, results, out, err)?;
         files = counted;
         clean &= without_error;
     }
@@ -180,16 +157,23 @@ fn finish<W: Write>(
 }
 
 /// Counts as is asked for, and writes the results. Returns whether there was no error.
-fn tally<T: Host, S: FileSystem + Send + Sync + 'static, W: Write, E: Write>(
+fn tally<
+    T: Host,
+    S: FileSystem + Send + Sync + 'static,
+    X: Texts + Send + Sync + 'static,
+    W: Write,
+    E: Write,
+>(
     rt: &T,
     alloc: Global,
     disk: S,
+    texts: X,
     asked: &Asked<'_>,
     screen: Screen,
     out: &mut W,
     err: &mut E,
 ) -> Result<bool, Failure> {
-    let walks = Walks::new(rt, alloc, asked, disk)?;
+    let walks = Walks::new(rt, alloc, asked, disk, texts)?;
     let mut results = results_of(alloc, asked, screen)?;
     let roots = asked.roots.as_slice();
     let roots = if roots.is_empty() { &["."] } else { roots };
@@ -230,10 +214,17 @@ fn status_of<E: Write>(ended: Result<bool, Failure>, err: &mut E) -> u8
 ///
 /// The status is 0 if all was counted and there was no error. It is 1 if there was one, if memory ran out, or if the
 /// output can't be written. It is 2 for bad words, and then nothing is printed.
-pub fn run<T: Host, S: FileSystem + Send + Sync + 'static, W: Write, E: Write>(
+pub fn run<
+    T: Host,
+    S: FileSystem + Send + Sync + 'static,
+    X: Texts + Send + Sync + 'static,
+    W: Write,
+    E: Write,
+>(
     rt: &T,
     alloc: Global,
     disk: S,
+    texts: X,
     words: &[String],
     screen: Screen,
     out: &mut W,
@@ -245,7 +236,7 @@ pub fn run<T: Host, S: FileSystem + Send + Sync + 'static, W: Write, E: Write>(
 {
     match read_words(alloc, words) {
         Ok(asked) => {
-            let ended = tally(rt, alloc, disk, &asked, screen, out, err);
+            let ended = tally(rt, alloc, disk, texts, &asked, screen, out, err);
             status_of(ended, err)
         }
         Err(refusal) => refuse(&refusal, out, err),

@@ -1,21 +1,24 @@
 //! The walks below roots.
-use jwalk::crew::Session;
+use crate::counting::count_walk;
+use crate::failure::Failure;
+use crate::results::Results;
 use jwalk::file_system::FileSystem;
 use jwalk::read_dir::NoProcess;
-use jwalk::{Crew, DirEntryIter, Host, Parallelism, WalkDirGeneric};
+use jwalk::{ClientState, Crew, Host, Parallelism, WalkDirGeneric};
+use jwalk_ignore::builder::with_hidden_shown;
+use jwalk_ignore::excluding::Excluding;
+use jwalk_ignore::ignore_files::IgnoreFiles;
+use jwalk_ignore::kept_rules::{KeptRules, KeptStates};
+use jwalk_ignore::texts::Texts;
+use jwalk_subtotals::Files;
 use std::alloc::{AllocError, Global};
+use std::io::Write;
 use std::sync::Arc;
 use std::thread::{Threads, available_parallelism};
 use tally_words::asked::Asked;
 
-/// A walk under way.
-pub(crate) type Walk<T, S> = DirEntryIter<
-    ((), ()),
-    Arc<S>,
-    NoProcess,
-    Global,
-    Session<T, ((), ()), Arc<S>, NoProcess, Global>,
->;
+/// A walk that isn't begun and has no callback.
+type Plain<C, T, S> = WalkDirGeneric<C, Arc<S>, NoProcess, Global, Crew<T>>;
 
 /// Returns how many threads read: as many as are asked for, or as can run at a time.
 fn threads_of<T: Threads>(rt: &T, asked: &Asked<'_>) -> usize {
@@ -28,17 +31,36 @@ fn threads_of<T: Threads>(rt: &T, asked: &Asked<'_>) -> usize {
     }
 }
 
-/// What walks go over, and how they are read.
+/// Returns the crew that reads, which is none for one thread.
+fn crew_of<T: Host>(
+    rt: &T,
+    alloc: Global,
+    asked: &Asked<'_>,
+) -> Result<Option<Arc<Crew<T>>>, AllocError> {
+    let threads = threads_of(rt, asked);
+    if threads < 2 {
+        return Ok(None);
+    }
+    Ok(Some(Arc::new(alloc, Crew::new(rt.clone()?, 1, threads))?))
+}
+
+/// What is asked for, what walks go over, and how they are read.
 #[derive(Drop)]
-pub(crate) struct Walks<'a, 'w, T: Drop, S: FileSystem> {
+pub(crate) struct Walks<'a, 'w, T: Drop, S: FileSystem, X: Texts> {
     asked: &'a Asked<'w>,
     disk: Arc<S>,
-    // None if one thread reads.
+    texts: Arc<X>,
     crew: Option<Arc<Crew<T>>>,
 }
 
-impl<'a, 'w, T: Host, S: FileSystem + Send + Sync + 'static> Walks<'a, 'w, T, S> {
-    /// Returns the walks over a disk that are asked for.
+impl<
+    'a,
+    'w,
+    T: Host,
+    S: FileSystem + Send + Sync + 'static,
+    X: Texts + Send + Sync + 'static,
+> Walks<'a, 'w, T, S, X> {
+    /// Returns the walks over a disk and files of rules that are asked for.
     ///
     /// # Errors
     ///
@@ -48,17 +70,13 @@ impl<'a, 'w, T: Host, S: FileSystem + Send + Sync + 'static> Walks<'a, 'w, T, S>
         alloc: Global,
         asked: &'a Asked<'w>,
         disk: S,
+        texts: X,
     ) -> Result<Self, AllocError> {
-        let threads = threads_of(rt, asked);
-        let crew = if threads < 2 {
-            None
-        } else {
-            Some(Arc::new(alloc, Crew::new(rt.clone()?, 1, threads))?)
-        };
         Ok(Walks {
             asked,
             disk: Arc::new(alloc, disk)?,
-            crew,
+            texts: Arc::new(alloc, texts)?,
+            crew: crew_of(rt, alloc, asked)?,
         })
     }
 
@@ -72,25 +90,77 @@ impl<'a, 'w, T: Host, S: FileSystem + Send + Sync + 'static> Walks<'a, 'w, T, S>
         &self.disk
     }
 
-    /// Begins the walk below a root. Its entries keep their metadata.
-    ///
-    /// # Errors
-    ///
-    /// If memory runs out.
-    pub(crate) fn below(&self, alloc: Global, root: &str) -> Result<Walk<T, S>, AllocError> {
+    /// Returns the walk below a root, without a callback. Its entries keep their metadata.
+    fn plain<C: ClientState>(
+        &self,
+        alloc: Global,
+        root: &str,
+    ) -> Result<Plain<C, T, S>, AllocError> {
         let root = String::from_str(alloc, root)?;
-        let mut walk = WalkDirGeneric::with_crew(self.disk.clone()?, root)
+        let walk = WalkDirGeneric::with_crew(self.disk.clone()?, root)
             .sort(self.asked.sort)
             .skip_hidden(self.asked.exclude_hidden)
             .follow_links(self.asked.follow)
             .same_file_system(self.asked.one_file_system)
             .keep_metadata(true);
-        if let Some(crew) = &self.crew {
-            walk = walk.parallelism(Parallelism::RayonExistingPool {
+        match &self.crew {
+            Some(crew) => Ok(walk.parallelism(Parallelism::RayonExistingPool {
                 pool: crew.clone()?,
                 busy_timeout: None,
-            });
+            })),
+            None => Ok(walk),
         }
-        Ok(walk.into_iter())
+    }
+
+    /// Counts what is below a root, whatever ignore files say.
+    fn count_all<W: Write, E: Write>(
+        &self,
+        alloc: Global,
+        files: Files<Global>,
+        root: &str,
+        results: &mut Results,
+        out: &mut W,
+        err: &mut E,
+    ) -> Result<(Files<Global>, bool), Failure> {
+        let excluding = Excluding::new(alloc, self.asked.excludes.as_slice(), root)?;
+        let walk = self
+            .plain::<((), ())>(alloc, root)?
+            .process_read_dir(excluding);
+        count_walk(alloc, walk, files, self.asked, results, out, err)
+    }
+
+    /// Counts what ignore files leave below a root.
+    fn count_kept<W: Write, E: Write>(
+        &self,
+        alloc: Global,
+        files: Files<Global>,
+        root: &str,
+        results: &mut Results,
+        out: &mut W,
+        err: &mut E,
+    ) -> Result<(Files<Global>, bool), Failure> {
+        let excluding = Excluding::new(alloc, self.asked.excludes.as_slice(), root)?;
+        let rules = IgnoreFiles::new(self.texts.clone()?)
+            .keep_hidden(!self.asked.exclude_hidden)
+            .then(excluding);
+        let walk = with_hidden_shown(self.plain::<KeptStates>(alloc, root)?, KeptRules { rules });
+        count_walk(alloc, walk, files, self.asked, results, out, err)
+    }
+
+    /// Counts what is below a root, beside the files that were counted before. Returns the files that are counted now,
+    /// and whether there was no error.
+    pub(crate) fn count_below<W: Write, E: Write>(
+        &self,
+        alloc: Global,
+        files: Files<Global>,
+        root: &str,
+        results: &mut Results,
+        out: &mut W,
+        err: &mut E,
+    ) -> Result<(Files<Global>, bool), Failure> {
+        if self.asked.ignore {
+            return self.count_kept(alloc, files, root, results, out, err);
+        }
+        self.count_all(alloc, files, root, results, out, err)
     }
 }

@@ -21,6 +21,7 @@ const KNOWN: &[Known] = &[
     ("/r/c/y", 2, 2, 1, 8),
     ("/r/b/", 1, 3, 2, 8),
     ("/r/b/..", 1, 1, 2, 8),
+    ("/r/c/..", 1, 1, 2, 8),
     ("/r/a/..", 1, 1, 2, 8),
 ];
 
@@ -95,9 +96,9 @@ fn blocks_count_and_not_lengths_unless_these_are_asked_for(rt: HostRuntime) {
 
 #[test]
 fn a_root_below_an_earlier_one_is_left_out(rt: HostRuntime) {
-    const TOLD: &str = "tally: /r/b: counted already, below an earlier root\n";
-    const TWICE: &str = "tally: /r/b/: counted already, below an earlier root\n";
-    const FILE: &str = "tally: /r/b/x: counted already, below an earlier root\n";
+    const TOLD: &str = "tally: /r/b: left out, below an earlier root\n";
+    const TWICE: &str = "tally: /r/b/: left out, below an earlier root\n";
+    const FILE: &str = "tally: /r/b/x: left out, below an earlier root\n";
     const ROWS: &[Row] = &[
         (
             &["--plain", "-s", "-b", "/r", "/r/b"],
@@ -117,9 +118,16 @@ fn a_root_below_an_earlier_one_is_left_out(rt: HostRuntime) {
 
 #[test]
 fn one_file_system(rt: HostRuntime) {
-    const ROWS: &[Row] = &[(
-        &["--plain", "-x", "-b", "/r"],
-        ("16384\t/r/b\n4096\t/r/a\n4096\t/r/c\n28672\t/r\n", "", 0),
-    )];
+    const ROWS: &[Row] = &[
+        (
+            &["--plain", "-x", "-b", "/r"],
+            ("16384\t/r/b\n4096\t/r/a\n4096\t/r/c\n28672\t/r\n", "", 0),
+        ),
+        (
+            // What isn't read from the first root is counted as the second.
+            &["--plain", "-x", "-s", "-b", "/r", "/r/c"],
+            ("28672\t/r\n8192\t/r/c\n", "", 0),
+        ),
+    ];
     all_come(&rt, ROWS);
 }

@@ -6,8 +6,12 @@ mod files;
 #[cfg(test)]
 mod forms;
 #[cfg(test)]
+mod left_out;
+#[cfg(test)]
 mod lines;
 #[cfg(test)]
 mod numbered;
 #[cfg(test)]
 mod runs;
+#[cfg(test)]
+mod stopped;

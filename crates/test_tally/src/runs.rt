@@ -1,6 +1,7 @@
 //! The outcome of a run.
 use jwalk::file_system::FileSystem;
-use std::alloc::Global;
+use jwalk_ignore::memory_texts::MemoryTexts;
+use std::alloc::{AllocError, Global};
 use std::process::Abort;
 use tally_run::run::run;
 use tally_run::screen::Screen;
@@ -24,7 +25,48 @@ const FILE: Screen = Screen {
     width: 80,
 };
 
-/// Returns whether a call over a disk, by this many threads, has this outcome.
+/// A file of rules: its path, and its text.
+pub(crate) type RulesFile = (&'static str, &'static str);
+
+/// Returns these files, as texts.
+fn rules_of(alloc: Global, files: &[RulesFile]) -> Result<MemoryTexts, AllocError> {
+    let mut rules = MemoryTexts::new(alloc);
+    for (path, text) in files {
+        rules.add(path, text.as_bytes())?;
+    }
+    Ok(rules)
+}
+
+/// Returns whether a call over a disk with these files of rules, by this many threads, has this outcome.
+pub(crate) fn comes_with<S: FileSystem + Send + Sync + 'static>(
+    rt: &impl Host,
+    (disk, files): (S, &[RulesFile]),
+    threads: &str,
+    words: &[&str],
+    want: &Want<'_>,
+) -> bool {
+    let alloc: Global = rt.alloc();
+    let (Ok(words), Ok(rules)) = (
+        texts(alloc, &["tally", threads], words),
+        rules_of(alloc, files),
+    ) else {
+        return false;
+    };
+    let (mut out, mut err) = (Vec::new(alloc), Vec::new(alloc));
+    let status = run(
+        rt,
+        alloc,
+        disk,
+        rules,
+        words.as_slice(),
+        FILE,
+        &mut out,
+        &mut err,
+    );
+    out.as_slice() == want.0.as_bytes() && err.as_slice() == want.1.as_bytes() && status == want.2
+}
+
+/// Returns whether a call over a disk without rules, by this many threads, has this outcome.
 pub(crate) fn comes<S: FileSystem + Send + Sync + 'static>(
     rt: &impl Host,
     disk: S,
@@ -32,13 +74,7 @@ pub(crate) fn comes<S: FileSystem + Send + Sync + 'static>(
     words: &[&str],
     want: &Want<'_>,
 ) -> bool {
-    let alloc: Global = rt.alloc();
-    let Ok(words) = texts(alloc, &["tally", threads], words) else {
-        return false;
-    };
-    let (mut out, mut err) = (Vec::new(alloc), Vec::new(alloc));
-    let status = run(rt, alloc, disk, words.as_slice(), FILE, &mut out, &mut err);
-    out.as_slice() == want.0.as_bytes() && err.as_slice() == want.1.as_bytes() && status == want.2
+    comes_with(rt, (disk, &[]), threads, words, want)
 }
 
 /// Returns the number of the first row whose outcome is another, by one thread or by three.
