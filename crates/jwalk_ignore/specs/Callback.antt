@@ -6,3 +6,4 @@ pub mod MadeDepths
 pub mod Places
 pub mod Sources
 pub mod Excluding
+pub mod Kept

@@ -1,18 +1,15 @@
 -- What a search goes over, and what it finds.
-use Rattle.std.specs.Prelude.{ℕ, ◌==◌, Bool, false, not, List, [], ◌∷◌, flat_map, length, Option, None, Some, Result, Ok, Err, if◌then◌else◌}
+use Rattle.std.specs.Prelude.{ℕ, ◌==◌, Bool, not, List, [], ◌∷◌, flat_map, length, Option, None, Some, Result, Ok, Err, if◌then◌else◌}
 use Rattle.std.specs.declared.io.ErrorKind.{ErrorKind}
 use Rattle.jwalk.specs.jwalk_model.Counted.{Worth, blank}
 use Rattle.jwalk.specs.jwalk_model.Entry.{Item}
 use Rattle.jwalk.specs.jwalk_model.FileSystem.{Functions}
-use Rattle.jwalk.specs.jwalk_model.Job.{Job, Processing}
-use Rattle.jwalk.specs.jwalk_model.Options.{Options, with_skip_hidden}
+use Rattle.jwalk.specs.jwalk_model.Options.{Options}
 use Rattle.jwalk.specs.jwalk_model.Paths.{join, dot}
 use Rattle.jwalk.specs.jwalk_model.Walk.{whole_walk}
-use Rattle.jwalk.specs.jwalk_job.Given.{Given}
-use Rattle.jwalk_ignore.specs.Callback.Given.{ignoring-KeepsDepthsOf, no_rules_yet, rules_alone}
-use Rattle.jwalk_ignore.specs.Callback.IgnoreViews.{ignoring}
+use Rattle.jwalk_ignore.specs.Callback.Excluding.{Excluded, excluded_by, excluding}
+use Rattle.jwalk_ignore.specs.Callback.Kept.{ignoring_walk, job_with}
 use Rattle.jwalk_ignore.specs.Rules.Texts.{Texts}
-use Rattle.jwalk_ignore.specs.jwalk_ignore_rules.declared.rules.chain.Chain.{Chain}
 use Rattle.jwalk_ignore.specs.declared.callback.settings.Settings.{Settings}
 use Rattle.seek_words.specs.Sought.{Sought}
 use Rattle.seek_words.specs.declared.paths.Style.{Style}
@@ -20,7 +17,6 @@ use Rattle.seek_search.specs.Options.{options_for}
 use Rattle.seek_search.specs.declared.options.WalkOptions.{WalkOptions}
 use Rattle.seek_words.specs.Asks.{texts_of}
 use Rattle.seek_words.specs.declared.asked.Asked.{Asked}
-use Rattle.jwalk_ignore.specs.Callback.Excluding.{Excluded, excluded_by, excluding, excluding-KeepsDepthsOf}
 
 -- what is asked of walks
 abbrev pub walk_options : Asked → WalkOptions
@@ -40,40 +36,11 @@ options_asked asked = options_for (walk_options asked) false
 abbrev pub settings_asked : Asked → Settings
 settings_asked asked = record { keeps_hidden = asked.hidden; anywhere = false }
 
--- readings that make this of lists
-abbrev pub job_with : Functions → Options → Processing Worth Worth → Job Worth Worth
-job_with fs options processed = record { fs = fs; options = options; processed = processed; default = blank }
-
--- what is given of walks without ignore files: states count as nothing
-abbrev pub given_all : {R E : Type 0} → Excluded → Given R E
-given_all excluded = record {
-  read_dir_state = λ _. blank;
-  dir_entry_state = λ _. blank;
-  processed = excluding excluded;
-  keeps_depths = excluding-KeepsDepthsOf excluded;
-  new_entry = blank;
-}
-
--- and of walks that honour them: states of directories count as the rules in force
-abbrev pub given_kept : {A B E : Type 0} → Settings → Texts → Excluded → Given (Chain A × B) E
-given_kept settings texts excluded = record {
-  read_dir_state = rules_alone;
-  dir_entry_state = λ _. blank;
-  processed = ignoring settings texts (excluding excluded);
-  keeps_depths = ignoring-KeepsDepthsOf settings texts (excluding excluded) (excluding-KeepsDepthsOf excluded);
-  new_entry = blank;
-}
-
 -- all that a walk yields without ignore files, below a root
 abbrev pub all_below : Functions → Asked → Excluded → List ℕ → List (Item Worth Worth)
 all_below fs asked excluded root = whole_walk (job_with fs (options_asked asked) (excluding excluded)) root blank
 
--- all that a walk yields that honours ignore files. It is shown hidden names, and drops them itself unless they are asked for.
-abbrev pub ignoring_walk : Functions → Texts → Settings → Excluded → Options → List ℕ → List (Item Worth Worth)
-ignoring_walk fs texts settings excluded options root =
-    whole_walk (job_with fs (with_skip_hidden false options) (ignoring settings texts (excluding excluded))) root no_rules_yet
-
--- the same below a root
+-- the same with ignore files
 abbrev pub kept_below : Functions → Texts → Asked → Excluded → List ℕ → List (Item Worth Worth)
 kept_below fs texts asked excluded root = ignoring_walk fs texts (settings_asked asked) excluded (options_asked asked) root
 

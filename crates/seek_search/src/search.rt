@@ -7,8 +7,9 @@ ghost use Rattle.jwalk.specs.WalkDir.{callback_of, file_system_of, options_of, r
 ghost use Rattle.jwalk_ignore.specs.Callback.Given.{no_rules_yet, rules_alone};
 ghost use Rattle.jwalk_ignore.specs.Callback.IgnoreViews.{next_of, settings_of, texts_of};
 ghost use Rattle.jwalk_ignore.specs.Callback.Excluding.{excluded_of};
+ghost use Rattle.jwalk_ignore.specs.Callback.Kept.{ignoring_walk};
 ghost use Rattle.seek_search.specs.Printed.{PrintsAll, PrintsWalk};
-ghost use Rattle.seek_search.specs.Search.{all_below, excluded_asked, ignoring_walk, kept_below, walk_options, yielded_below};
+ghost use Rattle.seek_search.specs.Search.{all_below, excluded_asked, kept_below, walk_options, yielded_below};
 ghost use Rattle.seek_found.specs.SoughtTest.{takes_of};
 
 use crate::options::WalkOptions;

@@ -8,9 +8,9 @@ use Rattle.jwalk_ignore.specs.Rules.ChainWorth.{chain_worth}
 use Rattle.jwalk_ignore.specs.Callback.Given.{rules_alone}
 use Rattle.jwalk_ignore.specs.Callback.IgnoreViews.{ignoring, next_of, settings_of, texts_of}
 use Rattle.jwalk_ignore.specs.Callback.Excluding.{excluded_of, excluding}
-use Rattle.seek_search.specs.Search.{given_kept}
+use Rattle.jwalk_ignore.specs.Callback.Kept.{given_kept}
 use Rattle.seek_found.proofs.CleanFacts.{printed_as}
-use Rattle.seek_search.proofs.SearchFacts.{ignores_kept, whole_of}
+use Rattle.jwalk_ignore.proofs.KeptFacts.{ignores_kept, whole_of}
 use Rattle.seek_search.proofs.search.search_walk.Goals as goal
 
 pub returns-clause-whole : goal.returns-clause-whole

@@ -9,9 +9,11 @@ use Rattle.seek_search.specs.Options.{options_for, with_crew}
 use Rattle.seek_search.specs.declared.options.WalkOptions.{WalkOptions}
 use Rattle.seek_words.specs.Asks.{texts_of}
 use Rattle.jwalk_ignore.specs.Callback.Excluding.{Excluded, excluded_by, excluded_of, excluding}
-use Rattle.seek_search.specs.Search.{excluded_asked, given_all, options_asked}
+use Rattle.jwalk_ignore.specs.Callback.Kept.{given_excluding}
+use Rattle.seek_search.specs.Search.{excluded_asked, options_asked}
 use Rattle.seek_found.proofs.CleanFacts.{printed_as}
-use Rattle.seek_search.proofs.SearchFacts.{whole_of, same_by_crew}
+use Rattle.jwalk_ignore.proofs.KeptFacts.{whole_of}
+use Rattle.seek_search.proofs.SearchFacts.{same_by_crew}
 use Rattle.seek_search.proofs.search.Search.search_all.Goals as goal
 
 pub returns-clause-whole : goal.returns-clause-whole
@@ -22,7 +24,7 @@ returns-clause-whole g c =
     let set = c.process_read_dir.ensures in
     let walk = c.process_read_dir.result in
     let excluded = excluded_asked asked c.args.root.now in
-    let given = given_all excluded in
+    let given = given_excluding excluded in
     let over : arc_value (file_system_of walk) ≡ arc_value self.disk = ap arc_value (set.file_system ∙ built.file_system) ∙ c.in_ok-disk.ensures.cases in
     let lines : excluded_of (callback_of walk) ≡ excluded
     = ap excluded_of set.callback ∙ c.in_ok-excluding.ensures ∙ ap (λ l. excluded_by (texts_of l) c.args.root.now) c.as_slice.ensures.value in

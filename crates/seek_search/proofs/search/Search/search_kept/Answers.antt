@@ -14,7 +14,8 @@ use Rattle.seek_found.proofs.CleanFacts.{printed_as}
 use Rattle.seek_words.specs.Asks.{texts_of}
 use Rattle.jwalk_ignore.specs.Callback.Excluding.{excluded_by, excluded_of, excluding}
 use Rattle.seek_search.specs.Search.{excluded_asked, options_asked, settings_asked}
-use Rattle.seek_search.proofs.SearchFacts.{hidden_by_crew, ignoring_same}
+use Rattle.jwalk_ignore.proofs.KeptFacts.{ignoring_same}
+use Rattle.seek_search.proofs.SearchFacts.{hidden_by_crew}
 use Rattle.seek_search.proofs.search.Search.search_kept.Goals as goal
 
 pub returns-clause-whole : goal.returns-clause-whole
