@@ -7,16 +7,12 @@ use Rattle.jwalk.specs.jwalk_model.Error.{Failure}
 use Rattle.jwalk.specs.jwalk_model.Entry.{Entry, Item}
 use Rattle.jwalk_subtotals.specs.declared.options.SubtotalOptions.{SubtotalOptions}
 use Rattle.jwalk_subtotals.specs.Subtotal.{nothing}
-use Rattle.jwalk_subtotals.specs.Counted.{Weighed, weighed, counted_once, own, one_error, is_among, is_repeated, with_file}
+use Rattle.jwalk_subtotals.specs.Counted.{Weighed, weighed, counted_once, own, one_error, is_repeated, with_file, files_after, HaveSame}
 use Rattle.jwalk_subtotals.specs.Subtotals.{depth_at, below, asked}
 use Rattle.jwalk_subtotals.specs.Stack.{Frame, is_above, added, left_of, closed_of}
 use Rattle.jwalk_subtotals.specs.Files.{AreWith}
 use Rattle.jwalk_subtotals.specs.Coming.{closing}
 use Rattle.jwalk_subtotals.proofs.ClosingFacts.{closed_first, error_first, entry_first}
-
--- The lists have the same files.
-abbrev HaveSame : List Identity → List Identity → Type 0
-HaveSame files others = (i : Identity) → is_among files i ≡ is_among others i
 
 repeated_same : (files others : List Identity) → HaveSame files others → (file : Option Identity) → is_repeated files file ≡ is_repeated others file
 repeated_same files others same None = refl
@@ -35,6 +31,13 @@ module _ {R E : Type 0} where
       ap₂ (λ (again : Bool) (m : List (Weighed R E)). (Ok e, own o.apparent again e) ∷ m)
       (repeated_same files others same (counted_once o e))
       (weighed_same o (with_file (counted_once o e) files) (with_file (counted_once o e) others) (with_same files others same (counted_once o e)) l)
+
+  -- so do the files that are counted behind them
+  pub after_same : (o : SubtotalOptions) (files others : List Identity) → HaveSame files others → (l : List (Item R E)) → HaveSame (files_after o files l) (files_after o others l)
+  after_same o files others same [] = same
+  after_same o files others same (Err f ∷ l) = after_same o files others same l
+  after_same o files others same (Ok e ∷ l) =
+      after_same o (with_file (counted_once o e) files) (with_file (counted_once o e) others) (with_same files others same (counted_once o e)) l
 
   -- an entry that waited is opened
   pub opened_first : (o : SubtotalOptions) (frames : List (Frame R E)) (files others : List Identity) (e : Entry R E) (l : List (Item R E)) → is_above e.depth frames ≡ true → AreWith (counted_once o e) files others

@@ -7,3 +7,5 @@ pub mod LastFacts
 pub mod TurnFacts
 pub mod RunFacts
 pub mod WholeFacts
+pub mod StateFacts
+pub mod ErrorFacts

@@ -9,8 +9,9 @@ use Rattle.jwalk_subtotals.specs.declared.iter.Subtotals.{Subtotals}
 use Rattle.jwalk_subtotals.specs.declared.iter.Turn.TheVariants.{Yields as TurnYields, GoesOn, Ends}
 use Rattle.jwalk_subtotals.specs.declared.stack.WithSubtotal.{WithSubtotal}
 use Rattle.jwalk_subtotals.specs.declared.error.SubtotalError.{SubtotalError}
+use Rattle.jwalk_subtotals.specs.Counted.{is_among}
 use Rattle.jwalk_subtotals.specs.Subtotals.{Yielded}
-use Rattle.jwalk_subtotals.specs.Coming.{coming, in_all, answers_of, options_of, held, is_over, is_stopped, value, ends_with, weight, CanGoOn, Takes, GoesOver, Gives}
+use Rattle.jwalk_subtotals.specs.Coming.{coming, counted_behind, in_all, answers_of, options_of, held, is_over, is_stopped, value, ends_with, weight, CanGoOn, Takes, GoesOver, Gives}
 use Rattle.jwalk_subtotals.specs.Subtotal.{IsTooGreat}
 use Rattle.jwalk_subtotals.specs.Turns.{Turns}
 
@@ -48,7 +49,7 @@ module _ {I X : Type 0} (next : I → Option X → I → Type 0) where
 module _ {C A I R E : Type 0} (next : I → Option (Result (DirEntry C A R E) (Error A)) → I → Type 0) where
   -- nothing is taken and nothing yielded
   pub stays : (s : Subtotals C A I R E) → GoesOver next s [] s
-  stays s = record { taken = []; takes = takes_none next (is_over s) (answers_of s); stays_over = λ is. is; options = refl; first = λ _ l _. refl; no_more = λ _ l _ h. h }
+  stays s = record { taken = []; takes = takes_none next (is_over s) (answers_of s); stays_over = λ is. is; options = refl; first = λ _ l _. refl; counted = λ _ l i. refl; no_more = λ _ l _ h. h }
 
   -- one after another
   abbrev pub goes_on : (a b c : Subtotals C A I R E) (ys zs : List (Yielded R E)) → (is_stopped c ≡ false → is_stopped b ≡ false) → GoesOver next a ys b → GoesOver next b zs c → GoesOver next a (ys ++ zs) c
@@ -62,6 +63,10 @@ module _ {C A I R E : Type 0} (next : I → Option (Result (DirEntry C A R E) (E
         ∙ one.first (keeps goes) (map item two.taken ++ l) (λ is. none_more (map item two.taken) l (ap (map item) (none_taken next (is_over b) (is_over c) two.taken (answers_of b) (answers_of c) is two.takes)) (none (two.stays_over is)))
         ∙ ap (λ m. ys ++ m) (two.first goes l none)
         ∙ sym (append_assoc ys zs (coming (options_of c) (held c) l));
+    counted = λ goes l i.
+        two.counted goes l i
+        ∙ one.counted (keeps goes) (map item two.taken ++ l) i
+        ∙ ap (λ m. is_among (counted_behind (options_of a) (held a) m) i) (sym (ap (λ m. m ++ l) (map-append item one.taken two.taken) ∙ append_assoc (map item one.taken) (map item two.taken) l));
     no_more = λ goes l none h.
         subst (λ m. IsTooGreat (in_all (options_of a) (held a) m)) (sym (ap (λ m. m ++ l) (map-append item one.taken two.taken) ∙ append_assoc (map item one.taken) (map item two.taken) l))
         (one.no_more (keeps goes) (map item two.taken ++ l) (λ is. none_more (map item two.taken) l (ap (map item) (none_taken next (is_over b) (is_over c) two.taken (answers_of b) (answers_of c) is two.takes)) (none (two.stays_over is)))

@@ -20,7 +20,7 @@ use Rattle.jwalk_subtotals.specs.declared.error.SubtotalError.{SubtotalError}
 use Rattle.jwalk_subtotals.specs.declared.error.SubtotalError.TheVariants.{Walk, TooMany}
 use Rattle.jwalk_subtotals.specs.declared.stack.WithSubtotal.{WithSubtotal}
 use Rattle.jwalk_subtotals.specs.Subtotal.{nothing, plus, IsTooGreat}
-use Rattle.jwalk_subtotals.specs.Counted.{weighed, one_error, own, is_repeated, counted_once, with_file}
+use Rattle.jwalk_subtotals.specs.Counted.{weighed, one_error, own, is_repeated, counted_once, with_file, files_after, HaveSame}
 use Rattle.jwalk_subtotals.specs.Subtotals.{depth_at, total}
 use Rattle.jwalk_subtotals.specs.Stack.{Frame, frames_of, open_total, is_above, added, left_of, closed_of}
 use Rattle.jwalk_subtotals.specs.Coming.{closing, coming, answers_of, options_of, held, is_over, is_over_in, is_stopped, waiting_in, turns_in, weight, stops_with, CanGoOn, MayAsk, Takes}
@@ -28,7 +28,7 @@ use Rattle.jwalk_subtotals.specs.Turns.{result_of, Closes, Opens, Turns}
 use Rattle.jwalk_subtotals.specs.Files.{files_of}
 use Rattle.jwalk_subtotals.specs.Error.{ends_walk, is_last}
 use Rattle.jwalk_subtotals.proofs.GreatFacts.{added_great, left_great, opened_great, close_great}
-use Rattle.jwalk_subtotals.proofs.ComingFacts.{weighed_same, opened_first, counted_first, closed_for, closed_last, one_less, some_open}
+use Rattle.jwalk_subtotals.proofs.ComingFacts.{weighed_same, after_same, opened_first, counted_first, closed_for, closed_last, one_less, some_open}
 
 -- no answer is taken
 pub takes_nothing : {I X : Type 0} (next : I → Option X → I → Type 0) (b : Bool) (s t : I) → s ≡ t → Takes next b b s [] t
@@ -43,6 +43,10 @@ same_coming o o' fs fs' ks ks' ws ws' l a b c d = cc
 same_all : {R E : Type 0} (o o' : SubtotalOptions) (fs fs' : List (Frame R E)) (ks ks' : List Identity) (ws ws' : List (Item R E)) (l : List (Item R E)) → o ≡ o' → fs ≡ fs' → ks ≡ ks' → ws ≡ ws'
     → plus (open_total fs) (total (weighed o ks (ws ++ l))) ≡ plus (open_total fs') (total (weighed o' ks' (ws' ++ l)))
 same_all o o' fs fs' ks ks' ws ws' l a b c d = cc
+
+-- so do the files that are counted
+pub same_counted : {R E : Type 0} (o o' : SubtotalOptions) (ks ks' : List Identity) (ws ws' : List (Item R E)) (l : List (Item R E)) → o ≡ o' → ks ≡ ks' → ws ≡ ws' → HaveSame (files_after o ks (ws ++ l)) (files_after o' ks' (ws' ++ l))
+same_counted o o' ks ks' ws ws' l a b c i = cc
 
 same_error : {X A : Type 0} (a b : SubtotalError A) → ◌≡◌ {A = Option (Result X (SubtotalError A))} (Some (Err a)) (Some (Err b)) → a ≡ b
 same_error a b is = cc
@@ -83,6 +87,9 @@ module _ {C A I R E : Type 0} (next : I → Option (Result (DirEntry C A R E) (E
               ∙ ap₂ (λ y s. y ++ s) (sym (c.closed goes))
               (same_coming (options_of old) (options_of new) (left_of (held old).frames) (held new).frames (held old).files (held new).files (held old).waiting (held new).waiting l
               (sym c.options) (sym (c.left goes)) (sym c.files) (ap waiting_in (sym c.ahead)));
+          counted = λ goes l.
+              same_counted (options_of new) (options_of old) (held new).files (held old).files (held new).waiting (held old).waiting l
+              c.options c.files (ap waiting_in c.ahead);
           no_more = λ goes l none h.
               left_great (total (weighed (options_of old) (held old).files ((held old).waiting ++ l))) (held old).frames
               (subst IsTooGreat (same_all (options_of new) (options_of old) (held new).frames (left_of (held old).frames) (held new).files (held old).files (held new).waiting (held old).waiting l
@@ -130,7 +137,7 @@ module _ {C A I R E : Type 0} (next : I → Option (Result (DirEntry C A R E) (E
   pub taken_turn : (t : I) (x : Result (DirEntry C A R E) (Error A)) → next (answers_of s) (Some x) t → can t → IsFinite (left t) → size (left t) < size (left (answers_of s))
       → Turns next can left (record s { ahead = Unasked; stopped = false }) GoesOn (record s { answers = t; ahead = Taken x; stopped = false })
   taken_turn t x step may ends fewer = record {
-    goes = record { taken = x ∷ []; takes = (t, step, refl); stays_over = λ is. absurd (cc is); options = refl; first = λ _ l _. refl; no_more = λ _ l _ h. h };
+    goes = record { taken = x ∷ []; takes = (t, step, refl); stays_over = λ is. absurd (cc is); options = refl; first = λ _ l _. refl; counted = λ _ l i. refl; no_more = λ _ l _ h. h };
     stops = refl;
     silent = λ is. absurd (cc is);
     too_many = λ is. absurd (cc is);
@@ -142,7 +149,7 @@ module _ {C A I R E : Type 0} (next : I → Option (Result (DirEntry C A R E) (E
   -- the walk has ended
   pub over_turn : (t : I) → next (answers_of s) None t → Turns next can left (record s { ahead = Unasked; stopped = false }) GoesOn (record s { answers = t; ahead = Over; stopped = false })
   over_turn t step = record {
-    goes = record { taken = []; takes = (answers_of s, refl, step); stays_over = λ is. absurd (cc is); options = refl; first = λ _ l none. refl; no_more = λ _ l _ h. h };
+    goes = record { taken = []; takes = (answers_of s, refl, step); stays_over = λ is. absurd (cc is); options = refl; first = λ _ l none. refl; counted = λ _ l i. refl; no_more = λ _ l _ h. h };
     stops = refl;
     silent = λ is. absurd (cc is);
     too_many = λ is. absurd (cc is);
@@ -164,6 +171,7 @@ module _ {C A I R E : Type 0} (next : I → Option (Result (DirEntry C A R E) (E
       first = λ _ l _.
           opened_first (options_of s) (frames_of s.stack) (files_of s.files) (files_of files) (entry found) l above opens.files
           ∙ ap (λ fs. closing (options_of s) nothing fs (weighed (options_of s) (files_of files) l)) (sym opens.opened);
+      counted = λ _ l. after_same (options_of s) (files_of files) (with_file (counted_once (options_of s) (entry found)) (files_of s.files)) opens.files l;
       no_more = λ _ l _ h.
           opened_great (own (options_of s).apparent (is_repeated (files_of s.files) (counted_once (options_of s) (entry found))) (entry found)) (total (weighed (options_of s) (with_file (counted_once (options_of s) (entry found)) (files_of s.files)) l)) (open_total (frames_of s.stack))
           (subst IsTooGreat (ap₂ (λ fs m. plus (open_total fs) (total m)) opens.opened (weighed_same (options_of s) (files_of files) (with_file (counted_once (options_of s) (entry found)) (files_of s.files)) opens.files l)) h);
@@ -188,6 +196,7 @@ module _ {C A I R E : Type 0} (next : I → Option (Result (DirEntry C A R E) (E
       first = λ _ l _.
           counted_first (options_of s) (frames_of s.stack) (files_of s.files) (failure error) l above
           ∙ ap (λ fs. Err (failure error) ∷ closing (options_of s) nothing fs (weighed (options_of s) (files_of s.files) l)) (sym counted);
+      counted = λ _ l i. refl;
       no_more = λ _ l _ h. added_great one_error (total (weighed (options_of s) (files_of s.files) l)) (frames_of s.stack) (subst (λ fs. IsTooGreat (plus (open_total fs) (total (weighed (options_of s) (files_of s.files) l)))) counted h);
     };
     stops = sym ordinary;
@@ -202,7 +211,7 @@ module _ {C A I R E : Type 0} (next : I → Option (Result (DirEntry C A R E) (E
   pub stopped_turn : (x : Result (DirEntry C A R E) (Error A)) (error : SubtotalError A) (stack : Stack C A R E) (files : Files A) → can (answers_of s) → IsFinite (left (answers_of s)) → is_last error ≡ true → (error ≡ TooMany → IsTooGreat (plus (open_total (frames_of s.stack)) (total (weighed (options_of s) (files_of s.files) (item x ∷ [])))))
       → Turns next can left (record s { ahead = Taken x; stopped = false }) (TurnYields (Err error)) (record s { stack = stack; files = files; ahead = Unasked; stopped = true })
   stopped_turn x error stack files may ends last many = record {
-    goes = record { taken = []; takes = refl; stays_over = λ is. is; options = refl; first = λ goes l _. absurd (cc goes); no_more = λ goes l _ h. absurd (cc goes) };
+    goes = record { taken = []; takes = refl; stays_over = λ is. is; options = refl; first = λ goes l _. absurd (cc goes); counted = λ goes l. absurd (cc goes); no_more = λ goes l _ h. absurd (cc goes) };
     stops = sym last;
     silent = λ is. absurd (cc is);
     too_many = λ is. many (same_error {X = WithSubtotal C A R E} error TooMany is);
@@ -214,7 +223,7 @@ module _ {C A I R E : Type 0} (next : I → Option (Result (DirEntry C A R E) (E
   -- there is nothing more
   pub ended_turn : frames_of s.stack ≡ [] → Turns next can left (record s { ahead = Over; stopped = false }) Ends (record s { ahead = Over; stopped = false })
   ended_turn none = record {
-    goes = record { taken = []; takes = (refl, refl); stays_over = λ is. is; options = refl; first = λ _ l _. refl; no_more = λ _ l _ h. h };
+    goes = record { taken = []; takes = (refl, refl); stays_over = λ is. is; options = refl; first = λ _ l _. refl; counted = λ _ l i. refl; no_more = λ _ l _ h. h };
     stops = refl;
     silent = λ _. refl;
     too_many = λ is. absurd (cc is);
@@ -226,7 +235,7 @@ module _ {C A I R E : Type 0} (next : I → Option (Result (DirEntry C A R E) (E
   -- nothing comes any more
   pub silent_turn : is_stopped s ≡ true → CanGoOn can left s → Turns next can left s Ends s
   silent_turn stopped may = record {
-    goes = record { taken = []; takes = takes_nothing next (is_over s) (answers_of s) (answers_of s) refl; stays_over = λ is. is; options = refl; first = λ _ l _. refl; no_more = λ _ l _ h. h };
+    goes = record { taken = []; takes = takes_nothing next (is_over s) (answers_of s) (answers_of s) refl; stays_over = λ is. is; options = refl; first = λ _ l _. refl; counted = λ _ l i. refl; no_more = λ _ l _ h. h };
     stops = or_false (is_stopped s);
     silent = λ _. refl;
     too_many = λ is. absurd (cc is);

@@ -16,7 +16,7 @@ use Rattle.jwalk_subtotals.specs.declared.iter.Ahead.TheVariants.{Unasked, Taken
 use Rattle.jwalk_subtotals.specs.declared.error.SubtotalError.{SubtotalError}
 use Rattle.jwalk_subtotals.specs.declared.error.SubtotalError.TheVariants.{Walk, TooMany, Memory}
 use Rattle.jwalk_subtotals.specs.Subtotal.{nothing, plus, IsTooGreat}
-use Rattle.jwalk_subtotals.specs.Counted.{Weighed, weighed}
+use Rattle.jwalk_subtotals.specs.Counted.{Weighed, weighed, files_after, HaveSame}
 use Rattle.jwalk_subtotals.specs.Subtotals.{Yielded, below, beyond, total, shown, listed_all}
 use Rattle.jwalk_subtotals.specs.Stack.{Frame, frames_of, open_total}
 use Rattle.jwalk_subtotals.specs.Files.{files_of}
@@ -43,6 +43,10 @@ module _ {R E : Type 0} where
   -- what the open entries, the answer that waits and these answers count together
   abbrev pub in_all : SubtotalOptions → Held R E → List (Item R E) → Subtotal
   in_all options h l = plus (open_total h.frames) (total (weighed options h.files (h.waiting ++ l)))
+
+  -- the files that are counted behind these answers
+  abbrev pub counted_behind : SubtotalOptions → Held R E → List (Item R E) → List Identity
+  counted_behind options h l = files_after options h.files (h.waiting ++ l)
 
 -- the answer that was taken and isn't counted yet
 abbrev pub waiting_in : {C A R E : Type 0} → Ahead C A R E → List (Item R E)
@@ -141,6 +145,8 @@ module _ {C A I R E : Type 0} (next : I → Option (Result (DirEntry C A R E) (E
     pub options : options_of new ≡ options_of old
     pub first : is_stopped new ≡ false → (later : List (Item R E)) → (is_over new ≡ true → later ≡ [])
         → coming (options_of old) (held old) (map item taken ++ later) ≡ yielded ++ coming (options_of new) (held new) later
+    -- the files that are counted are those of what was held and taken
+    pub counted : is_stopped new ≡ false → (later : List (Item R E)) → HaveSame (counted_behind (options_of new) (held new) later) (counted_behind (options_of old) (held old) (map item taken ++ later))
     -- what is open counts no more than was open and what was taken
     pub no_more : is_stopped new ≡ false → (later : List (Item R E)) → (is_over new ≡ true → later ≡ []) → IsTooGreat (in_all (options_of new) (held new) later) → IsTooGreat (in_all (options_of old) (held old) (map item taken ++ later))
 

@@ -1,5 +1,5 @@
 -- What each of a list of answers counts.
-use Rattle.std.specs.Prelude.{ℕ, ◌*◌, nat_lt, Bool, true, false, ◌&&◌, ◌||◌, List, [], ◌∷◌, Option, Some, None, Ok, Err, if◌then◌else◌}
+use Rattle.std.specs.Prelude.{◌≡◌, ℕ, ◌*◌, nat_lt, Bool, true, false, ◌&&◌, ◌||◌, List, [], ◌∷◌, Option, Some, None, Ok, Err, if◌then◌else◌}
 use Rattle.std.specs.List.{list_any}
 use Rattle.jwalk.specs.jwalk_model.declared.file_type.FileType.{FileType}
 use Rattle.jwalk.specs.jwalk_model.declared.metadata.Metadata.{Metadata}
@@ -57,6 +57,10 @@ abbrev pub with_file : Option Identity → List Identity → List Identity
 with_file None files = files
 with_file (Some i) files = i ∷ files
 
+-- The lists have the same files.
+abbrev pub HaveSame : List Identity → List Identity → Type 0
+HaveSame files others = (i : Identity) → is_among files i ≡ is_among others i
+
 -- what an entry of this type counts by its type alone
 abbrev pub counted_by_type : FileType → Subtotal
 counted_by_type type = record nothing { files = one_if (is_file type); dirs = one_if (is_dir type); links = one_if (is_symlink type); others = one_if (is_other type) }
@@ -88,3 +92,9 @@ module _ {R E : Type 0} where
   weighed options files (Ok e ∷ l) =
       (Ok e, own options.apparent (is_repeated files (counted_once options e)) e) ∷ weighed options (with_file (counted_once options e) files) l
   weighed options files (Err f ∷ l) = (Err f, one_error) ∷ weighed options files l
+
+  -- the files that are counted behind these answers, where these files were counted before
+  abbrev pub files_after : SubtotalOptions → List Identity → List (Item R E) → List Identity
+  files_after options files [] = files
+  files_after options files (Ok e ∷ l) = files_after options (with_file (counted_once options e) files) l
+  files_after options files (Err f ∷ l) = files_after options files l

@@ -1,8 +1,8 @@
 -- Which files were counted.
-use Rattle.std.specs.Prelude.{◌≡◌, List, Option}
+use Rattle.std.specs.Prelude.{List, Option}
 use Rattle.jwalk.specs.jwalk_model.declared.metadata.Identity.{Identity}
 use Rattle.jwalk_subtotals.specs.declared.files.Files.{Files}
-use Rattle.jwalk_subtotals.specs.Counted.{is_among, with_file}
+use Rattle.jwalk_subtotals.specs.Counted.{HaveSame, with_file}
 
 -- the files, in any order
 abbrev pub files_of : {A : Type 0} → Files A → List Identity
@@ -10,4 +10,4 @@ files_of s = s.known.keys
 
 -- The second list has these files: those of the first and one more, if it is known.
 abbrev pub AreWith : Option Identity → List Identity → List Identity → Type 0
-AreWith file old new = (i : Identity) → is_among new i ≡ is_among (with_file file old) i
+AreWith file old new = HaveSame new (with_file file old)

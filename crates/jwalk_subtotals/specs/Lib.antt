@@ -7,5 +7,6 @@ pub mod Error
 pub mod Coming
 pub mod Turns
 pub mod Whole
+pub mod Alike
 pub mod Roots
 pub mod Rows

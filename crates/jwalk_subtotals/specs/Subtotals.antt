@@ -1,7 +1,9 @@
 -- The subtotals of a list of answers.
 use Rattle.std.specs.Prelude.{ℕ, zero, suc, nat_lt, nat_le, ◌&&◌, ◌||◌, ◌==◌, List, [], ◌∷◌, ◌++◌, length, Option, Some, None, Result, Ok, Err, if◌then◌else◌}
+use Rattle.jwalk.specs.jwalk_model.declared.metadata.Identity.{Identity}
 use Rattle.jwalk.specs.jwalk_model.FileType.{is_dir}
 use Rattle.jwalk.specs.jwalk_model.Error.{Failure}
+use Rattle.jwalk.specs.jwalk_model.Counted.{entry_by}
 use Rattle.jwalk.specs.jwalk_model.Entry.{Entry, Item}
 use Rattle.jwalk.specs.jwalk_job.Error.{depth_of}
 use Rattle.jwalk_subtotals.specs.declared.subtotal.Subtotal.{Subtotal}
@@ -12,6 +14,11 @@ use Rattle.jwalk_subtotals.specs.Counted.{Weighed, weighed}
 -- What is yielded: an entry with its subtotal, or an error.
 abbrev pub Yielded : Type 0 → Type 0 → Type 0
 Yielded R E = Result (Entry R E × Subtotal) Failure
+
+-- what is yielded, with states by views of both kinds
+abbrev pub yielded_by : {R E V W : Type 0} → (R → V) → (E → W) → Yielded R E → Yielded V W
+yielded_by view mark (Ok (e, t)) = Ok (entry_by view mark e, t)
+yielded_by view mark (Err f) = Err f
 
 module _ {R E : Type 0} where
   -- the depth of an answer
@@ -59,6 +66,10 @@ module _ {R E : Type 0} where
   abbrev pub listed_all : SubtotalOptions → List (Weighed R E) → List (Yielded R E)
   listed_all options l = listed (length l) options l
 
+  -- the same of answers, where these files were counted before
+  abbrev pub subtotals_beside : SubtotalOptions → List Identity → List (Item R E) → List (Yielded R E)
+  subtotals_beside options files l = listed_all options (weighed options files l)
+
   -- what is yielded for a list of answers: the subtotal of each entry that is asked for, behind those of all that is below it, and the errors between them
   abbrev pub subtotals : SubtotalOptions → List (Item R E) → List (Yielded R E)
-  subtotals options l = listed_all options (weighed options [] l)
+  subtotals options l = subtotals_beside options [] l

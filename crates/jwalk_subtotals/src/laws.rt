@@ -1,6 +1,7 @@
 //! The laws on subtotals, each as the contract of a function that does nothing.
+ghost use Rattle.jwalk_subtotals.specs.Alike.{StatesDoNotCount, ErrorsAreYielded};
 ghost use Rattle.jwalk_subtotals.specs.Roots.{RootsAreAll, RootsAreTotals, SubtotalsAddUp};
-ghost use Rattle.jwalk_subtotals.specs.Whole.{AllAreYielded, FirstAreYielded};
+ghost use Rattle.jwalk_subtotals.specs.Whole.{AllAreYielded, AllAreYieldedBeside, FirstAreYielded};
 
 use jwalk::error::Result as Answer;
 use jwalk::{ClientState, DirEntry};
@@ -21,6 +22,16 @@ pub fn roots_are_totals<R, E>()
     ensures { RootsAreTotals R E }
 {}
 
+/// Subtotals don't go by the states of a walk.
+pub fn states_do_not_count<R, E, V, W>()
+    ensures { StatesDoNotCount R E V W }
+{}
+
+/// Where nothing that is yielded is an error, no answer is.
+pub fn errors_are_yielded<R, E>()
+    ensures { ErrorsAreYielded R E }
+{}
+
 /// What is yielded up to `None` are the subtotals of all answers of the walk, unless an error was yielded behind which
 /// nothing comes.
 pub fn all_are_yielded<
@@ -29,6 +40,16 @@ pub fn all_are_yielded<
     I: Iterator<Item = Answer<DirEntry<C, A>, A>>,
 >()
     ensures { AllAreYielded I.next_gives }
+{}
+
+/// So it is beside files that were counted before. The files that are counted at the end, which `take_files` returns, are
+/// those and the ones of these answers.
+pub fn all_are_yielded_beside<
+    C: ClientState,
+    A: Allocator + Copy,
+    I: Iterator<Item = Answer<DirEntry<C, A>, A>>,
+>()
+    ensures { AllAreYieldedBeside I.next_gives }
 {}
 
 /// What is yielded up to an error behind which nothing comes is the beginning of the subtotals of any answers that begin
