@@ -80,7 +80,6 @@ impl<C: ClientState, S: FileSystem, A: Allocator + Copy, W: Drop> WalkDirGeneric
     ghost use Rattle.jwalk_model.specs.Options.{defaults};
     ghost use Rattle.jwalk.specs.WalkDir.{file_system_of, root_of, state_of, options_of};
 
-    /// Returns a walk whose crew, if it has one, is set later.
     fn with_no_options(fs: S, root: String<A>) -> Self
         ensures file_system { file_system_of result ≡ fs }
         ensures root { root_of result ≡ string_bytes root }
@@ -282,7 +281,6 @@ impl<C: ClientState, S: FileSystem, P: ProcessReadDir<C, A>, A: Allocator + Copy
     ghost use Rattle.jwalk.specs.WalkDir.{callback_of, Starts, Holds};
     ghost use Rattle.jwalk_core.specs.DirEntryIter.{by_crew, is_refused, IsRefused};
 
-    /// Begins the walk, whether memory runs out or not.
     fn begin(self) -> DirEntryIter<C, S, P, A>
         requires { P.IsLawful (callback_of self) }
         ensures own { by_crew result ≡ false }

@@ -65,7 +65,6 @@ fn stands_at<C: ClientState, A: Allocator + Copy>(
     }
 }
 
-/// Drops the entries at other depths.
 fn keep_depth<C: ClientState, A: Allocator + Copy>(
     list: &mut Vec<Result<DirEntry<C, A>, Error<A>>, A>,
     depth: usize,

@@ -60,7 +60,6 @@ fn passes<C: ClientState, A: Allocator + Copy, F: Fn(usize, &str, FileType) -> b
     }
 }
 
-/// Drops the entries that don't pass.
 fn keep<C: ClientState, A: Allocator + Copy, F: Fn(usize, &str, FileType) -> bool>(
     test: &F,
     list: &mut Vec<Result<DirEntry<C, A>, Error<A>>, A>,

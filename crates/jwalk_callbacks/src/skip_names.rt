@@ -42,7 +42,6 @@ impl<A: Allocator + Copy> SkipNames<A> {
     }
 }
 
-/// Returns whether a name is one of these.
 fn is_listed<A: Allocator + Copy>(names: &[String<A>], name: &str) -> bool
     ensures { result ≡ is_one_of (map string_bytes names.now) name.now }
 {
@@ -63,7 +62,6 @@ fn skip<C: ClientState, A: Allocator + Copy>(
     }
 }
 
-/// Takes the directories away from all entries of these names.
 fn skip_all<C: ClientState, A: Allocator + Copy>(
     names: &[String<A>],
     list: &mut Vec<Result<DirEntry<C, A>, Error<A>>, A>,

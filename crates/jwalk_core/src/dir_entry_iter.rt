@@ -111,7 +111,6 @@ impl<
         }
     }
 
-    /// Takes over the root's list.
     fn begin(&mut self, read: ReadDir<C, A>) -> Result<(), AllocError>
         requires { by_crew self.old ≡ false }
         ensures own { by_crew self.new ≡ false }
@@ -154,7 +153,6 @@ impl<
         walk
     }
 
-    /// Puts the items of a reading in front of those that were received before.
     fn receive(&mut self, read: ReadDir<C, A>) -> Result<(), AllocError>
         ensures reads { self.new.reads ≡ self.old.reads }
         ensures refused { self.new.refused ≡ self.old.refused }
@@ -169,7 +167,6 @@ impl<
         self.items.append(&mut items)
     }
 
-    /// Drops all that is still to come.
     fn stop(&mut self)
         ensures crew { by_crew self.new ≡ by_crew self.old }
         ensures job { job_of self.new ≡ job_of self.old }
@@ -187,7 +184,6 @@ impl<
         self.reads.stop();
     }
 
-    /// Returns the entry of a directory with the outcome of its reading, and receives the items of the reading.
     fn entered(
         &mut self,
         found: DirEntry<C, A>,
@@ -210,7 +206,6 @@ impl<
         }
     }
 
-    /// Passes the next item on.
     fn pass(&mut self) -> Result<Option<Result<DirEntry<C, A>, Error<A>>>, Missed>
         requires { P.IsLawful (callback (job_of self.old)) }
         ensures { Passes S.FileSystem P.ProcessReadDir C.ReadDirState.Clone C.DirEntryState.Default L.Readers
@@ -232,7 +227,6 @@ impl<
         }
     }
 
-    /// Returns what was passed on, unless the least depth leaves it out.
     fn kept(
         &self,
         passed: Result<DirEntry<C, A>, Error<A>>,
@@ -248,7 +242,6 @@ impl<
         }
     }
 
-    /// Returns the next item that is yielded.
     fn next_kept(&mut self) -> Result<Option<Result<DirEntry<C, A>, Error<A>>>, Missed>
         requires { P.IsLawful (callback (job_of self.old)) }
         ensures { GoesOn S.FileSystem P.ProcessReadDir C.ReadDirState.Clone C.DirEntryState.Default L.Readers
@@ -279,7 +272,6 @@ impl<
         }
     }
 
-    /// Returns the next answer; or the error that reports why it won't come, and then nothing is left.
     fn next_answer(&mut self) -> Option<Result<DirEntry<C, A>, Error<A>>>
         requires { P.IsLawful (callback (job_of self.old)) }
         ensures { Answers S.FileSystem P.ProcessReadDir C.ReadDirState.Clone C.DirEntryState.Default L.Readers

@@ -66,7 +66,6 @@ impl<C: ClientState, S: Drop, P: Drop, A: Allocator + Copy> Drop for Job<C, S, P
     }
 }
 
-/// Returns the directory that an entry of this name in a directory is to be read from, if it is entered.
 fn children_in<C: ClientState, A: Allocator + Copy>(
     alloc: A,
     directory: &str,
@@ -82,7 +81,6 @@ fn children_in<C: ClientState, A: Allocator + Copy>(
     Ok(Some(ReadChildren::new(joined(alloc, directory, name)?)))
 }
 
-/// Returns the metadata that an entry keeps.
 fn kept<A: Allocator + Copy>(
     alloc: A,
     options: Options,
@@ -124,12 +122,7 @@ impl<C: ClientState, S: FileSystem, P: ProcessReadDir<C, A>, A: Allocator + Copy
         self.options
     }
 
-    /// Returns what the entries of a directory share. The file system is asked which file the directory is if the walk
-    /// stays on one file system.
-    ///
-    /// # Errors
-    ///
-    /// If memory runs out.
+    /// The file system is asked which file the directory is if the walk stays on one file system.
     fn inside(&self, of: &ReadDirSpec<C, A>) -> Result<Inside<A>, AllocError>
         ensures { ByValue S.FileSystem C.DirEntryState.Default self.now (λ g job.
             IfOk result (λ inside. IsInside job (counted_spec g (spec of.now)) inside)) }
@@ -143,7 +136,6 @@ impl<C: ClientState, S: FileSystem, P: ProcessReadDir<C, A>, A: Allocator + Copy
         Ok(Inside::new(ancestors, within))
     }
 
-    /// Returns the entry of a name in a directory.
     fn entry_in(
         &self,
         of: &ReadDirSpec<C, A>,
@@ -178,7 +170,6 @@ impl<C: ClientState, S: FileSystem, P: ProcessReadDir<C, A>, A: Allocator + Copy
         ))
     }
 
-    /// Returns what a name in a directory gives: nothing if it is hidden and skipped.
     fn named(
         &self,
         of: &ReadDirSpec<C, A>,
@@ -212,10 +203,6 @@ impl<C: ClientState, S: FileSystem, P: ProcessReadDir<C, A>, A: Allocator + Copy
     }
 
     /// Lists a directory: returns its items in the file system's order.
-    ///
-    /// # Errors
-    ///
-    /// If it can't be listed, or if memory runs out.
     fn raw(&self, of: &ReadDirSpec<C, A>) -> Result<Vec<Result<DirEntry<C, A>, Error<A>>, A>, Fault>
         requires { (spec of.now).depth + 1 < 2 ^ 64 }
         ensures depth { IfOk result (λ v. AtDepth ((spec of.now).depth + 1) (map item v.items)) }
@@ -232,8 +219,7 @@ impl<C: ClientState, S: FileSystem, P: ProcessReadDir<C, A>, A: Allocator + Copy
         Ok(gathering.into_items())
     }
 
-    /// Returns the list of a directory that could be listed, in the order that is asked for, after the callback. The
-    /// callback is called with a clone of the directory's state.
+    /// The callback is called with a clone of the directory's state.
     fn processed(
         &self,
         of: &ReadDirSpec<C, A>,

@@ -23,7 +23,6 @@ pub struct Options {
     ghost in_order: { min_depth ≤ max_depth },
 }
 
-/// Returns whether a name starts with a dot.
 fn is_hidden(name: &str) -> bool
     ensures { result ≡ is_hidden name.now }
 {
@@ -131,8 +130,6 @@ impl Options {
             && self.max_depth == other.max_depth
     }
 
-    /// Returns whether a directory at this depth is read: one at the greatest depth isn't. If it is, the depth below it
-    /// fits in a `usize`.
     pub(crate) fn reads(self, depth: usize) -> bool
         ensures above { IsTrue result ↔ (depth < (options_value self).max_depth) }
         ensures fits { IsTrue result → depth + 1 < 2 ^ 64 }
@@ -140,7 +137,6 @@ impl Options {
         depth < self.max_depth
     }
 
-    /// Returns whether a name is left out.
     pub(crate) fn skips(self, name: &str) -> bool
         ensures { result ≡ ((options_value self).skip_hidden && is_hidden name.now) }
     {
@@ -160,21 +156,18 @@ impl Options {
         }
     }
 
-    /// Returns whether links are followed.
     pub(crate) fn follow_links(self) -> bool
         ensures { result ≡ (options_value self).follow_links }
     {
         self.follow_links
     }
 
-    /// Returns whether a walk stays on one file system.
     pub(crate) fn same_file_system(self) -> bool
         ensures { result ≡ (options_value self).same_file_system }
     {
         self.same_file_system
     }
 
-    /// Returns whether metadata is kept.
     pub(crate) fn keep_metadata(self) -> bool
         ensures { result ≡ (options_value self).keep_metadata }
     {

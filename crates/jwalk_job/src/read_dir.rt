@@ -52,7 +52,6 @@ pub fn directories_of<C: ClientState, A: Allocator + Copy>(
     }
 }
 
-/// Adds the specification of an item's directory, if it has one.
 fn push_spec<C: ClientState, A: Allocator + Copy>(
     specs: &mut Vec<ReadDirSpec<C, A>, A>,
     state: &C::ReadDirState,
@@ -71,7 +70,6 @@ fn push_spec<C: ClientState, A: Allocator + Copy>(
     }
 }
 
-/// Returns these values, each at its address: child `i` of the directory at `address`. Each has the child count 0.
 fn addressed<T: Drop, A: Allocator + Copy>(
     address: &IndexPath<A>,
     values: Vec<T, A>,
@@ -90,7 +88,6 @@ fn addressed<T: Drop, A: Allocator + Copy>(
 }
 
 impl<C: ClientState, A: Allocator + Copy> ReadDir<C, A> {
-    /// Returns the reading that left this state and this list.
     pub(crate) fn new(
         read_dir_state: C::ReadDirState,
         results_list: Vec<Result<DirEntry<C, A>, Error<A>>, A>,

@@ -33,7 +33,6 @@ impl<C: ClientState, A: Allocator + Copy> Drop for ReadDirSpec<C, A> {
     }
 }
 
-/// Returns the state that a directory begins with: its own if it was given one, else that of its parent's reading.
 fn first_state<C: ClientState>(
     own: &Option<C::ReadDirState>,
     parent: &C::ReadDirState,
@@ -61,12 +60,6 @@ impl<C: ClientState, A: Allocator + Copy> ReadDirSpec<C, A> {
         &self.ancestors
     }
 
-    /// Returns the specification of an item's directory, if it has one. `state` is what the reading of its list left;
-    /// the specification's own state is a clone.
-    ///
-    /// # Errors
-    ///
-    /// If memory runs out.
     pub(crate) fn of_item(
         state: &C::ReadDirState,
         found: &Result<DirEntry<C, A>, Error<A>>,

@@ -15,7 +15,6 @@ use std::cmp::Ordering;
 /// A list of at most this many items is sorted by its names alone.
 const FEW: usize = 20;
 
-/// Compares entries by the bytes of their names, and puts them before errors.
 fn by_name<C: ClientState, A: Allocator + Copy>(
     a: &Result<DirEntry<C, A>, Error<A>>,
     b: &Result<DirEntry<C, A>, Error<A>>,
@@ -30,7 +29,6 @@ fn by_name<C: ClientState, A: Allocator + Copy>(
     }
 }
 
-/// Returns the name of the first entry of a list.
 fn first_name<C: ClientState, A: Allocator + Copy>(
     list: &[Result<DirEntry<C, A>, Error<A>>],
 ) -> Option<&str> {
@@ -71,7 +69,6 @@ fn shared_length<C: ClientState, A: Allocator + Copy>(
     shared
 }
 
-/// Returns the bytes of a name from a place on.
 fn rest_of(name: &str, from: usize) -> &[u8]
     ensures { result.now ≡ drop from name.now }
 {
@@ -119,7 +116,6 @@ fn sort_by_beginnings<C: ClientState, A: Allocator + Copy>(
     list.sort_by_cached_key(|found| key_of(found, from))
 }
 
-/// Sorts a list by name, with the errors last. Entries of equal name, and errors, keep their order.
 fn sort_by_name<C: ClientState, A: Allocator + Copy>(
     list: &mut Vec<Result<DirEntry<C, A>, Error<A>>, A>,
 ) -> Result<(), AllocError>
@@ -129,7 +125,6 @@ fn sort_by_name<C: ClientState, A: Allocator + Copy>(
     list.sort_by(by_name)
 }
 
-/// Returns a list sorted by name if that is asked for, and else unchanged.
 pub(crate) fn in_order<C: ClientState, A: Allocator + Copy>(
     sort: bool,
     mut list: Vec<Result<DirEntry<C, A>, Error<A>>, A>,

@@ -54,7 +54,6 @@ fn make_busy<C: ClientState, A: Allocator + Copy>(found: &mut Result<DirEntry<C,
     }
 }
 
-/// Puts it in place of all such entries.
 fn make_all_busy<C: ClientState, A: Allocator + Copy>(
     list: &mut Vec<Result<DirEntry<C, A>, Error<A>>, A>,
 )
@@ -65,7 +64,6 @@ fn make_all_busy<C: ClientState, A: Allocator + Copy>(
     }
 }
 
-/// Returns what is left of a root's list after its readings began, or didn't.
 fn left<C: ClientState, A: Allocator + Copy>(
     mut list: Vec<Result<DirEntry<C, A>, Error<A>>, A>,
     why_not: Option<NotStarted>,
@@ -95,7 +93,6 @@ fn is_refused(why_not: Option<NotStarted>) -> bool
     }
 }
 
-/// Returns the walk that holds what is left of the root's list after its readings began, or didn't.
 fn after_start<
     C: ClientState,
     S: FileSystem,
@@ -115,7 +112,6 @@ fn after_start<
     DirEntryIter::with_list(ReadDirIter::CrewWalk(reads), list, is_refused(why_not))
 }
 
-/// Begins the walk with the root's list, to read by itself.
 pub(super) fn from_root_alone<
     C: ClientState,
     S: FileSystem,
@@ -142,7 +138,6 @@ pub(super) fn from_root_alone<
     }
 }
 
-/// Starts a crew's readings of the directories of a root's list.
 fn start_reads<
     R: Wait + Threads + Clock + Drop + Send + Sync + 'static,
     C: ClientState + Send + 'static,
@@ -187,7 +182,6 @@ where
     ghost use Rattle.jwalk_job.specs.Job.{options_of};
     ghost use Rattle.jwalk.specs.CrewStart.{IsBegun};
 
-    /// Begins the walk, whose directories a crew reads.
     fn with_reads(
         mut reads: CrewReads<C, S, P, A, Session<R, C, S, P, A>>,
         read: ReadDir<C, A>,
@@ -214,9 +208,8 @@ where
         }
     }
 
-    /// Begins the walk with the root's list, whose directories a crew reads. If no place of the crew was free in time,
-    /// each entry with a directory is replaced by the error that reports it. If memory ran out, the walk yields the error
-    /// that reports it, and nothing else.
+    /// If no place of the crew was free in time, each entry with a directory is replaced by the error that reports it.
+    /// If memory ran out, the walk yields the error that reports it, and nothing else.
     pub(super) fn from_root_by(
         alloc: A,
         job: Job<C, S, P, A>,

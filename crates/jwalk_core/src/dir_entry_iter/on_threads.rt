@@ -26,7 +26,6 @@ where
     ghost use Rattle.jwalk_core.specs.DirEntryIter.{job_of, items_of, unread_of, Prepares, Passes, GoesOn, Answers, Fills};
     ghost use Rattle.jwalk_core.specs.Step.{IsAtDirectory};
 
-    /// Returns whether the next item is a directory's entry, which is to be read if any is left.
     fn is_at_directory(&self) -> bool
         ensures yes { result ≡ true → unread_of self.now ≢ []
             → IsAtDirectory (items_of self.now) (unread_of self.now) }
@@ -52,7 +51,6 @@ where
         self.reads.prepare_on(rt)
     }
 
-    /// Passes the next item on, like `pass`.
     fn pass_on<R: Threads + Sync>(
         &mut self,
         rt: &R,
@@ -65,7 +63,6 @@ where
         self.pass()
     }
 
-    /// Returns the next item that is yielded, like `next_kept`.
     fn next_kept_on<R: Threads + Sync>(
         &mut self,
         rt: &R,

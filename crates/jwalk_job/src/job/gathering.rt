@@ -27,7 +27,6 @@ pub(super) struct Gathering<'g, C: ClientState, S, P, A: Allocator + Copy> {
 }
 
 impl<'g, C: ClientState, S, P, A: Allocator + Copy> Gathering<'g, C, S, P, A> {
-    /// Returns no items yet, of this directory. `inside` is what they share.
     pub(super) fn new(
         job: &'g Job<C, S, P, A>,
         of: &'g ReadDirSpec<C, A>,
@@ -47,7 +46,6 @@ impl<'g, C: ClientState, S, P, A: Allocator + Copy> Gathering<'g, C, S, P, A> {
         }
     }
 
-    /// Returns the items.
     pub(super) fn into_items(self) -> Vec<Result<DirEntry<C, A>, Error<A>>, A>
         ensures { result ≡ self.entry.items }
     {

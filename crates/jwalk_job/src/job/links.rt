@@ -53,7 +53,6 @@ fn own_parent(path: &str) -> &str
     }
 }
 
-/// Returns a text that is shared.
 pub(super) fn shared<A: Allocator + Copy>(
     alloc: A,
     words: &str,
@@ -63,7 +62,6 @@ pub(super) fn shared<A: Allocator + Copy>(
     Ok(Arc::new(alloc, String::from_str(alloc, words)?)?)
 }
 
-/// Returns the path of a name below a path, shared.
 pub(super) fn joined<A: Allocator + Copy>(
     alloc: A,
     path: &str,
@@ -74,8 +72,6 @@ pub(super) fn joined<A: Allocator + Copy>(
     Ok(Arc::new(alloc, path_text::join(alloc, path, name)?)?)
 }
 
-/// Returns the ancestors of what is in a directory below these, one list for all of it. None are kept if links aren't
-/// followed.
 pub(super) fn ancestors_below<A: Allocator + Copy>(
     alloc: A,
     follow_links: bool,
@@ -152,7 +148,6 @@ fn leads_on<S: FileSystem, A: Allocator + Copy>(
     }
 }
 
-/// Returns the directory at a path, if it is entered.
 fn directory_at<C: ClientState, A: Allocator + Copy>(
     path: &Arc<String<A>, A>,
     is_entered: bool,
@@ -166,7 +161,7 @@ fn directory_at<C: ClientState, A: Allocator + Copy>(
 }
 
 impl<C: ClientState, S: FileSystem, P: ProcessReadDir<C, A>, A: Allocator + Copy> Job<C, S, P, A> {
-    /// Returns the entry of a path of which this is known. A text near by may be that of its parent.
+    /// `near` may be the path of the entry's parent.
     fn entry_at(
         &self,
         depth: usize,
@@ -201,7 +196,7 @@ impl<C: ClientState, S: FileSystem, P: ProcessReadDir<C, A>, A: Allocator + Copy
         ))
     }
 
-    /// Returns the entry of a path, or the error with its depth and path. A text near by may be that of its parent.
+    /// `near` may be the path of the entry's parent.
     pub(super) fn made(
         &self,
         depth: usize,
@@ -300,15 +295,12 @@ impl<C: ClientState, S: FileSystem, P: ProcessReadDir<C, A>, A: Allocator + Copy
         }
     }
 
-    /// Returns whether an entry of this type is a link that is followed.
     fn gives_way(&self, file_type: FileType) -> bool
         ensures { result ≡ ((options_of self.now).follow_links && is_symlink file_type) }
     {
         self.options.follow_links() && file_type.is_symlink()
     }
 
-    /// Returns an entry after the link rule: if links are followed, a link is replaced by what it leads to. `inside` is
-    /// what it shares with the others in its directory.
     pub(super) fn followed(
         &self,
         found: DirEntry<C, A>,

@@ -40,7 +40,6 @@ struct Behind<A: Allocator + Copy> {
     metadata: Metadata,
 }
 
-/// Returns what is behind a root that is a link of this name below a path, or the error of one that is broken.
 fn behind_root<S: FileSystem, A: Allocator + Copy>(
     alloc: A,
     fs: &S,
@@ -84,7 +83,6 @@ impl<C: ClientState, S: FileSystem, P: ProcessReadDir<C, A>, A: Allocator + Copy
         }
     }
 
-    /// Returns a root's entry after the link rule, and with what is behind it if it is still a link.
     fn root_target(
         &self,
         found: DirEntry<C, A>,
@@ -101,7 +99,6 @@ impl<C: ClientState, S: FileSystem, P: ProcessReadDir<C, A>, A: Allocator + Copy
         }
     }
 
-    /// Returns the root's entry, or the error met when it was asked for.
     fn root_entry(&self, path: &str) -> Result<Result<DirEntry<C, A>, Error<A>>, AllocError>
         ensures depth { IfOk result (λ r. AtDepth 0 (item r ∷ [])) }
         ensures value { ByValue S.FileSystem C.DirEntryState.Default self.now (λ g job.
@@ -114,7 +111,6 @@ impl<C: ClientState, S: FileSystem, P: ProcessReadDir<C, A>, A: Allocator + Copy
         self.made(0, &path, &path, false, &ancestors)
     }
 
-    /// Returns the root's item before the callback, with the path that the callback is called with.
     fn root_item(&self, path: &str) -> Result<RootItem<C, A>, AllocError>
         ensures depth { IfOk result (λ r. AtDepth 0 (item r.item ∷ [])) }
         ensures value { ByValue S.FileSystem C.DirEntryState.Default self.now (λ g job.
