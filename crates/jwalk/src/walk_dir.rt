@@ -19,6 +19,7 @@ use jwalk_fs::file_system::FileSystem;
 use jwalk_job::client_state::ClientState;
 use jwalk_job::dir_entry::DirEntry;
 use jwalk_job::error::Error;
+use jwalk_job::item::Item;
 use jwalk_job::job::Job;
 use jwalk_job::options::Options;
 use jwalk_job::process_read_dir::{NoProcess, ProcessReadDir};
@@ -384,7 +385,7 @@ impl<C: ClientState, S: FileSystem, P: ProcessReadDir<C, Global>, W: Drop> WalkD
 
 impl<C: ClientState, S: FileSystem, A: Allocator + Copy> IntoIterator
     for WalkDirGeneric<C, S, NoProcess, A> {
-    type Item = Result<DirEntry<C, A>, Error<A>>;
+    type Item = Item<C, A>;
 
     type IntoIter = DirEntryIter<C, S, NoProcess, A>;
 

@@ -26,6 +26,7 @@ use crate::ancestors::identity_at;
 use crate::client_state::ClientState;
 use crate::dir_entry::DirEntry;
 use crate::error::Error;
+use crate::item::{Item, List};
 use crate::options::Options;
 use crate::process_read_dir::ProcessReadDir;
 use crate::read_children::ReadChildren;
@@ -176,7 +177,7 @@ impl<C: ClientState, S: FileSystem, P: ProcessReadDir<C, A>, A: Allocator + Copy
         inside: &mut Inside<A>,
         name: &str,
         seen: io::Result<Seen>,
-    ) -> Result<Option<Result<DirEntry<C, A>, Error<A>>>, AllocError>
+    ) -> Result<Option<Item<C, A>>, AllocError>
         requires fits { (spec of.now).depth + 1 < 2 ^ 64 }
         ensures depth { IfOk result (λ o. AtDepth ((spec of.now).depth + 1) (map item (option_to_list o))) }
         ensures asks { S.IsFixed (file_system self.now)
@@ -203,7 +204,7 @@ impl<C: ClientState, S: FileSystem, P: ProcessReadDir<C, A>, A: Allocator + Copy
     }
 
     /// Lists a directory: returns its items in the file system's order.
-    fn raw(&self, of: &ReadDirSpec<C, A>) -> Result<Vec<Result<DirEntry<C, A>, Error<A>>, A>, Fault>
+    fn list_items(&self, of: &ReadDirSpec<C, A>) -> Result<List<C, A>, Fault>
         requires { (spec of.now).depth + 1 < 2 ^ 64 }
         ensures depth { IfOk result (λ v. AtDepth ((spec of.now).depth + 1) (map item v.items)) }
         ensures value { ByValue S.FileSystem C.DirEntryState.Default self.now (λ g job.
@@ -220,10 +221,10 @@ impl<C: ClientState, S: FileSystem, P: ProcessReadDir<C, A>, A: Allocator + Copy
     }
 
     /// The callback is called with a clone of the directory's state.
-    fn processed(
+    fn run_callback(
         &self,
         of: &ReadDirSpec<C, A>,
-        items: Vec<Result<DirEntry<C, A>, Error<A>>, A>,
+        items: List<C, A>,
     ) -> Result<ReadDir<C, A>, AllocError>
         requires lawful { P.IsLawful (callback self.now) }
         requires fits { (spec of.now).depth + 1 < 2 ^ 64 }
@@ -261,8 +262,8 @@ impl<C: ClientState, S: FileSystem, P: ProcessReadDir<C, A>, A: Allocator + Copy
             let state = of.client_read_state.clone()?;
             return Ok(Ok(ReadDir::new(state, Vec::new(self.alloc))));
         }
-        match self.raw(of) {
-            Ok(items) => Ok(Ok(self.processed(of, items)?)),
+        match self.list_items(of) {
+            Ok(items) => Ok(Ok(self.run_callback(of, items)?)),
             Err(Fault::Io(err)) => Ok(Err(Error::from_path(of.depth(), of.path.clone()?, err))),
             Err(Fault::Memory) => Err(AllocError),
         }

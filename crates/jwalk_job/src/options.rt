@@ -3,8 +3,7 @@ ghost use Rattle.std.specs.Prelude.{◌≡◌, ◌+◌, ◌^◌, ◌<◌, ◌≤
 ghost use Rattle.jwalk_model.specs.Entry.{is_hidden};
 
 use crate::client_state::ClientState;
-use crate::dir_entry::DirEntry;
-use crate::error::Error;
+use crate::item::Item;
 use crate::mode::Mode;
 use std::alloc::Allocator;
 
@@ -144,10 +143,7 @@ impl Options {
     }
 
     /// Returns whether an item that a walk reaches is yielded: an entry from the least depth on, and every error.
-    pub fn keeps<C: ClientState, A: Allocator + Copy>(
-        self,
-        passed: &Result<DirEntry<C, A>, Error<A>>,
-    ) -> bool
+    pub fn is_deep_enough<C: ClientState, A: Allocator + Copy>(self, passed: &Item<C, A>) -> bool
         ensures { result ≡ is_answered (options_value self).min_depth (item passed.now) }
     {
         match passed {

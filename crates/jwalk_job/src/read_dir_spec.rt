@@ -7,8 +7,7 @@ ghost use Rattle.jwalk_job.specs.ReadDirSpec.{spec};
 
 use crate::ancestors::Ancestors;
 use crate::client_state::ClientState;
-use crate::dir_entry::DirEntry;
-use crate::error::Error;
+use crate::item::Item;
 use std::alloc::{AllocError, Allocator, Global};
 use std::sync::Arc;
 
@@ -62,7 +61,7 @@ impl<C: ClientState, A: Allocator + Copy> ReadDirSpec<C, A> {
 
     pub(crate) fn of_item(
         state: &C::ReadDirState,
-        found: &Result<DirEntry<C, A>, Error<A>>,
+        found: &Item<C, A>,
     ) -> Result<Option<Self>, AllocError>
         ensures { IfOk result (λ o. AreClones C.ReadDirState.is_clone
             (option_to_list (spec_of state.now (item found.now))) (map spec (option_to_list o))) }

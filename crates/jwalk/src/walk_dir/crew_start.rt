@@ -21,8 +21,8 @@ use jwalk_core::readers::Readers;
 use jwalk_core::session::Session;
 use jwalk_fs::file_system::FileSystem;
 use jwalk_job::client_state::ClientState;
-use jwalk_job::dir_entry::DirEntry;
 use jwalk_job::error::Error;
+use jwalk_job::item::{Item, List};
 use jwalk_job::job::Job;
 use jwalk_job::process_read_dir::ProcessReadDir;
 use jwalk_job::read_dir::ReadDir;
@@ -44,7 +44,7 @@ pub(super) struct Begun<W> {
 }
 
 /// Puts the error that reports a busy crew in place of an entry whose directory is to be read.
-fn make_busy<C: ClientState, A: Allocator + Copy>(found: &mut Result<DirEntry<C, A>, Error<A>>)
+fn make_busy<C: ClientState, A: Allocator + Copy>(found: &mut Item<C, A>)
     ensures { item found.new ≡ busied (item found.old) }
 {
     if let Ok(entry) = found
@@ -54,9 +54,7 @@ fn make_busy<C: ClientState, A: Allocator + Copy>(found: &mut Result<DirEntry<C,
     }
 }
 
-fn make_all_busy<C: ClientState, A: Allocator + Copy>(
-    list: &mut Vec<Result<DirEntry<C, A>, Error<A>>, A>,
-)
+fn make_all_busy<C: ClientState, A: Allocator + Copy>(list: &mut List<C, A>)
     ensures { map item list.new.items ≡ map busied (map item list.old.items) }
 {
     for found in list.iter_mut() {
@@ -65,9 +63,9 @@ fn make_all_busy<C: ClientState, A: Allocator + Copy>(
 }
 
 fn left<C: ClientState, A: Allocator + Copy>(
-    mut list: Vec<Result<DirEntry<C, A>, Error<A>>, A>,
+    mut list: List<C, A>,
     why_not: Option<NotStarted>,
-) -> Vec<Result<DirEntry<C, A>, Error<A>>, A>
+) -> List<C, A>
     ensures { map item result.items ≡ left_of why_not (map item list.items) }
 {
     match why_not {

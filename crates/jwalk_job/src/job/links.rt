@@ -19,6 +19,7 @@ use crate::ancestors::Ancestors;
 use crate::client_state::ClientState;
 use crate::dir_entry::DirEntry;
 use crate::error::Error;
+use crate::item::Item;
 use crate::metadata::metadata_at;
 use crate::process_read_dir::ProcessReadDir;
 use crate::read_children::ReadChildren;
@@ -197,14 +198,14 @@ impl<C: ClientState, S: FileSystem, P: ProcessReadDir<C, A>, A: Allocator + Copy
     }
 
     /// `near` may be the path of the entry's parent.
-    pub(super) fn made(
+    pub(super) fn entry_of_path(
         &self,
         depth: usize,
         path: &Arc<String<A>, A>,
         near: &Arc<String<A>, A>,
         through_link: bool,
         ancestors: &Ancestors<A>,
-    ) -> Result<Result<DirEntry<C, A>, Error<A>>, AllocError>
+    ) -> Result<Item<C, A>, AllocError>
         ensures depth { IfOk result (λ r. AtDepth depth (item r ∷ [])) }
         ensures value { ByValue S.FileSystem C.DirEntryState.Default self.now (λ g job.
             IfOk result (λ r. counted_item g (item r)
@@ -235,7 +236,7 @@ impl<C: ClientState, S: FileSystem, P: ProcessReadDir<C, A>, A: Allocator + Copy
         path: &Arc<String<A>, A>,
         target: Metadata,
         inside: &mut Inside<A>,
-    ) -> Result<Result<DirEntry<C, A>, Error<A>>, AllocError>
+    ) -> Result<Item<C, A>, AllocError>
         requires { text path.now ≡ path_of (entry link.now) }
         ensures depth { IfOk result (λ r. AtDepth (entry link.now).depth (item r ∷ [])) }
         ensures asks { S.IsFixed (file_system self.now)
@@ -272,11 +273,11 @@ impl<C: ClientState, S: FileSystem, P: ProcessReadDir<C, A>, A: Allocator + Copy
     }
 
     /// Returns the entry that replaces a link that is followed.
-    fn behind(
+    fn follow_link(
         &self,
         link: &DirEntry<C, A>,
         inside: &mut Inside<A>,
-    ) -> Result<Result<DirEntry<C, A>, Error<A>>, AllocError>
+    ) -> Result<Item<C, A>, AllocError>
         ensures depth { IfOk result (λ r. AtDepth (entry link.now).depth (item r ∷ [])) }
         ensures asks { S.IsFixed (file_system self.now)
             → IfOk result (λ _. AsksOn (S.functions (file_system self.now)) inside.old inside.new) }
@@ -305,7 +306,7 @@ impl<C: ClientState, S: FileSystem, P: ProcessReadDir<C, A>, A: Allocator + Copy
         &self,
         found: DirEntry<C, A>,
         inside: &mut Inside<A>,
-    ) -> Result<Result<DirEntry<C, A>, Error<A>>, AllocError>
+    ) -> Result<Item<C, A>, AllocError>
         ensures depth { IfOk result (λ r. AtDepth found.depth (item r ∷ [])) }
         ensures asks { S.IsFixed (file_system self.now)
             → IfOk result (λ _. AsksOn (S.functions (file_system self.now)) inside.old inside.new) }
@@ -315,7 +316,7 @@ impl<C: ClientState, S: FileSystem, P: ProcessReadDir<C, A>, A: Allocator + Copy
             ≡ value.followed job inside.old.within (counted_entry g (entry found)))) }
     {
         if self.gives_way(found.file_type) {
-            return self.behind(&found, inside);
+            return self.follow_link(&found, inside);
         }
         Ok(Ok(found))
     }
