@@ -29,7 +29,6 @@ pub enum Arrival<M, A: Allocator + Copy = Global> {
     Wait,
 }
 
-/// Returns what a message that was handed out is to whoever waits.
 fn checked<M: Reported + Drop, A: Allocator + Copy>(item: Ordered<M, A>) -> Arrival<M, A>
     ensures { IsChecked M.refused item result }
 {
