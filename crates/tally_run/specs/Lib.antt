@@ -1,1 +1,5 @@
+pub mod Shown
+pub mod Results
+pub mod Counting
+pub mod Written
 pub mod Run

@@ -1,7 +1,9 @@
 //! The walks below roots.
-use crate::counting::count_walk;
+
+use crate::counting::{Counted, count_walk};
 use crate::failure::Failure;
 use crate::results::Results;
+use crate::screen::Screen;
 use jwalk::file_system::FileSystem;
 use jwalk::read_dir::NoProcess;
 use jwalk::{ClientState, Crew, Host, Parallelism, WalkDirGeneric};
@@ -17,8 +19,8 @@ use std::sync::Arc;
 use std::thread::{Threads, available_parallelism};
 use tally_words::asked::Asked;
 
-/// A walk that isn't begun and has no callback.
-type Plain<C, T, S> = WalkDirGeneric<C, Arc<S>, NoProcess, Global, Crew<T>>;
+/// A walk that isn't begun, with the states of ignore files.
+type Plain<T, S> = WalkDirGeneric<KeptStates, Arc<S>, NoProcess, Global, Crew<T>>;
 
 /// Returns how many threads read: as many as are asked for, or as can run at a time.
 fn threads_of<T: Threads>(rt: &T, asked: &Asked<'_>) -> usize {
@@ -44,10 +46,56 @@ fn crew_of<T: Host>(
     Ok(Some(Arc::new(alloc, Crew::new(rt.clone()?, 1, threads))?))
 }
 
-/// What is asked for, what walks go over, and how they are read.
+/// Returns the walk below a root that is asked for, without a callback. Its entries keep their metadata. If there is a
+/// crew, it reads the directories.
+fn walk_of<C: ClientState, T: Host, S: FileSystem>(
+    asked: &Asked<'_>,
+    fs: S,
+    root: String<Global>,
+    crew: &Option<Arc<Crew<T>>>,
+) -> Result<WalkDirGeneric<C, S, NoProcess, Global, Crew<T>>, AllocError> {
+    let mut walk = WalkDirGeneric::with_crew(fs, root)
+        .sort(asked.sort)
+        .skip_hidden(asked.exclude_hidden)
+        .follow_links(asked.follow)
+        .same_file_system(asked.one_file_system)
+        .keep_metadata(true);
+    if let Some(crew) = crew {
+        walk = walk.parallelism(Parallelism::RayonExistingPool {
+            pool: crew.clone()?,
+            busy_timeout: None,
+        });
+    }
+    Ok(walk)
+}
+
+/// Counts what these rules leave of a walk.
+fn count_ruled<
+    T: Host,
+    S: FileSystem + Send + Sync + 'static,
+    X: Texts + Send + Sync + 'static,
+    W: Write,
+    E: Write,
+>(
+    alloc: Global,
+    screen: Screen,
+    walk: Plain<T, S>,
+    rules: IgnoreFiles<Arc<X>, Excluding>,
+    files: Files<Global>,
+    asked: &Asked<'_>,
+    results: &mut Results,
+    out: &mut W,
+    err: &mut E,
+) -> Result<Counted, Failure> {
+    let walk = with_hidden_shown(walk, KeptRules { rules });
+    count_walk(alloc, screen, walk, files, asked, results, out, err)
+}
+
+/// What is asked for, what errors are written to, what walks go over, and how they are read.
 #[derive(Drop)]
 pub(crate) struct Walks<'a, 'w, T: Drop, S: FileSystem, X: Texts> {
     asked: &'a Asked<'w>,
+    screen: Screen,
     disk: Arc<S>,
     texts: Arc<X>,
     crew: Option<Arc<Crew<T>>>,
@@ -69,11 +117,13 @@ impl<
         rt: &T,
         alloc: Global,
         asked: &'a Asked<'w>,
+        screen: Screen,
         disk: S,
         texts: X,
     ) -> Result<Self, AllocError> {
         Ok(Walks {
             asked,
+            screen,
             disk: Arc::new(alloc, disk)?,
             texts: Arc::new(alloc, texts)?,
             crew: crew_of(rt, alloc, asked)?,
@@ -85,31 +135,14 @@ impl<
         self.asked
     }
 
+    /// Returns what errors are written to.
+    pub(crate) fn screen(&self) -> Screen {
+        self.screen
+    }
+
     /// Returns the disk.
     pub(crate) fn disk(&self) -> &S {
         &self.disk
-    }
-
-    /// Returns the walk below a root, without a callback. Its entries keep their metadata.
-    fn plain<C: ClientState>(
-        &self,
-        alloc: Global,
-        root: &str,
-    ) -> Result<Plain<C, T, S>, AllocError> {
-        let root = String::from_str(alloc, root)?;
-        let walk = WalkDirGeneric::with_crew(self.disk.clone()?, root)
-            .sort(self.asked.sort)
-            .skip_hidden(self.asked.exclude_hidden)
-            .follow_links(self.asked.follow)
-            .same_file_system(self.asked.one_file_system)
-            .keep_metadata(true);
-        match &self.crew {
-            Some(crew) => Ok(walk.parallelism(Parallelism::RayonExistingPool {
-                pool: crew.clone()?,
-                busy_timeout: None,
-            })),
-            None => Ok(walk),
-        }
     }
 
     /// Counts what is below a root, whatever ignore files say.
@@ -121,12 +154,22 @@ impl<
         results: &mut Results,
         out: &mut W,
         err: &mut E,
-    ) -> Result<(Files<Global>, bool), Failure> {
+    ) -> Result<Counted, Failure> {
         let excluding = Excluding::new(alloc, self.asked.excludes.as_slice(), root)?;
-        let walk = self
-            .plain::<((), ())>(alloc, root)?
-            .process_read_dir(excluding);
-        count_walk(alloc, walk, files, self.asked, results, out, err)
+        let root = String::from_str(alloc, root)?;
+        let disk = self.disk.clone()?;
+        let walk = walk_of::<((), ()), _, _>(self.asked, disk, root, &self.crew)?;
+        let walk = walk.process_read_dir(excluding);
+        count_walk(
+            alloc,
+            self.screen,
+            walk,
+            files,
+            self.asked,
+            results,
+            out,
+            err,
+        )
     }
 
     /// Counts what ignore files leave below a root.
@@ -138,17 +181,28 @@ impl<
         results: &mut Results,
         out: &mut W,
         err: &mut E,
-    ) -> Result<(Files<Global>, bool), Failure> {
+    ) -> Result<Counted, Failure> {
         let excluding = Excluding::new(alloc, self.asked.excludes.as_slice(), root)?;
         let rules = IgnoreFiles::new(self.texts.clone()?)
             .keep_hidden(!self.asked.exclude_hidden)
             .then(excluding);
-        let walk = with_hidden_shown(self.plain::<KeptStates>(alloc, root)?, KeptRules { rules });
-        count_walk(alloc, walk, files, self.asked, results, out, err)
+        let root = String::from_str(alloc, root)?;
+        let disk = self.disk.clone()?;
+        let walk = walk_of::<KeptStates, _, _>(self.asked, disk, root, &self.crew)?;
+        count_ruled(
+            alloc,
+            self.screen,
+            walk,
+            rules,
+            files,
+            self.asked,
+            results,
+            out,
+            err,
+        )
     }
 
-    /// Counts what is below a root, beside the files that were counted before. Returns the files that are counted now,
-    /// and whether there was no error.
+    /// Counts what is below a root, beside the files that were counted before.
     pub(crate) fn count_below<W: Write, E: Write>(
         &self,
         alloc: Global,
@@ -157,7 +211,7 @@ impl<
         results: &mut Results,
         out: &mut W,
         err: &mut E,
-    ) -> Result<(Files<Global>, bool), Failure> {
+    ) -> Result<Counted, Failure> {
         if self.asked.ignore {
             return self.count_kept(alloc, files, root, results, out, err);
         }

@@ -2,7 +2,7 @@ use Rattle.std.proofs.Common.{inl, inr}
 use Rattle.tally_run.proofs.run.run.Goals as goal
 
 pub returns-in-Ok-clause-ends : goal.returns-in-Ok-clause-ends
-returns-in-Ok-clause-ends g c = inl (_, c.in-Ok.ensures.asked, c.status_of.ensures)
+returns-in-Ok-clause-ends g c = inl (_, c.in-Ok.ensures.asked, c.status_of.ensures.status)
 
 pub returns-in-Err-clause-ends : goal.returns-in-Err-clause-ends
 returns-in-Err-clause-ends g c = inr (record {

@@ -1,0 +1,2 @@
+pub mod ResultFacts
+pub mod CountingFacts
