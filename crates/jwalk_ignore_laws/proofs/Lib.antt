@@ -1,5 +1,13 @@
 pub mod NameFacts
+pub mod ParentFacts
 pub mod StartFacts
 pub mod OwnFacts
 pub mod AlikeFacts
 pub mod WayFacts
+pub mod BelowFacts
+pub mod FoundFacts
+pub mod SameFacts
+pub mod DeeperFacts
+pub mod LeftFacts
+pub mod FitFacts
+pub mod WalkFacts

@@ -1,1 +1,3 @@
 pub mod Starts
+pub mod Deeper
+pub mod Walks
