@@ -59,7 +59,7 @@ module _ {R E : Type 0} where
   answered_deep n (Ok e) h = grind (arith, h)
   answered_deep n (Err f) h = refl
 
-  answers_deep : (n : ℕ) (list : List (Item R E)) → AtLeast n list → answers n list ≡ list
+  pub answers_deep : (n : ℕ) (list : List (Item R E)) → AtLeast n list → answers n list ≡ list
   answers_deep n [] h = refl
   answers_deep n (x ∷ list) h = rw (answered_deep n x h.0) (ap (λ (l : List (Item R E)). x ∷ l) (answers_deep n list h.1))
 

@@ -65,12 +65,12 @@ module _ {R E : Type 0} (reading : Spec R → Outcome R E) (Fits : Spec R → Ty
   OpensTo spec (Err f) = Unit {0}
 
   -- A source at this depth fits.
-  abbrev SourceFits : ℕ → Source R E → Type 0
+  abbrev pub SourceFits : ℕ → Source R E → Type 0
   SourceFits depth nothing = Unit {0}
   SourceFits depth (unread spec) = (spec.depth ≡ depth) × Fits spec
   SourceFits depth (was_read spec outcome) = ⊥
 
-  source_fits : (depth : ℕ) (state : R) (x : Item R E) → depth_of x ≡ depth → DirectoryFits (spec_of state x) → SourceFits depth (source_of (spec_of state x))
+  pub source_fits : (depth : ℕ) (state : R) (x : Item R E) → depth_of x ≡ depth → DirectoryFits (spec_of state x) → SourceFits depth (source_of (spec_of state x))
   source_fits depth state (Err f) at fits = tt
   source_fits depth state (Ok e) at fits = by e.read_children fits
     where
@@ -78,7 +78,7 @@ module _ {R E : Type 0} (reading : Spec R → Outcome R E) (Fits : Spec R → Ty
       by None fits = tt
       by (Some c) fits = (at, fits)
 
-  stands_at : (x : Item R E) (source : Source R E) → depth_of (stands reading x source) ≡ depth_of x
+  pub stands_at : (x : Item R E) (source : Source R E) → depth_of (stands reading x source) ≡ depth_of x
   stands_at x nothing = refl
   stands_at x (unread spec) = by x (reading spec)
     where

@@ -7,6 +7,7 @@ pub mod WayFacts
 pub mod BelowFacts
 pub mod FoundFacts
 pub mod SameFacts
+pub mod ShallowFacts
 pub mod DeeperFacts
 pub mod LeftFacts
 pub mod FitFacts

@@ -1,6 +1,6 @@
 -- Walks from a root and from a directory below it.
-use Rattle.std.proofs.Common.{◌≡◌, ◌≢◌, ◌∙◌, ◌≤◌, ◌+◌, ◌-◌, ℕ, Bool, true, false, cond, List, [], ◌∷◌, ◌++◌, map, flat_map, length, reverse, Option, Some, None, Result, Ok, Err, ap, ap₂, subst, refl, sym, arith}
-use Rattle.std.proofs.lemmas.List.Elements.{All-nil}
+use Rattle.std.proofs.Common.{◌≡◌, ◌≢◌, ◌∙◌, ◌≤◌, ◌<◌, ◌+◌, ◌-◌, ℕ, nat_le, Bool, true, false, cond, List, [], ◌∷◌, ◌++◌, map, flat_map, length, reverse, Option, Some, None, Result, Ok, Err, ap, ap₂, subst, refl, sym, arith}
+use Rattle.std.proofs.lemmas.List.Elements.{All-nil, All-weaker}
 use Rattle.std.specs.Prelude.{◌&&◌, All, fold, not}
 use Rattle.std.specs.declared.io.ErrorKind.{ErrorKind}
 use Rattle.jwalk_model.specs.Counted.{Worth}
@@ -31,12 +31,13 @@ use Rattle.jwalk_ignore.specs.jwalk_ignore_rules.declared.rules.rules_kind.Rules
 use Rattle.jwalk_ignore_rules.proofs.WorthFacts.{chain_back}
 use Rattle.jwalk_ignore_laws.specs.Deeper.{below_first, deeper_than, item_deeper}
 use Rattle.jwalk_ignore_laws.specs.Starts.{begun, below as names_below}
-use Rattle.jwalk_ignore_laws.specs.Walks.{AgreeBelow, IsStart, WalksAreTheSame}
-use Rattle.jwalk_ignore_laws.proofs.BelowFacts.{Steps, answered_deep, answered_deeper, stood}
-use Rattle.jwalk_ignore_laws.proofs.DeeperFacts.{Each, each_append}
+use Rattle.jwalk_ignore_laws.specs.Walks.{AgreeBelow, AreTheSameBelow, DepthsMayBeTheSame, IsStart, WalksAreTheSame, options_below, walk_ignoring, without_least_depth}
+use Rattle.jwalk_ignore_laws.proofs.BelowFacts.{AtLeast, Steps, answered_deep, answered_deeper, answers_deep, Stood, stood}
+use Rattle.jwalk_ignore_laws.proofs.DeeperFacts.{Each, each_append, each_of_all}
 use Rattle.jwalk_ignore_laws.proofs.FitFacts.{Fits, Same, job, opens, same_outcomes}
-use Rattle.jwalk_ignore_laws.proofs.FoundFacts.{DirectoryFits, Found, ItemsFit, below_from, found_below, found_listed, listed, nothing_below}
+use Rattle.jwalk_ignore_laws.proofs.FoundFacts.{DirectoryFits, Found, ItemsFit, below_from, found_below, found_listed, listed, nothing_below, stands_at}
 use Rattle.jwalk_ignore_laws.proofs.SameFacts.{same_below}
+use Rattle.jwalk_ignore_laws.proofs.ShallowFacts.{each_front, shallow}
 use Rattle.jwalk_ignore_laws.proofs.WayFacts.{AlikeAt, begun_alike, walks_begin_so}
 
 -- ---- a root's list has errors behind the root
@@ -115,6 +116,9 @@ module _ {R E : Type 0} (read : Spec R → Outcome R E) (greatest : ℕ) (state 
       ap₂ ◌++◌ (ap (λ (o : Option (Spec R)). stands read (Ok e) (source_of o) ∷ below read greatest (source_of o)) is)
       (errors_alone read (below read greatest) (nothing_below read greatest) state errors h)
 
+not_at : (greatest depth : ℕ) → depth < greatest → nat_le greatest depth ≡ false
+not_at greatest depth less = grind (arith, less)
+
 module _ (settings : Settings) (texts : Texts) (fs : Functions) (options : Options) (root : List ℕ) (agree : AgreeBelow texts fs options root) (no_links : options.follow_links ≡ false) where
   abbrev job_at : ℕ → ℕ → Job Worth Worth
   job_at = job settings texts fs options root agree no_links
@@ -127,16 +131,16 @@ module _ (settings : Settings) (texts : Texts) (fs : Functions) (options : Optio
 
   -- ---- what a walk yields from a start
 
-  -- The list of a walk's root has the entry of a directory, and errors at depth 0. The rules in force in the directory are those of a walk that starts there.
+  -- the directory that a walk starts in, to be read by the rules of a walk that starts there
+  abbrev start_spec : List ℕ → Spec Worth
+  start_spec path = record { depth = 0; path = path; ancestors = []; state = with_chain (begun settings texts path) no_rules_yet }
+
+  -- The list of a walk's root has the entry of that directory, and errors at depth 0 behind it.
   record Started (least greatest : ℕ) (path : List ℕ) : Type 0 where
     e : Entry Worth Worth
-    spec : Spec Worth
     errors : List (Item Worth Worth)
     depth_is : e.depth ≡ 0
-    spec_is : spec_of {E = Worth} (root_list (job_at least greatest) path no_rules_yet).state (Ok e) ≡ Some spec
-    at_start : spec.depth ≡ 0
-    path_is : spec.path ≡ path
-    rules_are : rules_of spec.state ≡ begun settings texts path
+    spec_is : spec_of {E = Worth} (root_list (job_at least greatest) path no_rules_yet).state (Ok e) ≡ Some (start_spec path)
     each : Each AtRoot errors
     list_is : (root_list (job_at least greatest) path no_rules_yet).list ≡ Ok e ∷ errors
 
@@ -149,41 +153,36 @@ module _ (settings : Settings) (texts : Texts) (fs : Functions) (options : Optio
       let m : Metadata = start.is_there.0 in
       let e : Entry Worth Worth = record (made_of (job_at least greatest) 0 path false [] m) { read_children = Some (record { path = path; error = None; state = None }) } in
       let item_is = start_item least greatest path m start.is_there.1 start.is_there.2 in
-      let left : Made Worth Worth = at_root settings texts (rules_of no_rules_yet) (Ok e ∷ []) in
-      let grown = grown_root (Ok e) settings texts (rules_of no_rules_yet) path refl start.absolute in
-      let rules_is : left.chain ≡ begun settings texts path = walks_begin_so settings texts (rules_of no_rules_yet) (Ok e) path refl start.absolute in
       let made = λ (x : Item Worth Worth). at_root settings texts (rules_of no_rules_yet) (x ∷ []) in
+      let grown = grown_root (Ok e) settings texts (rules_of no_rules_yet) path refl start.absolute in
+      let rules_are : (made (Ok e)).chain ≡ begun settings texts path = walks_begin_so settings texts (rules_of no_rules_yet) (Ok e) path refl start.absolute in
       record {
         e = e;
-        spec = record { depth = 0; path = path; ancestors = []; state = with_chain left.chain no_rules_yet };
         errors = grown.0;
         depth_is = refl;
-        spec_is = ap (λ (x : Item Worth Worth). spec_of {E = Worth} (with_chain (made x).chain no_rules_yet) (Ok e)) item_is;
-        at_start = refl;
-        path_is = refl;
-        rules_are = chain_back left.chain ∙ rules_is;
+        spec_is = ap (λ (x : Item Worth Worth). spec_of {E = Worth} (with_chain (made x).chain no_rules_yet) (Ok e)) item_is ∙ ap (λ (c : Chain). spec_of {E = Worth} (with_chain c no_rules_yet) (Ok e)) rules_are;
         each = grown.2;
         list_is = ap (λ (x : Item Worth Worth). (made x).list) item_is ∙ grown.1;
       }
 
   -- the list of a walk that starts at a path, whatever its least depth
   walk_listed : (least greatest : ℕ) (path : List ℕ) (s : Started least greatest path)
-      → whole_walk (job_at least greatest) path no_rules_yet ≡ answers least ((stands (read_at least greatest) (Ok s.e) (unread s.spec) ∷ below (read_at least greatest) greatest (unread s.spec)) ++ s.errors)
+      → whole_walk (job_at least greatest) path no_rules_yet ≡ answers least ((stands (read_at least greatest) (Ok s.e) (unread (start_spec path)) ∷ below (read_at least greatest) greatest (unread (start_spec path))) ++ s.errors)
   unfolding whole_walk
   walk_listed least greatest path s =
       let state : Worth = (root_list (job_at least greatest) path no_rules_yet).state in
       ap (λ (l : List (Item Worth Worth)). answers least (listing (read_at least greatest) greatest (map (pair state) l))) s.list_is
-      ∙ ap (answers least) (root_listed (read_at least greatest) greatest state s.e s.spec s.errors s.spec_is s.at_start s.each)
+      ∙ ap (answers least) (root_listed (read_at least greatest) greatest state s.e (start_spec path) s.errors s.spec_is refl s.each)
 
   -- the directory that a walk starts in fits, where it is below the root
-  start_fits : (least greatest : ℕ) (path : List ℕ) (s : Started least greatest path) (names : List (List ℕ)) → All IsName names → path ≡ names_below root names → path ≢ [] → ((name : List ℕ) → IsName name → parent (join path name) ≡ Some path) → FitsHere s.spec
-  start_fits least greatest path s names named is some parents = record {
+  start_fits : (path : List ℕ) (names : List (List ℕ)) → All IsName names → path ≡ names_below root names → path ≢ [] → ((name : List ℕ) → IsName name → parent (join path name) ≡ Some path) → FitsHere (start_spec path)
+  start_fits path names named is some parents = record {
     names = names;
     named = named;
-    path_is = s.path_is ∙ is;
-    some = subst (λ (p : List ℕ). p ≢ []) (sym s.path_is) some;
-    parents = subst (λ (p : List ℕ). (name : List ℕ) → IsName name → parent (join p name) ≡ Some p) (sym s.path_is) parents;
-    alike = subst (λ (c : Chain). AlikeAt settings texts s.spec.path c) (sym s.rules_are) (subst (λ (p : List ℕ). AlikeAt settings texts p (begun settings texts path)) (sym s.path_is) (begun_alike settings texts path));
+    path_is = is;
+    some = some;
+    parents = parents;
+    alike = subst (AlikeAt settings texts path) (sym (chain_back (begun settings texts path))) (begun_alike settings texts path);
   }
 
   errors_fit : (least greatest : ℕ) (state : Worth) (errors : List (Item Worth Worth)) → Each AtRoot errors → ItemsFit (read_at least greatest) FitsHere 0 state errors
@@ -192,11 +191,11 @@ module _ (settings : Settings) (texts : Texts) (fs : Functions) (options : Optio
   errors_fit least greatest state (Err f ∷ errors) h = (h.0, tt, errors_fit least greatest state errors h.1)
 
   -- what a walk yields below the directory that it starts in
-  below_start : (greatest : ℕ) (path : List ℕ) (s : Started 0 greatest path) → FitsHere s.spec → below_first (whole_walk (job_at 0 greatest) path no_rules_yet) ≡ below (read_at 0 greatest) greatest (unread s.spec)
+  below_start : (greatest : ℕ) (path : List ℕ) (s : Started 0 greatest path) → FitsHere (start_spec path) → below_first (whole_walk (job_at 0 greatest) path no_rules_yet) ≡ below (read_at 0 greatest) greatest (unread (start_spec path))
   below_start greatest path s fits =
-      let inside : List (Item Worth Worth) = below (read_at 0 greatest) greatest (unread s.spec) in
-      let first : Item Worth Worth = stands (read_at 0 greatest) (Ok s.e) (unread s.spec) in
-      let deep = below_from (read_at 0 greatest) FitsHere (opens settings texts fs options root agree no_links 0 greatest) greatest 0 (unread s.spec) (s.at_start, fits) in
+      let inside : List (Item Worth Worth) = below (read_at 0 greatest) greatest (unread (start_spec path)) in
+      let first : Item Worth Worth = stands (read_at 0 greatest) (Ok s.e) (unread (start_spec path)) in
+      let deep = below_from (read_at 0 greatest) FitsHere (opens settings texts fs options root agree no_links 0 greatest) greatest 0 (unread (start_spec path)) (refl, fits) in
       ap below_first (walk_listed 0 greatest path s)
       ∙ ap (λ (b : Bool). below_first (cond b (first ∷ answers 0 (inside ++ s.errors)) (answers 0 (inside ++ s.errors)))) (answered_deep 0 first (omega arith))
       ∙ answered_deeper 0 0 inside s.errors (omega arith) deep.0 (steps_errors 0 s.errors s.each)
@@ -204,20 +203,25 @@ module _ (settings : Settings) (texts : Texts) (fs : Functions) (options : Optio
   module _ (least greatest : ℕ) (front : List (Item Worth Worth)) (e : Entry Worth Worth) (c : Children Worth) (behind : List (Item Worth Worth)) (start : IsStart texts fs root) (there : IsStart texts fs c.path) where
     -- where an entry of a directory is yielded, its directory is found
     found : (s : Started least greatest root) (back : List (Item Worth Worth)) (front' : List (Item Worth Worth))
-        → (stands (read_at least greatest) (Ok s.e) (unread s.spec) ∷ below (read_at least greatest) greatest (unread s.spec)) ++ s.errors ≡ front' ++ Ok e ∷ back → e.read_children ≡ Some c
+        → (stands (read_at least greatest) (Ok s.e) (unread (start_spec root)) ∷ below (read_at least greatest) greatest (unread (start_spec root))) ++ s.errors ≡ front' ++ Ok e ∷ back → e.read_children ≡ Some c
         → Found (read_at least greatest) FitsHere greatest e c back
     found s back front' is dir =
         let state : Worth = (root_list (job_at least greatest) root no_rules_yet).state in
         let opened = opens settings texts fs options root agree no_links least greatest in
         let all : greatest + 0 ≡ greatest = omega arith in
-        let fits : FitsHere s.spec = start_fits least greatest root s [] (All-nil IsName) refl start.some agree.parents in
+        let fits : FitsHere (start_spec root) = start_fits root [] (All-nil IsName) refl start.some agree.parents in
         let items : ItemsFit (read_at least greatest) FitsHere 0 state (Ok s.e ∷ s.errors) = (s.depth_is, subst (DirectoryFits (read_at least greatest) FitsHere) (sym s.spec_is) fits, errors_fit least greatest state s.errors s.each) in
         found_listed (read_at least greatest) FitsHere greatest greatest 0 all
         (below_from (read_at least greatest) FitsHere opened greatest 0) (λ source fit. found_below (read_at least greatest) FitsHere opened greatest greatest 0 source fit all)
-        state (Ok s.e ∷ s.errors) items front' e c back (root_listed_below (read_at least greatest) greatest state s.e s.spec s.errors s.spec_is s.each ∙ is) dir
+        state (Ok s.e ∷ s.errors) items front' e c back (root_listed_below (read_at least greatest) greatest state s.e (start_spec root) s.errors s.spec_is s.each ∙ is) dir
 
     answered_least : is_answered {R = Worth} {E = Worth} least (Ok e) ≡ true → least ≤ e.depth
     answered_least is = grind (arith, is)
+
+    -- a walk can start there whose directories fit
+    fits_there : (back : List (Item Worth Worth)) → Found (read_at least greatest) FitsHere greatest e c back → FitsHere (start_spec c.path)
+    fits_there back it =
+        start_fits c.path it.fits.names it.fits.named (sym it.path_is ∙ it.fits.path_is) there.some (subst (λ (p : List ℕ). (name : List ℕ) → IsName name → parent (join p name) ≡ Some p) it.path_is it.fits.parents)
 
     -- what is below it is what a walk yields below a root there
     same_there : (back : List (Item Worth Worth)) → Found (read_at least greatest) FitsHere greatest e c back → least ≤ e.depth
@@ -227,25 +231,87 @@ module _ (settings : Settings) (texts : Texts) (fs : Functions) (options : Optio
         let here = read_at least greatest in
         let s : Started 0 upper c.path = started 0 upper c.path there in
         let inside : List (Item Worth Worth) = below here it.levels (unread it.spec) in
-        let fits : FitsHere s.spec = start_fits 0 upper c.path s it.fits.names it.fits.named (sym it.path_is ∙ it.fits.path_is) there.some (subst (λ (p : List ℕ). (name : List ℕ) → IsName name → parent (join p name) ≡ Some p) it.path_is it.fits.parents) in
+        let fits : FitsHere (start_spec c.path) = fits_there back it in
         let deep = below_from here FitsHere (opens settings texts fs options root agree no_links least greatest) it.levels e.depth (unread it.spec) (it.depth_is, it.fits) in
         let levels : it.levels ≡ upper = omega (arith, it.levels_are, it.depth_is) in
-        let at : it.spec.depth ≡ s.spec.depth + e.depth = omega (arith, it.depth_is, s.at_start) in
+        let at : it.spec.depth ≡ 0 + e.depth = omega (arith, it.depth_is) in
         ap (λ (l : List (Item Worth Worth)). deeper_than e.depth (answers least l)) it.back_is
         ∙ answered_deeper least e.depth inside it.rest less deep.0 it.closes
         ∙ ap (λ (n : ℕ). below here n (unread it.spec)) levels
-        ∙ same_below e.depth here (read_at 0 upper) (Same settings texts fs options root agree no_links e.depth) (same_outcomes settings texts fs options root agree no_links e.depth least greatest 0) upper (Some it.spec) (Some s.spec)
-        (at, it.path_is ∙ sym s.path_is, it.fits, fits)
+        ∙ same_below e.depth here (read_at 0 upper) (Same settings texts fs options root agree no_links e.depth) (same_outcomes settings texts fs options root agree no_links e.depth least greatest 0) upper (Some it.spec) (Some (start_spec c.path))
+        (at, it.path_is, it.fits, fits)
         ∙ ap (map (item_deeper e.depth)) (sym (below_start upper c.path s fits))
 
-    walks_same : whole_walk (job_at least greatest) root no_rules_yet ≡ front ++ Ok e ∷ behind → e.read_children ≡ Some c
-        → deeper_than e.depth behind ≡ map (item_deeper e.depth) (below_first (whole_walk (job_at 0 (greatest - e.depth)) c.path no_rules_yet))
-    walks_same is dir =
-        let s : Started least greatest root = started least greatest root start in
-        let list : List (Item Worth Worth) = (stands (read_at least greatest) (Ok s.e) (unread s.spec) ∷ below (read_at least greatest) greatest (unread s.spec)) ++ s.errors in
-        let at = stood least list front (Ok e) behind (sym (walk_listed least greatest root s) ∙ is) in
-        ap (deeper_than e.depth) at.behind_is ∙ same_there at.back (found s at.back at.front at.list_is dir) (answered_least at.kept)
+    module _ (yields : whole_walk (job_at least greatest) root no_rules_yet ≡ front ++ Ok e ∷ behind) (reads : e.read_children ≡ Some c) where
+      root_start : Started least greatest root
+      root_start = started least greatest root start
+
+      -- where it stands in what is listed
+      stands_in : Stood least ((stands (read_at least greatest) (Ok root_start.e) (unread (start_spec root)) ∷ below (read_at least greatest) greatest (unread (start_spec root))) ++ root_start.errors) (Ok e) behind
+      stands_in =
+          let list : List (Item Worth Worth) = (stands (read_at least greatest) (Ok root_start.e) (unread (start_spec root)) ∷ below (read_at least greatest) greatest (unread (start_spec root))) ++ root_start.errors in
+          stood least list front (Ok e) behind (sym (walk_listed least greatest root root_start) ∙ yields)
+
+      found_there : Found (read_at least greatest) FitsHere greatest e c stands_in.back
+      found_there = found root_start stands_in.back stands_in.front stands_in.list_is reads
+
+      walks_same : deeper_than e.depth behind ≡ map (item_deeper e.depth) (below_first (whole_walk (job_at 0 (greatest - e.depth)) c.path no_rules_yet))
+      walks_same = ap (deeper_than e.depth) stands_in.behind_is ∙ same_there stands_in.back found_there (answered_least stands_in.kept)
+
+  -- ---- with one greatest depth
+
+  least_zero : (list : List (Item Worth Worth)) → AtLeast 0 list
+  least_zero [] = tt
+  least_zero (x ∷ list) = (omega arith, least_zero list)
+
+  walk_whole : (greatest : ℕ) (path : List ℕ) (s : Started 0 greatest path)
+      → whole_walk (job_at 0 greatest) path no_rules_yet ≡ (stands (read_at 0 greatest) (Ok s.e) (unread (start_spec path)) ∷ below (read_at 0 greatest) greatest (unread (start_spec path))) ++ s.errors
+  walk_whole greatest path s =
+      let list : List (Item Worth Worth) = (stands (read_at 0 greatest) (Ok s.e) (unread (start_spec path)) ∷ below (read_at 0 greatest) greatest (unread (start_spec path))) ++ s.errors in
+      walk_listed 0 greatest path s ∙ answers_deep 0 list (least_zero list)
+
+  -- readings above both greatest depths
+  read_same : (greatest limit : ℕ) → limit ≤ greatest → (spec : Spec Worth) → spec.depth < limit → read_at 0 greatest spec ≡ read_at 0 limit spec
+  read_same greatest limit less spec higher = rw (not_at greatest spec.depth (omega (arith, less, higher)), not_at limit spec.depth higher) refl
+
+  start_depth : (greatest : ℕ) (path : List ℕ) (s : Started 0 greatest path) → depth_of (stands (read_at 0 greatest) (Ok s.e) (unread (start_spec path))) ≡ 0
+  start_depth greatest path s = stands_at (read_at 0 greatest) FitsHere (Ok s.e) (unread (start_spec path)) ∙ s.depth_is
+
+  -- a walk whose items are all above a less greatest depth yields below its root what one with that depth yields
+  depth_same : (greatest limit : ℕ) → limit ≤ greatest → (path : List ℕ) → IsStart texts fs path → FitsHere (start_spec path) → Each (λ x. depth_of x < limit) (whole_walk (job_at 0 greatest) path no_rules_yet)
+      → below_first (whole_walk (job_at 0 limit) path no_rules_yet) ≡ below_first (whole_walk (job_at 0 greatest) path no_rules_yet)
+  depth_same greatest limit less path start fits each =
+      let s : Started 0 greatest path = started 0 greatest path start in
+      let t : Started 0 limit path = started 0 limit path start in
+      let inside : List (Item Worth Worth) = below (read_at 0 greatest) greatest (unread (start_spec path)) in
+      let first : Item Worth Worth = stands (read_at 0 greatest) (Ok s.e) (unread (start_spec path)) in
+      let all : Each (λ x. depth_of x < limit) (first ∷ (inside ++ s.errors)) = subst (Each (λ x. depth_of x < limit)) (walk_whole greatest path s) each in
+      let opened = opens settings texts fs options root agree no_links 0 greatest in
+      let same = shallow limit (read_at 0 greatest) (read_at 0 limit) FitsHere (read_same greatest limit less) opened limit greatest 0 (omega arith) less (unread (start_spec path)) (refl, fits)
+      (omega (arith, start_depth greatest path s, all.0)) (each_front (λ x. depth_of x < limit) inside s.errors all.1) in
+      below_start limit path t fits ∙ sym same ∙ sym (below_start greatest path s fits)
+
+  one_depth : (least greatest : ℕ) (front : List (Item Worth Worth)) (e : Entry Worth Worth) (c : Children Worth) (behind : List (Item Worth Worth)) → IsStart texts fs root → IsStart texts fs c.path
+      → whole_walk (job_at least greatest) root no_rules_yet ≡ front ++ Ok e ∷ behind → e.read_children ≡ Some c → Each (λ x. depth_of x < greatest - e.depth) (whole_walk (job_at 0 greatest) c.path no_rules_yet)
+      → deeper_than e.depth behind ≡ map (item_deeper e.depth) (below_first (whole_walk (job_at 0 greatest) c.path no_rules_yet))
+  one_depth least greatest front e c behind start there yields reads each =
+      let it = found_there least greatest front e c behind start there yields reads in
+      let back = (stands_in least greatest front e c behind start there yields reads).back in
+      let fits : FitsHere (start_spec c.path) = fits_there least greatest front e c behind start there back it in
+      walks_same least greatest front e c behind start there yields reads ∙ ap (map (item_deeper e.depth)) (depth_same greatest (greatest - e.depth) (omega arith) c.path there fits each)
 
 pub walks_are_the_same : WalksAreTheSame
-walks_are_the_same settings texts fs options root front e c behind no_links agree start there is dir =
-    walks_same settings texts fs options root agree no_links options.min_depth options.max_depth front e c behind start there is dir
+walks_are_the_same settings texts fs options root directory e behind starts it =
+    let second : IsStart texts fs it.child.path = subst (IsStart texts fs) (sym it.path_is) starts.second in
+    subst (λ (path : List ℕ). AreTheSameBelow e behind (walk_ignoring settings texts fs (options_below e.depth options) path)) it.path_is
+    (walks_same settings texts fs options root starts.agree starts.no_links options.min_depth options.max_depth it.front e it.child behind starts.first second it.list_is it.reads)
+
+pub depths_may_be_the_same : DepthsMayBeTheSame
+depths_may_be_the_same settings texts fs options root directory e behind starts it all =
+    let walk = λ (path : List ℕ). walk_ignoring settings texts fs (without_least_depth options) path in
+    let limit : ℕ = options.max_depth - e.depth in
+    let second : IsStart texts fs it.child.path = subst (IsStart texts fs) (sym it.path_is) starts.second in
+    let lower : All (λ x. depth_of x < limit) (walk directory) = All-weaker (λ (x : Item Worth Worth). depth_of x + e.depth < options.max_depth) (λ (x : Item Worth Worth). depth_of x < limit) (λ x h. omega (arith, h)) (walk directory) all in
+    subst (λ (path : List ℕ). AreTheSameBelow e behind (walk path)) it.path_is
+    (one_depth settings texts fs options root starts.agree starts.no_links options.min_depth options.max_depth it.front e it.child behind starts.first second it.list_is it.reads
+    (subst (λ (path : List ℕ). Each (λ x. depth_of x < limit) (walk path)) (sym it.path_is) (each_of_all (λ (x : Item Worth Worth). depth_of x < limit) (walk directory) lower)))

@@ -1,8 +1,13 @@
 //! The laws on what walks yield below a directory, each as the contract of a function that does nothing.
-ghost use Rattle.jwalk_ignore_laws.specs.Walks.{WalksAreTheSame};
+ghost use Rattle.jwalk_ignore_laws.specs.Walks.{DepthsMayBeTheSame, WalksAreTheSame};
 
-/// Where a walk that honours ignore files yields the entry of a directory, it yields below it what a walk that starts
-/// there yields below its root, at greater depths.
+/// Where a walk that honours ignore files comes to a directory, it yields below it what a walk yields that starts there,
+/// so much deeper. The greatest depth of that walk is so much less.
 pub fn walks_are_the_same()
     ensures { WalksAreTheSame }
+{}
+
+/// Both walks may have the same greatest depth, where what the second yields lies above it in the first.
+pub fn depths_may_be_the_same()
+    ensures { DepthsMayBeTheSame }
 {}
