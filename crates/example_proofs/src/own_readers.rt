@@ -45,11 +45,6 @@ impl<S: FileSystem> Drop for OwnReaders<S> {
     }
 }
 
-/// Puts directories on the stack, at the addresses of the children of `above`, the first of them on top.
-///
-/// # Errors
-///
-/// If memory runs out.
 fn put_below(
     waiting: &mut Stack,
     above: &IndexPath,
@@ -118,11 +113,6 @@ impl<S: FileSystem> Readers<States, S, NoProcess, Global> for OwnReaders<S> {
     }
 }
 
-/// The readers of a walk by this job that begins with these directories.
-///
-/// # Errors
-///
-/// If memory runs out.
 fn made_for<S: FileSystem>(
     job: &Arc<TreeJob<S>>,
     roots: &Vec<ReadDirSpec<States>>,

@@ -76,7 +76,6 @@ impl<C: ClientState, S: FileSystem, P: ProcessReadDir<C, A>, A: Allocator + Copy
         (Message { reading }, below)
     }
 
-    /// Returns a crew's message as a walk's.
     pub(crate) fn of_crew(reading: CrewMessage<C, S, P, A>) -> Self
         requires { IsLawfulMessage S.FileSystem P.ProcessReadDir C.ReadDirState.Clone C.DirEntryState.Default
             (told reading) }

@@ -31,7 +31,6 @@ fn checked<T: Drop, U: Drop, J: Drop, A: Allocator + Copy>(
     Arrival::Entered(item)
 }
 
-/// Asks a board for the next reading: one hand-out, and the check of what it gave.
 pub(crate) fn arrive<T: Drop, U: Drop, J: Drop, A: Allocator + Copy>(
     board: &mut Board<T, Message<T, U, J, A>, A>,
 ) -> Arrival<T, U, J, A>

@@ -22,7 +22,6 @@ impl Model for Places {
 }
 
 impl Places {
-    /// Returns that many places, none of them in use. 0 counts as 1.
     pub(crate) fn new(places: usize) -> Self
         ensures none_in_use { result.in_use ≡ 0 }
         ensures places { result.places ≡ max 1 places }
@@ -33,7 +32,6 @@ impl Places {
         }
     }
 
-    /// Takes a place, if one is free, and returns whether it did.
     pub(crate) fn take(&mut self) -> bool
         ensures free { IsTrue result ↔ (self.old.in_use < self.old.places) }
         ensures taken { self.new ≡ (if result then record self.old { in_use = self.old.in_use + 1 } else self.old) }
@@ -46,7 +44,6 @@ impl Places {
         }
     }
 
-    /// Gives a place back.
     pub(crate) fn give_back(&mut self)
         requires { 0 < self.old.in_use }
         ensures { self.new ≡ record self.old { in_use = self.old.in_use - 1 } }
@@ -54,7 +51,6 @@ impl Places {
         self.in_use -= 1;
     }
 
-    /// Returns how many are in use.
     pub(crate) fn in_use(&self) -> usize
         ensures value { result ≡ self.now.in_use }
         ensures fits { result ≤ self.now.places }

@@ -146,7 +146,6 @@ impl<
 > Session<R, T, U, J, A> {
     ghost use Rattle.tree_crew.specs.Session.{origin_of, awaited_by, read_ahead_of};
 
-    /// Starts the workers of a walk over this ground.
     fn start_on(
         place: Place<R, A>,
         plan: Arc<J, A>,

@@ -46,7 +46,6 @@ impl<C: ClientState, S: FileSystem, A: Allocator + Copy, R: Wait + Clock + Drop>
     }
 }
 
-/// Returns the crew, if the walk is to read by it.
 fn crew_to_ask<W: Drop>(mode: Mode, crew: Option<W>) -> Option<W>
     ensures some { IfSome result (λ w. (mode_value mode ≡ parallelism.crew) × (crew ≡ Some w)) }
     ensures none { IfNone result (mode_value mode ≡ parallelism.crew → crew ≡ None) }
@@ -71,7 +70,6 @@ where
     ghost use Rattle.jwalk.specs.WalkDir.{callback_of, options_of, Starts, KeepsBound, Begins};
     ghost use Rattle.jwalk_core.specs.DirEntryIter.{StartsSteady};
 
-    /// Begins the walk.
     fn begin_by(self) -> Begun<CrewWalk<R, C, S, P, A>>
         requires { P.IsLawful (callback_of self) }
         ensures starts { Starts self result.walk }
