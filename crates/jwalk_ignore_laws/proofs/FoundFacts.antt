@@ -25,6 +25,12 @@ in_either {X} (z ∷ xs) ys (y ∷ front) x back is =
     ]
 
 module _ {R E : Type 0} where
+  -- an item whose directory was read is where it was
+  read_at : (x : Item R E) (outcome : Outcome R E) → depth_of (after_reading outcome x) ≡ depth_of x
+  read_at x (Ok r) = refl
+  read_at (Ok e) (Err f) = refl
+  read_at (Err g) (Err f) = refl
+
   -- the entry of a directory that was read has its depth and its path
   read_is : (e f : Entry R E) (c d : Children R) (outcome : Outcome R E) → e.read_children ≡ Some c → after_reading outcome (Ok e) ≡ Ok f → f.read_children ≡ Some d → (e.depth ≡ f.depth) × (c.path ≡ d.path)
   read_is e f c d (Ok r) has is dir =
@@ -80,18 +86,8 @@ module _ {R E : Type 0} (reading : Spec R → Outcome R E) (Fits : Spec R → Ty
 
   pub stands_at : (x : Item R E) (source : Source R E) → depth_of (stands reading x source) ≡ depth_of x
   stands_at x nothing = refl
-  stands_at x (unread spec) = by x (reading spec)
-    where
-      by : (y : Item R E) (outcome : Outcome R E) → depth_of (after_reading outcome y) ≡ depth_of y
-      by y (Ok r) = refl
-      by (Ok e) (Err f) = refl
-      by (Err g) (Err f) = refl
-  stands_at x (was_read spec outcome) = by x outcome
-    where
-      by : (y : Item R E) (o : Outcome R E) → depth_of (after_reading o y) ≡ depth_of y
-      by y (Ok r) = refl
-      by (Ok e) (Err f) = refl
-      by (Err g) (Err f) = refl
+  stands_at x (unread spec) = read_at x (reading spec)
+  stands_at x (was_read spec outcome) = read_at x outcome
 
   -- how deep a list is, from this depth on
   abbrev From : ℕ → List (Item R E) → Type 0

@@ -165,9 +165,13 @@ module _ (settings : Settings) (texts : Texts) (fs : Functions) (options : Optio
         list_is = ap (λ (x : Item Worth Worth). (made x).list) item_is ∙ grown.1;
       }
 
-  -- the list of a walk that starts at a path, whatever its least depth
+  -- the entry of that directory, all that is below it, and these errors
+  abbrev all_from : ℕ → ℕ → List ℕ → Entry Worth Worth → List (Item Worth Worth) → List (Item Worth Worth)
+  all_from least greatest path e errors = (stands (read_at least greatest) (Ok e) (unread (start_spec path)) ∷ below (read_at least greatest) greatest (unread (start_spec path))) ++ errors
+
+  -- what a walk yields that starts at a path
   walk_listed : (least greatest : ℕ) (path : List ℕ) (s : Started least greatest path)
-      → whole_walk (job_at least greatest) path no_rules_yet ≡ answers least ((stands (read_at least greatest) (Ok s.e) (unread (start_spec path)) ∷ below (read_at least greatest) greatest (unread (start_spec path))) ++ s.errors)
+      → whole_walk (job_at least greatest) path no_rules_yet ≡ answers least (all_from least greatest path s.e s.errors)
   unfolding whole_walk
   walk_listed least greatest path s =
       let state : Worth = (root_list (job_at least greatest) path no_rules_yet).state in
@@ -203,7 +207,7 @@ module _ (settings : Settings) (texts : Texts) (fs : Functions) (options : Optio
   module _ (least greatest : ℕ) (front : List (Item Worth Worth)) (e : Entry Worth Worth) (c : Children Worth) (behind : List (Item Worth Worth)) (start : IsStart texts fs root) (there : IsStart texts fs c.path) where
     -- where an entry of a directory is yielded, its directory is found
     found : (s : Started least greatest root) (back : List (Item Worth Worth)) (front' : List (Item Worth Worth))
-        → (stands (read_at least greatest) (Ok s.e) (unread (start_spec root)) ∷ below (read_at least greatest) greatest (unread (start_spec root))) ++ s.errors ≡ front' ++ Ok e ∷ back → e.read_children ≡ Some c
+        → all_from least greatest root s.e s.errors ≡ front' ++ Ok e ∷ back → e.read_children ≡ Some c
         → Found (read_at least greatest) FitsHere greatest e c back
     found s back front' is dir =
         let state : Worth = (root_list (job_at least greatest) root no_rules_yet).state in
@@ -247,10 +251,9 @@ module _ (settings : Settings) (texts : Texts) (fs : Functions) (options : Optio
       root_start = started least greatest root start
 
       -- where it stands in what is listed
-      stands_in : Stood least ((stands (read_at least greatest) (Ok root_start.e) (unread (start_spec root)) ∷ below (read_at least greatest) greatest (unread (start_spec root))) ++ root_start.errors) (Ok e) behind
+      stands_in : Stood least (all_from least greatest root root_start.e root_start.errors) (Ok e) behind
       stands_in =
-          let list : List (Item Worth Worth) = (stands (read_at least greatest) (Ok root_start.e) (unread (start_spec root)) ∷ below (read_at least greatest) greatest (unread (start_spec root))) ++ root_start.errors in
-          stood least list front (Ok e) behind (sym (walk_listed least greatest root root_start) ∙ yields)
+          stood least (all_from least greatest root root_start.e root_start.errors) front (Ok e) behind (sym (walk_listed least greatest root root_start) ∙ yields)
 
       found_there : Found (read_at least greatest) FitsHere greatest e c stands_in.back
       found_there = found root_start stands_in.back stands_in.front stands_in.list_is reads
@@ -265,10 +268,10 @@ module _ (settings : Settings) (texts : Texts) (fs : Functions) (options : Optio
   least_zero (x ∷ list) = (omega arith, least_zero list)
 
   walk_whole : (greatest : ℕ) (path : List ℕ) (s : Started 0 greatest path)
-      → whole_walk (job_at 0 greatest) path no_rules_yet ≡ (stands (read_at 0 greatest) (Ok s.e) (unread (start_spec path)) ∷ below (read_at 0 greatest) greatest (unread (start_spec path))) ++ s.errors
+      → whole_walk (job_at 0 greatest) path no_rules_yet ≡ all_from 0 greatest path s.e s.errors
   walk_whole greatest path s =
-      let list : List (Item Worth Worth) = (stands (read_at 0 greatest) (Ok s.e) (unread (start_spec path)) ∷ below (read_at 0 greatest) greatest (unread (start_spec path))) ++ s.errors in
-      walk_listed 0 greatest path s ∙ answers_deep 0 list (least_zero list)
+      let all : List (Item Worth Worth) = all_from 0 greatest path s.e s.errors in
+      walk_listed 0 greatest path s ∙ answers_deep 0 all (least_zero all)
 
   -- readings above both greatest depths
   read_same : (greatest limit : ℕ) → limit ≤ greatest → (spec : Spec Worth) → spec.depth < limit → read_at 0 greatest spec ≡ read_at 0 limit spec
