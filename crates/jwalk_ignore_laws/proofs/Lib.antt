@@ -12,3 +12,4 @@ pub mod DeeperFacts
 pub mod LeftFacts
 pub mod FitFacts
 pub mod WalkFacts
+mod RowFacts

@@ -1,4 +1,4 @@
 pub mod Starts
 pub mod Deeper
 pub mod Walks
-mod Rows
+pub mod Rows
