@@ -89,6 +89,8 @@ impl<S: FileSystem> Readers<States, S, NoProcess, Global> for OwnReaders<S> {
 
     ghost most = { λ _. 0 };
 
+    ghost counts = { λ _ count. count ≡ 0 };
+
     fn next(&mut self, wanted: &Wanted) -> Result<Ordered<Message<States, S, NoProcess>>, Missed> {
         let job = self.job.clone()?;
         let Some((address, of)) = self.waiting.pop() else {

@@ -279,7 +279,7 @@ impl<C: ClientState, S: FileSystem, P: ProcessReadDir<C, A>, A: Allocator + Copy
     A,
     NoCrew,
 > {
-    ghost use Rattle.jwalk.specs.WalkDir.{callback_of, Starts, Holds};
+    ghost use Rattle.jwalk.specs.WalkDir.{callback_of, Starts, Holds, HoldsOne};
     ghost use Rattle.jwalk_core.specs.DirEntryIter.{by_crew, is_refused, IsRefused};
 
     fn begin(self) -> DirEntryIter<C, S, P, A>
@@ -289,6 +289,7 @@ impl<C: ClientState, S: FileSystem, P: ProcessReadDir<C, A>, A: Allocator + Copy
         ensures holds { is_refused result ≡ false
             → Holds S.FileSystem P.ProcessReadDir C.ReadDirState.Clone C.DirEntryState.Default self result }
         ensures refused { is_refused result ≡ true → IsRefused result }
+        ensures one { HoldsOne P.ProcessReadDir self result }
     {
         let alloc = *self.root.allocator();
         let WalkDirGeneric {
@@ -315,6 +316,7 @@ impl<C: ClientState, S: FileSystem, P: ProcessReadDir<C, A>, A: Allocator + Copy
         ensures starts { IfOk result (Starts self) }
         ensures holds { IfOk result (Holds S.FileSystem P.ProcessReadDir C.ReadDirState.Clone
             C.DirEntryState.Default self) }
+        ensures one { IfOk result (HoldsOne P.ProcessReadDir self) }
         ensures memory { IfErr result (λ error. failure error ≡ memory) }
     {
         let walk = self.begin();
@@ -333,6 +335,7 @@ impl<C: ClientState, S: FileSystem, P: ProcessReadDir<C, A>, A: Allocator + Copy
         ensures starts { Starts self result }
         ensures holds { IsRefused result
             ⊎ Holds S.FileSystem P.ProcessReadDir C.ReadDirState.Clone C.DirEntryState.Default self result }
+        ensures one { HoldsOne P.ProcessReadDir self result }
     {
         self.begin()
     }

@@ -9,7 +9,7 @@ ghost use Rattle.jwalk_job.specs.ReadDirSpec.{spec};
 ghost use Rattle.jwalk_job.specs.ReadDir.{outcome};
 ghost use Rattle.jwalk_core.specs.Reads.{StacksChildren};
 ghost use Rattle.jwalk_core.specs.BatchReads.{PassesAddress};
-ghost use Rattle.jwalk_core.specs.CrewReads.{job_of, to_read, frontier_of, next_address, IsBelow, IsNextBelow, IsTold, BeginsBy, NotLost, most_ahead, IsSteadyBefore, IsSteadyCrew, StartsSteady, StaysSteady, ReadsSteadily, IsReportedFor, IsGivenFor, StaysSteadyAfter, IsNotLostFirst, failure_of};
+ghost use Rattle.jwalk_core.specs.CrewReads.{job_of, to_read, frontier_of, next_address, IsBelow, IsNextBelow, IsTold, BeginsBy, NotLost, most_ahead, CountsAhead, IsSteadyBefore, IsSteadyCrew, StartsSteady, StaysSteady, ReadsSteadily, IsReportedFor, IsGivenFor, StaysSteadyAfter, IsNotLostFirst, failure_of};
 ghost use Rattle.jwalk_core.specs.ReadDirIter.{CrewReadsNext};
 
 pub mod started;
@@ -239,7 +239,8 @@ impl<
 
     /// Returns how many readings were made and not handed on.
     pub(crate) fn ahead(&self) -> usize
-        ensures { result ≤ most_ahead L.Readers self.now }
+        ensures counted { CountsAhead L.Readers self.now result }
+        ensures most { result ≤ most_ahead L.Readers self.now }
     {
         match &self.readers {
             Some(readers) => readers.ahead(),

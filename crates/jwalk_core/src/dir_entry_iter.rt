@@ -70,7 +70,7 @@ impl<
     ghost use Rattle.jwalk_job.specs.Options as options;
     ghost use Rattle.jwalk_job.specs.Job.{options_of};
     ghost use Rattle.jwalk_core.specs.ReadAhead.{nothing_ahead, BeginsWith};
-    ghost use Rattle.jwalk_core.specs.DirEntryIter.{reads_of, by_crew, is_refused, job_of, min_depth_of, items_of, unread_of, width_of, frontier_of, read_ahead, early_of, held_by, IsWithin, IsSourced, IsRefused, most_ahead, ReadsStaySteady, Passes, GoesOn, Answers, AnswersWhatCame, Fills, Counts};
+    ghost use Rattle.jwalk_core.specs.DirEntryIter.{reads_of, by_crew, is_refused, job_of, min_depth_of, items_of, unread_of, width_of, frontier_of, read_ahead, early_of, held_by, IsWithin, IsSourced, IsRefused, most_ahead, CountsAhead, ReadsStaySteady, Passes, GoesOn, Answers, AnswersWhatCame, Fills, Counts};
     ghost use Rattle.jwalk_core.specs.Step.{Receives};
 
     /// Returns a walk whose start ran out of memory: it yields the error that reports it, and nothing else. The call
@@ -134,6 +134,7 @@ impl<
         ensures within { IsWithin result }
         ensures sourced { IsSourced result }
         ensures depth { is_refused result ≡ false → AtDepth 0 (items_of result) }
+        ensures list { is_refused result ≡ false → IsSomeAnd read (λ r. items_of result ≡ (reading r).list) }
         ensures width { width_of result ≡ options.width_of (options_of job).parallelism }
         ensures ahead { BeginsWith (unread_of result) (frontier_of result) (read_ahead result) }
         ensures held { (g : _) → ClonesCount C.ReadDirState.Clone g → is_refused result ≡ false
@@ -314,6 +315,7 @@ impl<
     /// the call may block for a lock.
     pub fn ahead(&self) -> usize
         ensures alone { by_crew self.now ≡ false → result ≡ length (early_of self.now) }
+        ensures counted { CountsAhead L.Readers self.now result }
         ensures crew { by_crew self.now ≡ true → result ≤ most_ahead L.Readers self.now }
     {
         self.reads.ahead()

@@ -16,6 +16,7 @@ use jwalk_job::read_dir_spec::ReadDirSpec;
 use std::alloc::{AllocError, Allocator, Global};
 use std::marker::Model;
 use std::sync::Arc;
+use tree_crew::arrival::Reported;
 use tree_crew::message as tree;
 
 /// What a crew whose plan is a job calls a message.
@@ -48,6 +49,17 @@ impl<C: ClientState, S: FileSystem, P: ProcessReadDir<C, A>, A: Allocator + Copy
 
     ghost invariant = { λ m. IsLawfulMessage S.FileSystem P.ProcessReadDir C.ReadDirState.Clone
         C.DirEntryState.Default (told m.reading) };
+}
+
+impl<C: ClientState, S: FileSystem, P: ProcessReadDir<C, A>, A: Allocator + Copy> Reported
+    for Message<C, S, P, A> {
+    ghost use Rattle.jwalk_core.specs.Message.{ran_out};
+
+    ghost refused = { ran_out };
+
+    fn is_refused(&self) -> bool {
+        Reported::is_refused(&self.reading)
+    }
 }
 
 impl<C: ClientState, S: FileSystem, P: ProcessReadDir<C, A>, A: Allocator + Copy> Message<

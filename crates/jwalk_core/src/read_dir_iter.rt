@@ -74,7 +74,7 @@ impl<
     ghost use Rattle.jwalk_core.specs.ReadAhead.{nothing_ahead, BeginsWith};
     ghost use Rattle.jwalk_core.specs.BatchReads.{PassesAddress};
     ghost use Rattle.jwalk_core.specs.CrewReads.{failure_of, IsNextBelow, NotLost};
-    ghost use Rattle.jwalk_core.specs.ReadDirIter.{by_crew, job_of, to_read, width_of, read_ahead, early_of, frontier_of, next_address, Tells, most_ahead, IsSteadyReads, StaysSteady, Known, EntersNextBy, Gives, GivesOf};
+    ghost use Rattle.jwalk_core.specs.ReadDirIter.{by_crew, job_of, to_read, width_of, read_ahead, early_of, frontier_of, next_address, Tells, most_ahead, CountsAhead, IsSteadyReads, StaysSteady, Known, EntersNextBy, Gives, GivesOf};
 
     pub(crate) fn new(alloc: A, job: Job<C, S, P, A>, mode: Mode) -> Self
         ensures own { by_crew result ≡ false }
@@ -210,6 +210,7 @@ impl<
     /// most one more than the crew's bound, and the call may block for a lock.
     pub fn ahead(&self) -> usize
         ensures alone { by_crew self.now ≡ false → result ≡ length (early_of self.now) }
+        ensures counted { CountsAhead L.Readers self.now result }
         ensures crew { by_crew self.now ≡ true → result ≤ most_ahead L.Readers self.now }
     {
         match self {

@@ -21,6 +21,7 @@ ghost use Rattle.tree_crew.specs.Ground.{limit_at, origin_at};
 ghost use Rattle.tree_crew.specs.Handled.{
   board_in,
   ArrivesOrIsOut,
+  ArrivesUnlessMissed,
   CallsOrIsOut,
   Counts,
   FinishesOrStops,
@@ -37,6 +38,7 @@ use crate::arrival::{Arrival, arrive};
 use crate::crew::Crew;
 use crate::ground::Ground;
 use crate::hand_in::HandIn;
+use crate::message::Message;
 use crate::pace::Pace;
 use crate::sleepers::Sleepers;
 use crate::steps::{Called, Turn, new_board, take_turn};
@@ -221,14 +223,14 @@ impl<
         &self,
         held: &mut MutexGuard<'_, Sleepers>,
         key: &mut Key<Work<T, U, J, A>>,
-    ) -> (Arrival<T, U, J, A>, Called)
+    ) -> (Arrival<Message<T, U, J, A>, A>, Called)
         requires opens { Opens key.old self.now.work }
         requires home { is_out key.old ≡ false }
         ensures opens { Opens key.new self.now.work }
         ensures home { is_out key.new ≡ false }
         ensures arrival { IsArrivalOf J.Plan (origin_at self.now.work) (key_mark key.old) result.0
             (key_mark key.new) }
-        ensures handled { ArrivesOrIsOut result.0 (handled key.old) (handled key.new) }
+        ensures handled { ArrivesOrIsOut result.0 (handled key.new) }
         ensures calls { CallsOrIsOut (limit_at self.now.work) result.0 (mutex_guard_value held.old)
             (mutex_guard_value held.new) result.1 (handled key.new) }
         ensures missed { (mutex_guard_value held.new).board_missed ≡ (mutex_guard_value held.old).board_missed }
@@ -250,13 +252,14 @@ impl<
         &self,
         held: &mut MutexGuard<'_, Sleepers>,
         key: &mut Key<Work<T, U, J, A>>,
-    ) -> (Arrival<T, U, J, A>, Called)
+    ) -> (Arrival<Message<T, U, J, A>, A>, Called)
         requires opens { Opens key.old self.now.work }
         requires home { is_out key.old ≡ false }
         ensures opens { Opens key.new self.now.work }
         ensures home { is_out key.new ≡ false }
         ensures arrival { IsArrivalOf J.Plan (origin_at self.now.work) (key_mark key.old) result.0
             (key_mark key.new) }
+        ensures handled { ArrivesUnlessMissed (mutex_guard_value held.old).board_missed result.0 (handled key.new) }
         ensures missed { (mutex_guard_value held.old).board_missed ≡ true → ¬ (result.0 ≡ Arrival.Wait) }
     {
         let (arrival, calls) = self.arrival_on_board(held, key);

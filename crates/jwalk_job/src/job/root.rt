@@ -1,5 +1,5 @@
 //! The list that a walk begins with.
-ghost use Rattle.std.specs.Prelude.{◌≡◌, ◌∷◌, [], false, None, Some, Ok, Err, IfOk, MatchResult, if◌then◌else◌};
+ghost use Rattle.std.specs.Prelude.{◌≡◌, ◌∷◌, [], false, None, Some, Ok, Err, IfOk, MatchResult, if◌then◌else◌, length};
 ghost use Rattle.jwalk_model.specs.Error.{io};
 ghost use Rattle.jwalk_model.specs.Entry.{AtDepth};
 ghost use Rattle.jwalk_model.specs.Job as value;
@@ -8,7 +8,7 @@ ghost use Rattle.jwalk_job.specs.Text.{text};
 ghost use Rattle.jwalk_job.specs.Error.{failure};
 ghost use Rattle.jwalk_job.specs.Entry.{entry, item};
 ghost use Rattle.jwalk_job.specs.ReadDir.{reading};
-ghost use Rattle.jwalk_job.specs.Given.{Given, counted_item, counted_reading, counted_entry};
+ghost use Rattle.jwalk_job.specs.Given.{Given, counted_item, counted_reading, counted_entry, KeepsLists};
 ghost use Rattle.jwalk_job.specs.Job.{file_system, callback, options_of, job_by, IsSteadyJob, ByValue};
 
 use super::Job;
@@ -143,6 +143,8 @@ impl<C: ClientState, S: FileSystem, P: ProcessReadDir<C, A>, A: Allocator + Copy
             → IsSteadyJob S.FileSystem P.ProcessReadDir C.ReadDirState.Clone C.DirEntryState.Default self.now g
             → IfOk result (λ r. value.root_list (job_by S.FileSystem g self.now) path.now (g.read_dir_state state)
             ≡ counted_reading g (reading r)) }
+        ensures one { (g : _) → P.Makes (callback self.now) g → KeepsLists g.processed
+            → IfOk result (λ r. length (reading r).list ≡ 1) }
     {
         let RootItem { item, parent_path } = self.root_item(path)?;
         let mut state = state;
