@@ -78,7 +78,7 @@ WalksAreTheSame = (settings : Settings) (texts : Texts) (fs : Functions) (option
     → AreStarts texts fs options root directory → IsIn (walk_ignoring settings texts fs options root) directory e behind
     → AreTheSameBelow e behind (walk_ignoring settings texts fs (options_below e.depth options) directory)
 
--- The walk that starts there may have the greatest depth of the other, where all that it yields is above that in the other.
+-- The walk that starts there may have the greatest depth of the other, if nothing that it yields would be at it in the other.
 abbrev pub DepthsMayBeTheSame : Type 0
 DepthsMayBeTheSame = (settings : Settings) (texts : Texts) (fs : Functions) (options : Options) (root directory : List ℕ) (e : Entry Worth Worth) (behind : List (Item Worth Worth))
     → AreStarts texts fs options root directory → IsIn (walk_ignoring settings texts fs options root) directory e behind

@@ -2,12 +2,12 @@
 ghost use Rattle.jwalk_ignore_laws.specs.Walks.{DepthsMayBeTheSame, WalksAreTheSame};
 
 /// Where a walk that honours ignore files comes to a directory, it yields below it what a walk yields that starts there,
-/// so much deeper. The greatest depth of that walk is so much less.
+/// deeper by the directory's depth. The greatest depth of that walk is less by as much.
 pub fn walks_are_the_same()
     ensures { WalksAreTheSame }
 {}
 
-/// Both walks may have the same greatest depth, where what the second yields lies above it in the first.
+/// Both walks may have the same greatest depth, if nothing that the second yields would be at it in the first.
 pub fn depths_may_be_the_same()
     ensures { DepthsMayBeTheSame }
 {}
