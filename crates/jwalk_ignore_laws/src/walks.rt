@@ -1,8 +1,8 @@
 //! The laws on what walks yield below a directory, each as the contract of a function that does nothing.
 ghost use Rattle.jwalk_ignore_laws.specs.Walks.{DepthsMayBeTheSame, WalksAreTheSame};
 
-/// Where a walk that honours ignore files comes to a directory, it yields below it what a walk yields that starts there,
-/// deeper by the directory's depth. The greatest depth of that walk is less by as much.
+/// Where a walk that honours ignore files comes to a directory, it yields below it what a walk yields that starts
+/// there, deeper by the directory's depth. The greatest depth of that walk is less by as much.
 pub fn walks_are_the_same()
     ensures { WalksAreTheSame }
 {}
