@@ -4,3 +4,4 @@ pub mod Run
 pub mod Options
 pub mod Printed
 pub mod KeptLinks
+pub mod Times

@@ -7,3 +7,4 @@ mod kept_rules;
 pub mod options;
 pub mod run;
 mod search;
+mod times;

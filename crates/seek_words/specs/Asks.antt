@@ -5,6 +5,7 @@ use Rattle.std.specs.List.{list_any}
 use Rattle.std.specs.Str.Parse.{IsNumeral, digits_value, without_leading_plus}
 use Rattle.clap.specs.Words.{Row, Text, all_of, count_of, first_of, one_of}
 use Rattle.seek_words.specs.Size.{size_in}
+use Rattle.seek_words.specs.Time.{time_in}
 use Rattle.seek_words.specs.declared.case.Case.{Case}
 use Rattle.seek_words.specs.declared.case.Case.TheVariants.{Smart, Ignored, Kept}
 use Rattle.seek_words.specs.declared.depths.Depths.{Depths}
@@ -95,8 +96,8 @@ pub record Asks (rows : List Row) (asked : Asked) : Type 0 where
   pub kinds : asked.kinds ≡ kinds_in (values_in rows (codes "type"))
   pub extensions : texts_of asked.extensions.items ≡ values_in rows (codes "extension")
   pub sizes : map Some asked.sizes.items ≡ map size_in (values_in rows (codes "size"))
-  pub changed_within : option_map (λ it. it.now) asked.changed_within ≡ first_of (codes "changed-within") rows
-  pub changed_before : option_map (λ it. it.now) asked.changed_before ≡ first_of (codes "changed-before") rows
+  pub changed_within : option_map Some asked.changed_within ≡ option_map time_in (first_of (codes "changed-within") rows)
+  pub changed_before : option_map Some asked.changed_before ≡ option_map time_in (first_of (codes "changed-before") rows)
   pub newer_than : option_map (λ it. it.now) asked.newer_than ≡ first_of (codes "newer-than-file") rows
   pub excludes : texts_of asked.excludes.items ≡ values_in rows (codes "exclude")
   pub max_results : AreResultsIn rows asked.max_results

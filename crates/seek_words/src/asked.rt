@@ -1,8 +1,12 @@
 //! What a call asks for.
+ghost use Rattle.std.specs.Prelude.{◌≡◌};
+
 use crate::case::Case;
 use crate::depths::Depths;
 use crate::kinds::Kinds;
 use crate::size::Size;
+use crate::time::Time;
+use crate::times::Times;
 use std::alloc::Global;
 
 /// What a call asks for.
@@ -43,11 +47,13 @@ pub struct Asked<'w> {
     /// The sizes of what is looked for, which are of files; any entry, if there are none.
     pub sizes: Vec<Size, Global>,
     /// Entries were modified later than this, if it is named.
-    pub changed_within: Option<&'w str>,
+    pub changed_within: Option<Time>,
     /// Entries were modified before this, if it is named.
-    pub changed_before: Option<&'w str>,
+    pub changed_before: Option<Time>,
     /// Entries were modified later than this file, if it is named.
     pub newer_than: Option<&'w str>,
+    /// When entries were modified, by the clock and the disk. The words alone say nothing of it.
+    pub times: Times,
     /// Lines of an ignore file, for what is left out.
     pub excludes: Vec<&'w str, Global>,
     /// How many paths are printed at most, if that was named.
@@ -60,4 +66,22 @@ pub struct Asked<'w> {
     pub print0: bool,
     /// How many threads read directories, if that was named.
     pub threads: Option<usize>,
+}
+
+impl<'w> Asked<'w> {
+    ghost use Rattle.seek_words.specs.Metadata.{names_time, needs_metadata};
+
+    /// Returns whether a time is named.
+    fn names_time(&self) -> bool
+        ensures { result ≡ names_time self.now }
+    {
+        self.changed_within.is_some() || self.changed_before.is_some() || self.newer_than.is_some()
+    }
+
+    /// Returns whether metadata of entries is asked for.
+    pub fn needs_metadata(&self) -> bool
+        ensures { result ≡ needs_metadata self.now }
+    {
+        !self.sizes.is_empty() || self.names_time() || self.kinds.names_mode()
+    }
 }

@@ -5,8 +5,9 @@ ghost use Rattle.clap.specs.Words.{found_of, rows_of, first_of, one_of};
 ghost use Rattle.seek_words.specs.Asks.{is_either_named, is_named, values_in, texts_of, IsNumberOf, case_in, depths_by, AreDepthsIn, names_one, kinds_in, is_slash, AreResultsIn, Asks};
 ghost use Rattle.seek_words.specs.AsksFor.{AskFor, GiveValues};
 ghost use Rattle.seek_words.specs.Conflict.{has_conflict, has_value};
-ghost use Rattle.seek_words.specs.Refusal.{IsRefusedFor, IsRefusedSize};
+ghost use Rattle.seek_words.specs.Refusal.{IsRefusedFor, IsRefusedSize, IsRefusedTime, IsRefusedValue};
 ghost use Rattle.seek_words.specs.Size.{size_in};
+ghost use Rattle.seek_words.specs.Time.{time_in};
 
 use crate::asked::Asked;
 use crate::case::Case;
@@ -15,6 +16,8 @@ use crate::depths::Depths;
 use crate::kinds::Kinds;
 use crate::refusal::Refusal;
 use crate::size::Size;
+use crate::time::Time;
+use crate::times::Times;
 use clap::ArgMatches;
 use std::alloc::{AllocError, Global};
 use std::convert::AsStr;
@@ -178,6 +181,20 @@ fn sizes_named<'w>(alloc: Global, found: &ArgMatches<'w>) -> Result<Vec<Size>, R
     sizes_of(alloc, texts.as_slice())
 }
 
+/// Returns the time that an option has.
+fn time_named<'w>(found: &ArgMatches<'w>, id: &str) -> Result<Option<Time>, Refusal<'w>>
+    ensures time { IfOk result (λ time. option_map Some time ≡ option_map time_in (first_of id.now (rows_of (found_of found.now)))) }
+    ensures refused { IfErr result (IsRefusedTime (first_of id.now (rows_of (found_of found.now)))) }
+{
+    let Some(text) = value_of(found, id) else {
+        return Ok(None);
+    };
+    match Time::read(text) {
+        Some(time) => Ok(Some(time)),
+        None => Err(Refusal::NoTime(text)),
+    }
+}
+
 /// Returns the types that are named.
 fn kinds_named(alloc: Global, found: &ArgMatches<'_>) -> Result<Kinds, AllocError>
     ensures { IfOk result (λ kinds. kinds ≡ kinds_in (values_in (rows_of (found_of found.now)) (codes "type"))) }
@@ -189,7 +206,7 @@ fn kinds_named(alloc: Global, found: &ArgMatches<'_>) -> Result<Kinds, AllocErro
 /// Returns what is asked for by words that were read.
 fn asked_of<'w>(alloc: Global, found: &ArgMatches<'w>) -> Result<Asked<'w>, Refusal<'w>>
     ensures asked { IfOk result (Asks (rows_of (found_of found.now))) }
-    ensures refused { IfErr result (IsRefusedSize (values_in (rows_of (found_of found.now)) (codes "size"))) }
+    ensures refused { IfErr result (IsRefusedValue (rows_of (found_of found.now))) }
 {
     Ok(Asked {
         pattern: pattern_of(found),
@@ -209,9 +226,10 @@ fn asked_of<'w>(alloc: Global, found: &ArgMatches<'w>) -> Result<Asked<'w>, Refu
         kinds: kinds_named(alloc, found)?,
         extensions: values_of(alloc, found, "extension")?,
         sizes: sizes_named(alloc, found)?,
-        changed_within: value_of(found, "changed-within"),
-        changed_before: value_of(found, "changed-before"),
+        changed_within: time_named(found, "changed-within")?,
+        changed_before: time_named(found, "changed-before")?,
         newer_than: value_of(found, "newer-than-file"),
+        times: Times::ANY,
         excludes: values_of(alloc, found, "exclude")?,
         max_results: results_of(found),
         quiet: is_named(found, "quiet"),
@@ -269,8 +287,8 @@ fn matches_of<'w, S: AsStr>(alloc: Global, words: &'w [S]) -> Result<ArgMatches<
 ///
 /// # Errors
 ///
-/// If the words are bad or ask for help or the version; if two options exclude each other; if a size is none; if the
-/// pattern has a slash and isn't compared with paths; or if memory runs out.
+/// If the words are bad or ask for help or the version; if two options exclude each other; if a size or a time is
+/// none; if the pattern has a slash and isn't compared with paths; or if memory runs out.
 pub fn read_words<'w, S: AsStr>(alloc: Global, words: &'w [S]) -> Result<Asked<'w>, Refusal<'w>>
     ensures asked { IfOk result (AskFor (map S.text words.entry.now)) }
     ensures refused { IfErr result (IsRefusedFor (map S.text words.entry.now)) }
