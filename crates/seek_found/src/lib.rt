@@ -6,6 +6,8 @@ pub mod bad_pattern;
 pub mod call;
 pub mod found;
 pub mod glob;
+pub mod name_pattern;
+pub mod pattern_test;
 pub mod printer;
 pub mod report;
 pub mod sought;

@@ -78,10 +78,14 @@ reach_rules = long_flag_rule (codes "prune") ∷ file_system_rule ∷ long_flag_
 abbrev pub kind_rule : Bor (List (Bor Text)) → Rule
 kind_rule kinds = record (listed_rule (codes "type") 116) { parser = Some (Names kinds) }
 
+-- the greatest depth
+abbrev pub max_depth_rule : Rule
+max_depth_rule = with_name (codes "maxdepth") (record (number_rule (codes "max-depth")) { short = Some 100 })
+
 -- which of them are looked for, of these types
 abbrev pub filter_rules : Bor (List (Bor Text)) → List Rule
 filter_rules kinds =
-    number_rule (codes "min-depth") ∷ record (number_rule (codes "max-depth")) { short = Some 100 } ∷ number_rule (codes "exact-depth")
+    number_rule (codes "min-depth") ∷ max_depth_rule ∷ number_rule (codes "exact-depth")
     ∷ kind_rule kinds ∷ listed_rule (codes "extension") 101 ∷ listed_rule (codes "size") 83 ∷ []
 
 -- the time that entries were modified after

@@ -1,7 +1,7 @@
 //! The command line.
 ghost use Rattle.std.specs.Prelude.{◌≡◌, ◌∷◌, [], false, map, IfOk};
 ghost use Rattle.clap.specs.Words.{app_of, rule_of};
-ghost use Rattle.seek_words.specs.Command.{flag_rule, long_flag_rule, valued_rule, listed_rule, number_rule, threads_rule, kind_rule, kind_names, and_rule, within_rule, one_rule, file_system_rule, with_name, pattern_rule, root_rule, named_app, with_rules, pattern_rules, case_rules, walk_rules, reach_rules, time_rules, print_rules, HasRule, HaveRules, AreFilters, IsSeek};
+ghost use Rattle.seek_words.specs.Command.{flag_rule, long_flag_rule, valued_rule, listed_rule, number_rule, threads_rule, kind_rule, kind_names, and_rule, within_rule, max_depth_rule, one_rule, file_system_rule, with_name, pattern_rule, root_rule, named_app, with_rules, pattern_rules, case_rules, walk_rules, reach_rules, time_rules, print_rules, HasRule, HaveRules, AreFilters, IsSeek};
 
 use clap::{Arg, ArgAction, Command};
 use std::alloc::{AllocError, Global};
@@ -225,13 +225,21 @@ fn kind_option<'a>(alloc: Global) -> Arg<'a>
     .hide_possible_values(true)
 }
 
+/// Returns the option with the greatest depth.
+fn max_depth_option<'a>(alloc: Global) -> Result<Arg<'a>, AllocError>
+    ensures { IfOk result (HasRule max_depth_rule) }
+{
+    let depth = number(alloc, "max-depth", "The greatest depth").short('d');
+    also_named(depth, "maxdepth")
+}
+
 /// Returns the options that say which of them are looked for.
 fn filter_options<'a>(alloc: Global) -> Result<Vec<Arg<'a>>, AllocError>
     ensures { IfOk result (λ options. AreFilters options.items) }
 {
     Ok(vec![in alloc;
         number(alloc, "min-depth", "The least depth"),
-        number(alloc, "max-depth", "The greatest depth").short('d'),
+        max_depth_option(alloc)?,
         number(alloc, "exact-depth", "The depth, where a root has depth 0",),
         kind_option(alloc),
         listed(alloc, "extension", 'e', "EXT", "The name's extension"),

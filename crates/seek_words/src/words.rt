@@ -260,6 +260,9 @@ fn conflict_of(found: &ArgMatches<'_>) -> Option<(&'static str, &'static str)>
     if is_named(found, "ignore-case") && is_named(found, "case-sensitive") {
         return Some(("ignore-case", "case-sensitive"));
     }
+    if is_named(found, "glob") && is_named(found, "fixed-strings") {
+        return Some(("glob", "fixed-strings"));
+    }
     if !has_value(found, "exact-depth") {
         return None;
     }

@@ -192,7 +192,7 @@ fn types_by_the_mode(rt: HostRuntime) {
 
 #[test]
 fn what_is_not_known(rt: HostRuntime) {
-    const MISSING: &str = "seek: /none: No such file or directory\n";
+    const MISSING: &str = "seek: /none: entity not found\n";
     const UNKNOWN: &str = "seek: /t/a.txt: unsupported\n";
     const ROWS: &[Row] = &[
         (

@@ -1,4 +1,4 @@
-use Rattle.std.proofs.Common.{◌∙◌, ap, true}
+use Rattle.std.proofs.Common.{true}
 use Rattle.std.proofs.lemmas.Result.{IfOk-weaker}
 use Rattle.seek_words.proofs.CommandFacts.{one_named}
 use Rattle.seek_words.proofs.command.also_named.Goals as goal
