@@ -4,3 +4,4 @@ pub mod FoundFacts
 pub mod WholeFacts
 pub mod CleanFacts
 pub mod TimedFacts
+mod SoughtFacts

@@ -4,5 +4,6 @@ pub mod NamePattern
 pub mod PatternTest
 pub mod Sought
 pub mod SoughtTest
+pub mod Times
 pub mod Found
 pub mod Call

@@ -12,3 +12,4 @@ pub mod printer;
 pub mod report;
 pub mod sought;
 pub mod sought_test;
+pub mod times;

@@ -4,4 +4,3 @@ pub mod Run
 pub mod Options
 pub mod Printed
 pub mod KeptLinks
-pub mod Times

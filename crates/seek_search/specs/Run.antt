@@ -7,7 +7,7 @@ use Rattle.seek_words.specs.declared.asked.Asked.{Asked}
 use Rattle.seek_found.specs.Found.{PrintsClean}
 use Rattle.seek_found.specs.Sought.{IsFor, takes_by}
 use Rattle.seek_found.specs.declared.sought.Sought.{Sought}
-use Rattle.seek_search.specs.Times.{AreTimes}
+use Rattle.seek_found.specs.Times.{AreTimes}
 use Rattle.seek_search.specs.KeptLinks.{functions_kept}
 use Rattle.seek_search.specs.Search.{sought_asked, style_asked, yielded_by}
 

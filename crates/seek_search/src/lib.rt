@@ -7,4 +7,3 @@ mod kept_rules;
 pub mod options;
 pub mod run;
 mod search;
-mod times;

@@ -12,7 +12,6 @@ ghost use Rattle.seek_search.specs.Search.{front_asked, style_asked, yielded_bel
 
 use crate::kept_links::KeptLinks;
 use crate::search::Search;
-use crate::times::times_of;
 use jwalk::Crew;
 use jwalk::file_system::{Fault, FileSystem};
 use jwalk_ignore::texts::Texts;
@@ -21,6 +20,7 @@ use seek_found::printer::Printer;
 use seek_found::report::report_hidden;
 use seek_found::sought::Sought;
 use seek_found::sought_test::SoughtTest;
+use seek_found::times::times_of;
 use seek_words::asked::Asked;
 use seek_words::filter::Filter;
 use seek_words::halt::Halt;

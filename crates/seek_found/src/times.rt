@@ -2,9 +2,10 @@
 ghost use Rattle.std.specs.Prelude.{◌≡◌, option_map, pos, Some, IfOk};
 ghost use Rattle.std.specs.Duration.{as_nanos};
 ghost use Rattle.seek_words.specs.Time.{nanoseconds_at};
-ghost use Rattle.seek_search.specs.Times.{AreTimes, file_time};
+ghost use Rattle.seek_found.specs.Times.{AreTimes, file_time};
 
-use jwalk::file_system::{Fault, FileSystem, Metadata};
+use jwalk_fs::fault::Fault;
+use jwalk_fs::file_system::FileSystem;
 use seek_words::asked::Asked;
 use seek_words::time::Time;
 use seek_words::times::{Times, nanoseconds_of};
@@ -14,7 +15,7 @@ use std::time::{Clock, Duration};
 
 /// Why the times that a call names aren't known.
 #[derive(Drop)]
-pub(crate) enum Untimed<'w> {
+pub enum Untimed<'w> {
     /// The clock can't be read.
     Clock(io::Error),
     /// This file can't be asked.
@@ -33,7 +34,7 @@ impl<'w> Untimed<'w> {
     }
 
     /// Reports it on standard error.
-    pub(crate) fn report<E: Write>(&self, err: &mut E) {
+    pub fn report<E: Write>(&self, err: &mut E) {
         let _ = match self {
             Untimed::Clock(error) => writeln!(err, "seek: the clock can't be read: {error}"),
             Untimed::File(file, error) => writeln!(err, "seek: {file}: {error}"),
@@ -84,28 +85,34 @@ fn time_at(now: Duration, time: Option<Time>) -> Option<i128>
     }
 }
 
-/// Returns the times that a call names. The clock is asked once, if a time is named beside that of a file.
+/// Returns how long after the beginning of 1970 it is, if a time is named beside that of a file.
+fn now_of<'w, T: Clock>(clock: &T, asked: &Asked<'_>) -> Result<Duration, Untimed<'w>> {
+    if asked.changed_within.is_none() && asked.changed_before.is_none() {
+        return Ok(Duration::ZERO);
+    }
+    match clock.since_1970() {
+        Ok(now) => Ok(now),
+        Err(error) => Err(Untimed::Clock(error)),
+    }
+}
+
+/// Returns the times that a call names. The clock is read at most once.
 ///
 /// # Errors
 ///
 /// If the clock can't be read, or the file that is named can't be asked, or if memory runs out.
-pub(crate) fn times_of<'w, T: Clock, S: FileSystem>(
+pub fn times_of<'w, T: Clock, S: FileSystem>(
     clock: &T,
     disk: &S,
     asked: &Asked<'w>,
 ) -> Result<Times, Untimed<'w>>
     ensures { S.IsFixed disk.now → IfOk result (AreTimes (S.functions disk.now) asked.now) }
 {
-    let now = match clock.since_1970() {
-        Ok(now) => now,
-        Err(error) if asked.changed_within.is_some() || asked.changed_before.is_some() => {
-            return Err(Untimed::Clock(error));
-        }
-        Err(_) => Duration::ZERO,
-    };
+    let now = now_of(clock, asked)?;
+    let after_file = named_file_time(disk, asked)?;
     Ok(Times {
         after: time_at(now, asked.changed_within),
-        after_file: named_file_time(disk, asked)?,
+        after_file,
         before: time_at(now, asked.changed_before),
     })
 }

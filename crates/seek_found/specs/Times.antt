@@ -1,9 +1,9 @@
 -- The times that a call names, by the clock and the disk.
 use Rattle.std.specs.Prelude.{◌≡◌, ℕ, ℤ, Bool, List, Option, None, Some, option_map, Result, Ok, Err, if◌then◌else◌}
 use Rattle.std.specs.declared.io.ErrorKind.{ErrorKind}
-use Rattle.jwalk.specs.jwalk_model.FileSystem.{Functions}
-use Rattle.jwalk.specs.jwalk_model.Metadata.{details_of}
-use Rattle.jwalk.specs.jwalk_model.declared.metadata.Metadata.{Metadata}
+use Rattle.jwalk_model.specs.FileSystem.{Functions}
+use Rattle.jwalk_model.specs.Metadata.{details_of}
+use Rattle.jwalk_model.specs.declared.metadata.Metadata.{Metadata}
 use Rattle.seek_words.specs.Time.{nanoseconds_at}
 use Rattle.seek_words.specs.Times.{nanoseconds_of}
 use Rattle.seek_words.specs.declared.asked.Asked.{Asked}
