@@ -5,3 +5,4 @@ pub mod WholeFacts
 pub mod CleanFacts
 pub mod TimedFacts
 mod SoughtFacts
+mod TestFacts
