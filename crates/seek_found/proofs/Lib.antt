@@ -3,3 +3,6 @@ pub mod EndFacts
 pub mod FoundFacts
 pub mod WholeFacts
 pub mod CleanFacts
+pub mod TimedFacts
+mod SoughtFacts
+mod TestFacts

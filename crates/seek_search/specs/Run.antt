@@ -7,6 +7,7 @@ use Rattle.seek_words.specs.declared.asked.Asked.{Asked}
 use Rattle.seek_found.specs.Found.{PrintsClean}
 use Rattle.seek_found.specs.Sought.{IsFor, takes_by}
 use Rattle.seek_found.specs.declared.sought.Sought.{Sought}
+use Rattle.seek_found.specs.Times.{AreTimes}
 use Rattle.seek_search.specs.KeptLinks.{functions_kept}
 use Rattle.seek_search.specs.Search.{sought_asked, style_asked, yielded_by}
 
@@ -15,10 +16,11 @@ abbrev pub PrintsAsked : Functions → Texts → Bool → Asked → Sought → O
 PrintsAsked fs texts on_terminal asked sought =
     PrintsClean (yielded_by (functions_kept asked.follow fs) texts asked) (sought_asked texts asked (takes_by sought)) (style_asked on_terminal asked)
 
--- The words ask for a search, what names are looked for is what the pattern says, and what is asked for is printed, if the file system and the texts are fixed.
+-- The words ask for a search, what names are looked for is what the pattern says, the times that are asked for are known, and what is asked for is printed, if the file system and the texts are fixed.
 pub record Searches (fixed : Type 0) (fs : Functions) (texts : Texts) (on_terminal : Bool) (words : List (List ℕ)) (old new : Option (List ℕ)) : Type 0 where
   pub asked : Asked
   pub ask : AskFor words asked
   pub sought : Sought
   pub is_for : IsFor asked sought
+  pub times : fixed → AreTimes fs asked asked.times
   pub prints : fixed → PrintsAsked fs texts on_terminal asked sought old new

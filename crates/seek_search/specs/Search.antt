@@ -15,6 +15,7 @@ use Rattle.seek_words.specs.Sought.{Sought}
 use Rattle.seek_words.specs.declared.paths.Style.{Style}
 use Rattle.seek_search.specs.Options.{options_for}
 use Rattle.seek_search.specs.declared.options.WalkOptions.{WalkOptions}
+use Rattle.seek_words.specs.Metadata.{needs_metadata}
 use Rattle.seek_words.specs.Asks.{texts_of}
 use Rattle.seek_words.specs.declared.asked.Asked.{Asked}
 
@@ -24,7 +25,7 @@ walk_options asked = record {
   sort = asked.sort;
   hidden = asked.hidden;
   follow = asked.follow;
-  metadata = not (length asked.sizes.items == 0);
+  metadata = needs_metadata asked;
   greatest = asked.depths.greatest;
 }
 
@@ -77,7 +78,7 @@ front_asked texts asked = if asked.full_path then Some (front_at (texts.absolute
 -- what is looked for, where these texts pass
 abbrev pub sought_asked : Texts → Asked → (List ℕ → Bool → Bool) → Sought
 sought_asked texts asked takes = record {
-  wanted = record { depths = asked.depths; kinds = asked.kinds; extensions = texts_of asked.extensions.items; sizes = asked.sizes.items };
+  wanted = record { depths = asked.depths; kinds = asked.kinds; extensions = texts_of asked.extensions.items; sizes = asked.sizes.items; times = asked.times };
   takes = takes;
   front = front_asked texts asked;
 }

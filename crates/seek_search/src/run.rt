@@ -20,6 +20,7 @@ use seek_found::printer::Printer;
 use seek_found::report::report_hidden;
 use seek_found::sought::Sought;
 use seek_found::sought_test::SoughtTest;
+use seek_found::times::times_of;
 use seek_words::asked::Asked;
 use seek_words::filter::Filter;
 use seek_words::halt::Halt;
@@ -176,6 +177,7 @@ fn search_asked<
         kinds: asked.kinds,
         extensions: asked.extensions.as_slice(),
         sizes: asked.sizes.as_slice(),
+        times: asked.times,
     };
     let filter = Filter {
         wanted,
@@ -208,8 +210,8 @@ fn search_asked<
 /// looked for, and reports errors on `err`. Returns the status. If the output is a terminal, control characters in paths
 /// are written as question marks.
 ///
-/// The status is 0 if all was searched and there was no error. It is 1 if there was one, if memory ran out, or if the
-/// output can't be written. It is 2 for bad words, and then nothing is printed.
+/// The status is 0 if all was searched and there was no error. It is 1 if there was one, if the times that are
+/// named aren't known, if memory ran out, or if the output can't be written. It is 2 for bad words, and then nothing is printed.
 pub fn run<
     T: Wait + Threads + Clock + Clone + Drop + Send + Sync + 'static,
     S: FileSystem + Send + Sync + 'static,
@@ -235,10 +237,17 @@ pub fn run<
         ⊎ Searches (S.IsFixed disk × X.IsFixed texts) (S.functions disk) (X.functions texts) on_terminal
         (map string_bytes words.now) (W.contents out.old) (W.contents out.new) }
 {
-    let (asked, sought) = match read_call(alloc, words, out, err) {
+    let (mut asked, sought) = match read_call(alloc, words, out, err) {
         Ok(read) => read,
         Err(status) => return status,
     };
+    match times_of(rt, &disk, &asked) {
+        Ok(times) => asked.times = times,
+        Err(untimed) => {
+            untimed.report(err);
+            return 1;
+        }
+    }
     let ended = search_asked(
         rt,
         alloc,

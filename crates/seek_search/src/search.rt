@@ -112,7 +112,7 @@ impl<
             sort: self.asked.sort,
             hidden: self.asked.hidden,
             follow: self.asked.follow,
-            metadata: !self.asked.sizes.is_empty(),
+            metadata: self.asked.needs_metadata(),
             greatest: self.asked.depths.greatest,
         }
     }

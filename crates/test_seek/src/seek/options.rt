@@ -91,6 +91,7 @@ fn max_depth(rt: HostRuntime) {
     prints(&rt, &["-d", "1", ".", "/t"], TOP);
     prints(&rt, &["-d1", ".", "/t"], TOP);
     prints(&rt, &["--max-depth=1", ".", "/t"], TOP);
+    prints(&rt, &["--maxdepth", "1", ".", "/t"], TOP);
     prints(&rt, &["--max-depth", "0", ".", "/t"], "");
 }
 
@@ -213,6 +214,43 @@ fn glob(rt: HostRuntime) {
         "/t/sub/c.rs\n/t/sub/deep/a.rs\n",
     );
     prints(&rt, &["-g", "sub", "/t"], "/t/sub\n");
+}
+
+#[test]
+fn fixed_strings(rt: HostRuntime) {
+    prints(&rt, &["-F", ".rs", "/t"], "/t/sub/c.rs\n/t/sub/deep/a.rs\n");
+    prints(
+        &rt,
+        &["-F", "-tf", ".", "/t"],
+        "/t/a.txt\n/t/B.TXT\n/t/sub/c.rs\n/t/sub/notes.tar.gz\n/t/sub/deep/a.rs\n",
+    );
+    prints(&rt, &["-F", "A.", "/t"], "");
+    prints(
+        &rt,
+        &["-F", "-i", "A.", "/t"],
+        "/t/a.txt\n/t/sub/deep/a.rs\n",
+    );
+    prints(&rt, &["--fixed-strings", "b.t", "/t"], "/t/B.TXT\n");
+    prints(&rt, &["-F", "^a", "/t"], "");
+    prints(&rt, &["-F", "-p", "sub/c", "/t"], "/t/sub/c.rs\n");
+}
+
+#[test]
+fn more_patterns(rt: HostRuntime) {
+    prints(&rt, &["rs", "--and", "^c", "/t"], "/t/sub/c.rs\n");
+    prints(
+        &rt,
+        &["-i", "t", "--and", "TX", "/t"],
+        "/t/a.txt\n/t/B.TXT\n",
+    );
+    prints(
+        &rt,
+        &["-g", "*.rs", "--and", "a*", "/t"],
+        "/t/sub/deep/a.rs\n",
+    );
+    prints(&rt, &["--and=e", "--and=p", ".", "/t"], "/t/sub/deep\n");
+    prints(&rt, &["-F", ".", "--and=^", "/t"], "");
+    prints_by(&rt, "-j1", &["a", "--and", "(", "/t"], "", 2);
 }
 
 #[test]

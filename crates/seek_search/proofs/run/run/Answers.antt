@@ -1,5 +1,7 @@
 use Rattle.std.proofs.Common.{arith, inl, inr, map, refl, string_bytes}
 use Rattle.seek_found.proofs.EndFacts.{bad_ends, ends_most, searched_ends}
+use Rattle.seek_found.proofs.TimedFacts.{timed_for}
+use Rattle.seek_words.proofs.AsksFacts.{timed_ask_for}
 use Rattle.seek_search.proofs.run.run.Goals as goal
 
 pub returns-in-Err-clause-status : goal.returns-in-Err-clause-status
@@ -27,8 +29,10 @@ returns-clause-done g c = λ zero.
     let read = c.in-Ok.ensures.asked in
     inr (record {
       asked = _;
-      ask = read.0;
+      ask = timed_ask_for _ _ _ read.0;
       sought = _;
-      is_for = read.1;
+      is_for = timed_for _ _ _ read.1;
+      times = λ both.
+          let known = c.in-Ok-times_of.ensures both.0 in record { now = known.now; after = known.after; before = known.before; after_file = known.after_file };
       prints = λ both. rw c.in-Ok.ensures.unwritten at ((rw (c.status_of.ensures.clean zero) at c.search_asked-ended.ensures) refl both.0 both.1);
     })

@@ -15,7 +15,7 @@ returns g c = λ is fixed told.
     let disk = c.in_ok-shared.ensures in
     let texts = c.in_ok-shared-2.ensures in
     let over = c.in_ok-clean.ensures (subst (λ (d : KeptLinks _). g.S.FileSystem.IsFixed d.disk) (sym disk) fixed) (subst g.X.Texts.IsFixed (sym texts) told) is in
-    let sought = sought_by (ap₂ (λ l sizes. let w : Wants = record { depths = asked.depths; kinds = asked.kinds; extensions = texts_of l; sizes = sizes } in w) c.as_slice.ensures.value c.as_slice-2.ensures.value) c.in_ok-new.ensures (c.in_ok-path_of.ensures told) in
+    let sought = sought_by (ap₂ (λ l sizes. let w : Wants = record { depths = asked.depths; kinds = asked.kinds; extensions = texts_of l; sizes = sizes; times = asked.times } in w) c.as_slice.ensures.value c.as_slice-2.ensures.value) c.in_ok-new.ensures (c.in_ok-path_of.ensures told) in
     written_last (g.W.Write.contents c.args.out.now) (g.W.Write.contents c.search_roots.new.out) (g.W.Write.contents c.finish.new.out)
     (gathered_of c.in_ok-lines.lines) (gathered_of c.search_roots.new.printer.lines) c.in_ok-lines.ensures.empty
     (printed_by sought (c.in_ok-lines.ensures.style ∙ c.style_of.ensures)
