@@ -3,3 +3,4 @@ pub mod EndFacts
 pub mod FoundFacts
 pub mod WholeFacts
 pub mod CleanFacts
+pub mod RootsFacts

@@ -17,7 +17,8 @@ module _ {R E : Type 0} (given : Given R E) where
   same_line sought style (Ok e) = refl
   same_line sought style (Err f) = refl
 
-  same_lines : (sought : Sought) (style : Style) (xs : List (Item R E)) → found_lines sought style (map (counted_item given) xs) ≡ found_lines sought style xs
+  -- nor do lines
+  pub same_lines : (sought : Sought) (style : Style) (xs : List (Item R E)) → found_lines sought style (map (counted_item given) xs) ≡ found_lines sought style xs
   same_lines sought style [] = refl
   same_lines sought style (x ∷ xs) =
       ap (λ l. l ++ found_lines sought style (map (counted_item given) xs)) (same_line sought style x)
@@ -28,7 +29,8 @@ module _ {R E : Type 0} (given : Given R E) where
   same_clean (Ok e) =
       elim e.read_children as (λ o. is_clean (counted_item given (Ok (record e { read_children = o }))) ≡ is_clean {R = R} {E = E} (Ok (record e { read_children = o }))) [ None ↦ refl | Some c ↦ refl ]
 
-  all_clean : (xs : List (Item R E)) → list_all is_clean (map (counted_item given) xs) ≡ list_all is_clean xs
+  -- nor does whether all are clean
+  pub all_clean : (xs : List (Item R E)) → list_all is_clean (map (counted_item given) xs) ≡ list_all is_clean xs
   all_clean [] = refl
   all_clean (x ∷ xs) =
       ap (λ b. b && list_all is_clean (map (counted_item given) xs)) (same_clean x) ∙ ap (λ b. is_clean x && b) (all_clean xs)

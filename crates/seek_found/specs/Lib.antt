@@ -3,4 +3,5 @@ pub mod Glob
 pub mod Sought
 pub mod SoughtTest
 pub mod Found
+pub mod Roots
 pub mod Call

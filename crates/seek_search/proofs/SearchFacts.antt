@@ -9,6 +9,9 @@ use Rattle.jwalk.specs.jwalk_model.Walk.{whole_walk}
 use Rattle.jwalk_ignore.specs.Callback.IgnoreViews.{ignoring, Ignores}
 use Rattle.jwalk_ignore.specs.Rules.Texts.{Texts}
 use Rattle.jwalk_ignore.specs.declared.callback.settings.Settings.{Settings}
+use Rattle.jwalk.specs.declared.crew.Crew.{Crew}
+use Rattle.jwalk.specs.declared.walk_dir.WalkDirGeneric.{WalkDirGeneric}
+use Rattle.seek_search.specs.Goes.{CallsOf, Yielded}
 use Rattle.seek_search.specs.Options.{with_crew}
 use Rattle.seek_search.specs.Excluding.{Excluded, Excludes, excluding, excluding-KeepsDepthsOf}
 use Rattle.seek_search.specs.Search.{given_kept, ignoring_walk, job_with}
@@ -63,3 +66,15 @@ ignoring_same {fs} {fs'} {texts} {texts'} {settings} {settings'} {excluded} {exc
     ∙ ap (λ (x : Excluded). ignoring_walk fs' texts' settings' x options root) e
     ∙ ap (λ (x : Options). ignoring_walk fs' texts' settings' excluded' x root) o
     ∙ ap (λ (x : List ℕ). ignoring_walk fs' texts' settings' excluded' options' x) r
+
+-- what a walk yielded, of which more is known
+pub yielded_so : {T C S P A R E : Type 0} (calls : CallsOf T C S P A R E) {is be : WalkDirGeneric C S P A (Crew T) R E → Type 0} → ((walk : WalkDirGeneric C S P A (Crew T) R E) → is walk → be walk) → (answers : List (Item Worth Worth)) → Yielded calls is answers → Yielded calls be answers
+yielded_so calls more answers y = record {
+  walk = y.walk;
+  is_so = more y.walk y.is_so;
+  it = y.it;
+  starts = y.starts;
+  yielded = y.yielded;
+  drains = y.drains;
+  counted = y.counted;
+}

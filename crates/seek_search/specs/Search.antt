@@ -107,10 +107,14 @@ front_at (Err kind) = join [] []
 abbrev pub front_asked : Texts → Asked → Option (List ℕ)
 front_asked texts asked = if asked.full_path then Some (front_at (texts.absolute_of [])) else None
 
--- what is looked for, where these texts pass
-abbrev pub sought_asked : Texts → Asked → (List ℕ → Bool → Bool) → Sought
-sought_asked texts asked takes = record {
+-- what is looked for, where these texts pass, and this is in front of a relative path
+abbrev pub sought_before : Option (List ℕ) → Asked → (List ℕ → Bool → Bool) → Sought
+sought_before front asked takes = record {
   wanted = record { depths = asked.depths; kinds = asked.kinds; extensions = texts_of asked.extensions.items; sizes = asked.sizes.items };
   takes = takes;
-  front = front_asked texts asked;
+  front = front;
 }
+
+-- the same over texts that always answer the same
+abbrev pub sought_asked : Texts → Asked → (List ℕ → Bool → Bool) → Sought
+sought_asked texts asked = sought_before (front_asked texts asked) asked

@@ -1,17 +1,20 @@
 //! A call of the program.
-ghost use Rattle.std.specs.Prelude.{◌≡◌, ◌≤◌, ◌⊎◌, ℕ, Some, true, flat_map, map, string_bytes, IfOk};
+ghost use Rattle.std.specs.Prelude.{◌≡◌, ◌≤◌, ◌⊎◌, ℕ, Some, true, flat_map, is_some, map, string_bytes, IfOk};
 ghost use Rattle.std.specs.Arc.{arc_value};
 ghost use Rattle.std.specs.Option.{option_map};
 ghost use Rattle.seek_words.specs.Asks.{texts_of};
 ghost use Rattle.seek_words.specs.AsksFor.{AskForText};
 ghost use Rattle.seek_words.specs.Subject.{front_of};
 ghost use Rattle.seek_found.specs.Call.{AskForSearch, Ends};
-ghost use Rattle.seek_search.specs.Printed.{PrintsAll};
+ghost use Rattle.seek_found.specs.Roots.{AreBelow};
+ghost use Rattle.seek_found.specs.Sought.{takes_by};
+ghost use Rattle.seek_search.specs.Goes.{PrintsYielded, YieldedBelow};
+ghost use Rattle.seek_search.specs.Printed.{PrintsAll, PrintsThose};
 ghost use Rattle.seek_search.specs.Run.{PrintsAsked, Searches};
-ghost use Rattle.seek_search.specs.Search.{front_asked, style_asked, yielded_below, yielded_by};
+ghost use Rattle.seek_search.specs.Search.{front_asked, roots_asked, style_asked, yielded_below, yielded_by};
 
 use crate::kept_links::KeptLinks;
-use crate::search::Search;
+use crate::search::{HonouringWalk, PlainWalk, Search};
 use jwalk::Crew;
 use jwalk::file_system::{Fault, FileSystem};
 use jwalk_ignore::texts::Texts;
@@ -73,7 +76,8 @@ fn path_of<X: Texts>(
     asked: &Asked<'_>,
     texts: &X,
 ) -> Result<Option<AbsolutePath>, AllocError>
-    ensures { X.IsFixed texts.now → IfOk result (λ path. option_map front_of path ≡ front_asked (X.functions texts.now) asked.now) }
+    ensures asked { IfOk result (λ path. is_some path ≡ asked.now.full_path) }
+    ensures front { X.IsFixed texts.now → IfOk result (λ path. option_map front_of path ≡ front_asked (X.functions texts.now) asked.now) }
 {
     if !asked.full_path {
         return Ok(None);
@@ -111,7 +115,10 @@ fn search_each<
     out: &mut W,
     err: &mut E,
 ) -> Result<bool, Halt>
-    ensures { IfOk result (λ clean. S.IsFixed (arc_value search.now.disk) → X.IsFixed (arc_value search.now.texts)
+    ensures yielded { IfOk result (PrintsThose (AreBelow (YieldedBelow ⟦<PlainWalk<T, S> as Iterator>⟧.next_gives
+        ⟦<HonouringWalk<T, S, X> as Iterator>⟧.next_gives (arc_value search.now.disk) (arc_value search.now.texts)
+        search.now.asked.now) (texts_of roots.now)) printer.old printer.new (W.contents out.old) (W.contents out.new)) }
+    ensures whole { IfOk result (λ clean. S.IsFixed (arc_value search.now.disk) → X.IsFixed (arc_value search.now.texts)
         → PrintsAll
         (flat_map (yielded_below (S.functions (arc_value search.now.disk)) (X.functions (arc_value search.now.texts)) search.now.asked.now)
         (texts_of roots.now)) printer.old printer.new (W.contents out.old) (W.contents out.new) clean) }
@@ -137,7 +144,11 @@ fn search_roots<
     out: &mut W,
     err: &mut E,
 ) -> Result<bool, Halt>
-    ensures { IfOk result (λ clean. S.IsFixed (arc_value search.now.disk) → X.IsFixed (arc_value search.now.texts)
+    ensures yielded { IfOk result (PrintsThose (AreBelow (YieldedBelow ⟦<PlainWalk<T, S> as Iterator>⟧.next_gives
+        ⟦<HonouringWalk<T, S, X> as Iterator>⟧.next_gives (arc_value search.now.disk) (arc_value search.now.texts)
+        search.now.asked.now) (roots_asked search.now.asked.now)) printer.old printer.new
+        (W.contents out.old) (W.contents out.new)) }
+    ensures whole { IfOk result (λ clean. S.IsFixed (arc_value search.now.disk) → X.IsFixed (arc_value search.now.texts)
         → PrintsAll
         (yielded_by (S.functions (arc_value search.now.disk)) (X.functions (arc_value search.now.texts)) search.now.asked.now)
         printer.old printer.new (W.contents out.old) (W.contents out.new) clean) }
@@ -167,7 +178,10 @@ fn search_asked<
     out: &mut W,
     err: &mut E,
 ) -> Result<bool, Halt>
-    ensures { IfOk result (λ clean. clean ≡ true → S.IsFixed disk → X.IsFixed texts
+    ensures yielded { IfOk result (PrintsYielded ⟦<PlainWalk<T, KeptLinks<S>> as Iterator>⟧.next_gives
+        ⟦<HonouringWalk<T, KeptLinks<S>, X> as Iterator>⟧.next_gives disk texts on_terminal asked.now (takes_by sought.now)
+        (W.contents out.old) (W.contents out.new)) }
+    ensures whole { IfOk result (λ clean. clean ≡ true → S.IsFixed disk → X.IsFixed texts
         → PrintsAsked (S.functions disk) (X.functions texts) on_terminal asked.now sought.now
         (W.contents out.old) (W.contents out.new)) }
 {
@@ -232,7 +246,9 @@ pub fn run<
         → (result ≡ 2) ⊎ (result ≡ 1) }
     ensures untouched { result ≡ 2 → W.contents out.new ≡ W.contents out.old }
     ensures done { result ≡ 0 → AskForText (map string_bytes words.now)
-        ⊎ Searches (S.IsFixed disk × X.IsFixed texts) (S.functions disk) (X.functions texts) on_terminal
+        ⊎ Searches ⟦<PlainWalk<T, KeptLinks<S>> as Iterator>⟧.next_gives
+        ⟦<HonouringWalk<T, KeptLinks<S>, X> as Iterator>⟧.next_gives disk texts
+        (S.IsFixed disk × X.IsFixed texts) (S.functions disk) (X.functions texts) on_terminal
         (map string_bytes words.now) (W.contents out.old) (W.contents out.new) }
 {
     let (asked, sought) = match read_call(alloc, words, out, err) {

@@ -30,5 +30,6 @@ returns-clause-done g c = λ zero.
       ask = read.0;
       sought = _;
       is_for = read.1;
-      prints = λ both. rw c.in-Ok.ensures.unwritten at ((rw (c.status_of.ensures.clean zero) at c.search_asked-ended.ensures) refl both.0 both.1);
+      yielded = rw c.in-Ok.ensures.unwritten at (rw (c.status_of.ensures.clean zero) at c.search_asked-ended.ensures.yielded);
+      prints = λ both. rw c.in-Ok.ensures.unwritten at ((rw (c.status_of.ensures.clean zero) at c.search_asked-ended.ensures.whole) refl both.0 both.1);
     })

@@ -11,7 +11,9 @@ use Rattle.seek_words.specs.Asks.{texts_of}
 use Rattle.seek_search.specs.Excluding.{Excluded, excluded_by, excluded_of, excluding}
 use Rattle.seek_search.specs.Search.{excluded_asked, given_all, options_asked}
 use Rattle.seek_found.proofs.CleanFacts.{printed_as}
-use Rattle.seek_search.proofs.SearchFacts.{whole_of, same_by_crew}
+use Rattle.seek_found.proofs.RootsFacts.{printed_such}
+use Rattle.seek_search.specs.Goes.{IsPlain}
+use Rattle.seek_search.proofs.SearchFacts.{whole_of, same_by_crew, yielded_so}
 use Rattle.seek_search.proofs.search.Search.search_all.Goals as goal
 
 pub returns-clause-whole : goal.returns-clause-whole
@@ -43,3 +45,19 @@ returns-clause-whole g c =
     ∙ same_by_crew (excluding excluded) (is_some self.crew) (g.S.FileSystem.functions (arc_value self.disk)) (options_asked asked) c.args.root.now blank)
     (whole given steady is))
     c.print_begun.ensures.whole
+
+pub returns-clause-yielded : goal.returns-clause-yielded
+returns-clause-yielded g c =
+    let self = c.args.self.now in
+    let asked = self.asked.now in
+    let built = c.in_ok-walk.ensures in
+    let set = c.process_read_dir.ensures in
+    let walk = c.process_read_dir.result in
+    let plain : IsPlain (arc_value self.disk) asked c.args.root.now walk = record {
+      over = ap arc_value (set.file_system ∙ built.file_system) ∙ c.in_ok-disk.ensures.cases;
+      below = set.root ∙ built.root ∙ c.in_ok-root.ensures.ok;
+      by_crew = is_some self.crew;
+      options = set.options ∙ built.options ∙ ap (λ (o : WalkOptions). options_for o (is_some self.crew)) c.options.ensures;
+      excluded = ap excluded_of set.callback ∙ c.in_ok-excluding.ensures ∙ ap (λ l. excluded_by (texts_of l) c.args.root.now) c.as_slice.ensures.value;
+    } in
+    IfOk-weaker c.print_begun.result _ _ (λ clean. printed_such (yielded_so _ (λ it is. subst (IsPlain (arc_value self.disk) asked c.args.root.now) (sym is) plain))) c.print_begun.ensures.yielded
