@@ -11,9 +11,13 @@ is_named kinds Dir = kinds.dir
 is_named kinds Symlink = kinds.link
 is_named kinds Other = kinds.other
 
+-- whether a type is that the mode tells
+abbrev pub names_mode : Kinds → Bool
+names_mode kinds = kinds.executable || (kinds.pipe || (kinds.socket || (kinds.block || kinds.char)))
+
 -- whether no type is
 abbrev pub names_none : Kinds → Bool
-names_none kinds = not kinds.file && (not kinds.dir && (not kinds.link && not kinds.other))
+names_none kinds = not kinds.file && (not kinds.dir && (not kinds.link && (not kinds.other && not (names_mode kinds))))
 
 -- whether an entry of this type is looked for: its type is named, or none is
 abbrev pub has_kind : Kinds → FileType → Bool

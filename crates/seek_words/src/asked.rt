@@ -14,6 +14,10 @@ pub struct Asked<'w> {
     pub roots: Vec<&'w str, Global>,
     /// The pattern is a glob, which takes the whole name.
     pub glob: bool,
+    /// The pattern is a text, which a name has in it.
+    pub fixed: bool,
+    /// More patterns, which count too.
+    pub others: Vec<&'w str, Global>,
     /// The pattern is compared with the absolute path.
     pub full_path: bool,
     /// Whether the case of letters counts.
@@ -24,6 +28,10 @@ pub struct Asked<'w> {
     pub no_ignore: bool,
     /// Links are followed.
     pub follow: bool,
+    /// Directories that are printed aren't read.
+    pub prune: bool,
+    /// Directories on another file system than the root aren't read.
+    pub one_file_system: bool,
     /// The entries of a directory are in the order of their names.
     pub sort: bool,
     /// The depths of what is looked for.
@@ -34,8 +42,20 @@ pub struct Asked<'w> {
     pub extensions: Vec<&'w str, Global>,
     /// The sizes of what is looked for, which are of files; any entry, if there are none.
     pub sizes: Vec<Size, Global>,
+    /// Entries were modified later than this, if it is named.
+    pub changed_within: Option<&'w str>,
+    /// Entries were modified before this, if it is named.
+    pub changed_before: Option<&'w str>,
+    /// Entries were modified later than this file, if it is named.
+    pub newer_than: Option<&'w str>,
     /// Lines of an ignore file, for what is left out.
     pub excludes: Vec<&'w str, Global>,
+    /// How many paths are printed at most, if that was named.
+    pub max_results: Option<usize>,
+    /// No path is printed, and the status says whether there is one.
+    pub quiet: bool,
+    /// Absolute paths are printed.
+    pub absolute: bool,
     /// A zero byte is behind each path, in place of a line feed.
     pub print0: bool,
     /// How many threads read directories, if that was named.

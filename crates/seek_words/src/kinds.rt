@@ -12,18 +12,35 @@ pub struct Kinds {
     pub dir: bool,
     /// Links are named.
     pub link: bool,
-    /// All else is named.
+    /// Regular files that may be executed are named.
+    pub executable: bool,
+    /// Pipes are named.
+    pub pipe: bool,
+    /// Sockets are named.
+    pub socket: bool,
+    /// Block devices are named.
+    pub block: bool,
+    /// Character devices are named.
+    pub char: bool,
+    /// All that is no file, directory or link is named.
     pub other: bool,
 }
 
 impl Kinds {
-    ghost use Rattle.seek_words.specs.Kinds.{is_named, names_none, has_kind};
+    ghost use Rattle.seek_words.specs.Kinds.{is_named, names_mode, names_none, has_kind};
+
+    /// Returns whether a type is named that the mode tells.
+    fn names_mode(self) -> bool
+        ensures { result ≡ names_mode self }
+    {
+        self.executable || self.pipe || self.socket || self.block || self.char
+    }
 
     /// Returns whether no type is named.
     fn names_none(self) -> bool
         ensures { result ≡ names_none self }
     {
-        !self.file && !self.dir && !self.link && !self.other
+        !self.file && !self.dir && !self.link && !self.other && !self.names_mode()
     }
 
     /// Returns whether a type is named.

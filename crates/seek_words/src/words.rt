@@ -1,8 +1,8 @@
 //! What words ask for.
-ghost use Rattle.std.specs.Prelude.{◌≡◌, [], codes, is_some, map, unwrap_or, IfOk, IfErr, Some};
+ghost use Rattle.std.specs.Prelude.{◌≡◌, [], codes, is_some, map, option_map, unwrap_or, IfOk, IfErr, Some};
 ghost use Rattle.std.specs.List.{list_any};
 ghost use Rattle.clap.specs.Words.{found_of, rows_of, first_of, one_of};
-ghost use Rattle.seek_words.specs.Asks.{is_either_named, is_named, values_in, texts_of, IsNumberOf, case_in, depths_by, AreDepthsIn, names_one, kinds_in, is_slash, Asks};
+ghost use Rattle.seek_words.specs.Asks.{is_either_named, is_named, values_in, texts_of, IsNumberOf, case_in, depths_by, AreDepthsIn, names_one, kinds_in, is_slash, AreResultsIn, Asks};
 ghost use Rattle.seek_words.specs.AsksFor.{AskFor, GiveValues};
 ghost use Rattle.seek_words.specs.Conflict.{has_conflict, has_value};
 ghost use Rattle.seek_words.specs.Refusal.{IsRefusedFor, IsRefusedSize};
@@ -66,11 +66,28 @@ fn pattern_of<'w>(found: &ArgMatches<'w>) -> &'w str
     }
 }
 
+/// Returns the value that an option has.
+fn value_of<'w>(found: &ArgMatches<'w>, id: &str) -> Option<&'w str>
+    ensures { option_map (λ it. it.now) result ≡ first_of id.now (rows_of (found_of found.now)) }
+{
+    found.get_str(id)
+}
+
 /// Returns the number that an option has.
 fn number_of(found: &ArgMatches<'_>, id: &str) -> Option<usize>
     ensures { IsNumberOf (one_of id.now (rows_of (found_of found.now))) result }
 {
     found.get_one::<usize>(id)
+}
+
+/// Returns how many paths are printed at most.
+fn results_of(found: &ArgMatches<'_>) -> Option<usize>
+    ensures { AreResultsIn (rows_of (found_of found.now)) result }
+{
+    if is_named(found, "one-result") {
+        return Some(1);
+    }
+    number_of(found, "max-results")
 }
 
 /// Returns whether the case of letters counts.
@@ -127,6 +144,11 @@ fn kinds_of(names: &[&str]) -> Kinds
         file: names_one(names, "f", "file"),
         dir: names_one(names, "d", "d") || names_one(names, "dir", "directory"),
         link: names_one(names, "l", "symlink"),
+        executable: names_one(names, "x", "executable"),
+        pipe: names_one(names, "p", "pipe"),
+        socket: names_one(names, "s", "socket"),
+        block: names_one(names, "b", "block-device"),
+        char: names_one(names, "c", "char-device"),
         other: names_one(names, "o", "other"),
     }
 }
@@ -147,32 +169,53 @@ fn sizes_of<'w>(alloc: Global, texts: &[&'w str]) -> Result<Vec<Size>, Refusal<'
     Ok(sizes)
 }
 
+/// Returns the sizes that are named.
+fn sizes_named<'w>(alloc: Global, found: &ArgMatches<'w>) -> Result<Vec<Size>, Refusal<'w>>
+    ensures sizes { IfOk result (λ sizes. map Some sizes.items ≡ map size_in (values_in (rows_of (found_of found.now)) (codes "size"))) }
+    ensures refused { IfErr result (IsRefusedSize (values_in (rows_of (found_of found.now)) (codes "size"))) }
+{
+    let texts = values_of(alloc, found, "size")?;
+    sizes_of(alloc, texts.as_slice())
+}
+
+/// Returns the types that are named.
+fn kinds_named(alloc: Global, found: &ArgMatches<'_>) -> Result<Kinds, AllocError>
+    ensures { IfOk result (λ kinds. kinds ≡ kinds_in (values_in (rows_of (found_of found.now)) (codes "type"))) }
+{
+    let names = values_of(alloc, found, "type")?;
+    Ok(kinds_of(names.as_slice()))
+}
+
 /// Returns what is asked for by words that were read.
 fn asked_of<'w>(alloc: Global, found: &ArgMatches<'w>) -> Result<Asked<'w>, Refusal<'w>>
     ensures asked { IfOk result (Asks (rows_of (found_of found.now))) }
     ensures refused { IfErr result (IsRefusedSize (values_in (rows_of (found_of found.now)) (codes "size"))) }
 {
-    let roots = values_of(alloc, found, "root")?;
-    let kinds = values_of(alloc, found, "type")?;
-    let extensions = values_of(alloc, found, "extension")?;
-    let texts = values_of(alloc, found, "size")?;
-    let sizes = sizes_of(alloc, texts.as_slice())?;
-    let excludes = values_of(alloc, found, "exclude")?;
     Ok(Asked {
         pattern: pattern_of(found),
-        roots,
+        roots: values_of(alloc, found, "root")?,
         glob: is_named(found, "glob"),
+        fixed: is_named(found, "fixed-strings"),
+        others: values_of(alloc, found, "and")?,
         full_path: is_named(found, "full-path"),
         case: case_of(found),
         hidden: is_either_named(found, "hidden", "unrestricted"),
         no_ignore: is_either_named(found, "no-ignore", "unrestricted"),
         follow: is_named(found, "follow"),
+        prune: is_named(found, "prune"),
+        one_file_system: is_named(found, "one-file-system"),
         sort: is_named(found, "sort"),
         depths: depths_of(found),
-        kinds: kinds_of(kinds.as_slice()),
-        extensions,
-        sizes,
-        excludes,
+        kinds: kinds_named(alloc, found)?,
+        extensions: values_of(alloc, found, "extension")?,
+        sizes: sizes_named(alloc, found)?,
+        changed_within: value_of(found, "changed-within"),
+        changed_before: value_of(found, "changed-before"),
+        newer_than: value_of(found, "newer-than-file"),
+        excludes: values_of(alloc, found, "exclude")?,
+        max_results: results_of(found),
+        quiet: is_named(found, "quiet"),
+        absolute: is_named(found, "absolute-path"),
         print0: is_named(found, "print0"),
         threads: number_of(found, "threads"),
     })
