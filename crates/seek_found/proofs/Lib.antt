@@ -1,5 +1,6 @@
 mod GlobFacts
 pub mod EndFacts
+pub mod LimitFacts
 pub mod FoundFacts
 pub mod WholeFacts
 pub mod CleanFacts

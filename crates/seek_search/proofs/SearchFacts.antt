@@ -1,5 +1,7 @@
 -- What searches go over.
-use Rattle.std.proofs.Common.{◌≡◌, ◌∙◌, ℕ, Bool, true, false, List, Option, ap, ap₂, refl, sym}
+use Rattle.std.proofs.Common.{◌≡◌, ◌⊎◌, ◌∙◌, ℕ, Bool, true, false, List, Option, inl, inr, ap, ap₂, refl, subst, sym}
+use Rattle.std.specs.Bool.{MatchBool}
+use Rattle.std.specs.declared.sync.Arc.{Arc}
 use Rattle.jwalk.specs.jwalk_model.Counted.{Worth, blank}
 use Rattle.jwalk.specs.jwalk_model.Entry.{Item}
 use Rattle.jwalk.specs.jwalk_model.FileSystem.{Functions}
@@ -8,13 +10,17 @@ use Rattle.jwalk.specs.jwalk_model.Options.{Options, with_skip_hidden}
 use Rattle.jwalk.specs.jwalk_model.Walk.{whole_walk}
 use Rattle.jwalk_ignore.specs.Callback.IgnoreViews.{ignoring, Ignores}
 use Rattle.jwalk_ignore.specs.Rules.Texts.{Texts}
+use Rattle.jwalk_ignore.specs.jwalk_ignore_rules.declared.rules.chain.Chain.{Chain}
 use Rattle.jwalk_ignore.specs.declared.callback.settings.Settings.{Settings}
 use Rattle.jwalk.specs.declared.crew.Crew.{Crew}
 use Rattle.jwalk.specs.declared.walk_dir.WalkDirGeneric.{WalkDirGeneric}
-use Rattle.seek_search.specs.Goes.{CallsOf, Yielded}
+use Rattle.seek_words.specs.declared.asked.Asked.{Asked}
+use Rattle.seek_search.specs.Goes.{CallsOf, IsHonouring, IsPlain, Yielded, YieldedBelow}
 use Rattle.seek_search.specs.Options.{with_crew}
 use Rattle.seek_search.specs.Excluding.{Excluded, Excludes, excluding, excluding-KeepsDepthsOf}
 use Rattle.seek_search.specs.Search.{given_kept, ignoring_walk, job_with}
+use Rattle.seek_search.specs.declared.excluding.Excluding.{Excluding}
+use Rattle.seek_search.specs.declared.kept_rules.KeptRules.{KeptRules}
 
 -- the callback of ignore files with lines behind it makes of lists what is given
 pub ignores_kept : (A B E : Type 0) {fixed : Type 0} {texts texts' : Texts} {settings settings' : Settings} {excluded excluded' : Excluded}
@@ -67,14 +73,61 @@ ignoring_same {fs} {fs'} {texts} {texts'} {settings} {settings'} {excluded} {exc
     ∙ ap (λ (x : Options). ignoring_walk fs' texts' settings' excluded' x root) o
     ∙ ap (λ (x : List ℕ). ignoring_walk fs' texts' settings' excluded' options' x) r
 
--- what a walk yielded, of which more is known
-pub yielded_so : {T C S P A R E : Type 0} (calls : CallsOf T C S P A R E) {is be : WalkDirGeneric C S P A (Crew T) R E → Type 0} → ((walk : WalkDirGeneric C S P A (Crew T) R E) → is walk → be walk) → (answers : List (Item Worth Worth)) → Yielded calls is answers → Yielded calls be answers
-yielded_so calls more answers y = record {
-  walk = y.walk;
-  is_so = more y.walk y.is_so;
-  it = y.it;
-  starts = y.starts;
-  yielded = y.yielded;
-  drains = y.drains;
-  counted = y.counted;
-}
+module _ {T C S P A R E : Type 0} (calls : CallsOf T C S P A R E) {is : WalkDirGeneric C S P A (Crew T) R E → Type 0} where
+  -- what a walk yielded, of which more is known
+  pub yielded_so : {be : WalkDirGeneric C S P A (Crew T) R E → Type 0} {may_stop : Type 0} → ((walk : WalkDirGeneric C S P A (Crew T) R E) → is walk → be walk) → (answers : List (Item Worth Worth)) → Yielded calls is may_stop answers → Yielded calls be may_stop answers
+  yielded_so more answers y = record {
+    walk = y.walk;
+    is_so = more y.walk y.is_so;
+    it = y.it;
+    starts = y.starts;
+    yielded = y.yielded;
+    called = y.called;
+    counted = y.counted;
+  }
+
+  -- all of it, or what it was where the search stops
+  yielded_or : {may_stop : Type 0} (answers : List (Item Worth Worth)) → Yielded calls is may_stop answers → Yielded calls is ⊥ answers ⊎ (may_stop × Yielded calls is may_stop answers)
+  yielded_or answers y = elim y.called [
+    | inl drains ↦ inl (record {
+      walk = y.walk;
+      is_so = y.is_so;
+      it = y.it;
+      starts = y.starts;
+      yielded = y.yielded;
+      called = inl drains;
+      counted = y.counted;
+    })
+    | inr stopped ↦ inr (stopped.0, y)
+  ]
+
+  -- the same, where a search may stop
+  yielded_may : {may_stop : Type 0} (answers : List (Item Worth Worth)) → Yielded calls is may_stop answers → Yielded calls is (Unit {0}) answers
+  yielded_may answers y = record {
+    walk = y.walk;
+    is_so = y.is_so;
+    it = y.it;
+    starts = y.starts;
+    yielded = y.yielded;
+    called = elim y.called [ inl drains ↦ inl drains | inr stopped ↦ inr (tt, stopped.1) ];
+    counted = y.counted;
+  }
+
+module _ {T C S B X A D Q E G H F : Type 0} (plain : CallsOf T G (Arc S B) Excluding A H F) (honouring : CallsOf T C (Arc S B) (KeptRules X) A (Chain D × Q) E) (disk : S) (texts : X) (asked : Asked) (may_stop : Type 0) (root : List ℕ) (answers : List (Item Worth Worth)) where
+  abbrev Two : Type 0 → Bool → Type 0
+  Two stop b = MatchBool b (Yielded plain (IsPlain disk asked root) stop answers) (Yielded honouring (IsHonouring disk texts asked root) stop answers)
+
+  -- the answers below a root are those of one of two walks
+  pub below_plain : asked.no_ignore ≡ true → Yielded plain (IsPlain disk asked root) may_stop answers → YieldedBelow plain honouring disk texts asked may_stop root answers
+  below_plain is y = subst (Two may_stop) (sym is) y
+
+  pub below_honouring : asked.no_ignore ≡ false → Yielded honouring (IsHonouring disk texts asked root) may_stop answers → YieldedBelow plain honouring disk texts asked may_stop root answers
+  below_honouring is y = subst (Two may_stop) (sym is) y
+
+  -- all of them, or what they were where the search stops
+  pub below_or : YieldedBelow plain honouring disk texts asked may_stop root answers → YieldedBelow plain honouring disk texts asked ⊥ root answers ⊎ (may_stop × YieldedBelow plain honouring disk texts asked may_stop root answers)
+  below_or = elim asked.no_ignore as (λ b. Two may_stop b → Two ⊥ b ⊎ (may_stop × Two may_stop b)) [ true ↦ yielded_or plain answers | false ↦ yielded_or honouring answers ]
+
+  -- the same, where a search may stop
+  pub below_may : YieldedBelow plain honouring disk texts asked may_stop root answers → YieldedBelow plain honouring disk texts asked (Unit {0}) root answers
+  below_may = elim asked.no_ignore as (λ b. Two may_stop b → Two (Unit {0}) b) [ true ↦ yielded_may plain answers | false ↦ yielded_may honouring answers ]

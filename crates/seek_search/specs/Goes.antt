@@ -1,8 +1,9 @@
 -- What a search goes over, whatever the disk and the texts answer.
-use Rattle.std.specs.Prelude.{◌≡◌, ℕ, Bool, false, List, Option, Result, is_some}
+use Rattle.std.specs.Prelude.{◌≡◌, ◌⊎◌, ℕ, Bool, true, false, List, Option, Some, Result, is_some}
 use Rattle.std.specs.Arc.{arc_value}
 use Rattle.std.specs.Bool.{MatchBool}
-use Rattle.std.specs.Iterator.{Drains}
+use Rattle.std.specs.Iterator.{Drains, Yields}
+use Rattle.std.specs.List.{list_any}
 use Rattle.std.specs.declared.sync.Arc.{Arc}
 use Rattle.jwalk.specs.jwalk_model.Counted.{Worth}
 use Rattle.jwalk.specs.jwalk_model.Entry.{Item}
@@ -19,10 +20,11 @@ use Rattle.jwalk_ignore.specs.Callback.Given.{no_rules_yet, rules_alone}
 use Rattle.jwalk_ignore.specs.Callback.IgnoreViews.{next_of, settings_of, texts_of}
 use Rattle.jwalk_ignore.specs.jwalk_ignore_rules.declared.rules.chain.Chain.{Chain}
 use Rattle.seek_words.specs.declared.asked.Asked.{Asked}
-use Rattle.seek_found.specs.Roots.{AreBelow, PrintsSuch}
+use Rattle.seek_found.specs.Limit.{is_hit}
+use Rattle.seek_found.specs.Roots.{AreBelow, Below, PrintsSuch}
 use Rattle.seek_search.specs.Options.{with_crew}
 use Rattle.seek_search.specs.Excluding.{excluded_of}
-use Rattle.seek_search.specs.Search.{excluded_asked, options_asked, roots_asked, settings_asked, sought_before, style_asked}
+use Rattle.seek_search.specs.Search.{excluded_asked, limit_asked, options_asked, roots_asked, settings_asked, sought_before, style_asked}
 use Rattle.seek_search.specs.declared.excluding.Excluding.{Excluding}
 use Rattle.seek_search.specs.declared.kept_links.KeptLinks.{KeptLinks}
 use Rattle.seek_search.specs.declared.kept_rules.KeptRules.{KeptRules}
@@ -32,14 +34,14 @@ abbrev pub CallsOf : (T C S P A R E : Type 0) → Type 1
 CallsOf T C S P A R E =
     DirEntryIter C S P A (Session T C S P A R E) R E → Option (Result (DirEntry C A R E) (Error A)) → DirEntryIter C S P A (Session T C S P A R E) R E → Type 0
 
--- A walk that is so was begun and called until it ended, and these are its answers. States don't count.
-pub record Yielded {T C S P A R E : Type 0} (calls : CallsOf T C S P A R E) (is : WalkDirGeneric C S P A (Crew T) R E → Type 0) (answers : List (Item Worth Worth)) : Type 0 where
+-- A walk that is so was begun and called until it ended, or some calls were made where the search may stop. These are its answers. States don't count.
+pub record Yielded {T C S P A R E : Type 0} (calls : CallsOf T C S P A R E) (is : WalkDirGeneric C S P A (Crew T) R E → Type 0) (may_stop : Type 0) (answers : List (Item Worth Worth)) : Type 0 where
   pub walk : WalkDirGeneric C S P A (Crew T) R E
   pub is_so : is walk
   pub it : DirEntryIter C S P A (Session T C S P A R E) R E
   pub starts : Starts walk it
   pub yielded : List (Result (DirEntry C A R E) (Error A))
-  pub drains : Drains calls it yielded
+  pub called : Drains calls it yielded ⊎ (may_stop × ((end : DirEntryIter C S P A (Session T C S P A R E) R E) × Yields calls it yielded end))
   pub counted : counted_list stateless yielded ≡ answers
 
 -- It is the walk over this disk that is asked for below this root, without ignore files: it leaves out what `-E` names. A crew may read for it.
@@ -62,14 +64,27 @@ pub record IsHonouring {T C S B X A D Q E : Type 0} (disk : S) (texts : X) (aske
   pub begins : rules_alone (state_of walk) ≡ no_rules_yet
 
 module _ {T C S B X A D Q E G H F : Type 0} (plain : CallsOf T G (Arc S B) Excluding A H F) (honouring : CallsOf T C (Arc S B) (KeptRules X) A (Chain D × Q) E) where
-  -- The answers are those of the walk that is asked for below this root.
-  abbrev pub YieldedBelow : S → X → Asked → List ℕ → List (Item Worth Worth) → Type 0
-  YieldedBelow disk texts asked root answers =
-      MatchBool asked.no_ignore (Yielded plain (IsPlain disk asked root) answers) (Yielded honouring (IsHonouring disk texts asked root) answers)
+  -- The answers are those of the walk that is asked for below this root, all of them unless the search may stop.
+  abbrev pub YieldedBelow : S → X → Asked → Below
+  YieldedBelow disk texts asked may_stop root answers =
+      MatchBool asked.no_ignore (Yielded plain (IsPlain disk asked root) may_stop answers) (Yielded honouring (IsHonouring disk texts asked root) may_stop answers)
 
 module _ {T C Z B X A D Q E G H F : Type 0} (plain : CallsOf T G (Arc (KeptLinks Z) B) Excluding A H F) (honouring : CallsOf T C (Arc (KeptLinks Z) B) (KeptRules X) A (Chain D × Q) E) where
-  -- The answers are those of the walks below the roots that are asked for, one root after another, and links that lead nowhere stay links. What is printed is the line of each that is looked for; the absolute path is tested if that is asked for. The result says whether all answers are clean.
+  -- The answers are those of the walks below the roots that are asked for, one root after another. Links that lead nowhere stay links.
+  abbrev pub AreYielded : Z → X → Asked → Type 0 → List (Item Worth Worth) → Type 0
+  AreYielded disk texts asked may_stop = AreBelow (YieldedBelow plain honouring (record { disk = disk; follow = asked.follow }) texts asked) may_stop (roots_asked asked)
+
+  -- The line of each answer that is looked for was printed, up to the limit, and the result says whether all answers are clean. The absolute path is tested if that is asked for.
   pub record PrintsYielded (disk : Z) (texts : X) (on_terminal : Bool) (asked : Asked) (takes : List ℕ → Bool → Bool) (old new : Option (List ℕ)) (clean : Bool) : Type 0 where
     pub front : Option (List ℕ)
     pub in_front : is_some front ≡ asked.full_path
-    pub printed : PrintsSuch (AreBelow (YieldedBelow plain honouring (record { disk = disk; follow = asked.follow }) texts asked) (roots_asked asked)) (sought_before front asked takes) (style_asked on_terminal asked) old new clean
+    pub left : Option ℕ
+    pub printed : PrintsSuch (AreYielded disk texts asked (left ≡ Some 0)) (sought_before front asked takes) (style_asked on_terminal asked) (limit_asked asked) left old new clean
+
+  -- One of the answers is looked for. The search may stop there.
+  pub record FindsOne (disk : Z) (texts : X) (asked : Asked) (takes : List ℕ → Bool → Bool) : Type 0 where
+    pub front : Option (List ℕ)
+    pub in_front : is_some front ≡ asked.full_path
+    pub answers : List (Item Worth Worth)
+    pub yielded : AreYielded disk texts asked (Unit {0}) answers
+    pub found : list_any (is_hit (sought_before front asked takes)) answers ≡ true

@@ -1,5 +1,5 @@
 -- What a call of the program prints.
-use Rattle.std.specs.Prelude.{ℕ, Bool, true, List, Option}
+use Rattle.std.specs.Prelude.{◌≡◌, ℕ, Bool, true, false, List, Option, None}
 use Rattle.std.specs.declared.sync.Arc.{Arc}
 use Rattle.jwalk.specs.jwalk_model.FileSystem.{Functions}
 use Rattle.jwalk_ignore.specs.Rules.Texts.{Texts}
@@ -9,9 +9,9 @@ use Rattle.seek_words.specs.declared.asked.Asked.{Asked}
 use Rattle.seek_found.specs.Found.{PrintsClean}
 use Rattle.seek_found.specs.Sought.{IsFor, takes_by}
 use Rattle.seek_found.specs.declared.sought.Sought.{Sought}
-use Rattle.seek_search.specs.Goes.{CallsOf, PrintsYielded}
+use Rattle.seek_search.specs.Goes.{CallsOf, FindsOne, PrintsYielded}
 use Rattle.seek_search.specs.KeptLinks.{functions_kept}
-use Rattle.seek_search.specs.Search.{sought_asked, style_asked, yielded_by}
+use Rattle.seek_search.specs.Search.{limit_asked, sought_asked, style_asked, yielded_by}
 use Rattle.seek_search.specs.declared.excluding.Excluding.{Excluding}
 use Rattle.seek_search.specs.declared.kept_links.KeptLinks.{KeptLinks}
 use Rattle.seek_search.specs.declared.kept_rules.KeptRules.{KeptRules}
@@ -22,11 +22,12 @@ PrintsAsked fs texts on_terminal asked sought =
     PrintsClean (yielded_by (functions_kept asked.follow fs) texts asked) (sought_asked texts asked (takes_by sought)) (style_asked on_terminal asked)
 
 module _ {T C Z B X A D Q E G H F : Type 0} (plain : CallsOf T G (Arc (KeptLinks Z) B) Excluding A H F) (honouring : CallsOf T C (Arc (KeptLinks Z) B) (KeptRules X) A (Chain D × Q) E) where
-  -- The words ask for a search, and what names are looked for is what the pattern says. What its walks yielded is printed as is asked for, and all of that is clean. If the file system and the texts are fixed, it is what is asked for.
+  -- The words ask for a search, and what names are looked for is what the pattern says. If it is quiet, nothing is written, and one of the answers of its walks is found. Else their lines are printed as is asked for, and all of them are clean. If there is no limit, and the file system and the texts are fixed, the answers are those that are asked for.
   pub record Searches (disk : Z) (reads : X) (fixed : Type 0) (fs : Functions) (texts : Texts) (on_terminal : Bool) (words : List (List ℕ)) (old new : Option (List ℕ)) : Type 0 where
     pub asked : Asked
     pub ask : AskFor words asked
     pub sought : Sought
     pub is_for : IsFor asked sought
-    pub yielded : PrintsYielded plain honouring disk reads on_terminal asked (takes_by sought) old new true
-    pub prints : fixed → PrintsAsked fs texts on_terminal asked sought old new
+    pub quiet : asked.quiet ≡ true → (new ≡ old) × FindsOne plain honouring disk reads asked (takes_by sought)
+    pub yielded : asked.quiet ≡ false → PrintsYielded plain honouring disk reads on_terminal asked (takes_by sought) old new true
+    pub prints : fixed → limit_asked asked ≡ None → PrintsAsked fs texts on_terminal asked sought old new

@@ -1,5 +1,5 @@
 -- What a search goes over, and what it finds.
-use Rattle.std.specs.Prelude.{ℕ, ◌==◌, Bool, false, not, List, [], ◌∷◌, flat_map, length, Option, None, Some, Result, Ok, Err, if◌then◌else◌}
+use Rattle.std.specs.Prelude.{ℕ, zero, suc, ◌==◌, Bool, false, not, List, [], ◌∷◌, flat_map, length, Option, None, Some, Result, Ok, Err, if◌then◌else◌}
 use Rattle.std.specs.declared.io.ErrorKind.{ErrorKind}
 use Rattle.jwalk.specs.jwalk_model.Counted.{Worth, blank}
 use Rattle.jwalk.specs.jwalk_model.Entry.{Item}
@@ -22,6 +22,12 @@ use Rattle.seek_words.specs.Asks.{texts_of}
 use Rattle.seek_words.specs.declared.asked.Asked.{Asked}
 use Rattle.seek_search.specs.Excluding.{Excluded, excluded_by, excluding, excluding-KeepsDepthsOf}
 
+-- a number, if there is one above 0
+abbrev pub positive : Option ℕ → Option ℕ
+positive None = None
+positive (Some zero) = None
+positive (Some (suc n)) = Some (suc n)
+
 -- what is asked of walks
 abbrev pub walk_options : Asked → WalkOptions
 walk_options asked = record {
@@ -29,12 +35,17 @@ walk_options asked = record {
   hidden = asked.hidden;
   follow = asked.follow;
   metadata = not (length asked.sizes.items == 0);
+  one_file_system = asked.one_file_system;
   greatest = asked.depths.greatest;
 }
 
 -- the options of walks. Whether a crew reads makes no difference to what they yield.
 abbrev pub options_asked : Asked → Options
 options_asked asked = options_for (walk_options asked) false
+
+-- how many entries may be found, if there is a limit: one, if only the status is asked for
+abbrev pub limit_asked : Asked → Option ℕ
+limit_asked asked = if asked.quiet then Some 1 else positive asked.max_results
 
 -- how ignore files are used
 abbrev pub settings_asked : Asked → Settings

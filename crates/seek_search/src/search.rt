@@ -95,7 +95,7 @@ fn search_walk<
         (settings_of rules.rules) (excluded_of (next_of rules.rules)) (options_of walk) (root_of walk))
         printer.old printer.new (W.contents out.old) (W.contents out.new) clean) }
     ensures yielded { IfOk result (PrintsThose (Yielded ⟦<HonouringWalk<T, S, X> as Iterator>⟧.next_gives
-        (Sets (record (with_callback rules (described walk)) { options = with_skip_hidden false (options_of walk); })))
+        (Sets (record (with_callback rules (described walk)) { options = with_skip_hidden false (options_of walk) })))
         printer.old printer.new (W.contents out.old) (W.contents out.new)) }
     ensures sought { sought_of takes_of printer.new.filter ≡ sought_of takes_of printer.old.filter }
     ensures style { style_of printer.new.lines ≡ style_of printer.old.lines }
@@ -127,6 +127,7 @@ impl<
             sort: self.asked.sort,
             hidden: self.asked.hidden,
             follow: self.asked.follow,
+            one_file_system: self.asked.one_file_system,
             metadata: !self.asked.sizes.is_empty(),
             greatest: self.asked.depths.greatest,
         }
@@ -205,9 +206,9 @@ impl<
             → PrintsAll
             (yielded_below (S.functions (arc_value self.now.disk)) (X.functions (arc_value self.now.texts)) self.now.asked.now root.now)
             printer.old printer.new (W.contents out.old) (W.contents out.new) clean) }
-        ensures yielded { IfOk result (PrintsThose (YieldedBelow ⟦<PlainWalk<T, S> as Iterator>⟧.next_gives
+        ensures yielded { IfOk result (PrintsThose (λ may_stop. YieldedBelow ⟦<PlainWalk<T, S> as Iterator>⟧.next_gives
             ⟦<HonouringWalk<T, S, X> as Iterator>⟧.next_gives (arc_value self.now.disk) (arc_value self.now.texts)
-            self.now.asked.now root.now) printer.old printer.new (W.contents out.old) (W.contents out.new)) }
+            self.now.asked.now may_stop root.now) printer.old printer.new (W.contents out.old) (W.contents out.new)) }
         ensures sought { sought_of takes_of printer.new.filter ≡ sought_of takes_of printer.old.filter }
         ensures style { style_of printer.new.lines ≡ style_of printer.old.lines }
     {

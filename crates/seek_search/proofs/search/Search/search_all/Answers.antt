@@ -32,7 +32,7 @@ returns-clause-whole g c =
     = set.options ∙ built.options ∙ ap (λ (o : WalkOptions). options_for o (is_some self.crew)) c.options.ensures in
     let root : root_of walk ≡ c.args.root.now = set.root ∙ built.root ∙ c.in_ok-root.ensures.ok in
     IfOk-weaker c.print_begun.result _ _
-    (λ clean whole. λ fixed is.
+    (λ clean whole. λ fixed none is.
     let steady : IsSteady _ _ _ _ (file_system_of walk) (callback_of walk) given
     = record {
       file_system = subst g.S.FileSystem.IsFixed (sym over) fixed;
@@ -43,7 +43,7 @@ returns-clause-whole g c =
     printed_as
     (whole_of (excluding excluded) (ap g.S.FileSystem.functions over) options root refl
     ∙ same_by_crew (excluding excluded) (is_some self.crew) (g.S.FileSystem.functions (arc_value self.disk)) (options_asked asked) c.args.root.now blank)
-    (whole given steady is))
+    (whole given steady none is))
     c.print_begun.ensures.whole
 
 pub returns-clause-yielded : goal.returns-clause-yielded
