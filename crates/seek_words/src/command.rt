@@ -54,8 +54,8 @@ fn long_flag<'a>(alloc: Global, id: &'a str, help: &'a str) -> Arg<'a>
 
 /// Returns the same option, which has one more long name.
 fn also_named<'a>(arg: Arg<'a>, name: &'a str) -> Result<Arg<'a>, AllocError>
-    ensures rule { IfOk result (λ it. rule_of it ≡ with_name name.entry.now (rule_of arg)) }
-    ensures local { IfOk result (λ it. it.global ≡ arg.global) }
+    ensures rule { IfOk result (λ it. rule_of it ≡ with_name name.entry.now (rule_of arg.entry)) }
+    ensures local { IfOk result (λ it. it.global ≡ arg.entry.global) }
 {
     arg.visible_alias(name)
 }
