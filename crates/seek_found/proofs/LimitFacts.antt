@@ -94,3 +94,10 @@ module _ {R E : Type 0} (sought : Sought) where
 pub never_full : {R E : Type 0} (sought : Sought) (xs : List (Item R E)) {left left' : Option ℕ} → left ≡ None → left' ≡ left_after sought left xs → left' ≡ Some 0 → ⊥
 never_full sought xs {left} {left'} none limit full =
     let no : ◌≡◌ {A = Option ℕ} None (Some 0) = sym (limit ∙ ap (λ l. left_after sought l xs) none) ∙ full in absurd (cc)
+
+-- where one may be found, and no more after these answers, one of them is found
+pub one_of_one : {R E : Type 0} (sought : Sought) (xs : List (Item R E)) {left left' : Option ℕ} → left ≡ Some 1 → left' ≡ left_after sought left xs → left' ≡ Some 0 → list_any (is_hit sought) xs ≡ true
+one_of_one sought xs {left} {left'} one limit full =
+    let after : Some (left_of sought 1 xs) ≡ Some 0 = sym (limit ∙ ap (λ l. left_after sought l xs) one) ∙ full in
+    let none : left_of sought 1 xs ≡ 0 = cc in
+    one_found_among sought xs none

@@ -32,9 +32,10 @@ module _ {sought : Sought} {style : Style} {left left' : Option ℕ} {old new : 
   }
 
   -- the same, as what is looked for is known otherwise
-  pub such_printed_by : {are : List (Item Worth Worth) → Type 0} {sought' : Sought} {style' : Style} → sought ≡ sought' → style ≡ style' → PrintsSuch are sought style left left' old new clean → PrintsSuch are sought' style' left left' old new clean
-  such_printed_by {are} {sought'} {style'} sought_is style_is printed =
-      subst (λ (s : Style). PrintsSuch are sought' s left left' old new clean) style_is (subst (λ (s : Sought). PrintsSuch are s style left left' old new clean) sought_is printed)
+  pub such_printed_by : {are : List (Item Worth Worth) → Type 0} {sought' : Sought} {style' : Style} {left'' : Option ℕ} → sought ≡ sought' → style ≡ style' → left ≡ left'' → PrintsSuch are sought style left left' old new clean → PrintsSuch are sought' style' left'' left' old new clean
+  such_printed_by {are} {sought'} {style'} sought_is style_is left_is printed =
+      subst (λ (l : Option ℕ). PrintsSuch are sought' style' l left' old new clean) left_is
+      (subst (λ (s : Style). PrintsSuch are sought' s left left' old new clean) style_is (subst (λ (s : Sought). PrintsSuch are s style left left' old new clean) sought_is printed))
 
 -- what is printed of answers is printed of what they count as
 pub counted_printed : {C A R E : Type 0} (given : Given R E) (are : List (Item Worth Worth) → Type 0) (sought : Sought) (style : Style) (left left' : Option ℕ) (old new : Option (List ℕ)) (clean : Bool) (xs : List (Result (DirEntry C A R E) (Error A)))
@@ -106,7 +107,7 @@ module _ (below : Below) (may_stop : Type 0) where
   pub roots_printed : {stops : Type 0} {sought sought' : Sought} {style style' : Style} (roots others : List (List ℕ)) (left mid left' : Option ℕ) (a b c : Option (List ℕ)) (clean more : Bool) → ¬ stops → sought' ≡ sought → style' ≡ style
       → PrintsSuch (AreBelow below stops roots) sought style left mid a b clean → PrintsSuch (AreBelow below may_stop others) sought' style' mid left' b c more → PrintsSuch (AreBelow below may_stop (roots ++ others)) sought style left left' a c (clean && more)
   roots_printed {stops} {sought} {style} roots others left mid left' a b c clean more on sought_is style_is before after =
-      let rest = such_printed_by sought_is style_is after in
+      let rest = such_printed_by sought_is style_is refl after in
       let seam = ap (λ l. up_to sought l rest.answers) (sym before.limit) in
       record {
         answers = before.answers ++ rest.answers;

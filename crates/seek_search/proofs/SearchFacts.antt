@@ -1,5 +1,7 @@
 -- What searches go over.
-use Rattle.std.proofs.Common.{◌≡◌, ◌⊎◌, ◌∙◌, ℕ, Bool, true, false, List, Option, inl, inr, ap, ap₂, refl, subst, sym}
+use Rattle.std.proofs.Common.{◌≡◌, ◌⊎◌, ◌∙◌, ℕ, Bool, true, false, List, [], ◌∷◌, length, Option, inl, inr, ap, ap₂, refl, subst, sym}
+use Rattle.std.specs.Prelude.{◌==◌, if◌then◌else◌}
+use Rattle.std.specs.Borrow.{Bor}
 use Rattle.std.specs.Bool.{MatchBool}
 use Rattle.std.specs.declared.sync.Arc.{Arc}
 use Rattle.jwalk.specs.jwalk_model.Counted.{Worth, blank}
@@ -7,6 +9,7 @@ use Rattle.jwalk.specs.jwalk_model.Entry.{Item}
 use Rattle.jwalk.specs.jwalk_model.FileSystem.{Functions}
 use Rattle.jwalk.specs.jwalk_model.Job.{Processing}
 use Rattle.jwalk.specs.jwalk_model.Options.{Options, with_skip_hidden}
+use Rattle.jwalk.specs.jwalk_model.Paths.{dot}
 use Rattle.jwalk.specs.jwalk_model.Walk.{whole_walk}
 use Rattle.jwalk_ignore.specs.Callback.IgnoreViews.{ignoring, Ignores}
 use Rattle.jwalk_ignore.specs.Rules.Texts.{Texts}
@@ -14,11 +17,14 @@ use Rattle.jwalk_ignore.specs.jwalk_ignore_rules.declared.rules.chain.Chain.{Cha
 use Rattle.jwalk_ignore.specs.declared.callback.settings.Settings.{Settings}
 use Rattle.jwalk.specs.declared.crew.Crew.{Crew}
 use Rattle.jwalk.specs.declared.walk_dir.WalkDirGeneric.{WalkDirGeneric}
+use Rattle.seek_words.specs.Asks.{texts_of}
 use Rattle.seek_words.specs.declared.asked.Asked.{Asked}
+use Rattle.seek_found.specs.Roots.{AreBelow}
+use Rattle.seek_found.proofs.RootsFacts.{may_stop_sooner, one_root}
 use Rattle.seek_search.specs.Goes.{CallsOf, IsHonouring, IsPlain, Yielded, YieldedBelow}
 use Rattle.seek_search.specs.Options.{with_crew}
 use Rattle.seek_search.specs.Excluding.{Excluded, Excludes, excluding, excluding-KeepsDepthsOf}
-use Rattle.seek_search.specs.Search.{given_kept, ignoring_walk, job_with}
+use Rattle.seek_search.specs.Search.{given_kept, ignoring_walk, job_with, roots_asked}
 use Rattle.seek_search.specs.declared.excluding.Excluding.{Excluding}
 use Rattle.seek_search.specs.declared.kept_rules.KeptRules.{KeptRules}
 
@@ -131,3 +137,30 @@ module _ {T C S B X A D Q E G H F : Type 0} (plain : CallsOf T G (Arc S B) Exclu
   -- the same, where a search may stop
   pub below_may : YieldedBelow plain honouring disk texts asked may_stop root answers → YieldedBelow plain honouring disk texts asked (Unit {0}) root answers
   below_may = elim asked.no_ignore as (λ b. Two may_stop b → Two (Unit {0}) b) [ true ↦ yielded_may plain answers | false ↦ yielded_may honouring answers ]
+
+-- the answers below roots go by the disk and the texts
+pub same_below : {T C S B X A D Q E G H F : Type 0} (plain : CallsOf T G (Arc S B) Excluding A H F) (honouring : CallsOf T C (Arc S B) (KeptRules X) A (Chain D × Q) E) (asked : Asked) (may_stop : Type 0) (roots : List (List ℕ)) {disk disk' : S} {texts texts' : X} → disk ≡ disk' → texts ≡ texts'
+    → (answers : List (Item Worth Worth)) → AreBelow (YieldedBelow plain honouring disk texts asked) may_stop roots answers → AreBelow (YieldedBelow plain honouring disk' texts' asked) may_stop roots answers
+same_below {S} {X} plain honouring asked may_stop roots {disk} {disk'} {texts} {texts'} over from answers are =
+    subst (λ (t : X). AreBelow (YieldedBelow plain honouring disk' t asked) may_stop roots answers) from
+    (subst (λ (d : S). AreBelow (YieldedBelow plain honouring d texts asked) may_stop roots answers) over are)
+
+-- where a search stops, it may stop
+pub stops_somewhere : {T C S B X A D Q E G H F : Type 0} (plain : CallsOf T G (Arc S B) Excluding A H F) (honouring : CallsOf T C (Arc S B) (KeptRules X) A (Chain D × Q) E) (disk : S) (texts : X) (asked : Asked) (may_stop : Type 0) (roots : List (List ℕ)) (answers : List (Item Worth Worth))
+    → AreBelow (YieldedBelow plain honouring disk texts asked) may_stop roots answers → AreBelow (YieldedBelow plain honouring disk texts asked) (Unit {0}) roots answers
+stops_somewhere plain honouring disk texts asked may_stop =
+    may_stop_sooner (YieldedBelow plain honouring disk texts asked) may_stop (Unit {0}) (λ stops. tt) (λ root answers. below_may plain honouring disk texts asked may_stop root answers)
+
+module _ {T C S B X A D Q E G H F : Type 0} (plain : CallsOf T G (Arc S B) Excluding A H F) (honouring : CallsOf T C (Arc S B) (KeptRules X) A (Chain D × Q) E) (disk : S) (texts : X) (asked : Asked) (may_stop : Type 0) where
+  -- the answers below the folder that the program runs in, if no root is named
+  pub below_here : (length asked.roots.items == 0) ≡ true → (answers : List (Item Worth Worth)) → YieldedBelow plain honouring disk texts asked may_stop dot answers → AreBelow (YieldedBelow plain honouring disk texts asked) may_stop (roots_asked asked) answers
+  below_here none answers y =
+      subst (λ (b : Bool). AreBelow (YieldedBelow plain honouring disk texts asked) may_stop (if b then dot ∷ [] else texts_of asked.roots.items) answers) (sym none)
+      (one_root (YieldedBelow plain honouring disk texts asked) may_stop dot answers (below_or plain honouring disk texts asked may_stop dot answers y))
+
+  -- the answers below the roots that are named
+  pub below_named : (roots : List (Bor (List ℕ))) → (length asked.roots.items == 0) ≡ false → roots ≡ asked.roots.items → (answers : List (Item Worth Worth)) → AreBelow (YieldedBelow plain honouring disk texts asked) may_stop (texts_of roots) answers
+      → AreBelow (YieldedBelow plain honouring disk texts asked) may_stop (roots_asked asked) answers
+  below_named roots some are answers y =
+      subst (λ (b : Bool). AreBelow (YieldedBelow plain honouring disk texts asked) may_stop (if b then dot ∷ [] else texts_of asked.roots.items) answers) (sym some)
+      (subst (λ (l : List (Bor (List ℕ))). AreBelow (YieldedBelow plain honouring disk texts asked) may_stop (texts_of l) answers) are y)

@@ -225,10 +225,12 @@ fn search_asked<
         test: SoughtTest::new(alloc, sought)?,
         path: path_of(alloc, asked, &texts)?,
     };
+    let lines = Lines::new(alloc, style_of(on_terminal, asked))?;
+    let left = limit_of(asked);
     let mut printer = Printer {
         filter,
-        lines: Lines::new(alloc, style_of(on_terminal, asked))?,
-        left: limit_of(asked),
+        lines,
+        left,
     };
     let search = Search {
         asked,
