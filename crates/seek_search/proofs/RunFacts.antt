@@ -1,5 +1,5 @@
 -- Roots that are gone over one after another.
-use Rattle.std.proofs.Common.{◌≡◌, ◌∙◌, ℕ, Bool, true, false, ◌&&◌, List, [], ◌∷◌, ◌++◌, Option, Some, None, Result, Ok, Err, append-nil, ap, ap₂, refl, subst, sym}
+use Rattle.std.proofs.Common.{◌≡◌, ◌≤◌, ◌<◌, ◌∙◌, ℕ, Bool, true, false, ◌&&◌, List, [], ◌∷◌, ◌++◌, length, slice_index_or, Option, Some, None, Result, Ok, Err, append-nil, ap, ap₂, arith, refl, subst, sym}
 use Rattle.std.specs.Prelude.{flat_map, is_some, option_map, if◌then◌else◌, IfOk, IsOkAnd}
 use Rattle.std.specs.Borrow.{Bor}
 use Rattle.std.specs.Io.KnownBytes.{Appends, append_known}
@@ -10,6 +10,9 @@ use Rattle.seek_words.specs.Sought.{Sought}
 use Rattle.seek_words.specs.Wanted.{Wants}
 use Rattle.seek_words.specs.declared.paths.Style.{Style}
 use Rattle.seek_found.specs.Found.{found_lines, PrintsClean}
+use Rattle.seek_found.specs.Limit.{left_after}
+use Rattle.seek_found.specs.Roots.{AreBelow, Below, PrintsSuch}
+use Rattle.seek_found.proofs.RootsFacts.{no_roots_printed}
 use Rattle.seek_found.proofs.CleanFacts.{clean_none, clean_then, first_written, printed_as, rest_written}
 use Rattle.seek_words.specs.Asks.{texts_of}
 use Rattle.seek_words.specs.declared.asked.Asked.{Asked}
@@ -57,14 +60,32 @@ pub ok_twice : {X Y : Type 0} (r : Result X Y) (P Q : X → Type 0) → IsOkAnd 
 ok_twice (Ok x) P Q first second = (x, first, second)
 ok_twice (Err e) P Q first second = absurd first
 
+-- a single root, and none
+pub one_element : {A : Type 0} (l : List A) (d : A) → 1 ≤ length l → length l < 2 → l ≡ slice_index_or l 0 d ∷ []
+one_element [] d some few = absurd (omega (arith, some))
+one_element (x ∷ []) d some few = refl
+one_element (x ∷ y ∷ l) d some few = absurd (omega (arith, few))
+
+no_element : {A : Type 0} (l : List A) → length l < 1 → l ≡ []
+no_element [] few = refl
+no_element (x ∷ l) few = absurd (omega (arith, few))
+
 -- what is printed of one root
 pub one_printed : {R E : Type 0} (f : List ℕ → List (Item R E)) (all : List (Bor (List ℕ))) (root : Bor (List ℕ)) → all ≡ root ∷ []
     → {sought : Sought} {style : Style} {old new : Option (List ℕ)} → PrintsClean (f root.now) sought style old new → PrintsClean (flat_map f (texts_of all)) sought style old new
 one_printed f all root is printed = printed_as (sym (ap (λ l. flat_map f (texts_of l)) is ∙ append-nil (f root.now))) printed
 
 -- and of none
-pub none_printed : {R E : Type 0} (f : List ℕ → List (Item R E)) (all : List (Bor (List ℕ))) → all ≡ [] → (sought : Sought) (style : Style) (old : Option (List ℕ)) → PrintsClean (flat_map f (texts_of all)) sought style old old
-none_printed f all is sought style old = printed_as (sym (ap (λ l. flat_map f (texts_of l)) is)) (clean_none sought style old)
+pub none_printed : {R E : Type 0} (f : List ℕ → List (Item R E)) (all : List (Bor (List ℕ))) → length all < 1 → (sought : Sought) (style : Style) (old : Option (List ℕ)) → PrintsClean (flat_map f (texts_of all)) sought style old old
+none_printed f all few sought style old = printed_as (sym (ap (λ l. flat_map f (texts_of l)) (no_element all few))) (clean_none sought style old)
+
+pub none_yielded : (below : Below) (may_stop : Type 0) (roots : List (Bor (List ℕ))) → length roots < 1 → (sought : Sought) (style : Style) (left : Option ℕ) (old : Option (List ℕ)) → PrintsSuch (AreBelow below may_stop (texts_of roots)) sought style left left old old true
+none_yielded below may_stop [] few sought style left old = no_roots_printed below may_stop sought style left old
+none_yielded below may_stop (root ∷ roots) few sought style left old = absurd (omega (arith, few))
+
+-- without a limit there is none after answers
+pub still_none : {R E : Type 0} (sought : Sought) (xs : List (Item R E)) {left left' : Option ℕ} → left ≡ None → left' ≡ left_after sought left xs → left' ≡ None
+still_none sought xs none limit = limit ∙ ap (λ l. left_after sought l xs) none
 
 -- two answers are both true
 pub first_true : (a b : Bool) → (a && b) ≡ true → a ≡ true

@@ -1,5 +1,5 @@
 -- What searches go over.
-use Rattle.std.proofs.Common.{◌≡◌, ◌⊎◌, ◌∙◌, ℕ, Bool, true, false, List, [], ◌∷◌, length, Option, inl, inr, ap, ap₂, refl, subst, sym}
+use Rattle.std.proofs.Common.{◌≡◌, ◌≤◌, ◌<◌, ◌⊎◌, ◌∙◌, ℕ, Bool, true, false, List, [], ◌∷◌, length, slice_index_or, Option, inl, inr, ap, ap₂, arith, refl, subst, sym}
 use Rattle.std.specs.Prelude.{◌==◌, if◌then◌else◌}
 use Rattle.std.specs.Borrow.{Bor}
 use Rattle.std.specs.Bool.{MatchBool}
@@ -164,3 +164,14 @@ module _ {T C S B X A D Q E G H F : Type 0} (plain : CallsOf T G (Arc S B) Exclu
   below_named roots some are answers y =
       subst (λ (b : Bool). AreBelow (YieldedBelow plain honouring disk texts asked) may_stop (if b then dot ∷ [] else texts_of asked.roots.items) answers) (sym some)
       (subst (λ (l : List (Bor (List ℕ))). AreBelow (YieldedBelow plain honouring disk texts asked) may_stop (texts_of l) answers) are y)
+
+  -- the answers below a single root
+  pub below_one : (roots : List (Bor (List ℕ))) (d : Bor (List ℕ)) → 1 ≤ length roots → length roots < 2 → (answers : List (Item Worth Worth)) → YieldedBelow plain honouring disk texts asked may_stop (slice_index_or roots 0 d).now answers
+      → AreBelow (YieldedBelow plain honouring disk texts asked) may_stop (texts_of roots) answers
+  below_one [] d some few answers y = absurd (omega (arith, some))
+  below_one (root ∷ []) d some few answers y = one_root (YieldedBelow plain honouring disk texts asked) may_stop root.now answers (below_or plain honouring disk texts asked may_stop root.now answers y)
+  below_one (root ∷ other ∷ roots) d some few answers y = absurd (omega (arith, few))
+
+  -- the same roots, as they are known otherwise
+  pub below_same : {roots roots' : List (List ℕ)} → roots ≡ roots' → (answers : List (Item Worth Worth)) → AreBelow (YieldedBelow plain honouring disk texts asked) may_stop roots answers → AreBelow (YieldedBelow plain honouring disk texts asked) may_stop roots' answers
+  below_same are answers y = subst (λ (r : List (List ℕ)). AreBelow (YieldedBelow plain honouring disk texts asked) may_stop r answers) are y
