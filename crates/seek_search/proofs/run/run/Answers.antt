@@ -16,16 +16,16 @@ returns-in-Err-clause-ends g c = c.in-Err.ensures.ended.ends
 pub returns-in-Err-clause-done : goal.returns-in-Err-clause-done
 returns-in-Err-clause-done g c = λ zero. inl (c.in-Err.ensures.ended.text zero)
 
-pub returns-then-quiet-clause-ends : goal.returns-then-quiet-clause-ends
-returns-then-quiet-clause-ends g c =
+pub returns-then-asked-clause-ends : goal.returns-then-asked-clause-ends
+returns-then-asked-clause-ends g c =
     let read = c.in-Ok.ensures.asked in
     searched_ends (map string_bytes c.args.words.now) _ read.0 _ read.1 _ c.status_of.ensures.status
 
-pub returns-then-quiet-clause-bad_words : goal.returns-then-quiet-clause-bad_words
-returns-then-quiet-clause-bad_words g c = bad_ends _ _ (returns-then-quiet-clause-ends g c)
+pub returns-then-asked-clause-bad_words : goal.returns-then-asked-clause-bad_words
+returns-then-asked-clause-bad_words g c = bad_ends _ _ (returns-then-asked-clause-ends g c)
 
-pub returns-then-quiet-clause-done : goal.returns-then-quiet-clause-done
-returns-then-quiet-clause-done g c = λ zero.
+pub returns-then-asked-clause-done : goal.returns-then-asked-clause-done
+returns-then-asked-clause-done g c = λ zero.
     let read = c.in-Ok.ensures.asked in
     let found = ok_twice c.search_asked-ended.result _ _ (c.status_of.ensures.done zero) c.search_asked-ended.ensures.found in
     inr (record {
@@ -34,14 +34,14 @@ returns-then-quiet-clause-done g c = λ zero.
       sought = _;
       is_for = read.1;
       quiet = λ quiet. (c.in-Ok.ensures.unwritten, found.2 quiet found.1);
-      yielded = λ loud. absurd (true≢false (sym c.if-quiet.true ∙ loud));
-      prints = λ both none. absurd (one_not_none (limit_quiet _ c.if-quiet.true) none);
+      yielded = λ loud. absurd (true≢false (sym c.if-asked.true ∙ loud));
+      prints = λ both none. absurd (one_not_none (limit_quiet _ c.if-asked.true) none);
     })
 
 pub returns-clause-ends : goal.returns-clause-ends
 returns-clause-ends g c =
     let read = c.in-Ok.ensures.asked in
-    searched_ends (map string_bytes c.args.words.now) _ read.0 _ read.1 _ c.status_of.ensures.status
+    searched_ends (map string_bytes c.args.words.now) _ read.0 _ read.1 _ c.status_of-2.ensures.status
 
 pub returns-clause-bad_words : goal.returns-clause-bad_words
 returns-clause-bad_words g c = bad_ends _ _ (returns-clause-ends g c)
@@ -50,14 +50,14 @@ pub returns-clause-done : goal.returns-clause-done
 returns-clause-done g c = λ zero.
     let read = c.in-Ok.ensures.asked in
     let ended = c.search_asked-ended-2.ensures in
-    let prints = ok_twice c.search_asked-ended-2.result _ _ (c.status_of.ensures.done zero) ended.yielded in
-    let whole = ok_twice c.search_asked-ended-2.result _ _ (c.status_of.ensures.done zero) ended.whole in
+    let prints = ok_twice c.search_asked-ended-2.result _ _ (c.status_of-2.ensures.done zero) ended.yielded in
+    let whole = ok_twice c.search_asked-ended-2.result _ _ (c.status_of-2.ensures.done zero) ended.whole in
     inr (record {
       asked = _;
       ask = read.0;
       sought = _;
       is_for = read.1;
-      quiet = λ quiet. absurd (true≢false (sym quiet ∙ c.if-quiet.false));
+      quiet = λ quiet. absurd (true≢false (sym quiet ∙ c.if-asked.false));
       yielded = λ loud. rw c.in-Ok.ensures.unwritten at (rw prints.1 at prints.2);
       prints = λ both none. rw c.in-Ok.ensures.unwritten at (whole.2 none whole.1 both.0 both.1);
     })
