@@ -1,7 +1,6 @@
 -- What a search goes over, whatever the disk and the texts answer.
-use Rattle.std.specs.Prelude.{◌≡◌, ◌⊎◌, ℕ, Bool, true, false, List, Option, Some, Result, is_some}
+use Rattle.std.specs.Prelude.{◌≡◌, ◌⊎◌, ℕ, Bool, true, false, List, Option, Some, Result, is_some, MatchBool}
 use Rattle.std.specs.Arc.{arc_value}
-use Rattle.std.specs.Bool.{MatchBool}
 use Rattle.std.specs.Iterator.{Drains, Yields}
 use Rattle.std.specs.List.{list_any}
 use Rattle.std.specs.declared.sync.Arc.{Arc}
