@@ -5,5 +5,7 @@ pub mod PatternTest
 pub mod Sought
 pub mod SoughtTest
 pub mod Times
+pub mod Limit
 pub mod Found
+pub mod Roots
 pub mod Call

@@ -148,3 +148,15 @@ fn a_root_that_is_missing_on_the_disk(rt: HostRuntime) -> io::Result<()> {
     );
     Ok(())
 }
+
+#[test]
+fn one_file_system(rt: HostRuntime) -> io::Result<()> {
+    for word in ["--one-file-system", "--mount", "--xdev"] {
+        let disk = RealFs::new(rt.clone()?);
+        let texts = RealTexts::new(rt.clone()?);
+        let words: &[&str] = &[word, "^ptmx$", "/dev"];
+        let want = ("/dev/ptmx\n", "", 0);
+        assert!(rt; comes(&rt, disk, texts, "-j1", words, &want), "{word}");
+    }
+    Ok(())
+}

@@ -349,3 +349,45 @@ fn threads(rt: HostRuntime) {
     );
     prints_by(&rt, "-j0", &["txt", "/t"], "", 2);
 }
+
+#[test]
+fn results(rt: HostRuntime) {
+    const BOTH: &str = "/t/a.txt\n/t/B.TXT\n";
+    const ROWS: &[Row] = &[
+        (&["-1", "txt", "/t"], TREE, &[], ("/t/a.txt\n", "", 0)),
+        (&["--max-results=2", "txt", "/t"], TREE, &[], (BOTH, "", 0)),
+        (
+            &["--max-results", "3", "txt", "/t"],
+            TREE,
+            &[],
+            (BOTH, "", 0),
+        ),
+        (&["--max-results=0", "txt", "/t"], TREE, &[], (BOTH, "", 0)),
+        (
+            &["--max-results=2", "^a", "/t/sub", "/t", "/no"],
+            TREE,
+            &[],
+            ("/t/sub/deep/a.rs\n/t/a.txt\n", "", 0),
+        ),
+        (
+            &["-I1", "^a", "/t/sub", "/no", "/t"],
+            TREE,
+            &[],
+            ("/t/sub/deep/a.rs\n", "", 0),
+        ),
+    ];
+    all_come(&rt, ROWS);
+}
+
+#[test]
+fn quiet(rt: HostRuntime) {
+    const MISSING: &str = "seek: /no: entity not found\n";
+    const ROWS: &[Row] = &[
+        (&["-q", "txt", "/t", "/no"], TREE, &[], ("", "", 0)),
+        (&["--quiet", "nothing", "/t"], TREE, &[], ("", "", 1)),
+        (&["-q", "txt", "/no", "/t"], TREE, &[], ("", MISSING, 0)),
+        (&["-q", "txt", "/no"], TREE, &[], ("", MISSING, 1)),
+        (&["-q1", "-I", "txt", "/t"], TREE, &[], ("", "", 0)),
+    ];
+    all_come(&rt, ROWS);
+}
