@@ -24,6 +24,7 @@ fn call_of(rt: &HostRuntime) -> io::Result<(Vec<String>, Screen, Disk)> {
     };
     let screen = Screen {
         is_terminal: rt.stdout().is_terminal(),
+        shows_errors: rt.stderr().is_terminal(),
         width,
     };
     let disk = Patient::new(RealFs::new(rt.clone()?), rt.clone()?);

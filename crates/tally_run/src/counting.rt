@@ -1,13 +1,21 @@
 //! The subtotals of a walk, taken one after another.
-ghost use Rattle.std.specs.Prelude.{◌≡◌, false, IfOk};
+ghost use Rattle.std.specs.Prelude.{◌≡◌, false, IfOk, OnOk};
+ghost use Rattle.std.specs.List.{list_all};
 ghost use Rattle.std.specs.Iterator.{IsFinite};
 ghost use Rattle.jwalk.specs.WalkDir.{callback_of};
+ghost use Rattle.jwalk_subtotals.specs.Coming.{ends_with, value};
 ghost use Rattle.jwalk_subtotals.specs.Error.{is_last};
+ghost use Rattle.jwalk_subtotals.specs.Files.{files_of};
+ghost use Rattle.tally_run.specs.Results.{rows_of, Takes};
+ghost use Rattle.tally_run.specs.Counting.{is_clean, TakesAll};
+ghost use Rattle.tally_run.specs.Walks.{subtotals_asked, CountsWalk};
 
 use crate::failure::Failure;
 use crate::report::{report_entry, report_error};
 use crate::results::Results;
+use crate::screen::Screen;
 use crate::shown::Shown;
+use jwalk::crew::{Readers, Session};
 use jwalk::file_system::FileSystem;
 use jwalk::read_dir::ProcessReadDir;
 use jwalk::{ClientState, Crew, Host, WalkDirGeneric};
@@ -16,21 +24,32 @@ use std::alloc::{Allocator, Global};
 use std::io::Write;
 use tally_words::asked::Asked;
 
+/// What was counted below a root.
+#[derive(Drop)]
+pub(crate) struct Counted {
+    /// The files that are counted now.
+    pub(crate) files: Files<Global>,
+    /// There was no error.
+    pub(crate) clean: bool,
+}
+
 /// Reports an error that came between subtotals, unless it has no path and ends them.
 ///
 /// # Errors
 ///
 /// If nothing comes behind it.
 fn take_error<A: Allocator + Copy, E: Write>(
+    alloc: Global,
+    screen: Screen,
     error: SubtotalError<A>,
     err: &mut E,
 ) -> Result<(), Failure>
-    ensures { IfOk result (λ _. is_last error ≡ false) }
+    ensures { OnOk result (is_last error ≡ false) }
 {
     let is_last = error.is_last();
     match error {
         SubtotalError::Walk(error) => {
-            report_error(&error, err);
+            report_error(alloc, screen.shows_errors, &error, err)?;
             if is_last { Err(Failure::Walk) } else { Ok(()) }
         }
         SubtotalError::TooMany => Err(Failure::TooMany),
@@ -41,21 +60,27 @@ fn take_error<A: Allocator + Copy, E: Write>(
 /// Takes what is yielded of subtotals. Returns whether it is no error.
 fn take_one<C: ClientState, A: Allocator + Copy, W: Write, E: Write>(
     alloc: Global,
+    screen: Screen,
     yielded: Result<WithSubtotal<C, A>, SubtotalError<A>>,
     shown: Shown,
     results: &mut Results,
     out: &mut W,
     err: &mut E,
-) -> Result<bool, Failure> {
+) -> Result<bool, Failure>
+    ensures taken { OnOk result (Takes (rows_of shown (value yielded)) results.old (W.contents out.old)
+        results.new (W.contents out.new)) }
+    ensures goes_on { OnOk result (ends_with yielded ≡ false) }
+    ensures clean { IfOk result (λ clean. clean ≡ list_all is_clean (value yielded)) }
+{
     match yielded {
         Ok(found) => {
             if shown.has(&found.entry) {
                 results.take(alloc, &found, out)?;
             }
-            Ok(report_entry(&found.entry, err))
+            Ok(report_entry(alloc, screen.shows_errors, &found.entry, err)?)
         }
         Err(error) => {
-            take_error(error, err)?;
+            take_error(alloc, screen, error, err)?;
             Ok(false)
         }
     }
@@ -70,6 +95,7 @@ fn take_all<
     E: Write,
 >(
     alloc: Global,
+    screen: Screen,
     subtotals: &mut I,
     shown: Shown,
     results: &mut Results,
@@ -78,16 +104,20 @@ fn take_all<
 ) -> Result<bool, Failure>
     requires can { I.can_next subtotals.old }
     requires ends { IsFinite (I.remaining subtotals.old) }
+    ensures { IfOk result (TakesAll I.next_gives shown subtotals.old subtotals.new results.old (W.contents out.old)
+        results.new (W.contents out.new)) }
 {
     let mut clean = true;
     while let Some(yielded) = subtotals.next() {
-        clean &= take_one(alloc, yielded, shown, results, out, err)?;
+        clean &= take_one(alloc, screen, yielded, shown, results, out, err)?;
     }
     Ok(clean)
 }
 
 /// Returns what is counted. All subtotals are taken, since the error of a directory comes with its own.
-fn options_of(asked: &Asked<'_>) -> SubtotalOptions {
+fn options_of(asked: &Asked<'_>) -> SubtotalOptions
+    ensures { result ≡ subtotals_asked asked.now }
+{
     SubtotalOptions {
         apparent: asked.apparent,
         each_name: asked.each_name,
@@ -96,8 +126,7 @@ fn options_of(asked: &Asked<'_>) -> SubtotalOptions {
     }
 }
 
-/// Begins a walk that a crew may read for, and counts what it yields beside the files that were counted before. Returns
-/// the files that are counted now, and whether there was no error.
+/// Begins a walk that a crew may read for, and counts what it yields beside the files that were counted before.
 pub(crate) fn count_walk<
     T: Host,
     C: ClientState + Send + 'static,
@@ -107,19 +136,35 @@ pub(crate) fn count_walk<
     E: Write,
 >(
     alloc: Global,
+    screen: Screen,
     walk: WalkDirGeneric<C, S, P, Global, Crew<T>>,
     files: Files<Global>,
     asked: &Asked<'_>,
     results: &mut Results,
     out: &mut W,
     err: &mut E,
-) -> Result<(Files<Global>, bool), Failure>
+) -> Result<Counted, Failure>
 where
     C::ReadDirState: Send + 'static,
     C::DirEntryState: Send + 'static,
     requires { P.IsLawful (callback_of walk) }
+    ensures { IfOk result (CountsWalk S.FileSystem P.ProcessReadDir C.ReadDirState.Clone C.DirEntryState.Default
+        ⟦<Session<T, C, S, P, Global> as Readers<C, S, P, Global>>⟧ walk asked.now (files_of files)
+        results.old (W.contents out.old) results.new (W.contents out.new)) }
 {
-    let mut subtotals = subtotals_beside(alloc, files, walk.into_iter(), options_of(asked));
-    let clean = take_all(alloc, &mut subtotals, Shown::of(asked), results, out, err)?;
-    Ok((subtotals.take_files(), clean))
+    let answers = walk.into_iter();
+    let mut subtotals = subtotals_beside(alloc, files, answers, options_of(asked));
+    let clean = take_all(
+        alloc,
+        screen,
+        &mut subtotals,
+        Shown::of(asked),
+        results,
+        out,
+        err,
+    )?;
+    Ok(Counted {
+        files: subtotals.take_files(),
+        clean,
+    })
 }

@@ -1,29 +1,78 @@
 //! Errors, reported on standard error.
-use jwalk::path_text::join_parts;
+ghost use Rattle.std.specs.Prelude.{◌≡◌, not, is_some, option_and_then, IfOk};
+ghost use Rattle.jwalk.specs.jwalk_job.Entry.{entry};
+
 use jwalk::{ClientState, DirEntry, Error};
-use std::alloc::Allocator;
+use seek_words::masked::masked;
+use std::alloc::{AllocError, Allocator, Global};
 use std::io::Write;
 
-/// Reports an error of a walk on its own line, with its path, or else with that of the directory that it came in. If
-/// that can't be written, it isn't.
-pub(crate) fn report_error<A: Allocator + Copy, E: Write>(error: &Error<A>, err: &mut E) {
-    let _ = match (error.path(), error.parent_path(), error.io_error()) {
-        (Some(path), _, Some(io)) => writeln!(err, "tally: {path}: {io}"),
-        (None, Some(folder), _) => writeln!(err, "tally: {folder}: {error}"),
-        _ => writeln!(err, "tally: {error}"),
-    };
+/// Writes a line to standard error. If that is a terminal, control characters in it are question marks. If it can't be
+/// written, it isn't.
+fn write_line<E: Write>(
+    alloc: Global,
+    to_terminal: bool,
+    line: &str,
+    err: &mut E,
+) -> Result<(), AllocError> {
+    if to_terminal {
+        let shown = masked(alloc, line)?;
+        let _ = writeln!(err, "{shown}");
+    } else {
+        let _ = writeln!(err, "{line}");
+    }
+    Ok(())
+}
+
+/// Returns the line of an error of a walk: with its path, or else with that of the directory that it came in.
+fn line_of<A: Allocator + Copy>(
+    alloc: Global,
+    error: &Error<A>,
+) -> Result<String<Global>, AllocError> {
+    match (error.path(), error.parent_path(), error.io_error()) {
+        (Some(path), _, Some(io)) => format!(in alloc; "tally: {path}: {io}"),
+        (None, Some(folder), _) => format!(in alloc; "tally: {folder}: {error}"),
+        _ => format!(in alloc; "tally: {error}"),
+    }
+}
+
+/// Reports an error of a walk on its own line.
+pub(crate) fn report_error<A: Allocator + Copy, E: Write>(
+    alloc: Global,
+    to_terminal: bool,
+    error: &Error<A>,
+    err: &mut E,
+) -> Result<(), AllocError> {
+    let line = line_of(alloc, error)?;
+    write_line(alloc, to_terminal, line.as_str(), err)
 }
 
 /// Reports the error of a directory that could not be read. Returns whether there is none.
 pub(crate) fn report_entry<C: ClientState, A: Allocator + Copy, E: Write>(
+    alloc: Global,
+    to_terminal: bool,
     found: &DirEntry<C, A>,
     err: &mut E,
-) -> bool {
+) -> Result<bool, AllocError>
+    ensures { IfOk result (λ clean.
+        clean ≡ not (is_some (option_and_then (λ children. children.error) (entry found.now).read_children))) }
+{
     match found.read_children_error() {
         Some(error) => {
-            report_error(error, err);
-            false
+            report_error(alloc, to_terminal, error, err)?;
+            Ok(false)
         }
-        None => true,
+        None => Ok(true),
     }
+}
+
+/// Reports a root that is left out.
+pub(crate) fn report_root<E: Write>(
+    alloc: Global,
+    to_terminal: bool,
+    root: &str,
+    err: &mut E,
+) -> Result<(), AllocError> {
+    let line = format!(in alloc; "tally: {root}: left out, below an earlier root")?;
+    write_line(alloc, to_terminal, line.as_str(), err)
 }

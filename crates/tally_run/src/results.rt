@@ -1,9 +1,14 @@
 //! What becomes of results: lines as they come, or trees for a table or a document.
+ghost use Rattle.std.specs.Prelude.{◌≡◌, ◌∷◌, [], string_bytes, IfOk, OnOk};
+ghost use Rattle.std.specs.Io.KnownBytes.{Appends, append_known};
+ghost use Rattle.jwalk.specs.jwalk_job.Entry.{entry};
+ghost use Rattle.tally_run.specs.Results.{row, row_line, tree_name, numbers_of, Takes};
+
 use crate::failure::Failure;
-use jwalk::{ClientState, DirEntry};
+use jwalk::ClientState;
 use jwalk_subtotals::{Subtotal, WithSubtotal};
 use seek_words::paths::Style;
-use std::alloc::{Allocator, Global};
+use std::alloc::{AllocError, Allocator, Global};
 use std::io::Write;
 use tally_text::line::push_line;
 use tally_text::nodes::Nodes;
@@ -29,7 +34,9 @@ pub(crate) enum Results {
 }
 
 /// Returns the numbers of a subtotal.
-fn numbers_of(subtotal: &Subtotal) -> Numbers {
+fn numbers_of(subtotal: &Subtotal) -> Numbers
+    ensures { result ≡ numbers_of subtotal.now }
+{
     Numbers {
         bytes: subtotal.bytes,
         file_bytes: subtotal.file_bytes,
@@ -44,18 +51,25 @@ fn numbers_of(subtotal: &Subtotal) -> Numbers {
 /// Returns the name of an entry: of a root its path, as it was given.
 fn name_of<C: ClientState, A: Allocator + Copy>(
     alloc: Global,
-    found: &DirEntry<C, A>,
-) -> Result<String<Global>, Failure> {
-    if found.depth() > 0 {
-        return Ok(String::from_str(alloc, found.file_name())?);
+    found: &WithSubtotal<C, A>,
+) -> Result<String<Global>, AllocError>
+    ensures { IfOk result (λ name. string_bytes name ≡ tree_name (row (entry found.now.entry) found.now.subtotal)) }
+{
+    if found.entry.depth() > 0 {
+        return String::from_str(alloc, found.entry.file_name());
     }
-    let path = found.path()?;
-    Ok(String::from_str(alloc, path.as_str())?)
+    String::from_str(alloc, found.entry.path()?.as_str())
 }
 
 impl Lines {
+    ghost use Rattle.tally_run.specs.Results.{gathered_of, scale_of, style_of};
+
     /// Returns no lines yet.
-    pub(crate) fn new(alloc: Global, scale: Scale, style: Style) -> Result<Self, Failure> {
+    pub(crate) fn new(alloc: Global, scale: Scale, style: Style) -> Result<Self, AllocError>
+        ensures empty { IfOk result (λ lines. gathered_of lines ≡ []) }
+        ensures scale { IfOk result (λ lines. scale_of lines ≡ scale) }
+        ensures style { IfOk result (λ lines. style_of lines ≡ style) }
+    {
         Ok(Lines {
             scale,
             style,
@@ -64,7 +78,12 @@ impl Lines {
     }
 
     /// Writes the lines that were gathered.
-    fn write<W: Write>(&mut self, out: &mut W) -> Result<(), Failure> {
+    fn write<W: Write>(&mut self, out: &mut W) -> Result<(), Failure>
+        ensures written { OnOk result (Appends (W.contents out.old) (W.contents out.new) (gathered_of self.old)) }
+        ensures empty { OnOk result (gathered_of self.new ≡ []) }
+        ensures scale { scale_of self.new ≡ scale_of self.old }
+        ensures style { style_of self.new ≡ style_of self.old }
+    {
         if out.write_all(self.gathered.as_slice()).is_err() {
             return Err(Failure::Output);
         }
@@ -77,18 +96,17 @@ impl Lines {
         &mut self,
         found: &WithSubtotal<C, A>,
         out: &mut W,
-    ) -> Result<(), Failure> {
-        let entry = &found.entry;
+    ) -> Result<(), Failure>
+        ensures printed { OnOk result (Appends (append_known (W.contents out.old) (gathered_of self.old))
+            (append_known (W.contents out.new) (gathered_of self.new))
+            (row_line (scale_of self.old) (style_of self.old) (row (entry found.now.entry) found.now.subtotal))) }
+        ensures scale { scale_of self.new ≡ scale_of self.old }
+        ensures style { style_of self.new ≡ style_of self.old }
+    {
+        let (folder, name) = (found.entry.parent_path(), found.entry.file_name());
         let bytes = found.subtotal.bytes;
-        let (folder, name) = (entry.parent_path(), entry.file_name());
-        push_line(
-            self.scale,
-            self.style,
-            bytes,
-            folder,
-            name,
-            &mut self.gathered,
-        )?;
+        let gathered = &mut self.gathered;
+        push_line(self.scale, self.style, bytes, folder, name, gathered)?;
         if self.gathered.len() < GATHERED && !self.style.to_terminal {
             return Ok(());
         }
@@ -96,7 +114,9 @@ impl Lines {
     }
 
     /// Writes the lines that are left.
-    pub(crate) fn finish<W: Write>(&mut self, out: &mut W) -> Result<(), Failure> {
+    pub(crate) fn finish<W: Write>(&mut self, out: &mut W) -> Result<(), Failure>
+        ensures { OnOk result (Appends (W.contents out.old) (W.contents out.new) (gathered_of self.old)) }
+    {
         self.write(out)
     }
 }
@@ -108,11 +128,14 @@ impl Results {
         alloc: Global,
         found: &WithSubtotal<C, A>,
         out: &mut W,
-    ) -> Result<(), Failure> {
+    ) -> Result<(), Failure>
+        ensures { OnOk result (Takes (row (entry found.now.entry) found.now.subtotal ∷ [])
+            self.old (W.contents out.old) self.new (W.contents out.new)) }
+    {
         match self {
             Results::Lines(lines) => lines.print(found, out),
             Results::Trees(nodes) => {
-                let name = name_of(alloc, &found.entry)?;
+                let name = name_of(alloc, found)?;
                 nodes.push(found.entry.depth(), name, numbers_of(&found.subtotal))?;
                 Ok(())
             }

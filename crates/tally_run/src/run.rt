@@ -1,9 +1,21 @@
 //! A call of the program.
-ghost use Rattle.std.specs.Prelude.{◌≡◌, ◌<◌, ◌≤◌, map, string_bytes};
+ghost use Rattle.std.specs.Prelude.{◌≡◌, ◌<◌, ◌≤◌, ◌⊎◌, true, flat_map, map, string_bytes, Ok, IfOk, OnOk};
+ghost use Rattle.std.specs.Arc.{arc_value};
+ghost use Rattle.std.specs.Io.KnownBytes.{Appends};
+ghost use Rattle.jwalk_subtotals.specs.Files.{files_of};
+ghost use Rattle.tally_text.specs.Nodes.{trees_of};
+ghost use Rattle.tally_words.specs.Asks.{texts_of};
+ghost use Rattle.tally_words.specs.AsksFor.{AskForText};
 ghost use Rattle.tally_words.specs.Refusal.{status_of as status_for};
-ghost use Rattle.tally_run.specs.Run.{Ends};
+ghost use Rattle.tally_run.specs.Roots.{CountsRoot, CountsRoots};
+ghost use Rattle.tally_run.specs.Run.{roots_asked, Ends, Counts, WritesAsked};
+ghost use Rattle.tally_run.specs.Walks.{counted_below};
+ghost use Rattle.tally_run.specs.Written.{are_lines, scale_asked, separator_of, style_asked, table_of, width_of};
+ghost use Rattle.tally_run.specs.Written.{document_text, trees_text, AreNone, Finishes};
 
+use crate::counting::Counted;
 use crate::failure::Failure;
+use crate::report::report_root;
 use crate::results::{Lines, Results};
 use crate::roots::Roots;
 use crate::screen::Screen;
@@ -25,38 +37,90 @@ use tally_words::form::Form;
 use tally_words::refusal::Refusal;
 use tally_words::words::read_words;
 
+/// Returns whether results are lines.
+fn are_lines(form: Form) -> bool
+    ensures { result ≡ are_lines form }
+{
+    match form {
+        Form::Lines | Form::ZeroLines => true,
+        Form::Table | Form::Json => false,
+    }
+}
+
 /// Returns how sizes are written: in bytes if that is asked for, in lines in units of 1,024 bytes, and else as people
 /// read them.
-fn scale_of(asked: &Asked<'_>) -> Scale {
-    match asked.form {
-        _ if asked.bytes => Scale::Bytes,
-        Form::Lines | Form::ZeroLines => Scale::Kibibytes,
-        Form::Table | Form::Json => Scale::Human,
+fn scale_of(asked: &Asked<'_>) -> Scale
+    ensures { result ≡ scale_asked asked.now }
+{
+    if asked.bytes {
+        Scale::Bytes
+    } else if are_lines(asked.form) {
+        Scale::Kibibytes
+    } else {
+        Scale::Human
+    }
+}
+
+/// Returns what ends a line.
+fn separator_of(form: Form) -> u8
+    ensures { result ≡ separator_of form }
+{
+    match form {
+        Form::ZeroLines => 0,
+        Form::Lines | Form::Table | Form::Json => b'\n',
     }
 }
 
 /// Returns how paths are written.
-fn style_of(asked: &Asked<'_>, screen: Screen) -> Style {
+fn style_of(asked: &Asked<'_>, screen: Screen) -> Style
+    ensures { result ≡ style_asked asked.now screen }
+{
     Style {
         here: false,
         to_terminal: screen.is_terminal,
-        separator: if asked.form == Form::ZeroLines {
-            0
-        } else {
-            b'\n'
-        },
+        separator: separator_of(asked.form),
     }
 }
 
 /// Returns no results yet.
-fn results_of(alloc: Global, asked: &Asked<'_>, screen: Screen) -> Result<Results, Failure> {
-    match asked.form {
-        Form::Lines | Form::ZeroLines => {
-            let lines = Lines::new(alloc, scale_of(asked), style_of(asked, screen))?;
-            Ok(Results::Lines(lines))
-        }
-        Form::Table | Form::Json => Ok(Results::Trees(Nodes::new(alloc, asked.largest))),
+fn results_of(alloc: Global, asked: &Asked<'_>, screen: Screen) -> Result<Results, AllocError>
+    ensures { IfOk result (AreNone asked.now screen) }
+{
+    if are_lines(asked.form) {
+        let lines = Lines::new(alloc, scale_of(asked), style_of(asked, screen))?;
+        return Ok(Results::Lines(lines));
     }
+    Ok(Results::Trees(Nodes::new(alloc, asked.largest)))
+}
+
+/// Counts what is below a root, beside the files that were counted before. If it lies below one of the roots that are
+/// known, it is left out, and that is reported.
+fn count_root<
+    T: Host,
+    S: FileSystem + Send + Sync + 'static,
+    X: Texts + Send + Sync + 'static,
+    W: Write,
+    E: Write,
+>(
+    alloc: Global,
+    walks: &Walks<'_, '_, T, S, X>,
+    known: &mut Roots,
+    files: Files<Global>,
+    root: &str,
+    results: &mut Results,
+    out: &mut W,
+    err: &mut E,
+) -> Result<Counted, Failure>
+    ensures { IfOk result (CountsRoot (S.IsFixed (arc_value walks.now.disk) × X.IsFixed (arc_value walks.now.texts))
+        (counted_below (S.functions (arc_value walks.now.disk)) (X.functions (arc_value walks.now.texts))
+        walks.now.asked.now root.now) walks.now.asked.now (files_of files)
+        results.old (W.contents out.old) results.new (W.contents out.new)) }
+{
+    if !known.add(alloc, walks.disk(), root)? {
+        report_root(alloc, walks.screen().shows_errors, root, err)?;
+        return Ok(Counted { files, clean: true });
+    }
+    walks.count_below(alloc, files, root, results, out, err)
 }
 
 /// Counts what is below each of these roots, but for those that lie below an earlier one. Returns whether there was no
@@ -74,43 +138,81 @@ fn count_roots<
     results: &mut Results,
     out: &mut W,
     err: &mut E,
-) -> Result<bool, Failure> {
+) -> Result<bool, Failure>
+    ensures { IfOk result (CountsRoots (S.IsFixed (arc_value walks.now.disk) × X.IsFixed (arc_value walks.now.texts))
+        (counted_below (S.functions (arc_value walks.now.disk)) (X.functions (arc_value walks.now.texts))
+        walks.now.asked.now) walks.now.asked.now (texts_of roots.now)
+        results.old (W.contents out.old) results.new (W.contents out.new)) }
+{
     let mut known = Roots::new(alloc, walks.asked().one_file_system);
     let mut files = Files::new(alloc);
     let mut clean = true;
     for root in roots {
-        if !known.add(alloc, walks.disk(), root)? {
-            let _ = writeln!(err, "tally: {root}: left out, below an earlier root");
-            continue;
-        }
-        let (counted, without_error) = walks.count_below(alloc, files, root, results, out, err)?;
-        files = counted;
-        clean &= without_error;
+        let counted = count_root(alloc, walks, &mut known, files, root, results, out, err)?;
+        files = counted.files;
+        clean &= counted.clean;
     }
     Ok(clean)
 }
 
-/// Returns the table of each tree. For a terminal it has bars.
+/// Counts what is below the roots that are asked for. Returns whether there was no error.
+fn count_asked<
+    T: Host,
+    S: FileSystem + Send + Sync + 'static,
+    X: Texts + Send + Sync + 'static,
+    W: Write,
+    E: Write,
+>(
+    alloc: Global,
+    walks: &Walks<'_, '_, T, S, X>,
+    results: &mut Results,
+    out: &mut W,
+    err: &mut E,
+) -> Result<bool, Failure>
+    ensures { IfOk result (CountsRoots (S.IsFixed (arc_value walks.now.disk) × X.IsFixed (arc_value walks.now.texts))
+        (counted_below (S.functions (arc_value walks.now.disk)) (X.functions (arc_value walks.now.texts))
+        walks.now.asked.now) walks.now.asked.now (roots_asked walks.now.asked.now)
+        results.old (W.contents out.old) results.new (W.contents out.new)) }
+{
+    let roots = walks.asked().roots.as_slice();
+    if roots.is_empty() {
+        return count_roots(alloc, walks, &["."], results, out, err);
+    }
+    count_roots(alloc, walks, roots, results, out, err)
+}
+
+/// Returns how wide the bars of a table may be, if it has some: those for a terminal do.
+fn width_of(screen: Screen) -> Option<usize>
+    ensures { result ≡ width_of screen }
+{
+    if screen.is_terminal {
+        Some(screen.width)
+    } else {
+        None
+    }
+}
+
+/// Returns the table of each tree.
 fn tables_of(
     alloc: Global,
     asked: &Asked<'_>,
     screen: Screen,
     trees: &[Node],
-) -> Result<Vec<u8, Global>, AllocError> {
-    let width = if screen.is_terminal {
-        Some(screen.width)
-    } else {
-        None
-    };
+) -> Result<Vec<u8, Global>, AllocError>
+    ensures { IfOk result (λ text. text.items ≡ flat_map (table_of asked.now screen) trees.now) }
+{
     let mut text = Vec::new(alloc);
     for root in trees {
+        let width = width_of(screen);
         push_table(scale_of(asked), width, screen.is_terminal, root, &mut text)?;
     }
     Ok(text)
 }
 
 /// Returns a document of trees, and a line feed.
-fn document_of(alloc: Global, trees: &[Node]) -> Result<Vec<u8, Global>, AllocError> {
+fn document_of(alloc: Global, trees: &[Node]) -> Result<Vec<u8, Global>, AllocError>
+    ensures { IfOk result (λ text. text.items ≡ document_text trees.now) }
+{
     let text = document(alloc, trees)?;
     let mut bytes = Vec::new(alloc);
     bytes.extend_from_slice(text.as_bytes())?;
@@ -118,24 +220,54 @@ fn document_of(alloc: Global, trees: &[Node]) -> Result<Vec<u8, Global>, AllocEr
     Ok(bytes)
 }
 
-/// Writes trees: a table of each, or one document.
+/// Returns trees as they are written: a table of each, or one document.
+fn text_of(
+    alloc: Global,
+    asked: &Asked<'_>,
+    screen: Screen,
+    trees: &[Node],
+) -> Result<Vec<u8, Global>, AllocError>
+    ensures { IfOk result (λ text. text.items ≡ trees_text asked.now screen trees.now) }
+{
+    match asked.form {
+        Form::Json => document_of(alloc, trees),
+        Form::Table | Form::Lines | Form::ZeroLines => tables_of(alloc, asked, screen, trees),
+    }
+}
+
+/// Writes trees.
 fn write_trees<W: Write>(
     alloc: Global,
     asked: &Asked<'_>,
     screen: Screen,
     nodes: Nodes,
     out: &mut W,
-) -> Result<(), Failure> {
+) -> Result<(), Failure>
+    ensures { OnOk result (Appends (W.contents out.old) (W.contents out.new)
+        (trees_text asked.now screen (trees_of nodes))) }
+{
     let trees = nodes.into_trees();
-    let text = if asked.form == Form::Json {
-        document_of(alloc, trees.as_slice())?
-    } else {
-        tables_of(alloc, asked, screen, trees.as_slice())?
-    };
+    let text = text_of(alloc, asked, screen, trees.as_slice())?;
     if out.write_all(text.as_slice()).is_err() {
         return Err(Failure::Output);
     }
     Ok(())
+}
+
+/// Writes what is left.
+fn write_rest<W: Write>(
+    alloc: Global,
+    asked: &Asked<'_>,
+    screen: Screen,
+    results: Results,
+    out: &mut W,
+) -> Result<(), Failure>
+    ensures { OnOk result (Finishes asked.now screen results (W.contents out.old) (W.contents out.new)) }
+{
+    match results {
+        Results::Lines(mut lines) => lines.finish(out),
+        Results::Trees(nodes) => write_trees(alloc, asked, screen, nodes, out),
+    }
 }
 
 /// Writes what is left, and flushes the output.
@@ -145,11 +277,10 @@ fn finish<W: Write>(
     screen: Screen,
     results: Results,
     out: &mut W,
-) -> Result<(), Failure> {
-    match results {
-        Results::Lines(mut lines) => lines.finish(out)?,
-        Results::Trees(nodes) => write_trees(alloc, asked, screen, nodes, out)?,
-    }
+) -> Result<(), Failure>
+    ensures { OnOk result (Finishes asked.now screen results (W.contents out.old) (W.contents out.new)) }
+{
+    write_rest(alloc, asked, screen, results, out)?;
     if out.flush().is_err() {
         return Err(Failure::Output);
     }
@@ -172,12 +303,13 @@ fn tally<
     screen: Screen,
     out: &mut W,
     err: &mut E,
-) -> Result<bool, Failure> {
-    let walks = Walks::new(rt, alloc, asked, disk, texts)?;
+) -> Result<bool, Failure>
+    ensures { IfOk result (λ clean. clean ≡ true → WritesAsked (S.IsFixed disk × X.IsFixed texts) (S.functions disk)
+        (X.functions texts) screen asked.now (W.contents out.old) (W.contents out.new)) }
+{
+    let walks = Walks::new(rt, alloc, asked, screen, disk, texts)?;
     let mut results = results_of(alloc, asked, screen)?;
-    let roots = asked.roots.as_slice();
-    let roots = if roots.is_empty() { &["."] } else { roots };
-    let clean = count_roots(alloc, &walks, roots, &mut results, out, err)?;
+    let clean = count_asked(alloc, &walks, &mut results, out, err)?;
     finish(alloc, asked, screen, results, out)?;
     Ok(clean)
 }
@@ -198,7 +330,8 @@ fn refuse<W: Write, E: Write>(refusal: &Refusal, out: &mut W, err: &mut E) -> u8
 
 /// Returns the status of a call that ended so. What ended it before its end is reported.
 fn status_of<E: Write>(ended: Result<bool, Failure>, err: &mut E) -> u8
-    ensures { result ≤ 1 }
+    ensures status { result ≤ 1 }
+    ensures clean { result ≡ 0 → ended ≡ Ok true }
 {
     match ended {
         Ok(clean) => u8::from(!clean),
@@ -233,6 +366,9 @@ pub fn run<
     ensures status { result ≤ 2 }
     ensures ends { Ends (map string_bytes words.now) result }
     ensures untouched { result ≡ 2 → W.contents out.new ≡ W.contents out.old }
+    ensures done { result ≡ 0 → AskForText (map string_bytes words.now)
+        ⊎ Counts (S.IsFixed disk × X.IsFixed texts) (S.functions disk) (X.functions texts) screen
+        (map string_bytes words.now) (W.contents out.old) (W.contents out.new) }
 {
     match read_words(alloc, words) {
         Ok(asked) => {

@@ -1,4 +1,8 @@
 //! Which results are written.
+ghost use Rattle.std.specs.Prelude.{◌≡◌};
+ghost use Rattle.jwalk.specs.jwalk_job.Entry.{entry};
+ghost use Rattle.tally_run.specs.Shown.{any_depth, shown_asked, is_shown};
+
 use jwalk::{ClientState, DirEntry};
 use std::alloc::Allocator;
 use tally_words::asked::Asked;
@@ -13,23 +17,31 @@ pub(crate) struct Shown {
     pub(crate) greatest: usize,
 }
 
+/// Returns up to which depth results are written where none is named: what is in the roots in a table, and all else.
+fn any_depth(form: Form) -> usize
+    ensures { result ≡ any_depth form }
+{
+    match form {
+        Form::Table => 1,
+        Form::Lines | Form::ZeroLines | Form::Json => usize::MAX,
+    }
+}
+
 impl Shown {
-    /// Returns which results are asked for. A table has what is in the roots, unless a depth is named, and lines and
-    /// documents have any depth.
-    pub(crate) fn of(asked: &Asked<'_>) -> Self {
-        let any = if asked.form == Form::Table {
-            1
-        } else {
-            usize::MAX
-        };
+    /// Returns which results are asked for.
+    pub(crate) fn of(asked: &Asked<'_>) -> Self
+        ensures { result ≡ shown_asked asked.now }
+    {
         Shown {
             all: asked.all,
-            greatest: asked.depth.unwrap_or(any),
+            greatest: asked.depth.unwrap_or(any_depth(asked.form)),
         }
     }
 
     /// Returns whether the result of an entry is written.
-    pub(crate) fn has<C: ClientState, A: Allocator + Copy>(self, found: &DirEntry<C, A>) -> bool {
+    pub(crate) fn has<C: ClientState, A: Allocator + Copy>(self, found: &DirEntry<C, A>) -> bool
+        ensures { result ≡ is_shown self (entry found.now) }
+    {
         let depth = found.depth();
         depth <= self.greatest && (self.all || depth == 0 || found.file_type().is_dir())
     }

@@ -1,5 +1,7 @@
 //! Lines of a size and a path.
-use crate::runs::{Row, TREE_A, all_come};
+use crate::runs::{FILE, Row, TREE_A, Want, all_come, comes_on};
+use tally_run::screen::Screen;
+use walk_text::tree::build_tree;
 
 #[test]
 fn a_directory_comes_behind_what_is_below_it(rt: HostRuntime) {
@@ -121,4 +123,26 @@ fn bad_words(rt: HostRuntime) {
     const CONFLICT: &str = "tally: the options --summarize and --all exclude each other\n";
     const ROWS: &[Row<'static>] = &[(&["-s", "-a", "/t"], TREE_A, ("", CONFLICT, 2))];
     all_come(&rt, ROWS);
+}
+
+#[test]
+fn an_error_has_no_control_characters_on_a_terminal(rt: HostRuntime) {
+    const ROOT: &[&str] = &["--plain", "-b", "--apparent", "/no\u{1b}[2J", "/t/b.txt"];
+    const PLAIN: Want<'static> = (
+        "6\t/t/b.txt\n",
+        "tally: /no\u{1b}[2J: entity not found\n",
+        1,
+    );
+    const SHOWN: Want<'static> = ("6\t/t/b.txt\n", "tally: /no?[2J: entity not found\n", 1);
+    for (shows_errors, want) in &[(false, PLAIN), (true, SHOWN)] {
+        let screen = Screen {
+            shows_errors: *shows_errors,
+            ..FILE
+        };
+        let is_so = match build_tree(rt.alloc(), TREE_A.as_bytes()) {
+            Ok(tree) => comes_on(&rt, screen, (tree, &[]), "-j1", ROOT, want),
+            Err(_) => false,
+        };
+        assert!(&rt; is_so, "{shows_errors}");
+    }
 }

@@ -20,8 +20,9 @@ pub(crate) type Want<'a> = (&'a str, &'a str, u8);
 pub(crate) type Row<'a> = (&'a [&'a str], &'a str, Want<'a>);
 
 /// No terminal, and lines of 80 characters.
-const FILE: Screen = Screen {
+pub(crate) const FILE: Screen = Screen {
     is_terminal: false,
+    shows_errors: false,
     width: 80,
 };
 
@@ -37,9 +38,10 @@ fn rules_of(alloc: Global, files: &[RulesFile]) -> Result<MemoryTexts, AllocErro
     Ok(rules)
 }
 
-/// Returns whether a call over a disk with these files of rules, by this many threads, has this outcome.
-pub(crate) fn comes_with<S: FileSystem + Send + Sync + 'static>(
+/// Returns whether a call over a disk with these files of rules, by this many threads, has this outcome on a screen.
+pub(crate) fn comes_on<S: FileSystem + Send + Sync + 'static>(
     rt: &impl Host,
+    screen: Screen,
     (disk, files): (S, &[RulesFile]),
     threads: &str,
     words: &[&str],
@@ -59,11 +61,22 @@ pub(crate) fn comes_with<S: FileSystem + Send + Sync + 'static>(
         disk,
         rules,
         words.as_slice(),
-        FILE,
+        screen,
         &mut out,
         &mut err,
     );
     out.as_slice() == want.0.as_bytes() && err.as_slice() == want.1.as_bytes() && status == want.2
+}
+
+/// Returns whether a call over a disk with these files of rules, by this many threads, has this outcome.
+pub(crate) fn comes_with<S: FileSystem + Send + Sync + 'static>(
+    rt: &impl Host,
+    disk: (S, &[RulesFile]),
+    threads: &str,
+    words: &[&str],
+    want: &Want<'_>,
+) -> bool {
+    comes_on(rt, FILE, disk, threads, words, want)
 }
 
 /// Returns whether a call over a disk without rules, by this many threads, has this outcome.

@@ -1,0 +1,5 @@
+use Rattle.tally_run.proofs.CountingFacts.{error_taken}
+use Rattle.tally_run.proofs.counting.take_one.Goals as goal
+
+pub returns-in_ok-take_error-in-Err-clause-taken : goal.returns-in_ok-take_error-in-Err-clause-taken
+returns-in_ok-take_error-in-Err-clause-taken g c = error_taken c.args.shown _ _ _
